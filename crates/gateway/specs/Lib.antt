@@ -1,2 +1,10 @@
 pub mod Views
+pub mod Setups
+pub mod Moves
+pub mod State
+pub mod Policy
 pub use Rattle.model.specs.Logs
+pub use Rattle.model.specs.Setup
+pub use Rattle.model.specs.Frames
+pub use Rattle.model.specs.Tapes
+pub use Rattle.model.specs.Faithful

@@ -1,6 +1,8 @@
 //! The gateway: octets of a client and of upstreams in, octets for both out.
 #![tactic(auto)]
 
+mod config;
 mod events;
 
+pub use config::{Config, Passing, Policy, Route};
 pub use events::{Event, Output};

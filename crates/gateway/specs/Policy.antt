@@ -1,9 +1,9 @@
 -- What the gateway may do: which move may come next, by its state and by what it owes.
-use Rattle.std.specs.Prelude.{◌≡◌, ℕ, suc, ◌+◌, ◌<◌, Bool, true, false, not, ◌&&◌, nat_le, if◌then◌else◌, List, [], ◌∷◌, ◌++◌, length, Option, None, Some}
+use Rattle.std.specs.Prelude.{◌≡◌, ℕ, suc, ◌<◌, ◌≤◌, ◌==◌, Bool, true, false, not, ◌&&◌, nat_le, if◌then◌else◌, List, [], ◌∷◌, ◌++◌, length, Option, None, Some}
 use Rattle.model.specs.Messages.{Field, Request}
 use Rattle.model.specs.Messages.Item.{Block}
 use Rattle.model.specs.Tables.{Table}
-use Rattle.model.specs.Frames.{Frame, headers_kind, settings_frame, settings_ack, goaway, internal_error, protocol_error, frame_size_error, Reading, BeginsNoFrame, IsTooLong}
+use Rattle.model.specs.Frames.{Frame, headers_kind, settings_kind, rst_stream_kind, is_ack, settings_frame, settings_ack, goaway, protocol_error, frame_size_error}
 use Rattle.model.specs.Http1.{H1Request, forward}
 use Rattle.model.specs.Http2.{H2Request, authority_of, path_of}
 use Rattle.model.specs.Logs.{Event, Act, Output}
@@ -13,7 +13,7 @@ use Rattle.model.specs.Setup.{Setup, IsFirstMatch}
 use Rattle.model.specs.Tapes.{Noted, Breach}
 use Rattle.model.specs.Tapes.Breach.{WrongPreface, TooLong}
 use Rattle.model.specs.Tapes.Note.{Fields}
-use Rattle.model.specs.Decoding.{begun, completed, IsNoteOf}
+use Rattle.model.specs.Decoding.{begun, completed, IsNoteOf, is_read}
 use Rattle.model.specs.Streams.{frame_items}
 use Rattle.gateway.specs.Moves.{Move, Outcome, Input, inputs, after_all, put_move}
 use Rattle.gateway.specs.Moves.Move.{Takes, Breaks, Hears, Sends, Acts}
@@ -27,6 +27,9 @@ IsNoted noted = (table : Table) → (next : Table) × IsNoteOf (completed [] not
 -- The client's first frame is settings that the gateway takes.
 pub record MaySettle (s : State) (noted : Noted) : Type 0 where
   pub first : s.settled ≡ false
+  pub kind : noted.frame.kind ≡ settings_kind
+  pub no_ack : is_ack noted.frame ≡ false
+  pub read : is_read noted.note ≡ true
   pub no_block : begun (noted ∷ []) ≡ None
   pub no_item : frame_items (completed [] noted.frame) noted ≡ []
 
@@ -49,9 +52,33 @@ MayBe s noted Settled = MaySettle s noted
 MayBe s noted (Served route text request) = MayServe s noted route text request
 MayBe s noted (Stopped code) = Unit {0}
 
+-- The event may come, as far as the state tells.
+abbrev pub is_in_order : State → Event → Bool
+is_in_order s (Client piece) = nat_le (length piece) 65536 && nat_le s.untaken 1073741824
+is_in_order s ClientEnd = true
+is_in_order s (ClientTook count) = nat_le count s.untaken
+is_in_order s (Up k piece) = (upstream_at s.upstreams k).is_open && nat_le (length piece) 65536
+is_in_order s (UpEnd k) = (upstream_at s.upstreams k).is_open
+is_in_order s (UpFailed k) = (upstream_at s.upstreams k).is_open
+is_in_order s (UpTook k count) = (upstream_at s.upstreams k).is_open && nat_le count (upstream_at s.upstreams k).untaken
+
+-- A connection of this number was opened.
+pub record IsUp (s : State) (k : ℕ) : Type 0 where
+  pub counted : 1 ≤ k
+  pub within : k ≤ length s.upstreams
+
+abbrev pub MayDo : State → Act → Type 0
+MayDo s (Open k route) = k ≡ suc (length s.upstreams)
+MayDo s (ToUp k octets) = IsUp s k
+MayDo s (Close k) = IsUp s k
+MayDo s CloseClient = Unit {0}
+
 abbrev pub Holds : State → Move → Type 0
 Holds s (Takes noted outcome) = IsNoted noted × MayBe s noted outcome
-Holds s _ = Unit {0}
+Holds s (Breaks breach) = Unit {0}
+Holds s (Hears event) = is_in_order s event ≡ true
+Holds s (Sends frame) = (frame.kind == rst_stream_kind) ≡ false
+Holds s (Acts act) = MayDo s act
 
 -- what is owed: a move that puts something out
 pub data Due : Type 0 where
@@ -150,16 +177,6 @@ pub record Answers (old new : State) (outs_old outs_new : List Output) (came : L
   pub segment : List Move
   pub leads : Leads (idle old) (idle new) outs_old outs_new segment
   pub came_in : inputs segment ≡ came
-
--- The event may come, as far as the state tells.
-abbrev pub is_in_order : State → Event → Bool
-is_in_order s (Client piece) = nat_le (length piece) 65536 && nat_le s.untaken 1073741824
-is_in_order s ClientEnd = true
-is_in_order s (ClientTook count) = nat_le count s.untaken
-is_in_order s (Up k piece) = (upstream_at s.upstreams k).is_open && nat_le (length piece) 65536
-is_in_order s (UpEnd k) = (upstream_at s.upstreams k).is_open
-is_in_order s (UpFailed k) = (upstream_at s.upstreams k).is_open
-is_in_order s (UpTook k count) = (upstream_at s.upstreams k).is_open && nat_le count (upstream_at s.upstreams k).untaken
 
 abbrev pub is_admitted : State → Event → Bool
 is_admitted s event = not s.closed && is_in_order s event

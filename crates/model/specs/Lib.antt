@@ -1,3 +1,4 @@
 pub mod Octets
 pub mod Messages
 pub mod Logs
+pub mod Frames

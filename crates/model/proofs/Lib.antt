@@ -1,1 +1,2 @@
+pub mod FramesReadings
 mod FramesExamples

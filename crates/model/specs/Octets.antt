@@ -1,5 +1,5 @@
 -- Octets and texts: a text is a list of octets. A front of a list is a beginning of it, whole or not.
-use Rattle.std.specs.Prelude.{◌≡◌, ℕ, ◌+◌, Bool, ◌&&◌, nat_le, if◌then◌else◌, List, ◌∷◌, ◌++◌, map}
+use Rattle.std.specs.Prelude.{◌≡◌, ℕ, ◌+◌, Bool, ◌&&◌, nat_le, if◌then◌else◌, List, [], ◌∷◌, ◌++◌, map}
 
 pub record IsFront (front text : List ℕ) : Type 0 where
   pub rest : List ℕ

@@ -6,13 +6,4 @@ pub mod Tables
 pub mod Blocks
 pub mod Frames
 pub mod Logs
-pub mod Tapes
-pub mod Decoding
-pub mod Errors
-pub mod Streams
-pub mod Admission
-pub mod Setup
-pub mod Http1
-pub mod Http2
-pub mod Requests
-pub mod Faithful
+pub mod Frames

@@ -1,0 +1,2 @@
+pub mod Views
+pub use Rattle.model.specs.Frames

@@ -1,0 +1,84 @@
+//! Frames of HTTP/2 (RFC 9113, section 4.1): one is split from the front of some octets, and one is written behind others.
+#![tactic(auto)]
+
+ghost use Rattle.std.specs.Prelude.{◌≡◌, ◌+◌, ◌<◌, ◌++◌, length, vec_len, vec_capacity, OnOk, OnErr};
+ghost use Rattle.model.specs.Frames.{spell, Fits};
+ghost use Rattle.frames.specs.Views.{frame_of, IsSplit};
+
+mod views;
+
+use std::alloc::AllocError;
+pub use views::{Split, View};
+
+/// The octets before the payload: its length in three, the type, the flags, and the stream's number in four.
+const HEADER: usize = 9;
+
+/// The longest payload that is read (RFC 9113, section 4.2: the first value of SETTINGS_MAX_FRAME_SIZE).
+const LONGEST: usize = 16384;
+
+/// Splits the frame off with which `octets` begin. Nothing is copied: the payload is the slice of `octets` from the
+/// ninth octet to the end of the frame. Of the stream's number the reserved bit is ignored (RFC 9113, section 4.1).
+pub fn split(octets: &[u8]) -> Split<'_>
+    ensures { IsSplit octets.now result }
+{
+    if octets.len() < HEADER {
+        return Split::More;
+    }
+    let length = octets[0] as usize * 65536 + octets[1] as usize * 256 + octets[2] as usize;
+    if length > LONGEST {
+        return Split::TooLong;
+    }
+    if octets.len() - HEADER < length {
+        return Split::More;
+    }
+    let id = (octets[5] % 128) as u32 * 16777216
+        + octets[6] as u32 * 65536
+        + octets[7] as u32 * 256
+        + octets[8] as u32;
+    let view = View {
+        kind: octets[3],
+        flags: octets[4],
+        id,
+        payload: &octets[HEADER..HEADER + length],
+    };
+    Split::Frame(view, HEADER + length)
+}
+
+/// Writes a frame at the end of `out`, with the reserved bit 0 (RFC 9113, section 4.1). The payload has at most 16,384
+/// octets and the stream's number is below 2,147,483,648. The only error is that no memory was left, and then `out`
+/// keeps its octets.
+pub fn write(view: &View<'_>, out: &mut Vec<u8>) -> Result<(), AllocError>
+    requires { Fits (frame_of view.now) }
+    ensures ok { OnOk result (out.new.items ≡ out.old.items ++ spell (frame_of view.now)) }
+    ensures err { OnErr result (out.new.items ≡ out.old.items) }
+
+    // It fails only where the vector had to grow.
+    ensures full { OnErr result (vec_capacity out.old < vec_len out.old + (9 + length view.now.payload.now)) }
+{
+    let header = header_of(view);
+    out.reserve(HEADER + view.payload.len())?;
+    out.extend_from_slice(&header)?;
+    out.extend_from_slice(view.payload)
+}
+
+/// The octets before the payload.
+fn header_of(view: &View<'_>) -> [u8; 9]
+    requires { Fits (frame_of view.now) }
+    ensures { result ++ view.now.payload.now ≡ spell (frame_of view.now) }
+{
+    let length = view.payload.len();
+    [
+        (length / 65536) as u8,
+        (length / 256 % 256) as u8,
+        (length % 256) as u8,
+        view.kind,
+        view.flags,
+        (view.id / 16777216) as u8,
+        (view.id / 65536 % 256) as u8,
+        (view.id / 256 % 256) as u8,
+        (view.id % 256) as u8,
+    ]
+}
+
+#[cfg(test)]
+mod tests;

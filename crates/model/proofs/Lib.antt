@@ -1,0 +1,3 @@
+pub mod FramesReadings
+pub mod FramesFronts
+mod FramesExamples

@@ -1,3 +1,5 @@
 pub mod Octets
 pub mod Messages
 pub mod Logs
+pub mod Http1
+pub mod Http2

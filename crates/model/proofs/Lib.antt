@@ -1,0 +1,2 @@
+pub mod Http1Runs
+pub mod Http1Lines

@@ -4,7 +4,7 @@ use Rattle.std.specs.Prelude.{not, ◌==◌}
 use Rattle.std.specs.List.{list_all}
 use Rattle.std.proofs.lemmas.Bool.{false≢true, and_parts, and_from, not-true, or_cases, eqb-true}
 use Rattle.std.proofs.lemmas.List.{reverse-append, reverse-reverse, length-reverse, append_cancel_right}
-use Rattle.model.specs.Octets.{some_of, is_token_octet, is_space, is_value_octet, is_value, begins_with_space, ends_with_space, lower}
+use Rattle.model.specs.Octets.{is_token_octet, is_space, is_value_octet, is_value, begins_with_space, ends_with_space, lower}
 use Rattle.model.specs.Messages.{Field}
 use Rattle.model.specs.Http1.{Line, crlf}
 use Rattle.model.proofs.Http1Runs.{run_of_some, run-append, run_weaker, one_run, IsPrefixFree}
@@ -69,8 +69,8 @@ space_is_value_octet : (octet : ℕ) → is_space octet ≡ true → is_value_oc
 space_is_value_octet octet p =
     let passes = λ (o : ℕ). is_value_octet o ≡ true in
     elim (or_cases (octet == 32) (octet == 9) p) [
-      inl e ↦ subst passes (sym (eqb-true octet 32 e)) refl
-    | inr e ↦ subst passes (sym (eqb-true octet 9 e)) refl
+      | inl e ↦ subst passes (sym (eqb-true octet 32 e)) refl
+      | inr e ↦ subst passes (sym (eqb-true octet 9 e)) refl
     ]
 
 pub field_same : (f g : Field) → f.name ≡ g.name → f.value ≡ g.value → f ≡ g
@@ -88,17 +88,17 @@ line_octets : {text : List ℕ} {field : Field} (line : Line text field) → lis
 line_octets {text} {field} line =
     let spaces = run_weaker is_space is_value_octet space_is_value_octet in
     run-append is_value_octet line.before (field.value ++ line.after) (spaces line.before line.space_before)
-        (run-append is_value_octet field.value line.after (value_parts field.value line.is_value).octets (spaces line.after line.space_after))
+    (run-append is_value_octet field.value line.after (value_parts field.value line.is_value).octets (spaces line.after line.space_after))
 
 pub one_line : IsPrefixFree Line
 one_line s t x y f g p q e =
     let whole : p.name ++ 58 ∷ ((p.before ++ (f.value ++ p.after)) ++ 13 ∷ (10 ∷ x)) ≡ q.name ++ 58 ∷ ((q.before ++ (g.value ++ q.after)) ++ 13 ∷ (10 ∷ y)) =
-        sym (line_regrouped p.name p.before f.value p.after x) ∙ ap (λ (o : List ℕ). o ++ x) (sym p.is) ∙ e ∙ ap (λ (o : List ℕ). o ++ y) q.is ∙ line_regrouped q.name q.before g.value q.after y in
+    sym (line_regrouped p.name p.before f.value p.after x) ∙ ap (λ (o : List ℕ). o ++ x) (sym p.is) ∙ e ∙ ap (λ (o : List ℕ). o ++ y) q.is ∙ line_regrouped q.name q.before g.value q.after y in
     let names = one_run is_token_octet p.name q.name 58 58 _ _ (run_of_some is_token_octet p.name p.is_token) (run_of_some is_token_octet q.name q.is_token) refl refl whole in
     let behind : (p.before ++ (f.value ++ p.after)) ++ 13 ∷ (10 ∷ x) ≡ (q.before ++ (g.value ++ q.after)) ++ 13 ∷ (10 ∷ y) = cc (names.1) in
     let raws = one_run is_value_octet _ _ 13 13 _ _ (line_octets p) (line_octets q) refl refl behind in
     let values : f.value ≡ g.value =
-        one_value p.before q.before f.value g.value p.after q.after p.space_before q.space_before p.space_after q.space_after (value_parts f.value p.is_value) (value_parts g.value q.is_value) raws.0 in
+    one_value p.before q.before f.value g.value p.after q.after p.space_before q.space_before p.space_after q.space_after (value_parts f.value p.is_value) (value_parts g.value q.is_value) raws.0 in
     let same_names : f.name ≡ g.name = p.is_named ∙ ap lower names.0 ∙ sym q.is_named in
     let rests : x ≡ y = cc (raws.1) in
     (append_cancel_right s t x (e ∙ ap (λ (o : List ℕ). t ++ o) (sym rests)), field_same f g same_names values)

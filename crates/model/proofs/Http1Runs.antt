@@ -1,5 +1,5 @@
 -- Where a text can be cut: runs of octets that pass a test, and lists of texts of which none begins another.
-use Rattle.std.proofs.Common.{◌≡◌, ℕ, ◌+◌, ◌<◌, Bool, true, false, ◌&&◌, List, [], ◌∷◌, ◌++◌, length, take, refl, sym, ap, ◌∙◌, subst, append_assoc, arith}
+use Rattle.std.proofs.Common.{◌≡◌, ℕ, Bool, true, false, List, [], ◌∷◌, ◌++◌, length, take, refl, sym, ap, ◌∙◌, append_assoc}
 use Rattle.std.specs.List.{list_all}
 use Rattle.std.proofs.lemmas.Bool.{false≢true, and_parts, and_from}
 use Rattle.std.proofs.lemmas.List.{append_cancel_left}
@@ -68,7 +68,7 @@ module _ {A : Type 0} (Reads : List ℕ → A → Type 0) (free : IsPrefixFree R
       absurd (ny p.0 (p.1 ++ x) f p.2 (ap (λ (o : List ℕ). o ++ y) (sym q) ∙ sym e ∙ ap (λ (o : List ℕ). o ++ x) p.3 ∙ append_assoc p.0 p.1 x))
   one_joined s t x y (f ∷ fs) (g ∷ gs) p q nx ny e =
       let whole : p.0 ++ (p.1 ++ x) ≡ q.0 ++ (q.1 ++ y) =
-          sym (append_assoc p.0 p.1 x) ∙ ap (λ (o : List ℕ). o ++ x) (sym p.3) ∙ e ∙ ap (λ (o : List ℕ). o ++ y) q.3 ∙ append_assoc q.0 q.1 y in
+      sym (append_assoc p.0 p.1 x) ∙ ap (λ (o : List ℕ). o ++ x) (sym p.3) ∙ e ∙ ap (λ (o : List ℕ). o ++ y) q.3 ∙ append_assoc q.0 q.1 y in
       let first = free p.0 q.0 (p.1 ++ x) (q.1 ++ y) f g p.2 q.2 whole in
       let more = one_joined p.1 q.1 x y fs gs p.4 q.4 nx ny (same_rest p.0 q.0 (p.1 ++ x) (q.1 ++ y) first.0 whole) in
       (p.3 ∙ ap (λ (o : List ℕ). o ++ p.1) first.0 ∙ ap (λ (o : List ℕ). q.0 ++ o) more.0 ∙ sym q.3, ap (λ h. h ∷ fs) first.1 ∙ ap (λ hs. g ∷ hs) more.1)

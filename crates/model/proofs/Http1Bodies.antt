@@ -10,6 +10,9 @@ use Rattle.model.proofs.Http1Runs.{same_front, same_rest, run_of_some, one_run, 
 pub cons-append : (x : ℕ) (a b : List ℕ) → (x ∷ a) ++ b ≡ x ∷ (a ++ b)
 cons-append x a b = refl
 
+pub nil-append : (a : List ℕ) → [] ++ a ≡ a
+nil-append a = refl
+
 chunk_regrouped : (size data_octets x : List ℕ) → (size ++ crlf ++ data_octets ++ crlf) ++ x ≡ size ++ 13 ∷ (10 ∷ (data_octets ++ 13 ∷ (10 ∷ x)))
 chunk_regrouped size data_octets x = simp (append_assoc, cons-append)
 

@@ -5,10 +5,10 @@ use Rattle.std.proofs.lemmas.Bool.{false≢true}
 use Rattle.std.proofs.lemmas.List.{append_cancel_right}
 use Rattle.model.specs.Octets.{some_of, is_token_octet, is_visible}
 use Rattle.model.specs.Messages.{Field, Request}
-use Rattle.model.specs.Http1.{crlf, Line, values_of, without, framing_names, Framed, H1Request, H1Requests}
+use Rattle.model.specs.Http1.{crlf, Line, values_of, without, framing_names, Framed, Head, H1Head, H1Request, H1Requests, BeginsNoRequest}
 use Rattle.model.proofs.Http1Runs.{same_rest, run_of_some, not_in_run, one_run, IsPrefixFree, BeginsNone, one_joined}
 use Rattle.model.proofs.Http1Lines.{one_line}
-use Rattle.model.proofs.Http1Bodies.{one_framed, cons-append}
+use Rattle.model.proofs.Http1Bodies.{one_framed, cons-append, nil-append}
 
 no_token : (name : List ℕ) (x y : List ℕ) → some_of is_token_octet name ≡ true → 13 ∷ x ≡ name ++ y → ⊥
 no_token [] x y p e = false≢true p
@@ -21,35 +21,62 @@ end_begins_none more front rest field line e =
     e ∙ ap (λ (o : List ℕ). o ++ rest) line.is ∙ simp (append_assoc, cons-append) in
     no_token line.name more _ line.is_token whole
 
--- a request's text, cut where its parts end
-pub request_regrouped : (method target lines content x : List ℕ)
-    → (method ++ 32 ∷ target ++ codes " HTTP/1.1" ++ crlf ++ lines ++ crlf ++ content) ++ x
-    ≡ method ++ 32 ∷ (target ++ 32 ∷ (codes "HTTP/1.1" ++ (crlf ++ (lines ++ 13 ∷ (10 ∷ (content ++ x))))))
-request_regrouped method target lines content x = simp (append_assoc, cons-append)
+-- a head's text, cut where its parts end
+head_regrouped : (method target lines x : List ℕ)
+    → (method ++ codes " " ++ target ++ codes " HTTP/1.1" ++ crlf ++ lines ++ crlf) ++ x ≡ method ++ 32 ∷ (target ++ 32 ∷ (codes "HTTP/1.1" ++ (crlf ++ (lines ++ 13 ∷ (10 ∷ x)))))
+head_regrouped method target lines x = simp (append_assoc, cons-append, nil-append)
+
+head_same : (h k : Head) → h.method ≡ k.method → h.target ≡ k.target → h.fields ≡ k.fields → h ≡ k
+head_same h k m t f = λ i. record { method = m i; target = t i; fields = f i }
+
+pub one_head : IsPrefixFree H1Head
+one_head a b x y h k p q e =
+    let whole : h.method ++ 32 ∷ (h.target ++ 32 ∷ (codes "HTTP/1.1" ++ (crlf ++ (p.lines ++ 13 ∷ (10 ∷ x))))) ≡ k.method ++ 32 ∷ (k.target ++ 32 ∷ (codes "HTTP/1.1" ++ (crlf ++ (q.lines ++ 13 ∷ (10 ∷ y))))) =
+        sym (head_regrouped h.method h.target p.lines x) ∙ ap (λ (o : List ℕ). o ++ x) (sym p.is) ∙ e ∙ ap (λ (o : List ℕ). o ++ y) q.is ∙ head_regrouped k.method k.target q.lines y in
+    let methods = one_run is_token_octet h.method k.method 32 32 _ _ (run_of_some is_token_octet h.method p.method) (run_of_some is_token_octet k.method q.method) refl refl whole in
+    let behind_method : h.target ++ 32 ∷ (codes "HTTP/1.1" ++ (crlf ++ (p.lines ++ 13 ∷ (10 ∷ x)))) ≡ k.target ++ 32 ∷ (codes "HTTP/1.1" ++ (crlf ++ (q.lines ++ 13 ∷ (10 ∷ y)))) = cc (methods.1) in
+    let targets = one_run is_visible h.target k.target 32 32 _ _ (run_of_some is_visible h.target p.target) (run_of_some is_visible k.target q.target) refl refl behind_method in
+    let behind_target : p.lines ++ 13 ∷ (10 ∷ x) ≡ q.lines ++ 13 ∷ (10 ∷ y) = cc (targets.1) in
+    let lines = one_joined Line one_line p.lines q.lines _ _ h.fields k.fields p.are_lines q.are_lines (end_begins_none _) (end_begins_none _) behind_target in
+    let behind_lines = same_rest p.lines q.lines _ _ lines.0 behind_target in
+    let rests : x ≡ y = cc (behind_lines) in
+    (append_cancel_right a b x (e ∙ ap (λ (o : List ℕ). b ++ o) (sym rests)), head_same h k methods.0 targets.0 lines.1)
 
 pub request_same : (r s : Request) → r.method ≡ s.method → r.target ≡ s.target → r.authority ≡ s.authority → r.fields ≡ s.fields → r.body ≡ s.body → r ≡ s
 request_same r s m t a f b = λ i. record { method = m i; target = t i; authority = a i; fields = f i; body = b i }
 
+-- a body's framing by a head's lines
+abbrev pub FramedBy : Head → List ℕ → List ℕ → Type 0
+FramedBy head content body = Framed (values_of (codes "content-length") head.fields) (values_of (codes "transfer-encoding") head.fields) content body
+
 pub one_request : IsPrefixFree H1Request
 one_request a b x y r s p q e =
-    let whole : r.method ++ 32 ∷ (r.target ++ 32 ∷ (codes "HTTP/1.1" ++ (crlf ++ (p.lines ++ 13 ∷ (10 ∷ (p.content ++ x))))))
-    ≡ s.method ++ 32 ∷ (s.target ++ 32 ∷ (codes "HTTP/1.1" ++ (crlf ++ (q.lines ++ 13 ∷ (10 ∷ (q.content ++ y)))))) =
-    sym (request_regrouped r.method r.target p.lines p.content x) ∙ ap (λ (o : List ℕ). o ++ x) (sym p.is) ∙ e ∙ ap (λ (o : List ℕ). o ++ y) q.is ∙ request_regrouped s.method s.target q.lines q.content y in
-    let methods = one_run is_token_octet r.method s.method 32 32 _ _ (run_of_some is_token_octet r.method p.method) (run_of_some is_token_octet s.method q.method) refl refl whole in
-    let behind_method : r.target ++ 32 ∷ (codes "HTTP/1.1" ++ (crlf ++ (p.lines ++ 13 ∷ (10 ∷ (p.content ++ x)))))
-    ≡ s.target ++ 32 ∷ (codes "HTTP/1.1" ++ (crlf ++ (q.lines ++ 13 ∷ (10 ∷ (q.content ++ y))))) = cc (methods.1) in
-    let targets = one_run is_visible r.target s.target 32 32 _ _ (run_of_some is_visible r.target p.target) (run_of_some is_visible s.target q.target) refl refl behind_method in
-    let behind_target : p.lines ++ 13 ∷ (10 ∷ (p.content ++ x)) ≡ q.lines ++ 13 ∷ (10 ∷ (q.content ++ y)) = cc (targets.1) in
-    let lines = one_joined Line one_line p.lines q.lines _ _ p.line_fields q.line_fields p.are_lines q.are_lines (end_begins_none _) (end_begins_none _) behind_target in
-    let behind_lines = same_rest p.lines q.lines _ _ lines.0 behind_target in
-    let behind_end : p.content ++ x ≡ q.content ++ y = cc (behind_lines) in
-    let bodies = one_framed (values_of (codes "content-length") p.line_fields) (values_of (codes "transfer-encoding") p.line_fields) p.content q.content x y r.body s.body
-    p.body (subst (λ (fields : List Field). Framed (values_of (codes "content-length") fields) (values_of (codes "transfer-encoding") fields) q.content s.body) (sym lines.1) q.body) behind_end in
-    let rests : x ≡ y = same_rest p.content q.content x y bodies.0 behind_end in
-    let hosts : r.authority ∷ [] ≡ s.authority ∷ [] = sym p.authority ∙ ap (values_of (codes "host")) lines.1 ∙ q.authority in
+    let whole : p.head_text ++ (p.content ++ x) ≡ q.head_text ++ (q.content ++ y) =
+        sym (append_assoc p.head_text p.content x) ∙ ap (λ (o : List ℕ). o ++ x) (sym p.is) ∙ e ∙ ap (λ (o : List ℕ). o ++ y) q.is ∙ append_assoc q.head_text q.content y in
+    let heads = one_head p.head_text q.head_text _ _ p.head q.head p.has_head q.has_head whole in
+    let behind : p.content ++ x ≡ q.content ++ y = same_rest p.head_text q.head_text _ _ heads.0 whole in
+    let bodies = one_framed _ _ p.content q.content x y r.body s.body p.body (subst (λ (head : Head). FramedBy head q.content s.body) (sym heads.1) q.body) behind in
+    let rests : x ≡ y = same_rest p.content q.content x y bodies.0 behind in
+    let hosts : r.authority ∷ [] ≡ s.authority ∷ [] = sym p.authority ∙ ap (λ (head : Head). values_of (codes "host") head.fields) heads.1 ∙ q.authority in
+    let methods : r.method ≡ s.method = p.method ∙ ap (λ (head : Head). head.method) heads.1 ∙ sym q.method in
+    let targets : r.target ≡ s.target = p.target ∙ ap (λ (head : Head). head.target) heads.1 ∙ sym q.target in
     let authorities : r.authority ≡ s.authority = cc in
-    let fields : r.fields ≡ s.fields = p.fields ∙ ap (without framing_names) lines.1 ∙ sym q.fields in
-    (append_cancel_right a b x (e ∙ ap (λ (o : List ℕ). b ++ o) (sym rests)), request_same r s methods.0 targets.0 authorities fields bodies.1)
+    let fields : r.fields ≡ s.fields = p.fields ∙ ap (λ (head : Head). without framing_names head.fields) heads.1 ∙ sym q.fields in
+    (append_cancel_right a b x (e ∙ ap (λ (o : List ℕ). b ++ o) (sym rests)), request_same r s methods targets authorities fields bodies.1)
+
+-- a text's head is known, and its lines frame no body: no beginning of the text is a request
+pub not_framed : (text rest : List ℕ) (head : Head) → H1Head text head → ((content body : List ℕ) → FramedBy head content body → ⊥) → BeginsNoRequest (text ++ rest)
+not_framed text rest head p none front more request q e =
+    let whole : text ++ rest ≡ q.head_text ++ (q.content ++ more) = e ∙ ap (λ (o : List ℕ). o ++ more) q.is ∙ append_assoc q.head_text q.content more in
+    let heads = one_head text q.head_text _ _ head q.head p q.has_head whole in
+    none q.content request.body (subst (λ (h : Head). FramedBy h q.content request.body) (sym heads.1) q.body)
+
+-- a text's head is known, and hasn't one host: no beginning of the text is a request
+pub not_for_one_host : (text rest : List ℕ) (head : Head) → H1Head text head → ((authority : List ℕ) → values_of (codes "host") head.fields ≡ authority ∷ [] → ⊥) → BeginsNoRequest (text ++ rest)
+not_for_one_host text rest head p none front more request q e =
+    let whole : text ++ rest ≡ q.head_text ++ (q.content ++ more) = e ∙ ap (λ (o : List ℕ). o ++ more) q.is ∙ append_assoc q.head_text q.content more in
+    let heads = one_head text q.head_text _ _ head q.head p q.has_head whole in
+    none request.authority (subst (λ (h : Head). values_of (codes "host") h.fields ≡ request.authority ∷ []) (sym heads.1) q.authority)
 
 pub one_list : (text : List ℕ) (rs ss : List Request) (rest other : List ℕ) → H1Requests text rs rest → H1Requests text ss other → (rs ≡ ss) × (rest ≡ other)
 one_list text rs ss rest other p q =

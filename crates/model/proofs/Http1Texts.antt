@@ -7,7 +7,7 @@ use Rattle.std.proofs.lemmas.List.{append-nil}
 use Rattle.std.proofs.lemmas.List.Elements.{filter-append}
 use Rattle.model.specs.Octets.{begins_with_space, is_space, is_value_octet, some_of, is_between, is_token_octet, is_visible, is_value, lower, lower_octet}
 use Rattle.model.specs.Messages.{Field, Request}
-use Rattle.model.specs.Http1.{crlf, Line, Lines, values_of, without, framing_names, via, Framed, H1Request, forward}
+use Rattle.model.specs.Http1.{crlf, Line, Lines, values_of, without, framing_names, via, Framed, Head, H1Head, H1Request, forward}
 use Rattle.model.specs.Http1Text.{line_text, lines_text, written_fields, head_text}
 use Rattle.model.specs.Http2.{is_name_octet}
 use Rattle.model.proofs.Http1Bodies.{cons-append}
@@ -171,11 +171,16 @@ written_kept request framing p q =
     ∙ ap (λ (fs : List Field). fs ++ []) (filter-append test request.fields (via ∷ framing))
     ∙ append-nil (filter test request.fields ++ filter test (via ∷ framing)) ∙ cc (fields, middle))
 
--- the request line, whose parts are put together otherwise
-head_spelled : (method target lines content : List ℕ)
-    → (method ++ codes " " ++ target ++ codes " HTTP/1.1" ++ crlf ++ lines ++ crlf) ++ content
-    ≡ method ++ 32 ∷ target ++ codes " HTTP/1.1" ++ crlf ++ lines ++ crlf ++ content
-head_spelled method target lines content = simp (append_assoc, cons-append)
+-- A head that is written is read with the fields that are written.
+pub head_read : (request : Request) (framing : List Field) → IsSendable request → list_all has_line framing ≡ true
+    → H1Head (head_text request framing) (record { method = request.method; target = request.target; fields = written_fields request framing })
+head_read request framing p q = record {
+  lines = lines_text (written_fields request framing);
+  is = refl;
+  method = p.method;
+  target = p.target;
+  are_lines = lines_read (written_fields request framing) (written_have_lines request framing p q);
+}
 
 -- A head that is written, and octets that its framing makes this body, are the request with that body.
 pub text_read : (request : Request) (framing : List Field) (content : List ℕ) → IsSendable request → Frames framing content request.body
@@ -185,13 +190,13 @@ text_read request framing content p q =
     let lengths = others_apart (codes "content-length") request.fields framing refl refl (none_named (codes "content-length") request.fields (λ field a. a.content_length) p.fields) in
     let codings = others_apart (codes "transfer-encoding") request.fields framing refl refl (none_named (codes "transfer-encoding") request.fields (λ field a. a.transfer_encoding) p.fields) in
     record {
-      lines = lines_text (written_fields request framing);
+      head = record { method = request.method; target = request.target; fields = written_fields request framing };
+      head_text = head_text request framing;
       content = content;
-      is = head_spelled request.method request.target (lines_text (written_fields request framing)) content;
-      method = p.method;
-      target = p.target;
-      line_fields = written_fields request framing;
-      are_lines = lines_read (written_fields request framing) (written_have_lines request framing p q.lines);
+      is = refl;
+      has_head = head_read request framing p q.lines;
+      method = refl;
+      target = refl;
       authority = ap (λ (vs : List (List ℕ)). request.authority ∷ vs) (host ∙ q.no_host);
       fields = written_kept request framing p q.not_kept;
       body = rw (lengths, codings) q.framed;

@@ -4,7 +4,7 @@ use Rattle.std.specs.Prelude.{codes}
 use Rattle.std.proofs.lemmas.Bool.{false≢true}
 use Rattle.std.proofs.lemmas.List.{append_cancel_right}
 use Rattle.model.specs.Octets.{some_of, is_token_octet, is_visible}
-use Rattle.model.specs.Messages.{Field, Request}
+use Rattle.model.specs.Messages.{Request}
 use Rattle.model.specs.Http1.{crlf, Line, values_of, without, framing_names, Framed, Head, H1Head, H1Request, H1Requests, BeginsNoRequest}
 use Rattle.model.proofs.Http1Runs.{same_rest, run_of_some, not_in_run, one_run, IsPrefixFree, BeginsNone, one_joined}
 use Rattle.model.proofs.Http1Lines.{one_line}
@@ -32,7 +32,7 @@ head_same h k m t f = λ i. record { method = m i; target = t i; fields = f i }
 pub one_head : IsPrefixFree H1Head
 one_head a b x y h k p q e =
     let whole : h.method ++ 32 ∷ (h.target ++ 32 ∷ (codes "HTTP/1.1" ++ (crlf ++ (p.lines ++ 13 ∷ (10 ∷ x))))) ≡ k.method ++ 32 ∷ (k.target ++ 32 ∷ (codes "HTTP/1.1" ++ (crlf ++ (q.lines ++ 13 ∷ (10 ∷ y))))) =
-        sym (head_regrouped h.method h.target p.lines x) ∙ ap (λ (o : List ℕ). o ++ x) (sym p.is) ∙ e ∙ ap (λ (o : List ℕ). o ++ y) q.is ∙ head_regrouped k.method k.target q.lines y in
+    sym (head_regrouped h.method h.target p.lines x) ∙ ap (λ (o : List ℕ). o ++ x) (sym p.is) ∙ e ∙ ap (λ (o : List ℕ). o ++ y) q.is ∙ head_regrouped k.method k.target q.lines y in
     let methods = one_run is_token_octet h.method k.method 32 32 _ _ (run_of_some is_token_octet h.method p.method) (run_of_some is_token_octet k.method q.method) refl refl whole in
     let behind_method : h.target ++ 32 ∷ (codes "HTTP/1.1" ++ (crlf ++ (p.lines ++ 13 ∷ (10 ∷ x)))) ≡ k.target ++ 32 ∷ (codes "HTTP/1.1" ++ (crlf ++ (q.lines ++ 13 ∷ (10 ∷ y)))) = cc (methods.1) in
     let targets = one_run is_visible h.target k.target 32 32 _ _ (run_of_some is_visible h.target p.target) (run_of_some is_visible k.target q.target) refl refl behind_method in
@@ -52,7 +52,7 @@ FramedBy head content body = Framed (values_of (codes "content-length") head.fie
 pub one_request : IsPrefixFree H1Request
 one_request a b x y r s p q e =
     let whole : p.head_text ++ (p.content ++ x) ≡ q.head_text ++ (q.content ++ y) =
-        sym (append_assoc p.head_text p.content x) ∙ ap (λ (o : List ℕ). o ++ x) (sym p.is) ∙ e ∙ ap (λ (o : List ℕ). o ++ y) q.is ∙ append_assoc q.head_text q.content y in
+    sym (append_assoc p.head_text p.content x) ∙ ap (λ (o : List ℕ). o ++ x) (sym p.is) ∙ e ∙ ap (λ (o : List ℕ). o ++ y) q.is ∙ append_assoc q.head_text q.content y in
     let heads = one_head p.head_text q.head_text _ _ p.head q.head p.has_head q.has_head whole in
     let behind : p.content ++ x ≡ q.content ++ y = same_rest p.head_text q.head_text _ _ heads.0 whole in
     let bodies = one_framed _ _ p.content q.content x y r.body s.body p.body (subst (λ (head : Head). FramedBy head q.content s.body) (sym heads.1) q.body) behind in

@@ -7,7 +7,7 @@ use Rattle.std.proofs.lemmas.List.{append-nil}
 use Rattle.std.proofs.lemmas.List.Elements.{filter-append}
 use Rattle.model.specs.Octets.{begins_with_space, is_space, is_value_octet, some_of, is_between, is_token_octet, is_visible, is_value, lower, lower_octet}
 use Rattle.model.specs.Messages.{Field, Request}
-use Rattle.model.specs.Http1.{crlf, Line, Lines, values_of, without, framing_names, via, Framed, Head, H1Head, H1Request, forward}
+use Rattle.model.specs.Http1.{crlf, Line, Lines, values_of, without, framing_names, via, Framed, H1Head, H1Request, forward}
 use Rattle.model.specs.Http1Text.{line_text, lines_text, written_fields, head_text}
 use Rattle.model.specs.Http2.{is_name_octet}
 use Rattle.model.proofs.Http1Bodies.{cons-append}

@@ -73,19 +73,32 @@ Framed (digits ∷ []) [] text body = Counted digits text body
 Framed [] (coding ∷ []) text body = (lower coding ≡ codes "chunked") × Chunked text body
 Framed _ _ text body = ⊥
 
--- A whole request (RFC 9112, section 2.1): the request line, field lines of which one is the host's, an empty line and
--- the body.
-pub record H1Request (text : List ℕ) (request : Request) : Type 0 where
+-- What the head of a request says: its request line, and all fields of its lines.
+pub record Head : Type 0 where
+  pub method : List ℕ
+  pub target : List ℕ
+  pub fields : List Field
+
+-- The text of a head (RFC 9112, sections 2.1 and 3): the request line, field lines and an empty line.
+pub record H1Head (text : List ℕ) (head : Head) : Type 0 where
   pub lines : List ℕ
+  pub is : text ≡ head.method ++ codes " " ++ head.target ++ codes " HTTP/1.1" ++ crlf ++ lines ++ crlf
+  pub method : some_of is_token_octet head.method ≡ true
+  pub target : some_of is_visible head.target ≡ true
+  pub are_lines : Lines lines head.fields
+
+-- A whole request (RFC 9112, section 2.1): a head of which one line is the host's, and the body that its lines frame.
+pub record H1Request (text : List ℕ) (request : Request) : Type 0 where
+  pub head : Head
+  pub head_text : List ℕ
   pub content : List ℕ
-  pub is : text ≡ request.method ++ 32 ∷ request.target ++ codes " HTTP/1.1" ++ crlf ++ lines ++ crlf ++ content
-  pub method : some_of is_token_octet request.method ≡ true
-  pub target : some_of is_visible request.target ≡ true
-  pub line_fields : List Field
-  pub are_lines : Lines lines line_fields
-  pub authority : values_of (codes "host") line_fields ≡ request.authority ∷ []
-  pub fields : request.fields ≡ without framing_names line_fields
-  pub body : Framed (values_of (codes "content-length") line_fields) (values_of (codes "transfer-encoding") line_fields) content request.body
+  pub is : text ≡ head_text ++ content
+  pub has_head : H1Head head_text head
+  pub method : request.method ≡ head.method
+  pub target : request.target ≡ head.target
+  pub authority : values_of (codes "host") head.fields ≡ request.authority ∷ []
+  pub fields : request.fields ≡ without framing_names head.fields
+  pub body : Framed (values_of (codes "content-length") head.fields) (values_of (codes "transfer-encoding") head.fields) content request.body
 
 -- No beginning of these octets is a request.
 abbrev pub BeginsNoRequest : List ℕ → Type 0

@@ -6,4 +6,6 @@ pub mod Tables
 pub mod Blocks
 pub mod Frames
 pub mod Logs
-pub mod Frames
+pub mod Http1
+pub mod Http2
+pub mod Http1Text

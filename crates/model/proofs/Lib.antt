@@ -1,1 +1,2 @@
 pub mod HpackExamples
+pub mod IntegerLemmas

@@ -1,0 +1,4 @@
+//! Header blocks of HPACK (RFC 7541).
+#![tactic(auto)]
+
+mod static_table;

@@ -1,5 +1,5 @@
 -- Integers of HPACK (RFC 7541, section 5.1).
-use Rattle.std.specs.Prelude.{◌≡◌, ℕ, ◌+◌, ◌*◌, ◌-◌, ◌/◌, ◌%◌, ◌^◌, ◌<◌, ◌≤◌, ◌⊎◌, List, [], ◌∷◌, length, slice_index}
+use Rattle.std.specs.Prelude.{◌≡◌, ℕ, ◌+◌, ◌*◌, ◌-◌, ◌/◌, ◌%◌, ◌^◌, ◌<◌, ◌≤◌, ◌⊎◌, List, [], ◌∷◌, ◌++◌, length, slice_index}
 
 -- The greatest integer that is read or written (this project's profile).
 abbrev pub greatest : ℕ
@@ -43,3 +43,7 @@ IsInt prefix octets value = IsShortInt prefix octets value ⊎ IsLongInt prefix 
 pub record IsMarkedInt (prefix mark : ℕ) (octets : List ℕ) (value : ℕ) : Type 0 where
   pub int : IsInt prefix octets value
   pub marked : slice_index octets 0 / 2 ^ prefix ≡ mark
+
+-- No front of the octets is a text of an integer.
+abbrev pub BeginsNoInt : ℕ → List ℕ → Type 0
+BeginsNoInt prefix octets = (front rest : List ℕ) (value : ℕ) → octets ≡ front ++ rest → IsInt prefix front value → ⊥

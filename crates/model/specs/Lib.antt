@@ -6,6 +6,7 @@ pub mod Tables
 pub mod Blocks
 pub mod Frames
 pub mod Logs
-pub mod Http1
-pub mod Http2
-pub mod Http1Text
+pub mod Integers
+pub mod Huffman
+pub mod Tables
+pub mod Blocks

@@ -1,0 +1,2 @@
+pub use Rattle.model.specs.Integers
+pub mod Reading

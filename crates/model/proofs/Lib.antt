@@ -1,2 +1,11 @@
-pub mod HpackExamples
+pub mod FramesReadings
+pub mod FramesFronts
+mod FramesExamples
+pub mod Http1Runs
+pub mod Http1Lines
+pub mod Http1Bodies
+pub mod Http1Readings
+pub mod Http1Texts
+pub mod Http1Examples
+mod HpackExamples
 pub mod IntegerLemmas

@@ -2,4 +2,5 @@
 //! of them, each as the contract of a function with an empty body.
 #![tactic(auto)]
 
+pub mod frame_laws;
 pub mod http1;

@@ -13,7 +13,8 @@ use Rattle.model.specs.Tapes.Entry.{Did}
 use Rattle.model.specs.Admission as admission
 use Rattle.gateway.specs.Moves.{Move, entry_of}
 use Rattle.gateway.specs.Moves.Move.{Takes, Breaks, Hears, Sends, Acts}
-use Rattle.gateway.specs.State.{State, Upstream, upstream_at, with_upstream, nobody, closed_up, sent_more, taken, after}
+use Rattle.gateway.specs.declared.upstream.Upstream.{Upstream}
+use Rattle.gateway.specs.State.{State, upstream_at, with_upstream, nobody, closed_up, sent_more, taken, after}
 use Rattle.gateway.specs.Policy.{IsUp, is_in_order, is_admitted}
 
 pub record Admitting (t : List Entry) (s : State) : Type 0 where

@@ -5,3 +5,4 @@ pub mod Taking
 pub mod Shutting
 pub mod Admitting
 pub mod Standing
+pub mod Closing

@@ -4,7 +4,8 @@ use Rattle.std.specs.Prelude.{cond}
 use Rattle.model.specs.Logs.Act.{Open, ToUp, Close, CloseClient}
 use Rattle.model.specs.Tapes.{Entry, sent_up}
 use Rattle.model.specs.Requests.{Opened, last_stream, opens}
-use Rattle.gateway.specs.State.{State, Upstream}
+use Rattle.gateway.specs.declared.upstream.Upstream.{Upstream}
+use Rattle.gateway.specs.State.{State}
 use Rattle.gateway.specs.Policy.{Due, closes_from, closes, farewell}
 use Rattle.gateway.specs.Policy.Due.{ToSend, ToDo}
 

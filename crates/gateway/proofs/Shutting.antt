@@ -9,7 +9,8 @@ use Rattle.model.specs.Tapes.{Entry, is_closed}
 use Rattle.gateway.specs.Moves.{Move, entry_of}
 use Rattle.gateway.specs.Moves.Move.{Takes, Breaks, Hears, Sends, Acts}
 use Rattle.gateway.specs.Moves.Outcome.{Settled, Served, Stopped}
-use Rattle.gateway.specs.State.{State, Upstream, after}
+use Rattle.gateway.specs.declared.upstream.Upstream.{Upstream}
+use Rattle.gateway.specs.State.{State, after}
 use Rattle.gateway.specs.Policy.{Due, closes_from, closes, farewell, breach_code, owes_after, rest_of, InTurn, IsDue}
 use Rattle.gateway.specs.Policy.Due.{ToSend, ToDo}
 

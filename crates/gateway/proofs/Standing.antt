@@ -14,7 +14,8 @@ use Rattle.model.specs.Admission as admission
 use Rattle.gateway.specs.Moves.{Move, entry_of, tape_of, after_all}
 use Rattle.gateway.specs.Moves.Move.{Takes, Breaks, Hears, Sends, Acts}
 use Rattle.gateway.specs.Moves.Outcome.{Settled, Served, Stopped}
-use Rattle.gateway.specs.State.{State, Upstream, upstream_at, with_upstream, closed_up, sent_more, taken, after, start}
+use Rattle.gateway.specs.declared.upstream.Upstream.{Upstream}
+use Rattle.gateway.specs.State.{State, upstream_at, with_upstream, closed_up, sent_more, taken, after, start}
 use Rattle.gateway.specs.Policy.{breach_code, Due, Point, point_after, resting, Allowed, AllAllowed, closes, rest_of, answer_event, IsUp}
 use Rattle.gateway.specs.Policy.Due.{ToSend, ToDo}
 use Rattle.gateway.proofs.Owed.{to_open, owed_up, closes_open, closes_send}

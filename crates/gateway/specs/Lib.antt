@@ -2,6 +2,8 @@ pub mod Views
 pub mod Setups
 pub mod Moves
 pub mod State
+pub mod Closing
+pub mod Connections
 pub mod Policy
 pub use Rattle.model.specs.Logs
 pub use Rattle.model.specs.Setup

@@ -18,7 +18,8 @@ use Rattle.model.specs.Streams.{frame_items}
 use Rattle.gateway.specs.Moves.{Move, Outcome, Input, inputs, after_all, put_move}
 use Rattle.gateway.specs.Moves.Move.{Takes, Breaks, Hears, Sends, Acts}
 use Rattle.gateway.specs.Moves.Outcome.{Settled, Served, Stopped}
-use Rattle.gateway.specs.State.{State, Upstream, upstream_at, after, start}
+use Rattle.gateway.specs.declared.upstream.Upstream.{Upstream}
+use Rattle.gateway.specs.State.{State, upstream_at, after, start}
 
 -- Whatever the table, the frame's note is right; no header block was begun before it.
 abbrev pub IsNoted : Noted → Type 0

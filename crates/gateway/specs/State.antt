@@ -4,14 +4,10 @@ use Rattle.model.specs.Setup.{Setup}
 use Rattle.model.specs.Frames.{spell}
 use Rattle.model.specs.Logs.Event.{ClientEnd, ClientTook, UpFailed, UpTook}
 use Rattle.model.specs.Logs.Act.{Open, ToUp, Close}
+use Rattle.gateway.specs.declared.upstream.Upstream.{Upstream}
 use Rattle.gateway.specs.Moves.{Move}
 use Rattle.gateway.specs.Moves.Move.{Takes, Breaks, Hears, Sends, Acts}
 use Rattle.gateway.specs.Moves.Outcome.{Settled, Served, Stopped}
-
--- a connection to an upstream: whether it is open, and the octets put out for it that aren't taken
-pub record Upstream : Type 0 where
-  pub is_open : Bool
-  pub untaken : ℕ
 
 pub record State : Type 0 where
   pub setup : Setup

@@ -2,7 +2,10 @@
 #![tactic(auto)]
 
 mod config;
+mod connection;
 mod events;
+mod outputs;
+mod upstream;
 
 pub use config::{Config, Passing, Policy, Route};
 pub use events::{Event, Output};

@@ -1,0 +1,196 @@
+//! A client's connection: what is kept of it, and what its frames and the other events do.
+
+ghost use Rattle.std.specs.Prelude.{◌≡◌, ◌≤◌, ◌<◌, ◌++◌, suc, length, OnOk, false};
+ghost use Rattle.model.specs.Frames.{spell, spell_number, settings_frame, settings_ack};
+ghost use Rattle.model.specs.Logs.Act.{Open as DoesOpen, ToUp as DoesUp};
+ghost use Rattle.model.specs.Logs.Output.{ToClient, Does};
+ghost use Rattle.model.specs.Tapes.{put};
+ghost use Rattle.frames.specs.Views.{frame_of};
+ghost use Rattle.gateway.specs.Views.{event_of};
+ghost use Rattle.gateway.specs.Setups.{setup_of};
+ghost use Rattle.gateway.specs.State.{start};
+ghost use Rattle.gateway.specs.Policy.{is_admitted};
+ghost use Rattle.gateway.specs.Connections.{greeted, settled, served, ended, left, put_end, put_farewell};
+
+use crate::config::Config;
+use crate::events::Event;
+use crate::outputs::Outputs;
+use crate::upstream::{close_each, upstream_at, Upstream};
+use frames::View;
+use std::alloc::{AllocError, Global};
+use std::marker::Model;
+
+/// What the gateway announces: SETTINGS_MAX_CONCURRENT_STREAMS (3) 100, SETTINGS_MAX_HEADER_LIST_SIZE (6) 16,384
+/// (RFC 9113, section 6.5.2).
+const SETTINGS: [u8; 12] = [0, 3, 0, 0, 0, 100, 0, 6, 0, 0, 64, 0];
+
+/// What is kept of a client's connection. A clause sees the state that its moves lead to.
+#[derive(Drop)]
+pub struct Connection {
+    config: Config,
+    greeted: bool,
+    settled: bool,
+    closed: bool,
+    high: u32,
+    untaken: u64,
+    upstreams: Vec<Upstream>,
+}
+
+impl Model for Connection {
+    ghost use Rattle.gateway.specs.State.{State};
+    ghost use Rattle.gateway.specs.Connections.{state_of, IsBounded};
+
+    ghost Value = { State };
+
+    ghost view = { state_of };
+
+    ghost invariant = { IsBounded };
+}
+
+/// The payload of GOAWAY (RFC 9113, section 6.8): the last stream, and the error code.
+fn goaway_payload(last: u32, code: u32) -> [u8; 8]
+    requires { last < 2147483648 }
+    ensures { result ≡ spell_number last ++ spell_number code }
+{
+    [
+        (last / 16777216) as u8,
+        (last / 65536 % 256) as u8,
+        (last / 256 % 256) as u8,
+        (last % 256) as u8,
+        (code / 16777216) as u8,
+        (code / 65536 % 256) as u8,
+        (code / 256 % 256) as u8,
+        (code % 256) as u8,
+    ]
+}
+
+impl Connection {
+    /// A connection to which nothing came.
+    pub fn new(alloc: Global, config: Config) -> Connection
+        ensures { result ≡ start (setup_of config) }
+    {
+        Connection {
+            config,
+            greeted: false,
+            settled: false,
+            closed: false,
+            high: 0,
+            untaken: 0,
+            upstreams: Vec::new(alloc),
+        }
+    }
+
+    /// Whether an event may come.
+    pub fn is_admitted(&self, event: &Event) -> bool
+        ensures { result ≡ is_admitted self.now (event_of event.now) }
+    {
+        let in_order = match event {
+            Event::Client(piece) => piece.len() <= 65536 && self.untaken <= 1073741824,
+            Event::ClientEnd => true,
+            Event::ClientTook(count) => *count <= self.untaken,
+            Event::Up(k, piece) => {
+                upstream_at(&self.upstreams, *k).is_open && piece.len() <= 65536
+            }
+            Event::UpEnd(k) | Event::UpFailed(k) => upstream_at(&self.upstreams, *k).is_open,
+            Event::UpTook(k, count) => {
+                let upstream = upstream_at(&self.upstreams, *k);
+                upstream.is_open && *count <= upstream.untaken
+            }
+        };
+        !self.closed && in_order
+    }
+
+    /// Sends the gateway's settings.
+    pub fn greet(&mut self, out: &mut Outputs) -> Result<(), AllocError>
+        requires { self.old.greeted ≡ false }
+        ensures state { OnOk result (self.new ≡ greeted self.old) }
+        ensures outputs { OnOk result (out.new ≡ put out.old (ToClient (spell settings_frame))) }
+    {
+        let view = View {
+            kind: 4,
+            flags: 0,
+            id: 0,
+            payload: &SETTINGS,
+        };
+        out.send(&view)?;
+        self.greeted = true;
+        self.untaken += 21;
+        Ok(())
+    }
+
+    /// Acknowledges the client's settings.
+    fn settle(&mut self, out: &mut Outputs) -> Result<(), AllocError>
+        requires first { self.old.settled ≡ false }
+        requires alive { self.old.closed ≡ false }
+        ensures state { OnOk result (self.new ≡ settled self.old) }
+        ensures outputs { OnOk result (out.new ≡ put out.old (ToClient (spell settings_ack))) }
+    {
+        let view = View {
+            kind: 4,
+            flags: 1,
+            id: 0,
+            payload: &[],
+        };
+        out.send(&view)?;
+        self.greeted = true;
+        self.settled = true;
+        self.untaken += 9;
+        Ok(())
+    }
+
+    /// Opens an upstream for a stream's request, and sends its text.
+    fn serve(
+        &mut self,
+        stream: u32,
+        route: u32,
+        text: Vec<u8>,
+        out: &mut Outputs,
+    ) -> Result<(), AllocError>
+        requires stream { stream < 2147483648 }
+        requires few { length self.old.upstreams < 100 }
+        ensures state { OnOk result (self.new ≡ served self.old stream (length text.items)) }
+        ensures outputs { OnOk result (out.new ≡ put (put out.old (Does (DoesOpen (suc (length self.old.upstreams)) route))) (Does (DoesUp (suc (length self.old.upstreams)) text.items))) }
+    {
+        let k = self.upstreams.len() as u32 + 1;
+        let untaken = text.len() as u64;
+        out.open_up(k, route)?;
+        out.send_up(k, text)?;
+        self.upstreams.push(Upstream {
+            is_open: true,
+            untaken,
+        })?;
+        self.high = stream;
+        Ok(())
+    }
+
+    /// Closes all connections.
+    fn end(&mut self, out: &mut Outputs) -> Result<(), AllocError>
+        ensures state { OnOk result (self.new ≡ ended self.old) }
+        ensures outputs { OnOk result (out.new ≡ put_end out.old self.old) }
+    {
+        close_each(&mut self.upstreams, out)?;
+        self.closed = true;
+        out.close_client()
+    }
+
+    /// Says farewell by an error code, and closes all connections.
+    fn leave(&mut self, code: u32, out: &mut Outputs) -> Result<(), AllocError>
+        requires { self.old.closed ≡ false }
+        ensures state { OnOk result (self.new ≡ left self.old code) }
+        ensures outputs { OnOk result (out.new ≡ put_farewell out.old self.old code) }
+    {
+        let payload = goaway_payload(self.high, code);
+        let view = View {
+            kind: 7,
+            flags: 0,
+            id: 0,
+            payload: &payload,
+        };
+        out.send(&view)?;
+        self.greeted = true;
+        self.closed = true;
+        self.untaken += 17;
+        self.end(out)?;
+        Ok(())
+    }
+}

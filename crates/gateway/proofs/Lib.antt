@@ -6,3 +6,6 @@ pub mod Shutting
 pub mod Admitting
 pub mod Standing
 pub mod Closing
+pub mod Leading
+pub mod Answering
+pub mod Serving

@@ -73,8 +73,17 @@ mod tests {
         assert_eq!(rt; read(5, &[0x2a]), IntRead::Value(10, 1));
         assert_eq!(rt; read(5, &[0x1f, 0x80, 0x00]), IntRead::Value(31, 3));
         assert_eq!(rt; read(5, &[0x1f, 0x9a]), IntRead::More);
-        assert_eq!(rt; read(5, &[0x1f, 0xe0, 0xff, 0xff, 0xff, 0x0f]), IntRead::Value(4294967295, 6));
-        assert_eq!(rt; read(5, &[0x1f, 0xff, 0xff, 0xff, 0xff, 0x0f]), IntRead::Bad);
-        assert_eq!(rt; read(5, &[0x1f, 0x80, 0x80, 0x80, 0x80, 0x80, 0x00]), IntRead::Bad);
+        assert_eq!(rt;
+            read(5, &[0x1f, 0xe0, 0xff, 0xff, 0xff, 0x0f]),
+            IntRead::Value(4294967295, 6)
+        );
+        assert_eq!(rt;
+            read(5, &[0x1f, 0xff, 0xff, 0xff, 0xff, 0x0f]),
+            IntRead::Bad
+        );
+        assert_eq!(rt;
+            read(5, &[0x1f, 0x80, 0x80, 0x80, 0x80, 0x80, 0x00]),
+            IntRead::Bad
+        );
     }
 }

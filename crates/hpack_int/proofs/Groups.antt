@@ -1,11 +1,11 @@
 -- Groups of seven bits: what more of them count for, and where they end.
-use Rattle.std.proofs.Common.{◌≡◌, ℕ, zero, suc, ◌+◌, ◌-◌, ◌*◌, ◌/◌, ◌%◌, ◌^◌, ◌<◌, ◌≤◌, List, [], ◌∷◌, ◌++◌, length, take, drop, get_or, refl, ap, sym, ◌∙◌, subst, inl, inr, arith, length-take, length-append}
+use Rattle.std.proofs.Common.{◌≡◌, ℕ, zero, suc, ◌+◌, ◌-◌, ◌*◌, ◌%◌, ◌^◌, ◌<◌, ◌≤◌, List, [], ◌∷◌, ◌++◌, length, take, drop, get_or, refl, ap, sym, ◌∙◌, subst, inl, inr, arith, length-take, length-append}
 use Rattle.std.proofs.Math.Nat.{pow-succ', pow-le-pow_right, zero-mod}
 use Rattle.std.proofs.lemmas.Grind.{common_steps}
 use Rattle.std.proofs.lemmas.List.{append-nil}
 use Rattle.std.proofs.Math.Seq.{take-length}
-use Rattle.model.specs.Integers.{AreGroups, groups_value, greatest, IsShortInt, IsLongInt, IsInt, BeginsNoInt}
-use Rattle.hpack_int.specs.Reading.{AreSet, Reads, ReadsGroups, ReadsValue, NeedsMore, IsBad, EndsWithin, IsUnended, IsEndless, PassesRange}
+use Rattle.model.specs.Integers.{AreGroups, groups_value, greatest, IsInt}
+use Rattle.hpack_int.specs.Reading.{AreSet, Reads, ReadsGroups, NeedsMore}
 use Rattle.hpack_int.specs.declared.IntRead.{IntRead}
 use Rattle.hpack_int.specs.declared.IntRead.TheVariants.{Value, More, Bad}
 

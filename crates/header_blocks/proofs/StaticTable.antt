@@ -1,5 +1,5 @@
 -- The entries of the code are those of the static table.
-use Rattle.std.proofs.Common.{◌≡◌, slice_get, Option, Some, None, MatchOption, ℕ, zero, suc, List, [], ◌∷◌, refl, ap, sym, ◌∙◌, subst, Bor}
+use Rattle.std.proofs.Common.{◌≡◌, slice_get, Option, Some, None, MatchOption, ℕ, List, ap, sym, ◌∙◌, subst, Bor}
 use Rattle.std.specs.Prelude.{map, option_map}
 use Rattle.std.proofs.lemmas.Option.{slice_get-map}
 use Rattle.model.specs.Messages.{Field}

@@ -1,8 +1,8 @@
 -- What octets say whatever the dynamic table is, as long as no table is kept.
-use Rattle.std.specs.Prelude.{◌≡◌, ℕ, ◌+◌, ◌≤◌, ◌<◌, ◌/◌, ◌^◌, ◌⊎◌, List, [], ◌∷◌, ◌++◌, length, take, slice_index, Option, Some, None}
+use Rattle.std.specs.Prelude.{◌≡◌, ℕ, ◌+◌, ◌≤◌, ◌<◌, ◌/◌, ◌^◌, ◌⊎◌, List, length, take, slice_index, Option, Some, None}
 use Rattle.model.specs.Messages.{Field}
 use Rattle.model.specs.Tables.{Table, total_size}
-use Rattle.model.specs.Blocks.{IsNewName, IsNameOfEntry, IsLiteral, Represents, AreFields, Block}
+use Rattle.model.specs.Blocks.{IsRawString, IsNewName, IsNameOfEntry, IsLiteral, Represents, AreFields, Block}
 use Rattle.header_blocks.specs.declared.gather.Decoded.{Decoded}
 use Rattle.header_blocks.specs.declared.gather.Decoded.TheVariants.{Fields, TooLarge}
 
@@ -10,13 +10,31 @@ use Rattle.header_blocks.specs.declared.gather.Decoded.TheVariants.{Fields, TooL
 abbrev pub NameEverywhere : ℕ → List ℕ → List ℕ → Type 0
 NameEverywhere index octets name = (table : Table) → IsNewName index octets name ⊎ IsNameOfEntry table index octets name
 
--- the first octets, so many, are a literal, by whatever mark stands there
-abbrev pub LiteralEverywhere : ℕ → List ℕ → ℕ → Field → Type 0
-LiteralEverywhere prefix octets used field = (table : Table) → IsLiteral prefix (slice_index octets 0 / 2 ^ prefix) table (take used octets) field
+-- The first octets, so many, are a raw string.
+pub record ReadsString (octets string : List ℕ) (used : ℕ) : Type 0 where
+  pub within : used ≤ length octets
+  pub is_string : IsRawString (take used octets) string
+
+-- The first octets, so many, are the name of a literal with this name index.
+pub record ReadsName (index : ℕ) (octets name : List ℕ) (used : ℕ) : Type 0 where
+  pub within : used ≤ length octets
+  pub is_name : NameEverywhere index (take used octets) name
+
+-- The first octets, so many, are a literal, by whatever mark stands there.
+pub record ReadsLiteral (prefix : ℕ) (octets : List ℕ) (field : Field) (used : ℕ) : Type 0 where
+  pub some : 0 < used
+  pub within : used ≤ length octets
+  pub is_literal : (table : Table) → IsLiteral prefix (slice_index octets 0 / 2 ^ prefix) table (take used octets) field
 
 -- one field
 abbrev pub FieldEverywhere : List ℕ → Field → Type 0
 FieldEverywhere octets field = (table : Table) → (next : Table) × Represents table octets field next
+
+-- The first octets, so many, are one field.
+pub record ReadsField (octets : List ℕ) (field : Field) (used : ℕ) : Type 0 where
+  pub some : 0 < used
+  pub within : used ≤ length octets
+  pub is_field : FieldEverywhere (take used octets) field
 
 -- fields, one after another
 abbrev pub FieldsEverywhere : List ℕ → List Field → Type 0

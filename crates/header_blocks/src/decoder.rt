@@ -4,7 +4,7 @@ ghost use Rattle.std.specs.Prelude.{◌≡◌, IfOk, IfErr, IfSome, OnOk, Some, 
 ghost use Rattle.header_blocks.specs.Everywhere.{Decodes};
 
 use crate::fault::BlockFault;
-use crate::gather::{decode_block, Decoded};
+use crate::gather::{Decoded, decode_block};
 use std::alloc::Global;
 use std::marker::Model;
 

@@ -1,5 +1,6 @@
 //! Why a block isn't decoded.
 
+ghost use Rattle.std.specs.Prelude.{◌≡◌};
 ghost use Rattle.header_blocks.specs.declared.fault.BlockFault.TheVariants.{Memory};
 
 use std::alloc::{AllocError, AllocFailed};

@@ -2,7 +2,7 @@
 
 ghost use Rattle.std.specs.Prelude.{ℕ, List, [], ◌∷◌, ◌++◌, IfOk, OnOk};
 ghost use Rattle.model.specs.Messages.{Field as FieldLine};
-ghost use Rattle.header_blocks.specs.Everywhere.{Decodes, Holds};
+ghost use Rattle.header_blocks.specs.Everywhere.{Decodes, Gathers, Holds};
 
 use crate::fault::BlockFault;
 use crate::field::Field;
@@ -53,7 +53,9 @@ impl Gathering {
     }
 
     /// All fields, or that they don't fit.
-    fn finish(self) -> Decoded {
+    fn finish(self) -> Decoded
+        ensures { (block : List ℕ) (cap : ℕ) → Gathers block cap self.fields.items self.room → Decodes block cap result }
+    {
         match self.room {
             Some(_) => Decoded::Fields(self.fields),
             None => Decoded::TooLarge,

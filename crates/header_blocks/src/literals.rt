@@ -1,19 +1,18 @@
 //! Strings, literals and indexed fields.
 
-ghost use Rattle.std.specs.Prelude.{◌≡◌, ◌<◌, ◌≤◌, length, take, drop, IfOk, slice_get, Some};
-ghost use Rattle.model.specs.Blocks.{IsRawString};
+ghost use Rattle.std.specs.Prelude.{◌≡◌, ◌-◌, ◌<◌, ◌≤◌, length, IfOk, slice_get, slice_index, Some};
 ghost use Rattle.model.specs.Tables.{static_table};
-ghost use Rattle.header_blocks.specs.Everywhere.{NameEverywhere, LiteralEverywhere, FieldEverywhere};
+ghost use Rattle.header_blocks.specs.Everywhere.{ReadsString, ReadsName, ReadsLiteral, ReadsField};
 
 use crate::fault::BlockFault;
 use crate::field::Field;
 use crate::static_table::static_entry;
-use hpack_int::{read, IntRead};
+use hpack_int::{IntRead, read};
 use std::alloc::Global;
 
 /// The string at the front of octets, and how many octets it takes (RFC 7541, section 5.2).
 fn read_string(alloc: Global, octets: &[u8]) -> Result<(Vec<u8>, usize), BlockFault>
-    ensures { IfOk result (λ p. (p.1 ≤ length octets.now) × IsRawString (take p.1 octets.now) p.0.items) }
+    ensures { IfOk result (λ p. ReadsString octets.now p.0.items p.1) }
 {
     let IntRead::Value(number, start) = read(7, octets) else {
         return Err(BlockFault::Unread);
@@ -37,12 +36,15 @@ fn static_field(alloc: Global, index: u32) -> Result<Field, BlockFault>
     let Some((name, value)) = static_entry(index as usize - 1) else {
         return Err(BlockFault::Unread);
     };
-    Ok(Field::new(Vec::from_slice(alloc, name)?, Vec::from_slice(alloc, value)?))
+    Ok(Field::new(
+        Vec::from_slice(alloc, name)?,
+        Vec::from_slice(alloc, value)?,
+    ))
 }
 
 /// The name of a literal, by its index or, at index 0, from the front of the octets; and how many octets it takes.
 fn read_name(alloc: Global, index: u32, octets: &[u8]) -> Result<(Vec<u8>, usize), BlockFault>
-    ensures { IfOk result (λ p. (p.1 ≤ length octets.now) × NameEverywhere index (take p.1 octets.now) p.0.items) }
+    ensures { IfOk result (λ p. ReadsName index octets.now p.0.items p.1) }
 {
     if index == 0 {
         return read_string(alloc, octets);
@@ -58,7 +60,7 @@ fn read_name(alloc: Global, index: u32, octets: &[u8]) -> Result<(Vec<u8>, usize
 fn read_literal(alloc: Global, prefix: u8, octets: &[u8]) -> Result<(Field, usize), BlockFault>
     requires some { 1 ≤ prefix }
     requires most { prefix ≤ 8 }
-    ensures { IfOk result (λ p. (0 < p.1) × (p.1 ≤ length octets.now) × LiteralEverywhere prefix octets.now p.1 p.0) }
+    ensures { IfOk result (λ p. ReadsLiteral prefix octets.now p.0 p.1) }
 {
     let IntRead::Value(index, start) = read(prefix, octets) else {
         return Err(BlockFault::Unread);
@@ -70,7 +72,11 @@ fn read_literal(alloc: Global, prefix: u8, octets: &[u8]) -> Result<(Field, usiz
 }
 
 /// The indexed field at the front of octets, and how many octets it takes (RFC 7541, section 6.1).
-fn read_indexed(alloc: Global, octets: &[u8]) -> Result<(Field, usize), BlockFault> {
+fn read_indexed(alloc: Global, octets: &[u8]) -> Result<(Field, usize), BlockFault>
+    requires some { 0 < length octets.now }
+    requires marked { 128 ≤ slice_index octets.now 0 }
+    ensures { IfOk result (λ p. ReadsField octets.now p.0 p.1) }
+{
     let IntRead::Value(index, used) = read(7, octets) else {
         return Err(BlockFault::Unread);
     };
@@ -80,7 +86,7 @@ fn read_indexed(alloc: Global, octets: &[u8]) -> Result<(Field, usize), BlockFau
 /// The field whose representation stands at the front of octets, and how many octets it takes (RFC 7541, section 6).
 pub fn read_field(alloc: Global, octets: &[u8]) -> Result<(Field, usize), BlockFault>
     requires { 0 < length octets.now }
-    ensures { IfOk result (λ p. (0 < p.1) × (p.1 ≤ length octets.now) × FieldEverywhere (take p.1 octets.now) p.0) }
+    ensures { IfOk result (λ p. ReadsField octets.now p.0 p.1) }
 {
     match octets[0] {
         128..=255 => read_indexed(alloc, octets),

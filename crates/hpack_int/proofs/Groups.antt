@@ -1,11 +1,11 @@
 -- Groups of seven bits: what more of them count for, and where they end.
-use Rattle.std.proofs.Common.{◌≡◌, ℕ, zero, suc, ◌+◌, ◌-◌, ◌*◌, ◌/◌, ◌%◌, ◌^◌, ◌<◌, ◌≤◌, List, [], ◌∷◌, ◌++◌, length, take, drop, get_or, refl, ap, sym, ◌∙◌, subst, inl, inr, arith, length-take, length-append}
+use Rattle.std.proofs.Common.{◌≡◌, ℕ, zero, suc, ◌+◌, ◌-◌, ◌*◌, ◌%◌, ◌^◌, ◌<◌, ◌≤◌, List, [], ◌∷◌, ◌++◌, length, take, drop, get_or, refl, ap, sym, ◌∙◌, subst, inl, inr, arith, length-take, length-append}
 use Rattle.std.proofs.Math.Nat.{pow-succ', pow-le-pow_right, zero-mod}
 use Rattle.std.proofs.lemmas.Grind.{common_steps}
 use Rattle.std.proofs.lemmas.List.{append-nil}
 use Rattle.std.proofs.Math.Seq.{take-length}
-use Rattle.model.specs.Integers.{AreGroups, groups_value, greatest, IsShortInt, IsLongInt, IsInt, BeginsNoInt}
-use Rattle.hpack_int.specs.Reading.{AreSet, Reads, ReadsGroups, ReadsValue, NeedsMore, IsBad, EndsWithin, IsUnended, IsEndless, PassesRange}
+use Rattle.model.specs.Integers.{AreGroups, groups_value, greatest, IsInt}
+use Rattle.hpack_int.specs.Reading.{AreSet, Reads, ReadsGroups, NeedsMore}
 use Rattle.hpack_int.specs.declared.IntRead.{IntRead}
 use Rattle.hpack_int.specs.declared.IntRead.TheVariants.{Value, More, Bad}
 
@@ -76,39 +76,39 @@ module _ (prefix ones first : ℕ) (groups : List ℕ) (is_ones : first % 2 ^ pr
 
   pub reads : (r : IntRead) → ReadsGroups ones groups r → Reads prefix (first ∷ groups) r
   reads (Value value used) p = record {
-      within = omega (arith, p.within);
-      text =
-          let far : suc (used - 1) ≡ used = omega (arith, p.some) in
-          subst (λ u. IsInt prefix (take u (first ∷ groups)) value) far (inr (record {
-            first = first;
-            groups = take (used - 1) groups;
-            is = refl;
-            ones = is_ones ∙ sym of_prefix;
-            are_groups = p.are_groups;
-            few = simp length-take (omega (arith, p.few));
-            sum = ap (λ o. o + groups_value (take (used - 1) groups)) of_prefix ∙ p.sum;
-            in_range = p.in_range;
-          }));
-    }
-  reads More p = record {
-      no_front = λ front rest value e int. none [] front rest value (append-nil (first ∷ groups) ∙ e) (λ g e2 ends few fits.
-      let all : AreSet (take (length groups) groups) = subst AreSet (sym (take-length groups)) p.are_set in
-      let less : length groups < length g = set_before_end (length groups) groups [] g rest e2 (omega arith) all ends in
-      let lengths : length groups ≡ length g + length rest = sym (ap length (append-nil groups)) ∙ ap length e2 ∙ length-append g rest in
-      omega (arith, less, lengths)) int;
-      more = 0 ∷ [];
-      value = ones + groups_value (groups ++ 0 ∷ []);
-      continued = inr (record {
+    within = omega (arith, p.within);
+    text =
+        let far : suc (used - 1) ≡ used = omega (arith, p.some) in
+        subst (λ u. IsInt prefix (take u (first ∷ groups)) value) far (inr (record {
           first = first;
-          groups = groups ++ 0 ∷ [];
+          groups = take (used - 1) groups;
           is = refl;
           ones = is_ones ∙ sym of_prefix;
-          are_groups = zero_ends groups p.are_set;
-          few = length_four groups p.few;
-          sum = ap (λ o. o + groups_value (groups ++ 0 ∷ [])) of_prefix;
-          in_range = omega (arith, four_are_small groups p.few);
-        });
-    }
+          are_groups = p.are_groups;
+          few = simp length-take (omega (arith, p.few));
+          sum = ap (λ o. o + groups_value (take (used - 1) groups)) of_prefix ∙ p.sum;
+          in_range = p.in_range;
+        }));
+  }
+  reads More p = record {
+    no_front = λ front rest value e int. none [] front rest value (append-nil (first ∷ groups) ∙ e) (λ g e2 ends few fits.
+        let all : AreSet (take (length groups) groups) = subst AreSet (sym (take-length groups)) p.are_set in
+        let less : length groups < length g = set_before_end (length groups) groups [] g rest e2 (omega arith) all ends in
+        let lengths : length groups ≡ length g + length rest = sym (ap length (append-nil groups)) ∙ ap length e2 ∙ length-append g rest in
+        omega (arith, less, lengths)) int;
+    more = 0 ∷ [];
+    value = ones + groups_value (groups ++ 0 ∷ []);
+    continued = inr (record {
+      first = first;
+      groups = groups ++ 0 ∷ [];
+      is = refl;
+      ones = is_ones ∙ sym of_prefix;
+      are_groups = zero_ends groups p.are_set;
+      few = length_four groups p.few;
+      sum = ap (λ o. o + groups_value (groups ++ 0 ∷ [])) of_prefix;
+      in_range = omega (arith, four_are_small groups p.few);
+    });
+  }
   reads Bad (inl p) = λ more front rest value e int. none more front rest value e (λ g e2 ends few fits. let less = set_before_end 5 groups more g rest e2 p.many p.are_set ends in omega (arith, less)) int
   reads Bad (inr p) = λ more front rest value e int. none more front rest value e (λ g e2 ends few fits.
       let less : p.place < length g = set_before_end p.place groups more g rest e2 (omega (arith, p.within)) p.are_set ends in

@@ -2,8 +2,11 @@
 //! doesn't fit it.
 #![tactic(auto)]
 
-ghost use Rattle.std.specs.Prelude.{◌≤◌};
+ghost use Rattle.std.specs.Prelude.{◌≡◌, ◌≤◌, ◌%◌, ◌^◌, List, ℕ, ◌++◌, OnOk, OnErr};
 ghost use Rattle.hpack_int.specs.Reading.{Reads, ReadsGroups};
+ghost use Rattle.hpack_int.specs.Writing.{Writes, AreGroupsOf};
+
+use std::alloc::AllocError;
 
 /// What stands at the front of octets.
 #[derive(Clone, Copy, PartialEq, Eq, Debug)]
@@ -63,9 +66,46 @@ fn read_groups(ones: u64, groups: &[u8]) -> IntRead
     IntRead::Bad
 }
 
+/// Writes the shortest text of a value at the end, with a prefix of 1 to 8 bits and `high` above it (RFC 7541, section
+/// 5.1). An `Err` says that memory was refused, and leaves the octets as they were.
+pub fn write(prefix: u8, high: u8, value: u32, out: &mut Vec<u8>) -> Result<(), AllocError>
+    requires some { 1 ≤ prefix }
+    requires most { prefix ≤ 8 }
+    requires no_bit { high % 2 ^ prefix ≡ 0 }
+    ensures ok { OnOk result (Writes prefix high value out.old.items out.new.items) }
+    ensures err { OnErr result (out.new.items ≡ out.old.items) }
+{
+    let ones = (1u32 << prefix) - 1;
+    if value < ones {
+        out.push(high + value as u8)?;
+        return Ok(());
+    }
+    let (groups, count) = groups_of(value - ones);
+    let mut text = [high + ones as u8, 0, 0, 0, 0, 0];
+    text[1..].copy_from_slice(&groups);
+    out.extend_from_slice(&text[..count + 1])
+}
+
+/// The fewest groups of a value, and their number; what stands behind them in the array is 0.
+fn groups_of(value: u32) -> ([u8; MOST_GROUPS], usize)
+    ensures { AreGroupsOf value result.0 result.1 }
+{
+    let mut groups = [0; MOST_GROUPS];
+    let mut count = 0;
+    let mut rest = value;
+    while rest >= 128 {
+        groups[count] = (rest % 128) as u8 + 128;
+        rest /= 128;
+        count += 1;
+    }
+    groups[count] = rest as u8;
+    (groups, count + 1)
+}
+
 #[cfg(test)]
 mod tests {
     use super::*;
+    use std::test::Fail;
 
     #[test]
     fn integers_are_read(rt: HostRuntime) {
@@ -73,8 +113,32 @@ mod tests {
         assert_eq!(rt; read(5, &[0x2a]), IntRead::Value(10, 1));
         assert_eq!(rt; read(5, &[0x1f, 0x80, 0x00]), IntRead::Value(31, 3));
         assert_eq!(rt; read(5, &[0x1f, 0x9a]), IntRead::More);
-        assert_eq!(rt; read(5, &[0x1f, 0xe0, 0xff, 0xff, 0xff, 0x0f]), IntRead::Value(4294967295, 6));
-        assert_eq!(rt; read(5, &[0x1f, 0xff, 0xff, 0xff, 0xff, 0x0f]), IntRead::Bad);
-        assert_eq!(rt; read(5, &[0x1f, 0x80, 0x80, 0x80, 0x80, 0x80, 0x00]), IntRead::Bad);
+        assert_eq!(rt;
+            read(5, &[0x1f, 0xe0, 0xff, 0xff, 0xff, 0x0f]),
+            IntRead::Value(4294967295, 6)
+        );
+        assert_eq!(rt;
+            read(5, &[0x1f, 0xff, 0xff, 0xff, 0xff, 0x0f]),
+            IntRead::Bad
+        );
+        assert_eq!(rt;
+            read(5, &[0x1f, 0x80, 0x80, 0x80, 0x80, 0x80, 0x00]),
+            IntRead::Bad
+        );
+    }
+
+    #[test]
+    fn integers_are_written(rt: HostRuntime) -> Result<(), Fail> {
+        let mut out = Vec::new(rt.alloc());
+        write(5, 0x20, 1337, &mut out)?;
+        write(5, 0, 10, &mut out)?;
+        write(8, 0, 42, &mut out)?;
+        write(5, 0, 31, &mut out)?;
+        write(5, 0x20, 4294967295, &mut out)?;
+        let wanted = [
+            0x3f, 0x9a, 0x0a, 0x0a, 0x2a, 0x1f, 0x00, 0x3f, 0xe0, 0xff, 0xff, 0xff, 0x0f,
+        ];
+        assert_eq!(rt; out.as_slice(), wanted.as_slice());
+        Ok(())
     }
 }

@@ -1,6 +1,6 @@
 -- Laws of the texts of integers: none begins another, and each has one value.
-use Rattle.std.proofs.Common.{◌≡◌, ℕ, zero, suc, ◌+◌, ◌-◌, ◌*◌, ◌%◌, ◌/◌, ◌^◌, ◌<◌, ◌≤◌, List, [], ◌∷◌, ◌++◌, length, take, refl, ap, sym, ◌∙◌, subst, inl, inr, arith}
-use Rattle.model.specs.Integers.{AreGroups, groups_value, IsShortInt, IsLongInt, IsInt, IsMarkedInt}
+use Rattle.std.proofs.Common.{◌≡◌, ℕ, ◌+◌, ◌-◌, ◌%◌, ◌^◌, List, [], ◌∷◌, ◌++◌, ap, sym, ◌∙◌, inl, inr, arith}
+use Rattle.model.specs.Integers.{AreGroups, groups_value, IsInt}
 
 -- groups tell where they end
 pub groups_front : (g h x y : List ℕ) → AreGroups g → AreGroups h → g ++ x ≡ h ++ y → g ≡ h

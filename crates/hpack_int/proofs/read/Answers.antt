@@ -1,4 +1,4 @@
-use Rattle.std.proofs.Common.{◌≤◌, ◌+◌, ◌-◌, ◌*◌, ◌%◌, ◌^◌, get_or, subst}
+use Rattle.std.proofs.Common.{◌≤◌, ◌+◌, ◌-◌, ◌*◌, ◌%◌, ◌^◌, subst}
 use Rattle.hpack_int.proofs.Groups.{reads_groups, reads_nothing}
 use Rattle.hpack_int.proofs.read.Goals as goal
 

@@ -1,4 +1,4 @@
-use Rattle.std.proofs.Common.{refl, rules}
+use Rattle.std.proofs.Common.{rules}
 use Rattle.model.specs.Tables.{static_table}
 use Rattle.header_blocks.proofs.StaticTable.{same_entry}
 use Rattle.header_blocks.proofs.static_table.static_entry.Goals as goal

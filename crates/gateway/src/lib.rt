@@ -2,5 +2,7 @@
 #![tactic(auto)]
 
 mod events;
+mod stub;
 
 pub use events::{Event, Output};
+pub use stub::{run, Config, Passing, Policy, Route, RunFault};

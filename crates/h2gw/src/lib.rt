@@ -1,0 +1,7 @@
+//! The programs' library: scripts are read, run and answered.
+#![tactic(auto)]
+
+mod lines;
+mod scripts;
+
+pub use scripts::{read_script, ScriptFault};

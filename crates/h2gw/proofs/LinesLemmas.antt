@@ -1,5 +1,5 @@
 -- Words of a line.
-use Rattle.std.proofs.Common.{◌≡◌, ◌≢◌, ◌≤◌, ◌<◌, ◌+◌, ◌*◌, ◌-◌, ℕ, List, [], ◌∷◌, ◌++◌, length, take, drop, get_or, All, false, true, ◌==◌, refl, sym, ap, ◌∙◌, subst, arith, eq-eqb, length-take, length-append}
+use Rattle.std.proofs.Common.{◌≡◌, ◌≢◌, ◌≤◌, ◌<◌, ◌+◌, ◌*◌, ◌-◌, ℕ, List, [], ◌∷◌, ◌++◌, length, take, drop, get_or, All, false, true, ◌==◌, refl, sym, ap, ◌∙◌, subst, arith, Result, Ok, Err, IfErr, eq-eqb, length-take, length-append}
 use Rattle.std.proofs.lemmas.Int.Digits.{digits_more, digits_value_more, digits_value-lt}
 use Rattle.std.proofs.lemmas.Str.{digit_value_digit}
 use Rattle.std.proofs.lemmas.Str.Parse.{digit_at, digits_value_short, numerals_by_value, tells_digits}
@@ -11,8 +11,11 @@ use Rattle.std.proofs.lemmas.List.Splits.{slice_split_at, slice_split_none}
 use Rattle.std.specs.List.{slice_split}
 use Rattle.std.specs.Char.{digit_value, IsNotAsciiDigit}
 use Rattle.std.specs.Str.Parse.{AllDigits, digits_value}
-use Rattle.h2gw.specs.Scripts.{IsNumber, IsHex, AreNumberAndHex, AreTwoNumbers}
-use Rattle.h2gw.specs.Faults.{IsSeparated, IsNoNumber, AreNotTwoNumbers}
+use Rattle.h2gw.specs.declared.lines.LineFault.{LineFault}
+use Rattle.h2gw.specs.declared.lines.LineFault.TheVariants.{NotALine, Memory}
+use Rattle.h2gw.specs.Scripts.{IsNumber, IsHex, AreNumberAndHex, AreTwoNumbers, SaysNothing}
+use Rattle.model.specs.Logs.Event.{Client, ClientEnd, ClientTook, Up, UpEnd, UpFailed, UpTook}
+use Rattle.h2gw.specs.Faults.{IsSeparated, IsNoNumber, AreNotTwoNumbers, RefusesHex, RefusesNumberAndHex, Refuses}
 
 -- the first so many octets are digits, and this is their number
 pub record Counted (word : List ℕ) (count number : ℕ) : Type 0 where
@@ -114,3 +117,56 @@ module _ (words before after : List ℕ) (cut : IsSeparated 32 words before afte
 
   pub bad_hex : ((octets : List ℕ) → IsHex after octets → ⊥) → (number : ℕ) (octets : List ℕ) → AreNumberAndHex words number octets → ⊥
   bad_hex bad number octets are = bad_second (λ word. IsHex word octets) (bad octets) are.0 are.1 number are.2 are.3 are.4
+
+  pub refuses_hex : (fault : LineFault) → RefusesHex after fault → RefusesNumberAndHex words fault
+  refuses_hex NotALine bad = bad_hex bad
+  refuses_hex Memory bad = tt
+
+-- a line of two octets or more, by them and the rest
+pub two_octets : (line : List ℕ) (a b : ℕ) → 2 ≤ length line → get_or line 0 0 ≡ a → get_or line 1 0 ≡ b → line ≡ a ∷ b ∷ take (length line - 2) (drop 2 line)
+two_octets [] a b long first second = absurd (omega arith)
+two_octets (x ∷ []) a b long first second = absurd (omega arith)
+two_octets (x ∷ y ∷ more) a b long first second =
+    let size : length more ≡ length (x ∷ y ∷ more) - 2 = omega arith in
+    let rest : more ≡ take (length (x ∷ y ∷ more) - 2) more = sym (take-length more) ∙ ap (λ n. take n more) size in
+    ap (λ v. v ∷ y ∷ more) first ∙ ap (λ v. a ∷ v ∷ more) second ∙ ap (λ v. a ∷ b ∷ v) rest
+
+-- the same of three
+pub three_octets : (line : List ℕ) (a b d : ℕ) → 3 ≤ length line → get_or line 0 0 ≡ a → get_or line 1 0 ≡ b → get_or line 2 0 ≡ d → line ≡ a ∷ b ∷ d ∷ take (length line - 3) (drop 3 line)
+three_octets [] a b d long first second third = absurd (omega arith)
+three_octets (x ∷ []) a b d long first second third = absurd (omega arith)
+three_octets (x ∷ y ∷ []) a b d long first second third = absurd (omega arith)
+three_octets (x ∷ y ∷ z ∷ more) a b d long first second third =
+    let size : length more ≡ length (x ∷ y ∷ z ∷ more) - 3 = omega arith in
+    let rest : more ≡ take (length (x ∷ y ∷ z ∷ more) - 3) more = sym (take-length more) ∙ ap (λ n. take n more) size in
+    ap (λ v. v ∷ y ∷ z ∷ more) first ∙ ap (λ v. a ∷ v ∷ z ∷ more) second ∙ ap (λ v. a ∷ b ∷ v ∷ more) third ∙ ap (λ v. a ∷ b ∷ d ∷ v) rest
+
+-- a line that begins as an upstream's octets or takings says something only where its words do
+says_up : (words : List ℕ) → ((number : ℕ) (octets : List ℕ) → AreNumberAndHex words number octets → ⊥) → SaysNothing (85 ∷ 32 ∷ words)
+says_up words bad (Client piece) is = omega (arith, ap (λ t. get_or t 0 0) is.1)
+says_up words bad ClientEnd is = omega (arith, ap (λ t. get_or t 0 0) is)
+says_up words bad (ClientTook count) is = omega (arith, ap (λ t. get_or t 0 0) is.1)
+says_up words bad (Up k piece) is = bad k piece (subst (λ w. AreNumberAndHex w k piece) (sym (ap (drop 2) is.1)) is.2)
+says_up words bad (UpEnd k) is = omega (arith, ap (λ t. get_or t 1 0) is.1)
+says_up words bad (UpFailed k) is = omega (arith, ap (λ t. get_or t 1 0) is.1)
+says_up words bad (UpTook k count) is = omega (arith, ap (λ t. get_or t 1 0) is.1)
+
+says_up_took : (words : List ℕ) → AreNotTwoNumbers words → SaysNothing (85 ∷ 84 ∷ 32 ∷ words)
+says_up_took words bad (Client piece) is = omega (arith, ap (λ t. get_or t 0 0) is.1)
+says_up_took words bad ClientEnd is = omega (arith, ap (λ t. get_or t 0 0) is)
+says_up_took words bad (ClientTook count) is = omega (arith, ap (λ t. get_or t 0 0) is.1)
+says_up_took words bad (Up k piece) is = omega (arith, ap (λ t. get_or t 1 0) is.1)
+says_up_took words bad (UpEnd k) is = omega (arith, ap (λ t. get_or t 1 0) is.1)
+says_up_took words bad (UpFailed k) is = omega (arith, ap (λ t. get_or t 1 0) is.1)
+says_up_took words bad (UpTook k count) is = bad k count (subst (λ w. AreTwoNumbers w k count) (sym (ap (drop 3) is.1)) is.2)
+
+pub up_took_nothing : (line words : List ℕ) → line ≡ 85 ∷ 84 ∷ 32 ∷ words → AreNotTwoNumbers words → SaysNothing line
+up_took_nothing line words parts bad = subst SaysNothing (sym parts) (says_up_took words bad)
+
+up_refused : (line words : List ℕ) → line ≡ 85 ∷ 32 ∷ words → (fault : LineFault) → RefusesNumberAndHex words fault → Refuses line fault
+up_refused line words parts NotALine bad = subst SaysNothing (sym parts) (says_up words bad)
+up_refused line words parts Memory bad = tt
+
+pub up_answered : {E : Type 0} (line words : List ℕ) (answer : Result E LineFault) → line ≡ 85 ∷ 32 ∷ words → IfErr answer (RefusesNumberAndHex words) → IfErr answer (Refuses line)
+up_answered line words (Ok event) parts bad = tt
+up_answered line words (Err fault) parts bad = up_refused line words parts fault bad

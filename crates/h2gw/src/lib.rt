@@ -4,4 +4,4 @@
 mod lines;
 mod scripts;
 
-pub use scripts::{read_script, ScriptFault};
+pub use scripts::{ScriptFault, read_script};

@@ -1,7 +1,7 @@
 //! Lines of a script, and the words in them.
 
 ghost use Rattle.std.specs.Prelude.{◌≡◌, ◌≢◌, [], All, MatchOption, IfOk, IfErr};
-ghost use Rattle.h2gw.specs.Scripts.{IsNumber, AreTwoNumbers, Says};
+ghost use Rattle.h2gw.specs.Scripts.{IsHex, IsNumber, AreTwoNumbers, Says};
 ghost use Rattle.h2gw.specs.Faults.{Refuses, RefusesHex, RefusesNumberAndHex, IsNoNumber, AreNotTwoNumbers, IsClient, IsUp, IsSeparated, IsFirstLine};
 ghost use Rattle.gateway.specs.Views.{event_of};
 
@@ -65,11 +65,8 @@ fn read_client(alloc: Global, word: &[u8]) -> Result<Event, LineFault>
     ensures ok { IfOk result (λ event. IsClient word.now (event_of event)) }
     ensures err { IfErr result (λ fault. RefusesHex word.now fault) }
 {
-    match hex::decode(alloc, word) {
-        Ok(octets) => Ok(Event::Client(octets)),
-        Err(FromHexError::OutOfMemory) => Err(LineFault::Memory),
-        Err(_) => Err(LineFault::NotALine),
-    }
+    let piece = read_octets(alloc, word)?;
+    Ok(Event::Client(piece))
 }
 
 /// Octets of an upstream, from its number and, behind a space, a word in hex.
@@ -83,10 +80,9 @@ fn read_up(alloc: Global, words: &[u8]) -> Result<Event, LineFault>
     let Some(k) = read_number(first) else {
         return Err(LineFault::NotALine);
     };
-    match hex::decode(alloc, second) {
-        Ok(octets) => Ok(Event::Up(k, octets)),
-        Err(FromHexError::OutOfMemory) => Err(LineFault::Memory),
-        Err(_) => Err(LineFault::NotALine),
+    match read_octets(alloc, second) {
+        Ok(piece) => Ok(Event::Up(k, piece)),
+        Err(fault) => Err(fault),
     }
 }
 
@@ -107,6 +103,18 @@ fn separate(text: &[u8], octet: u8) -> Option<(&[u8], &[u8])>
     match text.iter().position(|other| *other == octet) {
         Some(end) => Some((&text[..end], &text[end + 1..])),
         None => None,
+    }
+}
+
+/// The octets of a word in hex.
+fn read_octets(alloc: Global, word: &[u8]) -> Result<Vec<u8>, LineFault>
+    ensures ok { IfOk result (λ octets. IsHex word.now octets.items) }
+    ensures err { IfErr result (λ fault. RefusesHex word.now fault) }
+{
+    match hex::decode(alloc, word) {
+        Ok(octets) => Ok(octets),
+        Err(FromHexError::OutOfMemory) => Err(LineFault::Memory),
+        Err(_) => Err(LineFault::NotALine),
     }
 }
 

@@ -5,7 +5,7 @@ ghost use Rattle.h2gw.specs.Scripts.{lines_of, AllSay};
 ghost use Rattle.h2gw.specs.Faults.{ExplainsFault};
 ghost use Rattle.gateway.specs.Views.{event_of};
 
-use crate::lines::{first_line, read_line, LineFault};
+use crate::lines::{LineFault, first_line, read_line};
 use gateway::Event;
 use std::alloc::Global;
 

@@ -1,2 +1,3 @@
 pub mod Views
+pub mod Stub
 pub use Rattle.model.specs.Logs

@@ -1,6 +1,8 @@
 //! What stands here until the gateway is merged: its configuration, and a run that puts nothing out.
 
-ghost use Rattle.std.specs.Prelude.{◌≡◌, ◌≤◌};
+ghost use Rattle.std.specs.Prelude.{◌≡◌, ◌≤◌, map, length, IfOk, IfErr};
+ghost use Rattle.gateway.specs.Views.{event_of, outputs_of};
+ghost use Rattle.gateway.specs.Stub.{log_of, Faithful, StopsWithin};
 
 use crate::events::{Event, Output};
 use std::alloc::Global;
@@ -54,6 +56,8 @@ pub fn run(
     requires passing { config.now.passing ≡ Passing.Whole }
     requires max_body { config.now.max_body ≤ 1073741824 }
     requires max_response { config.now.max_response ≤ 1073741824 }
+    ensures place { IfErr result (λ fault. StopsWithin (length events.now) fault) }
+    ensures ok { IfOk result (λ outputs. Faithful (log_of (map event_of events.now) (map (λ step. outputs_of step.items) outputs.items))) }
 {
     let _ = events;
     let _ = config;

@@ -2,6 +2,9 @@
 #![tactic(auto)]
 
 mod lines;
+mod printing;
+mod replays;
 mod scripts;
 
+pub use replays::replay;
 pub use scripts::{ScriptFault, read_script};

@@ -5,4 +5,4 @@ mod events;
 mod stub;
 
 pub use events::{Event, Output};
-pub use stub::{run, Config, Passing, Policy, Route, RunFault};
+pub use stub::{Config, Passing, Policy, Route, RunFault, run};

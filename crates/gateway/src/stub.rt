@@ -47,11 +47,7 @@ pub enum RunFault {
 }
 
 /// The outputs of each event.
-pub fn run(
-    alloc: Global,
-    config: &Config,
-    events: &[Event],
-) -> Result<Vec<Vec<Output>>, RunFault>
+pub fn run(alloc: Global, config: &Config, events: &[Event]) -> Result<Vec<Vec<Output>>, RunFault>
     requires policy { config.now.policy ≡ Policy.Plain }
     requires passing { config.now.passing ≡ Passing.Whole }
     requires max_body { config.now.max_body ≤ 1073741824 }

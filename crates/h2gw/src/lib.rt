@@ -8,3 +8,6 @@ mod scripts;
 
 pub use replays::replay;
 pub use scripts::{ScriptFault, read_script};
+
+#[cfg(test)]
+mod tests;

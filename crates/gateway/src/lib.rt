@@ -9,3 +9,4 @@ mod upstream;
 
 pub use config::{Config, Passing, Policy, Route};
 pub use events::{Event, Output};
+pub use stub::{Config, Passing, Policy, Route, RunFault, run};

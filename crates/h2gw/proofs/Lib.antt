@@ -1,0 +1,2 @@
+pub mod ScriptsLemmas
+pub mod LinesLemmas

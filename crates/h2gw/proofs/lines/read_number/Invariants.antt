@@ -1,0 +1,6 @@
+use Rattle.std.proofs.Common.{◌≡◌, ℕ, length, take, drop}
+use Rattle.h2gw.proofs.LinesLemmas.{Counted}
+use Rattle.h2gw.proofs.lines.read_number.Given as goal
+
+abbrev pub invariant-loop-digit : goal.invariant-loop-digit
+invariant-loop-digit l = Counted l.word l.digit-index l.number

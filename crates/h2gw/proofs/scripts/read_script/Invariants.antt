@@ -1,0 +1,11 @@
+use Rattle.std.proofs.Common.{◌≡◌, ℕ, List, ◌++◌, length, map}
+use Rattle.h2gw.specs.Scripts.{lines_of, AllSay}
+use Rattle.h2gw.proofs.ScriptsLemmas.{SoFar}
+use Rattle.gateway.specs.Views.{event_of}
+use Rattle.h2gw.proofs.scripts.read_script.Given as goal
+
+abbrev pub invariant-loop-line : goal.invariant-loop-line
+invariant-loop-line l = SoFar l.fn.script l.rest (map event_of l.events.items)
+
+abbrev pub decreases-loop-line : goal.decreases-loop-line
+decreases-loop-line l = length l.rest

@@ -1,0 +1,12 @@
+-- Why a script isn't replayed.
+use Rattle.std.specs.Prelude.{ℕ, ◌≤◌, List, length, ⊤}
+use Rattle.model.specs.Logs.{Event}
+use Rattle.h2gw.specs.declared.replays.Stop.{Stop}
+use Rattle.h2gw.specs.declared.replays.Stop.TheVariants.{NotALine, NotAdmitted, Memory}
+use Rattle.h2gw.specs.Scripts.{lines_of, AllSay, IsFirstFault}
+
+-- What is true of the script where its replay stops.
+abbrev pub Explains : List ℕ → Stop → Type 0
+Explains script (NotALine place) = IsFirstFault (lines_of script) place
+Explains script (NotAdmitted place) = (events : List Event) × AllSay (lines_of script) events × (place ≤ length events)
+Explains script Memory = ⊤

@@ -1,0 +1,13 @@
+//! The programs' library: scripts are read, run and answered.
+#![tactic(auto)]
+
+mod lines;
+mod printing;
+mod replays;
+mod scripts;
+
+pub use replays::replay;
+pub use scripts::{ScriptFault, read_script};
+
+#[cfg(test)]
+mod tests;

@@ -1,0 +1,239 @@
+use super::*;
+use gateway::{Event, Output};
+use std::alloc::{AllocError, Global};
+use std::io::Write;
+use std::process::Abort;
+use std::test::*;
+use std::{io, str};
+
+/// The preface of a client.
+const PREFACE: &str = "505249202a20485454502f322e300d0a0d0a534d0d0a0d0a";
+
+/// SETTINGS without entries.
+const SETTINGS: &str = "000000040000000000";
+
+/// SETTINGS with ACK.
+const ACK: &str = "000000040100000000";
+
+/// The gateway's SETTINGS: at most 100 streams, and header lists of at most 16,384 octets.
+const OWN_SETTINGS: &str = "00000c040000000000000300000064000600004000";
+
+/// HEADERS of stream 1 with END_STREAM and END_HEADERS: GET, http, / and www.example.com.
+const REQUEST: &str = "000014010500000001828684410f7777772e6578616d706c652e636f6d";
+
+/// The request upstream: its line, `host`, `via: 2.0 h2gw`, `connection: close` and an empty line.
+const GET: &str =
+    "474554202f20485454502f312e310d0a686f73743a207777772e6578616d706c652e636f6d0d0a7669613a20322e3020683267770d0a636f6e6e656374696f6e3a20636c6f73650d0a0d0a";
+
+/// What a replay of a script writes on its two writers, and its status.
+struct Outcome {
+    status: u8,
+    out: Vec<u8>,
+    err: Vec<u8>,
+}
+
+fn written(alloc: Global, script: &str) -> Outcome {
+    let mut out = Vec::new(alloc);
+    let mut err = Vec::new(alloc);
+    let status = replay(alloc, None, script, &mut out, &mut err);
+    Outcome { status, out, err }
+}
+
+/// The script is run, and the lines are written.
+fn assert_prints(rt: &impl Abort, alloc: Global, script: &str, lines: &str) {
+    let Outcome { status, out, err } = written(alloc, script);
+    assert_eq!(rt; str::from_utf8(&out).ok(), Some(lines));
+    assert_eq!(rt; str::from_utf8(&err).ok(), Some(""));
+    assert_eq!(rt; status, 0);
+}
+
+/// The script is refused for this reason.
+fn assert_refuses(rt: &impl Abort, alloc: Global, script: &str, reason: &str) {
+    let Outcome { status, out, err } = written(alloc, script);
+    assert_eq!(rt; str::from_utf8(&err).ok(), Some(reason));
+    assert_eq!(rt; str::from_utf8(&out).ok(), Some(""));
+    assert_eq!(rt; status, 1);
+}
+
+#[test]
+fn request_in_one_piece(rt: HostRuntime) -> Result<(), Fail> {
+    let alloc = rt.alloc();
+    let script = format!(in alloc; "C {PREFACE}{SETTINGS}{REQUEST}\n")?;
+    let lines = format!(in alloc; "C {OWN_SETTINGS}{ACK}\nO 1 0\nU 1 {GET}\n")?;
+    assert_prints(&rt, rt.alloc(), &script, &lines);
+    Ok(())
+}
+
+#[test]
+fn request_in_single_octets(rt: HostRuntime) -> Result<(), Fail> {
+    let alloc = rt.alloc();
+    let text = format!(in alloc; "{PREFACE}{SETTINGS}{REQUEST}")?;
+    let mut script = String::new(alloc);
+    let mut lines = String::new(alloc);
+    for (place, octet) in hex::decode(alloc, &text)?.iter().enumerate() {
+        writeln!(script, "C {octet:02x}")?;
+        match place {
+            0 => writeln!(lines, "C {OWN_SETTINGS}")?,
+            32 => writeln!(lines, "C {ACK}")?,
+            61 => writeln!(lines, "O 1 0\nU 1 {GET}")?,
+            _ => {}
+        }
+        assert_prints(&rt, rt.alloc(), &script, &lines);
+    }
+    Ok(())
+}
+
+#[test]
+fn wrong_preface(rt: HostRuntime) -> Result<(), Fail> {
+    let goaway = "0000080700000000000000000000000001";
+    let lines = format!(in rt.alloc(); "C {OWN_SETTINGS}{goaway}\nXC\n")?;
+    assert_prints(&rt, rt.alloc(), "C 47\n", &lines);
+    Ok(())
+}
+
+#[test]
+fn client_ends_at_once(rt: HostRuntime) -> Result<(), Fail> {
+    let lines = format!(in rt.alloc(); "C {OWN_SETTINGS}\nXC\n")?;
+    assert_prints(&rt, rt.alloc(), "CE\n", &lines);
+    Ok(())
+}
+
+#[test]
+fn frame_too_long(rt: HostRuntime) -> Result<(), Fail> {
+    let alloc = rt.alloc();
+    let script = format!(in alloc; "C {PREFACE}{SETTINGS}\nC 004001000000000001\n")?;
+    let goaway = "0000080700000000000000000000000006";
+    let lines = format!(in alloc; "C {OWN_SETTINGS}{ACK}\nC {goaway}\nXC\n")?;
+    assert_prints(&rt, rt.alloc(), &script, &lines);
+    Ok(())
+}
+
+#[test]
+fn ping_stops_the_connection(rt: HostRuntime) -> Result<(), Fail> {
+    let alloc = rt.alloc();
+    let ping = "0000080600000000000102030405060708";
+    let script = format!(in alloc; "C {PREFACE}{SETTINGS}\nC {ping}\n")?;
+    let goaway = "0000080700000000000000000000000002";
+    let lines = format!(in alloc; "C {OWN_SETTINGS}{ACK}\nC {goaway}\nXC\n")?;
+    assert_prints(&rt, rt.alloc(), &script, &lines);
+    Ok(())
+}
+
+#[test]
+fn refused_scripts(rt: HostRuntime) -> Result<(), Fail> {
+    assert_refuses(&rt, rt.alloc(), "CT 1", "line 1: not admitted\n");
+    assert_refuses(&rt, rt.alloc(), "Z", "line 1: not a line\n");
+    assert_refuses(&rt, rt.alloc(), "CT 1\nZ\n", "line 2: not a line\n");
+    assert_refuses(&rt, rt.alloc(), "CE\nCE", "line 2: not admitted\n");
+    assert_prints(&rt, rt.alloc(), "", "");
+    Ok(())
+}
+
+/// The events as a script has them, but for a `;` behind each.
+fn shown(alloc: Global, events: &[Event]) -> Result<String, AllocError> {
+    let mut text = String::new(alloc);
+    for event in events {
+        match event {
+            Event::Client(piece) => write!(text, "C {};", hex::encode(alloc, piece.as_slice())?)?,
+            Event::ClientEnd => write!(text, "CE;")?,
+            Event::ClientTook(count) => write!(text, "CT {count};")?,
+            Event::Up(k, piece) => write!(
+                text,
+                "U {k} {};",
+                hex::encode(alloc, piece.as_slice())?
+            )?,
+            Event::UpEnd(k) => write!(text, "UE {k};")?,
+            Event::UpFailed(k) => write!(text, "UF {k};")?,
+            Event::UpTook(k, count) => write!(text, "UT {k} {count};")?,
+        }
+    }
+    Ok(text)
+}
+
+#[test]
+fn reads_scripts(rt: HostRuntime) -> Result<(), Fail> {
+    let alloc = rt.alloc();
+    let script = "C 00fF\nC \nCE\nCT 007\nU 1 6869\nU 2 \nUE 3\nUF 4\nUT 5 999999999";
+    let events = read_script(alloc, script).map_err(|_| "a script")?;
+    let lines = "C 00ff;C ;CE;CT 7;U 1 6869;U 2 ;UE 3;UF 4;UT 5 999999999;";
+    assert_eq!(rt; shown(alloc, &events)?.as_str(), lines);
+    let ended = read_script(alloc, "CE\n").map_err(|_| "a script")?;
+    assert_eq!(rt; shown(alloc, &ended)?.as_str(), "CE;");
+    Ok(())
+}
+
+#[test]
+fn refuses_lines(rt: HostRuntime) -> Result<(), Fail> {
+    let wrong = [
+        "",
+        " ",
+        "C",
+        "C 0",
+        "C 0g",
+        "C  00",
+        "C 00 ",
+        "CE ",
+        "ce",
+        "CT",
+        "CT ",
+        "CT +1",
+        "CT 1 ",
+        "CT 1234567890",
+        "U 00",
+        "U 1",
+        "U  00",
+        "U x 00",
+        "UE",
+        "UE 1 2",
+        "UT 1",
+        "UT 1 ",
+        "UT 1 2 3",
+        "CE\r",
+        "X 1",
+    ];
+    for line in wrong {
+        let script = format!(in rt.alloc(); "CE\n{line}\nZ\n")?;
+        let fault = read_script(rt.alloc(), &script).err().ok_or("a fault")?;
+        assert_eq!(rt; fault, ScriptFault::NotALine(2), "at {line}");
+    }
+    Ok(())
+}
+
+#[test]
+fn prints_outputs(rt: HostRuntime) -> Result<(), Fail> {
+    let alloc = rt.alloc();
+    let first = vec![in alloc; Output::Client(b"hi".to_vec(alloc)?), Output::Open(1, 20)]?;
+    let second = vec![in alloc;
+        Output::Up(1, Vec::new(alloc)),
+        Output::Close(4294967295),
+        Output::CloseClient,
+    ]?;
+    let steps = vec![in alloc; first, Vec::new(alloc), second]?;
+    let text = printing::print_steps(alloc, &steps)?;
+    assert_eq!(rt; text.as_str(), "C 6869\nO 1 20\nU 1 \nX 4294967295\nXC\n");
+    Ok(())
+}
+
+/// A writer that takes nothing.
+#[derive(Drop)]
+struct Full;
+
+impl Write for Full {
+    fn write(&mut self, _octets: &[u8]) -> io::Result<usize> {
+        Ok(0)
+    }
+
+    fn flush(&mut self) -> io::Result<()> {
+        Err(io::Error::from(io::ErrorKind::WriteZero))
+    }
+}
+
+#[test]
+fn failed_writes(rt: HostRuntime) -> Result<(), Fail> {
+    let alloc = rt.alloc();
+    let mut other = Vec::new(alloc);
+    assert_eq!(rt; replay(alloc, None, "CE", &mut Full, &mut other), 2);
+    assert_eq!(rt; replay(alloc, None, "Z", &mut other, &mut Full), 2);
+    assert_eq!(rt; other.len(), 0);
+    Ok(())
+}

@@ -4,3 +4,4 @@ pub mod Http1Bodies
 pub mod Http1Readings
 pub mod Http1Texts
 pub mod Http1Examples
+pub mod Http2Sends

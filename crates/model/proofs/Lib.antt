@@ -5,3 +5,5 @@ pub mod Http1Readings
 pub mod Http1Texts
 pub mod Http1Examples
 pub mod Http2Sends
+pub mod Http2Readings
+pub mod Http2Examples

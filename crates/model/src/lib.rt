@@ -3,3 +3,4 @@
 #![tactic(auto)]
 
 pub mod http1;
+pub mod http2;

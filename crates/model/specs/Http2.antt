@@ -2,7 +2,7 @@
 use Rattle.std.specs.Prelude.{◌≡◌, ℕ, ◌≤◌, Bool, true, false, not, ◌&&◌, ◌||◌, ◌==◌, nat_le, if◌then◌else◌, List, [], ◌∷◌, ◌++◌, length, filter, codes, bytes_eq, Option, Some, None}
 use Rattle.std.specs.List.{list_all, list_any}
 use Rattle.std.specs.Str.Parse.{digits_value}
-use Rattle.model.specs.Octets.{IsFront, some_of, is_between, is_digit, is_token_octet, is_visible, is_value, lower}
+use Rattle.model.specs.Octets.{IsFront, is_empty, some_of, is_between, is_digit, is_token_octet, is_visible, is_value, lower}
 use Rattle.model.specs.Messages.{Field, Request, Item}
 use Rattle.model.specs.Messages.Item.{Block, Content}
 use Rattle.model.specs.Http1.{values_of, without}
@@ -160,7 +160,7 @@ abbrev pub is_cookie : Field → Bool
 is_cookie field = bytes_eq field.name (codes "cookie")
 
 abbrev pub is_empty_cookie : Field → Bool
-is_empty_cookie field = is_cookie field && length field.value == 0
+is_empty_cookie field = is_cookie field && is_empty field.value
 
 -- one cookie field, at the place of the first, for all that there are (section 8.2.3)
 abbrev pub with_one_cookie : List Field → List Field

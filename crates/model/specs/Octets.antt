@@ -1,5 +1,5 @@
 -- Octets and texts: a text is a list of octets. A front of a list is a beginning of it, whole or not.
-use Rattle.std.specs.Prelude.{◌≡◌, ℕ, ◌+◌, Bool, false, not, ◌&&◌, ◌||◌, ◌==◌, nat_le, if◌then◌else◌, List, [], ◌∷◌, ◌++◌, map, reverse, codes}
+use Rattle.std.specs.Prelude.{◌≡◌, ℕ, ◌+◌, Bool, true, false, not, ◌&&◌, ◌||◌, ◌==◌, nat_le, if◌then◌else◌, List, [], ◌∷◌, ◌++◌, map, reverse, codes}
 use Rattle.std.specs.List.{list_all, list_any}
 
 pub record IsFront (front text : List ℕ) : Type 0 where
@@ -21,6 +21,10 @@ lower_octet octet = if is_between 65 90 octet then octet + 32 else octet
 
 abbrev pub lower : List ℕ → List ℕ
 lower text = map lower_octet text
+
+abbrev pub is_empty : List ℕ → Bool
+is_empty [] = true
+is_empty (octet ∷ octets) = false
 
 -- Each octet passes the test, and there is one or more.
 abbrev pub some_of : (ℕ → Bool) → List ℕ → Bool

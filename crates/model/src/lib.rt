@@ -4,3 +4,4 @@
 
 pub mod frame_laws;
 pub mod http1;
+pub mod http2;

@@ -1,5 +1,6 @@
 -- What the gateway's methods do, as moves.
-use Rattle.std.proofs.Common.{◌≡◌, ℕ, suc, ◌+◌, ◌<◌, ◌≤◌, ◌==◌, true, false, Bool, not, ◌&&◌, ◌||◌, List, [], ◌∷◌, ◌++◌, length, map, refl, sym, ◌∙◌, ap, subst, if◌then◌else◌, arith}
+use Rattle.std.proofs.Common.{◌≡◌, ℕ, suc, ◌+◌, ◌<◌, ◌≤◌, ◌==◌, true, false, Bool, not, ◌&&◌, ◌||◌, List, [], ◌∷◌, ◌++◌, length, map, refl, sym, ◌∙◌, ap, subst, if◌then◌else◌, arith, ◌/◌, ◌%◌, inl, inr, Ok, Err, OnOk, Result}
+use Rattle.std.proofs.lemmas.Bool.Decides.{eqb_tells}
 use Rattle.std.specs.Prelude.{Option, None, Some}
 use Rattle.std.proofs.Math.Seq.{get_or-append_seam, set-append_seam}
 use Rattle.std.proofs.lemmas.List.{append-nil}
@@ -138,3 +139,20 @@ serves_upstreams us count =
     ap (λ u. with_upstream (us ++ new ∷ []) (suc (length us)) (sent_more count u)) (get_or-append_seam us new [] nobody)
     ∙ set-append_seam us new [] (record { is_open = true; untaken = 0 + count })
     ∙ ap (λ (n : ℕ). us ++ (let r : Upstream = record { is_open = true; untaken = n } in r) ∷ []) (omega arith)
+
+-- ---- from what methods ensure
+
+pub ok_both : {A E X Y Z : Type 0} (r : Result A E) → OnOk r X → OnOk r Y → (X → Y → Z) → OnOk r Z
+ok_both (Ok a) x y f = f x y
+ok_both (Err e) x y f = tt
+
+pub no_ack : (frame : Frame) → (frame.flags % 2 ≡ 1 → ⊥) → is_ack frame ≡ false
+no_ack frame odd =
+    elim (eqb_tells ((frame.flags / 1) % 2) 1) [
+      | inl x ↦ absurd (odd (let e = x.1 in omega arith))
+      | inr x ↦ ap (λ b. (frame.kind == settings_kind || frame.kind == 6) && b) x.0 ∙ and_false (frame.kind == settings_kind || frame.kind == 6)
+    ]
+  where
+    and_false : (b : Bool) → (b && false) ≡ false
+    and_false true = refl
+    and_false false = refl

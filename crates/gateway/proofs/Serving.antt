@@ -14,7 +14,7 @@ use Rattle.model.specs.Tapes.{put, Noted}
 use Rattle.model.specs.Tapes.Note.{Fields}
 use Rattle.model.specs.Decoding.{Partial, joined, completed, begun, IsNoteOf}
 use Rattle.model.specs.Streams.{frame_items}
-use Rattle.gateway.specs.Connections.{IsTaken, served}
+use Rattle.gateway.specs.Connections.{IsTaken, IsHead, served}
 use Rattle.gateway.specs.Moves.{Move}
 use Rattle.gateway.specs.Moves.Input.{OfFrame}
 use Rattle.gateway.specs.Moves.Move.{Takes, Acts}
@@ -24,11 +24,6 @@ use Rattle.gateway.specs.Policy.{Due, Point, idle, point_after, Answers, IsNoted
 use Rattle.gateway.specs.Policy.Due.{ToDo}
 use Rattle.gateway.proofs.Leading.{Pays, pays_then, with}
 use Rattle.gateway.proofs.Answering.{answers_from, pays_by, serves_upstreams}
-
--- the frame is HEADERS with END_STREAM and END_HEADERS alone
-pub record IsHead (frame : Frame) : Type 0 where
-  pub kind : frame.kind ≡ 1
-  pub flags : frame.flags ≡ 5
 
 whole_block : (frame : Frame) → IsHead frame → completed [] frame ≡ Some (record { id = frame.id; ends = true; fragments = frame.payload })
 whole_block frame head =
@@ -51,7 +46,7 @@ no_more frame noted same head =
         ∙ ap (λ x. let f : Frame = record { kind = 1; flags = x; id = id; payload = payload } in if ends_headers f then None else joined None f) ef
 
 pub answers_served : (s s' : State) (o o' : List Output) (frame : Frame) (route : ℕ) (text : List ℕ) (fields : List Field) → s.closed ≡ false → s.settled ≡ true → s.high < frame.id → IsHead frame
-    → ((table : Table) → (next : Table) × blocks.Block table frame.payload fields next) → IsTaken s.setup fields route text
+    → ((table : Table) → (next : Table) × blocks.Block table frame.payload fields next) → IsTaken s.setup.routes fields route text
     → s' ≡ served s frame.id (length text) → o' ≡ put (put o (Does (Open (suc (length s.upstreams)) route))) (Does (ToUp (suc (length s.upstreams)) text)) → Answers s s' o o' (OfFrame frame ∷ [])
 answers_served s s' o o' frame route text fields on settled above head decodes is_taken es eo =
     let k : ℕ = suc (length s.upstreams) in

@@ -4,11 +4,11 @@ use Rattle.model.specs.Messages.{Field, Request}
 use Rattle.model.specs.Messages.Item.{Block}
 use Rattle.model.specs.Http1.{H1Request, forward}
 use Rattle.model.specs.Http2.{H2Request, authority_of, path_of}
-use Rattle.model.specs.Frames.{spell, settings_frame, settings_ack, goaway}
+use Rattle.model.specs.Frames.{Frame, spell, settings_frame, settings_ack, goaway}
 use Rattle.model.specs.Logs.{Output}
 use Rattle.model.specs.Logs.Act.{Open, ToUp, CloseClient}
 use Rattle.model.specs.Logs.Output.{ToClient, Does}
-use Rattle.model.specs.Setup.{Setup, IsFirstMatch}
+use Rattle.model.specs.Setup.{Route, IsFirstMatch}
 use Rattle.model.specs.Tapes.{put}
 use Rattle.gateway.specs.declared.connection.Connection.TheInside.{Inside}
 use Rattle.gateway.specs.Setups.{setup_of}
@@ -36,11 +36,16 @@ pub record IsBounded (c : Inside) : Type 0 where
   pub few : length c.upstreams.items ≤ 100
 
 -- The fields are a request, and this text, sent by this route, reads as it.
-pub record IsTaken (setup : Setup) (fields : List Field) (route : ℕ) (text : List ℕ) : Type 0 where
+pub record IsTaken (routes : List Route) (fields : List Field) (route : ℕ) (text : List ℕ) : Type 0 where
   pub request : Request
   pub means : H2Request (Block fields true ∷ []) request
-  pub by_route : IsFirstMatch setup.routes (authority_of fields) (path_of fields) route
+  pub by_route : IsFirstMatch routes (authority_of fields) (path_of fields) route
   pub reads : H1Request text (forward request)
+
+-- the frame is HEADERS with END_STREAM and END_HEADERS alone
+pub record IsHead (frame : Frame) : Type 0 where
+  pub kind : frame.kind ≡ 1
+  pub flags : frame.flags ≡ 5
 
 -- the gateway's settings are sent
 abbrev pub greeted : State → State

@@ -10,3 +10,4 @@ pub use Rattle.model.specs.Setup
 pub use Rattle.model.specs.Frames
 pub use Rattle.model.specs.Tapes
 pub use Rattle.model.specs.Faithful
+pub use Rattle.model.specs.Messages

@@ -1,6 +1,6 @@
 //! A client's connection: what is kept of it, and what its frames and the other events do.
 
-ghost use Rattle.std.specs.Prelude.{◌≡◌, ◌≤◌, ◌<◌, ◌++◌, suc, length, OnOk, false};
+ghost use Rattle.std.specs.Prelude.{◌≡◌, ◌≤◌, ◌<◌, ◌++◌, suc, length, List, [], ◌∷◌, OnOk, IfOk, IfSome, false};
 ghost use Rattle.model.specs.Frames.{spell, spell_number, settings_frame, settings_ack};
 ghost use Rattle.model.specs.Logs.Act.{Open as DoesOpen, ToUp as DoesUp};
 ghost use Rattle.model.specs.Logs.Output.{ToClient, Does};
@@ -9,20 +9,32 @@ ghost use Rattle.frames.specs.Views.{frame_of};
 ghost use Rattle.gateway.specs.Views.{event_of};
 ghost use Rattle.gateway.specs.Setups.{setup_of};
 ghost use Rattle.gateway.specs.State.{start};
-ghost use Rattle.gateway.specs.Policy.{is_admitted};
-ghost use Rattle.gateway.specs.Connections.{greeted, settled, served, ended, left, put_end, put_farewell};
+ghost use Rattle.gateway.specs.Moves.Input.{OfFrame};
+ghost use Rattle.gateway.specs.Policy.{is_admitted, Answers};
+ghost use Rattle.header_blocks.specs.Everywhere.{BlockEverywhere};
+ghost use Rattle.model.specs.Messages.{Field as FieldLine};
+ghost use Rattle.gateway.specs.Connections.{greeted, settled, served, ended, left, put_end, put_farewell, IsTaken, IsHead};
 
 use crate::config::Config;
 use crate::events::Event;
 use crate::outputs::Outputs;
+use crate::requests::read_request;
 use crate::upstream::{close_each, upstream_at, Upstream};
 use frames::View;
+use header_blocks::{BlockFault, Decoded, Decoder};
 use std::alloc::{AllocError, Global};
 use std::marker::Model;
 
 /// What the gateway announces: SETTINGS_MAX_CONCURRENT_STREAMS (3) 100, SETTINGS_MAX_HEADER_LIST_SIZE (6) 16,384
 /// (RFC 9113, section 6.5.2).
 const SETTINGS: [u8; 12] = [0, 3, 0, 0, 0, 100, 0, 6, 0, 0, 64, 0];
+
+/// The most that the sizes of a decoded block's fields may sum to.
+const LIST_LIMIT: usize = 16384;
+
+/// Error codes (RFC 9113, section 7).
+const PROTOCOL_ERROR: u32 = 1;
+const INTERNAL_ERROR: u32 = 2;
 
 /// What is kept of a client's connection. A clause sees the state that its moves lead to.
 #[derive(Drop)]
@@ -34,6 +46,7 @@ pub struct Connection {
     high: u32,
     untaken: u64,
     upstreams: Vec<Upstream>,
+    decoder: Decoder,
 }
 
 impl Model for Connection {
@@ -77,6 +90,7 @@ impl Connection {
             high: 0,
             untaken: 0,
             upstreams: Vec::new(alloc),
+            decoder: Decoder::new(4096),
         }
     }
 
@@ -192,5 +206,60 @@ impl Connection {
         self.untaken += 17;
         self.end(out)?;
         Ok(())
+    }
+
+    /// Takes the client's first frame: its settings, of which the gateway takes none so far.
+    fn take_settings(&mut self, view: &View<'_>, out: &mut Outputs) -> Result<(), AllocError>
+        requires first { self.old.settled ≡ false }
+        requires alive { self.old.closed ≡ false }
+        ensures { OnOk result (Answers self.old self.new out.old out.new (OfFrame (frame_of view.now) ∷ [])) }
+    {
+        if view.kind != 4 || view.flags % 2 == 1 {
+            return self.leave(PROTOCOL_ERROR, out);
+        }
+        if view.id != 0 || !view.payload.is_empty() {
+            return self.leave(INTERNAL_ERROR, out);
+        }
+        self.settle(out)
+    }
+
+    /// The place of the route and the text of the request that a frame is, where it is one that goes on.
+    fn request_of(
+        &mut self,
+        alloc: Global,
+        view: &View<'_>,
+    ) -> Result<Option<(u32, Vec<u8>)>, AllocError>
+        ensures same { self.new ≡ self.old }
+        ensures taken { IfOk result (λ found. IfSome found (λ p. (fields : List FieldLine) × IsHead (frame_of view.now) × (self.old.high < view.now.id) × (view.now.id < 2147483648) × (length self.old.upstreams < 100)
+            × BlockEverywhere view.now.payload.now fields × IsTaken self.old.setup.routes fields p.0 p.1.items)) }
+    {
+        let is_new = view.id % 2 == 1 && view.id > self.high && view.id < 2147483648;
+        if view.kind != 1 || view.flags != 5 || !is_new || self.upstreams.len() >= 100 {
+            return Ok(None);
+        }
+        match self.decoder.decode(alloc, view.payload, LIST_LIMIT) {
+            Ok(Decoded::Fields(fields)) => read_request(alloc, &self.config.routes, &fields),
+            Ok(Decoded::TooLarge) | Err(BlockFault::Unread) => Ok(None),
+            Err(BlockFault::Memory) => Err(AllocError),
+        }
+    }
+
+    /// Takes a frame of the client.
+    pub fn take_frame(
+        &mut self,
+        alloc: Global,
+        view: &View<'_>,
+        out: &mut Outputs,
+    ) -> Result<(), AllocError>
+        requires { self.old.closed ≡ false }
+        ensures { OnOk result (Answers self.old self.new out.old out.new (OfFrame (frame_of view.now) ∷ [])) }
+    {
+        if !self.settled {
+            return self.take_settings(view, out);
+        }
+        match self.request_of(alloc, view)? {
+            Some((route, text)) => self.serve(view.id, route, text, out),
+            None => self.leave(INTERNAL_ERROR, out),
+        }
     }
 }

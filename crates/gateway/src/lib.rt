@@ -5,8 +5,8 @@ mod config;
 mod connection;
 mod events;
 mod outputs;
+mod requests;
 mod upstream;
 
 pub use config::{Config, Passing, Policy, Route};
 pub use events::{Event, Output};
-pub use stub::{Config, Passing, Policy, Route, RunFault, run};

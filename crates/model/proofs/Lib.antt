@@ -6,6 +6,9 @@ pub mod Http1Lines
 pub mod Http1Bodies
 pub mod Http1Readings
 pub mod Http1Texts
-pub mod Http1Examples
+mod Http1Examples
+pub mod Http2Readings
+pub mod Http2Sends
+mod Http2Examples
 mod HpackExamples
 pub mod IntegerLemmas

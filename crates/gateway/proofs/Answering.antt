@@ -26,8 +26,9 @@ use Rattle.gateway.specs.Moves.Input.{OfFrame, OfBreach, OfEvent}
 use Rattle.gateway.specs.Moves.Move.{Takes, Breaks, Hears, Sends, Acts}
 use Rattle.gateway.specs.Moves.Outcome.{Settled, Served, Stopped}
 use Rattle.gateway.specs.State.{State, after, closed_up, nobody, upstream_at, with_upstream, sent_more, taken}
-use Rattle.gateway.specs.Policy.{Due, Point, idle, point_after, Allowed, AllAllowed, Leads, Answers, closes, farewell, IsUp, IsNoted, MaySettle, MayServe, is_in_order, answer_event, breach_code}
+use Rattle.gateway.specs.Policy.{Due, Point, idle, point_after, Allowed, AllAllowed, Leads, Answers, closes, farewell, IsUp, IsNoted, MaySettle, MayServe, is_in_order, is_admitted, answer_event, breach_code}
 use Rattle.gateway.specs.Policy.Due.{ToSend, ToDo}
+use Rattle.gateway.proofs.Admitting.{is_up}
 use Rattle.gateway.proofs.Leading.{leads_one, leads_then, inputs-append, Pays, pays_then, pays_closes, with}
 
 -- an input, and then what is owed for it
@@ -156,3 +157,14 @@ no_ack frame odd =
     and_false : (b : Bool) → (b && false) ≡ false
     and_false true = refl
     and_false false = refl
+
+-- what an event that may come tells
+pub may_come : (s : State) (event : Event) → is_admitted s event ≡ true → (s.closed ≡ false) × (is_in_order s event ≡ true)
+may_come s event e = parts s.closed (is_in_order s event) e
+  where
+    parts : (a b : Bool) → (not a && b) ≡ true → (a ≡ false) × (b ≡ true)
+    parts true b e = absurd (let f : false ≡ true = e in cc)
+    parts false b e = (refl, e)
+
+pub up_of : (s : State) (k : ℕ) → is_in_order s (UpEnd k) ≡ true → IsUp s k
+up_of s k e = let r = is_up s.upstreams k e in record { counted = r.0; within = r.1 }

@@ -1,5 +1,5 @@
 -- Closing all open connections, one after another.
-use Rattle.std.proofs.Common.{◌≡◌, ℕ, suc, ◌+◌, ◌<◌, true, false, Bool, List, [], ◌∷◌, ◌++◌, length, map, take, drop, get_or, refl, sym, ◌∙◌, ap, subst, arith, if◌then◌else◌, add-one, drop-cons, length-take, length-append, set}
+use Rattle.std.proofs.Common.{◌≡◌, ℕ, zero, suc, ◌+◌, ◌-◌, ◌<◌, ◌≤◌, true, false, Bool, List, [], ◌∷◌, ◌++◌, length, map, take, drop, get_or, refl, sym, ◌∙◌, ap, subst, arith, if◌then◌else◌, add-one, drop-cons, length-take, length-append, set}
 use Rattle.std.proofs.lemmas.List.{length-map, take-append-drop, get_or_default}
 use Rattle.std.proofs.lemmas.List.Edits.{map_over_more}
 use Rattle.std.proofs.Math.Seq.{get_or-append_seam}
@@ -8,7 +8,7 @@ use Rattle.model.specs.Logs.Act.{Close}
 use Rattle.model.specs.Logs.Output.{Does}
 use Rattle.model.specs.Tapes.{put}
 use Rattle.gateway.specs.declared.upstream.Upstream.{Upstream}
-use Rattle.gateway.specs.State.{closed_up, nobody}
+use Rattle.gateway.specs.State.{closed_up, nobody, with_upstream}
 use Rattle.gateway.specs.Closing.{put_closes}
 
 next_of : (old : List Upstream) (i : ℕ) → i < length old → drop i old ≡ get_or old i nobody ∷ drop (i + 1) old
@@ -35,3 +35,17 @@ pub closed_next : (old us : List Upstream) (i : ℕ) → i < length old → us �
 closed_next old us i lt e =
     let size : length us ≡ length old = ap length e ∙ length-append (map closed_up (take i old)) (drop i old) ∙ ap (λ n. n + length (drop i old)) (length-map (take i old) closed_up) ∙ sym (length-append (take i old) (drop i old)) ∙ ap length (take-append-drop i old) in
     map_over_more closed_up old us i (get_or us i nobody) lt e (get_or_default us i nobody (get_or us i nobody) (omega (arith, size, lt)))
+
+-- a change of one connection, by its place
+pub with_place : (us : List Upstream) (k : ℕ) (c : Upstream) → 0 < k → with_upstream us k c ≡ set us (k - 1) c
+with_place us zero c lt = absurd (omega arith)
+with_place us (suc i) c lt = ap (λ n. set us n c) (let e : i ≡ suc i - 1 = omega arith in e)
+
+pub with_none : (us : List Upstream) (k : ℕ) (c : Upstream) → length us < k → with_upstream us k c ≡ us
+with_none us zero c lt = refl
+with_none us (suc i) c lt = past us i (omega arith)
+  where
+    past : (us : List Upstream) (i : ℕ) → length us ≤ i → set us i c ≡ us
+    past [] i le = refl
+    past (u ∷ us) zero le = absurd (omega arith)
+    past (u ∷ us) (suc i) le = ap (λ x. u ∷ x) (past us i (omega arith))

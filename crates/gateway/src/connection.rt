@@ -1,15 +1,17 @@
 //! A client's connection: what is kept of it, and what its frames and the other events do.
 
-ghost use Rattle.std.specs.Prelude.{◌≡◌, ◌≤◌, ◌<◌, ◌++◌, suc, length, List, [], ◌∷◌, OnOk, IfOk, IfSome, false};
+ghost use Rattle.std.specs.Prelude.{◌≡◌, ◌≤◌, ◌<◌, ◌++◌, suc, length, List, [], ◌∷◌, OnOk, IfOk, IfSome, false, true};
 ghost use Rattle.model.specs.Frames.{spell, spell_number, settings_frame, settings_ack};
 ghost use Rattle.model.specs.Logs.Act.{Open as DoesOpen, ToUp as DoesUp};
 ghost use Rattle.model.specs.Logs.Output.{ToClient, Does};
-ghost use Rattle.model.specs.Tapes.{put};
+ghost use Rattle.model.specs.Tapes.{put, listed};
 ghost use Rattle.frames.specs.Views.{frame_of};
 ghost use Rattle.gateway.specs.Views.{event_of};
 ghost use Rattle.gateway.specs.Setups.{setup_of};
-ghost use Rattle.gateway.specs.State.{start};
-ghost use Rattle.gateway.specs.Moves.Input.{OfFrame};
+ghost use Rattle.gateway.specs.State.{start, after, upstream_at as spec_upstream_at};
+ghost use Rattle.gateway.specs.Moves.Input.{OfFrame, OfEvent};
+ghost use Rattle.gateway.specs.Moves.Move.{Hears};
+ghost use Rattle.model.specs.Logs.Event.{UpFailed, UpTook};
 ghost use Rattle.gateway.specs.Policy.{is_admitted, Answers};
 ghost use Rattle.header_blocks.specs.Everywhere.{BlockEverywhere};
 ghost use Rattle.model.specs.Messages.{Field as FieldLine};
@@ -19,7 +21,7 @@ use crate::config::Config;
 use crate::events::Event;
 use crate::outputs::Outputs;
 use crate::requests::read_request;
-use crate::upstream::{close_each, upstream_at, Upstream};
+use crate::upstream::{close_each, set_upstream, upstream_at, Upstream};
 use frames::View;
 use header_blocks::{BlockFault, Decoded, Decoder};
 use std::alloc::{AllocError, Global};
@@ -261,5 +263,51 @@ impl Connection {
             Some((route, text)) => self.serve(view.id, route, text, out),
             None => self.leave(INTERNAL_ERROR, out),
         }
+    }
+
+    /// Takes a connection to an upstream as closed.
+    fn drop_upstream(&mut self, k: u32)
+        ensures { self.new ≡ after self.old (Hears (UpFailed k)) }
+    {
+        let upstream = upstream_at(&self.upstreams, k);
+        let closed = Upstream {
+            is_open: false,
+            untaken: upstream.untaken,
+        };
+        set_upstream(&mut self.upstreams, k, closed);
+    }
+
+    /// Counts octets as taken by an upstream's side.
+    fn take_from(&mut self, k: u32, count: u64)
+        requires { count ≤ (spec_upstream_at self.old.upstreams k).untaken }
+        ensures { self.new ≡ after self.old (Hears (UpTook k count)) }
+    {
+        let upstream = upstream_at(&self.upstreams, k);
+        let less = Upstream {
+            is_open: upstream.is_open,
+            untaken: upstream.untaken - count,
+        };
+        set_upstream(&mut self.upstreams, k, less);
+    }
+
+    /// Takes an event that isn't octets of the client.
+    pub fn hear(&mut self, event: &Event, out: &mut Outputs) -> Result<(), AllocError>
+        requires admitted { is_admitted self.old (event_of event.now) ≡ true }
+        requires other { listed (event_of event.now) ≡ event_of event.now ∷ [] }
+        ensures { OnOk result (Answers self.old self.new out.old out.new (OfEvent (event_of event.now) ∷ [])) }
+    {
+        match event {
+            Event::Client(_) => unreachable!(),
+            Event::ClientEnd => self.end(out)?,
+            Event::ClientTook(count) => self.untaken -= *count,
+            Event::Up(_, _) => {}
+            Event::UpEnd(k) => {
+                self.drop_upstream(*k);
+                out.close_up(*k)?;
+            }
+            Event::UpFailed(k) => self.drop_upstream(*k),
+            Event::UpTook(k, count) => self.take_from(*k, *count),
+        }
+        Ok(())
     }
 }

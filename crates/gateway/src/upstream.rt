@@ -1,7 +1,7 @@
 //! Connections to upstreams.
 
 ghost use Rattle.std.specs.Prelude.{◌≡◌, ◌<◌, ◌^◌, length, OnOk, map};
-ghost use Rattle.gateway.specs.State.{closed_up, upstream_at};
+ghost use Rattle.gateway.specs.State.{closed_up, upstream_at, with_upstream};
 ghost use Rattle.gateway.specs.Closing.{put_closes};
 
 use crate::outputs::Outputs;
@@ -30,6 +30,17 @@ pub fn upstream_at(upstreams: &[Upstream], k: u32) -> Upstream
     match upstreams.get(k as usize - 1) {
         Some(upstream) => *upstream,
         None => nobody,
+    }
+}
+
+/// Changes the connection of a number, if there is one.
+#[tactic(auto, using(crate::proofs::Closing::with_place, crate::proofs::Closing::with_none))]
+pub fn set_upstream(upstreams: &mut [Upstream], k: u32, changed: Upstream)
+    ensures { upstreams.new ≡ with_upstream upstreams.old k changed }
+{
+    let place = k as usize;
+    if 0 < place && place <= upstreams.len() {
+        upstreams[place - 1] = changed;
     }
 }
 

@@ -9,3 +9,4 @@ pub mod Closing
 pub mod Leading
 pub mod Answering
 pub mod Serving
+pub mod Receiving

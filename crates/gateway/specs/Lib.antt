@@ -5,6 +5,7 @@ pub mod State
 pub mod Closing
 pub mod Connections
 pub mod Policy
+pub mod Receiving
 pub use Rattle.model.specs.Logs
 pub use Rattle.model.specs.Setup
 pub use Rattle.model.specs.Frames

@@ -1,6 +1,6 @@
 //! A client's connection: what is kept of it, and what its frames and the other events do.
 
-ghost use Rattle.std.specs.Prelude.{◌≡◌, ◌≤◌, ◌<◌, ◌++◌, suc, length, List, [], ◌∷◌, OnOk, IfOk, IfSome, false, true};
+ghost use Rattle.std.specs.Prelude.{◌≡◌, ◌≤◌, ◌<◌, ◌++◌, suc, length, drop, List, [], ◌∷◌, OnOk, IfOk, IfSome, false, true};
 ghost use Rattle.model.specs.Frames.{spell, spell_number, settings_frame, settings_ack};
 ghost use Rattle.model.specs.Logs.Act.{Open as DoesOpen, ToUp as DoesUp};
 ghost use Rattle.model.specs.Logs.Output.{ToClient, Does};
@@ -13,6 +13,7 @@ ghost use Rattle.gateway.specs.Moves.Input.{OfFrame, OfEvent};
 ghost use Rattle.gateway.specs.Moves.Move.{Hears};
 ghost use Rattle.model.specs.Logs.Event.{UpFailed, UpTook};
 ghost use Rattle.gateway.specs.Policy.{is_admitted, Answers};
+ghost use Rattle.gateway.specs.Receiving.{Takes};
 ghost use Rattle.header_blocks.specs.Everywhere.{BlockEverywhere};
 ghost use Rattle.model.specs.Messages.{Field as FieldLine};
 ghost use Rattle.gateway.specs.Connections.{greeted, settled, served, ended, left, put_end, put_farewell, IsTaken, IsHead};
@@ -22,7 +23,7 @@ use crate::events::Event;
 use crate::outputs::Outputs;
 use crate::requests::read_request;
 use crate::upstream::{close_each, set_upstream, upstream_at, Upstream};
-use frames::View;
+use frames::{Split, View};
 use header_blocks::{BlockFault, Decoded, Decoder};
 use std::alloc::{AllocError, Global};
 use std::marker::Model;
@@ -37,6 +38,7 @@ const LIST_LIMIT: usize = 16384;
 /// Error codes (RFC 9113, section 7).
 const PROTOCOL_ERROR: u32 = 1;
 const INTERNAL_ERROR: u32 = 2;
+const FRAME_SIZE_ERROR: u32 = 6;
 
 /// What is kept of a client's connection. A clause sees the state that its moves lead to.
 #[derive(Drop)]
@@ -309,5 +311,32 @@ impl Connection {
             Event::UpTook(k, count) => self.take_from(*k, *count),
         }
         Ok(())
+    }
+
+    /// Takes the whole frames off the front of a text, until the client is closed. Answers how many octets they are.
+    pub fn take_frames(
+        &mut self,
+        alloc: Global,
+        text: &[u8],
+        out: &mut Outputs,
+    ) -> Result<usize, AllocError>
+        ensures within { IfOk result (λ used. used ≤ length text.now) }
+        ensures takes { IfOk result (λ used. Takes self.old self.new out.old out.new text.now (drop used text.now)) }
+    {
+        let mut used = 0;
+        while !self.closed {
+            match frames::split(&text[used..]) {
+                Split::Frame(view, octets) => {
+                    self.take_frame(alloc, &view, out)?;
+                    used += octets;
+                }
+                Split::More => return Ok(used),
+                Split::TooLong => {
+                    self.leave(FRAME_SIZE_ERROR, out)?;
+                    return Ok(used);
+                }
+            }
+        }
+        Ok(used)
     }
 }

@@ -97,9 +97,9 @@ admitting_opened t s s' k route h at eu en = record {
   untaken = en ∙ h.untaken;
   opened = λ j. ap (λ us. (upstream_at us j).is_open) eu ∙ ap (λ (u : Upstream). u.is_open) (pushed s.upstreams j new) ∙ part (j == suc (length s.upstreams)) (upstream_at s.upstreams j) _ (h.opened j) ∙ ap (λ n. if j == n then true else admission.is_open j t) (sym at);
   counted = λ j. ap (λ us. (upstream_at us j).untaken) eu ∙ ap (λ (u : Upstream). u.untaken) (pushed s.upstreams j new) ∙ elim (eqb_tells j (suc (length s.upstreams))) [
-      | inl x ↦ ap (λ b. (if b then new else upstream_at s.upstreams j).untaken) x.0 ∙ sym (ap (λ (u : Upstream). u.untaken) (past s.upstreams j x.1)) ∙ h.counted j
-      | inr x ↦ ap (λ b. (if b then new else upstream_at s.upstreams j).untaken) x.0 ∙ h.counted j
-    ];
+    | inl x ↦ ap (λ b. (if b then new else upstream_at s.upstreams j).untaken) x.0 ∙ sym (ap (λ (u : Upstream). u.untaken) (past s.upstreams j x.1)) ∙ h.counted j
+    | inr x ↦ ap (λ b. (if b then new else upstream_at s.upstreams j).untaken) x.0 ∙ h.counted j
+  ];
 }
   where
     part : (b : Bool) (u : Upstream) (x : Bool) → u.is_open ≡ x → (if b then new else u).is_open ≡ (if b then true else x)

@@ -10,3 +10,4 @@ pub mod Leading
 pub mod Answering
 pub mod Serving
 pub mod Receiving
+pub mod Prefaces

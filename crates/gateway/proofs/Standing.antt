@@ -52,9 +52,7 @@ and_left : (a b : Bool) → (a && b) ≡ true → a ≡ true
 and_left true b e = refl
 and_left false b e = absurd (let f : false ≡ true = e in cc)
 
-
 -- ---- a frame, or a breach
-
 
 step_takes : (t : List Entry) (s : State) (ds : List Due) (noted : Noted) (outcome : _) → Inv t (record { state = s; owes = ds }) → Allowed (record { state = s; owes = ds }) (Takes noted outcome) → Inv (Came noted ∷ t) (point_after (record { state = s; owes = ds }) (Takes noted outcome))
 step_takes t s ds noted Settled h a = record {

@@ -6,6 +6,7 @@ pub mod Closing
 pub mod Connections
 pub mod Policy
 pub mod Receiving
+pub mod Stands
 pub use Rattle.model.specs.Logs
 pub use Rattle.model.specs.Setup
 pub use Rattle.model.specs.Frames

@@ -56,14 +56,18 @@ pub record Departs (k k' : Kept) (o o' : List Output) (unread : List ℕ) : Type
   pub came_in : inputs segment ≡ OfBreach WrongPreface ∷ []
   pub closed : k'.state.closed ≡ true
 
--- Frames are taken off the octets behind the preface.
-pub record GoesOn (k k' : Kept) (o o' : List Output) (unread : List ℕ) : Type 0 where
-  pub behind : List ℕ
+-- Frames are taken off these octets, which stand behind the preface, and the rest is kept.
+pub record TakesBehind (k k' : Kept) (o o' : List Output) (behind : List ℕ) : Type 0 where
   pub rest : List ℕ
-  pub begins : unread ≡ (if k.begun then behind else preface ++ behind)
   pub takes : Takes k.state k'.state o o' behind rest
   pub begun : k'.begun ≡ true
   pub kept : k'.state.closed ≡ false → k'.partial ≡ rest
+
+-- The octets go on behind the preface, or have come to it.
+pub record GoesOn (k k' : Kept) (o o' : List Output) (unread : List ℕ) : Type 0 where
+  pub behind : List ℕ
+  pub begins : unread ≡ (if k.begun then behind else preface ++ behind)
+  pub goes : TakesBehind k k' o o' behind
 
 -- What a piece of the client's octets comes to.
 abbrev pub Receives : Kept → Kept → List Output → List Output → List ℕ → Type 0

@@ -9,7 +9,8 @@ ghost use Rattle.frames.specs.Views.{frame_of};
 ghost use Rattle.gateway.specs.Views.{event_of};
 ghost use Rattle.gateway.specs.Setups.{setup_of};
 ghost use Rattle.gateway.specs.State.{start, after, upstream_at as spec_upstream_at};
-ghost use Rattle.gateway.specs.Moves.Input.{OfFrame, OfEvent};
+ghost use Rattle.gateway.specs.Moves.Input.{OfFrame, OfBreach, OfEvent};
+ghost use Rattle.model.specs.Tapes.Breach.{WrongPreface};
 ghost use Rattle.gateway.specs.Moves.Move.{Hears};
 ghost use Rattle.model.specs.Logs.Event.{UpFailed, UpTook};
 ghost use Rattle.gateway.specs.Policy.{is_admitted, Answers};
@@ -22,7 +23,7 @@ use crate::config::Config;
 use crate::events::Event;
 use crate::outputs::Outputs;
 use crate::requests::read_request;
-use crate::upstream::{close_each, set_upstream, upstream_at, Upstream};
+use crate::upstream::{Upstream, close_each, set_upstream, upstream_at};
 use frames::{Split, View};
 use header_blocks::{BlockFault, Decoded, Decoder};
 use std::alloc::{AllocError, Global};
@@ -37,7 +38,9 @@ const LIST_LIMIT: usize = 16384;
 
 /// Error codes (RFC 9113, section 7).
 const PROTOCOL_ERROR: u32 = 1;
+
 const INTERNAL_ERROR: u32 = 2;
+
 const FRAME_SIZE_ERROR: u32 = 6;
 
 /// What is kept of a client's connection. A clause sees the state that its moves lead to.
@@ -96,6 +99,13 @@ impl Connection {
             upstreams: Vec::new(alloc),
             decoder: Decoder::new(4096),
         }
+    }
+
+    /// Whether the client is closed.
+    pub fn is_closed(&self) -> bool
+        ensures { result ≡ self.now.closed }
+    {
+        self.closed
     }
 
     /// Whether an event may come.
@@ -338,5 +348,14 @@ impl Connection {
             }
         }
         Ok(used)
+    }
+
+    /// Ends the connection of a client that doesn't begin with the preface.
+    pub fn refuse_preface(&mut self, out: &mut Outputs) -> Result<(), AllocError>
+        requires { self.old.closed ≡ false }
+        ensures answers { OnOk result (Answers self.old self.new out.old out.new (OfBreach WrongPreface ∷ [])) }
+        ensures closed { OnOk result (self.new.closed ≡ true) }
+    {
+        self.leave(PROTOCOL_ERROR, out)
     }
 }

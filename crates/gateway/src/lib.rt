@@ -4,7 +4,9 @@
 mod config;
 mod connection;
 mod events;
+mod gateway;
 mod outputs;
+mod preface;
 mod requests;
 mod upstream;
 

@@ -16,8 +16,8 @@ returns-in-Some c =
     let settled_yet : c.args.self.now.settled ≡ true = ap (λ (s : State). s.settled) (sym c.self.view_is) ∙ c.if-not-self.false in
     ok_both c.serve.result c.serve.ensures.state c.serve.ensures.outputs
     (λ es eo. answers_served c.args.self.now c.serve.new.self c.args.out.now c.serve.new.out (frame_of c.args.view.now) c.in-Some.route c.in-Some.text.items fields c.requires settled_yet above head block is_taken
-      (es ∙ ap (λ s. served s c.args.view.now.id (length c.in-Some.text.items)) same)
-      (eo ∙ ap (λ (s : State). put (put c.args.out.now (Does (Open (suc (length s.upstreams)) c.in-Some.route))) (Does (ToUp (suc (length s.upstreams)) c.in-Some.text.items))) same))
+    (es ∙ ap (λ s. served s c.args.view.now.id (length c.in-Some.text.items)) same)
+    (eo ∙ ap (λ (s : State). put (put c.args.out.now (Does (Open (suc (length s.upstreams)) c.in-Some.route))) (Does (ToUp (suc (length s.upstreams)) c.in-Some.text.items))) same))
 
 pub returns-in-None : goal.returns-in-None
 returns-in-None c =

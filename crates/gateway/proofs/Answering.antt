@@ -1,7 +1,8 @@
 -- What the gateway's methods do, as moves.
 use Rattle.std.proofs.Common.{◌≡◌, ℕ, suc, ◌+◌, ◌<◌, ◌≤◌, ◌==◌, true, false, Bool, not, ◌&&◌, ◌||◌, List, [], ◌∷◌, ◌++◌, length, map, refl, sym, ◌∙◌, ap, subst, if◌then◌else◌, arith, ◌/◌, ◌%◌, inl, inr, Ok, Err, OnOk, Result}
 use Rattle.std.proofs.lemmas.Bool.Decides.{eqb_tells}
-use Rattle.std.specs.Prelude.{Option, None, Some}
+use Rattle.std.specs.Prelude.{Option, None, Some, nat_le}
+use Rattle.std.proofs.lemmas.Bool.{leb-true, le-leb}
 use Rattle.std.proofs.Math.Seq.{get_or-append_seam, set-append_seam}
 use Rattle.std.proofs.lemmas.List.{append-nil}
 use Rattle.model.specs.Messages.{Field, Request, Item}
@@ -10,7 +11,7 @@ use Rattle.model.specs.Tables.{Table}
 use Rattle.model.specs.Blocks as blocks
 use Rattle.model.specs.Frames.{Frame, spell, settings_frame, settings_ack, goaway, settings_kind, headers_kind, is_ack, content, ends_headers, ends_stream, has_flag}
 use Rattle.model.specs.Logs.{Output, Event}
-use Rattle.model.specs.Logs.Event.{ClientEnd, ClientTook, Up, UpEnd, UpFailed, UpTook}
+use Rattle.model.specs.Logs.Event.{Client, ClientEnd, ClientTook, Up, UpEnd, UpFailed, UpTook}
 use Rattle.model.specs.Logs.Act.{Open, ToUp, Close, CloseClient}
 use Rattle.model.specs.Logs.Output.{ToClient, Does}
 use Rattle.model.specs.Setup.{IsFirstMatch}
@@ -26,10 +27,10 @@ use Rattle.gateway.specs.Moves.Input.{OfFrame, OfBreach, OfEvent}
 use Rattle.gateway.specs.Moves.Move.{Takes, Breaks, Hears, Sends, Acts}
 use Rattle.gateway.specs.Moves.Outcome.{Settled, Served, Stopped}
 use Rattle.gateway.specs.State.{State, after, closed_up, nobody, upstream_at, with_upstream, sent_more, taken}
-use Rattle.gateway.specs.Policy.{Due, Point, idle, point_after, Allowed, AllAllowed, Leads, Answers, closes, farewell, IsUp, IsNoted, MaySettle, MayServe, is_in_order, is_admitted, answer_event, breach_code}
+use Rattle.gateway.specs.Policy.{Pays, Begins, Due, Point, idle, point_after, Allowed, AllAllowed, Leads, Answers, closes, farewell, IsUp, IsNoted, MaySettle, MayServe, is_in_order, is_admitted, answer_event, breach_code}
 use Rattle.gateway.specs.Policy.Due.{ToSend, ToDo}
 use Rattle.gateway.proofs.Admitting.{is_up}
-use Rattle.gateway.proofs.Leading.{leads_one, leads_then, inputs-append, Pays, pays_then, pays_closes, with}
+use Rattle.gateway.proofs.Leading.{leads_one, leads_then, inputs-append, pays_then, pays_closes, with}
 
 -- an input, and then what is owed for it
 pub answers_from : (s s' : State) (o o' : List Output) (m : Move) (came : List Input) → Allowed (idle s) m → inputs (m ∷ []) ≡ came → put_move o m ≡ o → Pays (point_after (idle s) m) (idle s') o o' → Answers s s' o o' came
@@ -168,3 +169,46 @@ may_come s event e = parts s.closed (is_in_order s event) e
 
 pub up_of : (s : State) (k : ℕ) → is_in_order s (UpEnd k) ≡ true → IsUp s k
 up_of s k e = let r = is_up s.upstreams k e in record { counted = r.0; within = r.1 }
+
+-- ---- the gateway's settings
+
+admits_greeted : (s : State) → s.untaken ≡ 0 → (event : Event) → is_admitted s event ≡ true → is_admitted (greeted s) event ≡ true
+admits_greeted s none (Client piece) e =
+    let p = two (not s.closed) (nat_le (length piece) 65536 && nat_le s.untaken 1073741824) e in
+    let q = two (nat_le (length piece) 65536) (nat_le s.untaken 1073741824) p.1 in
+    let r : nat_le (s.untaken + 21) 1073741824 ≡ true = ap (λ n. nat_le (n + 21) 1073741824) none in
+    ap (λ b. b && (nat_le (length piece) 65536 && nat_le (s.untaken + 21) 1073741824)) p.0
+    ∙ ap (λ b. b && nat_le (s.untaken + 21) 1073741824) q.0 ∙ r
+  where
+    two : (a b : Bool) → (a && b) ≡ true → (a ≡ true) × (b ≡ true)
+    two true b e = (refl, e)
+    two false b e = absurd (let f : false ≡ true = e in cc)
+admits_greeted s none ClientEnd e = e
+admits_greeted s none (ClientTook count) e =
+    let p = two (not s.closed) (nat_le count s.untaken) e in
+    let small : nat_le count 0 ≡ true = ap (nat_le count) (sym none) ∙ p.1 in
+    let le : count ≤ 0 = leb-true count 0 small in
+    ap (λ b. b && nat_le count (s.untaken + 21)) p.0 ∙ le-leb count (s.untaken + 21) (omega arith)
+  where
+    two : (a b : Bool) → (a && b) ≡ true → (a ≡ true) × (b ≡ true)
+    two true b e = (refl, e)
+    two false b e = absurd (let f : false ≡ true = e in cc)
+admits_greeted s none (Up k piece) e = e
+admits_greeted s none (UpEnd k) e = e
+admits_greeted s none (UpFailed k) e = e
+admits_greeted s none (UpTook k count) e = e
+
+pub begins_greeted : (s s' : State) (o o' : List Output) → s.greeted ≡ false → s.untaken ≡ 0 → s' ≡ greeted s → o' ≡ put o (ToClient (spell settings_frame)) → Begins s s' o o'
+begins_greeted s s' o o' first none es eo =
+    subst (λ x. Begins s x o o') (sym es)
+    (subst (λ x. Begins s (greeted s) o x) (sym eo)
+    (record {
+      pays = subst (λ b. Pays (record { state = s; owes = if b then [] else ToSend settings_frame ∷ [] }) (idle (greeted s)) o (put o (ToClient (spell settings_frame)))) (sym first)
+          (pays_by s (ToSend settings_frame) [] (Sends settings_frame) o (record { turn = refl; holds = refl }) refl);
+      greeted = refl;
+      admits = admits_greeted s none;
+    }))
+
+pub ok_map : {A E X Y : Type 0} (r : Result A E) → (X → Y) → OnOk r X → OnOk r Y
+ok_map (Ok a) f x = f x
+ok_map (Err e) f x = tt

@@ -11,7 +11,7 @@ use Rattle.gateway.specs.Closing.{put_closes}
 use Rattle.gateway.specs.Moves.{Move, Input, inputs, after_all, put_move}
 use Rattle.gateway.specs.Moves.Move.{Takes, Breaks, Hears, Sends, Acts}
 use Rattle.gateway.specs.State.{State, after, closed_up, nobody, upstream_at, with_upstream}
-use Rattle.gateway.specs.Policy.{Due, Point, idle, point_after, Allowed, AllAllowed, Leads, Answers, closes_from, IsUp}
+use Rattle.gateway.specs.Policy.{Due, Point, idle, point_after, Allowed, AllAllowed, Leads, Answers, Pays, closes_from, IsUp}
 use Rattle.gateway.specs.Policy.Due.{ToSend, ToDo}
 
 pub after_all-append : {S : Type 0} (f : S → Move → S) (s : S) (b a : List Move) → after_all f s (b ++ a) ≡ after_all f (after_all f s a) b
@@ -55,12 +55,6 @@ seam_at front us u = get_or-append_seam front u us nobody
 seam_set : (front us : List Upstream) (u c : Upstream) → set (front ++ u ∷ us) (length front) c ≡ (front ++ c ∷ []) ++ us
 seam_set [] us u c = refl
 seam_set (f ∷ front) us u c = ap (λ x. f ∷ x) (seam_set front us u c)
-
--- moves that bring nothing in
-pub record Pays (p p' : Point) (o o' : List Output) : Type 0 where
-  pub segment : List Move
-  pub leads : Leads p p' o o' segment
-  pub nothing_in : inputs segment ≡ []
 
 pub pays_then : {p p' p'' : Point} {o o' o'' : List Output} → Pays p p' o o' → Pays p' p'' o' o'' → Pays p p'' o o''
 pays_then h g = record {

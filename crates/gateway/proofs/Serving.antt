@@ -20,9 +20,9 @@ use Rattle.gateway.specs.Moves.Input.{OfFrame}
 use Rattle.gateway.specs.Moves.Move.{Takes, Acts}
 use Rattle.gateway.specs.Moves.Outcome.{Served}
 use Rattle.gateway.specs.State.{State, after}
-use Rattle.gateway.specs.Policy.{Due, Point, idle, point_after, Answers, IsNoted, MayServe}
+use Rattle.gateway.specs.Policy.{Pays, Due, Point, idle, point_after, Answers, IsNoted, MayServe}
 use Rattle.gateway.specs.Policy.Due.{ToDo}
-use Rattle.gateway.proofs.Leading.{Pays, pays_then, with}
+use Rattle.gateway.proofs.Leading.{pays_then, with}
 use Rattle.gateway.proofs.Answering.{answers_from, pays_by, serves_upstreams}
 
 whole_block : (frame : Frame) → IsHead frame → completed [] frame ≡ Some (record { id = frame.id; ends = true; fragments = frame.payload })

@@ -173,6 +173,12 @@ pub record Leads (old new : Point) (outs_old outs_new : List Output) (segment : 
   pub outputs : outs_new ≡ after_all put_move outs_old segment
   pub allowed : AllAllowed old segment
 
+-- Moves that bring nothing in lead from one point to another.
+pub record Pays (p p' : Point) (o o' : List Output) : Type 0 where
+  pub segment : List Move
+  pub leads : Leads p p' o o' segment
+  pub nothing_in : inputs segment ≡ []
+
 -- Moves lead from one idle state to another, and these came in, the newest first.
 pub record Answers (old new : State) (outs_old outs_new : List Output) (came : List Input) : Type 0 where
   pub segment : List Move
@@ -181,3 +187,9 @@ pub record Answers (old new : State) (outs_old outs_new : List Output) (came : L
 
 abbrev pub is_admitted : State → Event → Bool
 is_admitted s event = not s.closed && is_in_order s event
+
+-- The gateway's settings are sent, if they weren't, and whatever might come before may still come.
+pub record Begins (s s' : State) (o o' : List Output) : Type 0 where
+  pub pays : Pays (resting s) (idle s') o o'
+  pub greeted : s'.greeted ≡ true
+  pub admits : (event : Event) → is_admitted s event ≡ true → is_admitted s' event ≡ true

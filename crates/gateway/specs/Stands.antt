@@ -12,7 +12,7 @@ use Rattle.gateway.specs.declared.preface.Start.TheVariants.{Whole, Part, Wrong}
 use Rattle.gateway.specs.Moves.{Move, tape_of, after_all}
 use Rattle.gateway.specs.Moves.Input.{OfEvent}
 use Rattle.gateway.specs.State.{State, start}
-use Rattle.gateway.specs.Policy.{resting, point_after, AllAllowed, Answers}
+use Rattle.gateway.specs.Policy.{resting, point_after, AllAllowed, Answers, Begins}
 use Rattle.gateway.specs.Receiving.{Kept, IsRest, Receives}
 
 -- what a text is to the preface
@@ -40,6 +40,21 @@ fresh setup = record { kept = record { partial = []; begun = false; state = star
 abbrev pub Happens : Kept → Kept → List Output → List Output → Event → Type 0
 Happens k k' o o' (Client piece) = Receives k k' o o' (k.partial ++ piece)
 Happens k k' o o' event = Answers k.state k'.state o o' (OfEvent event ∷ []) × (k'.partial ≡ k.partial) × (k'.begun ≡ k.begun)
+
+-- What a step comes to: these outputs, the newest first.
+pub record Steps (k k' : Kept) (event : Event) (o : List Output) : Type 0 where
+  pub greeted : Kept
+  pub begun_outputs : List Output
+  pub begins : Begins k.state greeted.state [] begun_outputs
+  pub same_partial : greeted.partial ≡ k.partial
+  pub same_begun : greeted.begun ≡ k.begun
+  pub happens : Happens greeted k' begun_outputs o event
+
+-- What a step puts out, behind what was there.
+pub record StepsTo (k k' : Kept) (event : Event) (old new : List Output) : Type 0 where
+  pub outputs : List Output
+  pub steps : Steps k k' event outputs
+  pub put_out : new ≡ old ++ reverse outputs
 
 -- What is kept of the client's octets, before its preface was read and behind it.
 pub record IsUnbegun (k : Kept) (text : List ℕ) (t : List Entry) : Type 0 where

@@ -13,7 +13,7 @@ ghost use Rattle.gateway.specs.Moves.Input.{OfFrame, OfBreach, OfEvent};
 ghost use Rattle.model.specs.Tapes.Breach.{WrongPreface};
 ghost use Rattle.gateway.specs.Moves.Move.{Hears};
 ghost use Rattle.model.specs.Logs.Event.{UpFailed, UpTook};
-ghost use Rattle.gateway.specs.Policy.{is_admitted, Answers};
+ghost use Rattle.gateway.specs.Policy.{is_admitted, Answers, Begins};
 ghost use Rattle.gateway.specs.Receiving.{Takes};
 ghost use Rattle.header_blocks.specs.Everywhere.{BlockEverywhere};
 ghost use Rattle.model.specs.Messages.{Field as FieldLine};
@@ -129,7 +129,7 @@ impl Connection {
     }
 
     /// Sends the gateway's settings.
-    pub fn greet(&mut self, out: &mut Outputs) -> Result<(), AllocError>
+    fn greet(&mut self, out: &mut Outputs) -> Result<(), AllocError>
         requires { self.old.greeted ≡ false }
         ensures state { OnOk result (self.new ≡ greeted self.old) }
         ensures outputs { OnOk result (out.new ≡ put out.old (ToClient (spell settings_frame))) }
@@ -143,6 +143,16 @@ impl Connection {
         out.send(&view)?;
         self.greeted = true;
         self.untaken += 21;
+        Ok(())
+    }
+
+    /// Sends the gateway's settings, unless they were sent.
+    pub fn begin(&mut self, out: &mut Outputs) -> Result<(), AllocError>
+        ensures { OnOk result (Begins self.old self.new out.old out.new) }
+    {
+        if !self.greeted {
+            self.greet(out)?;
+        }
         Ok(())
     }
 

@@ -7,7 +7,7 @@ ghost use Rattle.gateway.specs.Views.{event_of, outputs_of};
 ghost use Rattle.gateway.specs.Setups.{setup_of};
 ghost use Rattle.gateway.specs.Policy.{is_admitted};
 ghost use Rattle.gateway.specs.Receiving.{Receives, TakesBehind};
-ghost use Rattle.gateway.specs.Stands.{Happens, Stands, StandsNext, held, held_bound, fresh};
+ghost use Rattle.gateway.specs.Stands.{Happens, StepsTo, Stands, StandsNext, held, held_bound, fresh};
 
 use crate::config::Config;
 use crate::connection::Connection;
@@ -100,5 +100,35 @@ impl Gateway {
             }
             Start::Wrong => self.connection.refuse_preface(out),
         }
+    }
+
+    /// What an event does, once the gateway's settings are sent.
+    fn happen(&mut self, event: &Event, out: &mut Outputs) -> Result<(), AllocError>
+        requires { is_admitted self.old.kept.state (event_of event.now) ≡ true }
+        ensures happens { OnOk result (Happens self.old.kept self.new.kept out.old out.new (event_of event.now)) }
+        ensures dead { self.new.dead ≡ self.old.dead }
+    {
+        match event {
+            Event::Client(piece) => self.take_piece(piece, out),
+            Event::ClientEnd
+            | Event::ClientTook(_)
+            | Event::Up(_, _)
+            | Event::UpEnd(_)
+            | Event::UpFailed(_)
+            | Event::UpTook(_, _) => self.connection.hear(event, out),
+        }
+    }
+
+    /// What a step does where memory suffices.
+    fn try_step(&mut self, event: &Event, out: &mut Vec<Output>) -> Result<(), AllocError>
+        requires { is_admitted self.old.kept.state (event_of event.now) ≡ true }
+        ensures steps { OnOk result (StepsTo self.old.kept self.new.kept (event_of event.now) (outputs_of out.old.items) (outputs_of out.new.items)) }
+        ensures nothing { OnErr result (out.new.items ≡ out.old.items) }
+        ensures dead { self.new.dead ≡ self.old.dead }
+    {
+        let mut outputs = Outputs::new(self.alloc);
+        self.connection.begin(&mut outputs)?;
+        self.happen(event, &mut outputs)?;
+        outputs.append_to(out)
     }
 }

@@ -11,3 +11,5 @@ pub mod Answering
 pub mod Serving
 pub mod Receiving
 pub mod Prefaces
+pub mod Coming
+pub mod Told

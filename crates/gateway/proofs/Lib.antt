@@ -13,3 +13,4 @@ pub mod Receiving
 pub mod Prefaces
 pub mod Coming
 pub mod Told
+pub mod Runs

@@ -184,7 +184,7 @@ step_acts t s CloseClient ds h a = record {
 
 -- ---- any move that is allowed
 
-step : (t : List Entry) (s : State) (ds : List Due) (m : Move) → Inv t (record { state = s; owes = ds }) → Allowed (record { state = s; owes = ds }) m → Inv (entry_of m ∷ t) (point_after (record { state = s; owes = ds }) m)
+pub step : (t : List Entry) (s : State) (ds : List Due) (m : Move) → Inv t (record { state = s; owes = ds }) → Allowed (record { state = s; owes = ds }) m → Inv (entry_of m ∷ t) (point_after (record { state = s; owes = ds }) m)
 step t s ds (Takes noted outcome) h a = step_takes t s ds noted outcome h a
 step t s ds (Breaks breach) h a = record {
   giving = giving_breached t s breach (quiet t s ds h.giving a.turn.nothing);
@@ -198,10 +198,3 @@ step t s ds (Sends frame) h a =
 step t s ds (Acts act) h a =
     let rest : List Due = rest_of ds in
     step_acts t s act rest (subst (λ x. Inv t (record { state = s; owes = x })) a.turn h) (record { turn = refl; holds = a.holds })
-
--- Behind all moves that were allowed it holds.
-pub inv : (p : Point) (moves : List Move) (t : List Entry) → Inv t p → AllAllowed p moves → Inv (tape_of moves ++ t) (after_all point_after p moves)
-inv p [] t h a = h
-inv p (m ∷ moves) t h a =
-    let before = inv p moves t h a.0 in
-    step (tape_of moves ++ t) (after_all point_after p moves).state (after_all point_after p moves).owes m before a.1

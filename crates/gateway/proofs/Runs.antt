@@ -1,0 +1,283 @@
+-- Where a gateway stands, before any step and behind each.
+use Rattle.std.proofs.Common.{◌≡◌, ℕ, true, false, Bool, not, ◌&&◌, List, [], ◌∷◌, ◌++◌, length, reverse, map, refl, sym, ◌∙◌, ap, subst, append-nil, if◌then◌else◌, inl, inr, arith, ◌+◌, length-append}
+use Rattle.std.specs.Prelude.{codes}
+use Rattle.std.proofs.lemmas.List.{map-append}
+use Rattle.model.specs.Messages.{Request}
+use Rattle.model.specs.Messages.Item.{Block}
+use Rattle.model.specs.Frames.{Reading, preface, settings_frame}
+use Rattle.model.specs.Http1.{H1Request, H1Requests, forward}
+use Rattle.model.specs.Http2.{HasHead, WellFormedHead, H2Request}
+use Rattle.model.specs.Logs.{Event, Output, Step, client_in, client_octets}
+use Rattle.model.specs.Logs.Event.{Client, ClientEnd, ClientTook, Up, UpEnd, UpFailed, UpTook}
+use Rattle.model.specs.Setup.{Setup}
+use Rattle.model.specs.Tapes.{Entry, came, frames_of, breaches, happened, outputs, is_closed, sent_up, IsStep, listed}
+use Rattle.model.specs.Tapes.Breach.{WrongPreface}
+use Rattle.model.specs.Decoding.{are_read}
+use Rattle.model.specs.Streams.{Story, items}
+use Rattle.model.specs.Admission as admission
+use Rattle.model.specs.Requests.{Opened, opens, IsServed, AreServed, AreNumbered, AreApart, Requests}
+use Rattle.model.specs.Faithful.{IsTold, IsTaped, HasTape, Faithful}
+use Rattle.gateway.specs.Moves.{Move, Input, inputs, tape_of, entry_of, after_all, put_move}
+use Rattle.gateway.specs.Moves.Input.{OfFrame, OfBreach, OfEvent}
+use Rattle.gateway.specs.Moves.Move.{Takes, Breaks, Hears, Sends, Acts}
+use Rattle.gateway.specs.State.{State, start}
+use Rattle.gateway.specs.Policy.{Due, Point, idle, resting, point_after, AllAllowed, Leads, Answers, Pays, Begins, is_admitted, is_in_order}
+use Rattle.gateway.specs.Policy.Due.{ToSend}
+use Rattle.gateway.specs.Receiving.{Kept, IsRest, Waits, Departs, GoesOn, Receives}
+use Rattle.gateway.specs.Stands.{Standing, fresh, Happens, Steps, IsKeptOf, KeptStands, Stands, StandsNext}
+use Rattle.gateway.proofs.Owed.{all_text, all_opens}
+use Rattle.gateway.proofs.Giving.{Serving, AllServing, Giving}
+use Rattle.gateway.proofs.Shutting.{Shutting, EndsInClose}
+use Rattle.gateway.proofs.Admitting.{Admitting, in_order_same}
+use Rattle.gateway.proofs.Standing.{Inv, inv_start, step}
+use Rattle.gateway.proofs.Leading.{leads_then, AllAllowed-append, after_all-append, inputs-append}
+use Rattle.gateway.proofs.Coming.{events_in, happened_by, outputs_by, in_events}
+use Rattle.gateway.proofs.Told.{Tells, tells_same, tells_waits, tells_departs, tells_goes}
+
+-- ---- what holds behind all moves
+
+pub inv_all : (setup : Setup) (moves : List Move) → AllAllowed (resting (start setup)) moves → Inv (tape_of moves) (after_all point_after (resting (start setup)) moves)
+inv_all setup [] a = inv_start setup
+inv_all setup (m ∷ moves) a =
+    let p : Point = after_all point_after (resting (start setup)) moves in
+    step (tape_of moves) p.state p.owes m (inv_all setup moves a.0) a.1
+
+no_end_owed : (b : Bool) → EndsInClose (if b then [] else ToSend settings_frame ∷ []) → ⊥
+no_end_owed true h = h
+no_end_owed false h = h
+
+-- between two steps the client is closed where the state says so
+pub closed_same : (t : List Entry) (s : State) → Inv t (resting s) → s.closed ≡ is_closed t
+closed_same t s i = cases s.closed refl (is_closed t) refl
+  where
+    cases : (a : Bool) → s.closed ≡ a → (b : Bool) → is_closed t ≡ b → s.closed ≡ is_closed t
+    cases true e b f = elim (i.shutting.shut e) [ inl x ↦ e ∙ sym x.0 | inr x ↦ absurd (no_end_owed s.greeted x) ]
+    cases false e true f = i.shutting.later f ∙ sym f
+    cases false e false f = e ∙ sym f
+
+pub admitted_same : (t : List Entry) (s : State) (event : Event) → Inv t (resting s) → is_admitted s event ≡ admission.is_admitted t event
+admitted_same t s event i =
+    ap (λ b. not b && is_in_order s event) (closed_same t s i) ∙ ap (λ b. not (is_closed t) && b) (in_order_same t s event i.admitting)
+
+-- ---- the clause on requests
+
+one_request_text : (text : List ℕ) (r : Request) → H1Request text r → H1Requests text (r ∷ []) []
+one_request_text text r h = record {
+  front = text;
+  is = sym (append-nil text);
+  are_requests = (text, [], h, sym (append-nil text), refl);
+  no_more = λ front more request reads is. no_text front more request reads is;
+}
+  where
+    no_text : (front more : List ℕ) (request : Request) → H1Request front request → [] ≡ front ++ more → ⊥
+    no_text front more request reads is =
+        let size : 0 ≡ length front + length more = ap length is ∙ length-append front more in
+        let parts : length front ≡ length reads.head_text + length reads.content = ap length reads.is ∙ length-append reads.head_text reads.content in
+        let head = reads.has_head in
+        let whole : length reads.head_text ≡ length head.lines + (length reads.head.method + (length reads.head.target + 14)) = ap length head.is ∙ simp length-append (omega arith) in
+        omega arith
+
+served : (setup : Setup) (t : List Entry) (o : Opened) → Serving setup t [] o → IsServed setup t o
+served setup t o h =
+    let told : items o.stream t ≡ Block h.fields true ∷ [] = ap (λ (s : Story). s.items) h.told in record {
+      head = h.fields;
+      has_head = subst (λ xs. HasHead xs h.fields) (sym told) refl;
+      well_formed = subst WellFormedHead (sym h.means.has_head) h.means.well_formed;
+      by_route = h.by_route;
+      sent = inl (record {
+        request = h.request;
+        means = subst (λ xs. H2Request xs h.request) (sym told) h.means;
+        reads = one_request_text (sent_up o.k t) (forward h.request) (subst (λ x. H1Request x (forward h.request)) (append-nil (sent_up o.k t)) h.reads);
+      });
+    }
+
+all_served : (setup : Setup) (t : List Entry) (os : List Opened) → AllServing setup t [] os → AreServed setup t os
+all_served setup t [] h = tt
+all_served setup t (o ∷ os) h = (served setup t o h.0, all_served setup t os h.1)
+
+pub requests_hold : (t : List Entry) (s : State) → Inv t (idle s) → Requests s.setup t
+requests_hold t s i = record { numbered = i.giving.numbered; apart = i.giving.apart; served = all_served s.setup t (opens t) i.giving.serving }
+
+pub unread_ends : (t : List Entry) (s : State) → Inv t (idle s) → are_read (came t) ≡ false → is_closed t ≡ true
+unread_ends t s i e = cases s.closed refl
+  where
+    cases : (b : Bool) → s.closed ≡ b → is_closed t ≡ true
+    cases true f = elim (i.shutting.shut f) [ inl x ↦ x.0 | inr x ↦ absurd x ]
+    cases false f = absurd (let g : true ≡ false = sym (i.giving.all_read f) ∙ e in cc)
+
+-- ---- no move changes the setup, and what was sent stays sent
+
+setup_stays : (p : Point) (moves : List Move) → (after_all point_after p moves).state.setup ≡ p.state.setup
+setup_stays p [] = refl
+setup_stays p (m ∷ moves) = setup_stays p moves
+
+greeted_stays : (p : Point) (moves : List Move) → p.state.greeted ≡ true → (after_all point_after p moves).state.greeted ≡ true
+greeted_stays p [] e = e
+greeted_stays p (Takes noted outcome ∷ moves) e = greeted_stays p moves e
+greeted_stays p (Breaks breach ∷ moves) e = greeted_stays p moves e
+greeted_stays p (Hears event ∷ moves) e = greeted_stays p moves e
+greeted_stays p (Sends frame ∷ moves) e = refl
+greeted_stays p (Acts act ∷ moves) e = greeted_stays p moves e
+
+-- ---- one step
+
+-- the moves of a step, and what they leave
+pub record Stepped (k k' : Kept) (event : Event) (o : List Output) (text : List ℕ) (tape : List Entry) : Type 0 where
+  pub segment : List Move
+  pub leads : Leads (resting k.state) (idle k'.state) [] o segment
+  pub events : events_in (inputs segment) ≡ listed event
+  pub tells : (is_closed (tape_of segment ++ tape) ≡ false → k'.state.closed ≡ false) → Tells k' text (tape_of segment ++ tape)
+
+stood : (k' : Kept) (log : List Step) (tape : List Entry) (event : Event) (o : List Output) (k : Kept) (text : List ℕ) (s : Stepped k k' event o text tape) (setup : Setup) → k'.state.setup ≡ setup → (all : List Move) → tape_of s.segment ++ tape ≡ tape_of all → resting k'.state ≡ after_all point_after (resting (start setup)) all
+    → AllAllowed (resting (start setup)) all → IsTaped setup log (record { event = event; outputs = reverse o }) tape (tape_of s.segment) → HasTape setup log tape → Tells k' text (tape_of s.segment ++ tape) → text ≡ client_in log ++ client_octets event → KeptStands k' (record { event = event; outputs = reverse o } ∷ log) (tape_of s.segment ++ tape)
+stood k' log tape event o k text s setup same all same_tape point allowed taped has tells et = record {
+  has_tape = subst (λ x. HasTape x (record { event = event; outputs = reverse o } ∷ log) (tape_of s.segment ++ tape)) (sym same) (tape_of s.segment, tape, refl, taped, has);
+  moves = all;
+  is_tape = same_tape;
+  point = subst (λ x. resting k'.state ≡ after_all point_after (resting (start x)) all) (sym same) point;
+  allowed = subst (λ x. AllAllowed (resting (start x)) all) (sym same) allowed;
+  octets = λ on. subst (λ x. IsKeptOf k'.begun k' x (tape_of s.segment ++ tape)) et (tells.octets on);
+  unbroken = tells.unbroken;
+}
+
+pub stands_then : (k k' : Kept) (log : List Step) (tape : List Entry) (event : Event) (o : List Output) → KeptStands k log tape → is_admitted k.state event ≡ true → k'.state.greeted ≡ true → (s : Stepped k k' event o (client_in log ++ client_octets event) tape)
+    → KeptStands k' (record { event = event; outputs = reverse o } ∷ log) (tape_of s.segment ++ tape)
+stands_then k k' log tape event o h admitted greeted s =
+    let setup : Setup = k.state.setup in
+    let all : List Move = s.segment ++ h.moves in
+    let same_tape : tape_of s.segment ++ tape ≡ tape_of all = ap (λ x. tape_of s.segment ++ x) h.is_tape ∙ sym (map-append entry_of s.segment h.moves) in
+    let whole : idle k'.state ≡ after_all point_after (resting (start setup)) all = s.leads.point ∙ ap (λ p. after_all point_after p s.segment) h.point ∙ sym (after_all-append point_after (resting (start setup)) s.segment h.moves) in
+    let rests : resting k'.state ≡ idle k'.state = ap (λ b. let p : Point = record { state = k'.state; owes = if b then [] else ToSend settings_frame ∷ [] } in p) greeted in
+    let same_setup : k'.state.setup ≡ setup = ap (λ (p : Point). p.state.setup) s.leads.point ∙ setup_stays (resting k.state) s.segment in
+    let allowed : AllAllowed (resting (start setup)) all = AllAllowed-append (resting (start setup)) s.segment h.moves h.allowed (subst (λ p. AllAllowed p s.segment) h.point s.leads.allowed) in
+    let i : Inv (tape_of s.segment ++ tape) (idle k'.state) = subst (λ t. Inv t (idle k'.state)) (sym same_tape) (subst (Inv (tape_of all)) (sym whole) (inv_all setup all allowed)) in
+    let before : Inv tape (resting k.state) = subst (λ t. Inv t (resting k.state)) (sym h.is_tape) (subst (Inv (tape_of h.moves)) (sym h.point) (inv_all setup h.moves h.allowed)) in
+    let open_yet : is_closed (tape_of s.segment ++ tape) ≡ false → k'.state.closed ≡ false = λ e. closed_same (tape_of s.segment ++ tape) k'.state (subst (Inv (tape_of s.segment ++ tape)) (sym rests) i) ∙ e in
+    let tells : Tells k' (client_in log ++ client_octets event) (tape_of s.segment ++ tape) = s.tells open_yet in
+    let taped : IsTaped setup log (record { event = event; outputs = reverse o }) tape (tape_of s.segment) = record {
+      admitted = sym (admitted_same tape k.state event before) ∙ admitted;
+      step_is = record { put_out = ap reverse (s.leads.outputs ∙ outputs_by s.segment); event = happened_by s.segment ∙ s.events };
+      told = record { read = tells.read; table = i.giving.decodes.0; decodes = i.giving.decodes.1; unread = unread_ends (tape_of s.segment ++ tape) k'.state i };
+      clauses = record { requests = subst (λ x. Requests x (tape_of s.segment ++ tape)) same_setup (requests_hold (tape_of s.segment ++ tape) k'.state i) };
+    } in
+    stood k' log tape event o k (client_in log ++ client_octets event) s setup same_setup all same_tape (rests ∙ whole) allowed taped h.has_tape tells refl
+
+-- the settings, if they weren't sent, and then what the event comes to
+joins : (k g k' : Kept) (o1 o : List Output) (segment : List Move) (b : Begins k.state g.state [] o1) → Leads (idle g.state) (idle k'.state) o1 o segment → Leads (resting k.state) (idle k'.state) [] o (segment ++ b.pays.segment)
+joins k g k' o1 o segment b l = leads_then b.pays.leads l
+
+joined_inputs : (k g : Kept) (o1 : List Output) (segment : List Move) (b : Begins k.state g.state [] o1) → inputs (segment ++ b.pays.segment) ≡ inputs segment
+joined_inputs k g o1 segment b = inputs-append segment b.pays.segment ∙ ap (λ x. inputs segment ++ x) b.pays.nothing_in ∙ append-nil (inputs segment)
+
+stays_greeted : (k g k' : Kept) (o1 o : List Output) (segment : List Move) → Begins k.state g.state [] o1 → Leads (idle g.state) (idle k'.state) o1 o segment → k'.state.greeted ≡ true
+stays_greeted k g k' o1 o segment b l = ap (λ (p : Point). p.state.greeted) l.point ∙ greeted_stays (idle g.state) segment b.greeted
+
+-- what a step comes to stands
+pub record Onward (k k' : Kept) (event : Event) (o : List Output) (text : List ℕ) (tape : List Entry) : Type 0 where
+  pub greeted : k'.state.greeted ≡ true
+  pub stepped : Stepped k k' event o text tape
+
+onward_other : (k g k' : Kept) (o1 o : List Output) (event : Event) (text : List ℕ) (tape : List Entry) → Begins k.state g.state [] o1 → g.partial ≡ k.partial → g.begun ≡ k.begun → IsKeptOf k.begun k text tape → breaches tape ≡ [] → Answers g.state k'.state o1 o (OfEvent event ∷ []) → k'.partial ≡ g.partial → k'.begun ≡ g.begun → listed event ≡ event ∷ [] → client_octets event ≡ []
+    → Onward k k' event o (text ++ client_octets event) tape
+onward_other k g k' o1 o event text tape b gp gb kept none a ep eb is_listed no_octets =
+    let ins : inputs (a.segment ++ b.pays.segment) ≡ OfEvent event ∷ [] = joined_inputs k g o1 a.segment b ∙ a.came_in in record {
+      greeted = stays_greeted k g k' o1 o a.segment b a.leads;
+      stepped = record {
+        segment = a.segment ++ b.pays.segment;
+        leads = joins k g k' o1 o a.segment b a.leads;
+        events = ap events_in ins ∙ sym is_listed;
+        tells = λ open_yet. tells_same k k' text (text ++ client_octets event) tape (a.segment ++ b.pays.segment) event kept none ins (ap (λ x. text ++ x) no_octets ∙ append-nil text) (ep ∙ gp) (eb ∙ gb);
+      };
+    }
+
+-- what is kept is kept when the settings are sent
+kept_same : (k g : Kept) (text : List ℕ) (tape : List Entry) → g.partial ≡ k.partial → g.begun ≡ k.begun → IsKeptOf k.begun k text tape → IsKeptOf g.begun g text tape
+kept_same k g text tape ep eb h = subst (λ b. IsKeptOf b g text tape) (sym eb) (cases k.begun h)
+  where
+    cases : (b : Bool) → IsKeptOf b k text tape → IsKeptOf b g text tape
+    cases false h = record { front = h.front; all = ep ∙ h.all; no_frame = h.no_frame }
+    cases true h = record { behind = h.behind; begins = h.begins; reading = subst (Reading h.behind (frames_of (came tape))) (sym ep) h.reading; rest = subst IsRest (sym ep) h.rest }
+
+onward_waits : (k g k' : Kept) (o1 o : List Output) (piece text : List ℕ) (tape : List Entry) → Begins k.state g.state [] o1 → IsKeptOf g.begun g text tape → breaches tape ≡ [] → Waits g k' o1 o (g.partial ++ piece) → Onward k k' (Client piece) o (text ++ piece) tape
+onward_waits k g k' o1 o piece text tape b kept none w =
+    let same : idle k'.state ≡ idle g.state = ap (λ (x : Kept). idle x.state) w.after in
+    let stay : Leads (idle g.state) (idle k'.state) o1 o [] = record { point = same; outputs = w.puts_nothing; allowed = tt } in
+    let ins : inputs ([] ++ b.pays.segment) ≡ [] = b.pays.nothing_in in record {
+      greeted = stays_greeted k g k' o1 o [] b stay;
+      stepped = record {
+        segment = [] ++ b.pays.segment;
+        leads = joins k g k' o1 o [] b stay;
+        events = ap events_in ins;
+        tells = λ open_yet. tells_waits g k' o1 o text piece (g.partial ++ piece) tape ([] ++ b.pays.segment) kept none w refl ins;
+      };
+    }
+
+onward_departs : (k g k' : Kept) (o1 o : List Output) (piece text : List ℕ) (tape : List Entry) → Begins k.state g.state [] o1 → IsKeptOf g.begun g text tape → breaches tape ≡ [] → Departs g k' o1 o (g.partial ++ piece) → Onward k k' (Client piece) o (text ++ piece) tape
+onward_departs k g k' o1 o piece text tape b kept none d =
+    let ins : inputs (d.segment ++ b.pays.segment) ≡ OfBreach WrongPreface ∷ [] = joined_inputs k g o1 d.segment b ∙ d.came_in in record {
+      greeted = stays_greeted k g k' o1 o d.segment b d.leads;
+      stepped = record {
+        segment = d.segment ++ b.pays.segment;
+        leads = joins k g k' o1 o d.segment b d.leads;
+        events = ap events_in ins;
+        tells = λ open_yet. tells_departs g k' o1 o text piece (g.partial ++ piece) tape (d.segment ++ b.pays.segment) kept none d refl ins;
+      };
+    }
+
+onward_goes : (k g k' : Kept) (o1 o : List Output) (piece text : List ℕ) (tape : List Entry) → Begins k.state g.state [] o1 → IsKeptOf g.begun g text tape → breaches tape ≡ [] → GoesOn g k' o1 o (g.partial ++ piece) → Onward k k' (Client piece) o (text ++ piece) tape
+onward_goes k g k' o1 o piece text tape b kept none n =
+    let takes = n.goes.takes in
+    let ins : inputs (takes.segment ++ b.pays.segment) ≡ inputs takes.segment = joined_inputs k g o1 takes.segment b in record {
+      greeted = stays_greeted k g k' o1 o takes.segment b takes.leads;
+      stepped = record {
+        segment = takes.segment ++ b.pays.segment;
+        leads = joins k g k' o1 o takes.segment b takes.leads;
+        events = ap events_in ins ∙ elim takes.came_in [ inl e ↦ ap events_in e ∙ in_events takes.frames | inr e ↦ ap events_in e.0 ∙ in_events takes.frames ];
+        tells = λ open_yet. tells_goes g k' o1 o text piece (g.partial ++ piece) tape (takes.segment ++ b.pays.segment) kept none n refl ins open_yet;
+      };
+    }
+
+onward : (k k' : Kept) (event : Event) (o : List Output) (text : List ℕ) (tape : List Entry) → IsKeptOf k.begun k text tape → breaches tape ≡ [] → Steps k k' event o → Onward k k' event o (text ++ client_octets event) tape
+onward k k' (Client piece) o text tape kept none s =
+    let kept' : IsKeptOf s.greeted.begun s.greeted text tape = kept_same k s.greeted text tape s.same_partial s.same_begun kept in
+    elim s.happens [
+      | inl w ↦ onward_waits k s.greeted k' s.begun_outputs o piece text tape s.begins kept' none w
+      | inr rest ↦ elim rest [
+        | inl d ↦ onward_departs k s.greeted k' s.begun_outputs o piece text tape s.begins kept' none d
+        | inr n ↦ onward_goes k s.greeted k' s.begun_outputs o piece text tape s.begins kept' none n
+      ]
+    ]
+onward k k' ClientEnd o text tape kept none s = let h = s.happens in onward_other k s.greeted k' s.begun_outputs o ClientEnd text tape s.begins s.same_partial s.same_begun kept none h.0 h.1 h.2 refl refl
+onward k k' (ClientTook count) o text tape kept none s = let h = s.happens in onward_other k s.greeted k' s.begun_outputs o (ClientTook count) text tape s.begins s.same_partial s.same_begun kept none h.0 h.1 h.2 refl refl
+onward k k' (Up j piece) o text tape kept none s = let h = s.happens in onward_other k s.greeted k' s.begun_outputs o (Up j piece) text tape s.begins s.same_partial s.same_begun kept none h.0 h.1 h.2 refl refl
+onward k k' (UpEnd j) o text tape kept none s = let h = s.happens in onward_other k s.greeted k' s.begun_outputs o (UpEnd j) text tape s.begins s.same_partial s.same_begun kept none h.0 h.1 h.2 refl refl
+onward k k' (UpFailed j) o text tape kept none s = let h = s.happens in onward_other k s.greeted k' s.begun_outputs o (UpFailed j) text tape s.begins s.same_partial s.same_begun kept none h.0 h.1 h.2 refl refl
+onward k k' (UpTook j count) o text tape kept none s = let h = s.happens in onward_other k s.greeted k' s.begun_outputs o (UpTook j count) text tape s.begins s.same_partial s.same_begun kept none h.0 h.1 h.2 refl refl
+
+is_open : (s : State) (event : Event) → is_admitted s event ≡ true → s.closed ≡ false
+is_open s event e = parts s.closed (is_in_order s event) e
+  where
+    parts : (a b : Bool) → (not a && b) ≡ true → a ≡ false
+    parts true b e = absurd (let f : false ≡ true = e in cc)
+    parts false b e = refl
+
+pub stands_next : (g g' : Standing) (log : List Step) (tape : List Entry) (event : Event) (o : List Output) → Stands g log tape → is_admitted g.kept.state event ≡ true → g'.dead ≡ false → Steps g.kept g'.kept event o → StandsNext g' log tape event (reverse o)
+stands_next g g' log tape event o h admitted alive s =
+    let on = is_open g.kept.state event admitted in
+    let next = onward g.kept g'.kept event o (client_in log) tape (h.kept.octets on) (h.kept.unbroken on) s in
+    record { segment = tape_of next.stepped.segment; stands = record { kept = stands_then g.kept g'.kept log tape event o h.kept admitted next.greeted next.stepped; alive = alive } }
+
+-- before any step
+pub stands_none : (setup : Setup) → Stands (fresh setup) [] []
+stands_none setup = record {
+  kept = record {
+    has_tape = refl;
+    moves = [];
+    is_tape = refl;
+    point = refl;
+    allowed = tt;
+    octets = λ on. record { front = record { next = 80; rest = codes "RI * HTTP/2.0\r\n\r\nSM\r\n\r\n"; is = refl }; all = refl; no_frame = refl };
+    unbroken = λ on. refl;
+  };
+  alive = refl;
+}

@@ -1,6 +1,9 @@
 -- The configuration without where it lies in memory.
-use Rattle.std.specs.Prelude.{List, map}
+use Rattle.std.specs.Prelude.{◌≡◌, ◌≤◌, map}
 use Rattle.model.specs.Setup as setup
+use Rattle.model.specs.Setup.{Setup}
+use Rattle.model.specs.Setup.Policy.{Plain}
+use Rattle.model.specs.Setup.Passing.{Whole}
 use Rattle.gateway.specs.declared.config.Config.{Config}
 use Rattle.gateway.specs.declared.config.Route.{Route}
 use Rattle.gateway.specs.declared.config.Policy.{Policy}
@@ -27,3 +30,10 @@ setup_of config = record {
   max_body = config.max_body;
   max_response = config.max_response;
 }
+
+-- What a gateway can be set up with so far: blocks written plainly, bodies passed on whole, and maxima within their limits.
+pub record IsServable (setup : Setup) : Type 0 where
+  pub plain : setup.policy ≡ Plain
+  pub whole : setup.passing ≡ Whole
+  pub body : setup.max_body ≤ 1073741824
+  pub response : setup.max_response ≤ 1073741824

@@ -1,5 +1,10 @@
 //! What a gateway is set up with.
 
+ghost use Rattle.std.specs.Prelude.{◌≡◌, IfOk};
+ghost use Rattle.gateway.specs.Setups.{route_of, setup_of, IsServable};
+ghost use Rattle.gateway.specs.Stands.{held_bound};
+
+use std::alloc::{AllocError, Global};
 use std::string::String;
 
 /// One route: where requests for an authority and a front of the paths go.
@@ -44,4 +49,47 @@ pub struct Config {
     pub max_body: u64,
     /// The most octets of a response's body, at most 1,073,741,824.
     pub max_response: u64,
+}
+
+impl Route {
+    /// The same route once more.
+    fn copy(&self, alloc: Global) -> Result<Route, AllocError>
+        ensures { IfOk result (λ route. route_of route ≡ route_of self.now) }
+    {
+        let authority = Vec::from_slice(alloc, &self.authority)?;
+        let prefix = Vec::from_slice(alloc, &self.prefix)?;
+        let upstream = self.upstream.clone()?;
+        Ok(Route {
+            authority,
+            prefix,
+            upstream,
+        })
+    }
+}
+
+impl Config {
+    /// The most octets that a gateway with this configuration holds between two steps, the configuration itself aside.
+    pub fn held_bound(&self) -> u64
+        requires { IsServable (setup_of self.now) }
+        ensures { result ≡ held_bound (setup_of self.now) }
+    {
+        200000 + 100 * (self.max_body + self.max_response + 400000)
+    }
+
+    /// The same configuration once more. The only error is that memory was refused.
+    pub fn copy(&self, alloc: Global) -> Result<Config, AllocError>
+        ensures { IfOk result (λ config. setup_of config ≡ setup_of self.now) }
+    {
+        let mut routes = Vec::new(alloc);
+        for route in &self.routes {
+            routes.push(route.copy(alloc)?)?;
+        }
+        Ok(Config {
+            routes,
+            policy: self.policy,
+            passing: self.passing,
+            max_body: self.max_body,
+            max_response: self.max_response,
+        })
+    }
 }

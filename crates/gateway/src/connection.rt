@@ -108,6 +108,13 @@ impl Connection {
         self.closed
     }
 
+    /// Whether the connection to an upstream is open.
+    pub fn is_up(&self, k: u32) -> bool
+        ensures { result ≡ (spec_upstream_at self.now.upstreams k).is_open }
+    {
+        upstream_at(&self.upstreams, k).is_open
+    }
+
     /// Whether an event may come.
     pub fn is_admitted(&self, event: &Event) -> bool
         ensures { result ≡ is_admitted self.now (event_of event.now) }

@@ -4,7 +4,8 @@ ghost use Rattle.std.specs.Prelude.{◌≡◌, ◌≤◌, ◌<◌, ◌++◌, [],
 ghost use Rattle.model.specs.Logs.{Step, Output as Put};
 ghost use Rattle.model.specs.Tapes.{Entry};
 ghost use Rattle.gateway.specs.Views.{event_of, outputs_of};
-ghost use Rattle.gateway.specs.Setups.{setup_of};
+ghost use Rattle.gateway.specs.Setups.{setup_of, IsServable};
+ghost use Rattle.model.specs.Admission.{is_admitted as is_admitted_by_tape, room};
 ghost use Rattle.gateway.specs.Policy.{is_admitted};
 ghost use Rattle.gateway.specs.Receiving.{Receives, TakesBehind};
 ghost use Rattle.gateway.specs.Stands.{Happens, StepsTo, Stands, StandsNext, held, held_bound, fresh};
@@ -58,6 +59,65 @@ fn cut_front(text: &mut Vec<u8>, used: usize)
 }
 
 impl Gateway {
+    /// A gateway for a new connection of a client, to which nothing came. So far the policy is Plain and bodies are passed
+    /// on whole. The maxima are at most 1,073,741,824.
+    pub fn new(alloc: Global, config: Config) -> Gateway
+        requires { IsServable (setup_of config) }
+        ensures fresh { result ≡ fresh (setup_of config) }
+        ensures stands { Stands result [] [] }
+    {
+        Gateway {
+            alloc,
+            partial: Vec::new(alloc),
+            begun: false,
+            connection: Connection::new(alloc, config),
+            dead: false,
+        }
+    }
+
+    /// Whether an event may come now: never once the client is closed; octets of the client at most 65,536 at a time, and
+    /// while at most 1,073,741,824 octets for it aren't taken; octets of an upstream that is open as far as there is room;
+    /// of octets only those as taken that were put out and aren't yet.
+    pub fn admits(&self, event: &Event) -> bool
+        ensures state { result ≡ is_admitted self.now.kept.state (event_of event.now) }
+        // It is what the log tells that the gateway stands for.
+        ensures log { (log : List Step) (tape : List Entry) → Stands self.now log tape → result ≡ is_admitted_by_tape tape (event_of event.now) }
+    {
+        self.connection.is_admitted(event)
+    }
+
+    /// How many octets of an upstream may come in one event: 65,536 where its connection is open, else none.
+    pub fn room(&self, k: u32) -> usize
+        ensures { (log : List Step) (tape : List Entry) → Stands self.now log tape → result ≡ room k tape }
+    {
+        if self.connection.is_up(k) { 65536 } else { 0 }
+    }
+
+    /// Takes an event that may come, and puts out at the end of `out` all that it causes. A refused step puts out nothing,
+    /// and after a refusal for want of memory every step answers `Closed`.
+    pub fn step(&mut self, event: &Event, out: &mut Vec<Output>) -> Result<(), Fault>
+        requires { is_admitted self.old.kept.state (event_of event.now) ≡ true }
+        // Where the gateway stands for a log and a tape of it, it then stands for both with this step at their ends.
+        ensures stands { OnOk result ((outputs : List Put) × (outputs_of out.new.items ≡ outputs_of out.old.items ++ outputs)
+            × ((log : List Step) (tape : List Entry) → Stands self.old log tape → StandsNext self.new log tape (event_of event.now) outputs)) }
+        ensures nothing { OnErr result (out.new.items ≡ out.old.items) }
+        ensures alive { OnOk result (self.new.dead ≡ false) }
+        ensures dead { OnErr result (self.new.dead ≡ true) }
+        ensures closed { IsErrOf result Fault.Closed ↔ (self.old.dead ≡ true) }
+        ensures held { held self.new ≤ held_bound self.new.kept.state.setup }
+    {
+        if self.dead {
+            return Err(Fault::Closed);
+        }
+        match self.try_step(event, out) {
+            Ok(()) => Ok(()),
+            Err(_) => {
+                self.dead = true;
+                Err(Fault::Memory)
+            }
+        }
+    }
+
     /// Takes the frames off a text behind the preface, which ends at a place of it, and keeps the rest.
     fn take_behind(
         &mut self,

@@ -1,2 +1,3 @@
 pub mod ScriptsLemmas
 pub mod LinesLemmas
+pub mod MeaningLemmas

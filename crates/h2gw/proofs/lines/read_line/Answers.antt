@@ -1,4 +1,4 @@
-use Rattle.std.proofs.Common.{arith, rules, ◌≡◌, ◌∷◌, ◌-◌, take, drop, length}
+use Rattle.std.proofs.Common.{rules, ◌≡◌, ◌∷◌, ◌-◌, take, drop, length}
 use Rattle.h2gw.proofs.LinesLemmas.{two_octets, three_octets, up_took_nothing, up_answered}
 use Rattle.h2gw.proofs.lines.read_line.Goals.{then-line-lt3+in-85+in-32-1, else-line-lt3+in-85+in-32-1}
 use Rattle.h2gw.proofs.lines.read_line.Goals as goal

@@ -13,7 +13,7 @@ log_after before (event ∷ events) (outputs ∷ more) = log_after (record { eve
 abbrev pub log_of : List Event → List (List Output) → List Step
 log_of events outputs = log_after [] events outputs
 
-abbrev pub Faithful : List Step → Type 0
+unfoldable pub Faithful : List Step → Type 0
 Faithful log = Unit {0}
 
 -- the fault is at one of so many events

@@ -54,8 +54,14 @@ pub fn run(alloc: Global, config: &Config, events: &[Event]) -> Result<Vec<Vec<O
     requires max_response { config.now.max_response ≤ 1073741824 }
     ensures place { IfErr result (λ fault. StopsWithin (length events.now) fault) }
     ensures ok { IfOk result (λ outputs. Faithful (log_of (map event_of events.now) (map (λ step. outputs_of step.items) outputs.items))) }
+    ensures each { IfOk result (λ outputs. length outputs.items ≡ length events.now) }
 {
-    let _ = events;
     let _ = config;
-    Ok(Vec::new(alloc))
+    let mut steps = Vec::new(alloc);
+    for place in 0..events.len() {
+        if steps.push(Vec::new(alloc)).is_err() {
+            return Err(RunFault::Memory(place));
+        }
+    }
+    Ok(steps)
 }

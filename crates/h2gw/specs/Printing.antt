@@ -1,5 +1,5 @@
 -- What a replay prints.
-use Rattle.std.specs.Prelude.{◌⊎◌, ℕ, ◌≤◌, List, ◌++◌, length, codes, decimal}
+use Rattle.std.specs.Prelude.{◌≡◌, ◌⊎◌, ℕ, ◌≤◌, List, ◌++◌, length, codes, decimal}
 use Rattle.std.specs.List.{flat_map}
 use Rattle.hex.specs.Hex.{encode_lower}
 use Rattle.model.specs.Logs.{Event, Output}
@@ -23,10 +23,12 @@ lines_of_step outputs = flat_map line_of outputs
 abbrev pub text_of : List (List Output) → List ℕ
 text_of outputs = flat_map lines_of_step outputs
 
--- The script was run: its lines say events, and with these outputs they are a faithful log, of which the lines were written.
+-- The script was run: its lines say events, each event has its outputs, together they are a faithful log, and the outputs
+-- were written, one line each.
 abbrev pub IsRun : List ℕ → (List ℕ → Type 0) → Type 0
 IsRun script IsWritten =
-    (events : List Event) × (outputs : List (List Output)) × AllSay (lines_of script) events × Faithful (log_of events outputs) × IsWritten (text_of outputs)
+    (events : List Event) × (outputs : List (List Output)) × AllSay (lines_of script) events × (length outputs ≡ length events)
+    × Faithful (log_of events outputs) × IsWritten (text_of outputs)
 
 -- what is said of a line, by its place from 1
 abbrev pub message : ℕ → List ℕ → List ℕ

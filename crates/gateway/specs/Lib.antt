@@ -1,3 +1,15 @@
 pub mod Views
-pub mod Stub
+pub mod Setups
+pub mod Moves
+pub mod State
+pub mod Closing
+pub mod Connections
+pub mod Policy
+pub mod Receiving
+pub mod Stands
 pub use Rattle.model.specs.Logs
+pub use Rattle.model.specs.Setup
+pub use Rattle.model.specs.Frames
+pub use Rattle.model.specs.Tapes
+pub use Rattle.model.specs.Faithful
+pub use Rattle.model.specs.Messages

@@ -1,8 +1,14 @@
 //! The gateway: octets of a client and of upstreams in, octets for both out.
 #![tactic(auto)]
 
+mod config;
+mod connection;
 mod events;
-mod stub;
+mod gateway;
+mod outputs;
+mod preface;
+mod requests;
+mod upstream;
 
+pub use config::{Config, Passing, Policy, Route};
 pub use events::{Event, Output};
-pub use stub::{Config, Passing, Policy, Route, RunFault, run};

@@ -18,18 +18,21 @@ pub data Event : Type 0 where
   -- an upstream's side took so many of the octets that were put out for it
   UpTook : (k : ℕ) → (count : ℕ) → Event
 
--- What is put out.
-pub data Output : Type 0 where
-  -- octets for the client
-  ToClient : (octets : List ℕ) → Output
+-- What is done beside sending to the client.
+pub data Act : Type 0 where
   -- a connection to the upstream of a route, which goes by its place from 0
-  Open : (k : ℕ) → (route : ℕ) → Output
+  Open : (k : ℕ) → (route : ℕ) → Act
   -- octets for an upstream
-  ToUp : (k : ℕ) → (octets : List ℕ) → Output
+  ToUp : (k : ℕ) → (octets : List ℕ) → Act
   -- an upstream's connection is closed
-  Close : (k : ℕ) → Output
+  Close : (k : ℕ) → Act
   -- the client's connection is closed
-  CloseClient : Output
+  CloseClient : Act
+
+-- What is put out: octets for the client, or an act.
+pub data Output : Type 0 where
+  ToClient : (octets : List ℕ) → Output
+  Does : (act : Act) → Output
 
 -- One step: an event, and all that it causes.
 pub record Step : Type 0 where

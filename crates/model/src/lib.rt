@@ -3,3 +3,6 @@
 #![tactic(auto)]
 
 pub mod frame_laws;
+pub mod hpack;
+pub mod http1;
+pub mod http2;

@@ -1,0 +1,170 @@
+-- What the gateway's methods do, as moves.
+use Rattle.std.proofs.Common.{◌≡◌, ℕ, suc, ◌+◌, ◌<◌, ◌≤◌, ◌==◌, true, false, Bool, not, ◌&&◌, ◌||◌, List, [], ◌∷◌, ◌++◌, length, map, refl, sym, ◌∙◌, ap, subst, if◌then◌else◌, arith, ◌/◌, ◌%◌, inl, inr, Ok, Err, OnOk, Result}
+use Rattle.std.proofs.lemmas.Bool.Decides.{eqb_tells}
+use Rattle.std.specs.Prelude.{Option, None, Some}
+use Rattle.std.proofs.Math.Seq.{get_or-append_seam, set-append_seam}
+use Rattle.std.proofs.lemmas.List.{append-nil}
+use Rattle.model.specs.Messages.{Field, Request, Item}
+use Rattle.model.specs.Messages.Item.{Block, Content}
+use Rattle.model.specs.Tables.{Table}
+use Rattle.model.specs.Blocks as blocks
+use Rattle.model.specs.Frames.{Frame, spell, settings_frame, settings_ack, goaway, settings_kind, headers_kind, is_ack, content, ends_headers, ends_stream, has_flag}
+use Rattle.model.specs.Logs.{Output, Event}
+use Rattle.model.specs.Logs.Event.{ClientEnd, ClientTook, Up, UpEnd, UpFailed, UpTook}
+use Rattle.model.specs.Logs.Act.{Open, ToUp, Close, CloseClient}
+use Rattle.model.specs.Logs.Output.{ToClient, Does}
+use Rattle.model.specs.Setup.{IsFirstMatch}
+use Rattle.model.specs.Tapes.{put, Note, Noted, Breach}
+use Rattle.model.specs.Tapes.Note.{NoBlock, Fields, Unread}
+use Rattle.model.specs.Decoding.{Partial, joined, completed, begun, IsNoteOf, is_read}
+use Rattle.model.specs.Streams.{frame_items}
+use Rattle.gateway.specs.declared.upstream.Upstream.{Upstream}
+use Rattle.gateway.specs.Closing.{put_closes}
+use Rattle.gateway.specs.Connections.{IsTaken, greeted, settled, served, ended, left, put_end, put_farewell}
+use Rattle.gateway.specs.Moves.{Move, Input, inputs, after_all, put_move}
+use Rattle.gateway.specs.Moves.Input.{OfFrame, OfBreach, OfEvent}
+use Rattle.gateway.specs.Moves.Move.{Takes, Breaks, Hears, Sends, Acts}
+use Rattle.gateway.specs.Moves.Outcome.{Settled, Served, Stopped}
+use Rattle.gateway.specs.State.{State, after, closed_up, nobody, upstream_at, with_upstream, sent_more, taken}
+use Rattle.gateway.specs.Policy.{Due, Point, idle, point_after, Allowed, AllAllowed, Leads, Answers, closes, farewell, IsUp, IsNoted, MaySettle, MayServe, is_in_order, is_admitted, answer_event, breach_code}
+use Rattle.gateway.specs.Policy.Due.{ToSend, ToDo}
+use Rattle.gateway.proofs.Admitting.{is_up}
+use Rattle.gateway.proofs.Leading.{leads_one, leads_then, inputs-append, Pays, pays_then, pays_closes, with}
+
+-- an input, and then what is owed for it
+pub answers_from : (s s' : State) (o o' : List Output) (m : Move) (came : List Input) → Allowed (idle s) m → inputs (m ∷ []) ≡ came → put_move o m ≡ o → Pays (point_after (idle s) m) (idle s') o o' → Answers s s' o o' came
+answers_from s s' o o' m came may is quiet pays =
+    let first : Leads (idle s) (point_after (idle s) m) o o (m ∷ []) = subst (λ x. Leads (idle s) (point_after (idle s) m) o x (m ∷ [])) quiet (leads_one (idle s) o m may) in
+    record {
+      segment = pays.segment ++ m ∷ [];
+      leads = leads_then first pays.leads;
+      came_in = inputs-append pays.segment (m ∷ []) ∙ ap (λ x. x ++ inputs (m ∷ [])) pays.nothing_in ∙ is;
+    }
+
+-- one debt is paid by one move
+pub pays_by : (s : State) (d : Due) (ds : List Due) (m : Move) (o : List Output) → Allowed (record { state = s; owes = d ∷ ds }) m → inputs (m ∷ []) ≡ [] → Pays (record { state = s; owes = d ∷ ds }) (point_after (record { state = s; owes = d ∷ ds }) m) o (put_move o m)
+pays_by s d ds m o may none = record { segment = m ∷ []; leads = leads_one (record { state = s; owes = d ∷ ds }) o m may; nothing_in = none }
+
+-- ---- the ends
+
+abbrev shut : State → State
+shut s = record s { closed = true }
+
+pays_end : (s : State) (o : List Output) → Pays (record { state = shut s; owes = closes s }) (idle (ended s)) o (put_end o s)
+pays_end s o = pays_closes (shut s) [] s.upstreams o
+
+pub pays_farewell : (s : State) (code : ℕ) (o : List Output) → Pays (record { state = shut s; owes = farewell s code }) (idle (left s code)) o (put_farewell o s code)
+pays_farewell s code o =
+    pays_then (pays_by (shut s) (ToSend (goaway s.high code)) (closes s) (Sends (goaway s.high code)) o (record { turn = refl; holds = refl }) refl)
+    (pays_end (record s { greeted = true; untaken = s.untaken + length (spell (goaway s.high code)) }) (put o (ToClient (spell (goaway s.high code)))))
+
+-- the note of a frame whose block isn't read
+abbrev note_for : Option Partial → Note
+note_for None = NoBlock
+note_for (Some block) = Unread
+
+abbrev unread : Frame → Noted
+unread frame = record { frame = frame; note = note_for (completed [] frame) }
+
+unread_noted : (frame : Frame) → IsNoted (unread frame)
+unread_noted frame table = (table, elim (completed [] frame) as (λ (b : Option Partial). IsNoteOf b table (note_for b) table) [ None ↦ (refl, refl) | Some block ↦ refl ])
+
+-- a frame ends the connection
+pub answers_stopped : (s s' : State) (o o' : List Output) (frame : Frame) (code : ℕ) → s.closed ≡ false → s' ≡ left s code → o' ≡ put_farewell o s code → Answers s s' o o' (OfFrame frame ∷ [])
+answers_stopped s s' o o' frame code on es eo =
+    subst (λ x. Answers s x o o' (OfFrame frame ∷ [])) (sym es)
+    (subst (λ x. Answers s (left s code) o x (OfFrame frame ∷ [])) (sym eo)
+    (answers_from s (left s code) o (put_farewell o s code) (Takes (unread frame) (Stopped code)) (OfFrame frame ∷ []) (record { turn = record { open_yet = on; nothing = refl }; holds = (unread_noted frame, tt) }) refl refl (pays_farewell s code o)))
+
+-- the client's octets end in a breach
+pub answers_breach : (s s' : State) (o o' : List Output) (breach : Breach) → s.closed ≡ false → s' ≡ left s (breach_code breach) → o' ≡ put_farewell o s (breach_code breach) → Answers s s' o o' (OfBreach breach ∷ [])
+answers_breach s s' o o' breach on es eo =
+    subst (λ x. Answers s x o o' (OfBreach breach ∷ [])) (sym es)
+    (subst (λ x. Answers s (left s (breach_code breach)) o x (OfBreach breach ∷ [])) (sym eo)
+    (answers_from s (left s (breach_code breach)) o (put_farewell o s (breach_code breach)) (Breaks breach) (OfBreach breach ∷ []) (record { turn = record { open_yet = on; nothing = refl }; holds = tt }) refl refl (pays_farewell s (breach_code breach) o)))
+
+-- ---- the client's settings
+
+pub answers_settled : (s s' : State) (o o' : List Output) (frame : Frame) → s.closed ≡ false → s.settled ≡ false → frame.kind ≡ settings_kind → is_ack frame ≡ false → s' ≡ settled s → o' ≡ put o (ToClient (spell settings_ack)) → Answers s s' o o' (OfFrame frame ∷ [])
+answers_settled s s' o o' frame on first kind no_ack es eo =
+    let noted : Noted = record { frame = frame; note = NoBlock } in
+    let no_end : ends_headers frame ≡ false = ap (λ k. (k == headers_kind || k == 9) && has_flag 4 frame) kind in
+    let none : completed [] frame ≡ None = ap (λ b. if b then joined None frame else None) no_end in
+    let no_begin : joined None frame ≡ None = ap (λ k. if k == headers_kind then Some (record { id = frame.id; ends = ends_stream frame; fragments = content frame }) else None) kind in
+    let may : MaySettle s noted = record {
+      first = first;
+      kind = kind;
+      no_ack = no_ack;
+      read = refl;
+      no_block = ap (λ b. if b then None else joined None frame) no_end ∙ no_begin;
+      no_item = ap (λ b. frame_items b noted) none ∙ ap (λ k. if k == 0 then Content (content frame) (ends_stream frame) ∷ [] else []) kind;
+    } in
+    let note : IsNoted noted = λ table. (table, subst (λ b. IsNoteOf b table NoBlock table) (sym none) (refl, refl)) in
+    subst (λ x. Answers s x o o' (OfFrame frame ∷ [])) (sym es)
+    (subst (λ x. Answers s (settled s) o x (OfFrame frame ∷ [])) (sym eo)
+    (answers_from s (settled s) o (put o (ToClient (spell settings_ack))) (Takes noted Settled) (OfFrame frame ∷ []) (record { turn = record { open_yet = on; nothing = refl }; holds = (note, may) }) refl refl
+    (pays_by (record s { settled = true }) (ToSend settings_ack) [] (Sends settings_ack) o (record { turn = refl; holds = refl }) refl)))
+
+-- ---- events
+
+hears : (s s' : State) (o o' : List Output) (event : Event) → s.closed ≡ false → is_in_order s event ≡ true → Pays (point_after (idle s) (Hears event)) (idle s') o o' → Answers s s' o o' (OfEvent event ∷ [])
+hears s s' o o' event on order pays = answers_from s s' o o' (Hears event) (OfEvent event ∷ []) (record { turn = record { open_yet = on; nothing = refl }; holds = order }) refl refl pays
+
+owes_nothing : (s : State) (o : List Output) → Pays (idle s) (idle s) o o
+owes_nothing s o = record { segment = []; leads = record { point = refl; outputs = refl; allowed = tt }; nothing_in = refl }
+
+pub answers_end : (s s' : State) (o o' : List Output) → s.closed ≡ false → s' ≡ ended s → o' ≡ put_end o s → Answers s s' o o' (OfEvent ClientEnd ∷ [])
+answers_end s s' o o' on es eo =
+    subst (λ x. Answers s x o o' (OfEvent ClientEnd ∷ [])) (sym es)
+    (subst (λ x. Answers s (ended s) o x (OfEvent ClientEnd ∷ [])) (sym eo)
+    (hears s (ended s) o (put_end o s) ClientEnd on refl (pays_end s o)))
+
+pub answers_quiet : (s s' : State) (o o' : List Output) (event : Event) → s.closed ≡ false → is_in_order s event ≡ true → answer_event s event ≡ [] → s' ≡ after s (Hears event) → o' ≡ o → Answers s s' o o' (OfEvent event ∷ [])
+answers_quiet s s' o o' event on order none es eo =
+    subst (λ x. Answers s x o o' (OfEvent event ∷ [])) (sym es)
+    (subst (λ x. Answers s (after s (Hears event)) o x (OfEvent event ∷ [])) (sym eo)
+    (hears s (after s (Hears event)) o o event on order (subst (λ ds. Pays (record { state = after s (Hears event); owes = ds }) (idle (after s (Hears event))) o o) (sym none) (owes_nothing (after s (Hears event)) o))))
+
+pub answers_up_end : (s s' : State) (o o' : List Output) (k : ℕ) → s.closed ≡ false → is_in_order s (UpEnd k) ≡ true → IsUp s k → s' ≡ after s (Acts (Close k)) → o' ≡ put o (Does (Close k)) → Answers s s' o o' (OfEvent (UpEnd k) ∷ [])
+answers_up_end s s' o o' k on order up es eo =
+    subst (λ x. Answers s x o o' (OfEvent (UpEnd k) ∷ [])) (sym es)
+    (subst (λ x. Answers s (after s (Acts (Close k))) o x (OfEvent (UpEnd k) ∷ [])) (sym eo)
+    (hears s (after s (Acts (Close k))) o (put o (Does (Close k))) (UpEnd k) on order
+    (pays_by s (ToDo (Close k)) [] (Acts (Close k)) o (record { turn = refl; holds = up }) refl)))
+
+-- ---- a request
+
+pub serves_upstreams : (us : List Upstream) (count : ℕ) → with_upstream (us ++ record { is_open = true; untaken = 0 } ∷ []) (suc (length us)) (sent_more count (upstream_at (us ++ record { is_open = true; untaken = 0 } ∷ []) (suc (length us)))) ≡ us ++ record { is_open = true; untaken = count } ∷ []
+serves_upstreams us count =
+    let new : Upstream = record { is_open = true; untaken = 0 } in
+    ap (λ u. with_upstream (us ++ new ∷ []) (suc (length us)) (sent_more count u)) (get_or-append_seam us new [] nobody)
+    ∙ set-append_seam us new [] (record { is_open = true; untaken = 0 + count })
+    ∙ ap (λ (n : ℕ). us ++ (let r : Upstream = record { is_open = true; untaken = n } in r) ∷ []) (omega arith)
+
+-- ---- from what methods ensure
+
+pub ok_both : {A E X Y Z : Type 0} (r : Result A E) → OnOk r X → OnOk r Y → (X → Y → Z) → OnOk r Z
+ok_both (Ok a) x y f = f x y
+ok_both (Err e) x y f = tt
+
+pub no_ack : (frame : Frame) → (frame.flags % 2 ≡ 1 → ⊥) → is_ack frame ≡ false
+no_ack frame odd =
+    elim (eqb_tells ((frame.flags / 1) % 2) 1) [
+      | inl x ↦ absurd (odd (let e = x.1 in omega arith))
+      | inr x ↦ ap (λ b. (frame.kind == settings_kind || frame.kind == 6) && b) x.0 ∙ and_false (frame.kind == settings_kind || frame.kind == 6)
+    ]
+  where
+    and_false : (b : Bool) → (b && false) ≡ false
+    and_false true = refl
+    and_false false = refl
+
+-- what an event that may come tells
+pub may_come : (s : State) (event : Event) → is_admitted s event ≡ true → (s.closed ≡ false) × (is_in_order s event ≡ true)
+may_come s event e = parts s.closed (is_in_order s event) e
+  where
+    parts : (a b : Bool) → (not a && b) ≡ true → (a ≡ false) × (b ≡ true)
+    parts true b e = absurd (let f : false ≡ true = e in cc)
+    parts false b e = (refl, e)
+
+pub up_of : (s : State) (k : ℕ) → is_in_order s (UpEnd k) ≡ true → IsUp s k
+up_of s k e = let r = is_up s.upstreams k e in record { counted = r.0; within = r.1 }

@@ -1,0 +1,207 @@
+-- Concern: which upstream connection is given to which stream, and what it is sent.
+use Rattle.std.proofs.Common.{◌≡◌, ℕ, suc, ◌+◌, ◌<◌, ◌≤◌, true, false, Bool, ◌==◌, ◌&&◌, ◌||◌, List, [], ◌∷◌, ◌++◌, length, refl, sym, ◌∙◌, ap, subst, append_assoc, append-nil, arith, length-append, if◌then◌else◌, ◌⊎◌, inl, inr}
+use Rattle.std.specs.Prelude.{cond, Option, None, Some}
+use Rattle.std.proofs.lemmas.Bool.Decides.{nat_tests, eqb_tells}
+use Rattle.model.specs.Messages.{Field, Item, Request}
+use Rattle.model.specs.Messages.Item.{Block}
+use Rattle.model.specs.Tables.{Table}
+use Rattle.model.specs.Frames.{headers_kind, rst_stream_kind}
+use Rattle.model.specs.Http1.{H1Request, forward}
+use Rattle.model.specs.Http2.{H2Request, authority_of, path_of}
+use Rattle.model.specs.Setup.{Setup, IsFirstMatch}
+use Rattle.model.specs.Logs.{Act, Event}
+use Rattle.model.specs.Logs.Act.{Open, ToUp, Close, CloseClient}
+use Rattle.model.specs.Tapes.{Noted, Note, Entry, came, sent_up}
+use Rattle.model.specs.Tapes.Entry.{Came, Breached, Happened, Sent, Did}
+use Rattle.model.specs.Decoding.{begun, completed, Decodes, are_read, is_read, IsNoteOf}
+use Rattle.model.specs.Errors.{row_first_frame, fault, row_start, row_too_long, first_of}
+use Rattle.model.specs.Streams.{Story, story, interrupts, items_of, is_ended_by, is_reset, frame_items, add_items}
+use Rattle.model.specs.Requests.{Opened, last_stream, opens, AreNumbered, IsGivenNone, AreApart}
+use Rattle.gateway.specs.Moves.{Move, Outcome, entry_of}
+use Rattle.gateway.specs.Moves.Move.{Takes, Breaks, Hears, Sends, Acts}
+use Rattle.gateway.specs.Moves.Outcome.{Settled, Served, Stopped}
+use Rattle.gateway.specs.State.{State, after, with_upstream}
+use Rattle.gateway.specs.Policy.{Due, Point, point_after, Allowed, IsQuiet, MayServe, MaySettle, rest_of, IsNoted}
+use Rattle.gateway.specs.Policy.Due.{ToSend, ToDo}
+use Rattle.gateway.proofs.Stories.{untold, story_over, story_same, story_first, story_happened, story_did}
+use Rattle.gateway.proofs.Owed.{to_open, owed_up, all_opens, all_text, sent_owed, closes_open, closes_send}
+
+-- A connection is given to a stream whose items are a request; what was sent and is owed is its text.
+pub record Serving (setup : Setup) (t : List Entry) (ds : List Due) (o : Opened) : Type 0 where
+  pub fields : List Field
+  pub request : Request
+  pub told : story o.stream t ≡ record { items = Block fields true ∷ []; over = true }
+  pub means : H2Request (Block fields true ∷ []) request
+  pub by_route : IsFirstMatch setup.routes (authority_of fields) (path_of fields) o.route
+  pub reads : H1Request (all_text o.k t ds) (forward request)
+
+abbrev pub AllServing : Setup → List Entry → List Due → List Opened → Type 0
+AllServing setup t ds [] = Unit {0}
+AllServing setup t ds (o ∷ os) = Serving setup t ds o × AllServing setup t ds os
+
+abbrev pub AreLow : ℕ → List Opened → Type 0
+AreLow high [] = Unit {0}
+AreLow high (o ∷ os) = (o.stream ≤ high) × AreLow high os
+
+pub record Giving (t : List Entry) (s : State) (ds : List Due) : Type 0 where
+  pub numbered : AreNumbered (all_opens t ds)
+  pub apart : AreApart (all_opens t ds)
+  pub serving : AllServing s.setup t ds (all_opens t ds)
+  pub low : AreLow s.high (all_opens t ds)
+  pub count : length s.upstreams ≡ length (opens t)
+  pub unsent : (k : ℕ) → length s.upstreams < k → sent_up k t ≡ []
+  pub fresh : s.closed ≡ false → (stream : ℕ) → s.high < stream → story stream t ≡ untold
+  pub no_block : s.closed ≡ false → begun (came t) ≡ None
+  pub all_read : s.closed ≡ false → are_read (came t) ≡ true
+  pub settled : s.settled ≡ true → (frame : _) → row_first_frame (came t) frame ≡ None
+  pub decodes : (table : Table) × Decodes (came t) table
+
+pub giving_none : (setup : Setup) (ds : List Due) → to_open 0 ds ≡ [] → (s : State) → s.setup ≡ setup → s.upstreams ≡ [] → s.settled ≡ false → Giving [] s ds
+giving_none setup ds none s es us fs = record {
+  numbered = subst AreNumbered (sym (at_first none)) tt;
+  apart = subst AreApart (sym (at_first none)) tt;
+  serving = subst (AllServing s.setup [] ds) (sym (at_first none)) tt;
+  low = subst (AreLow s.high) (sym (at_first none)) tt;
+  count = ap length us;
+  unsent = λ k lt. refl;
+  fresh = λ o stream lt. refl;
+  no_block = λ o. refl;
+  all_read = λ o. refl;
+  settled = λ e. absurd (let f : true ≡ false = sym e ∙ fs in cc);
+  decodes = (_, refl);
+}
+  where
+    at_first : to_open 0 ds ≡ [] → all_opens [] ds ≡ []
+    at_first e = ap (λ x. x ++ []) e
+
+-- ---- moves that give nothing new
+
+-- the same connections, with the same octets, of streams whose items stay
+pub serving_same : (setup : Setup) (t : List Entry) (e : Entry) (ds ds' : List Due) (n : ℕ) → ((k : ℕ) → k ≤ n → all_text k (e ∷ t) ds' ≡ all_text k t ds) → (os : List Opened) → AreNumbered os → length os ≤ n → AllServing setup t ds os → AllServing setup (e ∷ t) ds' os
+serving_same setup t e ds ds' n texts [] num le h = tt
+serving_same setup t e ds ds' n texts (o ∷ os) num le h =
+    let small : o.k ≤ n = let at = num.0 in omega (arith, at, le) in (
+      record {
+        fields = h.0.fields;
+        request = h.0.request;
+        told = story_over o.stream t e (ap (λ (s : Story). s.over) h.0.told) ∙ h.0.told;
+        means = h.0.means;
+        by_route = h.0.by_route;
+        reads = subst (λ text. H1Request text (forward h.0.request)) (sym (texts o.k small)) h.0.reads;
+      },
+      serving_same setup t e ds ds' n texts os num.1 (omega (arith, le)) h.1,
+    )
+
+pub quiet : (t : List Entry) (s : State) (ds : List Due) → Giving t s ds → ds ≡ [] → Giving t s []
+quiet t s ds h e = subst (Giving t s) e h
+
+-- The entry leaves all stories, connections and frames as they are; what is owed for upstreams stays too.
+pub record Passes (t : List Entry) (e : Entry) (ds ds' : List Due) : Type 0 where
+  pub stories : (stream : ℕ) → story stream (e ∷ t) ≡ story stream t
+  pub same_opens : all_opens (e ∷ t) ds' ≡ all_opens t ds
+  pub same_text : (k : ℕ) → all_text k (e ∷ t) ds' ≡ all_text k t ds
+  pub same_count : length (opens (e ∷ t)) ≡ length (opens t)
+  pub same_sent : (k : ℕ) → sent_up k (e ∷ t) ≡ sent_up k t
+  pub same_came : came (e ∷ t) ≡ came t
+
+pub giving_passes : (t : List Entry) (e : Entry) (s s' : State) (ds ds' : List Due) → Giving t s ds → Passes t e ds ds' → s'.setup ≡ s.setup → length s'.upstreams ≡ length s.upstreams → s'.high ≡ s.high → s'.settled ≡ s.settled → (s'.closed ≡ false → s.closed ≡ false)
+    → Giving (e ∷ t) s' ds'
+giving_passes t e s s' ds ds' h p es eu eh ef ec = record {
+  numbered = subst AreNumbered (sym p.same_opens) h.numbered;
+  apart = subst AreApart (sym p.same_opens) h.apart;
+  serving = subst (AllServing s'.setup (e ∷ t) ds') (sym p.same_opens) (subst (λ x. AllServing x (e ∷ t) ds' (all_opens t ds)) (sym es) (serving_same s.setup t e ds ds' (length (all_opens t ds)) (λ k le. p.same_text k) (all_opens t ds) h.numbered (omega arith) h.serving));
+  low = subst (AreLow s'.high) (sym p.same_opens) (subst (λ x. AreLow x (all_opens t ds)) (sym eh) h.low);
+  count = eu ∙ h.count ∙ sym p.same_count;
+  unsent = λ k lt. p.same_sent k ∙ h.unsent k (subst (λ n. n < k) eu lt);
+  fresh = λ o stream lt. p.stories stream ∙ h.fresh (ec o) stream (subst (λ n. n < stream) eh lt);
+  no_block = λ o. ap begun p.same_came ∙ h.no_block (ec o);
+  all_read = λ o. ap are_read p.same_came ∙ h.all_read (ec o);
+  settled = λ f frame. ap (λ x. row_first_frame x frame) p.same_came ∙ h.settled (sym ef ∙ f) frame;
+  decodes = (h.decodes.0, subst (λ x. Decodes x h.decodes.0) (sym p.same_came) h.decodes.1);
+}
+
+-- an event, which asks for nothing upstream but an end
+pub passes_event : (t : List Entry) (event : Event) (ds' : List Due) → ((stream : ℕ) → to_open stream ds' ≡ []) → ((k : ℕ) → owed_up k ds' ≡ []) → Passes t (Happened event) [] ds'
+passes_event t event ds' none silent = record {
+  stories = λ stream. story_happened stream t event;
+  same_opens = ap (λ x. x ++ opens t) (none (last_stream t));
+  same_text = λ k. ap (λ x. sent_up k t ++ x) (silent k);
+  same_count = refl;
+  same_sent = λ k. refl;
+  same_came = refl;
+}
+
+pub passes_sent : (t : List Entry) (noted : Noted) (frame_is : (noted.frame.kind == rst_stream_kind) ≡ false) (ds : List Due) → Passes t (Sent noted) (ToSend noted.frame ∷ ds) ds
+passes_sent t noted frame_is ds = record {
+  stories = λ stream. story_same stream t (Sent noted) (ap (λ b. b && noted.frame.id == stream) frame_is) refl;
+  same_opens = refl;
+  same_text = λ k. refl;
+  same_count = refl;
+  same_sent = λ k. refl;
+  same_came = refl;
+}
+
+pub passes_close : (t : List Entry) (k : ℕ) (ds : List Due) → Passes t (Did (Close k)) (ToDo (Close k) ∷ ds) ds
+passes_close t k ds = record {
+  stories = λ stream. story_did stream t (Close k);
+  same_opens = refl;
+  same_text = λ j. refl;
+  same_count = refl;
+  same_sent = λ j. refl;
+  same_came = refl;
+}
+
+pub passes_end : (t : List Entry) (ds : List Due) → Passes t (Did CloseClient) (ToDo CloseClient ∷ ds) ds
+passes_end t ds = record {
+  stories = λ stream. story_did stream t CloseClient;
+  same_opens = refl;
+  same_text = λ k. refl;
+  same_count = refl;
+  same_sent = λ k. refl;
+  same_came = refl;
+}
+
+-- ---- moves that open and send
+
+pub giving_opened : (t : List Entry) (s s' : State) (k route : ℕ) (ds : List Due) → Giving t s (ToDo (Open k route) ∷ ds) → k ≡ suc (length s.upstreams) → s'.setup ≡ s.setup → length s'.upstreams ≡ suc (length s.upstreams) → s'.high ≡ s.high → s'.settled ≡ s.settled → s'.closed ≡ s.closed
+    → Giving (Did (Open k route) ∷ t) s' ds
+giving_opened t s s' k route ds h at es eu eh ef ec =
+    let e = Did (Open k route) in
+    let due : List Due = ToDo (Open k route) ∷ ds in
+    let o : Opened = record { k = k; route = route; stream = last_stream t } in
+    let same : all_opens (e ∷ t) ds ≡ all_opens t due = sym (append_assoc (to_open (last_stream t) ds) (o ∷ []) (opens t)) in record {
+      numbered = subst AreNumbered (sym same) h.numbered;
+      apart = subst AreApart (sym same) h.apart;
+      serving = subst (AllServing s'.setup (e ∷ t) ds) (sym same) (subst (λ x. AllServing x (e ∷ t) ds (all_opens t due)) (sym es) (serving_same s.setup t e due ds (length (all_opens t due)) (λ j le. refl) (all_opens t due) h.numbered (omega arith) h.serving));
+      low = subst (AreLow s'.high) (sym same) (subst (λ x. AreLow x (all_opens t due)) (sym eh) h.low);
+      count = eu ∙ ap suc h.count;
+      unsent = λ j lt. h.unsent j (omega (arith, lt, eu));
+      fresh = λ q stream lt. story_did stream t (Open k route) ∙ h.fresh (sym ec ∙ q) stream (subst (λ n. n < stream) eh lt);
+      no_block = λ q. h.no_block (sym ec ∙ q);
+      all_read = λ q. h.all_read (sym ec ∙ q);
+      settled = λ f frame. h.settled (sym ef ∙ f) frame;
+      decodes = h.decodes;
+    }
+
+pub giving_sent : (t : List Entry) (s s' : State) (j : ℕ) (octets : List ℕ) (ds : List Due) → Giving t s (ToDo (ToUp j octets) ∷ ds) → j ≤ length s.upstreams → s'.setup ≡ s.setup → length s'.upstreams ≡ length s.upstreams → s'.high ≡ s.high → s'.settled ≡ s.settled → s'.closed ≡ s.closed
+    → Giving (Did (ToUp j octets) ∷ t) s' ds
+giving_sent t s s' j octets ds h within es eu eh ef ec =
+    let e = Did (ToUp j octets) in
+    let due : List Due = ToDo (ToUp j octets) ∷ ds in record {
+      numbered = h.numbered;
+      apart = h.apart;
+      serving = subst (λ x. AllServing x (e ∷ t) ds (all_opens t due)) (sym es) (serving_same s.setup t e due ds (length (all_opens t due)) (λ k le. sent_owed k j octets (sent_up k t) ds) (all_opens t due) h.numbered (omega arith) h.serving);
+      low = subst (λ x. AreLow x (all_opens t due)) (sym eh) h.low;
+      count = eu ∙ h.count;
+      unsent = λ k lt.
+          let more : length s.upstreams < k = subst (λ n. n < k) eu lt in
+          elim (eqb_tells k j) [
+            | inl x ↦ absurd (let same = x.1 in omega (arith, same, more, within))
+            | inr x ↦ ap (λ b. if b then sent_up k t ++ octets else sent_up k t) x.0 ∙ h.unsent k more
+          ];
+      fresh = λ q stream lt. story_did stream t (ToUp j octets) ∙ h.fresh (sym ec ∙ q) stream (subst (λ n. n < stream) eh lt);
+      no_block = λ q. h.no_block (sym ec ∙ q);
+      all_read = λ q. h.all_read (sym ec ∙ q);
+      settled = λ f frame. h.settled (sym ef ∙ f) frame;
+      decodes = h.decodes;
+    }

@@ -1,0 +1,13 @@
+pub mod Stories
+pub mod Owed
+pub mod Giving
+pub mod Taking
+pub mod Shutting
+pub mod Admitting
+pub mod Standing
+pub mod Closing
+pub mod Leading
+pub mod Answering
+pub mod Serving
+pub mod Receiving
+pub mod Prefaces

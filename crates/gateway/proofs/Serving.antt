@@ -1,0 +1,80 @@
+-- A whole request in one frame, as moves.
+use Rattle.std.proofs.Common.{◌≡◌, ℕ, suc, ◌+◌, ◌-◌, ◌<◌, ◌≤◌, true, false, List, [], ◌∷◌, ◌++◌, length, drop, take, refl, sym, ◌∙◌, ap, subst, arith, length-append, if◌then◌else◌}
+use Rattle.std.specs.Prelude.{Option, None, Some}
+use Rattle.std.proofs.lemmas.List.{take_all}
+use Rattle.model.specs.Messages.{Field}
+use Rattle.model.specs.Messages.Item.{Block}
+use Rattle.model.specs.Tables.{Table}
+use Rattle.model.specs.Blocks as blocks
+use Rattle.model.specs.Frames.{Frame, ends_headers}
+use Rattle.model.specs.Logs.{Output}
+use Rattle.model.specs.Logs.Act.{Open, ToUp}
+use Rattle.model.specs.Logs.Output.{Does}
+use Rattle.model.specs.Tapes.{put, Noted}
+use Rattle.model.specs.Tapes.Note.{Fields}
+use Rattle.model.specs.Decoding.{Partial, joined, completed, begun, IsNoteOf}
+use Rattle.model.specs.Streams.{frame_items}
+use Rattle.gateway.specs.Connections.{IsTaken, IsHead, served}
+use Rattle.gateway.specs.Moves.{Move}
+use Rattle.gateway.specs.Moves.Input.{OfFrame}
+use Rattle.gateway.specs.Moves.Move.{Takes, Acts}
+use Rattle.gateway.specs.Moves.Outcome.{Served}
+use Rattle.gateway.specs.State.{State, after}
+use Rattle.gateway.specs.Policy.{Due, Point, idle, point_after, Answers, IsNoted, MayServe}
+use Rattle.gateway.specs.Policy.Due.{ToDo}
+use Rattle.gateway.proofs.Leading.{Pays, pays_then, with}
+use Rattle.gateway.proofs.Answering.{answers_from, pays_by, serves_upstreams}
+
+whole_block : (frame : Frame) → IsHead frame → completed [] frame ≡ Some (record { id = frame.id; ends = true; fragments = frame.payload })
+whole_block frame head =
+    spelled frame.kind frame.flags frame.id frame.payload head.kind head.flags
+  where
+    spelled : (kind flags id : ℕ) (payload : List ℕ) → kind ≡ 1 → flags ≡ 5 → completed [] (record { kind = kind; flags = flags; id = id; payload = payload }) ≡ Some (record { id = id; ends = true; fragments = payload })
+    spelled kind flags id payload ek ef =
+        ap (λ k. completed [] (record { kind = k; flags = flags; id = id; payload = payload })) ek
+        ∙ ap (λ f. completed [] (record { kind = 1; flags = f; id = id; payload = payload })) ef
+        ∙ ap (λ (xs : List ℕ). Some (let p : Partial = record { id = id; ends = true; fragments = xs } in p)) (take_all (length payload - 0 - 0) payload (omega arith))
+
+no_more : (frame : Frame) (noted : Noted) → noted.frame ≡ frame → IsHead frame → begun (noted ∷ []) ≡ None
+no_more frame noted same head =
+    ap (λ (f : Frame). if ends_headers f then None else joined None f) same
+    ∙ spelled frame.kind frame.flags frame.id frame.payload head.kind head.flags
+  where
+    spelled : (kind flags id : ℕ) (payload : List ℕ) → kind ≡ 1 → flags ≡ 5 → (let f : Frame = record { kind = kind; flags = flags; id = id; payload = payload } in if ends_headers f then None else joined None f) ≡ None
+    spelled kind flags id payload ek ef =
+        ap (λ k. let f : Frame = record { kind = k; flags = flags; id = id; payload = payload } in if ends_headers f then None else joined None f) ek
+        ∙ ap (λ x. let f : Frame = record { kind = 1; flags = x; id = id; payload = payload } in if ends_headers f then None else joined None f) ef
+
+pub answers_served : (s s' : State) (o o' : List Output) (frame : Frame) (route : ℕ) (text : List ℕ) (fields : List Field) → s.closed ≡ false → s.settled ≡ true → s.high < frame.id → IsHead frame
+    → ((table : Table) → (next : Table) × blocks.Block table frame.payload fields next) → IsTaken s.setup.routes fields route text
+    → s' ≡ served s frame.id (length text) → o' ≡ put (put o (Does (Open (suc (length s.upstreams)) route))) (Does (ToUp (suc (length s.upstreams)) text)) → Answers s s' o o' (OfFrame frame ∷ [])
+answers_served s s' o o' frame route text fields on settled above head decodes is_taken es eo =
+    let k : ℕ = suc (length s.upstreams) in
+    let noted : Noted = record { frame = frame; note = Fields fields } in
+    let whole = whole_block frame head in
+    let note : IsNoted noted = λ table. let n = decodes table in (n.0, subst (λ b. IsNoteOf b table (Fields fields) n.0) (sym whole) n.1) in
+    let may : MayServe s noted route text is_taken.request = record {
+      settled = settled;
+      above = above;
+      kind = head.kind;
+      no_block = no_more frame noted refl head;
+      fields = fields;
+      note = refl;
+      item = ap (λ b. frame_items b noted) whole;
+      means = is_taken.means;
+      by_route = is_taken.by_route;
+      reads = is_taken.reads;
+    } in
+    let m : Move = Takes noted (Served route text is_taken.request) in
+    let s1 : State = after s m in
+    let s2 : State = after s1 (Acts (Open k route)) in
+    let size : length s2.upstreams ≡ k = length-append s.upstreams (record { is_open = true; untaken = 0 } ∷ []) ∙ (omega arith) in
+    let opens : Pays (record { state = s1; owes = ToDo (Open k route) ∷ ToDo (ToUp k text) ∷ [] }) (record { state = s2; owes = ToDo (ToUp k text) ∷ [] }) o (put o (Does (Open k route))) =
+    pays_by s1 (ToDo (Open k route)) (ToDo (ToUp k text) ∷ []) (Acts (Open k route)) o (record { turn = refl; holds = refl }) refl in
+    let sends : Pays (record { state = s2; owes = ToDo (ToUp k text) ∷ [] }) (idle (after s2 (Acts (ToUp k text)))) (put o (Does (Open k route))) (put (put o (Does (Open k route))) (Does (ToUp k text))) =
+    pays_by s2 (ToDo (ToUp k text)) [] (Acts (ToUp k text)) (put o (Does (Open k route))) (record { turn = refl; holds = record { counted = omega arith; within = omega (arith, size) } }) refl in
+    let last : after s2 (Acts (ToUp k text)) ≡ served s frame.id (length text) = ap (with s1) (serves_upstreams s.upstreams (length text)) in
+    subst (λ x. Answers s x o o' (OfFrame frame ∷ [])) (sym es)
+    (subst (λ x. Answers s (served s frame.id (length text)) o x (OfFrame frame ∷ [])) (sym eo)
+    (subst (λ x. Answers s x o (put (put o (Does (Open k route))) (Does (ToUp k text))) (OfFrame frame ∷ [])) last
+    (answers_from s (after s2 (Acts (ToUp k text))) o _ m (OfFrame frame ∷ []) (record { turn = record { open_yet = on; nothing = refl }; holds = (note, may) }) refl refl (pays_then opens sends))))

@@ -1,0 +1,183 @@
+-- What the gateway may do: which move may come next, by its state and by what it owes.
+use Rattle.std.specs.Prelude.{◌≡◌, ℕ, suc, ◌<◌, ◌≤◌, ◌==◌, Bool, true, false, not, ◌&&◌, nat_le, if◌then◌else◌, List, [], ◌∷◌, ◌++◌, length, Option, None, Some}
+use Rattle.model.specs.Messages.{Field, Request}
+use Rattle.model.specs.Messages.Item.{Block}
+use Rattle.model.specs.Tables.{Table}
+use Rattle.model.specs.Frames.{Frame, headers_kind, settings_kind, rst_stream_kind, is_ack, settings_frame, settings_ack, goaway, protocol_error, frame_size_error}
+use Rattle.model.specs.Http1.{H1Request, forward}
+use Rattle.model.specs.Http2.{H2Request, authority_of, path_of}
+use Rattle.model.specs.Logs.{Event, Act, Output}
+use Rattle.model.specs.Logs.Event.{Client, ClientEnd, ClientTook, Up, UpEnd, UpFailed, UpTook}
+use Rattle.model.specs.Logs.Act.{Open, ToUp, Close, CloseClient}
+use Rattle.model.specs.Setup.{Setup, IsFirstMatch}
+use Rattle.model.specs.Tapes.{Noted, Breach}
+use Rattle.model.specs.Tapes.Breach.{WrongPreface, TooLong}
+use Rattle.model.specs.Tapes.Note.{Fields}
+use Rattle.model.specs.Decoding.{begun, completed, IsNoteOf, is_read}
+use Rattle.model.specs.Streams.{frame_items}
+use Rattle.gateway.specs.Moves.{Move, Outcome, Input, inputs, after_all, put_move}
+use Rattle.gateway.specs.Moves.Move.{Takes, Breaks, Hears, Sends, Acts}
+use Rattle.gateway.specs.Moves.Outcome.{Settled, Served, Stopped}
+use Rattle.gateway.specs.declared.upstream.Upstream.{Upstream}
+use Rattle.gateway.specs.State.{State, upstream_at, after, start}
+
+-- Whatever the table, the frame's note is right; no header block was begun before it.
+abbrev pub IsNoted : Noted → Type 0
+IsNoted noted = (table : Table) → (next : Table) × IsNoteOf (completed [] noted.frame) table noted.note next
+
+-- The client's first frame is settings that the gateway takes.
+pub record MaySettle (s : State) (noted : Noted) : Type 0 where
+  pub first : s.settled ≡ false
+  pub kind : noted.frame.kind ≡ settings_kind
+  pub no_ack : is_ack noted.frame ≡ false
+  pub read : is_read noted.note ≡ true
+  pub no_block : begun (noted ∷ []) ≡ None
+  pub no_item : frame_items (completed [] noted.frame) noted ≡ []
+
+-- The frame is a whole request, on a new stream, and this text reads as it.
+pub record MayServe (s : State) (noted : Noted) (route : ℕ) (text : List ℕ) (request : Request) : Type 0 where
+  pub settled : s.settled ≡ true
+  pub above : s.high < noted.frame.id
+  pub kind : noted.frame.kind ≡ headers_kind
+  pub no_block : begun (noted ∷ []) ≡ None
+  pub fields : List Field
+  pub note : noted.note ≡ Fields fields
+  pub item : frame_items (completed [] noted.frame) noted ≡ Block fields true ∷ []
+  pub means : H2Request (Block fields true ∷ []) request
+  pub by_route : IsFirstMatch s.setup.routes (authority_of fields) (path_of fields) route
+  pub reads : H1Request text (forward request)
+
+-- An outcome is one that the frame may come to.
+abbrev pub MayBe : State → Noted → Outcome → Type 0
+MayBe s noted Settled = MaySettle s noted
+MayBe s noted (Served route text request) = MayServe s noted route text request
+MayBe s noted (Stopped code) = Unit {0}
+
+-- The event may come, as far as the state tells.
+abbrev pub is_in_order : State → Event → Bool
+is_in_order s (Client piece) = nat_le (length piece) 65536 && nat_le s.untaken 1073741824
+is_in_order s ClientEnd = true
+is_in_order s (ClientTook count) = nat_le count s.untaken
+is_in_order s (Up k piece) = (upstream_at s.upstreams k).is_open && nat_le (length piece) 65536
+is_in_order s (UpEnd k) = (upstream_at s.upstreams k).is_open
+is_in_order s (UpFailed k) = (upstream_at s.upstreams k).is_open
+is_in_order s (UpTook k count) = (upstream_at s.upstreams k).is_open && nat_le count (upstream_at s.upstreams k).untaken
+
+-- A connection of this number was opened.
+pub record IsUp (s : State) (k : ℕ) : Type 0 where
+  pub counted : 1 ≤ k
+  pub within : k ≤ length s.upstreams
+
+abbrev pub MayDo : State → Act → Type 0
+MayDo s (Open k route) = k ≡ suc (length s.upstreams)
+MayDo s (ToUp k octets) = IsUp s k
+MayDo s (Close k) = IsUp s k
+MayDo s CloseClient = Unit {0}
+
+abbrev pub Holds : State → Move → Type 0
+Holds s (Takes noted outcome) = IsNoted noted × MayBe s noted outcome
+Holds s (Breaks breach) = Unit {0}
+Holds s (Hears event) = is_in_order s event ≡ true
+Holds s (Sends frame) = (frame.kind == rst_stream_kind) ≡ false
+Holds s (Acts act) = MayDo s act
+
+-- what is owed: a move that puts something out
+pub data Due : Type 0 where
+  ToSend : (frame : Frame) → Due
+  ToDo : (act : Act) → Due
+
+-- the closes of the connections that are open, where the first has this number
+abbrev pub closes_from : ℕ → List Upstream → List Due
+closes_from k [] = []
+closes_from k (u ∷ us) = if u.is_open then ToDo (Close k) ∷ closes_from (suc k) us else closes_from (suc k) us
+
+-- the ends of all connections, the client's last
+abbrev pub closes : State → List Due
+closes s = closes_from 1 s.upstreams ++ ToDo CloseClient ∷ []
+
+abbrev pub farewell : State → ℕ → List Due
+farewell s code = ToSend (goaway s.high code) ∷ closes s
+
+abbrev pub breach_code : Breach → ℕ
+breach_code WrongPreface = protocol_error
+breach_code TooLong = frame_size_error
+
+abbrev pub answer_frame : State → Outcome → List Due
+answer_frame s Settled = ToSend settings_ack ∷ []
+answer_frame s (Served route text request) = ToDo (Open (suc (length s.upstreams)) route) ∷ ToDo (ToUp (suc (length s.upstreams)) text) ∷ []
+answer_frame s (Stopped code) = farewell s code
+
+abbrev pub answer_event : State → Event → List Due
+answer_event s ClientEnd = closes s
+answer_event s (UpEnd k) = ToDo (Close k) ∷ []
+answer_event s _ = []
+
+-- what a move asks for
+abbrev pub answer : State → Move → List Due
+answer s (Takes noted outcome) = answer_frame s outcome
+answer s (Breaks breach) = farewell s (breach_code breach)
+answer s (Hears event) = answer_event s event
+answer s _ = []
+
+-- the state, and what has to come next
+pub record Point : Type 0 where
+  pub state : State
+  pub owes : List Due
+
+abbrev pub idle : State → Point
+idle s = record { state = s; owes = [] }
+
+-- between two steps the gateway owes its settings alone, before the first one
+abbrev pub resting : State → Point
+resting s = record { state = s; owes = if s.greeted then [] else ToSend settings_frame ∷ [] }
+
+abbrev pub rest_of : List Due → List Due
+rest_of [] = []
+rest_of (d ∷ ds) = ds
+
+abbrev pub owes_after : State → List Due → Move → List Due
+owes_after s owes (Takes noted outcome) = answer_frame s outcome
+owes_after s owes (Breaks breach) = farewell s (breach_code breach)
+owes_after s owes (Hears event) = answer_event s event
+owes_after s owes (Sends frame) = rest_of owes
+owes_after s owes (Acts act) = rest_of owes
+
+abbrev pub point_after : Point → Move → Point
+point_after p m = record { state = after p.state m; owes = owes_after p.state p.owes m }
+
+pub record IsQuiet (p : Point) : Type 0 where
+  pub open_yet : p.state.closed ≡ false
+  pub nothing : p.owes ≡ []
+
+-- the debt is what comes next
+abbrev pub IsDue : List Due → Due → Type 0
+IsDue owes due = owes ≡ due ∷ rest_of owes
+
+abbrev pub InTurn : Point → Move → Type 0
+InTurn p (Sends frame) = IsDue p.owes (ToSend frame)
+InTurn p (Acts act) = IsDue p.owes (ToDo act)
+InTurn p _ = IsQuiet p
+
+pub record Allowed (p : Point) (m : Move) : Type 0 where
+  pub turn : InTurn p m
+  pub holds : Holds p.state m
+
+-- each move is allowed where it stands
+abbrev pub AllAllowed : Point → List Move → Type 0
+AllAllowed p [] = Unit {0}
+AllAllowed p (m ∷ t) = AllAllowed p t × Allowed (after_all point_after p t) m
+
+-- From old to new these moves lead, with these outputs.
+pub record Leads (old new : Point) (outs_old outs_new : List Output) (segment : List Move) : Type 0 where
+  pub point : new ≡ after_all point_after old segment
+  pub outputs : outs_new ≡ after_all put_move outs_old segment
+  pub allowed : AllAllowed old segment
+
+-- Moves lead from one idle state to another, and these came in, the newest first.
+pub record Answers (old new : State) (outs_old outs_new : List Output) (came : List Input) : Type 0 where
+  pub segment : List Move
+  pub leads : Leads (idle old) (idle new) outs_old outs_new segment
+  pub came_in : inputs segment ≡ came
+
+abbrev pub is_admitted : State → Event → Bool
+is_admitted s event = not s.closed && is_in_order s event

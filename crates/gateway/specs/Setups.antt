@@ -1,0 +1,29 @@
+-- The configuration without where it lies in memory.
+use Rattle.std.specs.Prelude.{List, map}
+use Rattle.model.specs.Setup as setup
+use Rattle.gateway.specs.declared.config.Config.{Config}
+use Rattle.gateway.specs.declared.config.Route.{Route}
+use Rattle.gateway.specs.declared.config.Policy.{Policy}
+use Rattle.gateway.specs.declared.config.Policy.TheVariants as policy
+use Rattle.gateway.specs.declared.config.Passing.{Passing}
+use Rattle.gateway.specs.declared.config.Passing.TheVariants as passing
+
+abbrev pub route_of : Route → setup.Route
+route_of route = record { authority = route.authority.items; path = route.prefix.items }
+
+abbrev pub policy_of : Policy → setup.Policy
+policy_of policy.Plain = setup.Policy.Plain
+policy_of policy.Indexing = setup.Policy.Indexing
+
+abbrev pub passing_of : Passing → setup.Passing
+passing_of passing.Whole = setup.Passing.Whole
+passing_of passing.Streaming = setup.Passing.Streaming
+
+abbrev pub setup_of : Config → setup.Setup
+setup_of config = record {
+  routes = map route_of config.routes.items;
+  policy = policy_of config.policy;
+  passing = passing_of config.passing;
+  max_body = config.max_body;
+  max_response = config.max_response;
+}

@@ -1,0 +1,3 @@
+pub mod StaticTable
+pub mod Spelled
+pub mod Gathered

@@ -1,0 +1,3 @@
+pub use Rattle.model.specs.Blocks
+pub use Rattle.model.specs.Tables
+pub mod Everywhere

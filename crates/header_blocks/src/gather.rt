@@ -1,0 +1,78 @@
+//! The fields of a block, gathered as long as they fit.
+
+ghost use Rattle.std.specs.Prelude.{ℕ, List, [], ◌∷◌, ◌++◌, IfOk, OnOk};
+ghost use Rattle.model.specs.Messages.{Field as FieldLine};
+ghost use Rattle.header_blocks.specs.Everywhere.{Decodes, Gathers, Holds};
+
+use crate::fault::BlockFault;
+use crate::field::Field;
+use crate::literals::read_field;
+use std::alloc::{AllocError, Global};
+
+/// What a block says.
+#[derive(Drop)]
+pub enum Decoded {
+    /// Its fields, in their order.
+    Fields(Vec<Field>),
+    /// The sizes of its fields pass the maximum.
+    TooLarge,
+}
+
+/// The fields of a block so far, as long as their sizes leave room.
+#[derive(Drop)]
+struct Gathering {
+    fields: Vec<Field>,
+    room: Option<usize>,
+}
+
+impl Gathering {
+    /// No fields, with room for sizes that sum to so much.
+    fn new(alloc: Global, cap: usize) -> Gathering
+        ensures { Holds cap [] result.fields.items result.room }
+    {
+        Gathering {
+            fields: Vec::new(alloc),
+            room: Some(cap),
+        }
+    }
+
+    /// Adds the next field. Once one doesn't fit, none is kept.
+    fn add(&mut self, field: Field) -> Result<(), AllocError>
+        ensures { OnOk result ((cap : ℕ) (all : List FieldLine) → Holds cap all self.old.fields.items self.old.room → Holds cap (all ++ field ∷ []) self.new.fields.items self.new.room) }
+    {
+        let Some(room) = self.room else {
+            return Ok(());
+        };
+        self.room = field.room_behind(room);
+        if self.room.is_some() {
+            self.fields.push(field)?;
+        } else {
+            self.fields.clear();
+        }
+        Ok(())
+    }
+
+    /// All fields, or that they don't fit.
+    fn finish(self) -> Decoded
+        ensures { (block : List ℕ) (cap : ℕ) → Gathers block cap self.fields.items self.room → Decodes block cap result }
+    {
+        match self.room {
+            Some(_) => Decoded::Fields(self.fields),
+            None => Decoded::TooLarge,
+        }
+    }
+}
+
+/// The fields of a block, where their sizes sum to at most `cap`.
+pub fn decode_block(alloc: Global, block: &[u8], cap: usize) -> Result<Decoded, BlockFault>
+    ensures { IfOk result (λ decoded. Decodes block.now cap decoded) }
+{
+    let mut gathering = Gathering::new(alloc, cap);
+    let mut start = 0;
+    while start < block.len() {
+        let (field, used) = read_field(alloc, &block[start..])?;
+        gathering.add(field)?;
+        start += used;
+    }
+    Ok(gathering.finish())
+}

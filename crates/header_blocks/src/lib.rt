@@ -1,0 +1,16 @@
+//! Header blocks of HPACK (RFC 7541).
+#![tactic(auto)]
+
+mod decoder;
+mod fault;
+mod field;
+mod gather;
+mod literals;
+mod static_table;
+#[cfg(test)]
+mod tests;
+
+pub use crate::decoder::Decoder;
+pub use crate::fault::BlockFault;
+pub use crate::field::Field;
+pub use crate::gather::Decoded;

@@ -1,0 +1,3 @@
+pub use Rattle.model.specs.Integers
+pub mod Reading
+pub mod Writing

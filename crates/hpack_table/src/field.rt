@@ -1,0 +1,54 @@
+//! A header field: its name and its value.
+
+ghost use Rattle.std.specs.Prelude.{◌≡◌, IfOk};
+
+use std::alloc::{AllocError, Global};
+use std::marker::Model;
+
+/// A header field (RFC 9110, section 5): a name and a value, each of any octets.
+#[derive(Drop)]
+pub struct Field {
+    name: Vec<u8>,
+    value: Vec<u8>,
+}
+
+impl Model for Field {
+    ghost use Rattle.model.specs.Messages.{Field as Meaning};
+
+    ghost Value = { Meaning };
+
+    ghost view = { λ field. record { name = field.name.items; value = field.value.items } };
+}
+
+impl Field {
+    /// The field of this name and this value.
+    pub fn new(name: Vec<u8>, value: Vec<u8>) -> Self
+        ensures name { result.name ≡ name.items }
+        ensures value { result.value ≡ value.items }
+    {
+        Field { name, value }
+    }
+
+    /// The octets of the name.
+    pub fn name(&self) -> &[u8]
+        ensures { result.now ≡ self.now.name }
+    {
+        &self.name
+    }
+
+    /// The octets of the value.
+    pub fn value(&self) -> &[u8]
+        ensures { result.now ≡ self.now.value }
+    {
+        &self.value
+    }
+
+    /// The same field once more; an error where memory is refused.
+    pub fn copy(&self, alloc: Global) -> Result<Self, AllocError>
+        ensures { IfOk result (λ field. field ≡ self.now) }
+    {
+        let name = Vec::from_slice(alloc, &self.name)?;
+        let value = Vec::from_slice(alloc, &self.value)?;
+        Ok(Field { name, value })
+    }
+}

@@ -1,0 +1,42 @@
+-- What a gateway is set up with, and the route that a request takes.
+use Rattle.std.specs.Prelude.{◌≡◌, ℕ, ◌<◌, ◌⊎◌, List, [], slice_get, Some, codes}
+use Rattle.model.specs.Octets.{IsFront, lower}
+
+-- A route to one upstream: the authority that it is for, empty where it is for any, and a front of the paths.
+pub record Route : Type 0 where
+  pub authority : List ℕ
+  pub path : List ℕ
+
+-- The names of how blocks are written, and of how bodies are passed on.
+pub data Policy : Type 0 where
+  Plain : Policy
+  Indexing : Policy
+
+pub data Passing : Type 0 where
+  Whole : Passing
+  Streaming : Passing
+
+pub record Setup : Type 0 where
+  pub routes : List Route
+  pub policy : Policy
+  pub passing : Passing
+  pub max_body : ℕ
+  pub max_response : ℕ
+
+-- The authority is the route's, in letters of either case (RFC 9110, section 4.2.3).
+abbrev pub IsForAuthority : Route → List ℕ → Type 0
+IsForAuthority route authority = (route.authority ≡ []) ⊎ (lower route.authority ≡ lower authority)
+
+-- The path begins with the route's; the path of a request on the whole server goes with the route for all.
+abbrev pub IsForPath : Route → List ℕ → Type 0
+IsForPath route path = IsFront route.path path ⊎ ((path ≡ codes "*") × (route.path ≡ codes "/"))
+
+abbrev pub Matches : Route → List ℕ → List ℕ → Type 0
+Matches route authority path = IsForAuthority route authority × IsForPath route path
+
+-- The route at a place matches, and none before it.
+pub record IsFirstMatch (routes : List Route) (authority path : List ℕ) (place : ℕ) : Type 0 where
+  pub route : Route
+  pub found : slice_get routes place ≡ Some route
+  pub matches : Matches route authority path
+  pub none_before : (earlier : ℕ) → earlier < place → (other : Route) → slice_get routes earlier ≡ Some other → Matches other authority path → ⊥

@@ -1,0 +1,9 @@
+//! Laws of HPACK's texts (RFC 7541).
+
+ghost use Rattle.std.specs.Prelude.{◌≡◌, ◌++◌, List, ℕ};
+ghost use Rattle.model.specs.Integers.{IsInt};
+
+/// No integer's text begins another's, and each has one value (section 5.1).
+pub fn one_integer()
+    ensures { (prefix : ℕ) (a b x y : List ℕ) (v w : ℕ) → IsInt prefix a v → IsInt prefix b w → a ++ x ≡ b ++ y → (a ≡ b) × (v ≡ w) }
+{}

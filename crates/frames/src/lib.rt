@@ -16,8 +16,11 @@ const HEADER: usize = 9;
 /// The longest payload that is read (RFC 9113, section 4.2: the first value of SETTINGS_MAX_FRAME_SIZE).
 const LONGEST: usize = 16384;
 
-/// Splits the frame off with which `octets` begin. Nothing is copied: the payload is the slice of `octets` from the
-/// ninth octet to the end of the frame. Of the stream's number the reserved bit is ignored (RFC 9113, section 4.1).
+/// Splits off the frame with which `octets` begin, and says how many octets it takes.
+///
+/// Nothing is copied: the payload is the slice of `octets` behind the nine of the header (RFC 9113, section 4.1). The
+/// reserved bit of the stream's number is ignored. A length of over 16,384 octets is refused as soon as the whole header
+/// is there; anything else that is less than a frame waits for more.
 pub fn split(octets: &[u8]) -> Split<'_>
     ensures { IsSplit octets.now result }
 {
@@ -44,9 +47,10 @@ pub fn split(octets: &[u8]) -> Split<'_>
     Split::Frame(view, HEADER + length)
 }
 
-/// Writes a frame at the end of `out`, with the reserved bit 0 (RFC 9113, section 4.1). The payload has at most 16,384
-/// octets and the stream's number is below 2,147,483,648. The only error is that no memory was left, and then `out`
-/// keeps its octets.
+/// Writes a frame at the end of `out`, with the reserved bit 0 (RFC 9113, section 4.1).
+///
+/// The payload has at most 16,384 octets, and the stream's number is below 2,147,483,648. The only error is that no
+/// memory was left, and then `out` keeps its octets.
 pub fn write(view: &View<'_>, out: &mut Vec<u8>) -> Result<(), AllocError>
     requires { Fits (frame_of view.now) }
     ensures ok { OnOk result (out.new.items ≡ out.old.items ++ spell (frame_of view.now)) }

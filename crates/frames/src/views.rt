@@ -1,7 +1,7 @@
 //! A frame as a slice of the octets that it was read from.
 
 /// A frame (RFC 9113, section 4.1): its type, its flags, the number of its stream, and its payload.
-#[derive(Clone, Copy)]
+#[derive(Clone, Copy, Debug, PartialEq, Eq)]
 pub struct View<'a> {
     pub kind: u8,
     pub flags: u8,
@@ -10,7 +10,7 @@ pub struct View<'a> {
 }
 
 /// What some octets begin with.
-#[derive(Clone, Copy)]
+#[derive(Clone, Copy, Debug, PartialEq, Eq)]
 pub enum Split<'a> {
     /// A whole frame, and how many octets it takes, its header among them.
     Frame(View<'a>, usize),

@@ -1,5 +1,6 @@
 pub mod Views
 pub mod Setups
+pub mod Runs
 pub mod Moves
 pub mod State
 pub mod Closing

@@ -1,13 +1,13 @@
 -- Words of a line.
-use Rattle.std.proofs.Common.{◌≡◌, ◌≢◌, ◌≤◌, ◌<◌, ◌+◌, ◌*◌, ◌-◌, ℕ, List, [], ◌∷◌, ◌++◌, length, take, drop, get_or, All, false, true, ◌==◌, refl, sym, ap, ◌∙◌, subst, arith, Result, Ok, Err, IfErr, eq-eqb, length-take, length-append}
-use Rattle.std.proofs.lemmas.Int.Digits.{digits_more, digits_value_more, digits_value-lt}
+use Rattle.std.proofs.Common.{◌≡◌, ◌≢◌, ◌≤◌, ◌<◌, ◌+◌, ◌*◌, ◌-◌, ℕ, List, [], ◌∷◌, ◌++◌, length, take, drop, get_or, All, false, ◌==◌, refl, sym, ap, ◌∙◌, subst, arith, Result, Ok, Err, IfErr, eq-eqb, length-take, length-append}
+use Rattle.std.proofs.lemmas.Int.Digits.{digits_more, digits_value_more}
 use Rattle.std.proofs.lemmas.Str.{digit_value_digit}
 use Rattle.std.proofs.lemmas.Str.Parse.{digit_at, digits_value_short, numerals_by_value, tells_digits}
 use Rattle.std.proofs.lemmas.Grind.{get_or_default_zero}
 use Rattle.std.proofs.lemmas.Bool.{ne_eqb}
 use Rattle.std.proofs.lemmas.List.{append_cancel_left}
 use Rattle.std.proofs.Math.Seq.{take-length, get_or-append_seam}
-use Rattle.std.proofs.lemmas.List.Splits.{slice_split_at, slice_split_none}
+use Rattle.std.proofs.lemmas.List.Splits.{slice_split_at}
 use Rattle.std.specs.List.{slice_split}
 use Rattle.std.specs.Char.{digit_value, IsNotAsciiDigit}
 use Rattle.std.specs.Str.Parse.{AllDigits, digits_value}

@@ -1,5 +1,5 @@
 -- What the private steps of reading a script answer.
-use Rattle.std.specs.Prelude.{◌≡◌, ◌≢◌, ℕ, ◌+◌, ◌<◌, List, [], ◌∷◌, ◌++◌, length, All, ⊤}
+use Rattle.std.specs.Prelude.{◌≡◌, ◌≢◌, ℕ, ◌<◌, List, ◌∷◌, ◌++◌, length, All, ⊤}
 use Rattle.model.specs.Logs.{Event}
 use Rattle.model.specs.Logs.Event.{Client, Up}
 use Rattle.h2gw.specs.declared.lines.LineFault.{LineFault}

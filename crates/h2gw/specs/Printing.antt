@@ -1,19 +1,23 @@
 -- What a replay prints.
-use Rattle.std.specs.Prelude.{◌⊎◌, ℕ, ◌≤◌, List, ◌++◌, length, codes, decimal}
+use Rattle.std.specs.Prelude.{◌⊎◌, ℕ, ◌≤◌, List, [], ◌∷◌, ◌++◌, length, map, codes, decimal}
 use Rattle.std.specs.List.{flat_map}
 use Rattle.hex.specs.Hex.{encode_lower}
-use Rattle.model.specs.Logs.{Event, Output}
-use Rattle.model.specs.Logs.Output.{ToClient, Open, ToUp, Close, CloseClient}
-use Rattle.gateway.specs.Stub.{log_of, Faithful}
+use Rattle.model.specs.Logs.{Event, Output, Step}
+use Rattle.model.specs.Logs.Output.{ToClient, Does}
+use Rattle.model.specs.Logs.Act.{Open, ToUp, Close, CloseClient}
+use Rattle.model.specs.Setup.{Setup}
+use Rattle.model.specs.Setup.Policy.{Plain}
+use Rattle.model.specs.Setup.Passing.{Whole}
+use Rattle.model.specs.Faithful.{Faithful}
 use Rattle.h2gw.specs.Scripts.{lines_of, AllSay, IsFirstFault}
 
 -- An output as a line: octets stand in lower-case hex, two digits each.
 abbrev pub line_of : Output → List ℕ
 line_of (ToClient octets) = codes "C " ++ encode_lower octets ++ codes "\n"
-line_of (Open k route) = codes "O " ++ decimal k ++ codes " " ++ decimal route ++ codes "\n"
-line_of (ToUp k octets) = codes "U " ++ decimal k ++ codes " " ++ encode_lower octets ++ codes "\n"
-line_of (Close k) = codes "X " ++ decimal k ++ codes "\n"
-line_of CloseClient = codes "XC\n"
+line_of (Does (Open k route)) = codes "O " ++ decimal k ++ codes " " ++ decimal route ++ codes "\n"
+line_of (Does (ToUp k octets)) = codes "U " ++ decimal k ++ codes " " ++ encode_lower octets ++ codes "\n"
+line_of (Does (Close k)) = codes "X " ++ decimal k ++ codes "\n"
+line_of (Does CloseClient) = codes "XC\n"
 
 -- the outputs of one step, one line each
 abbrev pub lines_of_step : List Output → List ℕ
@@ -23,10 +27,21 @@ lines_of_step outputs = flat_map line_of outputs
 abbrev pub text_of : List (List Output) → List ℕ
 text_of outputs = flat_map lines_of_step outputs
 
--- The script was run: its lines say events, and with these outputs they are a faithful log, of which the lines were written.
+-- What a script is run with: one route, for any authority and each path that begins with `/`.
+abbrev pub default_setup : Setup
+default_setup = record {
+  routes = record { authority = []; path = codes "/" } ∷ [];
+  policy = Plain;
+  passing = Whole;
+  max_body = 1048576;
+  max_response = 1048576;
+}
+
+-- The script was run: its lines say the events of a faithful log, of which the outputs were written, one line each.
 abbrev pub IsRun : List ℕ → (List ℕ → Type 0) → Type 0
 IsRun script IsWritten =
-    (events : List Event) × (outputs : List (List Output)) × AllSay (lines_of script) events × Faithful (log_of events outputs) × IsWritten (text_of outputs)
+    (log : List Step) × AllSay (lines_of script) (map (λ step. step.event) log) × Faithful default_setup log
+    × IsWritten (text_of (map (λ step. step.outputs) log))
 
 -- what is said of a line, by its place from 1
 abbrev pub message : ℕ → List ℕ → List ℕ

@@ -1,5 +1,5 @@
 -- Scripts: a text whose lines say one after the other what happens to a gateway.
-use Rattle.std.specs.Prelude.{◌≡◌, ℕ, ◌+◌, ◌≤◌, ◌==◌, Bool, List, [], ◌∷◌, ◌++◌, length, codes, Ok}
+use Rattle.std.specs.Prelude.{◌≡◌, ℕ, ◌+◌, ◌≤◌, ◌==◌, List, [], ◌∷◌, ◌++◌, length, codes, Ok}
 use Rattle.std.specs.List.{slice_split}
 use Rattle.std.specs.Str.Parse.{AllDigits, digits_value}
 use Rattle.hex.specs.Hex.{decode_of}

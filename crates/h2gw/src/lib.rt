@@ -1,11 +1,13 @@
 //! The programs' library: scripts are read, run and answered.
 #![tactic(auto)]
 
+mod laws;
 mod lines;
 mod printing;
 mod replays;
 mod scripts;
 
+pub use laws::one_meaning;
 pub use replays::replay;
 pub use scripts::{ScriptFault, read_script};
 

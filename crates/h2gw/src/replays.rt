@@ -2,7 +2,8 @@
 
 ghost use Rattle.std.specs.Prelude.{◌≡◌, ◌≤◌, ◌⊎◌, IfOk, IfErr, OnOk, string_bytes};
 ghost use Rattle.std.specs.Io.KnownBytes.{Appends};
-ghost use Rattle.h2gw.specs.Printing.{IsRun, IsRefused, message};
+ghost use Rattle.gateway.specs.Setups.{setup_of};
+ghost use Rattle.h2gw.specs.Printing.{IsRun, IsRefused, default_setup, message};
 ghost use Rattle.h2gw.specs.Stops.{Explains};
 
 use crate::printing::print_steps;
@@ -110,9 +111,9 @@ fn printed(alloc: Global, script: &str) -> Result<String, Stop>
 
 /// The configuration where none is given.
 fn default_config(alloc: Global) -> Result<Config, AllocError>
+    ensures setup { IfOk result (λ config. setup_of config ≡ default_setup) }
     ensures policy { IfOk result (λ config. config.policy ≡ Policy.Plain) }
     ensures passing { IfOk result (λ config. config.passing ≡ Passing.Whole) }
-    ensures limits { IfOk result (λ config. (config.max_body ≤ 1073741824) × (config.max_response ≤ 1073741824)) }
 {
     let route = Route {
         authority: Vec::new(alloc),

@@ -1,6 +1,7 @@
 -- Worked examples of frames, each by computation.
-use Rattle.std.proofs.Common.{◌≡◌, [], ◌∷◌, refl}
-use Rattle.model.specs.Frames.{spell, settings_frame, settings_ack, goaway, content, preface, enhance_your_calm}
+use Rattle.std.proofs.Common.{arith, ◌++◌, ◌≡◌, [], ◌∷◌, refl}
+use Rattle.model.specs.Frames.{spell, settings_frame, settings_ack, goaway, content, preface, enhance_your_calm, Spells, IsTooLong, IsConnection}
+use Rattle.model.proofs.FramesFronts.{no_header}
 
 -- 00000c 04 00 00000000 0003 00000064 0006 00004000
 pub settings_spelling : spell settings_frame ≡ 0 ∷ 0 ∷ 12 ∷ 4 ∷ 0 ∷ 0 ∷ 0 ∷ 0 ∷ 0 ∷ 0 ∷ 3 ∷ 0 ∷ 0 ∷ 0 ∷ 100 ∷ 0 ∷ 6 ∷ 0 ∷ 0 ∷ 64 ∷ 0 ∷ []
@@ -29,3 +30,20 @@ padded_headers = refl
 -- CONTINUATION has no padding: its bit 08 is ignored
 pub whole_continuation : content (record { kind = 9; flags = 12; id = 5; payload = 1 ∷ 130 ∷ 134 ∷ [] }) ≡ 1 ∷ 130 ∷ 134 ∷ []
 whole_continuation = refl
+
+-- the reserved bit is ignored: 000000 04 01 80000000 is read as the same frame
+pub reserved_bit : Spells (0 ∷ 0 ∷ 0 ∷ 4 ∷ 1 ∷ 128 ∷ 0 ∷ 0 ∷ 0 ∷ []) settings_ack
+reserved_bit = record { fits = record { kind = omega arith; flags = omega arith; id = omega arith; payload = omega arith }; bit = 1; is_bit = omega arith; is = refl }
+
+-- a header with a length of 16,385 is too long: 004001 00 00 00000001
+pub too_long_header : IsTooLong (0 ∷ 64 ∷ 1 ∷ 0 ∷ 0 ∷ 0 ∷ 0 ∷ 0 ∷ 1 ∷ [])
+too_long_header = record { header = omega arith; length_over = omega arith }
+
+-- the preface, a frame and three octets more are read as that frame and a rest of three octets
+pub short_connection : IsConnection (preface ++ spell settings_ack ++ 0 ∷ 0 ∷ 0 ∷ []) (settings_ack ∷ []) (0 ∷ 0 ∷ 0 ∷ [])
+short_connection = record {
+  after_preface = spell settings_ack ++ 0 ∷ 0 ∷ 0 ∷ [];
+  begins = refl;
+  reading = (spell settings_ack, 0 ∷ 0 ∷ 0 ∷ [], record { fits = reserved_bit.fits; bit = 0; is_bit = omega arith; is = refl }, refl, refl);
+  ends = no_header (0 ∷ 0 ∷ 0 ∷ []) (omega arith);
+}

@@ -1,4 +1,4 @@
-use Rattle.std.proofs.Common.{arith, rules}
+use Rattle.std.proofs.Common.{arith}
 use Rattle.h2gw.proofs.ScriptsLemmas.{ended_line, unended_line}
 use Rattle.h2gw.proofs.lines.first_line.Goals as goal
 

@@ -1,5 +1,5 @@
-use Rattle.std.proofs.Common.{arith, rules}
-use Rattle.h2gw.proofs.LinesLemmas.{counted_more, counted_small, counted_all, not_a_number}
+use Rattle.std.proofs.Common.{arith}
+use Rattle.h2gw.proofs.LinesLemmas.{counted_more, counted_small, not_a_number}
 use Rattle.h2gw.proofs.lines.read_number.Goals as goal
 
 pub returns-then-not-is_ascii_digit : goal.returns-then-not-is_ascii_digit

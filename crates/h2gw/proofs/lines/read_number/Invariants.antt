@@ -1,4 +1,3 @@
-use Rattle.std.proofs.Common.{◌≡◌, ℕ, length, take, drop}
 use Rattle.h2gw.proofs.LinesLemmas.{Counted}
 use Rattle.h2gw.proofs.lines.read_number.Given as goal
 

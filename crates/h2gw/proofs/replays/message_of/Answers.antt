@@ -1,4 +1,4 @@
-use Rattle.std.proofs.Common.{rules, append_assoc, codes}
+use Rattle.std.proofs.Common.{rules, append_assoc}
 use Rattle.h2gw.proofs.replays.message_of.Goals as goal
 
 pub returns : goal.returns

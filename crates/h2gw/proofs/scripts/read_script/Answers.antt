@@ -1,4 +1,4 @@
-use Rattle.std.proofs.Common.{arith, rules, ◌≡◌, ◌+◌, ◌∙◌, List, [], ◌∷◌, ◌++◌, length, map, sym, subst}
+use Rattle.std.proofs.Common.{arith, rules, ◌≡◌, ◌+◌, ◌∙◌, [], ◌∷◌, ◌++◌, length, map, sym, subst}
 use Rattle.std.proofs.lemmas.List.{length-map, map-append}
 use Rattle.h2gw.proofs.ScriptsLemmas.{SoFar, one_more, fault_here}
 use Rattle.std.proofs.lemmas.Grind.{common_steps}

@@ -1,5 +1,4 @@
-use Rattle.std.proofs.Common.{◌≡◌, ℕ, List, ◌++◌, length, map}
-use Rattle.h2gw.specs.Scripts.{lines_of, AllSay}
+use Rattle.std.proofs.Common.{length, map}
 use Rattle.h2gw.proofs.ScriptsLemmas.{SoFar}
 use Rattle.gateway.specs.Views.{event_of}
 use Rattle.h2gw.proofs.scripts.read_script.Given as goal

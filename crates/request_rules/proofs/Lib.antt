@@ -1,1 +1,4 @@
 pub mod Texts
+pub mod FieldLists
+pub mod Numbers
+pub mod RuleTests

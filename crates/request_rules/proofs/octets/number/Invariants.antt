@@ -1,0 +1,7 @@
+use Rattle.std.proofs.Common.{◌≡◌, ◌<◌, ◌^◌, drop}
+use Rattle.std.specs.Str.Parse.{digits_value, digits_value_after}
+use Rattle.request_rules.proofs.octets.number.Given as goal
+use Rattle.request_rules.proofs.Numbers.{Read}
+
+abbrev pub invariant-loop-digit : goal.invariant-loop-digit
+invariant-loop-digit l = Read l.digits l.digit-index l.sum

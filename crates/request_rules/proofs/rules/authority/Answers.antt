@@ -1,0 +1,12 @@
+use Rattle.std.proofs.Common.{sym, ◌∙◌, ap, refl, true, false}
+use Rattle.std.specs.Prelude.{codes, bytes_eq, ◌||◌}
+use Rattle.model.specs.Http2.{connection_names, is_path_for, method_of}
+use Rattle.request_rules.proofs.FieldLists.{count_values}
+use Rattle.request_rules.proofs.RuleTests.{no_pseudo_authority, pseudo_authority}
+use Rattle.request_rules.proofs.rules.authority.Goals as goal
+
+pub returns-then-count-eq0 : goal.returns-then-count-eq0
+returns-then-count-eq0 c = c.first_value.ensures ∙ no_pseudo_authority c.args.head.now c.count.result c.count.ensures c.if-count-eq0.true
+
+pub returns-else-count-eq0 : goal.returns-else-count-eq0
+returns-else-count-eq0 c = c.first_value-else-count-eq0.ensures ∙ pseudo_authority c.args.head.now c.count.result c.count.ensures c.if-count-eq0.false

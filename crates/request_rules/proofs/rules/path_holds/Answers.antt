@@ -1,0 +1,9 @@
+use Rattle.std.proofs.Common.{sym, ◌∙◌, ap, refl, true, false}
+use Rattle.std.specs.Prelude.{codes, bytes_eq, ◌||◌}
+use Rattle.model.specs.Http2.{connection_names, is_path_for, method_of}
+use Rattle.request_rules.proofs.FieldLists.{count_values}
+use Rattle.request_rules.proofs.RuleTests.{match_named}
+use Rattle.request_rules.proofs.rules.path_holds.Goals as goal
+
+pub returns : goal.returns
+returns c = match_named (codes ":path") (is_path_for (method_of c.args.head.now)) c.path_holds.result c.args.head.now (rw (← c.first_value.ensures) c.path_holds.ensures)

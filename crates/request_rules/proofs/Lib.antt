@@ -2,3 +2,4 @@ pub mod Texts
 pub mod FieldLists
 pub mod Numbers
 pub mod RuleTests
+pub mod Cookies

@@ -1,13 +1,15 @@
 -- What the tests of the rules answer, over plain values.
-use Rattle.std.proofs.Common.{◌≡◌, ℕ, ◌<◌, ◌≤◌, Bool, true, false, List, [], ◌∷◌, ◌++◌, length, refl, sym, ap, ◌∙◌, subst, arith}
+use Rattle.std.proofs.Common.{Option, Some, None, ◌≡◌, ℕ, ◌<◌, ◌≤◌, Bool, true, false, List, [], ◌∷◌, ◌++◌, length, refl, sym, ap, ◌∙◌, subst, arith}
 use Rattle.std.specs.Prelude.{not, ◌&&◌, ◌||◌, ◌==◌, nat_le, bytes_eq, codes, count_by, MatchBool, if◌then◌else◌}
 use Rattle.std.specs.List.{list_all, list_any}
+use Rattle.std.specs.Str.Parse.{digits_value}
 use Rattle.std.proofs.lemmas.Bool.{false≢true, true≢false, and_parts, and_from, eqb-true, eq-eqb, leb-true, le-leb}
 use Rattle.std.proofs.lemmas.List.{nil_from_length}
 use Rattle.model.specs.Octets.{some_of, is_digit, lower}
 use Rattle.model.specs.Messages.{Field}
 use Rattle.model.specs.Http1.{values_of, without}
-use Rattle.model.specs.Http2.{first_of, is_pseudo, is_connect, pseudo_fields, regular_fields, known_names, authority_of, authorities_of, is_authority_octet, is_name_octet, Has, NamesHold, PseudoFieldsHold, AuthorityHolds, LengthFieldHolds}
+use Rattle.model.specs.Http2.{first_of, promised, declared_length, is_pseudo, is_connect, pseudo_fields, regular_fields, known_names, authority_of, authorities_of, is_authority_octet, is_name_octet, Has, NamesHold, PseudoFieldsHold, AuthorityHolds, LengthFieldHolds}
+use Rattle.model.proofs.Http1Runs.{run_of_some}
 use Rattle.request_rules.proofs.FieldLists.{named_all, names_decided, without_decided, count_values, kept_all, none_pass, all_fail}
 
 -- a test that is true, or false, decides
@@ -147,3 +149,29 @@ match_pseudo b connect parts head c n first known method scheme path m =
           connect_authority = λ q. p.1 (c ∙ q);
         })
         (λ p. (p.one_authority, λ q. p.connect_authority (sym c ∙ q))) m
+
+-- the declared length, by whether its field is there
+pub none_declared : (head : List Field) (n : ℕ) → n ≡ count_by (λ field. bytes_eq field.name (codes "content-length")) head → n ≡ 0 → None ≡ declared_length head
+none_declared head n e zero =
+    let none : values_of (codes "content-length") head ≡ [] = nil_from_length _ (sym (count_values (codes "content-length") head) ∙ sym e ∙ zero) in
+    sym (ap promised none)
+
+promised_first : (values : List (List ℕ)) → (length values ≡ 0 → ⊥) → Some (digits_value 10 (first_of values)) ≡ promised values
+promised_first [] some = absurd (some refl)
+promised_first (value ∷ values) some = refl
+
+pub some_declared : (head : List Field) (n number : ℕ) → n ≡ count_by (λ field. bytes_eq field.name (codes "content-length")) head → (n ≡ 0 → ⊥)
+    → number ≡ digits_value 10 (first_of (values_of (codes "content-length") head)) → Some number ≡ declared_length head
+some_declared head n number e some is =
+    ap {A = ℕ} {B = Option ℕ} (λ m. Some m) is ∙ promised_first (values_of (codes "content-length") head) (λ zero. some (e ∙ count_values (codes "content-length") head ∙ zero))
+
+first_length_parts : (values : List (List ℕ)) → (length values ≡ 0 → ⊥) → list_all (λ value. some_of is_digit value && nat_le (length value) 18) values ≡ true
+    → (list_all is_digit (first_of values) ≡ true) × (length (first_of values) ≤ 18)
+first_length_parts [] some p = absurd (some refl)
+first_length_parts (value ∷ values) some p =
+    let both = and_parts (some_of is_digit value) _ (and_parts (some_of is_digit value && nat_le (length value) 18) _ p).0 in
+    (run_of_some is_digit value both.0, leb-true (length value) 18 both.1)
+
+pub first_length : (head : List Field) (n : ℕ) → n ≡ count_by (λ field. bytes_eq field.name (codes "content-length")) head → (n ≡ 0 → ⊥) → LengthFieldHolds head
+    → (list_all is_digit (first_of (values_of (codes "content-length") head)) ≡ true) × (length (first_of (values_of (codes "content-length") head)) ≤ 18)
+first_length head n e some p = first_length_parts (values_of (codes "content-length") head) (λ zero. some (e ∙ count_values (codes "content-length") head ∙ zero)) p.digits

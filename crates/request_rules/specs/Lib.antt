@@ -1,0 +1,5 @@
+pub use Rattle.model.specs.Messages
+pub use Rattle.model.specs.Http2
+pub mod Heads
+pub mod Rules
+pub mod Sent

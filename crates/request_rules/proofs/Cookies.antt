@@ -1,14 +1,14 @@
 -- The fields that are sent on, and the cookies among them.
-use Rattle.std.proofs.Common.{◌≡◌, ℕ, ◌+◌, ◌-◌, ◌<◌, ◌≤◌, Bool, true, false, cond, List, [], ◌∷◌, ◌++◌, length, take, drop, get_or, filter, refl, sym, ap, ◌∙◌, subst, inl, inr, append_assoc, arith}
-use Rattle.std.specs.Prelude.{not, ◌&&◌, ◌||◌, bytes_eq, codes, if◌then◌else◌}
+use Rattle.std.proofs.Common.{◌≡◌, ℕ, ◌+◌, ◌<◌, ◌≤◌, Bool, true, false, cond, List, [], ◌∷◌, ◌++◌, length, take, drop, get_or, filter, refl, sym, ap, ◌∙◌, subst, inl, inr, append_assoc, arith}
+use Rattle.std.specs.Prelude.{not, ◌&&◌, ◌||◌, bytes_eq, codes}
 use Rattle.std.specs.List.{list_all, list_any}
-use Rattle.std.proofs.lemmas.Bool.{false≢true, cases_Bool, cond-true, cond-false, and_parts, and_from, and_cases, not-true, not_from_false, not_from_true}
+use Rattle.std.proofs.lemmas.Bool.{false≢true, cond-true, cond-false, and_parts, and_cases, not-true}
 use Rattle.std.proofs.lemmas.List.{append-nil, take-append-drop, take_all, length-drop, get_or-drop}
-use Rattle.std.proofs.lemmas.List.Elements.{filter_more, filter-append, filter_agree}
+use Rattle.std.proofs.lemmas.List.Elements.{filter_more, filter_agree}
 use Rattle.model.specs.Messages.{Field}
 use Rattle.model.specs.Http1.{values_of, without}
 use Rattle.model.specs.Http2.{is_pseudo, regular_fields, is_cookie, is_empty_cookie, with_one_cookie, fields_of, joined_by}
-use Rattle.model.proofs.Http1Texts.{values_of-append, filter_all}
+use Rattle.model.proofs.Http1Texts.{values_of-append}
 use Rattle.model.proofs.Http1Lines.{field_same}
 use Rattle.request_rules.specs.Sent.{is_sent, is_full_cookie, is_plain}
 
@@ -41,9 +41,9 @@ cookie_alone field p =
 
 no_cookie : (field : Field) → is_full_cookie field ≡ false → cookies (cond (is_sent field) (field ∷ []) []) ≡ []
 no_cookie field p = elim (and_cases (is_sent field) (is_cookie field) p) [
-      inl e ↦ ap cookies (cond-false (is_sent field) (field ∷ []) [] e)
-    | inr e ↦ by_sent (is_sent field) e
-    ]
+  | inl e ↦ ap cookies (cond-false (is_sent field) (field ∷ []) [] e)
+  | inr e ↦ by_sent (is_sent field) e
+]
   where
     by_sent : (t : Bool) → is_cookie field ≡ false → cookies (cond t (field ∷ []) []) ≡ []
     by_sent true e = cond-false (is_cookie field) (field.value ∷ []) [] e
@@ -59,7 +59,7 @@ pub joined_without : (first : List ℕ) (fields : List Field) (i : ℕ) (field :
     → joined_by between (first ∷ cookies (filter is_sent (take (i + 1) fields))) ≡ joined_by between (first ∷ cookies (filter is_sent (take i fields)))
 joined_without first fields i field within is p =
     ap (λ (vs : List (List ℕ)). joined_by between (first ∷ vs))
-        (more_cookies fields i field within is ∙ ap (λ (vs : List (List ℕ)). cookies (filter is_sent (take i fields)) ++ vs) (no_cookie field p) ∙ append-nil (cookies (filter is_sent (take i fields))))
+    (more_cookies fields i field within is ∙ ap (λ (vs : List (List ℕ)). cookies (filter is_sent (take i fields)) ++ vs) (no_cookie field p) ∙ append-nil (cookies (filter is_sent (take i fields))))
 
 -- ---- one filter in place of three
 
@@ -76,7 +76,7 @@ sent_filtered : (fields : List Field)
     → filter (λ field. not (is_empty_cookie field)) (without (codes "host" ∷ codes "te" ∷ codes "content-length" ∷ []) (regular_fields fields)) ≡ filter is_sent fields
 sent_filtered fields =
     ap (λ (fs : List Field). filter (λ field. not (is_empty_cookie field)) fs)
-        (filtered_twice (λ field. not (is_pseudo field)) (λ field. not (list_any (bytes_eq field.name) (codes "host" ∷ codes "te" ∷ codes "content-length" ∷ []))) fields)
+    (filtered_twice (λ field. not (is_pseudo field)) (λ field. not (list_any (bytes_eq field.name) (codes "host" ∷ codes "te" ∷ codes "content-length" ∷ []))) fields)
     ∙ filtered_twice (λ field. not (is_pseudo field) && not (list_any (bytes_eq field.name) (codes "host" ∷ codes "te" ∷ codes "content-length" ∷ []))) (λ field. not (is_empty_cookie field)) fields
 
 or_false : (b : Bool) → (b || false) ≡ b
@@ -168,7 +168,7 @@ sent_with head front back old plain pushed result others at first cookie p there
     let within : at < length head = omega arith in
     let rest : drop at head ≡ first ∷ others = sym is_back ∙ first_of_rest back first some is_first ∙ ap (λ (fs : List Field). first ∷ fs) (sym is_others) in
     let full : is_full_cookie first ≡ true =
-        ap is_full_cookie (is_first ∙ ap (λ (fs : List Field). get_or fs 0 first) is_back ∙ get_or-drop at head 0 first ∙ ap (λ (n : ℕ). get_or head n first) (omega arith)) ∙ there first within in
+    ap is_full_cookie (is_first ∙ ap (λ (fs : List Field). get_or fs 0 first) is_back ∙ get_or-drop at head 0 first ∙ ap (λ (n : ℕ). get_or head n first) (omega arith)) ∙ there first within in
     let same : cookie ≡ cookie_field (joined_by between (first.value ∷ cookies (filter is_sent others))) = field_same cookie _ name value in
     is
     ∙ ap (λ (fs : List Field). fs ++ filter is_plain others) (is_pushed ∙ ap (λ (fs : List Field). fs ++ cookie ∷ []) (is_plain_front ∙ ap (λ (o : List Field). o ++ filter is_plain front) none ∙ ap (filter is_plain) is_front))

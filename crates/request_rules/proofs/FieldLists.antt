@@ -1,10 +1,10 @@
 -- Lists of fields read field by field.
-use Rattle.std.proofs.Common.{suc, ◌≡◌, ℕ, ◌+◌, ◌-◌, ◌<◌, Bool, true, false, List, [], ◌∷◌, ◌++◌, length, get_or, filter, refl, sym, ap, ◌∙◌, subst, inl, inr, arith}
-use Rattle.std.specs.Prelude.{not, ◌&&◌, ◌||◌, ◌==◌, bytes_eq, codes, Decides, count_by, MatchBool, if◌then◌else◌}
+use Rattle.std.proofs.Common.{suc, ◌≡◌, ℕ, ◌<◌, Bool, true, false, List, [], ◌∷◌, ◌++◌, length, get_or, filter, refl, sym, ap, ◌∙◌, subst, inl, inr, arith}
+use Rattle.std.specs.Prelude.{not, ◌&&◌, ◌||◌, bytes_eq, Decides, count_by, MatchBool, if◌then◌else◌}
 use Rattle.std.specs.List.{list_all, list_any}
 use Rattle.std.proofs.lemmas.Bool.{false≢true, cases_Bool, not_from_true, cond-true, cond-false, and_parts, and_from, not-true, not_from_false}
 use Rattle.std.proofs.lemmas.List.Sums.{length-filter}
-use Rattle.model.specs.Octets.{some_of, is_value}
+use Rattle.model.specs.Octets.{some_of}
 use Rattle.model.specs.Messages.{Field}
 use Rattle.model.specs.Http1.{values_of, without}
 use Rattle.model.specs.Http2.{is_pseudo, pseudo_fields, regular_fields, is_name_octet, NamesHold}
@@ -23,8 +23,8 @@ kept_all kept test [] = refl
 kept_all kept test (field ∷ fields) =
     let rest = kept_all kept test fields in
     elim (cases_Bool (kept field)) [
-      inl e ↦ rw (cond-true (kept field) (field ∷ filter kept fields) (filter kept fields) e, e) (ap (λ t. test field && t) rest)
-    | inr e ↦ rw (cond-false (kept field) (field ∷ filter kept fields) (filter kept fields) e, e) rest
+      | inl e ↦ rw (cond-true (kept field) (field ∷ filter kept fields) (filter kept fields) e, e) (ap (λ t. test field && t) rest)
+      | inr e ↦ rw (cond-false (kept field) (field ∷ filter kept fields) (filter kept fields) e, e) rest
     ]
 
 -- a test of the values of a name is one of all fields
@@ -34,8 +34,8 @@ named_all name test [] = refl
 named_all name test (field ∷ fields) =
     let rest = named_all name test fields in
     elim (cases_Bool (bytes_eq field.name name)) [
-      inl e ↦ rw (cond-true (bytes_eq field.name name) (field.value ∷ values_of name fields) (values_of name fields) e, e) (ap (λ t. test field.value && t) rest)
-    | inr e ↦ rw (cond-false (bytes_eq field.name name) (field.value ∷ values_of name fields) (values_of name fields) e, e) rest
+      | inl e ↦ rw (cond-true (bytes_eq field.name name) (field.value ∷ values_of name fields) (values_of name fields) e, e) (ap (λ t. test field.value && t) rest)
+      | inr e ↦ rw (cond-false (bytes_eq field.name name) (field.value ∷ values_of name fields) (values_of name fields) e, e) rest
     ]
 
 same_tests : (test other : Field → Bool) → ((field : Field) → test field ≡ other field) → (fields : List Field) → list_all test fields ≡ list_all other fields
@@ -49,7 +49,7 @@ not-not false = refl
 pub names_decided : (b : Bool) (fields : List Field) → b ≡ list_all (λ field. is_pseudo field || some_of is_name_octet field.name) fields → Decides b (NamesHold fields)
 names_decided b fields e =
     let other : list_all (λ field. is_pseudo field || some_of is_name_octet field.name) fields ≡ list_all (λ field. not (not (is_pseudo field)) || some_of is_name_octet field.name) fields =
-        same_tests _ _ (λ field. ap (λ t. t || some_of is_name_octet field.name) (sym (not-not (is_pseudo field)))) fields in
+    same_tests _ _ (λ field. ap (λ t. t || some_of is_name_octet field.name) (sym (not-not (is_pseudo field)))) fields in
     decided_by b _ (e ∙ other ∙ kept_all (λ field. not (is_pseudo field)) (λ field. some_of is_name_octet field.name) fields)
 
 pub without_decided : (names : List (List ℕ)) (b : Bool) (fields : List Field) → b ≡ list_all (λ field. not (list_any (bytes_eq field.name) names)) fields → Decides b (without names fields ≡ fields)
@@ -85,8 +85,8 @@ pub all_fail : (test : Field → Bool) (fields : List Field) → filter test fie
 all_fail test [] e = refl
 all_fail test (field ∷ fields) e =
     elim (cases_Bool (test field)) [
-      inl p ↦ let none : field ∷ filter test fields ≡ [] = sym (cond-true (test field) (field ∷ filter test fields) (filter test fields) p) ∙ e in cc
-    | inr p ↦ and_from (not (test field)) _ (not_from_false _ p)
+      | inl p ↦ let none : field ∷ filter test fields ≡ [] = sym (cond-true (test field) (field ∷ filter test fields) (filter test fields) p) ∙ e in cc
+      | inr p ↦ and_from (not (test field)) _ (not_from_false _ p)
           (all_fail test fields (sym (cond-false (test field) (field ∷ filter test fields) (filter test fields) p) ∙ e))
     ]
 
@@ -109,12 +109,11 @@ all_regular fields p =
 pub pseudo_next : (field : Field) (fields : List Field) → is_pseudo field ≡ true → (StandFirst fields → StandFirst (field ∷ fields)) × (StandFirst (field ∷ fields) → StandFirst fields)
 pseudo_next field fields p =
     let front : pseudo_fields (field ∷ fields) ≡ field ∷ pseudo_fields fields = cond-true (is_pseudo field) (field ∷ pseudo_fields fields) (pseudo_fields fields) p in
-    let rest : regular_fields (field ∷ fields) ≡ regular_fields fields = cond-false (not (is_pseudo field)) (field ∷ regular_fields fields) (regular_fields fields) (not_from_true _ p) in
-    (
+    let rest : regular_fields (field ∷ fields) ≡ regular_fields fields = cond-false (not (is_pseudo field)) (field ∷ regular_fields fields) (regular_fields fields) (not_from_true _ p) in (
       λ e. ap (λ (fs : List Field). field ∷ fs) e ∙ sym (ap (λ (fs : List Field). fs ++ regular_fields (field ∷ fields)) front ∙ ap (λ (fs : List Field). (field ∷ pseudo_fields fields) ++ fs) rest),
       λ e. let whole : field ∷ fields ≡ field ∷ (pseudo_fields fields ++ regular_fields fields) =
-               e ∙ ap (λ (fs : List Field). fs ++ regular_fields (field ∷ fields)) front ∙ ap (λ (fs : List Field). (field ∷ pseudo_fields fields) ++ fs) rest in
-           cc (whole),
+          e ∙ ap (λ (fs : List Field). fs ++ regular_fields (field ∷ fields)) front ∙ ap (λ (fs : List Field). (field ∷ pseudo_fields fields) ++ fs) rest in
+          cc (whole),
     )
 
 pub record SameOrder (rest head : List Field) : Type 0 where

@@ -1,14 +1,14 @@
 -- What the tests of the rules answer, over plain values.
-use Rattle.std.proofs.Common.{Option, Some, None, ◌≡◌, ℕ, ◌<◌, ◌≤◌, Bool, true, false, List, [], ◌∷◌, ◌++◌, length, refl, sym, ap, ◌∙◌, subst, arith}
+use Rattle.std.proofs.Common.{Option, Some, None, ◌≡◌, ℕ, ◌≤◌, Bool, true, false, List, [], ◌∷◌, ◌++◌, length, refl, sym, ap, ◌∙◌, subst, arith}
 use Rattle.std.specs.Prelude.{not, ◌&&◌, ◌||◌, ◌==◌, nat_le, bytes_eq, codes, count_by, MatchBool, if◌then◌else◌}
 use Rattle.std.specs.List.{list_all, list_any}
 use Rattle.std.specs.Str.Parse.{digits_value}
-use Rattle.std.proofs.lemmas.Bool.{false≢true, true≢false, and_parts, and_from, eqb-true, eq-eqb, leb-true, le-leb}
+use Rattle.std.proofs.lemmas.Bool.{false≢true, and_parts, and_from, eqb-true, eq-eqb, leb-true, le-leb}
 use Rattle.std.proofs.lemmas.List.{nil_from_length}
 use Rattle.model.specs.Octets.{some_of, is_digit, lower}
 use Rattle.model.specs.Messages.{Field}
 use Rattle.model.specs.Http1.{values_of, without}
-use Rattle.model.specs.Http2.{first_of, promised, declared_length, is_pseudo, is_connect, pseudo_fields, regular_fields, known_names, authority_of, authorities_of, is_authority_octet, is_name_octet, Has, NamesHold, PseudoFieldsHold, AuthorityHolds, LengthFieldHolds}
+use Rattle.model.specs.Http2.{first_of, promised, declared_length, is_pseudo, is_connect, pseudo_fields, regular_fields, known_names, authority_of, is_authority_octet, is_name_octet, Has, NamesHold, PseudoFieldsHold, AuthorityHolds, LengthFieldHolds}
 use Rattle.model.proofs.Http1Runs.{run_of_some}
 use Rattle.request_rules.proofs.FieldLists.{named_all, names_decided, without_decided, count_values, kept_all, none_pass, all_fail}
 
@@ -67,17 +67,17 @@ all-append test (v ∷ a) b = by_test (test v) (all-append test a b)
 pub match_authority_count : (b connect : Bool) (head : List Field) (n : ℕ) → n ≡ count_by (λ field. bytes_eq field.name (codes ":authority")) head
     → b ≡ (if connect then n == 1 else nat_le n 1)
     → MatchBool b ((length (values_of (codes ":authority") head) ≤ 1) × (connect ≡ true → Has 1 (codes ":authority") head))
-        ((length (values_of (codes ":authority") head) ≤ 1) × (connect ≡ true → Has 1 (codes ":authority") head) → ⊥)
+    ((length (values_of (codes ":authority") head) ≤ 1) × (connect ≡ true → Has 1 (codes ":authority") head) → ⊥)
 match_authority_count b true head n e is =
     let count = e ∙ count_values (codes ":authority") head in
     match_if b _
-        (λ p. let one : n ≡ 1 = eqb-true n 1 (sym is ∙ p) in (omega arith, λ q. sym count ∙ one))
-        (λ p. is ∙ eq-eqb n 1 (count ∙ p.1 refl))
+    (λ p. let one : n ≡ 1 = eqb-true n 1 (sym is ∙ p) in (omega arith, λ q. sym count ∙ one))
+    (λ p. is ∙ eq-eqb n 1 (count ∙ p.1 refl))
 match_authority_count b false head n e is =
     let count = e ∙ count_values (codes ":authority") head in
     match_if b _
-        (λ p. let few = leb-true n 1 (sym is ∙ p) in (omega arith, λ q. absurd (false≢true q)))
-        (λ p. is ∙ le-leb n 1 (let few = p.0 in omega arith))
+    (λ p. let few = leb-true n 1 (sym is ∙ p) in (omega arith, λ q. absurd (false≢true q)))
+    (λ p. is ∙ le-leb n 1 (let few = p.0 in omega arith))
 
 pub match_authority : (b : Bool) (head : List Field)
     → length (values_of (codes "host") head) ≤ 1 → some_of is_authority_octet (authority_of head) ≡ true
@@ -89,8 +89,8 @@ match_authority b head one octets first e =
     let hosts : b ≡ list_all test (values_of (codes "host") head) = e ∙ named_all (codes "host") test head in
     let whole = all-append test (values_of (codes ":authority") head) (values_of (codes "host") head) in
     match_if b (AuthorityHolds head)
-        (λ p. record { one_host = one; octets = octets; same = whole ∙ and_from _ _ first (sym hosts ∙ p) })
-        (λ p. hosts ∙ (and_parts _ _ (sym whole ∙ p.same)).1)
+    (λ p. record { one_host = one; octets = octets; same = whole ∙ and_from _ _ first (sym hosts ∙ p) })
+    (λ p. hosts ∙ (and_parts _ _ (sym whole ∙ p.same)).1)
 
 pub no_authority : (head : List Field) → list_all (λ field. not (bytes_eq field.name (codes ":authority")) || bytes_eq (lower field.value) (lower (authority_of head))) head ≡ false → AuthorityHolds head → ⊥
 no_authority head e p =
@@ -139,16 +139,16 @@ pub match_pseudo : (b connect : Bool) (parts : ℕ) (head : List Field) → conn
 match_pseudo b connect parts head c n first known method scheme path m =
     let count : parts ≡ (if is_connect head then 0 else 1) = n ∙ ap (λ (t : Bool). if t then 0 else 1) c in
     match_map b (AuthorityCount connect head) (PseudoFieldsHold head)
-        (λ p. record {
-          first = first;
-          known = known;
-          method = method;
-          scheme = scheme ∙ count;
-          path = path ∙ count;
-          one_authority = p.0;
-          connect_authority = λ q. p.1 (c ∙ q);
-        })
-        (λ p. (p.one_authority, λ q. p.connect_authority (sym c ∙ q))) m
+    (λ p. record {
+      first = first;
+      known = known;
+      method = method;
+      scheme = scheme ∙ count;
+      path = path ∙ count;
+      one_authority = p.0;
+      connect_authority = λ q. p.1 (c ∙ q);
+    })
+    (λ p. (p.one_authority, λ q. p.connect_authority (sym c ∙ q))) m
 
 -- the declared length, by whether its field is there
 pub none_declared : (head : List Field) (n : ℕ) → n ≡ count_by (λ field. bytes_eq field.name (codes "content-length")) head → n ≡ 0 → None ≡ declared_length head
@@ -175,3 +175,6 @@ first_length_parts (value ∷ values) some p =
 pub first_length : (head : List Field) (n : ℕ) → n ≡ count_by (λ field. bytes_eq field.name (codes "content-length")) head → (n ≡ 0 → ⊥) → LengthFieldHolds head
     → (list_all is_digit (first_of (values_of (codes "content-length") head)) ≡ true) × (length (first_of (values_of (codes "content-length") head)) ≤ 18)
 first_length head n e some p = first_length_parts (values_of (codes "content-length") head) (λ zero. some (e ∙ count_values (codes "content-length") head ∙ zero)) p.digits
+
+pub match_no_pseudo : (b : Bool) (fields : List Field) → b ≡ list_all (λ field. not (is_pseudo field)) fields → MatchBool b (pseudo_fields fields ≡ []) (pseudo_fields fields ≡ [] → ⊥)
+match_no_pseudo b fields e = match_if b _ (λ p. none_pass is_pseudo fields (sym e ∙ p)) (λ p. e ∙ all_fail is_pseudo fields p)

@@ -1,5 +1,5 @@
 -- Which fields of a head are sent on.
-use Rattle.std.specs.Prelude.{Bool, not, ◌&&◌, List, [], ◌∷◌, codes, bytes_eq}
+use Rattle.std.specs.Prelude.{Bool, not, ◌&&◌, [], ◌∷◌, codes, bytes_eq}
 use Rattle.std.specs.List.{list_any}
 use Rattle.model.specs.Messages.{Field}
 use Rattle.model.specs.Http2.{is_pseudo, is_cookie, is_empty_cookie}

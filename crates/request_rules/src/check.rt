@@ -1,17 +1,18 @@
 //! The first rule that is broken.
 
-ghost use Rattle.std.specs.Prelude.{◌≡◌, ℕ, true, [], MatchBool, MatchOption, take};
-ghost use Rattle.model.specs.Http2.{LengthFieldHolds, HasLength, declared_length};
+ghost use Rattle.std.specs.Prelude.{◌≡◌, ℕ, true, [], MatchBool, MatchOption, take, IfOk, OnOk, IfErr};
+ghost use Rattle.model.specs.Http2.{LengthFieldHolds, HasLength, declared_length, WellFormedHead, WellFormedTrailers};
+ghost use Rattle.request_rules.specs.Heads.{parts_of};
 ghost use Rattle.request_rules.specs.Rules.{IsFirstBroken, IsFirstBrokenByTrailers, Keeps, in_order};
 
-use crate::fields;
-use crate::octets;
+use crate::head::RequestHead;
 use crate::rule::Rule;
-use crate::rules;
+use crate::{fields, octets, rules};
 use hpack_table::Field;
+use std::alloc::Global;
 
 /// The length that a head declares, if any.
-pub fn declared_length(head: &[Field]) -> Option<u64>
+pub(crate) fn declared_length(head: &[Field]) -> Option<u64>
     requires { LengthFieldHolds head.now }
     ensures { result ≡ declared_length head.now }
 {
@@ -33,7 +34,7 @@ fn length_holds(head: &[Field], ended: bool) -> bool
 }
 
 /// The first rule that a head breaks.
-pub fn first_broken(head: &[Field], ended: bool) -> Option<Rule>
+fn first_broken(head: &[Field], ended: bool) -> Option<Rule>
     ensures { MatchOption result (Keeps (take 11 in_order) head.now ended) (λ rule. IsFirstBroken rule head.now ended) }
 {
     if !rules::pseudo_fields_hold(head) {
@@ -70,4 +71,41 @@ pub fn first_broken(head: &[Field], ended: bool) -> Option<Rule>
         return Some(Rule::Length);
     }
     None
+}
+
+/// Checks the head of a request (RFC 9113, sections 8.2 to 8.5) and answers its parts; `ended` where the head ends the
+/// stream. An error is the first rule, in the order of [`Rule`], that the head breaks; `Memory` comes where it breaks none.
+pub fn check_head(alloc: Global, head: &[Field], ended: bool) -> Result<RequestHead, Rule>
+    ensures ok { IfOk result (λ parts. parts ≡ parts_of head.now) }
+    ensures kept { OnOk result (WellFormedHead head.now × (ended ≡ true → HasLength (declared_length head.now) [])) }
+    ensures refused { IfErr result (λ rule. IsFirstBroken rule head.now ended) }
+{
+    if let Some(rule) = first_broken(head, ended) {
+        return Err(rule);
+    }
+    match RequestHead::of(alloc, head) {
+        Ok(parts) => Ok(parts),
+        Err(_) => Err(Rule::Memory),
+    }
+}
+
+/// Checks the trailers of a request (RFC 9113, section 8.1). An error is the first rule, in the order of [`Rule`], that they
+/// break: one of pseudo-fields, names, values and fields of the connection.
+pub fn check_trailers(trailers: &[Field]) -> Result<(), Rule>
+    ensures ok { OnOk result (WellFormedTrailers trailers.now) }
+    ensures refused { IfErr result (λ rule. IsFirstBrokenByTrailers rule trailers.now) }
+{
+    if !rules::has_no_pseudo_field(trailers) {
+        return Err(Rule::PseudoField);
+    }
+    if !rules::names_hold(trailers) {
+        return Err(Rule::Name);
+    }
+    if !rules::values_hold(trailers) {
+        return Err(Rule::Value);
+    }
+    if !rules::has_no_connection_field(trailers) {
+        return Err(Rule::ConnectionField);
+    }
+    Ok(())
 }

@@ -102,7 +102,9 @@ pub fn te_holds(head: &[Field]) -> bool
 fn scheme_holds_of(field: &Field) -> bool
     ensures { result ≡ (not (bytes_eq field.now.name (codes ":scheme")) || (bytes_eq field.now.value (codes "http") || bytes_eq field.now.value (codes "https"))) }
 {
-    !is_named(field, b":scheme") || field.value() == b"http".as_slice() || field.value() == b"https".as_slice()
+    !is_named(field, b":scheme")
+        || field.value() == b"http".as_slice()
+        || field.value() == b"https".as_slice()
 }
 
 /// Whether each scheme is `http` or `https`.

@@ -9,9 +9,7 @@ ghost use Rattle.model.specs.Http2.{is_pseudo, is_cookie, is_empty_cookie, field
 ghost use Rattle.request_rules.specs.Heads.{parts_of};
 ghost use Rattle.request_rules.specs.Sent.{is_sent, is_full_cookie, is_plain};
 
-use crate::check;
-use crate::fields;
-use crate::rules;
+use crate::{check, fields, rules};
 use hpack_table::Field;
 use std::alloc::{AllocError, Global};
 use std::marker::Model;
@@ -98,7 +96,9 @@ fn is_sent(field: &Field) -> bool
 fn is_told_otherwise(field: &Field) -> bool
     ensures { result ≡ list_any (bytes_eq field.now.name) (codes "host" ∷ codes "te" ∷ codes "content-length" ∷ []) }
 {
-    fields::is_named(field, b"host") || fields::is_named(field, b"te") || fields::is_named(field, b"content-length")
+    fields::is_named(field, b"host")
+        || fields::is_named(field, b"te")
+        || fields::is_named(field, b"content-length")
 }
 
 /// Whether the field is a cookie that says nothing.

@@ -1,11 +1,10 @@
 //! The rules of a head, each as a test.
 
-ghost use Rattle.std.specs.Prelude.{◌≡◌, ◌≤◌, ℕ, true, false, MatchBool, if◌then◌else◌, length, codes, bytes_eq};
+ghost use Rattle.std.specs.Prelude.{◌≡◌, ◌≤◌, ℕ, [], true, false, MatchBool, if◌then◌else◌, length, codes, bytes_eq};
 ghost use Rattle.model.specs.Http1.{values_of};
-ghost use Rattle.model.specs.Http2.{first_of, is_connect, authority_of, authorities_of, method_of, PseudoFieldsHold, NamesHold, ValuesHold, HasNoConnectionField, TeHolds, MethodHolds, SchemeHolds, PathHolds, AuthorityHolds, LengthFieldHolds, Has};
+ghost use Rattle.model.specs.Http2.{pseudo_fields, first_of, is_connect, authority_of, authorities_of, method_of, PseudoFieldsHold, NamesHold, ValuesHold, HasNoConnectionField, TeHolds, MethodHolds, SchemeHolds, PathHolds, AuthorityHolds, LengthFieldHolds, Has};
 
-use crate::fields;
-use crate::octets;
+use crate::{fields, octets};
 use hpack_table::Field;
 
 /// Whether the method is CONNECT.
@@ -153,4 +152,11 @@ pub fn pseudo_fields_hold(head: &[Field]) -> bool
         return false;
     }
     authority_count_holds(head, connect)
+}
+
+/// Whether no field is a pseudo-field.
+pub fn has_no_pseudo_field(fields: &[Field]) -> bool
+    ensures { MatchBool result (pseudo_fields fields.now ≡ []) (pseudo_fields fields.now ≡ [] → ⊥) }
+{
+    fields::are_regular(fields)
 }

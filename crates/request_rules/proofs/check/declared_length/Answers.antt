@@ -1,6 +1,6 @@
 use Rattle.std.proofs.Common.{◌∙◌, ap}
 use Rattle.std.specs.Str.Parse.{digits_value}
-use Rattle.request_rules.proofs.RuleTests.{none_declared, some_declared, first_length}
+use Rattle.request_rules.proofs.RuleTests.{none_declared, some_declared}
 use Rattle.request_rules.proofs.check.declared_length.Goals as goal
 
 pub returns-then-count-eq0 : goal.returns-then-count-eq0

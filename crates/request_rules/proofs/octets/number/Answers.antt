@@ -1,5 +1,5 @@
-use Rattle.std.proofs.Common.{arith, ◌<◌}
-use Rattle.request_rules.proofs.Numbers.{sum_is_small, read_more, read_all, is_digit_between, passes_at}
+use Rattle.std.proofs.Common.{arith}
+use Rattle.request_rules.proofs.Numbers.{sum_is_small}
 use Rattle.request_rules.proofs.octets.number.Goals as goal
 
 pub overflow_mul-sum : goal.overflow_mul-sum

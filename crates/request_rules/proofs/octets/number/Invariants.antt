@@ -1,5 +1,3 @@
-use Rattle.std.proofs.Common.{◌≡◌, ◌<◌, ◌^◌, drop}
-use Rattle.std.specs.Str.Parse.{digits_value, digits_value_after}
 use Rattle.request_rules.proofs.octets.number.Given as goal
 use Rattle.request_rules.proofs.Numbers.{Read}
 

@@ -1,7 +1,6 @@
-use Rattle.std.proofs.Common.{sym, ◌∙◌, ap, refl, true, false}
-use Rattle.std.specs.Prelude.{codes, bytes_eq, ◌||◌}
+use Rattle.std.proofs.Common.{sym, ◌∙◌}
+use Rattle.std.specs.Prelude.{codes, bytes_eq}
 use Rattle.model.specs.Octets.{lower}
-use Rattle.model.specs.Http2.{connection_names, is_path_for, method_of}
 use Rattle.request_rules.proofs.FieldLists.{named_all}
 use Rattle.request_rules.proofs.RuleTests.{match_authority, no_authority}
 use Rattle.request_rules.proofs.rules.authority_holds.Goals as goal

@@ -1,8 +1,6 @@
-use Rattle.std.proofs.Common.{sym, ◌∙◌, ap, refl, true, false}
-use Rattle.std.specs.Prelude.{◌&&◌, nat_le, length, codes, bytes_eq, ◌||◌}
+use Rattle.std.specs.Prelude.{◌&&◌, nat_le, length, codes}
 use Rattle.model.specs.Octets.{some_of, is_digit}
-use Rattle.model.specs.Http2.{LengthFieldHolds, connection_names, is_path_for, method_of}
-use Rattle.request_rules.proofs.FieldLists.{count_values}
+use Rattle.model.specs.Http2.{LengthFieldHolds}
 use Rattle.request_rules.proofs.RuleTests.{match_named, match_map}
 use Rattle.request_rules.proofs.rules.length_field_holds.Goals as goal
 

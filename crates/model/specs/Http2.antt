@@ -60,11 +60,15 @@ declared_length head = promised (values_of (codes "content-length") head)
 abbrev pub Has : ℕ → List ℕ → List Field → Type 0
 Has count name fields = length (values_of name fields) ≡ count
 
+-- The pseudo-fields of a request (section 8.3.1).
+abbrev pub known_names : List (List ℕ)
+known_names = codes ":method" ∷ codes ":scheme" ∷ codes ":path" ∷ codes ":authority" ∷ []
+
 -- Pseudo-fields stand first and each is a known one (section 8.3). None is there twice. Method, scheme and path are there
 -- (section 8.3.1); with the method CONNECT the authority is there, and scheme and path are not (section 8.5).
 pub record PseudoFieldsHold (head : List Field) : Type 0 where
   pub first : head ≡ pseudo_fields head ++ regular_fields head
-  pub known : without (codes ":method" ∷ codes ":scheme" ∷ codes ":path" ∷ codes ":authority" ∷ []) (pseudo_fields head) ≡ []
+  pub known : without known_names (pseudo_fields head) ≡ []
   pub method : Has 1 (codes ":method") head
   pub scheme : Has (if is_connect head then 0 else 1) (codes ":scheme") head
   pub path : Has (if is_connect head then 0 else 1) (codes ":path") head

@@ -1,1 +1,5 @@
 pub mod Texts
+pub mod FieldLists
+pub mod Numbers
+pub mod RuleTests
+pub mod Cookies

@@ -1,4 +1,17 @@
-//! The rules of a request by HTTP/2 (RFC 9113, section 8).
+//! The rules of a request by HTTP/2 (RFC 9113, section 8): of its head, of its trailers, and of its body's length.
 #![tactic(auto)]
 
+mod body_count;
+mod check;
+mod fields;
+mod head;
 mod octets;
+mod rule;
+mod rules;
+#[cfg(test)]
+mod tests;
+
+pub use crate::body_count::BodyCount;
+pub use crate::check::{check_head, check_trailers};
+pub use crate::head::RequestHead;
+pub use crate::rule::Rule;

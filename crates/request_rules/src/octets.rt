@@ -1,8 +1,9 @@
 //! Octets and texts: tokens, values, paths and authorities.
 
-ghost use Rattle.std.specs.Prelude.{◌≡◌, ℕ};
+ghost use Rattle.std.specs.Prelude.{◌≡◌, ◌≤◌, ℕ, true, length, bytes_eq};
+ghost use Rattle.std.specs.Str.Parse.{digits_value};
 ghost use Rattle.std.specs.List.{list_all};
-ghost use Rattle.model.specs.Octets.{some_of, is_digit, is_token_octet, is_visible, is_space, is_value_octet, is_value, begins_with_space, ends_with_space};
+ghost use Rattle.model.specs.Octets.{some_of, is_digit, is_token_octet, is_visible, is_space, is_value_octet, is_value, begins_with_space, ends_with_space, lower};
 ghost use Rattle.model.specs.Http2.{begins_with, is_name_octet, is_authority_octet, is_path_for};
 
 /// Whether a token may hold the octet (RFC 9110, section 5.6.2).
@@ -187,4 +188,24 @@ fn begins_with_slash(text: &[u8]) -> bool
         [first, ..] => *first == b'/',
         [] => false,
     }
+}
+
+/// Whether the texts are one, ASCII case aside.
+pub fn are_alike(text: &[u8], other: &[u8]) -> bool
+    ensures { result ≡ bytes_eq (lower text.now) (lower other.now) }
+{
+    text.eq_ignore_ascii_case(other)
+}
+
+/// The number that decimal digits write, at most 18 of them.
+pub fn number(digits: &[u8]) -> u64
+    requires digits { list_all is_digit digits.now ≡ true }
+    requires short { length digits.now ≤ 18 }
+    ensures { result ≡ digits_value 10 digits.now }
+{
+    let mut sum: u64 = 0;
+    for digit in digits {
+        sum = 10 * sum + (*digit - b'0') as u64;
+    }
+    sum
 }

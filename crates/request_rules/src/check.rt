@@ -1,0 +1,111 @@
+//! The first rule that is broken.
+
+ghost use Rattle.std.specs.Prelude.{◌≡◌, ℕ, true, [], MatchBool, MatchOption, take, IfOk, OnOk, IfErr};
+ghost use Rattle.model.specs.Http2.{LengthFieldHolds, HasLength, declared_length, WellFormedHead, WellFormedTrailers};
+ghost use Rattle.request_rules.specs.Heads.{parts_of};
+ghost use Rattle.request_rules.specs.Rules.{IsFirstBroken, IsFirstBrokenByTrailers, Keeps, in_order};
+
+use crate::head::RequestHead;
+use crate::rule::Rule;
+use crate::{fields, octets, rules};
+use hpack_table::Field;
+use std::alloc::Global;
+
+/// The length that a head declares, if any.
+pub(crate) fn declared_length(head: &[Field]) -> Option<u64>
+    requires { LengthFieldHolds head.now }
+    ensures { result ≡ declared_length head.now }
+{
+    if fields::count(head, b"content-length") == 0 {
+        return None;
+    }
+    Some(octets::number(fields::first_value(head, b"content-length")))
+}
+
+/// Whether a head that ends its stream declares no octets.
+fn length_holds(head: &[Field], ended: bool) -> bool
+    requires { LengthFieldHolds head.now }
+    ensures { MatchBool result (ended ≡ true → HasLength (declared_length head.now) []) ((ended ≡ true → HasLength (declared_length head.now) []) → ⊥) }
+{
+    if !ended {
+        return true;
+    }
+    matches!(declared_length(head), None | Some(0))
+}
+
+/// The first rule that a head breaks.
+fn first_broken(head: &[Field], ended: bool) -> Option<Rule>
+    ensures { MatchOption result (Keeps (take 11 in_order) head.now ended) (λ rule. IsFirstBroken rule head.now ended) }
+{
+    if !rules::pseudo_fields_hold(head) {
+        return Some(Rule::PseudoField);
+    }
+    if !rules::names_hold(head) {
+        return Some(Rule::Name);
+    }
+    if !rules::values_hold(head) {
+        return Some(Rule::Value);
+    }
+    if !rules::has_no_connection_field(head) {
+        return Some(Rule::ConnectionField);
+    }
+    if !rules::te_holds(head) {
+        return Some(Rule::Te);
+    }
+    if !rules::method_holds(head) {
+        return Some(Rule::Method);
+    }
+    if !rules::scheme_holds(head) {
+        return Some(Rule::Scheme);
+    }
+    if !rules::path_holds(head) {
+        return Some(Rule::Path);
+    }
+    if !rules::authority_holds(head) {
+        return Some(Rule::Authority);
+    }
+    if !rules::length_field_holds(head) {
+        return Some(Rule::ContentLength);
+    }
+    if !length_holds(head, ended) {
+        return Some(Rule::Length);
+    }
+    None
+}
+
+/// Checks the head of a request (RFC 9113, sections 8.2 to 8.5) and answers its parts; `ended` where the head ends the
+/// stream. An error is the first rule, in the order of [`Rule`], that the head breaks; `Memory` comes where it breaks none.
+pub fn check_head(alloc: Global, head: &[Field], ended: bool) -> Result<RequestHead, Rule>
+    ensures ok { IfOk result (λ parts. parts ≡ parts_of head.now) }
+    ensures kept { OnOk result (WellFormedHead head.now × (ended ≡ true → HasLength (declared_length head.now) [])) }
+    ensures refused { IfErr result (λ rule. IsFirstBroken rule head.now ended) }
+{
+    if let Some(rule) = first_broken(head, ended) {
+        return Err(rule);
+    }
+    match RequestHead::of(alloc, head) {
+        Ok(parts) => Ok(parts),
+        Err(_) => Err(Rule::Memory),
+    }
+}
+
+/// Checks the trailers of a request (RFC 9113, section 8.1). An error is the first rule, in the order of [`Rule`], that they
+/// break: one of pseudo-fields, names, values and fields of the connection.
+pub fn check_trailers(trailers: &[Field]) -> Result<(), Rule>
+    ensures ok { OnOk result (WellFormedTrailers trailers.now) }
+    ensures refused { IfErr result (λ rule. IsFirstBrokenByTrailers rule trailers.now) }
+{
+    if !rules::has_no_pseudo_field(trailers) {
+        return Err(Rule::PseudoField);
+    }
+    if !rules::names_hold(trailers) {
+        return Err(Rule::Name);
+    }
+    if !rules::values_hold(trailers) {
+        return Err(Rule::Value);
+    }
+    if !rules::has_no_connection_field(trailers) {
+        return Err(Rule::ConnectionField);
+    }
+    Ok(())
+}

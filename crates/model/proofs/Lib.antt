@@ -1,2 +1,3 @@
 pub mod HpackExamples
 pub mod IntegerLemmas
+pub mod HuffmanLemmas

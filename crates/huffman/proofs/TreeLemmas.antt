@@ -1,0 +1,96 @@
+-- The tables of the code are the tree.
+use Rattle.std.proofs.Common.{◌≡◌, ℕ, zero, suc, ◌+◌, ◌-◌, ◌<◌, ◌≤◌, ◌⊎◌, Bool, true, false, ◌&&◌, ◌||◌, not, nat_eq, nat_lt, List, [], ◌∷◌, ◌++◌, length, get_or, refl, ap, sym, ◌∙◌, subst, inl, inr, arith, eqb-true, ltb-true, slice_get, Some, Option, None}
+use Rattle.std.specs.Prelude.{Contains, replicate}
+use Rattle.std.specs.List.{list_all, list_any}
+use Rattle.model.specs.Huffman.{huffman_code, bits, rows, row_codes, codes_from, Code, IsCode}
+use Rattle.model.proofs.HuffmanLemmas.{begins, and_left, and_right, all_at, begins_both}
+use Rattle.huffman.specs.Tree.{Leads, path, paths, levels, level_paths}
+use Rattle.huffman.specs.declared.tree.Branch.{Branch}
+use Rattle.huffman.specs.declared.tree.Branch.TheVariants.{Node, Symbol, End}
+use Rattle.huffman.specs.declared.tree.TheConstants.{ZEROS, ONES}
+
+nodes : length paths ≡ 256
+unfolding paths levels level_paths bits
+nodes = refl
+
+-- this symbol has these bits in the code
+abbrev has_code : List Code → ℕ → List ℕ → Bool
+has_code codes symbol text = list_any (λ (c : Code). nat_eq c.symbol symbol && (begins c.bits text && begins text c.bits)) codes
+
+abbrev equal : List ℕ → List ℕ → Bool
+equal xs ys = begins xs ys && begins ys xs
+
+-- the branch is right for the bits that lead to it
+abbrev leads : List ℕ → Branch → Bool
+leads text (Node next) = equal (path next) text
+leads text (Symbol symbol) = nat_lt symbol 256 && has_code huffman_code symbol text
+leads text End = has_code huffman_code 256 text
+
+abbrev all_lead : ℕ → List (List ℕ) → List Branch → Bool
+all_lead bit [] [] = true
+all_lead bit [] (branch ∷ branches) = false
+all_lead bit (text ∷ texts) [] = false
+all_lead bit (text ∷ texts) (branch ∷ branches) = leads (text ++ bit ∷ []) branch && all_lead bit texts branches
+
+zeros_lead : all_lead 0 paths ZEROS ≡ true
+unfolding paths path levels level_paths bits huffman_code codes_from row_codes rows
+zeros_lead = refl
+
+ones_lead : all_lead 1 paths ONES ≡ true
+unfolding paths path levels level_paths bits huffman_code codes_from row_codes rows
+ones_lead = refl
+
+any_code : (codes : List Code) (symbol : ℕ) (text : List ℕ) → has_code codes symbol text ≡ true → let code : Code = record { symbol = symbol; bits = text } in Contains codes code
+any_code [] symbol text e = cc
+any_code (c ∷ codes) symbol text e = elim (or_cases (nat_eq c.symbol symbol && equal c.bits text) (has_code codes symbol text) e) [
+  | inl here ↦ (let same : c.symbol ≡ symbol = eqb-true c.symbol symbol (and_left (nat_eq c.symbol symbol) (equal c.bits text) here) in
+      let is : c.bits ≡ text = equal_is c.bits text (and_right (nat_eq c.symbol symbol) (equal c.bits text) here) in
+      (0, omega arith, code_same c.symbol symbol c.bits text same is))
+  | inr later ↦ (let rest = any_code codes symbol text later in (suc rest.0, omega (arith, rest.1), rest.2))
+]
+  where
+    equal_is : (xs ys : List ℕ) → equal xs ys ≡ true → xs ≡ ys
+    equal_is xs ys e = begins_both xs ys (and_left (begins xs ys) (begins ys xs) e) (and_right (begins xs ys) (begins ys xs) e)
+
+    or_cases : (a b : Bool) → (a || b) ≡ true → (a ≡ true) ⊎ (b ≡ true)
+    or_cases true b e = inl refl
+    or_cases false b e = inr e
+
+    code_same : (s t : ℕ) (a b : List ℕ) → s ≡ t → a ≡ b → let first : Code = record { symbol = s; bits = a } in let second : Code = record { symbol = t; bits = b } in first ≡ second
+    code_same s t a b e f =
+        ap (λ (x : ℕ). let code : Code = record { symbol = x; bits = a } in code) e
+        ∙ ap (λ (x : List ℕ). let code : Code = record { symbol = t; bits = x } in code) f
+
+equal_same : (xs ys : List ℕ) → equal xs ys ≡ true → xs ≡ ys
+equal_same xs ys e = begins_both xs ys (and_left (begins xs ys) (begins ys xs) e) (and_right (begins xs ys) (begins ys xs) e)
+
+lead : (node bit : ℕ) (branch : Branch) → leads (path node ++ bit ∷ []) branch ≡ true → Leads node bit branch
+lead node bit (Node next) e = equal_same (path next) (path node ++ bit ∷ []) e
+lead node bit (Symbol symbol) e = (
+    ltb-true symbol 256 (and_left (nat_lt symbol 256) (has_code huffman_code symbol (path node ++ bit ∷ [])) e),
+    any_code huffman_code symbol (path node ++ bit ∷ []) (and_right (nat_lt symbol 256) (has_code huffman_code symbol (path node ++ bit ∷ [])) e),
+)
+lead node bit End e = any_code huffman_code 256 (path node ++ bit ∷ []) e
+
+lead_at : (bit : ℕ) (texts : List (List ℕ)) (branches : List Branch) (node : ℕ) (branch : Branch) → all_lead bit texts branches ≡ true → slice_get branches node ≡ Some branch
+    → leads (get_or texts node [] ++ bit ∷ []) branch ≡ true
+lead_at bit [] [] node branch e g = cc
+lead_at bit [] (b ∷ branches) node branch e g = cc
+lead_at bit (t ∷ texts) [] node branch e g = cc
+lead_at bit (t ∷ texts) (b ∷ branches) zero branch e g =
+    let same : b ≡ branch = cc in
+    subst (λ x. leads (t ++ bit ∷ []) x ≡ true) same (and_left (leads (t ++ bit ∷ []) b) (all_lead bit texts branches) e)
+lead_at bit (t ∷ texts) (b ∷ branches) (suc node) branch e g = lead_at bit texts branches node branch (and_right (leads (t ++ bit ∷ []) b) (all_lead bit texts branches) e) g
+
+pub zero_leads : (node : ℕ) (branch : Branch) → slice_get ZEROS node ≡ Some branch → Leads node 0 branch
+unfolding path
+zero_leads node branch g = lead node 0 branch (lead_at 0 paths ZEROS node branch zeros_lead g)
+
+pub one_leads : (node : ℕ) (branch : Branch) → slice_get ONES node ≡ Some branch → Leads node 1 branch
+unfolding path
+one_leads node branch g = lead node 1 branch (lead_at 1 paths ONES node branch ones_lead g)
+
+-- no code begins the bits that lead to a node
+none_before : list_all (λ text. list_all (λ (c : Code). not (begins c.bits text)) huffman_code) paths ≡ true
+unfolding paths levels level_paths bits huffman_code codes_from row_codes rows
+none_before = refl

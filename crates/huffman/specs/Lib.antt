@@ -1,0 +1,2 @@
+pub use Rattle.model.specs.Huffman
+pub mod Tree

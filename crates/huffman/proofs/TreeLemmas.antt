@@ -3,7 +3,7 @@ use Rattle.std.proofs.Common.{◌≡◌, ℕ, zero, suc, ◌+◌, ◌-◌, ◌<�
 use Rattle.std.specs.Prelude.{Contains, replicate}
 use Rattle.std.specs.List.{list_all, list_any}
 use Rattle.model.specs.Huffman.{huffman_code, bits, rows, row_codes, codes_from, Code, IsCode}
-use Rattle.model.proofs.HuffmanLemmas.{begins, and_left, and_right, all_at, begins_both}
+use Rattle.model.proofs.HuffmanLemmas.{begins, and_left, and_right, all_at, all_of, not_true, begins_front, begins_both}
 use Rattle.huffman.specs.Tree.{Leads, path, paths, levels, level_paths}
 use Rattle.huffman.specs.declared.tree.Branch.{Branch}
 use Rattle.huffman.specs.declared.tree.Branch.TheVariants.{Node, Symbol, End}
@@ -94,3 +94,24 @@ one_leads node branch g = lead node 1 branch (lead_at 1 paths ONES node branch o
 none_before : list_all (λ text. list_all (λ (c : Code). not (begins c.bits text)) huffman_code) paths ≡ true
 unfolding paths levels level_paths bits huffman_code codes_from row_codes rows
 none_before = refl
+
+-- the root is no bits away from itself
+pub path_root : path 0 ≡ []
+unfolding path paths levels level_paths bits
+path_root = refl
+
+pub none_at : (node symbol : ℕ) (code more : List ℕ) → node < 256 → IsCode symbol code → path node ≡ code ++ more → ⊥
+unfolding path
+none_at node symbol code more small is_code e =
+    let within : node < length paths = omega (arith, nodes) in
+    let here = all_at (λ text. list_all (λ (c : Code). not (begins c.bits text)) huffman_code) paths node [] none_before within in
+    let c : Code = record { symbol = symbol; bits = code } in
+    let apart = all_of (λ (d : Code). not (begins d.bits (get_or paths node []))) huffman_code c here is_code in
+    not_true (begins code (get_or paths node [])) (subst (λ t. begins code t ≡ true) (sym e) (begins_front code more)) apart
+
+-- the nodes of padding
+abbrev pub padding_nodes : List ℕ
+padding_nodes = 0 ∷ 2 ∷ 6 ∷ 14 ∷ 30 ∷ 52 ∷ 70 ∷ 74 ∷ []
+
+abbrev is_one_of : List ℕ → ℕ → Bool
+is_one_of nodes node = list_any (λ n. nat_eq n node) nodes

@@ -1,2 +1,3 @@
 pub use Rattle.model.specs.Huffman
 pub mod Tree
+pub mod Decoding

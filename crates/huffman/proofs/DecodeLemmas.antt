@@ -1,13 +1,10 @@
 -- Walking the tree along bits.
-use Rattle.std.proofs.Common.{◌≡◌, ℕ, zero, suc, ◌+◌, ◌-◌, ◌/◌, ◌%◌, ◌^◌, ◌<◌, ◌≤◌, ◌==◌, Bool, true, false, nat_eq, if◌then◌else◌, List, [], ◌∷◌, ◌++◌, length, take, drop, get_or, refl, ap, sym, ◌∙◌, subst, inl, inr, arith, append_assoc}
-use Rattle.std.specs.Prelude.{replicate, flat_map}
-use Rattle.std.proofs.lemmas.List.{append-nil, take-append-drop}
-use Rattle.model.specs.Huffman.{bits, octet_bits, IsCode, AreCodes, Huff}
+use Rattle.std.proofs.Common.{◌≡◌, ℕ, zero, suc, ◌+◌, ◌-◌, ◌/◌, ◌%◌, ◌^◌, ◌<◌, nat_eq, if◌then◌else◌, List, [], ◌∷◌, ◌++◌, length, take, drop, get_or, refl, ap, sym, ◌∙◌, subst, arith, append_assoc}
+use Rattle.std.proofs.lemmas.List.{append-nil}
+use Rattle.model.specs.Huffman.{bits, octet_bits, IsCode, AreCodes}
 use Rattle.model.proofs.HuffmanLemmas as huffman
-use Rattle.huffman.specs.Tree.{path, Leads}
-use Rattle.huffman.specs.Decoding.{Walked, Steps, Stops, Stands, EndsString, LongestRun, BeginsWith, IsBadlyPadded, IsPadding, Decodes, IsFaultOf, Adds}
-use Rattle.huffman.specs.declared.tree.Branch.{Branch}
-use Rattle.huffman.specs.declared.tree.Branch.TheVariants.{Node, Symbol, End}
+use Rattle.huffman.specs.Tree.{path}
+use Rattle.huffman.specs.Decoding.{Walked, Steps, Stops, EndsString, IsBadlyPadded, IsPadding, Decodes, IsFaultOf, Adds}
 use Rattle.huffman.specs.declared.decoder.HuffFault.{HuffFault}
 use Rattle.huffman.specs.declared.decoder.HuffFault.TheVariants.{Eos, Padding, Memory}
 use Rattle.huffman.proofs.TreeLemmas.{path_root, none_at}
@@ -66,8 +63,8 @@ steps_end old new start node bit read later s is_code = record {
       let v : Walked (before ++ read) (given ++ s.string) node = s.walks before given w in
       let rest : List ℕ = (path node ++ bit ∷ []) ++ (later ++ more) in
       let whole : before ++ ((read ++ bit ∷ later) ++ more) ≡ v.coded ++ rest =
-          ap (λ r. before ++ r) (append_assoc read (bit ∷ later) more) ∙ sym (append_assoc before read (bit ∷ (later ++ more))) ∙ ap (λ r. r ++ bit ∷ (later ++ more)) v.is
-          ∙ append_assoc v.coded (path node) (bit ∷ (later ++ more)) ∙ ap (λ r. v.coded ++ r) (sym (append_assoc (path node) (bit ∷ []) (later ++ more))) in
+      ap (λ r. before ++ r) (append_assoc read (bit ∷ later) more) ∙ sym (append_assoc before read (bit ∷ (later ++ more))) ∙ ap (λ r. r ++ bit ∷ (later ++ more)) v.is
+      ∙ append_assoc v.coded (path node) (bit ∷ (later ++ more)) ∙ ap (λ r. v.coded ++ r) (sym (append_assoc (path node) (bit ∷ []) (later ++ more))) in
       record {
         string = given ++ s.string;
         rest = rest;
@@ -118,3 +115,66 @@ split_bits octet = eight (λ place. bits 8 octet ≡ take place (bits 8 octet) +
 pub all_bits : (octet : ℕ) → take 8 (bits 8 octet) ≡ bits 8 octet
 unfolding bits
 all_bits octet = refl
+
+-- a bit as a test and as a number
+pub bit_is : (n : ℕ) → (if nat_eq (n % 2) 1 then 1 else 0) ≡ n % 2
+bit_is n = of_two (n % 2) (omega arith)
+  where
+    of_two : (b : ℕ) → b < 2 → (if nat_eq b 1 then 1 else 0) ≡ b
+    of_two zero h = refl
+    of_two (suc zero) h = refl
+    of_two (suc (suc b)) h = absurd (omega arith)
+
+-- one octet more
+octet_bits_more : (octets : List ℕ) (i : ℕ) → i < length octets → octet_bits (take (i + 1) octets) ≡ octet_bits (take i octets) ++ bits 8 (get_or octets i 0)
+octet_bits_more [] i h = absurd (omega arith)
+octet_bits_more (octet ∷ octets) zero h = append-nil (bits 8 octet)
+octet_bits_more (octet ∷ octets) (suc i) h =
+    let far : suc i + 1 ≡ suc (i + 1) = omega arith in
+    rw far (ap (λ r. bits 8 octet ++ r) (octet_bits_more octets i (omega arith)) ∙ sym (append_assoc (bits 8 octet) (octet_bits (take i octets)) (bits 8 (get_or octets i 0))))
+
+octet_bits_split : (octets : List ℕ) (i : ℕ) → i < length octets → octet_bits octets ≡ octet_bits (take i octets) ++ (bits 8 (get_or octets i 0) ++ octet_bits (drop (i + 1) octets))
+octet_bits_split [] i h = absurd (omega arith)
+octet_bits_split (octet ∷ octets) zero h = refl
+octet_bits_split (octet ∷ octets) (suc i) h =
+    let far : suc i + 1 ≡ suc (i + 1) = omega arith in
+    rw far (ap (λ r. bits 8 octet ++ r) (octet_bits_split octets i (omega arith)) ∙ sym (append_assoc (bits 8 octet) (octet_bits (take i octets)) (bits 8 (get_or octets i 0) ++ octet_bits (drop (i + 1) octets))))
+
+pub steps_octet : (octets : List ℕ) (i : ℕ) (old mid new : List ℕ) (node next : ℕ) → i < length octets → Steps old mid 0 node (octet_bits (take i octets)) → Steps mid new node next (bits 8 (get_or octets i 0))
+    → Steps old new 0 next (octet_bits (take (i + 1) octets))
+steps_octet octets i old mid new node next h s t =
+    subst (λ r. Steps old new 0 next r) (sym (octet_bits_more octets i h)) (steps_then old mid new 0 node next (octet_bits (take i octets)) (bits 8 (get_or octets i 0)) s t)
+
+pub stops_octet : (octets : List ℕ) (i : ℕ) (old mid new : List ℕ) (node : ℕ) (fault : HuffFault) → i < length octets → Steps old mid 0 node (octet_bits (take i octets))
+    → Stops mid new node (bits 8 (get_or octets i 0)) fault → IsFaultOf octets fault
+stops_octet octets i old mid new node Eos h s t =
+    let w : Walked (octet_bits (take i octets)) s.string node = s.walks [] [] walk_start in
+    subst EndsString (sym (octet_bits_split octets i h)) (t.stands (octet_bits (take i octets)) s.string (octet_bits (drop (i + 1) octets)) w)
+stops_octet octets i old mid new node Padding h s t = absurd t.stands
+stops_octet octets i old mid new node Memory h s t = tt
+
+pub stops_adds : (old mid new : List ℕ) (node start : ℕ) (read more : List ℕ) (fault : HuffFault) → Steps old mid 0 node read → Stops mid new start more fault → Adds old new
+stops_adds old mid new node start read more fault s t = record { string = s.string ++ t.string; added = t.added ∙ ap (λ m. m ++ t.string) s.added ∙ append_assoc old s.string t.string }
+
+pub padded : (octets old new : List ℕ) (node : ℕ) → Steps old new 0 node (octet_bits octets) → IsPadding (path node) → Decodes octets old new
+padded octets old new node s p =
+    let w : Walked (octet_bits octets) s.string node = s.walks [] [] walk_start in
+    record {
+      string = s.string;
+      added = s.added;
+      text = record { coded = w.coded; padding = p.padding; are_codes = w.are_codes; is_short = p.is_short; is = w.is ∙ ap (λ r. w.coded ++ r) p.is };
+    }
+
+pub badly_padded : (octets old new : List ℕ) (node : ℕ) → Steps old new 0 node (octet_bits octets) → (IsPadding (path node) → ⊥) → IsBadlyPadded (octet_bits octets)
+badly_padded octets old new node s apart =
+    let w : Walked (octet_bits octets) s.string node = s.walks [] [] walk_start in
+    record {
+      string = s.string;
+      rest = path node;
+      run = record { coded = w.coded; are_codes = w.are_codes; is = w.is; ends = λ octet h b. none_at node octet b.code b.more b.is_code b.is };
+      no_eos = λ b. none_at node 256 b.code b.more b.is_code b.is;
+      no_padding = apart;
+    }
+
+pub adds : (old new : List ℕ) (node : ℕ) (read : List ℕ) → Steps old new 0 node read → Adds old new
+adds old new node read s = record { string = s.string; added = s.added }

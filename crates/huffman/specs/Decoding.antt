@@ -1,6 +1,6 @@
 -- What decoding gives.
-use Rattle.std.specs.Prelude.{◌≡◌, ℕ, ◌<◌, List, [], ◌∷◌, ◌++◌, replicate}
-use Rattle.model.specs.Huffman.{bits, octet_bits, IsCode, AreCodes, Huff}
+use Rattle.std.specs.Prelude.{◌≡◌, ℕ, ◌<◌, List, ◌++◌, replicate}
+use Rattle.model.specs.Huffman.{octet_bits, IsCode, AreCodes, Huff}
 use Rattle.huffman.specs.Tree.{path}
 use Rattle.huffman.specs.declared.decoder.HuffFault.{HuffFault}
 use Rattle.huffman.specs.declared.decoder.HuffFault.TheVariants.{Eos, Padding, Memory}

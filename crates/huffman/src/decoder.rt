@@ -7,7 +7,7 @@ ghost use Rattle.huffman.specs.Decoding.{Adds, Decodes, IsFaultOf, IsPadding, St
 ghost use Rattle.huffman.specs.Tree.{path};
 ghost use Rattle.huffman.specs.declared.decoder.HuffFault.TheVariants.{Memory};
 
-use crate::tree::{follow, Branch};
+use crate::tree::{Branch, follow};
 use std::alloc::{AllocError, AllocFailed};
 
 /// Why octets aren't Huffman text.

@@ -6,4 +6,4 @@ mod decoder;
 mod tests;
 mod tree;
 
-pub use crate::decoder::{decode, HuffFault};
+pub use crate::decoder::{HuffFault, decode};

@@ -14,7 +14,9 @@ fn strings_are_decoded(rt: HostRuntime) -> Result<(), Fail> {
     let alloc = rt.alloc();
     assert!(rt; decodes(alloc, &[], b"")?);
     assert!(rt; decodes(alloc, &[0xa8, 0xeb, 0x10, 0x64, 0x9c, 0xbf], b"no-cache")?);
-    let host = [0xf1, 0xe3, 0xc2, 0xe5, 0xf2, 0x3a, 0x6b, 0xa0, 0xab, 0x90, 0xf4, 0xff];
+    let host = [
+        0xf1, 0xe3, 0xc2, 0xe5, 0xf2, 0x3a, 0x6b, 0xa0, 0xab, 0x90, 0xf4, 0xff,
+    ];
     assert!(rt; decodes(alloc, &host, b"www.example.com")?);
     let key = [0x25, 0xa8, 0x49, 0xe9, 0x5b, 0xa9, 0x7d, 0x7f];
     assert!(rt; decodes(alloc, &key, b"custom-key")?);
@@ -25,7 +27,13 @@ fn strings_are_decoded(rt: HostRuntime) -> Result<(), Fail> {
 fn faults_leave_the_octets(rt: HostRuntime) {
     let mut out = Vec::new(rt.alloc());
     assert_eq!(rt; decode(&[0xff], &mut out), Err(HuffFault::Padding));
-    assert_eq!(rt; decode(&[0xff, 0xff, 0xff, 0xff], &mut out), Err(HuffFault::Eos));
-    assert_eq!(rt; decode(&[0xa8, 0xff, 0xff], &mut out), Err(HuffFault::Padding));
+    assert_eq!(rt;
+        decode(&[0xff, 0xff, 0xff, 0xff], &mut out),
+        Err(HuffFault::Eos)
+    );
+    assert_eq!(rt;
+        decode(&[0xa8, 0xff, 0xff], &mut out),
+        Err(HuffFault::Padding)
+    );
     assert_eq!(rt; out.len(), 0);
 }

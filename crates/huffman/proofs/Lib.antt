@@ -1,2 +1,4 @@
 pub mod TreeLemmas
 pub mod DecodeLemmas
+pub mod WordLemmas
+pub mod BitLemmas

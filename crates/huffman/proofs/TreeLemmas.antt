@@ -18,7 +18,7 @@ unfolding paths levels level_paths bits
 nodes = refl
 
 -- this symbol has these bits in the code
-abbrev has_code : List Code → ℕ → List ℕ → Bool
+abbrev pub has_code : List Code → ℕ → List ℕ → Bool
 has_code codes symbol text = list_any (λ (c : Code). nat_eq c.symbol symbol && (begins c.bits text && begins text c.bits)) codes
 
 abbrev equal : List ℕ → List ℕ → Bool
@@ -44,7 +44,7 @@ ones_lead : all_lead 1 paths ONES ≡ true
 unfolding paths path levels level_paths bits huffman_code codes_from row_codes rows
 ones_lead = refl
 
-any_code : (codes : List Code) (symbol : ℕ) (text : List ℕ) → has_code codes symbol text ≡ true → let code : Code = record { symbol = symbol; bits = text } in Contains codes code
+pub any_code : (codes : List Code) (symbol : ℕ) (text : List ℕ) → has_code codes symbol text ≡ true → let code : Code = record { symbol = symbol; bits = text } in Contains codes code
 any_code [] symbol text e = cc
 any_code (c ∷ codes) symbol text e = elim (or_cases (nat_eq c.symbol symbol && equal c.bits text) (has_code codes symbol text) e) [
   | inl here ↦ (let same : c.symbol ≡ symbol = eqb-true c.symbol symbol (and_left (nat_eq c.symbol symbol) (equal c.bits text) here) in

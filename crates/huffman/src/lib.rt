@@ -4,6 +4,9 @@
 mod decoder;
 #[cfg(test)]
 mod tests;
+mod encoder;
 mod tree;
+mod words;
 
-pub use crate::decoder::{HuffFault, decode};
+pub use crate::decoder::{decode, HuffFault};
+pub use crate::encoder::{encode, encoded_len};

@@ -37,3 +37,33 @@ fn faults_leave_the_octets(rt: HostRuntime) {
     );
     assert_eq!(rt; out.len(), 0);
 }
+
+/// Whether a string is encoded as this text, behind what stands there already.
+fn encodes(alloc: std::alloc::Global, string: &[u8], text: &[u8]) -> Result<bool, Fail> {
+    let mut out = Vec::new(alloc);
+    out.push(b'>')?;
+    encode(string, &mut out)?;
+    Ok(encoded_len(string) == text.len() && out[0] == b'>' && &out[1..] == text)
+}
+
+#[test]
+fn strings_are_encoded(rt: HostRuntime) -> Result<(), Fail> {
+    let alloc = rt.alloc();
+    assert!(rt; encodes(alloc, b"", &[])?);
+    assert!(rt; encodes(alloc, b"no-cache", &[0xa8, 0xeb, 0x10, 0x64, 0x9c, 0xbf])?);
+    assert!(rt; encodes(alloc, b"65535", &[0x71, 0xb6, 0xd9, 0x6f])?);
+    let value = [0x25, 0xa8, 0x49, 0xe9, 0x5b, 0xb8, 0xe8, 0xb4, 0xbf];
+    assert!(rt; encodes(alloc, b"custom-value", &value)?);
+    Ok(())
+}
+
+#[test]
+fn every_octet_comes_back(rt: HostRuntime) -> Result<(), Fail> {
+    let alloc = rt.alloc();
+    for octet in 0..=255u8 {
+        let mut text = Vec::new(alloc);
+        encode(&[octet, octet], &mut text)?;
+        assert!(rt; decodes(alloc, &text, &[octet, octet])?);
+    }
+    Ok(())
+}

@@ -9,7 +9,7 @@ use Rattle.huffman.specs.declared.decoder.HuffFault.{HuffFault}
 use Rattle.huffman.specs.declared.decoder.HuffFault.TheVariants.{Eos, Padding, Memory}
 use Rattle.huffman.proofs.TreeLemmas.{path_root, none_at}
 
-codes_more : (coded string code : List ℕ) (octet : ℕ) → AreCodes coded string → octet < 256 → IsCode octet code → AreCodes (coded ++ code) (string ++ octet ∷ [])
+pub codes_more : (coded string code : List ℕ) (octet : ℕ) → AreCodes coded string → octet < 256 → IsCode octet code → AreCodes (coded ++ code) (string ++ octet ∷ [])
 codes_more coded [] code octet p small is_code = (code, [], small, is_code, ap (λ c. c ++ code) p ∙ sym (append-nil code), refl)
 codes_more coded (first ∷ string) code octet p small is_code =
     (p.0, p.1 ++ code, p.2, p.3, ap (λ c. c ++ code) p.4 ∙ append_assoc p.0 p.1 code, codes_more p.1 string code octet p.5 small is_code)

@@ -1,5 +1,5 @@
 -- The table of words has the codes.
-use Rattle.std.proofs.Common.{◌≡◌, ℕ, zero, suc, ◌+◌, ◌^◌, ◌<◌, ◌≤◌, Bool, true, false, ◌&&◌, nat_eq, nat_lt, nat_le, List, [], ◌∷◌, refl, ap, sym, ◌∙◌, subst, arith, slice_get, Some, leb-true, ltb-true}
+use Rattle.std.proofs.Common.{◌≡◌, ℕ, zero, suc, ◌+◌, ◌^◌, Bool, true, ◌&&◌, nat_lt, nat_le, List, [], ◌∷◌, refl, subst, arith, slice_get, Some, leb-true, ltb-true}
 use Rattle.model.specs.Huffman.{huffman_code, bits, rows, row_codes, codes_from}
 use Rattle.model.proofs.HuffmanLemmas.{and_left, and_right}
 use Rattle.huffman.specs.Encoding.{IsWordOf, word_bits}

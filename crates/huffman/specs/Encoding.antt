@@ -1,6 +1,6 @@
 -- What encoding gives.
-use Rattle.std.specs.Prelude.{◌≡◌, ℕ, ◌^◌, ◌<◌, ◌≤◌, List, ◌++◌, length}
-use Rattle.model.specs.Huffman.{bits, octet_bits, IsCode, AreCodes, Huff}
+use Rattle.std.specs.Prelude.{◌≡◌, ℕ, ◌^◌, ◌<◌, ◌≤◌, List, ◌++◌}
+use Rattle.model.specs.Huffman.{bits, IsCode, Huff}
 use Rattle.huffman.specs.declared.words.Word.{Word}
 
 -- Huffman text of the string is added at the end.

@@ -6,11 +6,8 @@ ghost use Rattle.huffman.specs.Decoding.{Adds};
 ghost use Rattle.huffman.specs.Encoding.{Encodes, word_bits};
 ghost use Rattle.huffman.specs.Waiting.{Flushes, IsPadded, IsPending, pending_bits};
 
-use crate::words::{word_of, Word};
+use crate::words::{Word, word_of};
 use std::alloc::AllocError;
-
-/// The longest string that is encoded.
-pub const LONGEST: usize = 65536;
 
 /// Bits that wait for a whole octet: so many low bits of a number.
 #[derive(Clone, Copy)]

@@ -2,11 +2,11 @@
 #![tactic(auto)]
 
 mod decoder;
+mod encoder;
 #[cfg(test)]
 mod tests;
-mod encoder;
 mod tree;
 mod words;
 
-pub use crate::decoder::{decode, HuffFault};
+pub use crate::decoder::{HuffFault, decode};
 pub use crate::encoder::{encode, encoded_len};

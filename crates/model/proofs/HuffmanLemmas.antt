@@ -123,3 +123,20 @@ one_coded c d (o ∷ s) (u ∷ t) k j p q hk hj e =
 
 pub one_string : (octets s t : List ℕ) → Huff octets s → Huff octets t → s ≡ t
 one_string octets s t p q = one_coded p.coded q.coded s t p.padding q.padding p.are_codes q.are_codes p.is_short q.is_short (sym p.is ∙ q.is)
+
+-- each symbol has one code
+abbrev one_of_symbol : Code → Code → Bool
+one_of_symbol a b = not (nat_eq a.symbol b.symbol) || (begins a.bits b.bits && begins b.bits a.bits)
+
+are_single : list_all (λ a. list_all (λ b. one_of_symbol a b) huffman_code) huffman_code ≡ true
+unfolding huffman_code codes_from row_codes rows bits
+are_single = refl
+
+pub single_code : (s : ℕ) (a b : List ℕ) → IsCode s a → IsCode s b → a ≡ b
+single_code s a b p q =
+    let first : Code = record { symbol = s; bits = a } in
+    let second : Code = record { symbol = s; bits = b } in
+    let row = all_of (λ (c : Code). list_all (λ d. one_of_symbol c d) huffman_code) huffman_code first are_single p in
+    let cell = all_of (λ (d : Code). one_of_symbol first d) huffman_code second row q in
+    let both : (begins a b && begins b a) ≡ true = or_right (nat_eq s s) (begins a b && begins b a) (eq-eqb s s refl) cell in
+    begins_both a b (and_left (begins a b) (begins b a) both) (and_right (begins a b) (begins b a) both)

@@ -12,3 +12,4 @@ pub mod Http2Sends
 mod Http2Examples
 mod HpackExamples
 pub mod IntegerLemmas
+pub mod HuffmanLemmas

@@ -2,8 +2,14 @@
 
 ghost use Rattle.std.specs.Prelude.{◌≡◌, ◌++◌, List, ℕ};
 ghost use Rattle.model.specs.Integers.{IsInt};
+ghost use Rattle.model.specs.Huffman.{Huff};
 
 /// No integer's text begins another's, and each has one value (section 5.1).
 pub fn one_integer()
     ensures { (prefix : ℕ) (a b x y : List ℕ) (v w : ℕ) → IsInt prefix a v → IsInt prefix b w → a ++ x ≡ b ++ y → (a ≡ b) × (v ≡ w) }
+{}
+
+/// Huffman text has one string (section 5.2).
+pub fn one_string()
+    ensures { (octets s t : List ℕ) → Huff octets s → Huff octets t → s ≡ t }
 {}

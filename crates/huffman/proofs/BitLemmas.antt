@@ -1,0 +1,93 @@
+-- Numbers and their bits.
+use Rattle.std.proofs.Common.{◌≡◌, ℕ, zero, suc, ◌+◌, ◌-◌, ◌*◌, ◌/◌, ◌%◌, ◌^◌, ◌<◌, ◌≤◌, ◌∷◌, ◌++◌, refl, ap, sym, ◌∙◌, subst, arith}
+use Rattle.std.specs.Prelude.{replicate}
+use Rattle.std.proofs.Math.Nat.{pow-succ', mul-add-div_right, div-eq_of_lt, div-div-eq-div-mul, mul-le-mul_right, mod-lt}
+use Rattle.std.proofs.Math.Pow.{shl_exact}
+use Rattle.std.proofs.lemmas.Nat.{pow-add, pow_pos, div-add-mod'}
+use Rattle.model.specs.Huffman.{bits}
+
+-- higher bits don't matter
+pub bits_low : (width high low : ℕ) → bits width (high * 2 ^ width + low) ≡ bits width low
+unfolding bits
+bits_low zero high low = refl
+bits_low (suc width) high low =
+    let power : 2 ^ suc width ≡ 2 * 2 ^ width = pow-succ' 2 width in
+    let some : 0 < 2 ^ width = pow_pos width in
+    let whole : high * 2 ^ suc width + low ≡ (2 * high) * 2 ^ width + low = rw power (omega arith) in
+    let quotient : ((2 * high) * 2 ^ width + low) / 2 ^ width ≡ 2 * high + low / 2 ^ width = mul-add-div_right some (2 * high) low in
+    let head : ((2 * high) * 2 ^ width + low) / 2 ^ width % 2 ≡ low / 2 ^ width % 2 = rw quotient (omega arith) in
+    rw whole (ap (λ h. h ∷ bits width ((2 * high) * 2 ^ width + low)) head ∙ ap (λ t. low / 2 ^ width % 2 ∷ t) (bits_low width (2 * high) low))
+
+pub bits_append : (a b high low : ℕ) → low < 2 ^ b → bits (a + b) (high * 2 ^ b + low) ≡ bits a high ++ bits b low
+unfolding bits
+bits_append zero b high low less = let none : 0 + b ≡ b = omega arith in rw none (bits_low b high low)
+bits_append (suc a) b high low less =
+    let far : suc a + b ≡ suc (a + b) = omega arith in
+    let some : 0 < 2 ^ b = pow_pos b in
+    let quotient : (high * 2 ^ b + low) / 2 ^ b ≡ high = mul-add-div_right some high low ∙ small_part high low (2 ^ b) less in
+    let split : (high * 2 ^ b + low) / 2 ^ (a + b) ≡ high / 2 ^ a = ap (λ p. (high * 2 ^ b + low) / p) (ap (λ n. 2 ^ n) (swap a b) ∙ pow-add 2 b a) ∙ sym (div-div-eq-div-mul (high * 2 ^ b + low) (2 ^ b) (2 ^ a)) ∙ ap (λ q. q / 2 ^ a) quotient in
+    rw far (ap (λ h. h % 2 ∷ bits (a + b) (high * 2 ^ b + low)) split ∙ ap (λ t. high / 2 ^ a % 2 ∷ t) (bits_append a b high low less))
+  where
+    add_none : (n : ℕ) → n + 0 ≡ n
+    add_none n = omega arith
+
+    small_part : (high low power : ℕ) → low < power → high + low / power ≡ high
+    small_part high low power less = ap (λ q. high + q) (div-eq_of_lt less) ∙ add_none high
+
+    swap : (m n : ℕ) → m + n ≡ n + m
+    swap m n = omega arith
+
+-- so many low bits and more of them are a number below a power
+pub joined_below : (n w m v : ℕ) → n < 2 ^ w → m < 2 ^ v → n * 2 ^ v + m < 2 ^ (w + v)
+joined_below n w m v less small =
+    let power : 2 ^ (w + v) ≡ 2 ^ w * 2 ^ v = pow-add 2 w v in
+    let step : (n + 1) * 2 ^ v ≤ 2 ^ w * 2 ^ v = mul-le-mul_right (2 ^ v) (omega (arith, less)) in
+    rw power (omega (arith, step, small))
+
+pub joined : (n w m v : ℕ) → n < 2 ^ w → w < 8 → m < 2 ^ v → v ≤ 30
+    → (n * 2 ^ v % 18446744073709551616 + m < 2 ^ (w + v)) × (bits (w + v) (n * 2 ^ v % 18446744073709551616 + m) ≡ bits w n ++ bits v m)
+joined n w m v less few small wide =
+    let exact : n * 2 ^ v % 18446744073709551616 ≡ n * 2 ^ v = shl_exact w v 64 less (omega arith) in
+    rw exact (joined_below n w m v less small, bits_append w v n m small)
+
+-- the highest eight bits and the others
+pub split_eight : (n w : ℕ) → bits (w + 8) n ≡ bits 8 (n / 2 ^ w) ++ bits w (n % 2 ^ w)
+split_eight n w =
+    let some : 0 < 2 ^ w = pow_pos w in
+    let whole : n / 2 ^ w * 2 ^ w + n % 2 ^ w ≡ n = div-add-mod' n (2 ^ w) in
+    ap (λ k. bits k n) (swap w 8) ∙ ap (bits (8 + w)) (sym whole) ∙ bits_append 8 w (n / 2 ^ w) (n % 2 ^ w) (mod-lt n some)
+  where
+    swap : (a b : ℕ) → a + b ≡ b + a
+    swap a b = omega arith
+
+-- ones
+pub ones : (width : ℕ) → width < 9 → bits width (2 ^ width - 1) ≡ replicate width 1
+unfolding bits
+ones zero h = refl
+ones (suc zero) h = refl
+ones (suc (suc zero)) h = refl
+ones (suc (suc (suc zero))) h = refl
+ones (suc (suc (suc (suc zero)))) h = refl
+ones (suc (suc (suc (suc (suc zero))))) h = refl
+ones (suc (suc (suc (suc (suc (suc zero)))))) h = refl
+ones (suc (suc (suc (suc (suc (suc (suc zero))))))) h = refl
+ones (suc (suc (suc (suc (suc (suc (suc (suc zero)))))))) h = refl
+ones (suc (suc (suc (suc (suc (suc (suc (suc (suc n))))))))) h = absurd (omega arith)
+
+-- bits filled with ones
+pub filled : (n w : ℕ) → n < 2 ^ w → w < 8
+    → (n * 2 ^ (8 - w) % 18446744073709551616 + 1 * 2 ^ (8 - w) % 18446744073709551616 - 1 < 256)
+    × (bits 8 (n * 2 ^ (8 - w) % 18446744073709551616 + 1 * 2 ^ (8 - w) % 18446744073709551616 - 1) ≡ bits w n ++ replicate (8 - w) 1)
+filled n w less few =
+    let room : ℕ = 8 - w in
+    let one : 1 < 2 ^ 1 = omega arith in
+    let exact : n * 2 ^ room % 18446744073709551616 ≡ n * 2 ^ room = shl_exact w room 64 less (omega arith) in
+    let exact_one : 1 * 2 ^ room % 18446744073709551616 ≡ 1 * 2 ^ room = shl_exact 1 room 64 one (omega arith) in
+    let some : 0 < 2 ^ room = pow_pos room in
+    let whole : n * 2 ^ room % 18446744073709551616 + 1 * 2 ^ room % 18446744073709551616 - 1 ≡ n * 2 ^ room + (2 ^ room - 1) = rw (exact, exact_one) (omega (arith, some)) in
+    let eight : w + room ≡ 8 = omega arith in
+    let small : 2 ^ room - 1 < 2 ^ room = omega (arith, some) in
+    rw whole (
+      subst (λ k. n * 2 ^ room + (2 ^ room - 1) < 2 ^ k) eight (joined_below n w (2 ^ room - 1) room less small),
+      ap (λ k. bits k (n * 2 ^ room + (2 ^ room - 1))) (sym eight) ∙ bits_append w room n (2 ^ room - 1) small ∙ ap (λ t. bits w n ++ t) (ones room (omega arith)),
+    )

@@ -1,0 +1,6 @@
+pub mod TreeLemmas
+pub mod DecodeLemmas
+pub mod WordLemmas
+pub mod BitLemmas
+pub mod FlushLemmas
+pub mod CodingLemmas

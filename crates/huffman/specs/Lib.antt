@@ -1,0 +1,5 @@
+pub use Rattle.model.specs.Huffman
+pub mod Tree
+pub mod Decoding
+pub mod Encoding
+pub mod Waiting

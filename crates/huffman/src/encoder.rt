@@ -1,0 +1,103 @@
+//! Encoding.
+
+ghost use Rattle.std.specs.Prelude.{◌≡◌, ◌+◌, ◌^◌, ◌<◌, ◌≤◌, ℕ, List, ◌++◌, length, IfOk, OnOk, OnErr};
+ghost use Rattle.model.specs.Huffman.{Huff};
+ghost use Rattle.huffman.specs.Decoding.{Adds};
+ghost use Rattle.huffman.specs.Encoding.{Encodes, word_bits};
+ghost use Rattle.huffman.specs.Waiting.{Flushes, IsPadded, IsPending, pending_bits};
+
+use crate::words::{Word, word_of};
+use std::alloc::AllocError;
+
+/// Bits that wait for a whole octet: so many low bits of a number.
+#[derive(Clone, Copy)]
+struct Pending {
+    number: u64,
+    width: u32,
+}
+
+/// The number of octets of a string's Huffman text (RFC 7541, section 5.2). A string has at most 65,536 octets.
+pub fn encoded_len(string: &[u8]) -> usize
+    requires { length string.now ≤ 65536 }
+    ensures { (text : List ℕ) → Huff text string.now → length text ≡ result }
+{
+    let mut bits = 0usize;
+    for octet in string {
+        bits += word_of(*octet).width as usize;
+    }
+    (bits + 7) / 8
+}
+
+/// Adds the Huffman text of a string of at most 65,536 octets (RFC 7541, section 5.2). An `Err` says that memory was refused,
+/// and leaves the octets of `out` as they were.
+pub fn encode(string: &[u8], out: &mut Vec<u8>) -> Result<(), AllocError>
+    requires { length string.now ≤ 65536 }
+    ensures ok { OnOk result (Encodes string.now out.old.items out.new.items) }
+    ensures err { OnErr result (out.new.items ≡ out.old.items) }
+{
+    out.reserve(encoded_len(string))?;
+    let start = out.len();
+    let result = encode_onto(string, out);
+    if result.is_err() {
+        out.truncate(start);
+    }
+    result
+}
+
+/// Adds the Huffman text of a string, or a part of it where memory is refused.
+fn encode_onto(string: &[u8], out: &mut Vec<u8>) -> Result<(), AllocError>
+    ensures ok { OnOk result (Encodes string.now out.old.items out.new.items) }
+    ensures err { OnErr result (Adds out.old.items out.new.items) }
+{
+    let mut pending = Pending {
+        number: 0,
+        width: 0,
+    };
+    for octet in string {
+        pending = flush(append(pending, word_of(*octet)), out)?;
+    }
+    if pending.width > 0 {
+        out.push(padded(pending))?;
+    }
+    Ok(())
+}
+
+/// The bits that wait, and those of a word behind them.
+fn append(pending: Pending, word: Word) -> Pending
+    requires waiting { IsPending pending }
+    requires word { word.number < 2 ^ word.width }
+    requires wide { word.width ≤ 30 }
+    ensures number { result.number < 2 ^ result.width }
+    ensures width { result.width ≡ pending.width + word.width }
+    ensures bits { pending_bits result ≡ pending_bits pending ++ word_bits word }
+{
+    Pending {
+        number: (pending.number << word.width) + u64::from(word.number),
+        width: pending.width + u32::from(word.width),
+    }
+}
+
+/// Adds the whole octets of bits that wait.
+fn flush(all: Pending, out: &mut Vec<u8>) -> Result<Pending, AllocError>
+    requires number { all.number < 2 ^ all.width }
+    requires wide { all.width < 38 }
+    ensures ok { IfOk result (λ rest. Flushes all rest out.old.items out.new.items) }
+    ensures err { OnErr result (Adds out.old.items out.new.items) }
+{
+    let mut rest = all;
+    while rest.width >= 8 {
+        rest.width -= 8;
+        out.push((rest.number >> rest.width) as u8)?;
+        rest.number %= 1 << rest.width;
+    }
+    Ok(rest)
+}
+
+/// The octet of the bits that wait, filled with ones.
+fn padded(pending: Pending) -> u8
+    requires waiting { IsPending pending }
+    ensures { IsPadded pending result }
+{
+    let room = 8 - pending.width;
+    ((pending.number << room) + (1 << room) - 1) as u8
+}

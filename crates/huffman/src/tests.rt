@@ -1,0 +1,69 @@
+use super::*;
+use std::test::Fail;
+
+/// Whether Huffman text decodes to a string behind what stands there already.
+fn decodes(alloc: std::alloc::Global, octets: &[u8], string: &[u8]) -> Result<bool, Fail> {
+    let mut out = Vec::new(alloc);
+    out.push(b'>')?;
+    decode(octets, &mut out)?;
+    Ok(out.len() == string.len() + 1 && out[0] == b'>' && &out[1..] == string)
+}
+
+#[test]
+fn strings_are_decoded(rt: HostRuntime) -> Result<(), Fail> {
+    let alloc = rt.alloc();
+    assert!(rt; decodes(alloc, &[], b"")?);
+    assert!(rt; decodes(alloc, &[0xa8, 0xeb, 0x10, 0x64, 0x9c, 0xbf], b"no-cache")?);
+    let host = [
+        0xf1, 0xe3, 0xc2, 0xe5, 0xf2, 0x3a, 0x6b, 0xa0, 0xab, 0x90, 0xf4, 0xff,
+    ];
+    assert!(rt; decodes(alloc, &host, b"www.example.com")?);
+    let key = [0x25, 0xa8, 0x49, 0xe9, 0x5b, 0xa9, 0x7d, 0x7f];
+    assert!(rt; decodes(alloc, &key, b"custom-key")?);
+    Ok(())
+}
+
+#[test]
+fn faults_leave_the_octets(rt: HostRuntime) {
+    let mut out = Vec::new(rt.alloc());
+    assert_eq!(rt; decode(&[0xff], &mut out), Err(HuffFault::Padding));
+    assert_eq!(rt;
+        decode(&[0xff, 0xff, 0xff, 0xff], &mut out),
+        Err(HuffFault::Eos)
+    );
+    assert_eq!(rt;
+        decode(&[0xa8, 0xff, 0xff], &mut out),
+        Err(HuffFault::Padding)
+    );
+    assert_eq!(rt; out.len(), 0);
+}
+
+/// Whether a string is encoded as this text, behind what stands there already.
+fn encodes(alloc: std::alloc::Global, string: &[u8], text: &[u8]) -> Result<bool, Fail> {
+    let mut out = Vec::new(alloc);
+    out.push(b'>')?;
+    encode(string, &mut out)?;
+    Ok(encoded_len(string) == text.len() && out[0] == b'>' && &out[1..] == text)
+}
+
+#[test]
+fn strings_are_encoded(rt: HostRuntime) -> Result<(), Fail> {
+    let alloc = rt.alloc();
+    assert!(rt; encodes(alloc, b"", &[])?);
+    assert!(rt; encodes(alloc, b"no-cache", &[0xa8, 0xeb, 0x10, 0x64, 0x9c, 0xbf])?);
+    assert!(rt; encodes(alloc, b"65535", &[0x71, 0xb6, 0xd9, 0x6f])?);
+    let value = [0x25, 0xa8, 0x49, 0xe9, 0x5b, 0xb8, 0xe8, 0xb4, 0xbf];
+    assert!(rt; encodes(alloc, b"custom-value", &value)?);
+    Ok(())
+}
+
+#[test]
+fn every_octet_comes_back(rt: HostRuntime) -> Result<(), Fail> {
+    let alloc = rt.alloc();
+    for octet in 0..=255u8 {
+        let mut text = Vec::new(alloc);
+        encode(&[octet, octet], &mut text)?;
+        assert!(rt; decodes(alloc, &text, &[octet, octet])?);
+    }
+    Ok(())
+}

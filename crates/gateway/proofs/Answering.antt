@@ -1,7 +1,7 @@
 -- What the gateway's methods do, as moves.
 use Rattle.std.proofs.Common.{◌≡◌, ℕ, suc, ◌+◌, ◌<◌, ◌≤◌, ◌==◌, true, false, Bool, not, ◌&&◌, ◌||◌, List, [], ◌∷◌, ◌++◌, length, map, refl, sym, ◌∙◌, ap, subst, if◌then◌else◌, arith, ◌/◌, ◌%◌, inl, inr, Ok, Err, OnOk, Result}
 use Rattle.std.proofs.lemmas.Bool.Decides.{eqb_tells}
-use Rattle.std.specs.Prelude.{Option, None, Some, nat_le}
+use Rattle.std.specs.Prelude.{Option, None, Some, nat_le, is_ok}
 use Rattle.std.proofs.lemmas.Bool.{leb-true, le-leb}
 use Rattle.std.proofs.Math.Seq.{get_or-append_seam, set-append_seam}
 use Rattle.std.proofs.lemmas.List.{append-nil}
@@ -212,3 +212,7 @@ begins_greeted s s' o o' first none es eo =
 pub ok_map : {A E X Y : Type 0} (r : Result A E) → (X → Y) → OnOk r X → OnOk r Y
 ok_map (Ok a) f x = f x
 ok_map (Err e) f x = tt
+
+pub on_ok_at : {A E X : Type 0} (r : Result A E) → is_ok r ≡ true → OnOk r X → X
+on_ok_at (Ok a) e x = x
+on_ok_at (Err f) e x = absurd (let g : false ≡ true = e in cc)

@@ -13,4 +13,5 @@ pub mod Receiving
 pub mod Prefaces
 pub mod Coming
 pub mod Told
-pub mod Runs
+pub mod Steps
+pub mod Logging

@@ -1,6 +1,5 @@
 pub mod Views
 pub mod Setups
-pub mod Runs
 pub mod Moves
 pub mod State
 pub mod Closing
@@ -8,6 +7,7 @@ pub mod Connections
 pub mod Policy
 pub mod Receiving
 pub mod Stands
+pub mod Runs
 pub use Rattle.model.specs.Logs
 pub use Rattle.model.specs.Setup
 pub use Rattle.model.specs.Frames

@@ -1,5 +1,11 @@
--- The log of a run.
-use Rattle.std.specs.Prelude.{List, [], ◌∷◌, Vec}
+-- The log of a run, and why one is refused.
+use Rattle.std.specs.Prelude.{◌≡◌, ℕ, ◌<◌, ◌⊎◌, List, [], ◌∷◌, length}
+use Rattle.std.specs.declared.vec.Vec.{Vec}
+use Rattle.model.specs.Logs as logs
+use Rattle.model.specs.Setup.{Setup}
+use Rattle.gateway.specs.declared.runs.RunFault.{RunFault}
+use Rattle.gateway.specs.declared.runs.RunFault.TheVariants.{NotAdmitted, Memory}
+use Rattle.gateway.specs.Stands.{IsRefusedAt}
 use Rattle.std.specs.declared.alloc.Global.{Global}
 use Rattle.model.specs.Logs.{Step}
 use Rattle.gateway.specs.declared.events.Event.{Event}
@@ -11,3 +17,8 @@ abbrev pub log_of : List Event → List (Vec Output Global) → List Step
 log_of [] outputs = []
 log_of (event ∷ events) [] = []
 log_of (event ∷ events) (outputs ∷ more) = record { event = event_of event; outputs = outputs_of outputs.items } ∷ log_of events more
+
+-- What a fault says: the event at the place may not come after those before it; or that memory was refused there.
+abbrev pub Explains : Setup → List logs.Event → RunFault → Type 0
+Explains setup events (NotAdmitted place) = IsRefusedAt setup events place
+Explains setup events (Memory place) = (place < length events) ⊎ (place ≡ 0)

@@ -90,11 +90,13 @@ pub record Stands (g : Standing) (log : List Step) (tape : List Entry) : Type 0 
   pub alive : g.dead ≡ false
 
 -- Afterwards it stands for the log with the event and what was put out for it, and for the tape with the step's entries.
-pub record StandsNext (g : Standing) (log : List Step) (tape : List Entry) (event : Event) (put_out : List Output) : Type 0 where
+pub record StandsNext (old new : Standing) (log : List Step) (tape : List Entry) (event : Event) (put_out : List Output) : Type 0 where
   pub segment : List Entry
-  pub stands : Stands g (record { event = event; outputs = put_out } ∷ log) (segment ++ tape)
+  pub stands : Stands new (record { event = event; outputs = put_out } ∷ log) (segment ++ tape)
+  pub same_setup : new.kept.state.setup ≡ old.kept.state.setup
 
--- After the events before it, by a faithful log of them, the event at a place wasn't admitted.
+-- There is a faithful log of the events before a place, the oldest first, after whose tape the event at that place may not
+-- come.
 pub record IsRefusedAt (setup : Setup) (events : List Event) (place : ℕ) : Type 0 where
   pub event : Event
   pub found : slice_get events place ≡ Some event

@@ -1,7 +1,5 @@
 -- Events and outputs without where they lie in memory.
-use Rattle.std.specs.Prelude.{List, [], ◌∷◌, map}
-use Rattle.std.specs.declared.vec.Vec.{Vec}
-use Rattle.std.specs.declared.alloc.Global.{Global}
+use Rattle.std.specs.Prelude.{List, map}
 use Rattle.model.specs.Logs as logs
 use Rattle.gateway.specs.declared.events.Event.{Event}
 use Rattle.gateway.specs.declared.events.Event.TheVariants as event
@@ -26,9 +24,3 @@ output_of output.CloseClient = logs.Output.Does logs.Act.CloseClient
 
 abbrev pub outputs_of : List Output → List logs.Output
 outputs_of outputs = map output_of outputs
-
--- the log of these events, the oldest first, and of what was put out at each
-abbrev pub log_of : List Event → List (Vec Output Global) → List logs.Step
-log_of [] outputs = []
-log_of (event ∷ events) [] = []
-log_of (event ∷ events) (out ∷ outputs) = record { event = event_of event; outputs = outputs_of out.items } ∷ log_of events outputs

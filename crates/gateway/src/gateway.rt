@@ -99,12 +99,12 @@ impl Gateway {
         requires { is_admitted self.old.kept.state (event_of event.now) ≡ true }
         // Where the gateway stands for a log and a tape of it, it then stands for both with this step at their ends.
         ensures stands { OnOk result ((outputs : List Put) × (outputs_of out.new.items ≡ outputs_of out.old.items ++ outputs)
-            × ((log : List Step) (tape : List Entry) → Stands self.old log tape → StandsNext self.new log tape (event_of event.now) outputs)) }
+            × ((log : List Step) (tape : List Entry) → Stands self.old log tape → StandsNext self.old self.new log tape (event_of event.now) outputs)) }
         ensures nothing { OnErr result (out.new.items ≡ out.old.items) }
         ensures alive { OnOk result (self.new.dead ≡ false) }
         ensures dead { OnErr result (self.new.dead ≡ true) }
         ensures closed { IsErrOf result Fault.Closed ↔ (self.old.dead ≡ true) }
-        ensures held { held self.new ≤ held_bound self.new.kept.state.setup }
+        ensures held { held self.new ≤ held_bound self.old.kept.state.setup }
     {
         if self.dead {
             return Err(Fault::Closed);

@@ -8,7 +8,10 @@ mod gateway;
 mod outputs;
 mod preface;
 mod requests;
+mod runs;
 mod upstream;
 
 pub use config::{Config, Passing, Policy, Route};
 pub use events::{Event, Output};
+pub use gateway::{Fault, Gateway};
+pub use runs::{run, RunFault};

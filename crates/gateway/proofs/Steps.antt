@@ -20,7 +20,7 @@ use Rattle.model.specs.Faithful.{IsTold, IsTaped, HasTape, Faithful}
 use Rattle.gateway.specs.Moves.{Move, Input, inputs, tape_of, entry_of, after_all, put_move}
 use Rattle.gateway.specs.Moves.Input.{OfFrame, OfBreach, OfEvent}
 use Rattle.gateway.specs.Moves.Move.{Takes, Breaks, Hears, Sends, Acts}
-use Rattle.gateway.specs.State.{State, start}
+use Rattle.gateway.specs.State.{State, start, upstream_at}
 use Rattle.gateway.specs.Policy.{Due, Point, idle, resting, point_after, AllAllowed, Leads, Answers, Pays, Begins, is_admitted, is_in_order}
 use Rattle.gateway.specs.Policy.Due.{ToSend}
 use Rattle.gateway.specs.Receiving.{Kept, IsRest, Waits, Departs, GoesOn, Receives}
@@ -261,11 +261,15 @@ is_open s event e = parts s.closed (is_in_order s event) e
     parts true b e = absurd (let f : false ≡ true = e in cc)
     parts false b e = refl
 
-pub stands_next : (g g' : Standing) (log : List Step) (tape : List Entry) (event : Event) (o : List Output) → Stands g log tape → is_admitted g.kept.state event ≡ true → g'.dead ≡ false → Steps g.kept g'.kept event o → StandsNext g' log tape event (reverse o)
+pub stands_next : (g g' : Standing) (log : List Step) (tape : List Entry) (event : Event) (o : List Output) → Stands g log tape → is_admitted g.kept.state event ≡ true → g'.dead ≡ false → Steps g.kept g'.kept event o → StandsNext g g' log tape event (reverse o)
 stands_next g g' log tape event o h admitted alive s =
     let on = is_open g.kept.state event admitted in
     let next = onward g.kept g'.kept event o (client_in log) tape (h.kept.octets on) (h.kept.unbroken on) s in
-    record { segment = tape_of next.stepped.segment; stands = record { kept = stands_then g.kept g'.kept log tape event o h.kept admitted next.greeted next.stepped; alive = alive } }
+    record {
+      segment = tape_of next.stepped.segment;
+      stands = record { kept = stands_then g.kept g'.kept log tape event o h.kept admitted next.greeted next.stepped; alive = alive };
+      same_setup = ap (λ (p : Point). p.state.setup) next.stepped.leads.point ∙ setup_stays (resting g.kept.state) next.stepped.segment;
+    }
 
 -- before any step
 pub stands_none : (setup : Setup) → Stands (fresh setup) [] []
@@ -281,3 +285,16 @@ stands_none setup = record {
   };
   alive = refl;
 }
+
+-- ---- what a gateway that stands for a log says of it
+
+pub at_rest : (g : Standing) (log : List Step) (tape : List Entry) → Stands g log tape → Inv tape (resting g.kept.state)
+at_rest g log tape h =
+    let k = h.kept in
+    subst (λ t. Inv t (resting g.kept.state)) (sym k.is_tape) (subst (Inv (tape_of k.moves)) (sym k.point) (inv_all g.kept.state.setup k.moves k.allowed))
+
+pub admits_by_tape : (g : Standing) (log : List Step) (tape : List Entry) (event : Event) → Stands g log tape → is_admitted g.kept.state event ≡ admission.is_admitted tape event
+admits_by_tape g log tape event h = admitted_same tape g.kept.state event (at_rest g log tape h)
+
+pub room_by_tape : (g : Standing) (log : List Step) (tape : List Entry) (k : ℕ) (b : Bool) → Stands g log tape → (upstream_at g.kept.state.upstreams k).is_open ≡ b → (if b then 65536 else 0) ≡ admission.room k tape
+room_by_tape g log tape k b h e = ap (λ x. if x then 65536 else 0) (sym e ∙ (at_rest g log tape h).admitting.opened k)

@@ -15,3 +15,5 @@ pub mod Coming
 pub mod Told
 pub mod Steps
 pub mod Logging
+pub mod Routes
+pub mod Taken

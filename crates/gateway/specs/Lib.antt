@@ -4,6 +4,7 @@ pub mod Moves
 pub mod State
 pub mod Closing
 pub mod Connections
+pub mod Requests
 pub mod Policy
 pub mod Receiving
 pub mod Stands

@@ -5,7 +5,7 @@ ghost use Rattle.model.specs.Messages.{Field as FieldLine};
 ghost use Rattle.header_blocks.specs.Everywhere.{Decodes, Gathers, Holds};
 
 use crate::fault::BlockFault;
-use crate::field::Field;
+use hpack_table::Field;
 use crate::literals::read_field;
 use std::alloc::{AllocError, Global};
 

@@ -3,7 +3,6 @@
 
 mod decoder;
 mod fault;
-mod field;
 mod gather;
 mod literals;
 mod static_table;
@@ -12,5 +11,5 @@ mod tests;
 
 pub use crate::decoder::Decoder;
 pub use crate::fault::BlockFault;
-pub use crate::field::Field;
+pub use hpack_table::Field;
 pub use crate::gather::Decoded;

@@ -1,6 +1,7 @@
 //! A header field: its name and its value.
 
-ghost use Rattle.std.specs.Prelude.{◌≡◌, IfOk};
+ghost use Rattle.std.specs.Prelude.{◌≡◌, ◌-◌, ◌≤◌, IfOk, SomeIff};
+ghost use Rattle.model.specs.Tables.{field_size};
 
 use std::alloc::{AllocError, Global};
 use std::marker::Model;
@@ -50,5 +51,15 @@ impl Field {
         let name = Vec::from_slice(alloc, &self.name)?;
         let value = Vec::from_slice(alloc, &self.value)?;
         Ok(Field { name, value })
+    }
+
+    /// What is left of the room for sizes behind this field; its size is the octets of its name, those of its value, and
+    /// 32 (RFC 7541, section 4.1). None where it doesn't fit.
+    pub fn room_behind(&self, room: usize) -> Option<usize>
+        ensures { SomeIff result (field_size self.now ≤ room) (room - field_size self.now) }
+    {
+        room.checked_sub(self.name.len())?
+            .checked_sub(self.value.len())?
+            .checked_sub(32)
     }
 }

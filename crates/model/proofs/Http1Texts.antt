@@ -245,7 +245,7 @@ five_parts m b t c a f = simp append_assoc
 ten_parts : (m b t c d h a e f g : List ℕ) → (m ++ b ++ t ++ c ++ d ++ (h ++ a ++ e ++ f) ++ g) ++ [] ≡ m ++ (b ++ (t ++ ((c ++ (d ++ h)) ++ (a ++ (e ++ (f ++ g))))))
 ten_parts m b t c d h a e f g = simp (append_assoc, append-nil)
 
-get_spelled : (method target authority : List ℕ) → get_text method target authority ≡ head_text (bare_request method target authority) [] ++ []
+pub get_spelled : (method target authority : List ℕ) → get_text method target authority ≡ head_text (bare_request method target authority) [] ++ []
 get_spelled method target authority =
     five_parts method (codes " ") target (codes " HTTP/1.1\r\nhost: ") authority (codes "\r\nvia: 2.0 h2gw\r\nconnection: close\r\n\r\n")
     ∙ sym (ten_parts method (codes " ") target (codes " HTTP/1.1") crlf (codes "host: ") authority crlf (codes "via: 2.0 h2gw\r\nconnection: close\r\n") crlf)

@@ -14,4 +14,4 @@ mod upstream;
 pub use config::{Config, Passing, Policy, Route};
 pub use events::{Event, Output};
 pub use gateway::{Fault, Gateway};
-pub use runs::{run, RunFault};
+pub use runs::{RunFault, run};

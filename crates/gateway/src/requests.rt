@@ -9,7 +9,7 @@ ghost use Rattle.gateway.specs.Requests.{get_text};
 
 use crate::config::Route;
 use header_blocks::Field;
-use request_rules::{check_head, RequestHead, Rule};
+use request_rules::{RequestHead, Rule, check_head};
 use std::alloc::{AllocError, Global};
 
 /// Whether a route is for an authority, in letters of either case.

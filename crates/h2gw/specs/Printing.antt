@@ -1,5 +1,5 @@
 -- What a replay prints.
-use Rattle.std.specs.Prelude.{◌⊎◌, ℕ, ◌≤◌, List, [], ◌∷◌, ◌++◌, length, map, codes, decimal}
+use Rattle.std.specs.Prelude.{◌⊎◌, ℕ, ◌+◌, List, [], ◌∷◌, ◌++◌, map, codes, decimal}
 use Rattle.std.specs.List.{flat_map}
 use Rattle.hex.specs.Hex.{encode_lower}
 use Rattle.model.specs.Logs.{Event, Output, Step}
@@ -8,7 +8,7 @@ use Rattle.model.specs.Logs.Act.{Open, ToUp, Close, CloseClient}
 use Rattle.model.specs.Setup.{Setup}
 use Rattle.model.specs.Setup.Policy.{Plain}
 use Rattle.model.specs.Setup.Passing.{Whole}
-use Rattle.model.specs.Faithful.{Faithful}
+use Rattle.model.specs.Faithful.{Faithful, IsRefusedAt}
 use Rattle.h2gw.specs.Scripts.{lines_of, AllSay, IsFirstFault}
 
 -- An output as a line: octets stand in lower-case hex, two digits each.
@@ -51,10 +51,11 @@ message place what = codes "line " ++ decimal place ++ codes ": " ++ what ++ cod
 abbrev pub IsNoScript : List ℕ → (List ℕ → Type 0) → Type 0
 IsNoScript script IsWritten = (place : ℕ) × IsFirstFault (lines_of script) place × IsWritten (message place (codes "not a line"))
 
--- All lines say something, and one was named whose event isn't admitted.
+-- All lines say something, and the first was named whose event may not come after those before it.
 abbrev pub IsNotAdmitted : List ℕ → (List ℕ → Type 0) → Type 0
 IsNotAdmitted script IsWritten =
-    (place : ℕ) × (events : List Event) × AllSay (lines_of script) events × (place ≤ length events) × IsWritten (message place (codes "not admitted"))
+    (before : ℕ) × (events : List Event) × AllSay (lines_of script) events × IsRefusedAt default_setup events before
+    × IsWritten (message (before + 1) (codes "not admitted"))
 
 -- The script was refused for one of the two reasons.
 abbrev pub IsRefused : List ℕ → (List ℕ → Type 0) → Type 0

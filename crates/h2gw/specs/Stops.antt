@@ -1,12 +1,15 @@
 -- Why a script isn't replayed.
-use Rattle.std.specs.Prelude.{ℕ, ◌≤◌, List, length, ⊤}
+use Rattle.std.specs.Prelude.{◌≡◌, ℕ, ◌+◌, List, ⊤}
 use Rattle.model.specs.Logs.{Event}
 use Rattle.h2gw.specs.declared.replays.Stop.{Stop}
 use Rattle.h2gw.specs.declared.replays.Stop.TheVariants.{NotALine, NotAdmitted, Memory}
+use Rattle.model.specs.Faithful.{IsRefusedAt}
+use Rattle.h2gw.specs.Printing.{default_setup}
 use Rattle.h2gw.specs.Scripts.{lines_of, AllSay, IsFirstFault}
 
 -- What is true of the script where its replay stops.
 abbrev pub Explains : List ℕ → Stop → Type 0
 Explains script (NotALine place) = IsFirstFault (lines_of script) place
-Explains script (NotAdmitted place) = (events : List Event) × AllSay (lines_of script) events × (place ≤ length events)
+Explains script (NotAdmitted place) =
+    (before : ℕ) × (events : List Event) × AllSay (lines_of script) events × IsRefusedAt default_setup events before × (place ≡ before + 1)
 Explains script Memory = ⊤

@@ -11,5 +11,5 @@ mod tests;
 
 pub use crate::decoder::Decoder;
 pub use crate::fault::BlockFault;
-pub use hpack_table::Field;
 pub use crate::gather::Decoded;
+pub use hpack_table::Field;

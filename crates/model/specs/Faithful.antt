@@ -1,7 +1,7 @@
 -- Which logs are faithful: the sentence that the gateway is proved to keep.
-use Rattle.std.specs.Prelude.{◌≡◌, ℕ, true, false, List, [], ◌∷◌, ◌++◌, reverse}
+use Rattle.std.specs.Prelude.{◌≡◌, ℕ, true, false, List, [], ◌∷◌, ◌++◌, reverse, map, take, slice_get, Some}
 use Rattle.model.specs.Tables.{Table}
-use Rattle.model.specs.Logs.{Step, client_in}
+use Rattle.model.specs.Logs.{Event, Step, client_in}
 use Rattle.model.specs.Setup.{Setup}
 use Rattle.model.specs.Tapes.{Entry, came, is_closed, IsStep, IsRead}
 use Rattle.model.specs.Decoding.{Decodes, are_read}
@@ -38,3 +38,14 @@ HasTape setup (step ∷ before) tape =
 pub record Faithful (setup : Setup) (log : List Step) : Type 0 where
   pub tape : List Entry
   pub has_tape : HasTape setup (reverse log) tape
+
+-- There is a faithful log of the events before a place, the oldest first, after whose tape the event at that place may not
+-- come.
+pub record IsRefusedAt (setup : Setup) (events : List Event) (place : ℕ) : Type 0 where
+  pub event : Event
+  pub found : slice_get events place ≡ Some event
+  pub log : List Step
+  pub are_events : map (λ step. step.event) log ≡ take place events
+  pub tape : List Entry
+  pub has_tape : HasTape setup (reverse log) tape
+  pub refused : is_admitted tape event ≡ false

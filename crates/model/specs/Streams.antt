@@ -69,7 +69,7 @@ story_on stream t e story =
     if story.over
     then story
     else
-      (if interrupts stream t e then record { items = story.items; over = true } else add_items story (items_of stream t e))
+    (if interrupts stream t e then record { items = story.items; over = true } else add_items story (items_of stream t e))
 
 abbrev pub story : ℕ → List Entry → Story
 story stream [] = record { items = []; over = false }

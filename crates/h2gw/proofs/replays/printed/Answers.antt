@@ -12,7 +12,7 @@ returns-in-Ok-print_steps-clause-ok c =
     let steps : c.deref-2.result.now ≡ c.in-Ok-run.steps.items = c.deref-2.ensures.value in
     let faithful : Faithful default_setup (log_of c.in-Ok.events.items c.in-Ok-run.steps.items) =
     subst (λ e. Faithful default_setup (log_of e c.in-Ok-run.steps.items)) events
-    (subst (λ s. Faithful s (log_of c.deref.result.now c.in-Ok-run.steps.items)) c.in-Ok-default_config.ensures.setup c.in-Ok-run.ensures.ok) in
+    (subst (λ s. Faithful s (log_of c.deref.result.now c.in-Ok-run.steps.items)) c.in-Ok-default_config.ensures.setup c.in-Ok-run.ensures.faithful) in
     is_run c.args.script.now _ c.in-Ok.events.items c.in-Ok-run.steps.items c.in-Ok.ensures.ok
     (c.in-Ok-run.ensures.each ∙ ap length events) faithful
     (c.in-Ok-print_steps.ensures ∙ ap (λ s. text_of (map (λ o. outputs_of o.items) s)) steps)

@@ -77,7 +77,7 @@ impl Config {
     }
 
     /// The same configuration once more. The only error is that memory was refused.
-    pub fn copy(&self, alloc: Global) -> Result<Config, AllocError>
+    pub(crate) fn copy(&self, alloc: Global) -> Result<Config, AllocError>
         ensures { IfOk result (λ config. setup_of config ≡ setup_of self.now) }
     {
         let mut routes = Vec::new(alloc);

@@ -15,3 +15,6 @@ pub use config::{Config, Passing, Policy, Route};
 pub use events::{Event, Output};
 pub use gateway::{Fault, Gateway};
 pub use runs::{RunFault, run};
+
+#[cfg(test)]
+mod tests;

@@ -1,3 +1,6 @@
+ghost use Rattle.std.specs.Prelude.{IfOk};
+ghost use Rattle.gateway.specs.Setups.{setup_of, IsServable};
+
 use super::*;
 use std::alloc::{AllocError, Global};
 use std::string::String;
@@ -11,7 +14,9 @@ const FIRST_REQUEST: [u8; 62] = [
 ];
 
 /// One route for paths that begin with `/`.
-fn config(alloc: Global, authority: &[u8]) -> Result<Config, AllocError> {
+fn config(alloc: Global, authority: &[u8]) -> Result<Config, AllocError>
+    ensures { IfOk result (λ config. IsServable (setup_of config)) }
+{
     let route = Route {
         authority: Vec::from_slice(alloc, authority)?,
         prefix: Vec::from_slice(alloc, b"/")?,

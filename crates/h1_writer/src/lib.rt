@@ -1,0 +1,8 @@
+//! Requests as HTTP/1.1 text (RFC 9112).
+#![tactic(auto)]
+
+mod lines;
+mod numbers;
+mod sender;
+
+pub use crate::sender::Sender;

@@ -1,6 +1,6 @@
 -- How the text grows with what is pushed.
-use Rattle.std.proofs.Common.{Result, Ok, Err, OnOk, ◌≡◌, ℕ, ◌+◌, ◌-◌, ◌<◌, ◌≤◌, Bool, true, false, List, [], ◌∷◌, ◌++◌, length, take, get_or, Option, Some, None, refl, sym, ap, ◌∙◌, subst, append_assoc, length-append, arith}
-use Rattle.std.specs.Prelude.{not, ◌&&◌}
+use Rattle.std.proofs.Common.{Result, Ok, Err, OnOk, ◌≡◌, ℕ, ◌+◌, ◌-◌, ◌<◌, ◌≤◌, Bool, true, false, List, [], ◌∷◌, ◌++◌, length, take, get_or, Option, Some, refl, sym, ap, ◌∙◌, subst, append_assoc, length-append, arith}
+use Rattle.std.specs.Prelude.{not}
 use Rattle.std.specs.List.{list_all, concat, flat_map}
 use Rattle.std.proofs.lemmas.Bool.{and_parts, and_from}
 use Rattle.std.proofs.lemmas.List.{append-nil, take_more, take_all}
@@ -8,7 +8,7 @@ use Rattle.std.proofs.lemmas.List.Concat.{flat_map-append}
 use Rattle.model.specs.Octets.{is_empty}
 use Rattle.request_rules.specs.Heads.{HeadParts}
 use Rattle.h1_writer.specs.Sending.{Stage, Sending, SentCounting, SentHolding, SentChunking, Continues, MayPush, piece_of, chunk_text, head_of}
-use Rattle.h1_writer.specs.Sending.Stage.{Whole, Counting, Holding, Chunking}
+use Rattle.h1_writer.specs.Sending.Stage.{Counting, Holding, Chunking}
 
 abbrev pub are_full : List (List ℕ) → Bool
 are_full pieces = list_all (λ piece. not (is_empty piece)) pieces
@@ -21,7 +21,7 @@ piece_full : (octets : List ℕ) → are_full (piece_of octets) ≡ true
 piece_full [] = refl
 piece_full (octet ∷ octets) = refl
 
-more_full : (pieces : List (List ℕ)) (octets : List ℕ) → are_full pieces ≡ true → are_full (pieces ++ piece_of octets) ≡ true
+pub more_full : (pieces : List (List ℕ)) (octets : List ℕ) → are_full pieces ≡ true → are_full (pieces ++ piece_of octets) ≡ true
 more_full pieces octets p = all_full pieces (piece_of octets) p (piece_full octets)
 
 piece_joined : (octets : List ℕ) → concat (piece_of octets) ≡ octets
@@ -98,11 +98,8 @@ holds_last stage left octets e some long may parts ended text pieces s =
 pub adds_chunk : (stage : Stage) (octets : List ℕ) → stage ≡ Chunking → 0 < length octets → Continues stage (chunk_text octets) octets stage
 adds_chunk stage octets e some parts ended text pieces s =
     subst (λ (t : Stage). Sending parts ended (text ++ chunk_text octets) (pieces ++ piece_of octets) t) (sym e)
-        (push_chunked parts ended text octets pieces some (subst (λ (t : Stage). Sending parts ended text pieces t) e s))
+    (push_chunked parts ended text octets pieces some (subst (λ (t : Stage). Sending parts ended text pieces t) e s))
 
 pub on_ok : {T E P Q : Type 0} (r : Result T E) → (P → Q) → OnOk r P → OnOk r Q
 on_ok (Ok x) to p = to p
 on_ok (Err e) to p = tt
-
-
-

@@ -1,5 +1,5 @@
 -- Lines and chunks as they are put together.
-use Rattle.std.proofs.Common.{Option, ◌≡◌, ℕ, ◌+◌, ◌<◌, Bool, true, false, List, [], ◌∷◌, ◌++◌, length, decimal, Some, refl, sym, ap, ◌∙◌, subst, append_assoc, arith}
+use Rattle.std.proofs.Common.{Option, ◌≡◌, ℕ, Bool, List, [], ◌∷◌, ◌++◌, decimal, Some, refl, sym, ap, ◌∙◌, append_assoc}
 use Rattle.std.specs.Prelude.{codes}
 use Rattle.std.proofs.lemmas.List.{append-nil}
 use Rattle.std.proofs.lemmas.List.Concat.{flat_map-append}
@@ -33,7 +33,7 @@ lines_joined authority fields framing =
 
 pub head_built : (parts : HeadParts) (ended : Bool) (old : List ℕ)
     → (((((((((old ++ parts.method) ++ codes " ") ++ parts.path) ++ codes " HTTP/1.1\r\n") ++ line_text (host parts.authority)) ++ lines_text parts.fields) ++ line_text via)
-        ++ lines_text (framing_of parts.length ended)) ++ line_text close) ++ codes "\r\n" ≡ old ++ head_of parts ended
+    ++ lines_text (framing_of parts.length ended)) ++ line_text close) ++ codes "\r\n" ≡ old ++ head_of parts ended
 head_built parts ended old =
     eleven_parts old parts.method (codes " ") parts.path (codes " HTTP/1.1") crlf (line_text (host parts.authority)) (lines_text parts.fields) (line_text via) (lines_text (framing_of parts.length ended)) (line_text close) crlf
     ∙ ap (λ (lines : List ℕ). old ++ (parts.method ++ codes " " ++ parts.path ++ codes " HTTP/1.1" ++ crlf ++ lines ++ crlf)) (lines_joined parts.authority parts.fields (framing_of parts.length ended))
@@ -53,6 +53,6 @@ head_steps parts ended o0 o1 o2 o3 o4 o5 o6 o7 o8 o9 o10 m p a fields declared e
     let lines : lines_text fields ≡ lines_text parts.fields = ap lines_text ef in
     let framing : lines_text (framing_of declared ended) ≡ lines_text (framing_of parts.length ended) = ap (λ (d : Option ℕ). lines_text (framing_of d ended)) ed in
     add o10 o9 _ (codes "\r\n") e10 (add o9 o8 _ (line_text close) e9 (add_other o8 o7 _ (lines_text (framing_of declared ended)) _ e8 framing
-        (add o7 o6 _ (line_text via) e7 (add_other o6 o5 _ (lines_text fields) _ e6 lines (add_other o5 o4 _ (line_text (host a)) _ e5 host_line
-            (add o4 o3 _ (codes " HTTP/1.1\r\n") e4 (add_other o3 o2 _ p _ e3 ep (add o2 o1 _ (codes " ") e2 (add_other o1 o0 _ m _ e1 em refl)))))))))
+    (add o7 o6 _ (line_text via) e7 (add_other o6 o5 _ (lines_text fields) _ e6 lines (add_other o5 o4 _ (line_text (host a)) _ e5 host_line
+    (add o4 o3 _ (codes " HTTP/1.1\r\n") e4 (add_other o3 o2 _ p _ e3 ep (add o2 o1 _ (codes " ") e2 (add_other o1 o0 _ m _ e1 em refl)))))))))
     ∙ head_built parts ended o0

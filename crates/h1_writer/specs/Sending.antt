@@ -2,8 +2,8 @@
 use Rattle.std.specs.Prelude.{◌≡◌, not, ℕ, ◌+◌, ◌<◌, ◌≤◌, Bool, true, false, nat_lt, if◌then◌else◌, List, [], ◌∷◌, ◌++◌, length, map, codes, Option, Some, None}
 use Rattle.std.specs.List.{concat, flat_map, list_all}
 use Rattle.std.specs.Int.Digits.{digits_of}
-use Rattle.model.specs.Octets.{is_empty}
-use Rattle.model.specs.Http1.{crlf}
+use Rattle.model.specs.Octets.{IsStrictFront, is_empty}
+use Rattle.model.specs.Http1.{crlf, H1Request, forward}
 use Rattle.model.specs.Http1Text.{framing_of, head_text}
 use Rattle.model.specs.Http2.{HasLength}
 use Rattle.request_rules.specs.Heads.{HeadParts, request_with}
@@ -112,3 +112,14 @@ abbrev pub Continues : Stage → List ℕ → List ℕ → Stage → Type 0
 Continues old written octets new =
     (parts : HeadParts) (ended : Bool) (text : List ℕ) (pieces : List (List ℕ))
     → Sending parts ended text pieces old → Sending parts ended (text ++ written) (pieces ++ piece_of octets) new
+
+-- A text goes on to a whole one, which reads as the forwarded request with this body: it is a strict front of it.
+pub record GoesOnTo (parts : HeadParts) (text body : List ℕ) : Type 0 where
+  pub whole : List ℕ
+  pub reads : H1Request whole (forward (request_with parts body))
+  pub is_front : IsStrictFront text whole
+
+-- with so many octets more, the pieces are at most as long as declared
+abbrev pub HasRoom : Option ℕ → List (List ℕ) → ℕ → Type 0
+HasRoom None pieces count = Unit {0}
+HasRoom (Some declared) pieces count = length (concat pieces) + count ≤ declared

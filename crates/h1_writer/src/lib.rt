@@ -1,6 +1,7 @@
 //! Requests as HTTP/1.1 text (RFC 9112).
 #![tactic(auto)]
 
+pub mod laws;
 mod lines;
 mod numbers;
 mod sender;

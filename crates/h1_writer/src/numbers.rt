@@ -23,7 +23,11 @@ fn hex_digit(digit: u8) -> u8
     requires { digit < 16 }
     ensures { result ≡ hex_digit digit }
 {
-    if digit < 10 { b'0' + digit } else { b'a' - 10 + digit }
+    if digit < 10 {
+        b'0' + digit
+    } else {
+        b'a' - 10 + digit
+    }
 }
 
 /// Adds a number above 0 in base sixteen, without leading zeros.

@@ -8,8 +8,7 @@ ghost use Rattle.h1_writer.specs.Sending.{Sending, Continues, MayPush, MayFinish
 ghost use Rattle.h1_writer.specs.Views.{stage_of};
 ghost use Rattle.h1_writer.specs.Sending.Stage.{Whole};
 
-use crate::lines;
-use crate::numbers;
+use crate::{lines, numbers};
 use request_rules::RequestHead;
 use std::alloc::AllocError;
 use std::marker::Model;

@@ -1,4 +1,4 @@
-use Rattle.std.proofs.Common.{ap, ◌∙◌, ◌++◌, ◌∷◌, [], List, ℕ, ◌+◌, ◌%◌, sym, arith}
+use Rattle.std.proofs.Common.{ap, ◌∙◌, ◌++◌, ◌∷◌, [], List, ℕ, ◌+◌, ◌%◌, sym}
 use Rattle.std.proofs.lemmas.Fmt.{decimal_digit}
 use Rattle.h1_writer.proofs.Digits.{decimal_more}
 use Rattle.h1_writer.proofs.numbers.+push_decimal.Goals as goal

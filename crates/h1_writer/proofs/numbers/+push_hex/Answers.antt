@@ -1,4 +1,4 @@
-use Rattle.std.proofs.Common.{ap, ◌∙◌, ◌++◌, ◌∷◌, [], List, ℕ, ◌+◌, ◌%◌, ◌<◌, sym, arith}
+use Rattle.std.proofs.Common.{ap, ◌∙◌, ◌++◌, ◌∷◌, [], List, ℕ, ◌%◌, arith}
 use Rattle.h1_writer.specs.Sending.{hex_digit}
 use Rattle.h1_writer.proofs.Digits.{hex_more}
 use Rattle.h1_writer.proofs.numbers.+push_hex.Goals as goal

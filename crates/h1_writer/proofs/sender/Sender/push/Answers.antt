@@ -1,4 +1,4 @@
-use Rattle.std.proofs.Common.{◌≡◌, sym, ap, ◌∙◌, ◌++◌, take, length, ◌-◌, OnOk}
+use Rattle.std.proofs.Common.{sym, ap, ◌∙◌, take, length, ◌-◌}
 use Rattle.h1_writer.specs.Sending.{chunk_text}
 use Rattle.h1_writer.specs.Views.{stage_of}
 use Rattle.h1_writer.proofs.Stages.{counts_on, holds_last, adds_chunk, on_ok}
@@ -21,5 +21,5 @@ returns-in_ok-extend_from_slice-in-Octets-2-clause-ok c = (
 pub returns-in-Chunks-clause-ok : goal.returns-in-Chunks-clause-ok
 returns-in-Chunks-clause-ok c =
     on_ok c.push_chunk.result
-        (λ e. (chunk_text c.args.octets.now, e, adds_chunk c.args.self.now c.args.octets.now (sym c.self.view_is ∙ ap stage_of c.in-Chunks.is) c.in-len1-up.len_at_least))
-        c.push_chunk.ensures.ok
+    (λ e. (chunk_text c.args.octets.now, e, adds_chunk c.args.self.now c.args.octets.now (sym c.self.view_is ∙ ap stage_of c.in-Chunks.is) c.in-len1-up.len_at_least))
+    c.push_chunk.ensures.ok

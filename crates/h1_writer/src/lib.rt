@@ -5,5 +5,7 @@ pub mod laws;
 mod lines;
 mod numbers;
 mod sender;
+#[cfg(test)]
+mod tests;
 
 pub use crate::sender::Sender;

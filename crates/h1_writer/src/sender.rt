@@ -1,6 +1,6 @@
 //! A request as it is sent.
 
-ghost use Rattle.std.specs.Prelude.{◌≡◌, ◌<◌, ◌++◌, [], ◌∷◌, ℕ, List, true, false, OnOk, OnErr, IfOk, length, codes, take};
+ghost use Rattle.std.specs.Prelude.{◌≡◌, ◌<◌, ◌++◌, [], ◌∷◌, ℕ, List, true, false, OnOk, OnErr, IfOk, MatchBool, length, codes, take};
 ghost use Rattle.model.specs.Http2.{HasLength};
 ghost use Rattle.model.specs.Http1Text.{framing_of, head_text};
 ghost use Rattle.request_rules.specs.Heads.{IsRequestHead, request_with};
@@ -169,5 +169,27 @@ impl Sender {
         }
         self.waiting = Waiting::Nothing;
         Ok(())
+    }
+}
+
+#[cfg(test)]
+impl Sender {
+    /// Whether so many octets may be pushed.
+    pub fn may_push(&self, count: usize) -> bool
+        ensures { MatchBool result (MayPush self.now count) (MayPush self.now count → ⊥) }
+    {
+        match self.waiting {
+            Waiting::Octets(left) => count as u64 <= left,
+            Waiting::End(_) => count == 0,
+            Waiting::Chunks => true,
+            Waiting::Nothing => false,
+        }
+    }
+
+    /// Whether the text may be ended.
+    pub fn may_finish(&self) -> bool
+        ensures { MatchBool result (MayFinish self.now) (MayFinish self.now → ⊥) }
+    {
+        matches!(self.waiting, Waiting::End(_) | Waiting::Chunks)
     }
 }

@@ -36,6 +36,7 @@ const AUTHORITY: Line = (b":authority", b"www.example.com");
 fn a_request_without_a_body(rt: HostRuntime) -> Result<(), Fail> {
     let head = head_of(rt.alloc(), &rt, &[GET, SCHEME, PATH, AUTHORITY], true)?;
     let mut out = Vec::new(rt.alloc());
+    assert!(rt; head.length().is_none());
     let _sender = Sender::start(&head, true, &mut out)?;
     assert_eq!(rt;
         out.as_slice(),
@@ -62,6 +63,7 @@ fn fields_stand_in_their_order(rt: HostRuntime) -> Result<(), Fail> {
         true,
     )?;
     let mut out = Vec::new(rt.alloc());
+    assert!(rt; head.length().is_none());
     let _sender = Sender::start(&head, true, &mut out)?;
     assert_eq!(rt;
         out.as_slice(),
@@ -85,11 +87,15 @@ fn a_declared_body_keeps_its_last_octet(rt: HostRuntime) -> Result<(), Fail> {
         b"POST / HTTP/1.1\r\nhost: www.example.com\r\nvia: 2.0 h2gw\r\ncontent-length: 5\r\nconnection: close\r\n\r\n".as_slice()
     );
     out.clear();
+    assert!(rt; sender.may_push(2));
     sender.push(b"he", &mut out)?;
+    assert!(rt; sender.may_push(3));
     sender.push(b"llo", &mut out)?;
     assert_eq!(rt; out.as_slice(), b"hell".as_slice());
     out.clear();
+    assert!(rt; sender.may_push(0));
     sender.push(b"", &mut out)?;
+    assert!(rt; sender.may_finish());
     sender.finish(&mut out)?;
     assert_eq!(rt; out.as_slice(), b"o".as_slice());
     Ok(())
@@ -110,6 +116,7 @@ fn a_declared_empty_body_keeps_the_head_open(rt: HostRuntime) -> Result<(), Fail
         b"POST / HTTP/1.1\r\nhost: www.example.com\r\nvia: 2.0 h2gw\r\ncontent-length: 0\r\nconnection: close\r\n\r".as_slice()
     );
     out.clear();
+    assert!(rt; sender.may_finish());
     sender.finish(&mut out)?;
     assert_eq!(rt; out.as_slice(), b"\n".as_slice());
     Ok(())
@@ -125,8 +132,11 @@ fn an_undeclared_body_goes_in_chunks(rt: HostRuntime) -> Result<(), Fail> {
         b"POST / HTTP/1.1\r\nhost: www.example.com\r\nvia: 2.0 h2gw\r\ntransfer-encoding: chunked\r\nconnection: close\r\n\r\n".as_slice()
     );
     out.clear();
+    assert!(rt; sender.may_push(2));
     sender.push(b"hi", &mut out)?;
+    assert!(rt; sender.may_push(27));
     sender.push(b"0123456789abcdefghijklmnopq", &mut out)?;
+    assert!(rt; sender.may_finish());
     sender.finish(&mut out)?;
     assert_eq!(rt;
         out.as_slice(),

@@ -1,7 +1,7 @@
 -- What a checked head says.
-use Rattle.std.specs.Prelude.{ℕ, List, Option}
-use Rattle.model.specs.Messages.{Field}
-use Rattle.model.specs.Http2.{method_of, path_of, authority_of, fields_of, declared_length}
+use Rattle.std.specs.Prelude.{◌≡◌, ℕ, false, List, Option}
+use Rattle.model.specs.Messages.{Field, Request}
+use Rattle.model.specs.Http2.{method_of, path_of, authority_of, fields_of, declared_length, is_connect, WellFormedHead}
 
 -- the parts of a head that a request is made of, and the length that it declares
 pub record HeadParts : Type 0 where
@@ -19,4 +19,21 @@ parts_of head = record {
   authority = authority_of head;
   fields = fields_of head;
   length = declared_length head;
+}
+
+-- These are the parts of a well-formed head that isn't CONNECT's.
+pub record IsRequestHead (parts : HeadParts) : Type 0 where
+  pub head : List Field
+  pub well_formed : WellFormedHead head
+  pub no_connect : is_connect head ≡ false
+  pub is : parts ≡ parts_of head
+
+-- the request of a head's parts and a body
+abbrev pub request_with : HeadParts → List ℕ → Request
+request_with parts body = record {
+  method = parts.method;
+  target = parts.path;
+  authority = parts.authority;
+  fields = parts.fields;
+  body = body;
 }

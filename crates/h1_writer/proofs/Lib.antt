@@ -1,0 +1,5 @@
+pub mod Digits
+pub mod Texts
+pub mod Stages
+pub mod Written
+pub mod Wholes

@@ -1,0 +1,105 @@
+-- How the text grows with what is pushed.
+use Rattle.std.proofs.Common.{Result, Ok, Err, OnOk, ◌≡◌, ℕ, ◌+◌, ◌-◌, ◌<◌, ◌≤◌, Bool, true, false, List, [], ◌∷◌, ◌++◌, length, take, get_or, Option, Some, refl, sym, ap, ◌∙◌, subst, append_assoc, length-append, arith}
+use Rattle.std.specs.Prelude.{not}
+use Rattle.std.specs.List.{list_all, concat, flat_map}
+use Rattle.std.proofs.lemmas.Bool.{and_parts, and_from}
+use Rattle.std.proofs.lemmas.List.{append-nil, take_more, take_all}
+use Rattle.std.proofs.lemmas.List.Concat.{flat_map-append}
+use Rattle.model.specs.Octets.{is_empty}
+use Rattle.request_rules.specs.Heads.{HeadParts}
+use Rattle.h1_writer.specs.Sending.{Stage, Sending, SentCounting, SentHolding, SentChunking, Continues, MayPush, piece_of, chunk_text, head_of}
+use Rattle.h1_writer.specs.Sending.Stage.{Counting, Holding, Chunking}
+
+abbrev pub are_full : List (List ℕ) → Bool
+are_full pieces = list_all (λ piece. not (is_empty piece)) pieces
+
+all_full : (a b : List (List ℕ)) → are_full a ≡ true → are_full b ≡ true → are_full (a ++ b) ≡ true
+all_full [] b p q = q
+all_full (piece ∷ a) b p q = let parts = and_parts (not (is_empty piece)) (are_full a) p in and_from (not (is_empty piece)) (are_full (a ++ b)) parts.0 (all_full a b parts.1 q)
+
+piece_full : (octets : List ℕ) → are_full (piece_of octets) ≡ true
+piece_full [] = refl
+piece_full (octet ∷ octets) = refl
+
+pub more_full : (pieces : List (List ℕ)) (octets : List ℕ) → are_full pieces ≡ true → are_full (pieces ++ piece_of octets) ≡ true
+more_full pieces octets p = all_full pieces (piece_of octets) p (piece_full octets)
+
+piece_joined : (octets : List ℕ) → concat (piece_of octets) ≡ octets
+piece_joined [] = refl
+piece_joined (octet ∷ octets) = append-nil (octet ∷ octets)
+
+concat_both : (a b : List (List ℕ)) → concat (a ++ b) ≡ concat a ++ concat b
+concat_both [] b = refl
+concat_both (piece ∷ a) b = ap (λ (rest : List ℕ). piece ++ rest) (concat_both a b) ∙ sym (append_assoc piece (concat a) (concat b))
+
+pub concat_more : (pieces : List (List ℕ)) (octets : List ℕ) → concat (pieces ++ piece_of octets) ≡ concat pieces ++ octets
+concat_more pieces octets = concat_both pieces (piece_of octets) ∙ ap (λ (rest : List ℕ). concat pieces ++ rest) (piece_joined octets)
+
+text_more : (head text octets : List ℕ) (pieces : List (List ℕ)) → text ≡ head ++ concat pieces → text ++ octets ≡ head ++ concat (pieces ++ piece_of octets)
+text_more head text octets pieces e =
+    ap (λ (t : List ℕ). t ++ octets) e ∙ append_assoc head (concat pieces) octets ∙ ap (λ (rest : List ℕ). head ++ rest) (sym (concat_more pieces octets))
+
+pub push_counting : (parts : HeadParts) (ended : Bool) (text octets : List ℕ) (pieces : List (List ℕ)) (left : ℕ) → length octets < left → SentCounting parts ended text pieces left
+    → SentCounting parts ended (text ++ octets) (pieces ++ piece_of octets) (left - length octets)
+push_counting parts ended text octets pieces left short s =
+    let lengths : length (concat (pieces ++ piece_of octets)) ≡ length (concat pieces) + length octets = ap length (concat_more pieces octets) ∙ length-append (concat pieces) octets in
+    let sum : length (concat pieces) + left ≡ length (concat (pieces ++ piece_of octets)) + (left - length octets) = omega arith in
+    record {
+      not_ended = s.not_ended;
+      full = more_full pieces octets s.full;
+      declared = s.declared ∙ ap {A = ℕ} {B = Option ℕ} (λ n. Some n) sum;
+      more = omega arith;
+      is = text_more (head_of parts false) text octets pieces s.is;
+    }
+
+front_and_last : (octets : List ℕ) → 0 < length octets → take (length octets - 1) octets ++ get_or octets (length octets - 1) 0 ∷ [] ≡ octets
+front_and_last octets some =
+    let whole : length octets - 1 + 1 ≡ length octets = omega arith in
+    sym (take_more octets (length octets - 1) 0 (omega arith)) ∙ ap (λ (n : ℕ). take n octets) whole ∙ take_all (length octets) octets (omega arith)
+
+pub push_last : (parts : HeadParts) (ended : Bool) (text octets : List ℕ) (pieces : List (List ℕ)) (left : ℕ) → 0 < length octets → length octets ≡ left → SentCounting parts ended text pieces left
+    → SentHolding parts ended (text ++ take (length octets - 1) octets) (pieces ++ piece_of octets) (get_or octets (length octets - 1) 0)
+push_last parts ended text octets pieces left some all s =
+    let lengths : length (concat (pieces ++ piece_of octets)) ≡ length (concat pieces) + length octets = ap length (concat_more pieces octets) ∙ length-append (concat pieces) octets in
+    let sum : length (concat pieces) + left ≡ length (concat (pieces ++ piece_of octets)) = omega arith in
+    record {
+      not_ended = s.not_ended;
+      full = more_full pieces octets s.full;
+      declared = s.declared ∙ ap {A = ℕ} {B = Option ℕ} (λ n. Some n) sum;
+      is = append_assoc text (take (length octets - 1) octets) (get_or octets (length octets - 1) 0 ∷ []) ∙ ap (λ (rest : List ℕ). text ++ rest) (front_and_last octets some)
+          ∙ text_more (head_of parts false) text octets pieces s.is;
+    }
+
+chunk_joined : (octets : List ℕ) → 0 < length octets → flat_map chunk_text (piece_of octets) ≡ chunk_text octets
+chunk_joined [] some = absurd (omega arith)
+chunk_joined (octet ∷ octets) some = append-nil (chunk_text (octet ∷ octets))
+
+pub push_chunked : (parts : HeadParts) (ended : Bool) (text octets : List ℕ) (pieces : List (List ℕ)) → 0 < length octets → SentChunking parts ended text pieces
+    → SentChunking parts ended (text ++ chunk_text octets) (pieces ++ piece_of octets)
+push_chunked parts ended text octets pieces some s = record {
+  not_ended = s.not_ended;
+  full = more_full pieces octets s.full;
+  undeclared = s.undeclared;
+  is = ap (λ (t : List ℕ). t ++ chunk_text octets) s.is ∙ append_assoc (head_of parts false) (flat_map chunk_text pieces) (chunk_text octets)
+      ∙ ap (λ (rest : List ℕ). head_of parts false ++ rest) (sym (flat_map-append chunk_text pieces (piece_of octets) ∙ ap (λ (rest : List ℕ). flat_map chunk_text pieces ++ rest) (chunk_joined octets some)));
+}
+
+-- a stage that is known stands for the value
+pub counts_on : (stage : Stage) (left : ℕ) (octets : List ℕ) → stage ≡ Counting left → length octets < left → Continues stage octets octets (Counting (left - length octets))
+counts_on stage left octets e short parts ended text pieces s =
+    push_counting parts ended text octets pieces left short (subst (λ (t : Stage). Sending parts ended text pieces t) e s)
+
+pub holds_last : (stage : Stage) (left : ℕ) (octets : List ℕ) → stage ≡ Counting left → 0 < length octets → left ≤ length octets → MayPush stage (length octets)
+    → Continues stage (take (length octets - 1) octets) octets (Holding (get_or octets (length octets - 1) 0))
+holds_last stage left octets e some long may parts ended text pieces s =
+    let most : length octets ≤ left = subst (λ (t : Stage). MayPush t (length octets)) e may in
+    push_last parts ended text octets pieces left some (omega arith) (subst (λ (t : Stage). Sending parts ended text pieces t) e s)
+
+pub adds_chunk : (stage : Stage) (octets : List ℕ) → stage ≡ Chunking → 0 < length octets → Continues stage (chunk_text octets) octets stage
+adds_chunk stage octets e some parts ended text pieces s =
+    subst (λ (t : Stage). Sending parts ended (text ++ chunk_text octets) (pieces ++ piece_of octets) t) (sym e)
+    (push_chunked parts ended text octets pieces some (subst (λ (t : Stage). Sending parts ended text pieces t) e s))
+
+pub on_ok : {T E P Q : Type 0} (r : Result T E) → (P → Q) → OnOk r P → OnOk r Q
+on_ok (Ok x) to p = to p
+on_ok (Err e) to p = tt

@@ -1,0 +1,174 @@
+-- A whole text is its request's, and one that isn't whole is a strict front of each that it may become.
+use Rattle.std.proofs.Common.{replicate, ◌≡◌, ℕ, ◌+◌, ◌^◌, ◌<◌, ◌≤◌, Bool, true, false, List, [], ◌∷◌, ◌++◌, length, Option, Some, None, refl, sym, ap, ◌∙◌, subst, append_assoc, length-append, arith}
+use Rattle.std.specs.List.{concat, flat_map}
+use Rattle.std.proofs.lemmas.List.{append-nil, nil_from_length, length-replicate}
+use Rattle.std.proofs.lemmas.List.Concat.{flat_map-append}
+use Rattle.model.specs.Octets.{IsFront, IsStrictFront}
+use Rattle.model.specs.Http1.{H1Request, BeginsNoRequest, forward}
+use Rattle.model.specs.Http1Text.{framing_of}
+use Rattle.model.specs.Http2.{HasLength}
+use Rattle.model.proofs.Http1Readings.{one_request}
+use Rattle.model.proofs.Http1Texts.{Frames, IsSendable, text_read, no_framing}
+use Rattle.model.proofs.Http2Sends.{head_sendable}
+use Rattle.request_rules.specs.Heads.{HeadParts, IsRequestHead, request_with}
+use Rattle.h1_writer.specs.Sending.{Stage, Sending, SentWhole, SentCounting, SentHolding, SentChunking, content_of, head_of, piece_of, chunk_text, last_chunk, GoesOnTo, HasRoom, MayPush, MayFinish}
+use Rattle.h1_writer.specs.Sending.Stage.{Whole, Counting, Holding, Chunking}
+use Rattle.h1_writer.proofs.Stages.{are_full, concat_more, more_full}
+use Rattle.h1_writer.proofs.Written.{length_frames, declared_fits, chunk_frames}
+
+sendable : (parts : HeadParts) (body : List ℕ) → IsRequestHead parts → IsSendable (request_with parts body)
+sendable parts body p = subst (λ (q : HeadParts). IsSendable (request_with q body)) (sym p.is) (head_sendable p.head body p.well_formed p.no_connect)
+
+length_fits : (parts : HeadParts) (n : ℕ) → IsRequestHead parts → parts.length ≡ Some n → n < 2 ^ 64
+length_fits parts n p e = declared_fits p.head n p.well_formed.length_holds (sym (ap (λ (q : HeadParts). q.length) p.is) ∙ e)
+
+-- what follows a head frames the body
+content_frames : (declared : Option ℕ) (ended : Bool) (pieces : List (List ℕ)) → ((n : ℕ) → declared ≡ Some n → n < 2 ^ 64) → are_full pieces ≡ true → HasLength declared (concat pieces)
+    → (ended ≡ true → pieces ≡ []) → Frames (framing_of declared ended) (content_of declared ended pieces) (concat pieces)
+content_frames (Some n) ended pieces fits full held none = length_frames n ended (concat pieces) (fits n refl) held
+content_frames None false pieces fits full held none = chunk_frames pieces full
+content_frames None true pieces fits full held none =
+    subst (λ (ps : List (List ℕ)). Frames [] [] (concat ps)) (sym (none refl)) no_framing
+
+pub whole_read : (parts : HeadParts) (ended : Bool) (text : List ℕ) (pieces : List (List ℕ)) → IsRequestHead parts → SentWhole parts ended text pieces
+    → H1Request text (forward (request_with parts (concat pieces)))
+whole_read parts ended text pieces p s =
+    subst (λ (t : List ℕ). H1Request t (forward (request_with parts (concat pieces)))) (sym s.is)
+    (text_read (request_with parts (concat pieces)) (framing_of parts.length ended) (content_of parts.length ended pieces) (sendable parts (concat pieces) p)
+    (content_frames parts.length ended pieces (λ n e. length_fits parts n p e) s.full s.has_length s.none_ended))
+
+-- ---- what a text that isn't whole may become
+
+strict_front : (text more : List ℕ) → 0 < length more → IsStrictFront text (text ++ more)
+strict_front text [] some = absurd (omega arith)
+strict_front text (next ∷ rest) some = record { next = next; rest = rest; is = refl }
+
+-- the text of a declared body
+declared_text : (parts : HeadParts) (text body more : List ℕ) → IsRequestHead parts → parts.length ≡ Some (length body) → text ++ more ≡ head_of parts false ++ body → 0 < length more → GoesOnTo parts text body
+declared_text parts text body more p declared is some =
+    let framing : Frames (framing_of parts.length false) body body =
+    subst (λ (d : Option ℕ). Frames (framing_of d false) body body) (sym declared) (length_frames (length body) false body (length_fits parts (length body) p declared) refl) in
+    record {
+      whole = text ++ more;
+      reads = subst (λ (t : List ℕ). H1Request t (forward (request_with parts body))) (sym is) (text_read (request_with parts body) (framing_of parts.length false) body (sendable parts body p) framing);
+      is_front = strict_front text more some;
+    }
+
+declared_body : (parts : HeadParts) (n : ℕ) (body : List ℕ) → parts.length ≡ Some n → HasLength parts.length body → parts.length ≡ Some (length body)
+declared_body parts n body e held =
+    let is : length body ≡ n = subst (λ (d : Option ℕ). HasLength d body) e held in
+    e ∙ ap {A = ℕ} {B = Option ℕ} (λ m. Some m) (sym is)
+
+pub counting_front : (parts : HeadParts) (ended : Bool) (text : List ℕ) (pieces : List (List ℕ)) (left : ℕ) (body : List ℕ) → IsRequestHead parts → SentCounting parts ended text pieces left
+    → IsFront (concat pieces) body → HasLength parts.length body → GoesOnTo parts text body
+counting_front parts ended text pieces left body p s front held =
+    let is : length body ≡ length (concat pieces) + left = subst (λ (d : Option ℕ). HasLength d body) s.declared held in
+    let lengths : length body ≡ length (concat pieces) + length front.rest = ap length front.is ∙ length-append (concat pieces) front.rest in
+    let more : 0 < left = s.more in
+    declared_text parts text body front.rest p (declared_body parts _ body s.declared held)
+    (ap (λ (t : List ℕ). t ++ front.rest) s.is ∙ append_assoc (head_of parts false) (concat pieces) front.rest ∙ ap (λ (b : List ℕ). head_of parts false ++ b) (sym front.is))
+    (omega arith)
+
+pub holding_front : (parts : HeadParts) (ended : Bool) (text : List ℕ) (pieces : List (List ℕ)) (octet : ℕ) (body : List ℕ) → IsRequestHead parts → SentHolding parts ended text pieces octet
+    → IsFront (concat pieces) body → HasLength parts.length body → GoesOnTo parts text body
+holding_front parts ended text pieces octet body p s front held =
+    let is : length body ≡ length (concat pieces) = subst (λ (d : Option ℕ). HasLength d body) s.declared held in
+    let lengths : length body ≡ length (concat pieces) + length front.rest = ap length front.is ∙ length-append (concat pieces) front.rest in
+    let rest : front.rest ≡ [] = nil_from_length front.rest (omega arith) in
+    let same : body ≡ concat pieces = front.is ∙ ap (λ (r : List ℕ). concat pieces ++ r) rest ∙ append-nil (concat pieces) in
+    declared_text parts text body (octet ∷ []) p (declared_body parts _ body s.declared held) (s.is ∙ ap (λ (b : List ℕ). head_of parts false ++ b) (sym same)) (omega arith)
+
+chunking_text : (parts : HeadParts) (pieces : List (List ℕ)) → IsRequestHead parts → parts.length ≡ None → are_full pieces ≡ true
+    → H1Request (head_of parts false ++ (flat_map chunk_text pieces ++ last_chunk)) (forward (request_with parts (concat pieces)))
+chunking_text parts pieces p none full =
+    text_read (request_with parts (concat pieces)) (framing_of parts.length false) (flat_map chunk_text pieces ++ last_chunk) (sendable parts (concat pieces) p)
+    (subst (λ (d : Option ℕ). Frames (framing_of d false) (flat_map chunk_text pieces ++ last_chunk) (concat pieces)) (sym none) (chunk_frames pieces full))
+
+pub chunking_front : (parts : HeadParts) (ended : Bool) (text : List ℕ) (pieces : List (List ℕ)) (body : List ℕ) → IsRequestHead parts → SentChunking parts ended text pieces
+    → IsFront (concat pieces) body → GoesOnTo parts text body
+chunking_front parts ended text pieces body p s front =
+    let all = pieces ++ piece_of front.rest in
+    let more = flat_map chunk_text (piece_of front.rest) ++ last_chunk in
+    let whole : text ++ more ≡ head_of parts false ++ (flat_map chunk_text all ++ last_chunk) =
+    ap (λ (t : List ℕ). t ++ more) s.is ∙ append_assoc (head_of parts false) (flat_map chunk_text pieces) more
+    ∙ ap (λ (t : List ℕ). head_of parts false ++ t)
+    (sym (append_assoc (flat_map chunk_text pieces) (flat_map chunk_text (piece_of front.rest)) last_chunk) ∙ ap (λ (t : List ℕ). t ++ last_chunk) (sym (flat_map-append chunk_text pieces (piece_of front.rest)))) in
+    let body_is : concat all ≡ body = concat_more pieces front.rest ∙ sym front.is in
+    let lengths = length-append (flat_map chunk_text (piece_of front.rest)) last_chunk in
+    let five : length last_chunk ≡ 5 = refl in
+    record {
+      whole = text ++ more;
+      reads = subst (λ (t : List ℕ). H1Request t (forward (request_with parts body))) (sym whole)
+          (subst (λ (b : List ℕ). H1Request (head_of parts false ++ (flat_map chunk_text all ++ last_chunk)) (forward (request_with parts b))) body_is
+          (chunking_text parts all p s.undeclared (more_full pieces front.rest s.full)));
+      is_front = strict_front text more (omega arith);
+    }
+
+pub unfinished_front : (parts : HeadParts) (ended : Bool) (text : List ℕ) (pieces : List (List ℕ)) (stage : Stage) (body : List ℕ) → IsRequestHead parts → Sending parts ended text pieces stage
+    → (stage ≡ Whole → ⊥) → IsFront (concat pieces) body → HasLength parts.length body → GoesOnTo parts text body
+unfinished_front parts ended text pieces Whole body p s open' front held = absurd (open' refl)
+unfinished_front parts ended text pieces (Counting left) body p s open' front held = counting_front parts ended text pieces left body p s front held
+unfinished_front parts ended text pieces (Holding octet) body p s open' front held = holding_front parts ended text pieces octet body p s front held
+unfinished_front parts ended text pieces Chunking body p s open' front held = chunking_front parts ended text pieces body p s front
+
+-- a strict front of a request's text begins with none
+pub none_begun : (parts : HeadParts) (text body : List ℕ) → GoesOnTo parts text body → BeginsNoRequest text
+none_begun parts text body m a more request q e =
+    let front = m.is_front in
+    let whole : a ++ (more ++ front.next ∷ front.rest) ≡ m.whole ++ [] =
+    sym (append_assoc a more (front.next ∷ front.rest)) ∙ ap (λ (t : List ℕ). t ++ front.next ∷ front.rest) (sym e) ∙ sym front.is ∙ sym (append-nil m.whole) in
+    let same = one_request a m.whole (more ++ front.next ∷ front.rest) [] request (forward (request_with parts body)) q m.reads whole in
+    let first : length a ≡ length m.whole = ap length same.0 in
+    let second : length text ≡ length a + length more = ap length e ∙ length-append a more in
+    let third : length m.whole ≡ length text + length (front.next ∷ front.rest) = ap length front.is ∙ length-append text (front.next ∷ front.rest) in
+    absurd (omega arith)
+
+-- some body that a text may go on to
+some_body : (parts : HeadParts) (ended : Bool) (text : List ℕ) (pieces : List (List ℕ)) (stage : Stage) → Sending parts ended text pieces stage → (stage ≡ Whole → ⊥)
+    → (body : List ℕ) × IsFront (concat pieces) body × HasLength parts.length body
+some_body parts ended text pieces Whole s open' = absurd (open' refl)
+some_body parts ended text pieces (Counting left) s open' = (
+  concat pieces ++ replicate left 0,
+  record { rest = replicate left 0; is = refl },
+  subst (λ (d : Option ℕ). HasLength d (concat pieces ++ replicate left 0)) (sym s.declared)
+      (length-append (concat pieces) (replicate left 0) ∙ ap (λ (n : ℕ). length (concat pieces) + n) (length-replicate left 0)),
+)
+some_body parts ended text pieces (Holding octet) s open' = (
+  concat pieces,
+  record { rest = []; is = sym (append-nil (concat pieces)) },
+  subst (λ (d : Option ℕ). HasLength d (concat pieces)) (sym s.declared) refl,
+)
+some_body parts ended text pieces Chunking s open' = (
+  concat pieces,
+  record { rest = []; is = sym (append-nil (concat pieces)) },
+  subst (λ (d : Option ℕ). HasLength d (concat pieces)) (sym s.undeclared) tt,
+)
+
+pub unfinished_none : (parts : HeadParts) (ended : Bool) (text : List ℕ) (pieces : List (List ℕ)) (stage : Stage) → IsRequestHead parts → Sending parts ended text pieces stage → (stage ≡ Whole → ⊥)
+    → BeginsNoRequest text
+unfinished_none parts ended text pieces stage p s open' =
+    let some = some_body parts ended text pieces stage s open' in
+    none_begun parts text some.0 (unfinished_front parts ended text pieces stage some.0 p s open' some.1 some.2)
+
+-- ---- what may be called
+
+pub room_to_push : (parts : HeadParts) (ended : Bool) (text : List ℕ) (pieces : List (List ℕ)) (stage : Stage) (count : ℕ) → Sending parts ended text pieces stage → (stage ≡ Whole → ⊥)
+    → HasRoom parts.length pieces count → MayPush stage count
+room_to_push parts ended text pieces Whole count s open' room = absurd (open' refl)
+room_to_push parts ended text pieces (Counting left) count s open' room =
+    let fits : length (concat pieces) + count ≤ length (concat pieces) + left = subst (λ (d : Option ℕ). HasRoom d pieces count) s.declared room in
+    omega arith
+room_to_push parts ended text pieces (Holding octet) count s open' room =
+    let fits : length (concat pieces) + count ≤ length (concat pieces) = subst (λ (d : Option ℕ). HasRoom d pieces count) s.declared room in
+    omega arith
+room_to_push parts ended text pieces Chunking count s open' room = tt
+
+pub end_to_finish : (parts : HeadParts) (ended : Bool) (text : List ℕ) (pieces : List (List ℕ)) (stage : Stage) → Sending parts ended text pieces stage → (stage ≡ Whole → ⊥)
+    → HasLength parts.length (concat pieces) → MayFinish stage
+end_to_finish parts ended text pieces Whole s open' held = absurd (open' refl)
+end_to_finish parts ended text pieces (Counting left) s open' held =
+    let whole : length (concat pieces) ≡ length (concat pieces) + left = subst (λ (d : Option ℕ). HasLength d (concat pieces)) s.declared held in
+    let more : 0 < left = s.more in
+    absurd (omega arith)
+end_to_finish parts ended text pieces (Holding octet) s open' held = tt
+end_to_finish parts ended text pieces Chunking s open' held = tt

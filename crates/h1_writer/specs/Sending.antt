@@ -1,0 +1,125 @@
+-- The text of a request as it is sent, piece by piece.
+use Rattle.std.specs.Prelude.{◌≡◌, not, ℕ, ◌+◌, ◌<◌, ◌≤◌, Bool, true, false, nat_lt, if◌then◌else◌, List, [], ◌∷◌, ◌++◌, length, map, codes, Option, Some, None}
+use Rattle.std.specs.List.{concat, flat_map, list_all}
+use Rattle.std.specs.Int.Digits.{digits_of}
+use Rattle.model.specs.Octets.{IsStrictFront, is_empty}
+use Rattle.model.specs.Http1.{crlf, H1Request, forward}
+use Rattle.model.specs.Http1Text.{framing_of, head_text}
+use Rattle.model.specs.Http2.{HasLength}
+use Rattle.request_rules.specs.Heads.{HeadParts, request_with}
+
+-- What a request's text still waits for.
+pub data Stage : Type 0 where
+  -- nothing: it is whole
+  Whole : Stage
+  -- so many octets of the declared body
+  Counting : (left : ℕ) → Stage
+  -- the end; this octet, its last, is held back
+  Holding : (octet : ℕ) → Stage
+  -- chunks and the end
+  Chunking : Stage
+
+-- a digit in base sixteen, in lower case
+abbrev pub hex_digit : ℕ → ℕ
+hex_digit digit = if nat_lt digit 10 then 48 + digit else 87 + digit
+
+-- a size above 0 in base sixteen, without leading zeros
+abbrev pub hex_size : ℕ → List ℕ
+hex_size size = map hex_digit (digits_of 16 size)
+
+-- a chunk (RFC 9112, section 7.1)
+abbrev pub chunk_text : List ℕ → List ℕ
+chunk_text piece = hex_size (length piece) ++ crlf ++ piece ++ crlf
+
+-- the last chunk, without trailers
+abbrev pub last_chunk : List ℕ
+last_chunk = codes "0" ++ crlf ++ crlf
+
+-- the text of a head that ended its stream or didn't
+abbrev pub head_of : HeadParts → Bool → List ℕ
+head_of parts ended = head_text (request_with parts []) (framing_of parts.length ended)
+
+-- what follows a head, for a body that came in these pieces: chunks where no length was declared
+abbrev pub content_of : Option ℕ → Bool → List (List ℕ) → List ℕ
+content_of (Some declared) ended pieces = concat pieces
+content_of None true pieces = []
+content_of None false pieces = flat_map chunk_text pieces ++ last_chunk
+
+-- The whole text was sent, for a body of these pieces.
+pub record SentWhole (parts : HeadParts) (ended : Bool) (text : List ℕ) (pieces : List (List ℕ)) : Type 0 where
+  pub none_ended : ended ≡ true → pieces ≡ []
+  pub full : list_all (λ piece. not (is_empty piece)) pieces ≡ true
+  pub has_length : HasLength parts.length (concat pieces)
+  pub is : text ≡ head_of parts ended ++ content_of parts.length ended pieces
+
+-- The head was sent and these pieces, and so many octets of the declared body are still to come.
+pub record SentCounting (parts : HeadParts) (ended : Bool) (text : List ℕ) (pieces : List (List ℕ)) (left : ℕ) : Type 0 where
+  pub not_ended : ended ≡ false
+  pub full : list_all (λ piece. not (is_empty piece)) pieces ≡ true
+  pub declared : parts.length ≡ Some (length (concat pieces) + left)
+  pub more : 0 < left
+  pub is : text ≡ head_of parts false ++ concat pieces
+
+-- The whole text but its last octet was sent.
+pub record SentHolding (parts : HeadParts) (ended : Bool) (text : List ℕ) (pieces : List (List ℕ)) (octet : ℕ) : Type 0 where
+  pub not_ended : ended ≡ false
+  pub full : list_all (λ piece. not (is_empty piece)) pieces ≡ true
+  pub declared : parts.length ≡ Some (length (concat pieces))
+  pub is : text ++ octet ∷ [] ≡ head_of parts false ++ concat pieces
+
+-- The head was sent and these pieces as chunks.
+pub record SentChunking (parts : HeadParts) (ended : Bool) (text : List ℕ) (pieces : List (List ℕ)) : Type 0 where
+  pub not_ended : ended ≡ false
+  pub full : list_all (λ piece. not (is_empty piece)) pieces ≡ true
+  pub undeclared : parts.length ≡ None
+  pub is : text ≡ head_of parts false ++ flat_map chunk_text pieces
+
+-- This text was sent for a head, which ended its stream or didn't, and the pieces of its body that came.
+abbrev pub Sending : HeadParts → Bool → List ℕ → List (List ℕ) → Stage → Type 0
+Sending parts ended text pieces Whole = SentWhole parts ended text pieces
+Sending parts ended text pieces (Counting left) = SentCounting parts ended text pieces left
+Sending parts ended text pieces (Holding octet) = SentHolding parts ended text pieces octet
+Sending parts ended text pieces Chunking = SentChunking parts ended text pieces
+
+-- This text of a head is sent, and then that is waited for.
+abbrev pub Begins : Option ℕ → Bool → List ℕ → List ℕ → Stage → Type 0
+Begins declared ended head text Whole = (ended ≡ true) × (text ≡ head)
+Begins declared ended head text (Counting left) = (ended ≡ false) × (declared ≡ Some left) × (0 < left) × (text ≡ head)
+Begins declared ended head text (Holding octet) = (ended ≡ false) × (declared ≡ Some 0) × (head ≡ text ++ octet ∷ [])
+Begins declared ended head text Chunking = (ended ≡ false) × (declared ≡ None) × (text ≡ head)
+
+-- so many octets of the body may be pushed
+abbrev pub MayPush : Stage → ℕ → Type 0
+MayPush Whole count = ⊥
+MayPush (Counting left) count = count ≤ left
+MayPush (Holding octet) count = count ≡ 0
+MayPush Chunking count = Unit {0}
+
+-- the text may be ended
+abbrev pub MayFinish : Stage → Type 0
+MayFinish Whole = ⊥
+MayFinish (Counting left) = ⊥
+MayFinish (Holding octet) = Unit {0}
+MayFinish Chunking = Unit {0}
+
+-- octets as pieces: none makes no piece
+abbrev pub piece_of : List ℕ → List (List ℕ)
+piece_of [] = []
+piece_of (octet ∷ octets) = (octet ∷ octets) ∷ []
+
+-- Whatever was sent and pushed before a call, with what it writes and is given it is so again.
+abbrev pub Continues : Stage → List ℕ → List ℕ → Stage → Type 0
+Continues old written octets new =
+    (parts : HeadParts) (ended : Bool) (text : List ℕ) (pieces : List (List ℕ))
+    → Sending parts ended text pieces old → Sending parts ended (text ++ written) (pieces ++ piece_of octets) new
+
+-- A text goes on to a whole one, which reads as the forwarded request with this body: it is a strict front of it.
+pub record GoesOnTo (parts : HeadParts) (text body : List ℕ) : Type 0 where
+  pub whole : List ℕ
+  pub reads : H1Request whole (forward (request_with parts body))
+  pub is_front : IsStrictFront text whole
+
+-- with so many octets more, the pieces are at most as long as declared
+abbrev pub HasRoom : Option ℕ → List (List ℕ) → ℕ → Type 0
+HasRoom None pieces count = Unit {0}
+HasRoom (Some declared) pieces count = length (concat pieces) + count ≤ declared

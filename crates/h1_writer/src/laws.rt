@@ -1,0 +1,28 @@
+//! What a sender's text means, each as the contract of a function with an empty body.
+
+ghost use Rattle.std.specs.Prelude.{◌≡◌, ℕ, Bool, List};
+ghost use Rattle.std.specs.List.{concat};
+ghost use Rattle.model.specs.Octets.{IsFront};
+ghost use Rattle.model.specs.Http1.{H1Request, BeginsNoRequest, forward};
+ghost use Rattle.model.specs.Http2.{HasLength};
+ghost use Rattle.request_rules.specs.Heads.{HeadParts, IsRequestHead, request_with};
+ghost use Rattle.h1_writer.specs.Sending.{Stage, Sending, MayPush, MayFinish, HasRoom, GoesOnTo};
+ghost use Rattle.h1_writer.specs.Sending.Stage.{Whole};
+
+/// A whole text reads as its request with the body that was pushed, forwarded (RFC 9112, section 2.1).
+pub fn whole_is_read()
+    ensures { (parts : HeadParts) (ended : Bool) (text : List ℕ) (pieces : List (List ℕ)) → IsRequestHead parts → Sending parts ended text pieces Whole → H1Request text (forward (request_with parts (concat pieces))) }
+{}
+
+/// A text that isn't whole is a strict front of a text of the request with every body that begins with what was pushed and
+/// is as long as declared; and no beginning of it is a request.
+pub fn unfinished_goes_on()
+    ensures front { (parts : HeadParts) (ended : Bool) (text : List ℕ) (pieces : List (List ℕ)) (stage : Stage) (body : List ℕ) → IsRequestHead parts → Sending parts ended text pieces stage → (stage ≡ Whole → ⊥) → IsFront (concat pieces) body → HasLength parts.length body → GoesOnTo parts text body }
+    ensures none { (parts : HeadParts) (ended : Bool) (text : List ℕ) (pieces : List (List ℕ)) (stage : Stage) → IsRequestHead parts → Sending parts ended text pieces stage → (stage ≡ Whole → ⊥) → BeginsNoRequest text }
+{}
+
+/// Octets may be pushed as long as they are no more than declared, and the text may be ended once they are so many.
+pub fn room_and_end()
+    ensures room { (parts : HeadParts) (ended : Bool) (text : List ℕ) (pieces : List (List ℕ)) (stage : Stage) (count : ℕ) → Sending parts ended text pieces stage → (stage ≡ Whole → ⊥) → HasRoom parts.length pieces count → MayPush stage count }
+    ensures end { (parts : HeadParts) (ended : Bool) (text : List ℕ) (pieces : List (List ℕ)) (stage : Stage) → Sending parts ended text pieces stage → (stage ≡ Whole → ⊥) → HasLength parts.length (concat pieces) → MayFinish stage }
+{}

@@ -1,0 +1,44 @@
+//! Numbers as digits.
+
+ghost use Rattle.std.specs.Prelude.{◌≡◌, ◌<◌, ◌++◌, OnOk, decimal, take, length};
+ghost use Rattle.h1_writer.specs.Sending.{hex_digit, hex_size};
+
+use std::alloc::AllocError;
+
+/// Adds a number in base ten, without leading zeros.
+pub fn push_decimal(number: u64, out: &mut Vec<u8>) -> Result<(), AllocError>
+    ensures { OnOk result (out.new.items ≡ out.old.items ++ decimal number) }
+{
+    if number < 10 {
+        out.push(b'0' + number as u8)?;
+        return Ok(());
+    }
+    push_decimal(number / 10, out)?;
+    out.push(b'0' + (number % 10) as u8)?;
+    Ok(())
+}
+
+/// The octet of a digit in base sixteen, in lower case.
+fn hex_digit(digit: u8) -> u8
+    requires { digit < 16 }
+    ensures { result ≡ hex_digit digit }
+{
+    if digit < 10 {
+        b'0' + digit
+    } else {
+        b'a' - 10 + digit
+    }
+}
+
+/// Adds a number above 0 in base sixteen, without leading zeros.
+pub fn push_hex(number: usize, out: &mut Vec<u8>) -> Result<(), AllocError>
+    ensures ok { OnOk result (out.new.items ≡ out.old.items ++ hex_size number) }
+    ensures kept { take (length out.old.items) out.new.items ≡ out.old.items }
+{
+    if number == 0 {
+        return Ok(());
+    }
+    push_hex(number / 16, out)?;
+    out.push(hex_digit((number % 16) as u8))?;
+    Ok(())
+}

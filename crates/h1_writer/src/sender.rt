@@ -1,0 +1,195 @@
+//! A request as it is sent.
+
+ghost use Rattle.std.specs.Prelude.{◌≡◌, ◌<◌, ◌++◌, [], ◌∷◌, ℕ, List, true, false, OnOk, OnErr, IfOk, MatchBool, length, codes, take};
+ghost use Rattle.model.specs.Http2.{HasLength};
+ghost use Rattle.model.specs.Http1Text.{framing_of, head_text};
+ghost use Rattle.request_rules.specs.Heads.{IsRequestHead, request_with};
+ghost use Rattle.h1_writer.specs.Sending.{Sending, Continues, MayPush, MayFinish, hex_size, chunk_text, last_chunk, head_of, Begins};
+ghost use Rattle.h1_writer.specs.Views.{stage_of};
+ghost use Rattle.h1_writer.specs.Sending.Stage.{Whole};
+
+use crate::{lines, numbers};
+use request_rules::RequestHead;
+use std::alloc::AllocError;
+use std::marker::Model;
+
+/// What a request's text still waits for.
+#[derive(Drop)]
+enum Waiting {
+    /// Nothing: it is whole.
+    Nothing,
+    /// So many octets of the declared body, one or more.
+    Octets(u64),
+    /// The end; this octet, its last, is held back.
+    End(u8),
+    /// Chunks and the end.
+    Chunks,
+}
+
+/// A request on its way to a server: the text goes out as the body comes (RFC 9112). The last octet of a declared length
+/// is held back until [`Sender::finish`], so that no server takes a request for whole before it is.
+#[derive(Drop)]
+pub struct Sender {
+    waiting: Waiting,
+}
+
+impl Model for Sender {
+    ghost use Rattle.h1_writer.specs.Sending.{Stage};
+
+    ghost Value = { Stage };
+
+    ghost use Rattle.h1_writer.specs.Views.{stage_of};
+
+    ghost view = { λ sender. stage_of sender.waiting };
+}
+
+/// Adds the head (RFC 9112, section 2.1).
+fn push_head(head: &RequestHead, ended: bool, out: &mut Vec<u8>) -> Result<(), AllocError>
+    ensures { OnOk result (out.new.items ≡ out.old.items ++ head_of head.now ended) }
+{
+    out.extend_from_slice(head.method())?;
+    out.extend_from_slice(b" ")?;
+    out.extend_from_slice(head.path())?;
+    out.extend_from_slice(b" HTTP/1.1\r\n")?;
+    lines::push_line(b"host", head.authority(), out)?;
+    lines::push_lines(head.fields(), out)?;
+    lines::push_line(b"via", b"2.0 h2gw", out)?;
+    lines::push_framing(head.length(), ended, out)?;
+    lines::push_line(b"connection", b"close", out)?;
+    out.extend_from_slice(b"\r\n")?;
+    Ok(())
+}
+
+/// Takes the last octet off.
+fn hold_back(text: &mut Vec<u8>) -> u8
+    requires { 0 < length text.old.items }
+    ensures { text.old.items ≡ text.new.items ++ result ∷ [] }
+{
+    let Some(octet) = text.pop() else {
+        unreachable!();
+    };
+    octet
+}
+
+/// What the text still waits for behind its head, whose last octet is held back where an empty body is declared.
+fn begin(declared: Option<u64>, ended: bool, text: &mut Vec<u8>) -> Waiting
+    requires { 0 < length text.old.items }
+    ensures { Begins declared ended text.old.items text.new.items (stage_of result) }
+{
+    if ended {
+        return Waiting::Nothing;
+    }
+    match declared {
+        None => Waiting::Chunks,
+        Some(0) => Waiting::End(hold_back(text)),
+        Some(left) => Waiting::Octets(left),
+    }
+}
+
+/// Adds a chunk, and of a refused one perhaps a part.
+fn push_chunk_parts(octets: &[u8], out: &mut Vec<u8>) -> Result<(), AllocError>
+    ensures ok { OnOk result (out.new.items ≡ out.old.items ++ chunk_text octets.now) }
+    ensures kept { take (length out.old.items) out.new.items ≡ out.old.items }
+{
+    numbers::push_hex(octets.len(), out)?;
+    out.extend_from_slice(b"\r\n")?;
+    out.extend_from_slice(octets)?;
+    out.extend_from_slice(b"\r\n")?;
+    Ok(())
+}
+
+/// Adds a chunk (RFC 9112, section 7.1), and nothing of a refused one.
+fn push_chunk(octets: &[u8], out: &mut Vec<u8>) -> Result<(), AllocError>
+    ensures ok { OnOk result (out.new.items ≡ out.old.items ++ chunk_text octets.now) }
+    ensures refused { OnErr result (out.new.items ≡ out.old.items) }
+{
+    let start = out.len();
+    let result = push_chunk_parts(octets, out);
+    if result.is_err() {
+        out.truncate(start);
+    }
+    result
+}
+
+impl Sender {
+    /// Adds the head of a request, and answers what sends the rest; `ended` where the head ended its stream, so that
+    /// there is no body. Of a head that declares an empty body whose stream goes on, the last octet is held back. An
+    /// error is refused memory; nothing is added then.
+    pub fn start(head: &RequestHead, ended: bool, out: &mut Vec<u8>) -> Result<Self, AllocError>
+        requires { ended ≡ true → HasLength head.now.length [] }
+        ensures ok { IfOk result (λ sender. (written : List ℕ) × (out.new.items ≡ out.old.items ++ written) × Sending head.now ended written [] sender) }
+        ensures refused { OnErr result (out.new.items ≡ out.old.items) }
+    {
+        let mut text = Vec::new(*out.allocator());
+        push_head(head, ended, &mut text)?;
+        let waiting = begin(head.length(), ended, &mut text);
+        out.extend_from_slice(&text)?;
+        Ok(Sender { waiting })
+    }
+
+    /// Adds octets of the body: as a chunk, or as they are where the length was declared, of which the last octet is held
+    /// back. An error is refused memory; nothing is added then, and the sender stays as it was.
+    pub fn push(&mut self, octets: &[u8], out: &mut Vec<u8>) -> Result<(), AllocError>
+        requires { MayPush self.old (length octets.now) }
+        ensures ok { OnOk result ((written : List ℕ) × (out.new.items ≡ out.old.items ++ written) × Continues self.old written octets.now self.new) }
+        ensures refused { OnErr result ((out.new.items ≡ out.old.items) × (self.new ≡ self.old)) }
+    {
+        let [front @ .., last] = octets else {
+            return Ok(());
+        };
+        match self.waiting {
+            Waiting::Octets(left) => {
+                let count = octets.len() as u64;
+                if count < left {
+                    out.extend_from_slice(octets)?;
+                    self.waiting = Waiting::Octets(left - count);
+                } else {
+                    out.extend_from_slice(front)?;
+                    self.waiting = Waiting::End(*last);
+                }
+                Ok(())
+            }
+            Waiting::Chunks => push_chunk(octets, out),
+            Waiting::Nothing | Waiting::End(_) => unreachable!(),
+        }
+    }
+
+    /// Ends the text: with the octet that was held back, or the last chunk. An error is refused memory; nothing is added
+    /// then, and the sender stays as it was.
+    pub fn finish(&mut self, out: &mut Vec<u8>) -> Result<(), AllocError>
+        requires { MayFinish self.old }
+        ensures ok { OnOk result ((written : List ℕ) × (out.new.items ≡ out.old.items ++ written) × Continues self.old written [] self.new) }
+        ensures whole { OnOk result (self.new ≡ Whole) }
+        ensures refused { OnErr result ((out.new.items ≡ out.old.items) × (self.new ≡ self.old)) }
+    {
+        match self.waiting {
+            Waiting::End(octet) => out.push(octet)?,
+            Waiting::Chunks => out.extend_from_slice(b"0\r\n\r\n")?,
+            Waiting::Nothing | Waiting::Octets(_) => unreachable!(),
+        }
+        self.waiting = Waiting::Nothing;
+        Ok(())
+    }
+}
+
+#[cfg(test)]
+impl Sender {
+    /// Whether so many octets may be pushed.
+    pub fn may_push(&self, count: usize) -> bool
+        ensures { MatchBool result (MayPush self.now count) (MayPush self.now count → ⊥) }
+    {
+        match self.waiting {
+            Waiting::Octets(left) => count as u64 <= left,
+            Waiting::End(_) => count == 0,
+            Waiting::Chunks => true,
+            Waiting::Nothing => false,
+        }
+    }
+
+    /// Whether the text may be ended.
+    pub fn may_finish(&self) -> bool
+        ensures { MatchBool result (MayFinish self.now) (MayFinish self.now → ⊥) }
+    {
+        matches!(self.waiting, Waiting::End(_) | Waiting::Chunks)
+    }
+}

@@ -1,0 +1,146 @@
+use super::*;
+use hpack_table::Field;
+use request_rules::{RequestHead, check_head};
+use std::alloc::{AllocError, Global};
+use std::process::Abort;
+use std::test::*;
+
+type Line = (&'static [u8], &'static [u8]);
+
+fn head_of(
+    alloc: Global,
+    rt: &impl Abort,
+    lines: &[Line],
+    ended: bool,
+) -> Result<RequestHead, AllocError> {
+    let mut fields = Vec::new(alloc);
+    for line in lines {
+        let name = Vec::from_slice(alloc, line.0)?;
+        let value = Vec::from_slice(alloc, line.1)?;
+        fields.push(Field::new(name, value))?;
+    }
+    Ok(check_head(alloc, &fields, ended).expect(rt, "a head"))
+}
+
+const GET: Line = (b":method", b"GET");
+
+const POST: Line = (b":method", b"POST");
+
+const SCHEME: Line = (b":scheme", b"http");
+
+const PATH: Line = (b":path", b"/");
+
+const AUTHORITY: Line = (b":authority", b"www.example.com");
+
+#[test]
+fn a_request_without_a_body(rt: HostRuntime) -> Result<(), Fail> {
+    let head = head_of(rt.alloc(), &rt, &[GET, SCHEME, PATH, AUTHORITY], true)?;
+    let mut out = Vec::new(rt.alloc());
+    assert!(rt; head.length().is_none());
+    let _sender = Sender::start(&head, true, &mut out)?;
+    assert_eq!(rt;
+        out.as_slice(),
+        b"GET / HTTP/1.1\r\nhost: www.example.com\r\nvia: 2.0 h2gw\r\nconnection: close\r\n\r\n".as_slice()
+    );
+    Ok(())
+}
+
+#[test]
+fn fields_stand_in_their_order(rt: HostRuntime) -> Result<(), Fail> {
+    let head = head_of(
+        rt.alloc(),
+        &rt,
+        &[
+            GET,
+            SCHEME,
+            PATH,
+            (b":authority", b"h"),
+            (b"a", b""),
+            (b"cookie", b"a=1"),
+            (b"cookie", b"b=2"),
+            (b"host", b"H"),
+        ],
+        true,
+    )?;
+    let mut out = Vec::new(rt.alloc());
+    assert!(rt; head.length().is_none());
+    let _sender = Sender::start(&head, true, &mut out)?;
+    assert_eq!(rt;
+        out.as_slice(),
+        b"GET / HTTP/1.1\r\nhost: h\r\na: \r\ncookie: a=1; b=2\r\nvia: 2.0 h2gw\r\nconnection: close\r\n\r\n".as_slice()
+    );
+    Ok(())
+}
+
+#[test]
+fn a_declared_body_keeps_its_last_octet(rt: HostRuntime) -> Result<(), Fail> {
+    let head = head_of(
+        rt.alloc(),
+        &rt,
+        &[POST, SCHEME, PATH, AUTHORITY, (b"content-length", b"005")],
+        false,
+    )?;
+    let mut out = Vec::new(rt.alloc());
+    let mut sender = Sender::start(&head, false, &mut out)?;
+    assert_eq!(rt;
+        out.as_slice(),
+        b"POST / HTTP/1.1\r\nhost: www.example.com\r\nvia: 2.0 h2gw\r\ncontent-length: 5\r\nconnection: close\r\n\r\n".as_slice()
+    );
+    out.clear();
+    assert!(rt; sender.may_push(2));
+    sender.push(b"he", &mut out)?;
+    assert!(rt; sender.may_push(3));
+    sender.push(b"llo", &mut out)?;
+    assert_eq!(rt; out.as_slice(), b"hell".as_slice());
+    out.clear();
+    assert!(rt; sender.may_push(0));
+    sender.push(b"", &mut out)?;
+    assert!(rt; sender.may_finish());
+    sender.finish(&mut out)?;
+    assert_eq!(rt; out.as_slice(), b"o".as_slice());
+    Ok(())
+}
+
+#[test]
+fn a_declared_empty_body_keeps_the_head_open(rt: HostRuntime) -> Result<(), Fail> {
+    let head = head_of(
+        rt.alloc(),
+        &rt,
+        &[POST, SCHEME, PATH, AUTHORITY, (b"content-length", b"0")],
+        false,
+    )?;
+    let mut out = Vec::new(rt.alloc());
+    let mut sender = Sender::start(&head, false, &mut out)?;
+    assert_eq!(rt;
+        out.as_slice(),
+        b"POST / HTTP/1.1\r\nhost: www.example.com\r\nvia: 2.0 h2gw\r\ncontent-length: 0\r\nconnection: close\r\n\r".as_slice()
+    );
+    out.clear();
+    assert!(rt; sender.may_finish());
+    sender.finish(&mut out)?;
+    assert_eq!(rt; out.as_slice(), b"\n".as_slice());
+    Ok(())
+}
+
+#[test]
+fn an_undeclared_body_goes_in_chunks(rt: HostRuntime) -> Result<(), Fail> {
+    let head = head_of(rt.alloc(), &rt, &[POST, SCHEME, PATH, AUTHORITY], false)?;
+    let mut out = Vec::new(rt.alloc());
+    let mut sender = Sender::start(&head, false, &mut out)?;
+    assert_eq!(rt;
+        out.as_slice(),
+        b"POST / HTTP/1.1\r\nhost: www.example.com\r\nvia: 2.0 h2gw\r\ntransfer-encoding: chunked\r\nconnection: close\r\n\r\n".as_slice()
+    );
+    out.clear();
+    assert!(rt; sender.may_push(2));
+    sender.push(b"hi", &mut out)?;
+    assert!(rt; sender.may_push(27));
+    sender.push(b"0123456789abcdefghijklmnopq", &mut out)?;
+    assert!(rt; sender.may_finish());
+    sender.finish(&mut out)?;
+    assert_eq!(rt;
+        out.as_slice(),
+        b"2\r\nhi\r\n1b\r\n0123456789abcdefghijklmnopq\r\n0\r\n\r\n".as_slice()
+    );
+    Ok(())
+}

@@ -1,5 +1,5 @@
 -- What the gateway's methods do, as moves.
-use Rattle.std.proofs.Common.{◌≡◌, ℕ, suc, ◌+◌, ◌<◌, ◌≤◌, ◌==◌, true, false, Bool, not, ◌&&◌, ◌||◌, List, [], ◌∷◌, ◌++◌, length, map, refl, sym, ◌∙◌, ap, subst, if◌then◌else◌, arith, ◌/◌, ◌%◌, inl, inr, Ok, Err, OnOk, Result}
+use Rattle.std.proofs.Common.{◌≡◌, ℕ, suc, ◌+◌, ◌<◌, ◌≤◌, ◌==◌, true, false, Bool, not, ◌&&◌, ◌||◌, List, [], ◌∷◌, ◌++◌, length, map, refl, sym, ◌∙◌, ap, subst, if◌then◌else◌, arith, ◌/◌, ◌%◌, inl, inr, Ok, Err, OnOk, Result, lit<, lit≤}
 use Rattle.std.proofs.lemmas.Bool.Decides.{eqb_tells}
 use Rattle.std.specs.Prelude.{Option, None, Some, nat_le, is_ok}
 use Rattle.std.proofs.lemmas.Bool.{leb-true, le-leb}
@@ -9,7 +9,7 @@ use Rattle.model.specs.Messages.{Field, Request, Item}
 use Rattle.model.specs.Messages.Item.{Block, Content}
 use Rattle.model.specs.Tables.{Table}
 use Rattle.model.specs.Blocks as blocks
-use Rattle.model.specs.Frames.{Frame, spell, settings_frame, settings_ack, goaway, settings_kind, headers_kind, is_ack, content, ends_headers, ends_stream, has_flag}
+use Rattle.model.specs.Frames.{Frame, Fits, spell, settings_frame, settings_ack, goaway, settings_kind, headers_kind, is_ack, content, ends_headers, ends_stream, has_flag}
 use Rattle.model.specs.Logs.{Output, Event}
 use Rattle.model.specs.Logs.Event.{Client, ClientEnd, ClientTook, Up, UpEnd, UpFailed, UpTook}
 use Rattle.model.specs.Logs.Act.{Open, ToUp, Close, CloseClient}
@@ -27,7 +27,7 @@ use Rattle.gateway.specs.Moves.Input.{OfFrame, OfBreach, OfEvent}
 use Rattle.gateway.specs.Moves.Move.{Takes, Breaks, Hears, Sends, Acts}
 use Rattle.gateway.specs.Moves.Outcome.{Settled, Served, Stopped}
 use Rattle.gateway.specs.State.{State, after, closed_up, nobody, upstream_at, with_upstream, sent_more, taken}
-use Rattle.gateway.specs.Policy.{Pays, Begins, Due, Point, idle, point_after, Allowed, AllAllowed, Leads, Answers, closes, farewell, IsUp, IsNoted, MaySettle, MayServe, is_in_order, is_admitted, answer_event, breach_code}
+use Rattle.gateway.specs.Policy.{Pays, Begins, Due, Point, idle, point_after, Allowed, AllAllowed, Leads, Answers, closes, farewell, IsUp, IsNoted, IsPlainSettings, MaySettle, MayServe, is_in_order, is_admitted, answer_event, breach_code}
 use Rattle.gateway.specs.Policy.Due.{ToSend, ToDo}
 use Rattle.gateway.proofs.Admitting.{is_up}
 use Rattle.gateway.proofs.Leading.{leads_one, leads_then, inputs-append, pays_then, pays_closes, with}
@@ -46,6 +46,17 @@ answers_from s s' o o' m came may is quiet pays =
 pub pays_by : (s : State) (d : Due) (ds : List Due) (m : Move) (o : List Output) → Allowed (record { state = s; owes = d ∷ ds }) m → inputs (m ∷ []) ≡ [] → Pays (record { state = s; owes = d ∷ ds }) (point_after (record { state = s; owes = d ∷ ds }) m) o (put_move o m)
 pays_by s d ds m o may none = record { segment = m ∷ []; leads = leads_one (record { state = s; owes = d ∷ ds }) o m may; nothing_in = none }
 
+-- ---- the frames that are sent can be spelled
+
+fits_settings : Fits settings_frame
+fits_settings = record { kind = lit< tt; flags = lit< tt; id = lit< tt; payload = lit≤ tt }
+
+fits_ack : Fits settings_ack
+fits_ack = record { kind = lit< tt; flags = lit< tt; id = lit< tt; payload = lit≤ tt }
+
+fits_goaway : (last code : ℕ) → Fits (goaway last code)
+fits_goaway last code = record { kind = lit< tt; flags = lit< tt; id = lit< tt; payload = lit≤ tt }
+
 -- ---- the ends
 
 abbrev shut : State → State
@@ -56,7 +67,7 @@ pays_end s o = pays_closes (shut s) [] s.upstreams o
 
 pub pays_farewell : (s : State) (code : ℕ) (o : List Output) → Pays (record { state = shut s; owes = farewell s code }) (idle (left s code)) o (put_farewell o s code)
 pays_farewell s code o =
-    pays_then (pays_by (shut s) (ToSend (goaway s.high code)) (closes s) (Sends (goaway s.high code)) o (record { turn = refl; holds = refl }) refl)
+    pays_then (pays_by (shut s) (ToSend (goaway s.high code)) (closes s) (Sends (goaway s.high code)) o (record { turn = refl; holds = (fits_goaway s.high code, refl) }) refl)
     (pays_end (record s { greeted = true; untaken = s.untaken + length (spell (goaway s.high code)) }) (put o (ToClient (spell (goaway s.high code)))))
 
 -- the note of a frame whose block isn't read
@@ -71,11 +82,11 @@ unread_noted : (frame : Frame) → IsNoted (unread frame)
 unread_noted frame table = (table, elim (completed [] frame) as (λ (b : Option Partial). IsNoteOf b table (note_for b) table) [ None ↦ (refl, refl) | Some block ↦ refl ])
 
 -- a frame ends the connection
-pub answers_stopped : (s s' : State) (o o' : List Output) (frame : Frame) (code : ℕ) → s.closed ≡ false → s' ≡ left s code → o' ≡ put_farewell o s code → Answers s s' o o' (OfFrame frame ∷ [])
-answers_stopped s s' o o' frame code on es eo =
+pub answers_stopped : (s s' : State) (o o' : List Output) (frame : Frame) (code : ℕ) → s.closed ≡ false → (s.settled ≡ false → IsPlainSettings frame → ⊥) → s' ≡ left s code → o' ≡ put_farewell o s code → Answers s s' o o' (OfFrame frame ∷ [])
+answers_stopped s s' o o' frame code on not_settings es eo =
     subst (λ x. Answers s x o o' (OfFrame frame ∷ [])) (sym es)
     (subst (λ x. Answers s (left s code) o x (OfFrame frame ∷ [])) (sym eo)
-    (answers_from s (left s code) o (put_farewell o s code) (Takes (unread frame) (Stopped code)) (OfFrame frame ∷ []) (record { turn = record { open_yet = on; nothing = refl }; holds = (unread_noted frame, tt) }) refl refl (pays_farewell s code o)))
+    (answers_from s (left s code) o (put_farewell o s code) (Takes (unread frame) (Stopped code)) (OfFrame frame ∷ []) (record { turn = record { open_yet = on; nothing = refl }; holds = (unread_noted frame, not_settings) }) refl refl (pays_farewell s code o)))
 
 -- the client's octets end in a breach
 pub answers_breach : (s s' : State) (o o' : List Output) (breach : Breach) → s.closed ≡ false → s' ≡ left s (breach_code breach) → o' ≡ put_farewell o s (breach_code breach) → Answers s s' o o' (OfBreach breach ∷ [])
@@ -104,7 +115,7 @@ answers_settled s s' o o' frame on first kind no_ack es eo =
     subst (λ x. Answers s x o o' (OfFrame frame ∷ [])) (sym es)
     (subst (λ x. Answers s (settled s) o x (OfFrame frame ∷ [])) (sym eo)
     (answers_from s (settled s) o (put o (ToClient (spell settings_ack))) (Takes noted Settled) (OfFrame frame ∷ []) (record { turn = record { open_yet = on; nothing = refl }; holds = (note, may) }) refl refl
-    (pays_by (record s { settled = true }) (ToSend settings_ack) [] (Sends settings_ack) o (record { turn = refl; holds = refl }) refl)))
+    (pays_by (record s { settled = true }) (ToSend settings_ack) [] (Sends settings_ack) o (record { turn = refl; holds = (fits_ack, refl) }) refl)))
 
 -- ---- events
 
@@ -204,7 +215,7 @@ begins_greeted s s' o o' first none es eo =
     (subst (λ x. Begins s (greeted s) o x) (sym eo)
     (record {
       pays = subst (λ b. Pays (record { state = s; owes = if b then [] else ToSend settings_frame ∷ [] }) (idle (greeted s)) o (put o (ToClient (spell settings_frame)))) (sym first)
-          (pays_by s (ToSend settings_frame) [] (Sends settings_frame) o (record { turn = refl; holds = refl }) refl);
+          (pays_by s (ToSend settings_frame) [] (Sends settings_frame) o (record { turn = refl; holds = (fits_settings, refl) }) refl);
       greeted = refl;
       admits = admits_greeted s none;
     }))

@@ -8,14 +8,14 @@ use Rattle.std.specs.List.{take-map}
 use Rattle.model.specs.Logs as logs
 use Rattle.model.specs.Setup.{Setup}
 use Rattle.model.specs.Tapes.{Entry}
-use Rattle.model.specs.Faithful.{HasTape, Faithful, IsRefusedAt}
+use Rattle.model.specs.Faithful.{HasTape, Faithful}
 use Rattle.model.specs.Admission as admission
 use Rattle.gateway.specs.declared.events.Event.{Event}
 use Rattle.gateway.specs.declared.events.Output.{Output}
 use Rattle.gateway.specs.Views.{event_of, outputs_of}
 use Rattle.gateway.specs.Runs.{log_of}
 use Rattle.gateway.specs.Policy.{is_admitted}
-use Rattle.gateway.specs.Stands.{Standing, Stands, StandsNext, fresh}
+use Rattle.gateway.specs.Stands.{Standing, Stands, StandsNext, IsRefusedAt, fresh}
 use Rattle.gateway.proofs.Steps.{stands_none, admits_by_tape}
 
 pub log_more : (events : List Event) (outs : List (Vec Output Global)) (event : Event) (out : Vec Output Global) → length outs ≡ length events
@@ -79,6 +79,8 @@ running_refused setup events n outs g event lt at turned r = record {
   log = log_of (take n events) outs;
   are_events = log_events (take n events) outs r.count ∙ sym (take-map event_of n events);
   tape = r.tape;
-  has_tape = subst (λ s. HasTape s (reverse (log_of (take n events) outs)) r.tape) r.same_setup r.stands.kept.has_tape;
+  gateway = g;
+  same_setup = r.same_setup;
+  stands = r.stands;
   refused = sym (admits_by_tape g (reverse (log_of (take n events) outs)) r.tape (event_of event) r.stands) ∙ turned;
 }

@@ -2,6 +2,7 @@
 use Rattle.std.proofs.Common.{◌≡◌, ℕ, suc, ◌+◌, ◌-◌, ◌<◌, ◌≤◌, true, false, List, [], ◌∷◌, ◌++◌, length, drop, take, refl, sym, ◌∙◌, ap, subst, arith, length-append, if◌then◌else◌}
 use Rattle.std.specs.Prelude.{Option, None, Some}
 use Rattle.std.proofs.lemmas.List.{take_all}
+use Rattle.std.proofs.Math.Seq.{get_or-append_seam}
 use Rattle.model.specs.Messages.{Field}
 use Rattle.model.specs.Messages.Item.{Block}
 use Rattle.model.specs.Tables.{Table}
@@ -19,7 +20,8 @@ use Rattle.gateway.specs.Moves.{Move}
 use Rattle.gateway.specs.Moves.Input.{OfFrame}
 use Rattle.gateway.specs.Moves.Move.{Takes, Acts}
 use Rattle.gateway.specs.Moves.Outcome.{Served}
-use Rattle.gateway.specs.State.{State, after}
+use Rattle.gateway.specs.declared.upstream.Upstream.{Upstream}
+use Rattle.gateway.specs.State.{State, after, upstream_at, nobody}
 use Rattle.gateway.specs.Policy.{Pays, Due, Point, idle, point_after, Answers, IsNoted, MayServe}
 use Rattle.gateway.specs.Policy.Due.{ToDo}
 use Rattle.gateway.proofs.Leading.{pays_then, with}
@@ -44,6 +46,9 @@ no_more frame noted same head =
     spelled kind flags id payload ek ef =
         ap (λ k. let f : Frame = record { kind = k; flags = flags; id = id; payload = payload } in if ends_headers f then None else joined None f) ek
         ∙ ap (λ x. let f : Frame = record { kind = 1; flags = x; id = id; payload = payload } in if ends_headers f then None else joined None f) ef
+
+opened_last : (us : List Upstream) → (upstream_at (us ++ record { is_open = true; untaken = 0 } ∷ []) (suc (length us))).is_open ≡ true
+opened_last us = ap (λ (u : Upstream). u.is_open) (get_or-append_seam us (record { is_open = true; untaken = 0 }) [] nobody)
 
 pub answers_served : (s s' : State) (o o' : List Output) (frame : Frame) (route : ℕ) (text : List ℕ) (fields : List Field) → s.closed ≡ false → s.settled ≡ true → s.high < frame.id → IsHead frame
     → ((table : Table) → (next : Table) × blocks.Block table frame.payload fields next) → IsTaken s.setup.routes fields route text
@@ -72,7 +77,7 @@ answers_served s s' o o' frame route text fields on settled above head decodes i
     let opens : Pays (record { state = s1; owes = ToDo (Open k route) ∷ ToDo (ToUp k text) ∷ [] }) (record { state = s2; owes = ToDo (ToUp k text) ∷ [] }) o (put o (Does (Open k route))) =
     pays_by s1 (ToDo (Open k route)) (ToDo (ToUp k text) ∷ []) (Acts (Open k route)) o (record { turn = refl; holds = refl }) refl in
     let sends : Pays (record { state = s2; owes = ToDo (ToUp k text) ∷ [] }) (idle (after s2 (Acts (ToUp k text)))) (put o (Does (Open k route))) (put (put o (Does (Open k route))) (Does (ToUp k text))) =
-    pays_by s2 (ToDo (ToUp k text)) [] (Acts (ToUp k text)) (put o (Does (Open k route))) (record { turn = refl; holds = record { counted = omega arith; within = omega (arith, size) } }) refl in
+    pays_by s2 (ToDo (ToUp k text)) [] (Acts (ToUp k text)) (put o (Does (Open k route))) (record { turn = refl; holds = (record { counted = omega arith; within = omega (arith, size) }, opened_last s.upstreams) }) refl in
     let last : after s2 (Acts (ToUp k text)) ≡ served s frame.id (length text) = ap (with s1) (serves_upstreams s.upstreams (length text)) in
     subst (λ x. Answers s x o o' (OfFrame frame ∷ [])) (sym es)
     (subst (λ x. Answers s (served s frame.id (length text)) o x (OfFrame frame ∷ [])) (sym eo)

@@ -27,7 +27,7 @@ HasClose (d ∷ ds) = HasClose ds
 
 pub record Shutting (t : List Entry) (s : State) (ds : List Due) : Type 0 where
   pub shut : s.closed ≡ true → ((is_closed t ≡ true) × (ds ≡ [])) ⊎ EndsInClose ds
-  pub later : is_closed t ≡ true → s.closed ≡ true
+  pub later : is_closed t ≡ true → (s.closed ≡ true) × (ds ≡ [])
   pub told : HasClose ds → s.closed ≡ true
 
 closes_end : (k : ℕ) (us : List Upstream) → EndsInClose (closes_from k us ++ ToDo CloseClient ∷ [])
@@ -42,26 +42,26 @@ opened s e f = absurd (let g : false ≡ true = sym e ∙ f in cc)
 pub shutting_same : (t : List Entry) (e : Entry) (s s' : State) (ds ds' : List Due) → Shutting t s ds → s.closed ≡ false → is_closed (e ∷ t) ≡ is_closed t → s'.closed ≡ s.closed → (HasClose ds' → ⊥) → Shutting (e ∷ t) s' ds'
 shutting_same t e s s' ds ds' h on same es none = record {
   shut = λ f. opened s on (sym es ∙ f);
-  later = λ f. es ∙ h.later (sym same ∙ f);
+  later = λ f. opened s on (h.later (sym same ∙ f)).0;
   told = λ x. absurd (none x);
 }
 
 -- the end begins
-pub shutting_ends : (t : List Entry) (e : Entry) (s s' : State) (ds : List Due) → s'.closed ≡ true → EndsInClose ds → Shutting (e ∷ t) s' ds
-shutting_ends t e s s' ds es ends = record { shut = λ f. inr ends; later = λ f. es; told = λ x. es }
+pub shutting_ends : (t : List Entry) (e : Entry) (s s' : State) (old ds : List Due) → Shutting t s old → s.closed ≡ false → is_closed (e ∷ t) ≡ is_closed t → s'.closed ≡ true → EndsInClose ds → Shutting (e ∷ t) s' ds
+shutting_ends t e s s' old ds h on same es ends = record { shut = λ f. inr ends; later = λ f. opened s on (h.later (sym same ∙ f)).0; told = λ x. es }
 
 -- what is owed first is paid, and it isn't the close
 pub shutting_paid : (t : List Entry) (e : Entry) (s s' : State) (d : Due) (ds : List Due) → Shutting t s (d ∷ ds) → is_closed (e ∷ t) ≡ is_closed t → s'.closed ≡ s.closed → (EndsInClose (d ∷ ds) → EndsInClose ds) → (HasClose ds → HasClose (d ∷ ds)) → Shutting (e ∷ t) s' ds
 shutting_paid t e s s' d ds h same es ends has = record {
   shut = λ f. elim (h.shut (sym es ∙ f)) [ inl x ↦ absurd (let g : d ∷ ds ≡ [] = x.1 in cc) | inr x ↦ inr (ends x) ];
-  later = λ f. es ∙ h.later (sym same ∙ f);
+  later = λ f. absurd (let g : d ∷ ds ≡ [] = (h.later (sym same ∙ f)).1 in cc);
   told = λ x. es ∙ h.told (has x);
 }
 
 pub shutting_closed : (t : List Entry) (e : Entry) (s s' : State) (ds : List Due) → Shutting t s (ToDo CloseClient ∷ ds) → is_closed (e ∷ t) ≡ true → s'.closed ≡ s.closed → Shutting (e ∷ t) s' ds
 shutting_closed t e s s' ds h is es = record {
   shut = λ f. elim (h.shut (sym es ∙ f)) [ inl x ↦ absurd (let g : ToDo CloseClient ∷ ds ≡ [] = x.1 in cc) | inr x ↦ inl (is, x) ];
-  later = λ f. es ∙ h.told tt;
+  later = λ f. (es ∙ h.told tt, elim (h.shut (h.told tt)) [ inl x ↦ absurd (let g : ToDo CloseClient ∷ ds ≡ [] = x.1 in cc) | inr x ↦ x ]);
   told = λ x. es ∙ h.told tt;
 }
 

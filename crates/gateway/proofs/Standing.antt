@@ -67,7 +67,7 @@ step_takes t s ds noted (Served route text request) h a = record {
 }
 step_takes t s ds noted (Stopped code) h a = record {
   giving = giving_stopped t s noted code (quiet t s ds h.giving a.turn.nothing) a.turn.open_yet a.holds.0;
-  shutting = shutting_ends t (Came noted) s (after s (Takes noted (Stopped code))) _ refl (farewell_ends s code);
+  shutting = shutting_ends t (Came noted) s (after s (Takes noted (Stopped code))) ds _ h.shutting a.turn.open_yet refl refl (farewell_ends s code);
   admitting = admitting_same t (Came noted) s (after s (Takes noted (Stopped code))) h.admitting refl refl refl (λ k. refl) (λ k. refl);
 }
 
@@ -113,7 +113,7 @@ step_hears t s ds (Client piece) h a = record {
 }
 step_hears t s ds ClientEnd h a = record {
   giving = gives_event t s ds ClientEnd (after s (Hears ClientEnd)) (closes s) h.giving a.turn.nothing a.turn.open_yet (λ n. closes_open n 1 s.upstreams) (λ k. closes_send k 1 s.upstreams) refl refl refl refl;
-  shutting = shutting_ends t (Happened ClientEnd) s (after s (Hears ClientEnd)) _ refl (closes_ends s);
+  shutting = shutting_ends t (Happened ClientEnd) s (after s (Hears ClientEnd)) ds _ h.shutting a.turn.open_yet refl refl (closes_ends s);
   admitting = admitting_same t (Happened ClientEnd) s (after s (Hears ClientEnd)) h.admitting refl refl refl (λ k. refl) (λ k. refl);
 }
 step_hears t s ds (ClientTook count) h a = record {
@@ -151,7 +151,7 @@ step_hears t s ds (UpTook k count) h a =
 step_sends : (t : List Entry) (s : State) (frame : Frame) (ds : List Due) → Inv t (record { state = s; owes = ToSend frame ∷ ds }) → Allowed (record { state = s; owes = ToSend frame ∷ ds }) (Sends frame) → Inv (entry_of (Sends frame) ∷ t) (record { state = after s (Sends frame); owes = ds })
 step_sends t s frame ds h a =
     let noted : Noted = record { frame = frame; note = NoBlock } in record {
-      giving = giving_passes t (Sent noted) s (after s (Sends frame)) (ToSend frame ∷ ds) ds h.giving (passes_sent t noted a.holds ds) refl refl refl refl (λ o. o);
+      giving = giving_passes t (Sent noted) s (after s (Sends frame)) (ToSend frame ∷ ds) ds h.giving (passes_sent t noted a.holds.1 ds) refl refl refl refl (λ o. o);
       shutting = shutting_paid t (Sent noted) s (after s (Sends frame)) (ToSend frame) ds h.shutting refl refl (λ x. x) (λ x. x);
       admitting = record { untaken = ap (λ n. n + length (spell frame)) h.admitting.untaken; opened = h.admitting.opened; counted = h.admitting.counted };
     }
@@ -163,7 +163,7 @@ step_acts t s (Open k route) ds h a = record {
   admitting = admitting_opened t s (after s (Acts (Open k route))) k route h.admitting a.holds refl refl;
 }
 step_acts t s (ToUp k octets) ds h a =
-    let up : IsUp s k = a.holds in record {
+    let up : IsUp s k = a.holds.0 in record {
       giving = giving_sent t s (after s (Acts (ToUp k octets))) k octets ds h.giving up.within refl (with_length s.upstreams k (sent_more (length octets) (upstream_at s.upstreams k))) refl refl refl;
       shutting = shutting_paid t (Did (ToUp k octets)) s (after s (Acts (ToUp k octets))) (ToDo (ToUp k octets)) ds h.shutting refl refl (λ x. x) (λ x. x);
       admitting = admitting_changed t (Did (ToUp k octets)) s (after s (Acts (ToUp k octets))) k (sent_more (length octets) (upstream_at s.upstreams k)) h.admitting up.counted up.within refl refl refl
@@ -188,7 +188,7 @@ pub step : (t : List Entry) (s : State) (ds : List Due) (m : Move) → Inv t (re
 step t s ds (Takes noted outcome) h a = step_takes t s ds noted outcome h a
 step t s ds (Breaks breach) h a = record {
   giving = giving_breached t s breach (quiet t s ds h.giving a.turn.nothing);
-  shutting = shutting_ends t (Breached breach) s (after s (Breaks breach)) _ refl (farewell_ends s (breach_code breach));
+  shutting = shutting_ends t (Breached breach) s (after s (Breaks breach)) ds _ h.shutting a.turn.open_yet refl refl (farewell_ends s (breach_code breach));
   admitting = admitting_same t (Breached breach) s (after s (Breaks breach)) h.admitting refl refl refl (λ k. refl) (λ k. refl);
 }
 step t s ds (Hears event) h a = step_hears t s ds event h a

@@ -9,20 +9,21 @@ use Rattle.model.specs.Http1.{H1Request, H1Requests, forward}
 use Rattle.model.specs.Http2.{HasHead, WellFormedHead, H2Request}
 use Rattle.model.specs.Logs.{Event, Output, Step, client_in, client_octets}
 use Rattle.model.specs.Logs.Event.{Client, ClientEnd, ClientTook, Up, UpEnd, UpFailed, UpTook}
+use Rattle.model.specs.Logs.Act.{Open, ToUp, Close, CloseClient}
 use Rattle.model.specs.Setup.{Setup}
-use Rattle.model.specs.Tapes.{Entry, came, frames_of, breaches, happened, outputs, is_closed, sent_up, IsStep, listed}
+use Rattle.model.specs.Tapes.{Entry, came, frames_of, breaches, happened, outputs, is_closed, sent_up, IsStep, CanBeSpelled, EndsWithClose, listed}
 use Rattle.model.specs.Tapes.Breach.{WrongPreface}
 use Rattle.model.specs.Decoding.{are_read}
 use Rattle.model.specs.Streams.{Story, items}
 use Rattle.model.specs.Admission as admission
-use Rattle.model.specs.Requests.{Opened, opens, IsServed, AreServed, AreNumbered, AreApart, Requests}
+use Rattle.model.specs.Requests.{Opened, opens, IsServed, AreServed, AreNumbered, AreApart, GoToOpen, Requests}
 use Rattle.model.specs.Faithful.{IsTold, IsTaped, HasTape, Faithful}
 use Rattle.gateway.specs.Moves.{Move, Input, inputs, tape_of, entry_of, after_all, put_move}
 use Rattle.gateway.specs.Moves.Input.{OfFrame, OfBreach, OfEvent}
 use Rattle.gateway.specs.Moves.Move.{Takes, Breaks, Hears, Sends, Acts}
 use Rattle.gateway.specs.State.{State, start, upstream_at}
-use Rattle.gateway.specs.Policy.{Due, Point, idle, resting, point_after, AllAllowed, Leads, Answers, Pays, Begins, is_admitted, is_in_order}
-use Rattle.gateway.specs.Policy.Due.{ToSend}
+use Rattle.gateway.specs.Policy.{Due, rest_of, Allowed, Point, idle, resting, point_after, AllAllowed, Leads, Answers, Pays, Begins, is_admitted, is_in_order}
+use Rattle.gateway.specs.Policy.Due.{ToSend, ToDo}
 use Rattle.gateway.specs.Receiving.{Kept, IsRest, Waits, Departs, GoesOn, Receives}
 use Rattle.gateway.specs.Stands.{Standing, fresh, Happens, Steps, IsKeptOf, KeptStands, Stands, StandsNext}
 use Rattle.gateway.proofs.Owed.{all_text, all_opens}
@@ -52,7 +53,7 @@ closed_same t s i = cases s.closed refl (is_closed t) refl
   where
     cases : (a : Bool) → s.closed ≡ a → (b : Bool) → is_closed t ≡ b → s.closed ≡ is_closed t
     cases true e b f = elim (i.shutting.shut e) [ inl x ↦ e ∙ sym x.0 | inr x ↦ absurd (no_end_owed s.greeted x) ]
-    cases false e true f = i.shutting.later f ∙ sym f
+    cases false e true f = (i.shutting.later f).0 ∙ sym f
     cases false e false f = e ∙ sym f
 
 pub admitted_same : (t : List Entry) (s : State) (event : Event) → Inv t (resting s) → is_admitted s event ≡ admission.is_admitted t event
@@ -95,8 +96,48 @@ all_served : (setup : Setup) (t : List Entry) (os : List Opened) → AllServing 
 all_served setup t [] h = tt
 all_served setup t (o ∷ os) h = (served setup t o h.0, all_served setup t os h.1)
 
-pub requests_hold : (t : List Entry) (s : State) → Inv t (idle s) → Requests s.setup t
-requests_hold t s i = record { numbered = i.giving.numbered; apart = i.giving.apart; served = all_served s.setup t (opens t) i.giving.serving }
+pub requests_hold : (t : List Entry) (s : State) → Inv t (idle s) → GoToOpen t → Requests s.setup t
+requests_hold t s i go = record { numbered = i.giving.numbered; apart = i.giving.apart; served = all_served s.setup t (opens t) i.giving.serving; go_to_open = go }
+
+-- octets go to connections that are open
+pub go_to_open : (setup : Setup) (moves : List Move) → AllAllowed (resting (start setup)) moves → GoToOpen (tape_of moves)
+go_to_open setup [] a = tt
+go_to_open setup (Takes noted outcome ∷ moves) a = go_to_open setup moves a.0
+go_to_open setup (Breaks breach ∷ moves) a = go_to_open setup moves a.0
+go_to_open setup (Hears event ∷ moves) a = go_to_open setup moves a.0
+go_to_open setup (Sends frame ∷ moves) a = go_to_open setup moves a.0
+go_to_open setup (Acts (Open k route) ∷ moves) a = go_to_open setup moves a.0
+go_to_open setup (Acts (ToUp k octets) ∷ moves) a = (sym ((inv_all setup moves a.0).admitting.opened k) ∙ a.1.holds.1, go_to_open setup moves a.0)
+go_to_open setup (Acts (Close k) ∷ moves) a = go_to_open setup moves a.0
+go_to_open setup (Acts CloseClient ∷ moves) a = go_to_open setup moves a.0
+
+-- nothing stands behind the client's close
+still_open : (t : List Entry) (p : Point) (m : Move) → Inv t p → Allowed p m → is_closed t ≡ false
+still_open t p m i a = cases (is_closed t) refl
+  where
+    turn : (m : Move) → Allowed p m → p.state.closed ≡ true → p.owes ≡ [] → ⊥
+    turn (Takes noted outcome) b f g = let h : true ≡ false = sym f ∙ b.turn.open_yet in cc
+    turn (Breaks breach) b f g = let h : true ≡ false = sym f ∙ b.turn.open_yet in cc
+    turn (Hears event) b f g = let h : true ≡ false = sym f ∙ b.turn.open_yet in cc
+    turn (Sends frame) b f g = let h : [] ≡ ToSend frame ∷ rest_of p.owes = sym g ∙ b.turn in cc
+    turn (Acts act) b f g = let h : [] ≡ ToDo act ∷ rest_of p.owes = sym g ∙ b.turn in cc
+
+    cases : (b : Bool) → is_closed t ≡ b → is_closed t ≡ false
+    cases true e = let l = i.shutting.later e in absurd (turn m a l.0 l.1)
+    cases false e = e
+
+pub ends_with_close : (setup : Setup) (moves : List Move) → AllAllowed (resting (start setup)) moves → EndsWithClose (tape_of moves)
+ends_with_close setup [] a = tt
+ends_with_close setup (m ∷ moves) a = (still_open (tape_of moves) (after_all point_after (resting (start setup)) moves) m (inv_all setup moves a.0) a.1, ends_with_close setup moves a.0)
+
+-- the frames of a segment can be spelled
+pub spelled_frames : (p : Point) (moves : List Move) → AllAllowed p moves → CanBeSpelled (tape_of moves)
+spelled_frames p [] a = tt
+spelled_frames p (Takes noted outcome ∷ moves) a = spelled_frames p moves a.0
+spelled_frames p (Breaks breach ∷ moves) a = spelled_frames p moves a.0
+spelled_frames p (Hears event ∷ moves) a = spelled_frames p moves a.0
+spelled_frames p (Sends frame ∷ moves) a = (a.1.holds.0, spelled_frames p moves a.0)
+spelled_frames p (Acts act ∷ moves) a = spelled_frames p moves a.0
 
 pub unread_ends : (t : List Entry) (s : State) → Inv t (idle s) → are_read (came t) ≡ false → is_closed t ≡ true
 unread_ends t s i e = cases s.closed refl
@@ -156,9 +197,9 @@ stands_then k k' log tape event o h admitted greeted s =
     let tells : Tells k' (client_in log ++ client_octets event) (tape_of s.segment ++ tape) = s.tells open_yet in
     let taped : IsTaped setup log (record { event = event; outputs = reverse o }) tape (tape_of s.segment) = record {
       admitted = sym (admitted_same tape k.state event before) ∙ admitted;
-      step_is = record { put_out = ap reverse (s.leads.outputs ∙ outputs_by s.segment); event = happened_by s.segment ∙ s.events };
-      told = record { read = tells.read; table = i.giving.decodes.0; decodes = i.giving.decodes.1; unread = unread_ends (tape_of s.segment ++ tape) k'.state i };
-      clauses = record { requests = subst (λ x. Requests x (tape_of s.segment ++ tape)) same_setup (requests_hold (tape_of s.segment ++ tape) k'.state i) };
+      step_is = record { spelled = spelled_frames (resting k.state) s.segment s.leads.allowed; put_out = ap reverse (s.leads.outputs ∙ outputs_by s.segment); event = happened_by s.segment ∙ s.events };
+      told = record { read = tells.read; table = i.giving.decodes.0; decodes = i.giving.decodes.1; unread = unread_ends (tape_of s.segment ++ tape) k'.state i; ends = subst EndsWithClose (sym same_tape) (ends_with_close setup all allowed) };
+      clauses = record { requests = subst (λ x. Requests x (tape_of s.segment ++ tape)) same_setup (requests_hold (tape_of s.segment ++ tape) k'.state i (subst GoToOpen (sym same_tape) (go_to_open setup all allowed))) };
     } in
     stood k' log tape event o k (client_in log ++ client_octets event) s setup same_setup all same_tape (rests ∙ whole) allowed taped h.has_tape tells refl
 

@@ -4,7 +4,6 @@ pub mod Moves
 pub mod State
 pub mod Closing
 pub mod Connections
-pub mod Requests
 pub mod Policy
 pub mod Receiving
 pub mod Stands

@@ -1,9 +1,9 @@
 -- What the gateway may do: which move may come next, by its state and by what it owes.
-use Rattle.std.specs.Prelude.{◌≡◌, ℕ, suc, ◌<◌, ◌≤◌, ◌==◌, Bool, true, false, not, ◌&&◌, nat_le, if◌then◌else◌, List, [], ◌∷◌, ◌++◌, length, Option, None, Some}
+use Rattle.std.specs.Prelude.{◌≡◌, ℕ, suc, ◌%◌, ◌<◌, ◌≤◌, ◌==◌, Bool, true, false, not, ◌&&◌, nat_le, if◌then◌else◌, List, [], ◌∷◌, ◌++◌, length, Option, None, Some}
 use Rattle.model.specs.Messages.{Field, Request}
 use Rattle.model.specs.Messages.Item.{Block}
 use Rattle.model.specs.Tables.{Table}
-use Rattle.model.specs.Frames.{Frame, headers_kind, settings_kind, rst_stream_kind, is_ack, settings_frame, settings_ack, goaway, protocol_error, frame_size_error}
+use Rattle.model.specs.Frames.{Frame, Fits, headers_kind, settings_kind, rst_stream_kind, is_ack, settings_frame, settings_ack, goaway, protocol_error, frame_size_error}
 use Rattle.model.specs.Http1.{H1Request, forward}
 use Rattle.model.specs.Http2.{H2Request, authority_of, path_of}
 use Rattle.model.specs.Logs.{Event, Act, Output}
@@ -47,11 +47,18 @@ pub record MayServe (s : State) (noted : Noted) (route : ℕ) (text : List ℕ) 
   pub by_route : IsFirstMatch s.setup.routes (authority_of fields) (path_of fields) route
   pub reads : H1Request text (forward request)
 
--- An outcome is one that the frame may come to.
+-- settings without ACK and without entries, of the whole connection
+pub record IsPlainSettings (frame : Frame) : Type 0 where
+  pub kind : frame.kind ≡ settings_kind
+  pub no_ack : frame.flags % 2 ≡ 0
+  pub whole : frame.id ≡ 0
+  pub empty : frame.payload ≡ []
+
+-- An outcome is one that the frame may come to: such settings are taken where they come first.
 abbrev pub MayBe : State → Noted → Outcome → Type 0
 MayBe s noted Settled = MaySettle s noted
 MayBe s noted (Served route text request) = MayServe s noted route text request
-MayBe s noted (Stopped code) = Unit {0}
+MayBe s noted (Stopped code) = s.settled ≡ false → IsPlainSettings noted.frame → ⊥
 
 -- The event may come, as far as the state tells.
 abbrev pub is_in_order : State → Event → Bool
@@ -70,7 +77,7 @@ pub record IsUp (s : State) (k : ℕ) : Type 0 where
 
 abbrev pub MayDo : State → Act → Type 0
 MayDo s (Open k route) = k ≡ suc (length s.upstreams)
-MayDo s (ToUp k octets) = IsUp s k
+MayDo s (ToUp k octets) = IsUp s k × ((upstream_at s.upstreams k).is_open ≡ true)
 MayDo s (Close k) = IsUp s k
 MayDo s CloseClient = Unit {0}
 
@@ -78,7 +85,7 @@ abbrev pub Holds : State → Move → Type 0
 Holds s (Takes noted outcome) = IsNoted noted × MayBe s noted outcome
 Holds s (Breaks breach) = Unit {0}
 Holds s (Hears event) = is_in_order s event ≡ true
-Holds s (Sends frame) = (frame.kind == rst_stream_kind) ≡ false
+Holds s (Sends frame) = Fits frame × ((frame.kind == rst_stream_kind) ≡ false)
 Holds s (Acts act) = MayDo s act
 
 -- what is owed: a move that puts something out

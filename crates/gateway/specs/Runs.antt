@@ -5,7 +5,7 @@ use Rattle.model.specs.Logs as logs
 use Rattle.model.specs.Setup.{Setup}
 use Rattle.gateway.specs.declared.runs.RunFault.{RunFault}
 use Rattle.gateway.specs.declared.runs.RunFault.TheVariants.{NotAdmitted, Memory}
-use Rattle.model.specs.Faithful.{IsRefusedAt}
+use Rattle.gateway.specs.Stands.{IsRefusedAt}
 use Rattle.std.specs.declared.alloc.Global.{Global}
 use Rattle.model.specs.Logs.{Step}
 use Rattle.gateway.specs.declared.events.Event.{Event}

@@ -1,5 +1,5 @@
 -- Where a gateway stands: for which log, and for which tape of it.
-use Rattle.std.specs.Prelude.{◌≡◌, ℕ, ◌+◌, ◌*◌, ◌<◌, Bool, true, false, List, [], ◌∷◌, ◌++◌, length, reverse}
+use Rattle.std.specs.Prelude.{◌≡◌, ℕ, ◌+◌, ◌*◌, ◌<◌, Bool, true, false, List, [], ◌∷◌, ◌++◌, length, reverse, map, take, slice_get, Some}
 use Rattle.model.specs.Octets.{IsFront, IsStrictFront}
 use Rattle.model.specs.Frames.{Frame, Reading, preface}
 use Rattle.model.specs.Logs.{Event, Output, Step, client_in}
@@ -7,6 +7,7 @@ use Rattle.model.specs.Logs.Event.{Client, ClientEnd, ClientTook, Up, UpEnd, UpF
 use Rattle.model.specs.Setup.{Setup}
 use Rattle.model.specs.Tapes.{Entry, came, breaches, frames_of, IsNoPreface}
 use Rattle.model.specs.Faithful.{HasTape}
+use Rattle.model.specs.Admission.{is_admitted as is_admitted_by_tape}
 use Rattle.gateway.specs.declared.preface.Start.{Start}
 use Rattle.gateway.specs.declared.preface.Start.TheVariants.{Whole, Part, Wrong}
 use Rattle.gateway.specs.Moves.{Move, tape_of, after_all}
@@ -93,3 +94,16 @@ pub record StandsNext (old new : Standing) (log : List Step) (tape : List Entry)
   pub segment : List Entry
   pub stands : Stands new (record { event = event; outputs = put_out } ∷ log) (segment ++ tape)
   pub same_setup : new.kept.state.setup ≡ old.kept.state.setup
+
+-- A gateway stands for a log of the events before a place, the newest step last, and for a tape of it, after which the event
+-- at that place may not come.
+pub record IsRefusedAt (setup : Setup) (events : List Event) (place : ℕ) : Type 0 where
+  pub event : Event
+  pub found : slice_get events place ≡ Some event
+  pub log : List Step
+  pub are_events : map (λ step. step.event) log ≡ take place events
+  pub tape : List Entry
+  pub gateway : Standing
+  pub same_setup : gateway.kept.state.setup ≡ setup
+  pub stands : Stands gateway (reverse log) tape
+  pub refused : is_admitted_by_tape tape event ≡ false

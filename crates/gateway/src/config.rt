@@ -1,7 +1,7 @@
 //! What a gateway is set up with.
 
-ghost use Rattle.std.specs.Prelude.{◌≡◌, IfOk};
-ghost use Rattle.gateway.specs.Setups.{route_of, setup_of, IsServable};
+ghost use Rattle.std.specs.Prelude.{◌≡◌, ◌≤◌, IfOk, string_bytes};
+ghost use Rattle.gateway.specs.Setups.{route_of, setup_of};
 ghost use Rattle.gateway.specs.Stands.{held_bound};
 
 use std::alloc::{AllocError, Global};
@@ -54,7 +54,8 @@ pub struct Config {
 impl Route {
     /// The same route once more.
     fn copy(&self, alloc: Global) -> Result<Route, AllocError>
-        ensures { IfOk result (λ route. route_of route ≡ route_of self.now) }
+        ensures route { IfOk result (λ route. route_of route ≡ route_of self.now) }
+        ensures upstream { IfOk result (λ route. string_bytes route.upstream ≡ string_bytes self.now.upstream) }
     {
         let authority = Vec::from_slice(alloc, &self.authority)?;
         let prefix = Vec::from_slice(alloc, &self.prefix)?;
@@ -70,7 +71,8 @@ impl Route {
 impl Config {
     /// The most octets that a gateway with this configuration holds between two steps, the configuration itself aside.
     pub fn held_bound(&self) -> u64
-        requires { IsServable (setup_of self.now) }
+        requires body { self.now.max_body ≤ 1073741824 }
+        requires response { self.now.max_response ≤ 1073741824 }
         ensures { result ≡ held_bound (setup_of self.now) }
     {
         200000 + 100 * (self.max_body + self.max_response + 400000)

@@ -13,7 +13,7 @@ ghost use Rattle.gateway.specs.Moves.Input.{OfFrame, OfBreach, OfEvent};
 ghost use Rattle.model.specs.Tapes.Breach.{WrongPreface};
 ghost use Rattle.gateway.specs.Moves.Move.{Hears};
 ghost use Rattle.model.specs.Logs.Event.{UpFailed, UpTook};
-ghost use Rattle.gateway.specs.Policy.{is_admitted, Answers, Begins};
+ghost use Rattle.gateway.specs.Policy.{is_admitted, Answers, Begins, IsPlainSettings};
 ghost use Rattle.gateway.specs.Receiving.{Takes};
 ghost use Rattle.header_blocks.specs.Everywhere.{BlockEverywhere};
 ghost use Rattle.model.specs.Messages.{Field as FieldLine};
@@ -65,6 +65,14 @@ impl Model for Connection {
     ghost view = { state_of };
 
     ghost invariant = { IsBounded };
+}
+
+/// Whether a frame is SETTINGS without ACK and without entries, of the whole connection.
+fn is_plain_settings(view: &View<'_>) -> bool
+    ensures yes { result ≡ true → IsPlainSettings (frame_of view.now) }
+    ensures no { result ≡ false → IsPlainSettings (frame_of view.now) → ⊥ }
+{
+    view.kind == 4 && view.flags % 2 == 0 && view.id == 0 && view.payload.is_empty()
 }
 
 /// The payload of GOAWAY (RFC 9113, section 6.8): the last stream, and the error code.
@@ -239,19 +247,18 @@ impl Connection {
         Ok(())
     }
 
-    /// Takes the client's first frame: its settings, of which the gateway takes none so far.
+    /// Takes the client's first frame: settings, of which only those without entries are taken so far.
     fn take_settings(&mut self, view: &View<'_>, out: &mut Outputs) -> Result<(), AllocError>
         requires first { self.old.settled ≡ false }
         requires alive { self.old.closed ≡ false }
         ensures { OnOk result (Answers self.old self.new out.old out.new (OfFrame (frame_of view.now) ∷ [])) }
     {
-        if view.kind != 4 || view.flags % 2 == 1 {
-            return self.leave(PROTOCOL_ERROR, out);
+        if is_plain_settings(view) {
+            return self.settle(out);
         }
-        if view.id != 0 || !view.payload.is_empty() {
-            return self.leave(INTERNAL_ERROR, out);
-        }
-        self.settle(out)
+        let is_settings = view.kind == 4 && view.flags % 2 == 0;
+        let code = if is_settings { INTERNAL_ERROR } else { PROTOCOL_ERROR };
+        self.leave(code, out)
     }
 
     /// The place of the route and the text of the request that a frame is, where it is one that goes on.

@@ -97,7 +97,7 @@ impl Gateway {
     /// and after a refusal for want of memory every step answers `Closed`.
     pub fn step(&mut self, event: &Event, out: &mut Vec<Output>) -> Result<(), Fault>
         requires { is_admitted self.old.kept.state (event_of event.now) ≡ true }
-        // Where the gateway stands for a log and a tape of it, it then stands for both with this step at their ends.
+        // For whatever log and tape the gateway stood, it stands afterwards for the same with this step behind them.
         ensures stands { OnOk result ((outputs : List Put) × (outputs_of out.new.items ≡ outputs_of out.old.items ++ outputs)
             × ((log : List Step) (tape : List Entry) → Stands self.old log tape → StandsNext self.old self.new log tape (event_of event.now) outputs)) }
         ensures nothing { OnErr result (out.new.items ≡ out.old.items) }
@@ -105,6 +105,8 @@ impl Gateway {
         ensures dead { OnErr result (self.new.dead ≡ true) }
         ensures closed { IsErrOf result Fault.Closed ↔ (self.old.dead ≡ true) }
         ensures held { held self.new ≤ held_bound self.old.kept.state.setup }
+        // So far there are no records of streams, and this part of the bound is all.
+        ensures few { held self.new ≤ 200000 }
     {
         if self.dead {
             return Err(Fault::Closed);

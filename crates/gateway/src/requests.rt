@@ -5,9 +5,9 @@ ghost use Rattle.model.specs.Octets.{IsFront};
 ghost use Rattle.model.specs.Setup.{IsFirstMatch, Matches, IsForAuthority, IsForPath};
 ghost use Rattle.gateway.specs.Setups.{route_of};
 ghost use Rattle.gateway.specs.Connections.{IsTaken};
-ghost use Rattle.gateway.specs.Requests.{get_text};
 
 use crate::config::Route;
+use h1_writer::Sender;
 use header_blocks::Field;
 use request_rules::{RequestHead, Rule, check_head};
 use std::alloc::{AllocError, Global};
@@ -63,20 +63,15 @@ fn find_route(routes: &[Route], authority: &[u8], path: &[u8]) -> Option<u32>
     None
 }
 
-/// The text of a GET request that has neither fields to go on nor a body.
-fn write_get(alloc: Global, path: &[u8], authority: &[u8]) -> Result<Vec<u8>, AllocError>
-    ensures { IfOk result (λ text. text.items ≡ get_text path.now authority.now) }
-{
-    let mut text = Vec::from_slice(alloc, b"GET ")?;
-    text.extend_from_slice(path)?;
-    text.extend_from_slice(b" HTTP/1.1\r\nhost: ")?;
-    text.extend_from_slice(authority)?;
-    text.extend_from_slice(b"\r\nvia: 2.0 h2gw\r\nconnection: close\r\n\r\n")?;
-    Ok(text)
+/// Whether the client waits for an interim response before it goes on (RFC 9110, section 10.1.1).
+fn expects(fields: &[Field]) -> bool {
+    fields
+        .iter()
+        .any(|field| field.name() == b"expect".as_slice())
 }
 
-/// The place of the route that a request takes, and its text, where the fields are a request that goes on: so far a GET
-/// that has no field to go on with it.
+/// The place of the route that a request takes, and its text, where the fields are a request that goes on: so far any
+/// without a body that neither is CONNECT nor expects something first.
 pub fn read_request(
     alloc: Global,
     routes: &[Route],
@@ -89,12 +84,13 @@ pub fn read_request(
         Err(Rule::Memory) => return Err(AllocError),
         Err(_) => return Ok(None),
     };
-    if head.method() != b"GET".as_slice() || !head.fields().is_empty() {
+    if head.method() == b"CONNECT".as_slice() || expects(head.fields()) {
         return Ok(None);
     }
     let Some(route) = find_route(routes, head.authority(), head.path()) else {
         return Ok(None);
     };
-    let text = write_get(alloc, head.path(), head.authority())?;
+    let mut text = Vec::new(alloc);
+    let _whole = Sender::start(&head, true, &mut text)?;
     Ok(Some((route, text)))
 }

@@ -8,7 +8,8 @@ use Rattle.model.specs.Logs.Act.{Open, ToUp, Close, CloseClient}
 use Rattle.model.specs.Setup.{Setup}
 use Rattle.model.specs.Setup.Policy.{Plain}
 use Rattle.model.specs.Setup.Passing.{Whole}
-use Rattle.model.specs.Faithful.{Faithful, IsRefusedAt}
+use Rattle.model.specs.Faithful.{Faithful}
+use Rattle.gateway.specs.Stands.{IsRefusedAt}
 use Rattle.h2gw.specs.Scripts.{lines_of, AllSay, IsFirstFault}
 
 -- An output as a line: octets stand in lower-case hex, two digits each.

@@ -3,7 +3,7 @@ use Rattle.std.specs.Prelude.{◌≡◌, ℕ, ◌+◌, List, ⊤}
 use Rattle.model.specs.Logs.{Event}
 use Rattle.h2gw.specs.declared.replays.Stop.{Stop}
 use Rattle.h2gw.specs.declared.replays.Stop.TheVariants.{NotALine, NotAdmitted, Memory}
-use Rattle.model.specs.Faithful.{IsRefusedAt}
+use Rattle.gateway.specs.Stands.{IsRefusedAt}
 use Rattle.h2gw.specs.Printing.{default_setup}
 use Rattle.h2gw.specs.Scripts.{lines_of, AllSay, IsFirstFault}
 

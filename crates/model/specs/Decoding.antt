@@ -13,10 +13,10 @@ pub record Partial : Type 0 where
   pub ends : Bool
   pub fragments : List ℕ
 
--- the block that a frame begins or goes on with, behind what was begun before it
+-- the block that a frame begins, or goes on with on the same stream, behind what was begun before it
 abbrev pub joined : Option Partial → Frame → Option Partial
 joined (Some begun) frame =
-    if frame.kind == continuation_kind
+    if frame.kind == continuation_kind && frame.id == begun.id
     then Some (record { id = begun.id; ends = begun.ends; fragments = begun.fragments ++ content frame })
     else None
 joined None frame =

@@ -1,9 +1,9 @@
 -- Which logs are faithful: the sentence that the gateway is proved to keep.
-use Rattle.std.specs.Prelude.{◌≡◌, ℕ, true, false, List, [], ◌∷◌, ◌++◌, reverse, map, take, slice_get, Some}
+use Rattle.std.specs.Prelude.{◌≡◌, ℕ, true, false, List, [], ◌∷◌, ◌++◌, reverse}
 use Rattle.model.specs.Tables.{Table}
-use Rattle.model.specs.Logs.{Event, Step, client_in}
+use Rattle.model.specs.Logs.{Step, client_in}
 use Rattle.model.specs.Setup.{Setup}
-use Rattle.model.specs.Tapes.{Entry, came, is_closed, IsStep, IsRead}
+use Rattle.model.specs.Tapes.{Entry, came, is_closed, EndsWithClose, IsStep, IsRead}
 use Rattle.model.specs.Decoding.{Decodes, are_read}
 use Rattle.model.specs.Admission.{is_admitted}
 use Rattle.model.specs.Requests.{Requests}
@@ -13,12 +13,13 @@ pub record Clauses (setup : Setup) (t : List Entry) : Type 0 where
   pub requests : Requests setup t
 
 -- A tape tells the octets that the client sent so far: its frames are read off them, and the notes of their blocks are
--- right. Where a block wasn't read, the client is closed.
+-- right. Where a block wasn't read, the client is closed. Nothing comes behind the client's close.
 pub record IsTold (text : List ℕ) (t : List Entry) : Type 0 where
   pub read : IsRead text t
   pub table : Table
   pub decodes : Decodes (came t) table
   pub unread : are_read (came t) ≡ false → is_closed t ≡ true
+  pub ends : EndsWithClose t
 
 -- The step, behind the steps before it, has this segment of the tape: its event might come, the segment is the step's, the
 -- tape tells all that the client sent, and the clauses hold.
@@ -38,14 +39,3 @@ HasTape setup (step ∷ before) tape =
 pub record Faithful (setup : Setup) (log : List Step) : Type 0 where
   pub tape : List Entry
   pub has_tape : HasTape setup (reverse log) tape
-
--- There is a faithful log of the events before a place, the oldest first, after whose tape the event at that place may not
--- come.
-pub record IsRefusedAt (setup : Setup) (events : List Event) (place : ℕ) : Type 0 where
-  pub event : Event
-  pub found : slice_get events place ≡ Some event
-  pub log : List Step
-  pub are_events : map (λ step. step.event) log ≡ take place events
-  pub tape : List Entry
-  pub has_tape : HasTape setup (reverse log) tape
-  pub refused : is_admitted tape event ≡ false

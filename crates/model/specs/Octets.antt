@@ -1,4 +1,4 @@
--- Octets and texts: a text is a list of octets. A front of a list is a beginning of it, whole or not.
+-- Octets, and texts, which are lists of them. What a list begins with is a front of it: nothing, a part, or all.
 use Rattle.std.specs.Prelude.{◌≡◌, ℕ, ◌+◌, Bool, true, false, not, ◌&&◌, ◌||◌, ◌==◌, nat_le, if◌then◌else◌, List, [], ◌∷◌, ◌++◌, map, reverse, codes}
 use Rattle.std.specs.List.{list_all, list_any}
 

@@ -1,15 +1,16 @@
 -- The clause on requests: what each upstream connection was sent reads as just the request of the stream that it was
 -- given to.
-use Rattle.std.specs.Prelude.{◌≡◌, ℕ, ◌⊎◌, List, [], ◌∷◌, length}
+use Rattle.std.specs.Prelude.{◌≡◌, ℕ, true, ◌⊎◌, List, [], ◌∷◌, length}
 use Rattle.model.specs.Octets.{IsStrictFront}
 use Rattle.model.specs.Messages.{Field, Request}
 use Rattle.model.specs.Http1.{H1Request, H1Requests, forward}
 use Rattle.model.specs.Http2.{HasHead, WellFormedHead, H2Request, MayBecome, authority_of, path_of}
-use Rattle.model.specs.Logs.Act.{Open}
+use Rattle.model.specs.Logs.Act.{Open, ToUp}
 use Rattle.model.specs.Setup.{Setup, IsFirstMatch}
 use Rattle.model.specs.Tapes.{Entry, sent_up}
 use Rattle.model.specs.Tapes.Entry.{Came, Did}
 use Rattle.model.specs.Streams.{items}
+use Rattle.model.specs.Admission.{is_open}
 
 -- An upstream connection that was opened: its number, its route's place, and the stream that it was given to.
 pub record Opened : Type 0 where
@@ -49,8 +50,9 @@ pub record IsSentWhole (t : List Entry) (o : Opened) : Type 0 where
   pub means : H2Request (items o.stream t) request
   pub reads : H1Requests (sent_up o.k t) (forward request ∷ []) []
 
--- The text reads as no request yet, and goes on to one for every request that the stream may still become.
+-- The text reads as no request yet, and goes on to one for every request that the stream may still become; there is one.
 pub record IsSentInPart (t : List Entry) (o : Opened) : Type 0 where
+  pub some : (request : Request) × MayBecome (items o.stream t) request
   pub reads : H1Requests (sent_up o.k t) [] (sent_up o.k t)
   pub goes_on : (request : Request) → MayBecome (items o.stream t) request → (text : List ℕ) × H1Request text (forward request) × IsStrictFront (sent_up o.k t) text
 
@@ -67,7 +69,14 @@ abbrev pub AreServed : Setup → List Entry → List Opened → Type 0
 AreServed setup t [] = Unit {0}
 AreServed setup t (o ∷ os) = IsServed setup t o × AreServed setup t os
 
+-- Octets go to connections that are open, and to no other.
+abbrev pub GoToOpen : List Entry → Type 0
+GoToOpen [] = Unit {0}
+GoToOpen (Did (ToUp k octets) ∷ t) = (is_open k t ≡ true) × GoToOpen t
+GoToOpen (_ ∷ t) = GoToOpen t
+
 pub record Requests (setup : Setup) (t : List Entry) : Type 0 where
   pub numbered : AreNumbered (opens t)
   pub apart : AreApart (opens t)
   pub served : AreServed setup t (opens t)
+  pub go_to_open : GoToOpen t

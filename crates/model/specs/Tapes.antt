@@ -3,7 +3,7 @@
 use Rattle.std.specs.Prelude.{◌≡◌, ℕ, ◌<◌, Bool, true, false, ◌||◌, ◌==◌, ◌⊎◌, if◌then◌else◌, List, [], ◌∷◌, ◌++◌, map, reverse}
 use Rattle.model.specs.Octets.{IsFront, IsStrictFront}
 use Rattle.model.specs.Messages.{Field}
-use Rattle.model.specs.Frames.{Frame, spell, Reading, BeginsNoFrame, IsTooLong, preface}
+use Rattle.model.specs.Frames.{Frame, Fits, spell, Reading, BeginsNoFrame, IsTooLong, preface}
 use Rattle.model.specs.Logs.{Event, Act, Output, Step, client_octets}
 use Rattle.model.specs.Logs.Event.{Client}
 use Rattle.model.specs.Logs.Act.{ToUp, CloseClient}
@@ -99,8 +99,20 @@ abbrev pub listed : Event → List Event
 listed (Client piece) = []
 listed event = event ∷ []
 
+-- Each frame to the client is one that can be spelled.
+abbrev pub CanBeSpelled : List Entry → Type 0
+CanBeSpelled [] = Unit {0}
+CanBeSpelled (Sent noted ∷ t) = Fits noted.frame × CanBeSpelled t
+CanBeSpelled (_ ∷ t) = CanBeSpelled t
+
+-- Nothing stands behind the client's close.
+abbrev pub EndsWithClose : List Entry → Type 0
+EndsWithClose [] = Unit {0}
+EndsWithClose (e ∷ t) = (is_closed t ≡ false) × EndsWithClose t
+
 -- The entries are those of the step: they put out what it did, and its event is among them.
 pub record IsStep (step : Step) (segment : List Entry) : Type 0 where
+  pub spelled : CanBeSpelled segment
   pub put_out : step.outputs ≡ reverse (outputs segment)
   pub event : happened segment ≡ listed step.event
 

@@ -1,4 +1,4 @@
-use Rattle.std.proofs.Common.{◌≡◌, true, suc, length, ap, ◌∙◌, sym}
+use Rattle.std.proofs.Common.{◌≡◌, true, false, suc, length, ap, ◌∙◌, sym}
 use Rattle.model.specs.Logs.Act.{Open, ToUp}
 use Rattle.model.specs.Logs.Output.{Does}
 use Rattle.model.specs.Tapes.{put}
@@ -22,5 +22,6 @@ returns-in-Some c =
 pub returns-in-None : goal.returns-in-None
 returns-in-None c =
     let same = c.request_of.ensures.same in
+    let settled_yet : c.args.self.now.settled ≡ true = ap (λ (s : State). s.settled) (sym c.self.view_is) ∙ c.if-not-self.false in
     ok_both c.leave.result c.leave.ensures.state c.leave.ensures.outputs
-    (λ es eo. answers_stopped c.args.self.now c.leave.new.self c.args.out.now c.leave.new.out (frame_of c.args.view.now) 2 c.requires (es ∙ ap (λ s. left s 2) same) (eo ∙ ap (λ s. put_farewell c.args.out.now s 2) same))
+    (λ es eo. answers_stopped c.args.self.now c.leave.new.self c.args.out.now c.leave.new.out (frame_of c.args.view.now) 2 c.requires (λ first. absurd (let f : true ≡ false = sym settled_yet ∙ first in cc)) (es ∙ ap (λ s. left s 2) same) (eo ∙ ap (λ s. put_farewell c.args.out.now s 2) same))

@@ -1,21 +1,18 @@
 -- Concern: what the state tells of untaken octets and open connections is what the tape tells.
-use Rattle.std.proofs.Common.{◌≡◌, ℕ, zero, suc, ◌+◌, ◌-◌, ◌<◌, ◌≤◌, ◌==◌, true, false, Bool, not, ◌&&◌, List, [], ◌∷◌, ◌++◌, length, get_or, set, refl, sym, ◌∙◌, ap, subst, arith, if◌then◌else◌, inl, inr, length-append}
+use Rattle.std.proofs.Common.{◌≡◌, ℕ, zero, suc, ◌≤◌, ◌==◌, true, false, Bool, ◌&&◌, List, [], ◌∷◌, ◌++◌, length, get_or, set, refl, sym, ◌∙◌, ap, arith, if◌then◌else◌, inl, inr}
 use Rattle.std.specs.Prelude.{nat_le}
 use Rattle.std.proofs.lemmas.Bool.Decides.{eqb_tells}
 use Rattle.std.proofs.lemmas.List.{get_or-set_same, get_or-set_other, get_or_past}
-use Rattle.std.proofs.Math.ListN.{get_or-append}
 use Rattle.std.proofs.Math.Seq.{get_or-append_seam}
-use Rattle.model.specs.Logs.{Act, Event}
-use Rattle.model.specs.Logs.Act.{Open, ToUp, Close, CloseClient}
+use Rattle.model.specs.Logs.{Event}
+use Rattle.model.specs.Logs.Act.{Open}
 use Rattle.model.specs.Logs.Event.{Client, ClientEnd, ClientTook, Up, UpEnd, UpFailed, UpTook}
 use Rattle.model.specs.Tapes.{Entry}
 use Rattle.model.specs.Tapes.Entry.{Did}
 use Rattle.model.specs.Admission as admission
-use Rattle.gateway.specs.Moves.{Move, entry_of}
-use Rattle.gateway.specs.Moves.Move.{Takes, Breaks, Hears, Sends, Acts}
 use Rattle.gateway.specs.declared.upstream.Upstream.{Upstream}
-use Rattle.gateway.specs.State.{State, upstream_at, with_upstream, nobody, closed_up, sent_more, taken, after}
-use Rattle.gateway.specs.Policy.{IsUp, is_in_order, is_admitted}
+use Rattle.gateway.specs.State.{State, upstream_at, with_upstream, nobody}
+use Rattle.gateway.specs.Policy.{is_in_order}
 
 pub record Admitting (t : List Entry) (s : State) : Type 0 where
   pub untaken : s.untaken ≡ admission.untaken t

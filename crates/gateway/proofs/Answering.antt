@@ -1,36 +1,30 @@
 -- What the gateway's methods do, as moves.
-use Rattle.std.proofs.Common.{◌≡◌, ℕ, suc, ◌+◌, ◌<◌, ◌≤◌, ◌==◌, true, false, Bool, not, ◌&&◌, ◌||◌, List, [], ◌∷◌, ◌++◌, length, map, refl, sym, ◌∙◌, ap, subst, if◌then◌else◌, arith, ◌/◌, ◌%◌, inl, inr, Ok, Err, OnOk, Result, lit<, lit≤}
+use Rattle.std.proofs.Common.{◌≡◌, ℕ, suc, ◌+◌, ◌≤◌, ◌==◌, true, false, Bool, not, ◌&&◌, ◌||◌, List, [], ◌∷◌, ◌++◌, length, refl, sym, ◌∙◌, ap, subst, if◌then◌else◌, arith, ◌/◌, ◌%◌, inl, inr, Ok, Err, OnOk, Result, lit<, lit≤}
 use Rattle.std.proofs.lemmas.Bool.Decides.{eqb_tells}
 use Rattle.std.specs.Prelude.{Option, None, Some, nat_le, is_ok}
 use Rattle.std.proofs.lemmas.Bool.{leb-true, le-leb}
 use Rattle.std.proofs.Math.Seq.{get_or-append_seam, set-append_seam}
-use Rattle.std.proofs.lemmas.List.{append-nil}
-use Rattle.model.specs.Messages.{Field, Request, Item}
-use Rattle.model.specs.Messages.Item.{Block, Content}
-use Rattle.model.specs.Tables.{Table}
-use Rattle.model.specs.Blocks as blocks
+use Rattle.model.specs.Messages.Item.{Content}
 use Rattle.model.specs.Frames.{Frame, Fits, spell, settings_frame, settings_ack, goaway, settings_kind, headers_kind, is_ack, content, ends_headers, ends_stream, has_flag}
 use Rattle.model.specs.Logs.{Output, Event}
 use Rattle.model.specs.Logs.Event.{Client, ClientEnd, ClientTook, Up, UpEnd, UpFailed, UpTook}
-use Rattle.model.specs.Logs.Act.{Open, ToUp, Close, CloseClient}
+use Rattle.model.specs.Logs.Act.{Close}
 use Rattle.model.specs.Logs.Output.{ToClient, Does}
-use Rattle.model.specs.Setup.{IsFirstMatch}
 use Rattle.model.specs.Tapes.{put, Note, Noted, Breach}
-use Rattle.model.specs.Tapes.Note.{NoBlock, Fields, Unread}
-use Rattle.model.specs.Decoding.{Partial, joined, completed, begun, IsNoteOf, is_read}
+use Rattle.model.specs.Tapes.Note.{NoBlock, Unread}
+use Rattle.model.specs.Decoding.{Partial, joined, completed, IsNoteOf}
 use Rattle.model.specs.Streams.{frame_items}
 use Rattle.gateway.specs.declared.upstream.Upstream.{Upstream}
-use Rattle.gateway.specs.Closing.{put_closes}
-use Rattle.gateway.specs.Connections.{IsTaken, greeted, settled, served, ended, left, put_end, put_farewell}
-use Rattle.gateway.specs.Moves.{Move, Input, inputs, after_all, put_move}
+use Rattle.gateway.specs.Connections.{greeted, settled, ended, left, put_end, put_farewell}
+use Rattle.gateway.specs.Moves.{Move, Input, inputs, put_move}
 use Rattle.gateway.specs.Moves.Input.{OfFrame, OfBreach, OfEvent}
 use Rattle.gateway.specs.Moves.Move.{Takes, Breaks, Hears, Sends, Acts}
-use Rattle.gateway.specs.Moves.Outcome.{Settled, Served, Stopped}
-use Rattle.gateway.specs.State.{State, after, closed_up, nobody, upstream_at, with_upstream, sent_more, taken}
-use Rattle.gateway.specs.Policy.{Pays, Begins, Due, Point, idle, point_after, Allowed, AllAllowed, Leads, Answers, closes, farewell, IsUp, IsNoted, IsPlainSettings, MaySettle, MayServe, is_in_order, is_admitted, answer_event, breach_code}
+use Rattle.gateway.specs.Moves.Outcome.{Settled, Stopped}
+use Rattle.gateway.specs.State.{State, after, nobody, upstream_at, with_upstream, sent_more}
+use Rattle.gateway.specs.Policy.{Pays, Begins, Due, idle, point_after, Allowed, Leads, Answers, closes, farewell, IsUp, IsNoted, IsPlainSettings, MaySettle, is_in_order, is_admitted, answer_event, breach_code}
 use Rattle.gateway.specs.Policy.Due.{ToSend, ToDo}
 use Rattle.gateway.proofs.Admitting.{is_up}
-use Rattle.gateway.proofs.Leading.{leads_one, leads_then, inputs-append, pays_then, pays_closes, with}
+use Rattle.gateway.proofs.Leading.{leads_one, leads_then, inputs-append, pays_then, pays_closes}
 
 -- an input, and then what is owed for it
 pub answers_from : (s s' : State) (o o' : List Output) (m : Move) (came : List Input) → Allowed (idle s) m → inputs (m ∷ []) ≡ came → put_move o m ≡ o → Pays (point_after (idle s) m) (idle s') o o' → Answers s s' o o' came

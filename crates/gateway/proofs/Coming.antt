@@ -1,8 +1,8 @@
 -- What stands on the tape of moves, by what came in.
-use Rattle.std.proofs.Common.{◌≡◌, ℕ, List, [], ◌∷◌, ◌++◌, map, reverse, refl, sym, ◌∙◌, ap}
+use Rattle.std.proofs.Common.{◌≡◌, List, [], ◌∷◌, ◌++◌, map, reverse, refl, sym, ◌∙◌, ap}
 use Rattle.std.proofs.lemmas.List.{map-append, reverse-append, reverse-reverse}
 use Rattle.model.specs.Frames.{Frame}
-use Rattle.model.specs.Logs.{Event, Output}
+use Rattle.model.specs.Logs.{Event}
 use Rattle.model.specs.Tapes.{Noted, Breach, Entry, came, breaches, happened, frames_of, outputs}
 use Rattle.model.specs.Tapes.Entry.{Came, Breached, Happened, Sent, Did}
 use Rattle.gateway.specs.Moves.{Move, Input, inputs, tape_of, after_all, put_move}

@@ -1,30 +1,27 @@
 -- Concern: which upstream connection is given to which stream, and what it is sent.
-use Rattle.std.proofs.Common.{◌≡◌, ℕ, suc, ◌+◌, ◌<◌, ◌≤◌, true, false, Bool, ◌==◌, ◌&&◌, ◌||◌, List, [], ◌∷◌, ◌++◌, length, refl, sym, ◌∙◌, ap, subst, append_assoc, append-nil, arith, length-append, if◌then◌else◌, ◌⊎◌, inl, inr}
-use Rattle.std.specs.Prelude.{cond, Option, None, Some}
-use Rattle.std.proofs.lemmas.Bool.Decides.{nat_tests, eqb_tells}
-use Rattle.model.specs.Messages.{Field, Item, Request}
+use Rattle.std.proofs.Common.{◌≡◌, ℕ, suc, ◌<◌, ◌≤◌, true, false, ◌==◌, ◌&&◌, List, [], ◌∷◌, ◌++◌, length, refl, sym, ◌∙◌, ap, subst, append_assoc, arith, if◌then◌else◌, inl, inr}
+use Rattle.std.specs.Prelude.{None}
+use Rattle.std.proofs.lemmas.Bool.Decides.{eqb_tells}
+use Rattle.model.specs.Messages.{Field, Request}
 use Rattle.model.specs.Messages.Item.{Block}
 use Rattle.model.specs.Tables.{Table}
-use Rattle.model.specs.Frames.{headers_kind, rst_stream_kind}
+use Rattle.model.specs.Frames.{rst_stream_kind}
 use Rattle.model.specs.Http1.{H1Request, forward}
 use Rattle.model.specs.Http2.{H2Request, authority_of, path_of}
 use Rattle.model.specs.Setup.{Setup, IsFirstMatch}
-use Rattle.model.specs.Logs.{Act, Event}
+use Rattle.model.specs.Logs.{Event}
 use Rattle.model.specs.Logs.Act.{Open, ToUp, Close, CloseClient}
-use Rattle.model.specs.Tapes.{Noted, Note, Entry, came, sent_up}
-use Rattle.model.specs.Tapes.Entry.{Came, Breached, Happened, Sent, Did}
-use Rattle.model.specs.Decoding.{begun, completed, Decodes, are_read, is_read, IsNoteOf}
-use Rattle.model.specs.Errors.{row_first_frame, fault, row_start, row_too_long, first_of}
-use Rattle.model.specs.Streams.{Story, story, interrupts, items_of, is_ended_by, is_reset, frame_items, add_items}
-use Rattle.model.specs.Requests.{Opened, last_stream, opens, AreNumbered, IsGivenNone, AreApart}
-use Rattle.gateway.specs.Moves.{Move, Outcome, entry_of}
-use Rattle.gateway.specs.Moves.Move.{Takes, Breaks, Hears, Sends, Acts}
-use Rattle.gateway.specs.Moves.Outcome.{Settled, Served, Stopped}
-use Rattle.gateway.specs.State.{State, after, with_upstream}
-use Rattle.gateway.specs.Policy.{Due, Point, point_after, Allowed, IsQuiet, MayServe, MaySettle, rest_of, IsNoted}
+use Rattle.model.specs.Tapes.{Noted, Entry, came, sent_up}
+use Rattle.model.specs.Tapes.Entry.{Happened, Sent, Did}
+use Rattle.model.specs.Decoding.{begun, Decodes, are_read}
+use Rattle.model.specs.Errors.{row_first_frame}
+use Rattle.model.specs.Streams.{Story, story}
+use Rattle.model.specs.Requests.{Opened, last_stream, opens, AreNumbered, AreApart}
+use Rattle.gateway.specs.State.{State}
+use Rattle.gateway.specs.Policy.{Due}
 use Rattle.gateway.specs.Policy.Due.{ToSend, ToDo}
-use Rattle.gateway.proofs.Stories.{untold, story_over, story_same, story_first, story_happened, story_did}
-use Rattle.gateway.proofs.Owed.{to_open, owed_up, all_opens, all_text, sent_owed, closes_open, closes_send}
+use Rattle.gateway.proofs.Stories.{untold, story_over, story_same, story_happened, story_did}
+use Rattle.gateway.proofs.Owed.{to_open, owed_up, all_opens, all_text, sent_owed}
 
 -- A connection is given to a stream whose items are a request; what was sent and is owed is its text.
 pub record Serving (setup : Setup) (t : List Entry) (ds : List Due) (o : Opened) : Type 0 where

@@ -1,5 +1,5 @@
 -- How moves lead from one point to another.
-use Rattle.std.proofs.Common.{◌≡◌, ℕ, suc, ◌+◌, ◌<◌, ◌≤◌, true, false, Bool, List, [], ◌∷◌, ◌++◌, length, map, set, get_or, refl, sym, ◌∙◌, ap, subst, append_assoc, append-nil, if◌then◌else◌, arith, length-append}
+use Rattle.std.proofs.Common.{◌≡◌, ℕ, suc, ◌+◌, true, false, Bool, List, [], ◌∷◌, ◌++◌, length, map, set, refl, sym, ◌∙◌, ap, subst, append_assoc, arith, length-append}
 use Rattle.std.specs.Prelude.{cond}
 use Rattle.std.proofs.Math.Seq.{get_or-append_seam}
 use Rattle.model.specs.Logs.{Output}
@@ -10,9 +10,9 @@ use Rattle.gateway.specs.declared.upstream.Upstream.{Upstream}
 use Rattle.gateway.specs.Closing.{put_closes}
 use Rattle.gateway.specs.Moves.{Move, Input, inputs, after_all, put_move}
 use Rattle.gateway.specs.Moves.Move.{Takes, Breaks, Hears, Sends, Acts}
-use Rattle.gateway.specs.State.{State, after, closed_up, nobody, upstream_at, with_upstream}
-use Rattle.gateway.specs.Policy.{Due, Point, idle, point_after, Allowed, AllAllowed, Leads, Answers, Pays, closes_from, IsUp}
-use Rattle.gateway.specs.Policy.Due.{ToSend, ToDo}
+use Rattle.gateway.specs.State.{State, closed_up, nobody, upstream_at, with_upstream}
+use Rattle.gateway.specs.Policy.{Due, Point, idle, point_after, Allowed, AllAllowed, Leads, Pays, closes_from}
+use Rattle.gateway.specs.Policy.Due.{ToDo}
 
 pub after_all-append : {S : Type 0} (f : S → Move → S) (s : S) (b a : List Move) → after_all f s (b ++ a) ≡ after_all f (after_all f s a) b
 after_all-append f s [] a = refl

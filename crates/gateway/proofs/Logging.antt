@@ -1,5 +1,5 @@
 -- The log of a run, event by event.
-use Rattle.std.proofs.Common.{◌≡◌, ℕ, zero, suc, ◌+◌, ◌<◌, List, [], ◌∷◌, ◌++◌, length, length-append, take, get_or, map, reverse, refl, sym, ◌∙◌, ap, subst, arith, length-take, Option, Some, None, false}
+use Rattle.std.proofs.Common.{◌≡◌, ℕ, zero, suc, ◌+◌, ◌<◌, List, [], ◌∷◌, ◌++◌, length, length-append, take, get_or, map, reverse, refl, sym, ◌∙◌, ap, subst, arith, Some, false}
 use Rattle.std.specs.declared.vec.Vec.{Vec}
 use Rattle.std.specs.declared.alloc.Global.{Global}
 use Rattle.std.specs.Prelude.{slice_get}
@@ -9,7 +9,6 @@ use Rattle.model.specs.Logs as logs
 use Rattle.model.specs.Setup.{Setup}
 use Rattle.model.specs.Tapes.{Entry}
 use Rattle.model.specs.Faithful.{HasTape, Faithful}
-use Rattle.model.specs.Admission as admission
 use Rattle.gateway.specs.declared.events.Event.{Event}
 use Rattle.gateway.specs.declared.events.Output.{Output}
 use Rattle.gateway.specs.Views.{event_of, outputs_of}

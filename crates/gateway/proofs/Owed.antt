@@ -1,13 +1,12 @@
 -- What is owed, seen as connections to be opened and octets to be sent.
-use Rattle.std.proofs.Common.{◌≡◌, ℕ, suc, true, false, ◌==◌, List, [], ◌∷◌, ◌++◌, refl, sym, ◌∙◌, ap, append_assoc, append-nil, if◌then◌else◌}
+use Rattle.std.proofs.Common.{◌≡◌, ℕ, suc, true, false, ◌==◌, List, [], ◌∷◌, ◌++◌, refl, append_assoc, if◌then◌else◌}
 use Rattle.std.specs.Prelude.{cond}
 use Rattle.model.specs.Logs.Act.{Open, ToUp, Close, CloseClient}
 use Rattle.model.specs.Tapes.{Entry, sent_up}
 use Rattle.model.specs.Requests.{Opened, last_stream, opens}
 use Rattle.gateway.specs.declared.upstream.Upstream.{Upstream}
-use Rattle.gateway.specs.State.{State}
-use Rattle.gateway.specs.Policy.{Due, closes_from, closes, farewell}
-use Rattle.gateway.specs.Policy.Due.{ToSend, ToDo}
+use Rattle.gateway.specs.Policy.{Due, closes_from}
+use Rattle.gateway.specs.Policy.Due.{ToDo}
 
 -- the connections that are to be opened, given to a stream; the last to be opened stands first
 abbrev pub to_open : ℕ → List Due → List Opened

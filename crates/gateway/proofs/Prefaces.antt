@@ -1,11 +1,10 @@
 -- What a text is to the preface.
-use Rattle.std.proofs.Common.{◌≡◌, ℕ, true, false, eqb, Bool, List, [], ◌∷◌, ◌++◌, refl, sym, ◌∙◌, ap, append-nil, length, take, drop}
+use Rattle.std.proofs.Common.{◌≡◌, ℕ, true, false, eqb, Bool, List, [], ◌∷◌, ◌++◌, sym, ◌∙◌, append-nil, length, take, drop}
 use Rattle.std.specs.Prelude.{IsTrue, ◌↔◌}
 use Rattle.std.specs.Cmp.Lexicographic.{pointwise}
 use Rattle.std.proofs.lemmas.Slice.Eq.{starts_is}
 use Rattle.std.proofs.lemmas.Bool.Decides.{Decides-eqb}
 use Rattle.model.specs.Octets.{IsFront, IsStrictFront}
-use Rattle.model.specs.Tapes.{IsNoPreface}
 
 pub front_from : (front text : List ℕ) (r : Bool) → r ≡ pointwise eqb front (take (length front) text) → r ≡ true → IsFront front text
 front_from front text r is e = record { rest = drop (length front) text; is = (starts_is Decides-eqb text front r is).0 e }

@@ -1,14 +1,14 @@
 -- Taking frames off the front of a text.
-use Rattle.std.proofs.Common.{◌≡◌, ℕ, ◌+◌, ◌-◌, ◌≤◌, true, false, List, [], ◌∷◌, ◌++◌, length, map, reverse, take, drop, refl, sym, ◌∙◌, ap, subst, inl, inr, arith, length-drop}
+use Rattle.std.proofs.Common.{◌≡◌, ℕ, ◌+◌, ◌-◌, true, false, List, [], ◌∷◌, ◌++◌, length, map, reverse, take, drop, refl, sym, ◌∙◌, ap, inl, inr, arith, length-drop}
 use Rattle.std.proofs.lemmas.List.{reverse-append, map-append, take_all, take-append-drop, drop-drop}
 use Rattle.model.specs.Frames.{Frame, Spells, Reading, IsTooLong, frame_size_error}
 use Rattle.model.specs.Logs.{Output}
 use Rattle.model.specs.Tapes.Breach.{TooLong}
 use Rattle.gateway.specs.Connections.{left, put_farewell}
-use Rattle.gateway.specs.Moves.{Move, Input, inputs}
+use Rattle.gateway.specs.Moves.{inputs}
 use Rattle.gateway.specs.Moves.Input.{OfFrame, OfBreach}
 use Rattle.gateway.specs.State.{State}
-use Rattle.gateway.specs.Policy.{idle, Leads, Answers}
+use Rattle.gateway.specs.Policy.{idle, Answers}
 use Rattle.gateway.specs.Receiving.{Taking, Takes, IsRest}
 use Rattle.gateway.proofs.Leading.{leads_none, leads_then, inputs-append}
 use Rattle.gateway.proofs.Answering.{answers_breach}

@@ -1,10 +1,9 @@
 -- A whole request in one frame, as moves.
-use Rattle.std.proofs.Common.{◌≡◌, ℕ, suc, ◌+◌, ◌-◌, ◌<◌, ◌≤◌, true, false, List, [], ◌∷◌, ◌++◌, length, drop, take, refl, sym, ◌∙◌, ap, subst, arith, length-append, if◌then◌else◌}
-use Rattle.std.specs.Prelude.{Option, None, Some}
+use Rattle.std.proofs.Common.{◌≡◌, ℕ, suc, ◌-◌, ◌<◌, true, false, List, [], ◌∷◌, ◌++◌, length, refl, sym, ◌∙◌, ap, subst, arith, length-append, if◌then◌else◌}
+use Rattle.std.specs.Prelude.{None, Some}
 use Rattle.std.proofs.lemmas.List.{take_all}
 use Rattle.std.proofs.Math.Seq.{get_or-append_seam}
 use Rattle.model.specs.Messages.{Field}
-use Rattle.model.specs.Messages.Item.{Block}
 use Rattle.model.specs.Tables.{Table}
 use Rattle.model.specs.Blocks as blocks
 use Rattle.model.specs.Frames.{Frame, ends_headers}
@@ -22,7 +21,7 @@ use Rattle.gateway.specs.Moves.Move.{Takes, Acts}
 use Rattle.gateway.specs.Moves.Outcome.{Served}
 use Rattle.gateway.specs.declared.upstream.Upstream.{Upstream}
 use Rattle.gateway.specs.State.{State, after, upstream_at, nobody}
-use Rattle.gateway.specs.Policy.{Pays, Due, Point, idle, point_after, Answers, IsNoted, MayServe}
+use Rattle.gateway.specs.Policy.{Pays, idle, Answers, IsNoted, MayServe}
 use Rattle.gateway.specs.Policy.Due.{ToDo}
 use Rattle.gateway.proofs.Leading.{pays_then, with}
 use Rattle.gateway.proofs.Answering.{answers_from, pays_by, serves_upstreams}

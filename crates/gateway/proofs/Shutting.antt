@@ -1,18 +1,12 @@
 -- Concern: the client's connection is closed where the state says so, once nothing is owed.
-use Rattle.std.proofs.Common.{◌≡◌, ℕ, suc, true, false, List, [], ◌∷◌, ◌++◌, refl, sym, ◌∙◌, ap, subst, if◌then◌else◌, ◌⊎◌, inl, inr}
+use Rattle.std.proofs.Common.{◌≡◌, ℕ, suc, true, false, List, [], ◌∷◌, ◌++◌, refl, sym, ◌∙◌, ◌⊎◌, inl, inr}
 use Rattle.std.specs.Prelude.{cond}
-use Rattle.model.specs.Frames.{Frame}
-use Rattle.model.specs.Logs.{Act, Event}
-use Rattle.model.specs.Logs.Act.{Open, ToUp, Close, CloseClient}
-use Rattle.model.specs.Logs.Event.{Client, ClientEnd, ClientTook, Up, UpEnd, UpFailed, UpTook}
+use Rattle.model.specs.Logs.Act.{Close, CloseClient}
 use Rattle.model.specs.Tapes.{Entry, is_closed}
-use Rattle.gateway.specs.Moves.{Move, entry_of}
-use Rattle.gateway.specs.Moves.Move.{Takes, Breaks, Hears, Sends, Acts}
-use Rattle.gateway.specs.Moves.Outcome.{Settled, Served, Stopped}
 use Rattle.gateway.specs.declared.upstream.Upstream.{Upstream}
-use Rattle.gateway.specs.State.{State, after}
-use Rattle.gateway.specs.Policy.{Due, closes_from, closes, farewell, breach_code, owes_after, rest_of, InTurn, IsDue}
-use Rattle.gateway.specs.Policy.Due.{ToSend, ToDo}
+use Rattle.gateway.specs.State.{State}
+use Rattle.gateway.specs.Policy.{Due, closes_from, closes, farewell}
+use Rattle.gateway.specs.Policy.Due.{ToDo}
 
 -- the client's close is owed last
 abbrev pub EndsInClose : List Due → Type 0

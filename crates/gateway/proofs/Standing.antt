@@ -1,5 +1,5 @@
 -- What holds behind moves each of which was allowed.
-use Rattle.std.proofs.Common.{◌≡◌, ℕ, zero, suc, ◌+◌, ◌-◌, ◌<◌, ◌≤◌, ◌==◌, true, false, Bool, ◌&&◌, List, [], ◌∷◌, ◌++◌, length, refl, sym, ◌∙◌, ap, subst, if◌then◌else◌, inl, inr, length-append, length-set, arith}
+use Rattle.std.proofs.Common.{◌≡◌, ℕ, zero, suc, ◌+◌, ◌-◌, ◌==◌, true, false, Bool, ◌&&◌, List, [], ◌∷◌, length, refl, sym, ◌∙◌, ap, subst, if◌then◌else◌, inl, inr, length-append, length-set, arith}
 use Rattle.std.specs.Prelude.{nat_le}
 use Rattle.std.proofs.lemmas.Bool.Decides.{eqb_tells}
 use Rattle.model.specs.Frames.{Frame, settings_frame, spell}
@@ -11,12 +11,12 @@ use Rattle.model.specs.Tapes.{Noted, Entry}
 use Rattle.model.specs.Tapes.Note.{NoBlock}
 use Rattle.model.specs.Tapes.Entry.{Came, Breached, Happened, Sent, Did}
 use Rattle.model.specs.Admission as admission
-use Rattle.gateway.specs.Moves.{Move, entry_of, tape_of, after_all}
+use Rattle.gateway.specs.Moves.{Move, entry_of}
 use Rattle.gateway.specs.Moves.Move.{Takes, Breaks, Hears, Sends, Acts}
 use Rattle.gateway.specs.Moves.Outcome.{Settled, Served, Stopped}
 use Rattle.gateway.specs.declared.upstream.Upstream.{Upstream}
 use Rattle.gateway.specs.State.{State, upstream_at, with_upstream, closed_up, sent_more, taken, after, start}
-use Rattle.gateway.specs.Policy.{breach_code, Due, Point, point_after, resting, Allowed, AllAllowed, closes, rest_of, answer_event, IsUp}
+use Rattle.gateway.specs.Policy.{breach_code, Due, Point, point_after, resting, Allowed, closes, rest_of, IsUp}
 use Rattle.gateway.specs.Policy.Due.{ToSend, ToDo}
 use Rattle.gateway.proofs.Owed.{to_open, owed_up, closes_open, closes_send}
 use Rattle.gateway.proofs.Giving.{Giving, giving_none, giving_passes, passes_event, passes_sent, passes_close, passes_end, giving_opened, giving_sent, quiet}

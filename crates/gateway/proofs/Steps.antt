@@ -1,35 +1,34 @@
 -- Where a gateway stands, before any step and behind each.
-use Rattle.std.proofs.Common.{◌≡◌, ℕ, true, false, Bool, not, ◌&&◌, List, [], ◌∷◌, ◌++◌, length, reverse, map, refl, sym, ◌∙◌, ap, subst, append-nil, if◌then◌else◌, inl, inr, arith, ◌+◌, length-append}
+use Rattle.std.proofs.Common.{◌≡◌, ℕ, true, false, Bool, not, ◌&&◌, List, [], ◌∷◌, ◌++◌, length, reverse, refl, sym, ◌∙◌, ap, subst, append-nil, if◌then◌else◌, inl, inr, arith, ◌+◌, length-append}
 use Rattle.std.specs.Prelude.{codes}
 use Rattle.std.proofs.lemmas.List.{map-append}
 use Rattle.model.specs.Messages.{Request}
 use Rattle.model.specs.Messages.Item.{Block}
-use Rattle.model.specs.Frames.{Reading, preface, settings_frame}
+use Rattle.model.specs.Frames.{Reading, settings_frame}
 use Rattle.model.specs.Http1.{H1Request, H1Requests, forward}
 use Rattle.model.specs.Http2.{HasHead, WellFormedHead, H2Request}
 use Rattle.model.specs.Logs.{Event, Output, Step, client_in, client_octets}
 use Rattle.model.specs.Logs.Event.{Client, ClientEnd, ClientTook, Up, UpEnd, UpFailed, UpTook}
 use Rattle.model.specs.Logs.Act.{Open, ToUp, Close, CloseClient}
 use Rattle.model.specs.Setup.{Setup}
-use Rattle.model.specs.Tapes.{Entry, came, frames_of, breaches, happened, outputs, is_closed, sent_up, IsStep, CanBeSpelled, EndsWithClose, listed}
+use Rattle.model.specs.Tapes.{Entry, came, frames_of, breaches, is_closed, sent_up, CanBeSpelled, EndsWithClose, listed}
 use Rattle.model.specs.Tapes.Breach.{WrongPreface}
 use Rattle.model.specs.Decoding.{are_read}
 use Rattle.model.specs.Streams.{Story, items}
 use Rattle.model.specs.Admission as admission
-use Rattle.model.specs.Requests.{Opened, opens, IsServed, AreServed, AreNumbered, AreApart, GoToOpen, Requests}
-use Rattle.model.specs.Faithful.{IsTold, IsTaped, HasTape, Faithful}
-use Rattle.gateway.specs.Moves.{Move, Input, inputs, tape_of, entry_of, after_all, put_move}
-use Rattle.gateway.specs.Moves.Input.{OfFrame, OfBreach, OfEvent}
+use Rattle.model.specs.Requests.{Opened, opens, IsServed, AreServed, GoToOpen, Requests}
+use Rattle.model.specs.Faithful.{IsTaped, HasTape}
+use Rattle.gateway.specs.Moves.{Move, inputs, tape_of, entry_of, after_all}
+use Rattle.gateway.specs.Moves.Input.{OfBreach, OfEvent}
 use Rattle.gateway.specs.Moves.Move.{Takes, Breaks, Hears, Sends, Acts}
 use Rattle.gateway.specs.State.{State, start, upstream_at}
-use Rattle.gateway.specs.Policy.{Due, rest_of, Allowed, Point, idle, resting, point_after, AllAllowed, Leads, Answers, Pays, Begins, is_admitted, is_in_order}
+use Rattle.gateway.specs.Policy.{rest_of, Allowed, Point, idle, resting, point_after, AllAllowed, Leads, Answers, Begins, is_admitted, is_in_order}
 use Rattle.gateway.specs.Policy.Due.{ToSend, ToDo}
-use Rattle.gateway.specs.Receiving.{Kept, IsRest, Waits, Departs, GoesOn, Receives}
-use Rattle.gateway.specs.Stands.{Standing, fresh, Happens, Steps, IsKeptOf, KeptStands, Stands, StandsNext}
-use Rattle.gateway.proofs.Owed.{all_text, all_opens}
-use Rattle.gateway.proofs.Giving.{Serving, AllServing, Giving}
-use Rattle.gateway.proofs.Shutting.{Shutting, EndsInClose}
-use Rattle.gateway.proofs.Admitting.{Admitting, in_order_same}
+use Rattle.gateway.specs.Receiving.{Kept, IsRest, Waits, Departs, GoesOn}
+use Rattle.gateway.specs.Stands.{Standing, fresh, Steps, IsKeptOf, KeptStands, Stands, StandsNext}
+use Rattle.gateway.proofs.Giving.{Serving, AllServing}
+use Rattle.gateway.proofs.Shutting.{EndsInClose}
+use Rattle.gateway.proofs.Admitting.{in_order_same}
 use Rattle.gateway.proofs.Standing.{Inv, inv_start, step}
 use Rattle.gateway.proofs.Leading.{leads_then, AllAllowed-append, after_all-append, inputs-append}
 use Rattle.gateway.proofs.Coming.{events_in, happened_by, outputs_by, in_events}

@@ -1,10 +1,8 @@
 -- What an entry does to the items of streams.
-use Rattle.std.proofs.Common.{◌≡◌, ℕ, true, false, Bool, ◌==◌, ◌&&◌, ◌||◌, List, [], ◌∷◌, ◌++◌, refl, sym, ◌∙◌, ap, subst, append-nil, if◌then◌else◌}
-use Rattle.std.specs.Prelude.{Option, None, Some}
-use Rattle.model.specs.Tapes.{Noted, Entry, came}
-use Rattle.model.specs.Tapes.Entry.{Came, Breached, Happened, Sent, Did}
+use Rattle.std.proofs.Common.{◌≡◌, ℕ, true, false, Bool, List, [], ◌∷◌, refl, sym, ◌∙◌, ap, append-nil, if◌then◌else◌}
+use Rattle.model.specs.Tapes.{Entry}
+use Rattle.model.specs.Tapes.Entry.{Happened, Did}
 use Rattle.model.specs.Logs.{Act, Event}
-use Rattle.model.specs.Errors.{fault}
 use Rattle.model.specs.Streams.{Story, add_items, story, story_on, interrupts, items_of}
 
 -- no item yet, and more may come

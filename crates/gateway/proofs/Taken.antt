@@ -1,7 +1,7 @@
 -- A checked head, and the text that was written for it.
-use Rattle.std.proofs.Common.{◌≡◌, ℕ, Bool, true, false, not, List, [], refl, sym, ◌∙◌, ap, subst}
+use Rattle.std.proofs.Common.{◌≡◌, ℕ, true, false, List, [], refl, sym, ◌∙◌, ap, subst}
 use Rattle.std.specs.Prelude.{codes, bytes_eq}
-use Rattle.model.specs.Messages.{Field, Request}
+use Rattle.model.specs.Messages.{Field}
 use Rattle.model.specs.Http1.{H1Request, forward}
 use Rattle.model.specs.Http2.{WellFormedHead, HasLength, declared_length, is_connect, request_of}
 use Rattle.model.specs.Setup.{Route, IsFirstMatch}

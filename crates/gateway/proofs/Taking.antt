@@ -1,28 +1,28 @@
 -- What a frame of the client, or the end of its octets, does to what is given.
-use Rattle.std.proofs.Common.{◌≡◌, ℕ, suc, ◌+◌, ◌<◌, ◌≤◌, true, false, Bool, not, ◌==◌, ◌&&◌, ◌||◌, List, [], ◌∷◌, ◌++◌, length, refl, sym, ◌∙◌, ap, subst, append-nil, arith, if◌then◌else◌, inl, inr}
+use Rattle.std.proofs.Common.{◌≡◌, ℕ, suc, ◌<◌, ◌≤◌, true, false, Bool, not, ◌==◌, ◌&&◌, ◌||◌, List, [], ◌∷◌, ◌++◌, length, refl, sym, ◌∙◌, ap, subst, append-nil, arith, if◌then◌else◌, inl, inr}
 use Rattle.std.specs.Prelude.{Option, None, Some}
 use Rattle.std.proofs.lemmas.Bool.{eq-eqb}
 use Rattle.std.proofs.lemmas.Bool.Decides.{eqb_tells}
 use Rattle.model.specs.Messages.{Request, Item}
 use Rattle.model.specs.Messages.Item.{Block}
-use Rattle.model.specs.Frames.{Frame, rst_stream_kind, headers_kind, settings_kind, is_ack, ends_headers, settings_ack, protocol_error}
+use Rattle.model.specs.Frames.{Frame, rst_stream_kind, settings_kind, is_ack, ends_headers, settings_ack, protocol_error}
 use Rattle.model.specs.Logs.Act.{Open, ToUp}
 use Rattle.model.specs.Http1.{H1Request, forward}
 use Rattle.model.specs.Tapes.{Noted, Breach, Entry, came, sent_up}
 use Rattle.model.specs.Tapes.Entry.{Came, Breached}
 use Rattle.model.specs.Decoding.{Partial, begun, joined, completed, is_read, are_read, Decodes, IsNoteOf}
-use Rattle.model.specs.Errors.{row_first_frame, fault, first_of}
+use Rattle.model.specs.Errors.{row_first_frame, first_of}
 use Rattle.model.specs.Errors.Fault.{Connection}
-use Rattle.model.specs.Streams.{Story, story, interrupts, items_of, is_ended_by, frame_items, add_items, is_reset}
+use Rattle.model.specs.Streams.{story, interrupts, is_ended_by, frame_items, add_items, is_reset}
 use Rattle.model.specs.Requests.{Opened, opens, last_stream, AreNumbered, AreApart, IsGivenNone}
 use Rattle.gateway.specs.Moves.Move.{Takes, Breaks}
 use Rattle.gateway.specs.Moves.Outcome.{Settled, Served, Stopped}
 use Rattle.gateway.specs.State.{State, after}
-use Rattle.gateway.specs.Policy.{Due, MayServe, MaySettle, IsNoted, farewell, closes_from, breach_code}
+use Rattle.gateway.specs.Policy.{Due, MayServe, MaySettle, IsNoted, farewell, breach_code}
 use Rattle.gateway.specs.Policy.Due.{ToSend, ToDo}
-use Rattle.gateway.proofs.Stories.{untold, story_over, story_same, story_first}
-use Rattle.gateway.proofs.Owed.{to_open, owed_up, all_opens, all_text, closes_open, closes_send}
-use Rattle.gateway.proofs.Giving.{Serving, AllServing, AreLow, Giving, serving_same}
+use Rattle.gateway.proofs.Stories.{untold, story_same, story_first}
+use Rattle.gateway.proofs.Owed.{owed_up, all_opens, all_text, closes_open, closes_send}
+use Rattle.gateway.proofs.Giving.{AllServing, AreLow, Giving, serving_same}
 
 -- no header block was begun before it
 pub completed_alone : (before : List Noted) (frame : Frame) → begun before ≡ None → completed before frame ≡ completed [] frame

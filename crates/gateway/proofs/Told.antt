@@ -1,14 +1,13 @@
 -- The client's octets, and what of them stands on the tape, behind a step.
-use Rattle.std.proofs.Common.{◌≡◌, ℕ, true, false, Bool, List, [], ◌∷◌, ◌++◌, reverse, map, refl, sym, ◌∙◌, ap, subst, append_assoc, append-nil, if◌then◌else◌, ◌⊎◌, inl, inr}
+use Rattle.std.proofs.Common.{◌≡◌, ℕ, true, false, Bool, List, [], ◌∷◌, ◌++◌, reverse, refl, sym, ◌∙◌, ap, subst, append_assoc, append-nil, if◌then◌else◌, ◌⊎◌, inl, inr}
 use Rattle.model.specs.Octets.{IsStrictFront}
-use Rattle.model.specs.Frames.{Frame, Reading, BeginsNoFrame, IsTooLong, preface}
+use Rattle.model.specs.Frames.{Frame, Reading, IsTooLong, preface}
 use Rattle.model.specs.Logs.{Event, Output}
-use Rattle.model.specs.Tapes.{Entry, Breach, came, breaches, frames_of, is_closed, IsRead, IsReadBehind, HasNoFrame, IsNoPreface}
+use Rattle.model.specs.Tapes.{Entry, Breach, came, breaches, frames_of, is_closed, IsRead, IsNoPreface}
 use Rattle.model.specs.Tapes.Breach.{WrongPreface, TooLong}
-use Rattle.gateway.specs.Moves.{Move, Input, inputs, tape_of}
-use Rattle.gateway.specs.Moves.Input.{OfFrame, OfBreach, OfEvent}
-use Rattle.gateway.specs.State.{State}
-use Rattle.gateway.specs.Receiving.{Kept, IsRest, Takes, Waits, Departs, GoesOn, TakesBehind}
+use Rattle.gateway.specs.Moves.{Move, inputs, tape_of}
+use Rattle.gateway.specs.Moves.Input.{OfBreach, OfEvent}
+use Rattle.gateway.specs.Receiving.{Kept, IsRest, Takes, Waits, Departs, GoesOn}
 use Rattle.gateway.specs.Stands.{IsUnbegun, IsBehind, IsKeptOf}
 use Rattle.gateway.proofs.Coming.{frames_in, breaches_in, breaches-append, breaches_by, in_frames, in_breaches, frames_then, no_frame_then}
 

@@ -1,12 +1,12 @@
 -- A connection as it lies in memory, and where its methods lead.
-use Rattle.std.specs.Prelude.{◌≡◌, ℕ, ◌+◌, ◌<◌, ◌≤◌, Bool, true, false, List, [], ◌∷◌, ◌++◌, length, map}
+use Rattle.std.specs.Prelude.{◌≡◌, ℕ, ◌+◌, ◌<◌, ◌≤◌, true, false, List, [], ◌∷◌, ◌++◌, length, map}
 use Rattle.model.specs.Messages.{Field, Request}
 use Rattle.model.specs.Messages.Item.{Block}
 use Rattle.model.specs.Http1.{H1Request, forward}
 use Rattle.model.specs.Http2.{H2Request, authority_of, path_of}
 use Rattle.model.specs.Frames.{Frame, spell, settings_frame, settings_ack, goaway}
 use Rattle.model.specs.Logs.{Output}
-use Rattle.model.specs.Logs.Act.{Open, ToUp, CloseClient}
+use Rattle.model.specs.Logs.Act.{CloseClient}
 use Rattle.model.specs.Logs.Output.{ToClient, Does}
 use Rattle.model.specs.Setup.{Route, IsFirstMatch}
 use Rattle.model.specs.Tapes.{put}

@@ -1,5 +1,5 @@
 -- What the gateway may do: which move may come next, by its state and by what it owes.
-use Rattle.std.specs.Prelude.{◌≡◌, ℕ, suc, ◌%◌, ◌<◌, ◌≤◌, ◌==◌, Bool, true, false, not, ◌&&◌, nat_le, if◌then◌else◌, List, [], ◌∷◌, ◌++◌, length, Option, None, Some}
+use Rattle.std.specs.Prelude.{◌≡◌, ℕ, suc, ◌%◌, ◌<◌, ◌≤◌, ◌==◌, Bool, true, false, not, ◌&&◌, nat_le, if◌then◌else◌, List, [], ◌∷◌, ◌++◌, length, None}
 use Rattle.model.specs.Messages.{Field, Request}
 use Rattle.model.specs.Messages.Item.{Block}
 use Rattle.model.specs.Tables.{Table}
@@ -9,7 +9,7 @@ use Rattle.model.specs.Http2.{H2Request, authority_of, path_of}
 use Rattle.model.specs.Logs.{Event, Act, Output}
 use Rattle.model.specs.Logs.Event.{Client, ClientEnd, ClientTook, Up, UpEnd, UpFailed, UpTook}
 use Rattle.model.specs.Logs.Act.{Open, ToUp, Close, CloseClient}
-use Rattle.model.specs.Setup.{Setup, IsFirstMatch}
+use Rattle.model.specs.Setup.{IsFirstMatch}
 use Rattle.model.specs.Tapes.{Noted, Breach}
 use Rattle.model.specs.Tapes.Breach.{WrongPreface, TooLong}
 use Rattle.model.specs.Tapes.Note.{Fields}
@@ -19,7 +19,7 @@ use Rattle.gateway.specs.Moves.{Move, Outcome, Input, inputs, after_all, put_mov
 use Rattle.gateway.specs.Moves.Move.{Takes, Breaks, Hears, Sends, Acts}
 use Rattle.gateway.specs.Moves.Outcome.{Settled, Served, Stopped}
 use Rattle.gateway.specs.declared.upstream.Upstream.{Upstream}
-use Rattle.gateway.specs.State.{State, upstream_at, after, start}
+use Rattle.gateway.specs.State.{State, upstream_at, after}
 
 -- Whatever the table, the frame's note is right; no header block was begun before it.
 abbrev pub IsNoted : Noted → Type 0

@@ -1,5 +1,5 @@
 -- What octets of the client come to: frames are taken off their front, one after the other.
-use Rattle.std.specs.Prelude.{◌≡◌, ℕ, ◌<◌, ◌≤◌, ◌⊎◌, Bool, true, false, if◌then◌else◌, List, [], ◌∷◌, ◌++◌, length, map, reverse}
+use Rattle.std.specs.Prelude.{◌≡◌, ℕ, ◌<◌, ◌⊎◌, Bool, true, false, if◌then◌else◌, List, [], ◌∷◌, ◌++◌, length, map, reverse}
 use Rattle.model.specs.Octets.{IsStrictFront}
 use Rattle.model.specs.Frames.{Frame, Reading, BeginsNoFrame, IsTooLong, preface}
 use Rattle.model.specs.Logs.{Output}

@@ -1,9 +1,9 @@
 -- Where a gateway stands: for which log, and for which tape of it.
-use Rattle.std.specs.Prelude.{◌≡◌, ℕ, ◌+◌, ◌*◌, ◌<◌, Bool, true, false, List, [], ◌∷◌, ◌++◌, length, reverse, map, take, slice_get, Some}
+use Rattle.std.specs.Prelude.{◌≡◌, ℕ, ◌+◌, ◌*◌, Bool, true, false, List, [], ◌∷◌, ◌++◌, length, reverse, map, take, slice_get, Some}
 use Rattle.model.specs.Octets.{IsFront, IsStrictFront}
-use Rattle.model.specs.Frames.{Frame, Reading, preface}
+use Rattle.model.specs.Frames.{Reading, preface}
 use Rattle.model.specs.Logs.{Event, Output, Step, client_in}
-use Rattle.model.specs.Logs.Event.{Client, ClientEnd, ClientTook, Up, UpEnd, UpFailed, UpTook}
+use Rattle.model.specs.Logs.Event.{Client}
 use Rattle.model.specs.Setup.{Setup}
 use Rattle.model.specs.Tapes.{Entry, came, breaches, frames_of, IsNoPreface}
 use Rattle.model.specs.Faithful.{HasTape}
@@ -12,7 +12,7 @@ use Rattle.gateway.specs.declared.preface.Start.{Start}
 use Rattle.gateway.specs.declared.preface.Start.TheVariants.{Whole, Part, Wrong}
 use Rattle.gateway.specs.Moves.{Move, tape_of, after_all}
 use Rattle.gateway.specs.Moves.Input.{OfEvent}
-use Rattle.gateway.specs.State.{State, start}
+use Rattle.gateway.specs.State.{start}
 use Rattle.gateway.specs.Policy.{resting, point_after, AllAllowed, Answers, Begins}
 use Rattle.gateway.specs.Receiving.{Kept, IsRest, Receives}
 

@@ -1,5 +1,5 @@
 -- What the gateway keeps of its moves: a fold of them.
-use Rattle.std.specs.Prelude.{ℕ, zero, suc, ◌+◌, ◌-◌, Bool, true, false, List, [], ◌∷◌, ◌++◌, length, Option, None, slice_get, set, get_or}
+use Rattle.std.specs.Prelude.{ℕ, zero, suc, ◌+◌, ◌-◌, Bool, true, false, List, [], ◌∷◌, ◌++◌, length, set, get_or}
 use Rattle.model.specs.Setup.{Setup}
 use Rattle.model.specs.Frames.{spell}
 use Rattle.model.specs.Logs.Event.{ClientEnd, ClientTook, UpFailed, UpTook}

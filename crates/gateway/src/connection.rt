@@ -257,7 +257,11 @@ impl Connection {
             return self.settle(out);
         }
         let is_settings = view.kind == 4 && view.flags % 2 == 0;
-        let code = if is_settings { INTERNAL_ERROR } else { PROTOCOL_ERROR };
+        let code = if is_settings {
+            INTERNAL_ERROR
+        } else {
+            PROTOCOL_ERROR
+        };
         self.leave(code, out)
     }
 

@@ -1,4 +1,3 @@
-use Rattle.std.proofs.Common.{◌≡◌, true, ◌∙◌, sym}
 use Rattle.gateway.proofs.Prefaces.{front_decides}
 use Rattle.gateway.proofs.requests.begins_with.Goals as goal
 

@@ -1,4 +1,4 @@
-use Rattle.std.proofs.Common.{◌≡◌, ℕ, List, [], ◌++◌, true, refl, sym, ◌∙◌, ap, subst}
+use Rattle.std.proofs.Common.{◌≡◌, [], ◌++◌, true, refl, sym, ◌∙◌, ap, subst}
 use Rattle.std.specs.Prelude.{bytes_eq, codes}
 use Rattle.h1_writer.specs.Sending.{Sending}
 use Rattle.gateway.proofs.Taken.{is_taken}

@@ -1,8 +1,7 @@
-use Rattle.std.proofs.Common.{◌≡◌, not, ◌++◌, ◌∷◌, [], ◌∙◌, sym, ap, refl, false, if◌then◌else◌}
+use Rattle.std.proofs.Common.{not, ◌++◌, ◌∷◌, [], ◌∙◌, sym, ap, if◌then◌else◌}
 use Rattle.gateway.specs.Setups.{setup_of}
-use Rattle.gateway.specs.Stands.{fresh}
 use Rattle.gateway.proofs.Answering.{on_ok_at}
-use Rattle.gateway.proofs.Logging.{running_none, running_more, running_faithful, running_refused}
+use Rattle.gateway.proofs.Logging.{running_more, running_refused}
 use Rattle.gateway.proofs.runs.run.Goals as goal
 
 pub returns-then-not-admits-clause-refused : goal.returns-then-not-admits-clause-refused

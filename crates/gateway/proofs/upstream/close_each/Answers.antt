@@ -1,8 +1,7 @@
-use Rattle.std.proofs.Common.{◌≡◌, ◌+◌, ap, sym, ◌∙◌, if◌then◌else◌}
+use Rattle.std.proofs.Common.{◌+◌, ap, sym, ◌∙◌, if◌then◌else◌}
 use Rattle.model.specs.Logs.Act.{Close}
 use Rattle.model.specs.Logs.Output.{Does}
 use Rattle.model.specs.Tapes.{put}
-use Rattle.gateway.specs.State.{nobody}
 use Rattle.gateway.proofs.Closing.{closed_next, closes_next}
 use Rattle.gateway.proofs.upstream.close_each.Goals as goal
 use Rattle.gateway.proofs.upstream.close_each.Goals.{then-upstream+in_ok-close_up, else-upstream}

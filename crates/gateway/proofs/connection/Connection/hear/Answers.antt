@@ -1,4 +1,4 @@
-use Rattle.std.proofs.Common.{refl, sym, ◌∙◌, ap}
+use Rattle.std.proofs.Common.{refl, ap}
 use Rattle.model.specs.Logs.Event.{ClientEnd, ClientTook, Up, UpEnd, UpFailed, UpTook}
 use Rattle.gateway.specs.Moves.Move.{Hears}
 use Rattle.gateway.specs.State.{after}

@@ -1,5 +1,5 @@
 use Rattle.std.proofs.Common.{◌≡◌, ◌+◌, false, length, take, drop, arith, ap, sym, ◌∙◌, subst, length-drop}
-use Rattle.model.specs.Frames.{Spells, BeginsNoFrame, IsTooLong}
+use Rattle.model.specs.Frames.{Spells, IsTooLong}
 use Rattle.frames.specs.Views.{frame_of}
 use Rattle.gateway.specs.State.{State}
 use Rattle.gateway.specs.Receiving.{IsRest}

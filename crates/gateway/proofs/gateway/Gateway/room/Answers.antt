@@ -1,4 +1,4 @@
-use Rattle.std.proofs.Common.{◌≡◌, true, false, ◌∙◌, sym, ap}
+use Rattle.std.proofs.Common.{true, false, ◌∙◌, sym, ap}
 use Rattle.gateway.specs.Stands.{Standing}
 use Rattle.gateway.specs.State.{upstream_at}
 use Rattle.gateway.proofs.Steps.{room_by_tape}

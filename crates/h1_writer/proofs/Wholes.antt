@@ -11,7 +11,7 @@ use Rattle.model.proofs.Http1Readings.{one_request}
 use Rattle.model.proofs.Http1Texts.{Frames, IsSendable, text_read, no_framing}
 use Rattle.model.proofs.Http2Sends.{head_sendable}
 use Rattle.request_rules.specs.Heads.{HeadParts, IsRequestHead, request_with}
-use Rattle.h1_writer.specs.Sending.{Stage, Sending, SentWhole, SentCounting, SentHolding, SentChunking, content_of, head_of, piece_of, chunk_text, last_chunk, GoesOnTo, HasRoom, MayPush, MayFinish}
+use Rattle.h1_writer.specs.Sending.{Stage, Sending, SentWhole, SentCounting, SentHolding, SentChunking, content_of, head_of, piece_of, chunk_text, last_chunk, GoesOnTo, HoldsAll, LacksAtMostOne, HasRoom, MayPush, MayFinish}
 use Rattle.h1_writer.specs.Sending.Stage.{Whole, Counting, Holding, Chunking}
 use Rattle.h1_writer.proofs.Stages.{are_full, concat_more, more_full}
 use Rattle.h1_writer.proofs.Written.{length_frames, declared_fits, chunk_frames}
@@ -172,3 +172,40 @@ end_to_finish parts ended text pieces (Counting left) s open' held =
     absurd (omega arith)
 end_to_finish parts ended text pieces (Holding octet) s open' held = tt
 end_to_finish parts ended text pieces Chunking s open' held = tt
+
+-- ---- nothing waits but the last octet
+
+whole_holds : (declared : Option ℕ) (ended : Bool) (pieces : List (List ℕ)) → (ended ≡ true → pieces ≡ []) → HoldsAll declared pieces (content_of declared ended pieces)
+whole_holds (Some n) ended pieces none = refl
+whole_holds None false pieces none = record { rest = last_chunk; is = refl }
+whole_holds None true pieces none = record { rest = []; is = sym (append-nil (flat_map chunk_text pieces) ∙ ap (flat_map chunk_text) (none refl)) }
+
+pub lacks_one : (parts : HeadParts) (ended : Bool) (text : List ℕ) (pieces : List (List ℕ)) (stage : Stage) → Sending parts ended text pieces stage → LacksAtMostOne parts ended text pieces
+lacks_one parts ended text pieces Whole s = record {
+  missing = [];
+  few = omega arith;
+  content = content_of parts.length ended pieces;
+  is = append-nil text ∙ s.is;
+  holds_all = whole_holds parts.length ended pieces s.none_ended;
+}
+lacks_one parts ended text pieces (Counting left) s = record {
+  missing = [];
+  few = omega arith;
+  content = concat pieces;
+  is = append-nil text ∙ s.is ∙ ap (λ (e : Bool). head_of parts e ++ concat pieces) (sym s.not_ended);
+  holds_all = subst (λ (d : Option ℕ). HoldsAll d pieces (concat pieces)) (sym s.declared) refl;
+}
+lacks_one parts ended text pieces (Holding octet) s = record {
+  missing = octet ∷ [];
+  few = omega arith;
+  content = concat pieces;
+  is = s.is ∙ ap (λ (e : Bool). head_of parts e ++ concat pieces) (sym s.not_ended);
+  holds_all = subst (λ (d : Option ℕ). HoldsAll d pieces (concat pieces)) (sym s.declared) refl;
+}
+lacks_one parts ended text pieces Chunking s = record {
+  missing = [];
+  few = omega arith;
+  content = flat_map chunk_text pieces;
+  is = append-nil text ∙ s.is ∙ ap (λ (e : Bool). head_of parts e ++ flat_map chunk_text pieces) (sym s.not_ended);
+  holds_all = subst (λ (d : Option ℕ). HoldsAll d pieces (flat_map chunk_text pieces)) (sym s.undeclared) (record { rest = []; is = sym (append-nil (flat_map chunk_text pieces)) });
+}

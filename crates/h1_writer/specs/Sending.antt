@@ -2,7 +2,7 @@
 use Rattle.std.specs.Prelude.{◌≡◌, not, ℕ, ◌+◌, ◌<◌, ◌≤◌, Bool, true, false, nat_lt, if◌then◌else◌, List, [], ◌∷◌, ◌++◌, length, map, codes, Option, Some, None}
 use Rattle.std.specs.List.{concat, flat_map, list_all}
 use Rattle.std.specs.Int.Digits.{digits_of}
-use Rattle.model.specs.Octets.{IsStrictFront, is_empty}
+use Rattle.model.specs.Octets.{IsFront, IsStrictFront, is_empty}
 use Rattle.model.specs.Http1.{crlf, H1Request, forward}
 use Rattle.model.specs.Http1Text.{framing_of, head_text}
 use Rattle.model.specs.Http2.{HasLength}
@@ -123,3 +123,16 @@ pub record GoesOnTo (parts : HeadParts) (text body : List ℕ) : Type 0 where
 abbrev pub HasRoom : Option ℕ → List (List ℕ) → ℕ → Type 0
 HasRoom None pieces count = Unit {0}
 HasRoom (Some declared) pieces count = length (concat pieces) + count ≤ declared
+
+-- what follows a head holds all octets that came: as they are where a length is declared, else in chunks
+abbrev pub HoldsAll : Option ℕ → List (List ℕ) → List ℕ → Type 0
+HoldsAll (Some declared) pieces content = content ≡ concat pieces
+HoldsAll None pieces content = IsFront (flat_map chunk_text pieces) content
+
+-- With at most one octet added a text is its whole head and all octets that came.
+pub record LacksAtMostOne (parts : HeadParts) (ended : Bool) (text : List ℕ) (pieces : List (List ℕ)) : Type 0 where
+  pub missing : List ℕ
+  pub few : length missing ≤ 1
+  pub content : List ℕ
+  pub is : text ++ missing ≡ head_of parts ended ++ content
+  pub holds_all : HoldsAll parts.length pieces content

@@ -6,7 +6,7 @@ ghost use Rattle.model.specs.Octets.{IsFront};
 ghost use Rattle.model.specs.Http1.{H1Request, BeginsNoRequest, forward};
 ghost use Rattle.model.specs.Http2.{HasLength};
 ghost use Rattle.request_rules.specs.Heads.{HeadParts, IsRequestHead, request_with};
-ghost use Rattle.h1_writer.specs.Sending.{Stage, Sending, MayPush, MayFinish, HasRoom, GoesOnTo};
+ghost use Rattle.h1_writer.specs.Sending.{Stage, Sending, MayPush, MayFinish, HasRoom, GoesOnTo, LacksAtMostOne};
 ghost use Rattle.h1_writer.specs.Sending.Stage.{Whole};
 
 /// A whole text reads as its request with the body that was pushed, forwarded (RFC 9112, section 2.1).
@@ -25,4 +25,9 @@ pub fn unfinished_goes_on()
 pub fn room_and_end()
     ensures room { (parts : HeadParts) (ended : Bool) (text : List ℕ) (pieces : List (List ℕ)) (stage : Stage) (count : ℕ) → Sending parts ended text pieces stage → (stage ≡ Whole → ⊥) → HasRoom parts.length pieces count → MayPush stage count }
     ensures end { (parts : HeadParts) (ended : Bool) (text : List ℕ) (pieces : List (List ℕ)) (stage : Stage) → Sending parts ended text pieces stage → (stage ≡ Whole → ⊥) → HasLength parts.length (concat pieces) → MayFinish stage }
+{}
+
+/// With at most one octet added, a text holds its whole head and all octets that were pushed.
+pub fn lacks_at_most_one()
+    ensures { (parts : HeadParts) (ended : Bool) (text : List ℕ) (pieces : List (List ℕ)) (stage : Stage) → Sending parts ended text pieces stage → LacksAtMostOne parts ended text pieces }
 {}

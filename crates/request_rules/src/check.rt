@@ -1,8 +1,8 @@
 //! The first rule that is broken.
 
-ghost use Rattle.std.specs.Prelude.{◌≡◌, ℕ, true, [], MatchBool, MatchOption, take, IfOk, OnOk, IfErr};
-ghost use Rattle.model.specs.Http2.{LengthFieldHolds, HasLength, declared_length, WellFormedHead, WellFormedTrailers};
-ghost use Rattle.request_rules.specs.Heads.{parts_of};
+ghost use Rattle.std.specs.Prelude.{◌≡◌, ℕ, true, false, [], MatchBool, MatchOption, take, IfOk, OnOk, IfErr};
+ghost use Rattle.model.specs.Http2.{LengthFieldHolds, HasLength, declared_length, is_connect, WellFormedHead, WellFormedTrailers};
+ghost use Rattle.request_rules.specs.Heads.{parts_of, IsRequestHead};
 ghost use Rattle.request_rules.specs.Rules.{IsFirstBroken, IsFirstBrokenByTrailers, Keeps, in_order};
 
 use crate::head::RequestHead;
@@ -77,6 +77,7 @@ fn first_broken(head: &[Field], ended: bool) -> Option<Rule>
 /// stream. An error is the first rule, in the order of [`Rule`], that the head breaks; `Memory` comes where it breaks none.
 pub fn check_head(alloc: Global, head: &[Field], ended: bool) -> Result<RequestHead, Rule>
     ensures ok { IfOk result (λ parts. parts ≡ parts_of head.now) }
+    ensures request { IfOk result (λ parts. is_connect head.now ≡ false → IsRequestHead parts) }
     ensures kept { OnOk result (WellFormedHead head.now × (ended ≡ true → HasLength (declared_length head.now) [])) }
     ensures refused { IfErr result (λ rule. IsFirstBroken rule head.now ended) }
 {

@@ -1,3 +1,2 @@
-pub mod StaticTable
 pub mod Spelled
 pub mod Gathered

@@ -5,8 +5,8 @@ ghost use Rattle.model.specs.Messages.{Field as FieldLine};
 ghost use Rattle.header_blocks.specs.Everywhere.{Decodes, Gathers, Holds};
 
 use crate::fault::BlockFault;
-use crate::field::Field;
 use crate::literals::read_field;
+use hpack_table::Field;
 use std::alloc::{AllocError, Global};
 
 /// What a block says.

@@ -3,14 +3,12 @@
 
 mod decoder;
 mod fault;
-mod field;
 mod gather;
 mod literals;
-mod static_table;
 #[cfg(test)]
 mod tests;
 
 pub use crate::decoder::Decoder;
 pub use crate::fault::BlockFault;
-pub use crate::field::Field;
 pub use crate::gather::Decoded;
+pub use hpack_table::Field;

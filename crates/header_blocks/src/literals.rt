@@ -5,8 +5,6 @@ ghost use Rattle.model.specs.Tables.{static_table};
 ghost use Rattle.header_blocks.specs.Everywhere.{ReadsString, ReadsName, ReadsLiteral, ReadsField};
 
 use crate::fault::BlockFault;
-use crate::field::Field;
-use crate::static_table::static_entry;
 use hpack_int::{IntRead, read};
 use std::alloc::Global;
 

@@ -6,6 +6,7 @@ ghost use Rattle.header_blocks.specs.Everywhere.{ReadsString, ReadsName, ReadsLi
 
 use crate::fault::BlockFault;
 use hpack_int::{IntRead, read};
+use hpack_table::{Field, static_entry};
 use std::alloc::Global;
 
 /// The string at the front of octets, and how many octets it takes (RFC 7541, section 5.2).

@@ -1,3 +1,5 @@
 pub mod HpackExamples
 pub mod IntegerLemmas
 pub mod HuffmanLemmas
+pub mod BlockLemmas
+pub mod BlockLaws

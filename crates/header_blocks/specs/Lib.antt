@@ -1,3 +1,4 @@
 pub use Rattle.model.specs.Blocks
 pub use Rattle.model.specs.Tables
 pub mod Everywhere
+pub mod Represented

@@ -3,8 +3,11 @@
 
 mod decoder;
 mod fault;
+mod faults;
+mod fields;
 mod gather;
 mod literals;
+mod strings;
 #[cfg(test)]
 mod tests;
 

@@ -1,0 +1,55 @@
+//! Integers and strings at the front of octets.
+
+ghost use Rattle.std.specs.Prelude.{◌≤◌, IfOk};
+ghost use Rattle.hpack_int.specs.Reading.{ReadsValue};
+ghost use Rattle.model.specs.Huffman.{Huff};
+ghost use Rattle.header_blocks.specs.Represented.{TakesString};
+
+use crate::faults::DecodeFault;
+use hpack_int::{IntRead, read};
+use huffman::{HuffFault, decode};
+use std::alloc::Global;
+
+/// The integer at the front of octets, with a prefix of 1 to 8 bits, and how many octets it takes.
+pub fn take_int(prefix: u8, octets: &[u8]) -> Result<(u32, usize), DecodeFault>
+    requires some { 1 ≤ prefix }
+    requires most { prefix ≤ 8 }
+    ensures { IfOk result (λ p. ReadsValue prefix octets.now p.0 p.1) }
+{
+    match read(prefix, octets) {
+        IntRead::Value(value, used) => Ok((value, used)),
+        IntRead::More => Err(DecodeFault::Cut),
+        IntRead::Bad => Err(DecodeFault::Integer),
+    }
+}
+
+/// The string of Huffman text.
+fn huffman_string(alloc: Global, text: &[u8]) -> Result<Vec<u8>, DecodeFault>
+    ensures { IfOk result (λ string. Huff text.now string.items) }
+{
+    let mut string = Vec::new(alloc);
+    match decode(text, &mut string) {
+        Ok(()) => Ok(string),
+        Err(HuffFault::Memory) => Err(DecodeFault::Memory),
+        Err(_) => Err(DecodeFault::Text),
+    }
+}
+
+/// The string at the front of octets, and how many octets it takes (RFC 7541, section 5.2).
+pub fn take_string(alloc: Global, octets: &[u8]) -> Result<(Vec<u8>, usize), DecodeFault>
+    ensures { IfOk result (λ p. TakesString octets.now p.0.items p.1) }
+{
+    let (number, start) = take_int(7, octets)?;
+    let number = number as usize;
+    let rest = &octets[start..];
+    if rest.len() < number {
+        return Err(DecodeFault::Cut);
+    }
+    let text = &rest[..number];
+    let string = if octets[0] >= 128 {
+        huffman_string(alloc, text)?
+    } else {
+        Vec::from_slice(alloc, text)?
+    };
+    Ok((string, start + number))
+}

@@ -1,3 +1,4 @@
 pub mod Spelled
 pub mod Gathered
 pub mod Taken
+pub mod Chained

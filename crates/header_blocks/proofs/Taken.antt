@@ -1,5 +1,5 @@
 -- What is taken from the front of octets.
-use Rattle.std.proofs.Common.{◌≡◌, ℕ, zero, suc, ◌+◌, ◌-◌, ◌/◌, ◌%◌, ◌^◌, ◌<◌, ◌≤◌, ◌⊎◌, Bool, true, false, if◌then◌else◌, List, [], ◌∷◌, ◌++◌, length, take, drop, get_or, refl, ap, sym, ◌∙◌, subst, inl, inr, arith, length-take, length-drop}
+use Rattle.std.proofs.Common.{◌≡◌, ℕ, ◌+◌, ◌-◌, ◌/◌, ◌^◌, ◌<◌, ◌≤◌, ◌⊎◌, List, ◌++◌, length, take, drop, get_or, refl, ap, sym, ◌∙◌, subst, inl, inr, arith, length-drop}
 use Rattle.std.proofs.lemmas.List.{take_rest, length-take-le}
 use Rattle.std.proofs.lemmas.Bool.{cases_lt}
 use Rattle.std.proofs.Math.Seq.{take-add}
@@ -9,8 +9,7 @@ use Rattle.model.specs.Huffman.{Huff}
 use Rattle.model.specs.Tables.{Table, added}
 use Rattle.model.specs.Blocks.{IsString, IsNewName, IsNameOfEntry, IsLiteral, Represents}
 use Rattle.hpack_int.specs.Reading.{ReadsValue}
-use Rattle.header_blocks.specs.Represented.{TakesString, TakesName, TakesLiteral, TakesField}
-use Rattle.header_blocks.specs.declared.fields.Taken.{Taken}
+use Rattle.header_blocks.specs.Represented.{TakesString, TakesName, TakesLiteral}
 use Rattle.header_blocks.proofs.Spelled.{raw_string, marked, some}
 
 pub taken_raw : (octets : List ℕ) (number start : ℕ) (string : List ℕ) → ReadsValue 7 octets number start → get_or octets 0 0 < 128 → number ≤ length octets - start

@@ -1,8 +1,8 @@
 -- What octets say by a table.
-use Rattle.std.specs.Prelude.{◌≡◌, ℕ, ◌+◌, ◌≤◌, ◌<◌, ◌/◌, ◌^◌, ◌⊎◌, if◌then◌else◌, List, [], ◌∷◌, ◌++◌, length, take, slice_index, Option, Some, None}
+use Rattle.std.specs.Prelude.{ℕ, ◌≤◌, ◌<◌, ◌/◌, ◌^◌, ◌⊎◌, if◌then◌else◌, List, length, take, slice_index}
 use Rattle.model.specs.Messages.{Field}
-use Rattle.model.specs.Tables.{Table, total_size, added}
-use Rattle.model.specs.Blocks.{IsString, IsNewName, IsNameOfEntry, IsLiteral, Represents, AreFields, AreMaxima, Block}
+use Rattle.model.specs.Tables.{Table, added}
+use Rattle.model.specs.Blocks.{IsString, IsNewName, IsNameOfEntry, IsLiteral, Represents}
 use Rattle.header_blocks.specs.declared.fields.Taken.{Taken}
 
 -- The first octets, so many, are a string.

@@ -1,8 +1,9 @@
 //! Fields.
 
-ghost use Rattle.std.specs.Prelude.{◌≡◌, ◌-◌, ◌≤◌, SomeIff};
+ghost use Rattle.std.specs.Prelude.{◌≡◌, ◌-◌, ◌≤◌, IfOk, SomeIff};
 ghost use Rattle.model.specs.Tables.{field_size};
 
+use std::alloc::{AllocError, Global};
 use std::marker::Model;
 
 /// A field line: its name and its value. A clause sees both as lists of octets.
@@ -41,6 +42,16 @@ impl Field {
         ensures { result.now ≡ self.now.value }
     {
         &self.value
+    }
+
+    /// A copy of the field.
+    pub fn copy(&self, alloc: Global) -> Result<Field, AllocError>
+        ensures { IfOk result (λ field. field ≡ self.now) }
+    {
+        Ok(Field {
+            name: Vec::from_slice(alloc, &self.name)?,
+            value: Vec::from_slice(alloc, &self.value)?,
+        })
     }
 
     /// What is left of the room for sizes behind this field; its size is the octets of its name, those of its value, and

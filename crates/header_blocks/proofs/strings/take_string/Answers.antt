@@ -1,5 +1,4 @@
-use Rattle.std.proofs.Common.{arith, subst, sym, ap, ◌+◌}
-use Rattle.header_blocks.specs.Represented.{TakesString}
+use Rattle.std.proofs.Common.{arith}
 use Rattle.header_blocks.proofs.Taken.{taken_raw, taken_huffman}
 use Rattle.header_blocks.proofs.strings.take_string.Goals as goal
 use Rattle.header_blocks.proofs.strings.take_string.Goals.{then-octets-ge128+in_ok-string, else-octets-ge128+in_ok-string-2}

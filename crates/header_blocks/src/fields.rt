@@ -1,7 +1,7 @@
 //! Representations of fields at the front of octets.
 
-ghost use Rattle.std.specs.Prelude.{◌≤◌, ◌<◌, ◌⊎◌, length, IfOk, slice_index};
-ghost use Rattle.header_blocks.specs.Represented.{TakesField, TakesLiteral, TakesName};
+ghost use Rattle.std.specs.Prelude.{◌≤◌, ◌<◌, ◌⊎◌, length, IfErr, IfOk, slice_index};
+ghost use Rattle.header_blocks.specs.Represented.{BeginsNoField, BeginsNoLiteral, BeginsNoName, TakesField, TakesLiteral, TakesName, UnlessMemory};
 
 use crate::faults::DecodeFault;
 use crate::strings::{take_int, take_string};
@@ -25,7 +25,8 @@ fn take_name(
     index: u32,
     octets: &[u8],
 ) -> Result<(Vec<u8>, usize), DecodeFault>
-    ensures { IfOk result (λ p. TakesName table.now index octets.now p.0.items p.1) }
+    ensures taken { IfOk result (λ p. TakesName table.now index octets.now p.0.items p.1) }
+    ensures none { IfErr result (λ fault. UnlessMemory fault (BeginsNoName table.now index octets.now)) }
 {
     if index == 0 {
         return take_string(alloc, octets);
@@ -46,7 +47,8 @@ fn take_literal(
 ) -> Result<(Field, usize), DecodeFault>
     requires some { 1 ≤ prefix }
     requires most { prefix ≤ 8 }
-    ensures { IfOk result (λ p. TakesLiteral table.now prefix octets.now p.0 p.1) }
+    ensures taken { IfOk result (λ p. TakesLiteral table.now prefix octets.now p.0 p.1) }
+    ensures none { IfErr result (λ fault. UnlessMemory fault (BeginsNoLiteral table.now prefix octets.now)) }
 {
     let (index, start) = take_int(prefix, octets)?;
     let (name, name_length) = take_name(alloc, table, index, &octets[start..])?;
@@ -59,7 +61,8 @@ fn take_literal(
 fn take_indexed(alloc: Global, table: &Table, octets: &[u8]) -> Result<Taken, DecodeFault>
     requires some { 0 < length octets.now }
     requires marked { 128 ≤ slice_index octets.now 0 }
-    ensures { IfOk result (λ taken. TakesField table.now octets.now taken) }
+    ensures taken { IfOk result (λ taken. TakesField table.now octets.now taken) }
+    ensures none { IfErr result (λ fault. UnlessMemory fault (BeginsNoField table.now octets.now)) }
 {
     let (index, used) = take_int(7, octets)?;
     let Some((name, value)) = table.get(index) else {
@@ -80,7 +83,8 @@ fn take_indexed(alloc: Global, table: &Table, octets: &[u8]) -> Result<Taken, De
 pub fn take_field(alloc: Global, table: &Table, octets: &[u8]) -> Result<Taken, DecodeFault>
     requires some { 0 < length octets.now }
     requires no_maximum { slice_index octets.now 0 < 32 ⊎ (64 ≤ slice_index octets.now 0) }
-    ensures { IfOk result (λ taken. TakesField table.now octets.now taken) }
+    ensures taken { IfOk result (λ taken. TakesField table.now octets.now taken) }
+    ensures none { IfErr result (λ fault. UnlessMemory fault (BeginsNoField table.now octets.now)) }
 {
     if octets[0] >= 128 {
         return take_indexed(alloc, table, octets);

@@ -1,9 +1,10 @@
 //! Integers and strings at the front of octets.
 
-ghost use Rattle.std.specs.Prelude.{◌≤◌, IfOk};
+ghost use Rattle.std.specs.Prelude.{◌≤◌, ℕ, List, IfErr, IfOk, OnErr};
 ghost use Rattle.hpack_int.specs.Reading.{ReadsValue};
 ghost use Rattle.model.specs.Huffman.{Huff};
-ghost use Rattle.header_blocks.specs.Represented.{TakesString};
+ghost use Rattle.model.specs.Integers.{BeginsNoInt};
+ghost use Rattle.header_blocks.specs.Represented.{BeginsNoString, TakesString, UnlessMemory};
 
 use crate::faults::DecodeFault;
 use hpack_int::{IntRead, read};
@@ -14,7 +15,8 @@ use std::alloc::Global;
 pub fn take_int(prefix: u8, octets: &[u8]) -> Result<(u32, usize), DecodeFault>
     requires some { 1 ≤ prefix }
     requires most { prefix ≤ 8 }
-    ensures { IfOk result (λ p. ReadsValue prefix octets.now p.0 p.1) }
+    ensures taken { IfOk result (λ p. ReadsValue prefix octets.now p.0 p.1) }
+    ensures none { OnErr result (BeginsNoInt prefix octets.now) }
 {
     match read(prefix, octets) {
         IntRead::Value(value, used) => Ok((value, used)),
@@ -25,19 +27,22 @@ pub fn take_int(prefix: u8, octets: &[u8]) -> Result<(u32, usize), DecodeFault>
 
 /// The string of Huffman text.
 fn huffman_string(alloc: Global, text: &[u8]) -> Result<Vec<u8>, DecodeFault>
-    ensures { IfOk result (λ string. Huff text.now string.items) }
+    ensures decoded { IfOk result (λ string. Huff text.now string.items) }
+    ensures none { IfErr result (λ fault. UnlessMemory fault ((string : List ℕ) → Huff text.now string → ⊥)) }
 {
     let mut string = Vec::new(alloc);
     match decode(text, &mut string) {
         Ok(()) => Ok(string),
+        Err(HuffFault::Eos) => Err(DecodeFault::Text),
+        Err(HuffFault::Padding) => Err(DecodeFault::Text),
         Err(HuffFault::Memory) => Err(DecodeFault::Memory),
-        Err(_) => Err(DecodeFault::Text),
     }
 }
 
 /// The string at the front of octets, and how many octets it takes (RFC 7541, section 5.2).
 pub fn take_string(alloc: Global, octets: &[u8]) -> Result<(Vec<u8>, usize), DecodeFault>
-    ensures { IfOk result (λ p. TakesString octets.now p.0.items p.1) }
+    ensures taken { IfOk result (λ p. TakesString octets.now p.0.items p.1) }
+    ensures none { IfErr result (λ fault. UnlessMemory fault (BeginsNoString octets.now)) }
 {
     let (number, start) = take_int(7, octets)?;
     let number = number as usize;

@@ -91,7 +91,7 @@ one_list table n m o (f ∷ fs) (g ∷ gs) p q =
     (ap (λ h. h ∷ fs) same.field ∙ ap (λ t. g ∷ t) all.0, all.1)
 
 -- a maximum is no field
-maximum_apart : (table next : Table) (a x b y : List ℕ) (maximum : ℕ) (f : Field) → IsNewMaximum a maximum → Represents table b f next → a ++ x ≡ b ++ y → ⊥
+pub maximum_apart : (table next : Table) (a x b y : List ℕ) (maximum : ℕ) (f : Field) → IsNewMaximum a maximum → Represents table b f next → a ++ x ≡ b ++ y → ⊥
 maximum_apart table next a x b y maximum f p q e =
     let i = head_mark 5 1 a x maximum p.marked in
     let h = heads a b x y e in
@@ -101,7 +101,7 @@ maximum_apart table next a x b y maximum f p q e =
       | inr (inr j) ↦ omega (arith, i, j, h)
     ]
 
-fields_apart : (table next : Table) (a x o : List ℕ) (maximum : ℕ) (fs : List Field) → IsNewMaximum a maximum → AreFields table o fs next → a ++ x ≡ o → ⊥
+pub fields_apart : (table next : Table) (a x o : List ℕ) (maximum : ℕ) (fs : List Field) → IsNewMaximum a maximum → AreFields table o fs next → a ++ x ≡ o → ⊥
 fields_apart table next a x o maximum [] p q e = none_longer a x (marked_some 5 1 a maximum p.marked) (sym (e ∙ q.0))
 fields_apart table next a x o maximum (f ∷ fs) p q e = maximum_apart table q.2 a x q.0 q.1 maximum f p q.4 (e ∙ q.3)
 

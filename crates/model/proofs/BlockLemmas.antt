@@ -66,7 +66,7 @@ none_found table zero entry e f = cc
 none_found table (suc place) entry e f = omega (arith, e)
 
 -- a name index and what follows it have one name
-one_name : (table : Table) (i j : ℕ) (a b x y s t : List ℕ) → i ≡ j → IsNewName i a s ⊎ IsNameOfEntry table i a s → IsNewName j b t ⊎ IsNameOfEntry table j b t → a ++ x ≡ b ++ y → (a ≡ b) × (s ≡ t)
+pub one_name : (table : Table) (i j : ℕ) (a b x y s t : List ℕ) → i ≡ j → IsNewName i a s ⊎ IsNameOfEntry table i a s → IsNewName j b t ⊎ IsNameOfEntry table j b t → a ++ x ≡ b ++ y → (a ≡ b) × (s ≡ t)
 one_name table i j a b x y s t same (inl p) (inl q) e = one_literal_string a b x y s t p.string q.string e
 one_name table i j a b x y s t same (inl p) (inr q) e = absurd (none_found table j q.entry (sym same ∙ p.is_zero) q.found)
 one_name table i j a b x y s t same (inr p) (inl q) e = absurd (none_found table i p.entry (same ∙ q.is_zero) p.found)

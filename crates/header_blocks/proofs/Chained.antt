@@ -34,7 +34,7 @@ more_maxima first now next block start used maximum p m is =
           (subst (λ t. AreMaxima first (take start block ++ take used (drop start block)) (p.maxima ++ maximum ∷ []) t) (sym is) (maxima_then first now (take start block) (take used (drop start block)) p.maxima maximum p.are_maxima here));
     }
 
-pub gathers_start : (first now : Table) (block : List ℕ) (start cap : ℕ) (kept : List Field) (room : Option ℕ) → TakesMaxima first block start now → Holds cap [] kept room → GathersFrom first (take start block) cap kept room now
+abbrev pub gathers_start : (first now : Table) (block : List ℕ) (start cap : ℕ) (kept : List Field) (room : Option ℕ) → TakesMaxima first block start now → Holds cap [] kept room → GathersFrom first (take start block) cap kept room now
 gathers_start first now block start cap kept room p h = record {
   maxima = p.maxima;
   all = [];
@@ -42,7 +42,7 @@ gathers_start first now block start cap kept room p h = record {
   holds = h;
 }
 
-pub gathers_field : (first now next : Table) (block : List ℕ) (start cap : ℕ) (taken : Taken) (kept more : List Field) (room rest : Option ℕ) → GathersFrom first (take start block) cap kept room now
+abbrev pub gathers_field : (first now next : Table) (block : List ℕ) (start cap : ℕ) (taken : Taken) (kept more : List Field) (room rest : Option ℕ) → GathersFrom first (take start block) cap kept room now
     → TakesField now (take (length block - start) (drop start block)) taken → Settles taken now next kept room more rest → GathersFrom first (take (start + taken.used) block) cap more rest next
 gathers_field first now next block start cap taken kept more room rest g t s =
     let b = g.is_block in

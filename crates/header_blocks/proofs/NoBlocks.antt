@@ -1,16 +1,21 @@
 -- Octets that aren't a block, by a place that can't be read.
-use Rattle.std.proofs.Common.{◌≡◌, ℕ, zero, suc, ◌+◌, ◌-◌, ◌/◌, ◌^◌, ◌<◌, ◌≤◌, ◌⊎◌, List, [], ◌∷◌, ◌++◌, length, take, drop, get_or, refl, ap, sym, ◌∙◌, subst, inl, inr, arith, append_assoc, length-append, length-drop, Option}
-use Rattle.std.proofs.lemmas.List.{append-nil, take_rest, take-append-drop}
+use Rattle.std.proofs.Common.{◌≡◌, ℕ, zero, suc, ◌+◌, ◌-◌, ◌<◌, ◌≤◌, List, [], ◌∷◌, ◌++◌, length, take, drop, get_or, refl, ap, sym, ◌∙◌, subst, inl, inr, arith, append_assoc, length-drop, Option}
+use Rattle.std.proofs.lemmas.List.{append-nil, take_rest, take-append-drop, get_or_past}
+use Rattle.std.proofs.lemmas.Bool.{cases_lt}
 use Rattle.model.specs.Messages.{Field}
 use Rattle.model.specs.Integers.{BeginsNoInt}
-use Rattle.model.specs.Tables.{Table, resized, first_maximum}
-use Rattle.model.specs.Blocks.{Represents, AreFields, AreMaxima, IsNewMaximum, IsBlock, Block, NoBlock}
+use Rattle.model.specs.Tables.{Table, resized}
+use Rattle.model.specs.Blocks.{Represents, AreFields, AreMaxima, IsNewMaximum, IsBlock, NoBlock}
 use Rattle.model.proofs.IntegerLemmas.{one_int}
 use Rattle.model.proofs.BlockLemmas.{head_mark, cancel}
 use Rattle.model.proofs.BlockLaws.{one_field, none_longer, field_some, field_head, maximum_apart, fields_apart}
 use Rattle.hpack_int.specs.Reading.{ReadsValue}
-use Rattle.header_blocks.specs.Represented.{BeginsNoField, BeginsNoMaximum}
-use Rattle.header_blocks.specs.Decoding.{TakesMaxima, GathersFrom}
+use Rattle.header_blocks.specs.Represented.{BeginsNoField, BeginsNoMaximum, TakesField}
+use Rattle.header_blocks.specs.Decoding.{TakesMaxima, GathersFrom, Settles}
+use Rattle.header_blocks.specs.Everywhere.{Holds}
+use Rattle.header_blocks.specs.declared.fields.Taken.{Taken}
+use Rattle.header_blocks.proofs.Chained.{gathers_start, gathers_field}
+use Rattle.header_blocks.proofs.Gathered.{within_rest}
 use Rattle.header_blocks.proofs.Refused.{same_value}
 
 nothing_left : (x z : List ℕ) → 0 < length z → x ++ z ≡ [] → ⊥
@@ -102,7 +107,10 @@ no_maxima_on first now block start p within low high none =
     (λ e. subst BeginsNoMaximum (take_rest block start) none)
 
 pub maxima_end : (block : List ℕ) (start : ℕ) → (start < length block → (32 ≤ get_or block start 0) × (get_or block start 0 < 64) → ⊥) → start ≤ length block → BeginsNoMaximum (drop start block)
-maxima_end block start never within = no_maximum_at (drop start block) (λ h. let at = get_drop block start in ?)
+maxima_end block start never within = no_maximum_at (drop start block) (λ h. let at = get_drop block start in elim (cases_lt start (length block)) [
+  | inl less ↦ never less (omega (arith, at, h.0), omega (arith, at, h.1))
+  | inr past ↦ (let gone : get_or block start 0 ≡ 0 = get_or_past block start 0 past in omega (arith, at, gone, h.0))
+])
 
 -- a block whose fields can't be read on
 pub no_fields_on : (first now : Table) (block : List ℕ) (start cap : ℕ) (kept : List Field) (room : Option ℕ) (g : GathersFrom first (take start block) cap kept room now) → start < length block
@@ -117,3 +125,27 @@ late_on first now block start cap kept room g within low high fresh =
     let at = get_drop block start in
     no_block first now (take start block) (drop start block) block g.maxima g.all g.is_block (sym (take-append-drop start block)) (left_some block start within)
     (no_field_at now (drop start block) (omega (arith, at)) (omega (arith, at))) fresh
+
+-- what the loop over fields keeps
+pub record Decoding (first : Table) (block : List ℕ) (start cap : ℕ) (kept : List Field) (room : Option ℕ) (now : Table) : Type 0 where
+  pub within : start ≤ length block
+  pub gathers : GathersFrom first (take start block) cap kept room now
+  pub fresh : gathers.all ≡ [] → BeginsNoMaximum (drop start block)
+
+pub decoding_start : (first now : Table) (block : List ℕ) (start cap : ℕ) (kept : List Field) (room : Option ℕ) → TakesMaxima first block start now → BeginsNoMaximum (drop start block) → Holds cap [] kept room → Decoding first block start cap kept room now
+decoding_start first now block start cap kept room p ends h = record { within = p.within; gathers = gathers_start first now block start cap kept room p h; fresh = λ e. ends }
+
+last_of : (all : List Field) (field : Field) → all ++ field ∷ [] ≡ [] → ⊥
+last_of [] field e = cc
+last_of (f ∷ all) field e = cc
+
+pub decoding_field : (first now next : Table) (block : List ℕ) (start cap : ℕ) (taken : Taken) (kept more : List Field) (room rest : Option ℕ) → Decoding first block start cap kept room now
+    → TakesField now (take (length block - start) (drop start block)) taken → Settles taken now next kept room more rest → Decoding first block (start + taken.used) cap more rest next
+decoding_field first now next block start cap taken kept more room rest d t s =
+    let fits = within_rest block start taken.used t.within in
+    let within = d.within in
+    record {
+      within = omega (arith, fits, within);
+      gathers = gathers_field first now next block start cap taken kept more room rest d.gathers t s;
+      fresh = λ e. absurd (last_of d.gathers.all taken.field e);
+    }

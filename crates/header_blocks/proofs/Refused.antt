@@ -1,16 +1,16 @@
 -- What can't be read begins with nothing that can.
-use Rattle.std.proofs.Common.{◌≡◌, ℕ, zero, suc, ◌+◌, ◌-◌, ◌/◌, ◌%◌, ◌^◌, ◌<◌, ◌≤◌, ◌⊎◌, List, [], ◌∷◌, ◌++◌, length, take, drop, get_or, Result, Ok, Err, IfErr, Option, Some, None, refl, ap, sym, ◌∙◌, subst, inl, inr, arith, append_assoc, length-append, length-drop}
-use Rattle.std.proofs.lemmas.List.{append-nil, take_rest, take-append-drop, append_cancel_left}
+use Rattle.std.proofs.Common.{◌≡◌, ℕ, zero, suc, ◌+◌, ◌-◌, ◌<◌, ◌≤◌, ◌⊎◌, List, [], ◌∷◌, ◌++◌, length, take, drop, get_or, Result, Ok, Err, IfErr, Option, Some, None, IfNone, refl, ap, sym, ◌∙◌, subst, inl, inr, arith, append_assoc, length-append, length-drop}
+use Rattle.std.proofs.lemmas.List.{append-nil, take_rest, take-append-drop}
 use Rattle.std.proofs.Math.Seq.{take-append_seam}
 use Rattle.model.specs.Messages.{Field}
-use Rattle.model.specs.Integers.{IsInt, IsMarkedInt, BeginsNoInt}
+use Rattle.model.specs.Integers.{IsInt, BeginsNoInt}
 use Rattle.model.specs.Huffman.{Huff}
 use Rattle.model.specs.Tables.{Table, look_up}
-use Rattle.model.specs.Blocks.{IsString, IsRawString, IsHuffmanString, IsNewName, IsNameOfEntry, IsLiteral, Represents, IsNewMaximum}
+use Rattle.model.specs.Blocks.{IsNewName, IsNameOfEntry, IsLiteral}
 use Rattle.model.proofs.IntegerLemmas.{one_int}
 use Rattle.model.proofs.BlockLemmas.{head_mark, cancel, literal_head, one_name}
 use Rattle.hpack_int.specs.Reading.{ReadsValue, IsBad}
-use Rattle.header_blocks.specs.Represented.{UnlessMemory, BeginsNoString, BeginsNoName, BeginsNoLiteral, BeginsNoField, BeginsNoMaximum, TakesString, TakesName}
+use Rattle.header_blocks.specs.Represented.{UnlessMemory, BeginsNoString, BeginsNoName, BeginsNoLiteral, BeginsNoField, TakesName}
 use Rattle.header_blocks.specs.declared.faults.DecodeFault.{DecodeFault}
 use Rattle.header_blocks.specs.declared.faults.DecodeFault.TheVariants.{Integer, Text, Index, Maximum, Late, Cut, Memory}
 
@@ -84,7 +84,7 @@ bad_string octets number start p high none = λ front rest string e s. elim s [
       let same : number ≡ length q.text = same_value 7 octets number start p q.header (q.text ++ rest) (length q.text) q.number.int whole in
       let tail : drop start octets ≡ q.text ++ rest = behind 7 octets number start p q.header (q.text ++ rest) (length q.text) q.number.int whole in
       let text : take number (take (length octets - start) (drop start octets)) ≡ q.text =
-          ap (take number) (take_rest octets start ∙ tail) ∙ ap (λ n. take n (q.text ++ rest)) same ∙ take-append_seam q.text rest in
+      ap (take number) (take_rest octets start ∙ tail) ∙ ap (λ n. take n (q.text ++ rest)) same ∙ take-append_seam q.text rest in
       none string (subst (λ t. Huff t string) (sym text) q.huffman))
 ]
 
@@ -144,7 +144,7 @@ no_literal_value table prefix octets index start name name_length p n none = λ 
     let tail : drop start octets ≡ l.name_octets ++ (l.value_octets ++ rest) = behind prefix octets index start p l.index_octets (l.name_octets ++ (l.value_octets ++ rest)) l.index l.marked.int whole in
     let n2 : TakesName table index (drop start octets) name name_length = subst (λ t. TakesName table index t name name_length) (take_rest octets start) n in
     let names = one_name table index l.index (take name_length (drop start octets)) l.name_octets (drop name_length (drop start octets)) (l.value_octets ++ rest) name field.name same n2.is_name l.name
-        (take-append-drop name_length (drop start octets) ∙ tail) in
+    (take-append-drop name_length (drop start octets) ∙ tail) in
     let last : drop name_length (drop start octets) ≡ l.value_octets ++ rest = cancel (take name_length (drop start octets)) l.name_octets (drop name_length (drop start octets)) (l.value_octets ++ rest) names.0 (take-append-drop name_length (drop start octets) ∙ tail) in
     let dropped : drop (start + name_length) octets ≡ drop name_length (drop start octets) = drop_add start name_length octets in
     none l.value_octets rest field.value (take_rest octets (start + name_length) ∙ dropped ∙ last) l.string
@@ -188,3 +188,7 @@ no_other table octets low none = λ front rest field next e r.
       | inr (inr (inl p)) ↦ none 0 front rest field e p.literal
       | inr (inr (inr p)) ↦ none 1 front rest field e p.literal
     ]
+
+pub if_none : {X : Type 0} (o : Option X) (P : Type 0) → P → IfNone o P
+if_none None P p = p
+if_none (Some x) P p = tt

@@ -1,7 +1,10 @@
 //! The decoder of a direction, with its table.
 
-ghost use Rattle.std.specs.Prelude.{◌≡◌, [], ℕ, List, ◌∷◌, ◌++◌, IfOk, IfErr, IfSome, OnOk, Some, None, Err};
+ghost use Rattle.std.specs.Prelude.{◌≡◌, [], ℕ, List, ◌∷◌, ◌++◌, IfOk, IfErr, IfNone, IfSome, OnOk, Some, None, Err};
 ghost use Rattle.model.specs.Messages.{Field as FieldLine};
+ghost use Rattle.model.specs.Blocks.{NoBlock};
+ghost use Rattle.header_blocks.specs.Represented.{UnlessMemory};
+ghost use Rattle.header_blocks.specs.declared.faults.DecodeFault.TheVariants.{Memory};
 ghost use Rattle.header_blocks.specs.Decoding.{DecodesFrom, Settles};
 
 use crate::faults::DecodeFault;
@@ -53,6 +56,7 @@ impl TableDecoder {
         cap: usize,
     ) -> Result<Decoded, DecodeFault>
         ensures decoded { IfOk result (λ decoded. DecodesFrom self.old.table block.now cap self.new.table decoded) }
+        ensures no_block { IfNone self.old.fault (IfErr result (λ fault. UnlessMemory fault (NoBlock self.old.table block.now))) }
         ensures goes_on { OnOk result ((self.old.fault ≡ None) × (self.new.fault ≡ None)) }
         ensures fault_stays { IfErr result (λ fault. self.new.fault ≡ Some fault) }
         ensures faulted { IfSome self.old.fault (λ fault. result ≡ Err fault) }
@@ -75,7 +79,8 @@ fn decode_block(
     block: &[u8],
     cap: usize,
 ) -> Result<Decoded, DecodeFault>
-    ensures { IfOk result (λ decoded. DecodesFrom table.old block.now cap table.new decoded) }
+    ensures decoded { IfOk result (λ decoded. DecodesFrom table.old block.now cap table.new decoded) }
+    ensures none { IfErr result (λ fault. UnlessMemory fault (NoBlock table.old block.now)) }
 {
     let mut start = take_maxima(table, block)?;
     let mut gathering = Gathering::new(alloc, cap);
@@ -98,7 +103,8 @@ fn settle(
     table: &mut Table,
     gathering: &mut Gathering,
 ) -> Result<(), DecodeFault>
-    ensures { OnOk result (Settles taken table.old table.new gathering.old.fields.items gathering.old.room gathering.new.fields.items gathering.new.room) }
+    ensures settled { OnOk result (Settles taken table.old table.new gathering.old.fields.items gathering.old.room gathering.new.fields.items gathering.new.room) }
+    ensures memory { IfErr result (λ fault. fault ≡ Memory) }
 {
     if taken.inserts {
         table.add(taken.field.copy(alloc)?)?;

@@ -1,10 +1,10 @@
 -- What has a fault is no Huffman text.
-use Rattle.std.proofs.Common.{◌≡◌, ℕ, ◌<◌, List, [], ◌∷◌, ◌++◌, refl, ap, sym, ◌∙◌, arith, append_assoc}
+use Rattle.std.proofs.Common.{◌≡◌, ℕ, ◌<◌, List, [], ◌∷◌, ◌++◌, refl, ap, sym, ◌∙◌, append_assoc}
 use Rattle.std.specs.Prelude.{replicate}
 use Rattle.std.proofs.lemmas.List.{append_cancel_left}
-use Rattle.model.specs.Huffman.{octet_bits, IsCode, AreCodes, Huff}
+use Rattle.model.specs.Huffman.{octet_bits, AreCodes, Huff}
 use Rattle.model.proofs.HuffmanLemmas.{one_code, not_padding}
-use Rattle.huffman.specs.Decoding.{BeginsWith, LongestRun, EndsString, IsBadlyPadded, IsFaultOf}
+use Rattle.huffman.specs.Decoding.{BeginsWith, LongestRun, IsFaultOf}
 use Rattle.huffman.specs.declared.decoder.HuffFault.{HuffFault}
 use Rattle.huffman.specs.declared.decoder.HuffFault.TheVariants.{Eos, Padding, Memory}
 
@@ -20,7 +20,7 @@ rest_is coded rest (o ∷ string) c [] k p ends q hk e =
     absurd (not_padding o p.0 (p.1 ++ rest) k p.3 hk whole)
 rest_is coded rest (o ∷ string) c (u ∷ s) k p ends q hk e =
     let whole : p.0 ++ (p.1 ++ rest) ≡ q.0 ++ (q.1 ++ replicate k 1) =
-        sym (append_assoc p.0 p.1 rest) ∙ sym (ap (λ l. l ++ rest) p.4) ∙ e ∙ ap (λ l. l ++ replicate k 1) q.4 ∙ append_assoc q.0 q.1 (replicate k 1) in
+    sym (append_assoc p.0 p.1 rest) ∙ sym (ap (λ l. l ++ rest) p.4) ∙ e ∙ ap (λ l. l ++ replicate k 1) q.4 ∙ append_assoc q.0 q.1 (replicate k 1) in
     let same = one_code o u p.0 q.0 (p.1 ++ rest) (q.1 ++ replicate k 1) p.3 q.3 whole in
     let more = append_cancel_left q.0 (p.1 ++ rest) (q.1 ++ replicate k 1) (ap (λ l. l ++ (p.1 ++ rest)) (sym same.1) ∙ whole) in
     rest_is p.1 rest string q.1 s k p.5 ends q.5 hk more

@@ -1,6 +1,6 @@
-use Rattle.std.proofs.Common.{ℕ, arith, subst, inl, inr}
+use Rattle.std.proofs.Common.{arith, subst, inl, inr}
 use Rattle.std.proofs.lemmas.Result.{err_from_is_err_and}
-use Rattle.header_blocks.specs.Represented.{UnlessMemory, BeginsNoLiteral, BeginsNoField}
+use Rattle.header_blocks.specs.Represented.{UnlessMemory, BeginsNoLiteral}
 use Rattle.header_blocks.proofs.Refused.{unless_weaker, no_inserted, no_other}
 use Rattle.header_blocks.proofs.fields.take_field.Goals as goal
 use Rattle.header_blocks.proofs.fields.take_field.Goals.{then-inserts, else-inserts}

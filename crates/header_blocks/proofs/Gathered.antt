@@ -46,7 +46,7 @@ no_room field kept more (Some r) None room is fits e cap all h =
     ]
 
 -- a representation more
-fields_then : (table next last : Table) (a b : List ℕ) (fields : List Field) (field : Field) → AreFields table a fields next → Represents next b field last → AreFields table (a ++ b) (fields ++ field ∷ []) last
+pub fields_then : (table next last : Table) (a b : List ℕ) (fields : List Field) (field : Field) → AreFields table a fields next → Represents next b field last → AreFields table (a ++ b) (fields ++ field ∷ []) last
 fields_then table next last a b [] field p r = (b, [], last, ap (λ o. o ++ b) p.0 ∙ sym (append-nil b), subst (λ t. Represents t b field last) p.1 r, (refl, refl))
 fields_then table next last a b (first ∷ fields) field p r =
     (p.0, p.1 ++ b, p.2, ap (λ o. o ++ b) p.3 ∙ append_assoc p.0 p.1 b, p.4, fields_then p.2 next last p.1 b fields field p.5 r)

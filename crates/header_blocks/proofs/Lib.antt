@@ -1,3 +1,6 @@
-pub mod StaticTable
 pub mod Spelled
 pub mod Gathered
+pub mod Taken
+pub mod Chained
+pub mod Refused
+pub mod NoBlocks

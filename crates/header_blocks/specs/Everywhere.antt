@@ -70,3 +70,10 @@ pub record PassesCap (block : List ℕ) (cap : ℕ) : Type 0 where
 abbrev pub Decodes : List ℕ → ℕ → Decoded → Type 0
 Decodes block cap (Fields fields) = HasFields block cap fields.items
 Decodes block cap TooLarge = PassesCap block cap
+
+-- what is answered once all fields are gathered
+abbrev pub Finishes : List Field → Option ℕ → Decoded → Type 0
+Finishes kept (Some room) (Fields fields) = fields.items ≡ kept
+Finishes kept (Some room) TooLarge = ⊥
+Finishes kept None (Fields fields) = ⊥
+Finishes kept None TooLarge = Unit {0}

@@ -2,7 +2,7 @@
 
 ghost use Rattle.std.specs.Prelude.{ℕ, List, [], ◌∷◌, ◌++◌, IfOk, OnOk};
 ghost use Rattle.model.specs.Messages.{Field as FieldLine};
-ghost use Rattle.header_blocks.specs.Everywhere.{Decodes, Gathers, Holds};
+ghost use Rattle.header_blocks.specs.Everywhere.{Decodes, Finishes, Gathers, Holds};
 
 use crate::fault::BlockFault;
 use crate::literals::read_field;
@@ -20,14 +20,14 @@ pub enum Decoded {
 
 /// The fields of a block so far, as long as their sizes leave room.
 #[derive(Drop)]
-struct Gathering {
-    fields: Vec<Field>,
-    room: Option<usize>,
+pub struct Gathering {
+    pub fields: Vec<Field>,
+    pub room: Option<usize>,
 }
 
 impl Gathering {
     /// No fields, with room for sizes that sum to so much.
-    fn new(alloc: Global, cap: usize) -> Gathering
+    pub fn new(alloc: Global, cap: usize) -> Gathering
         ensures { Holds cap [] result.fields.items result.room }
     {
         Gathering {
@@ -37,7 +37,7 @@ impl Gathering {
     }
 
     /// Adds the next field. Once one doesn't fit, none is kept.
-    fn add(&mut self, field: Field) -> Result<(), AllocError>
+    pub fn add(&mut self, field: Field) -> Result<(), AllocError>
         ensures { OnOk result ((cap : ℕ) (all : List FieldLine) → Holds cap all self.old.fields.items self.old.room → Holds cap (all ++ field ∷ []) self.new.fields.items self.new.room) }
     {
         let Some(room) = self.room else {
@@ -53,8 +53,9 @@ impl Gathering {
     }
 
     /// All fields, or that they don't fit.
-    fn finish(self) -> Decoded
-        ensures { (block : List ℕ) (cap : ℕ) → Gathers block cap self.fields.items self.room → Decodes block cap result }
+    pub fn finish(self) -> Decoded
+        ensures gathered { (block : List ℕ) (cap : ℕ) → Gathers block cap self.fields.items self.room → Decodes block cap result }
+        ensures finished { Finishes self.fields.items self.room result }
     {
         match self.room {
             Some(_) => Decoded::Fields(self.fields),

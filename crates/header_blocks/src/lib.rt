@@ -3,13 +3,19 @@
 
 mod decoder;
 mod fault;
+mod faults;
+mod fields;
 mod gather;
 mod literals;
-mod static_table;
+mod maxima;
+mod strings;
 #[cfg(test)]
 mod tests;
+mod whole;
 
 pub use crate::decoder::Decoder;
 pub use crate::fault::BlockFault;
+pub use crate::faults::DecodeFault;
 pub use crate::gather::Decoded;
+pub use crate::whole::TableDecoder;
 pub use hpack_table::Field;

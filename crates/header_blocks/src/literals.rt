@@ -5,9 +5,8 @@ ghost use Rattle.model.specs.Tables.{static_table};
 ghost use Rattle.header_blocks.specs.Everywhere.{ReadsString, ReadsName, ReadsLiteral, ReadsField};
 
 use crate::fault::BlockFault;
-use crate::static_table::static_entry;
 use hpack_int::{IntRead, read};
-use hpack_table::Field;
+use hpack_table::{Field, static_entry};
 use std::alloc::Global;
 
 /// The string at the front of octets, and how many octets it takes (RFC 7541, section 5.2).

@@ -1,4 +1,5 @@
 use super::*;
+use std::alloc::Global;
 use std::test::*;
 
 /// The octets `828684410f7777772e6578616d706c652e636f6d` of RFC 7541, appendix C.3.1.
@@ -69,4 +70,98 @@ fn a_list_past_the_maximum_is_too_large(rt: HostRuntime) -> Result<(), Fail> {
         )
     );
     Ok(())
+}
+
+/// Whether a block decodes to fields of these names and values.
+fn decodes_to(
+    decoder: &mut TableDecoder,
+    alloc: Global,
+    block: &[u8],
+    wanted: &[(&[u8], &[u8])],
+) -> bool {
+    let Ok(Decoded::Fields(fields)) = decoder.decode(alloc, block, 16384) else {
+        return false;
+    };
+    if fields.len() != wanted.len() {
+        return false;
+    }
+    for (i, field) in fields.iter().enumerate() {
+        let Some((name, value)) = wanted.get(i) else {
+            return false;
+        };
+        if !is_field(field, name, value) {
+            return false;
+        }
+    }
+    true
+}
+
+// RFC 7541, appendix C.4.
+#[test]
+fn blocks_share_a_table(rt: HostRuntime) {
+    let alloc = rt.alloc();
+    let mut decoder = TableDecoder::new(alloc, 4096);
+    let first = b"\x82\x86\x84\x41\x8c\xf1\xe3\xc2\xe5\xf2\x3a\x6b\xa0\xab\x90\xf4\xff";
+    let fields = [
+        (b":method".as_slice(), b"GET".as_slice()),
+        (b":scheme".as_slice(), b"http".as_slice()),
+        (b":path".as_slice(), b"/".as_slice()),
+        (b":authority".as_slice(), b"www.example.com".as_slice()),
+    ];
+    assert!(rt; decodes_to(&mut decoder, alloc, first, &fields));
+    let second = b"\x82\x86\x84\xbe\x58\x86\xa8\xeb\x10\x64\x9c\xbf";
+    assert!(rt; decoder.decode(alloc, second, 16384).is_ok());
+    let third =
+        b"\x82\x87\x85\xbf\x40\x88\x25\xa8\x49\xe9\x5b\xa9\x7d\x7f\x89\x25\xa8\x49\xe9\x5b\xb8\xe8\xb4\xbf";
+    let fields = [
+        (b":method".as_slice(), b"GET".as_slice()),
+        (b":scheme".as_slice(), b"https".as_slice()),
+        (b":path".as_slice(), b"/index.html".as_slice()),
+        (b":authority".as_slice(), b"www.example.com".as_slice()),
+        (b"custom-key".as_slice(), b"custom-value".as_slice()),
+    ];
+    assert!(rt; decodes_to(&mut decoder, alloc, third, &fields));
+}
+
+#[test]
+fn a_name_may_be_of_an_entry_that_goes(rt: HostRuntime) {
+    let alloc = rt.alloc();
+    let mut decoder = TableDecoder::new(alloc, 4096);
+    let block =
+        b"\x3f\x1a\x41\x0f\x77\x77\x77\x2e\x65\x78\x61\x6d\x70\x6c\x65\x2e\x63\x6f\x6d\x7e\x01\x62";
+    let fields = [
+        (b":authority".as_slice(), b"www.example.com".as_slice()),
+        (b":authority".as_slice(), b"b".as_slice()),
+    ];
+    assert!(rt; decodes_to(&mut decoder, alloc, block, &fields));
+    assert!(rt; decodes_to(&mut decoder, alloc, b"\xbe", &fields[1..]));
+    assert!(rt; decoder.decode(alloc, b"\xbf", 16384).is_err());
+}
+
+/// The fault that a fresh decoder answers to a block.
+fn fault_of(alloc: Global, block: &[u8]) -> Option<DecodeFault> {
+    TableDecoder::new(alloc, 4096)
+        .decode(alloc, block, 16384)
+        .err()
+}
+
+#[test]
+fn each_fault_is_told(rt: HostRuntime) {
+    let alloc = rt.alloc();
+    assert_eq!(rt;
+        fault_of(alloc, b"\xff\x80\x80\x80\x80\x80"),
+        Some(DecodeFault::Integer)
+    );
+    assert_eq!(rt; fault_of(alloc, b"\x41\x81\x00"), Some(DecodeFault::Text));
+    assert_eq!(rt; fault_of(alloc, b"\x80"), Some(DecodeFault::Index));
+    assert_eq!(rt; fault_of(alloc, b"\xbe"), Some(DecodeFault::Index));
+    assert_eq!(rt;
+        fault_of(alloc, b"\x3f\xe2\x1f"),
+        Some(DecodeFault::Maximum)
+    );
+    assert_eq!(rt; fault_of(alloc, b"\x82\x20"), Some(DecodeFault::Late));
+    assert_eq!(rt;
+        fault_of(alloc, b"\x41\x0f\x77\x77"),
+        Some(DecodeFault::Cut)
+    );
 }

@@ -1,1 +1,3 @@
+pub use Rattle.model.specs.Tables
 pub use Rattle.model.specs.Messages
+pub mod Finding

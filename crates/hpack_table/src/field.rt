@@ -44,13 +44,14 @@ impl Field {
         &self.value
     }
 
-    /// The same field once more; an error where memory is refused.
-    pub fn copy(&self, alloc: Global) -> Result<Self, AllocError>
+    /// A copy of the field.
+    pub fn copy(&self, alloc: Global) -> Result<Field, AllocError>
         ensures { IfOk result (λ field. field ≡ self.now) }
     {
-        let name = Vec::from_slice(alloc, &self.name)?;
-        let value = Vec::from_slice(alloc, &self.value)?;
-        Ok(Field { name, value })
+        Ok(Field {
+            name: Vec::from_slice(alloc, &self.name)?,
+            value: Vec::from_slice(alloc, &self.value)?,
+        })
     }
 
     /// What is left of the room for sizes behind this field; its size is the octets of its name, those of its value, and

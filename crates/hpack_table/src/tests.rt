@@ -1,14 +1,55 @@
 use super::*;
-use std::test::*;
+use std::alloc::{AllocError, Global};
+use std::test::Fail;
+
+fn field(alloc: Global, name: &[u8], value: &[u8]) -> Result<Field, AllocError> {
+    Ok(Field::new(
+        Vec::from_slice(alloc, name)?,
+        Vec::from_slice(alloc, value)?,
+    ))
+}
+
+/// Whether the table has this entry at the index.
+fn has(table: &Table, index: u32, name: &[u8], value: &[u8]) -> bool {
+    match table.get(index) {
+        Some((entry_name, entry_value)) => entry_name == name && entry_value == value,
+        None => false,
+    }
+}
 
 #[test]
-fn a_field_keeps_its_parts(rt: HostRuntime) -> Result<(), Fail> {
+fn the_oldest_go(rt: HostRuntime) -> Result<(), Fail> {
     let alloc = rt.alloc();
-    let name = Vec::from_slice(alloc, b"accept")?;
-    let value = Vec::from_slice(alloc, b"*/*")?;
-    let field = Field::new(name, value);
-    let same = field.copy(alloc)?;
-    assert_eq!(rt; same.name(), b"accept".as_slice());
-    assert_eq!(rt; same.value(), b"*/*".as_slice());
+    let mut table = Table::new(alloc, 100);
+    assert!(rt; has(&table, 2, b":method", b"GET"));
+    assert!(rt; has(&table, 61, b"www-authenticate", b""));
+    assert!(rt; table.get(0).is_none());
+    assert!(rt; table.get(62).is_none());
+    table.add(field(alloc, b"a", b"1")?)?;
+    table.add(field(alloc, b"b", b"2")?)?;
+    assert!(rt; has(&table, 62, b"b", b"2"));
+    assert!(rt; has(&table, 63, b"a", b"1"));
+    table.add(field(alloc, b"c", b"3")?)?;
+    assert!(rt; has(&table, 63, b"b", b"2"));
+    assert!(rt; table.get(64).is_none());
+    table.set_max(40);
+    assert!(rt; has(&table, 62, b"c", b"3"));
+    assert!(rt; table.get(63).is_none());
+    table.add(field(alloc, b"a-large-name", b"")?)?;
+    assert!(rt; table.get(62).is_none());
+    Ok(())
+}
+
+#[test]
+fn fields_are_found(rt: HostRuntime) -> Result<(), Fail> {
+    let alloc = rt.alloc();
+    let mut table = Table::new(alloc, 4096);
+    assert_eq!(rt; table.find(b":path", b"/"), Found::Both(4));
+    assert_eq!(rt; table.find(b":path", b"/x"), Found::Name(4));
+    assert_eq!(rt; table.find(b"x-a", b"1"), Found::Absent);
+    table.add(field(alloc, b"x-a", b"1")?)?;
+    table.add(field(alloc, b"x-a", b"2")?)?;
+    assert_eq!(rt; table.find(b"x-a", b"1"), Found::Both(63));
+    assert_eq!(rt; table.find(b"x-a", b"3"), Found::Name(62));
     Ok(())
 }

@@ -4,3 +4,4 @@ pub mod WordLemmas
 pub mod BitLemmas
 pub mod FlushLemmas
 pub mod CodingLemmas
+pub mod FaultLemmas

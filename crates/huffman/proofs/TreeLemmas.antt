@@ -11,7 +11,8 @@ use Rattle.huffman.specs.Decoding.{IsPadding}
 use Rattle.huffman.specs.Tree.{Leads, path, paths, levels, level_paths}
 use Rattle.huffman.specs.declared.tree.Branch.{Branch}
 use Rattle.huffman.specs.declared.tree.Branch.TheVariants.{Node, Symbol, End}
-use Rattle.huffman.specs.declared.tree.TheConstants.{ZEROS, ONES}
+use Rattle.huffman.specs.declared.zeros.TheConstants.{ZEROS}
+use Rattle.huffman.specs.declared.ones.TheConstants.{ONES}
 
 nodes : length paths ≡ 256
 unfolding paths levels level_paths bits

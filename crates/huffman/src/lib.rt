@@ -3,10 +3,12 @@
 
 mod decoder;
 mod encoder;
+mod ones;
 #[cfg(test)]
 mod tests;
 mod tree;
 mod words;
+mod zeros;
 
 pub use crate::decoder::{HuffFault, decode};
 pub use crate::encoder::{encode, encoded_len};

@@ -10,1036 +10,268 @@ pub struct Word {
     pub width: u8,
 }
 
-/// The code of each octet.
-static WORDS: [Word; 256] = [
-    Word {
-        number: 8184,
-        width: 13,
-    },
-    Word {
-        number: 8388568,
-        width: 23,
-    },
-    Word {
-        number: 268435426,
-        width: 28,
-    },
-    Word {
-        number: 268435427,
-        width: 28,
-    },
-    Word {
-        number: 268435428,
-        width: 28,
-    },
-    Word {
-        number: 268435429,
-        width: 28,
-    },
-    Word {
-        number: 268435430,
-        width: 28,
-    },
-    Word {
-        number: 268435431,
-        width: 28,
-    },
-    Word {
-        number: 268435432,
-        width: 28,
-    },
-    Word {
-        number: 16777194,
-        width: 24,
-    },
-    Word {
-        number: 1073741820,
-        width: 30,
-    },
-    Word {
-        number: 268435433,
-        width: 28,
-    },
-    Word {
-        number: 268435434,
-        width: 28,
-    },
-    Word {
-        number: 1073741821,
-        width: 30,
-    },
-    Word {
-        number: 268435435,
-        width: 28,
-    },
-    Word {
-        number: 268435436,
-        width: 28,
-    },
-    Word {
-        number: 268435437,
-        width: 28,
-    },
-    Word {
-        number: 268435438,
-        width: 28,
-    },
-    Word {
-        number: 268435439,
-        width: 28,
-    },
-    Word {
-        number: 268435440,
-        width: 28,
-    },
-    Word {
-        number: 268435441,
-        width: 28,
-    },
-    Word {
-        number: 268435442,
-        width: 28,
-    },
-    Word {
-        number: 1073741822,
-        width: 30,
-    },
-    Word {
-        number: 268435443,
-        width: 28,
-    },
-    Word {
-        number: 268435444,
-        width: 28,
-    },
-    Word {
-        number: 268435445,
-        width: 28,
-    },
-    Word {
-        number: 268435446,
-        width: 28,
-    },
-    Word {
-        number: 268435447,
-        width: 28,
-    },
-    Word {
-        number: 268435448,
-        width: 28,
-    },
-    Word {
-        number: 268435449,
-        width: 28,
-    },
-    Word {
-        number: 268435450,
-        width: 28,
-    },
-    Word {
-        number: 268435451,
-        width: 28,
-    },
-    Word {
-        number: 20,
-        width: 6,
-    },
-    Word {
-        number: 1016,
-        width: 10,
-    },
-    Word {
-        number: 1017,
-        width: 10,
-    },
-    Word {
-        number: 4090,
-        width: 12,
-    },
-    Word {
-        number: 8185,
-        width: 13,
-    },
-    Word {
-        number: 21,
-        width: 6,
-    },
-    Word {
-        number: 248,
-        width: 8,
-    },
-    Word {
-        number: 2042,
-        width: 11,
-    },
-    Word {
-        number: 1018,
-        width: 10,
-    },
-    Word {
-        number: 1019,
-        width: 10,
-    },
-    Word {
-        number: 249,
-        width: 8,
-    },
-    Word {
-        number: 2043,
-        width: 11,
-    },
-    Word {
-        number: 250,
-        width: 8,
-    },
-    Word {
-        number: 22,
-        width: 6,
-    },
-    Word {
-        number: 23,
-        width: 6,
-    },
-    Word {
-        number: 24,
-        width: 6,
-    },
-    Word {
-        number: 0,
-        width: 5,
-    },
-    Word {
-        number: 1,
-        width: 5,
-    },
-    Word {
-        number: 2,
-        width: 5,
-    },
-    Word {
-        number: 25,
-        width: 6,
-    },
-    Word {
-        number: 26,
-        width: 6,
-    },
-    Word {
-        number: 27,
-        width: 6,
-    },
-    Word {
-        number: 28,
-        width: 6,
-    },
-    Word {
-        number: 29,
-        width: 6,
-    },
-    Word {
-        number: 30,
-        width: 6,
-    },
-    Word {
-        number: 31,
-        width: 6,
-    },
-    Word {
-        number: 92,
-        width: 7,
-    },
-    Word {
-        number: 251,
-        width: 8,
-    },
-    Word {
-        number: 32764,
-        width: 15,
-    },
-    Word {
-        number: 32,
-        width: 6,
-    },
-    Word {
-        number: 4091,
-        width: 12,
-    },
-    Word {
-        number: 1020,
-        width: 10,
-    },
-    Word {
-        number: 8186,
-        width: 13,
-    },
-    Word {
-        number: 33,
-        width: 6,
-    },
-    Word {
-        number: 93,
-        width: 7,
-    },
-    Word {
-        number: 94,
-        width: 7,
-    },
-    Word {
-        number: 95,
-        width: 7,
-    },
-    Word {
-        number: 96,
-        width: 7,
-    },
-    Word {
-        number: 97,
-        width: 7,
-    },
-    Word {
-        number: 98,
-        width: 7,
-    },
-    Word {
-        number: 99,
-        width: 7,
-    },
-    Word {
-        number: 100,
-        width: 7,
-    },
-    Word {
-        number: 101,
-        width: 7,
-    },
-    Word {
-        number: 102,
-        width: 7,
-    },
-    Word {
-        number: 103,
-        width: 7,
-    },
-    Word {
-        number: 104,
-        width: 7,
-    },
-    Word {
-        number: 105,
-        width: 7,
-    },
-    Word {
-        number: 106,
-        width: 7,
-    },
-    Word {
-        number: 107,
-        width: 7,
-    },
-    Word {
-        number: 108,
-        width: 7,
-    },
-    Word {
-        number: 109,
-        width: 7,
-    },
-    Word {
-        number: 110,
-        width: 7,
-    },
-    Word {
-        number: 111,
-        width: 7,
-    },
-    Word {
-        number: 112,
-        width: 7,
-    },
-    Word {
-        number: 113,
-        width: 7,
-    },
-    Word {
-        number: 114,
-        width: 7,
-    },
-    Word {
-        number: 252,
-        width: 8,
-    },
-    Word {
-        number: 115,
-        width: 7,
-    },
-    Word {
-        number: 253,
-        width: 8,
-    },
-    Word {
-        number: 8187,
-        width: 13,
-    },
-    Word {
-        number: 524272,
-        width: 19,
-    },
-    Word {
-        number: 8188,
-        width: 13,
-    },
-    Word {
-        number: 16380,
-        width: 14,
-    },
-    Word {
-        number: 34,
-        width: 6,
-    },
-    Word {
-        number: 32765,
-        width: 15,
-    },
-    Word {
-        number: 3,
-        width: 5,
-    },
-    Word {
-        number: 35,
-        width: 6,
-    },
-    Word {
-        number: 4,
-        width: 5,
-    },
-    Word {
-        number: 36,
-        width: 6,
-    },
-    Word {
-        number: 5,
-        width: 5,
-    },
-    Word {
-        number: 37,
-        width: 6,
-    },
-    Word {
-        number: 38,
-        width: 6,
-    },
-    Word {
-        number: 39,
-        width: 6,
-    },
-    Word {
-        number: 6,
-        width: 5,
-    },
-    Word {
-        number: 116,
-        width: 7,
-    },
-    Word {
-        number: 117,
-        width: 7,
-    },
-    Word {
-        number: 40,
-        width: 6,
-    },
-    Word {
-        number: 41,
-        width: 6,
-    },
-    Word {
-        number: 42,
-        width: 6,
-    },
-    Word {
-        number: 7,
-        width: 5,
-    },
-    Word {
-        number: 43,
-        width: 6,
-    },
-    Word {
-        number: 118,
-        width: 7,
-    },
-    Word {
-        number: 44,
-        width: 6,
-    },
-    Word {
-        number: 8,
-        width: 5,
-    },
-    Word {
-        number: 9,
-        width: 5,
-    },
-    Word {
-        number: 45,
-        width: 6,
-    },
-    Word {
-        number: 119,
-        width: 7,
-    },
-    Word {
-        number: 120,
-        width: 7,
-    },
-    Word {
-        number: 121,
-        width: 7,
-    },
-    Word {
-        number: 122,
-        width: 7,
-    },
-    Word {
-        number: 123,
-        width: 7,
-    },
-    Word {
-        number: 32766,
-        width: 15,
-    },
-    Word {
-        number: 2044,
-        width: 11,
-    },
-    Word {
-        number: 16381,
-        width: 14,
-    },
-    Word {
-        number: 8189,
-        width: 13,
-    },
-    Word {
-        number: 268435452,
-        width: 28,
-    },
-    Word {
-        number: 1048550,
-        width: 20,
-    },
-    Word {
-        number: 4194258,
-        width: 22,
-    },
-    Word {
-        number: 1048551,
-        width: 20,
-    },
-    Word {
-        number: 1048552,
-        width: 20,
-    },
-    Word {
-        number: 4194259,
-        width: 22,
-    },
-    Word {
-        number: 4194260,
-        width: 22,
-    },
-    Word {
-        number: 4194261,
-        width: 22,
-    },
-    Word {
-        number: 8388569,
-        width: 23,
-    },
-    Word {
-        number: 4194262,
-        width: 22,
-    },
-    Word {
-        number: 8388570,
-        width: 23,
-    },
-    Word {
-        number: 8388571,
-        width: 23,
-    },
-    Word {
-        number: 8388572,
-        width: 23,
-    },
-    Word {
-        number: 8388573,
-        width: 23,
-    },
-    Word {
-        number: 8388574,
-        width: 23,
-    },
-    Word {
-        number: 16777195,
-        width: 24,
-    },
-    Word {
-        number: 8388575,
-        width: 23,
-    },
-    Word {
-        number: 16777196,
-        width: 24,
-    },
-    Word {
-        number: 16777197,
-        width: 24,
-    },
-    Word {
-        number: 4194263,
-        width: 22,
-    },
-    Word {
-        number: 8388576,
-        width: 23,
-    },
-    Word {
-        number: 16777198,
-        width: 24,
-    },
-    Word {
-        number: 8388577,
-        width: 23,
-    },
-    Word {
-        number: 8388578,
-        width: 23,
-    },
-    Word {
-        number: 8388579,
-        width: 23,
-    },
-    Word {
-        number: 8388580,
-        width: 23,
-    },
-    Word {
-        number: 2097116,
-        width: 21,
-    },
-    Word {
-        number: 4194264,
-        width: 22,
-    },
-    Word {
-        number: 8388581,
-        width: 23,
-    },
-    Word {
-        number: 4194265,
-        width: 22,
-    },
-    Word {
-        number: 8388582,
-        width: 23,
-    },
-    Word {
-        number: 8388583,
-        width: 23,
-    },
-    Word {
-        number: 16777199,
-        width: 24,
-    },
-    Word {
-        number: 4194266,
-        width: 22,
-    },
-    Word {
-        number: 2097117,
-        width: 21,
-    },
-    Word {
-        number: 1048553,
-        width: 20,
-    },
-    Word {
-        number: 4194267,
-        width: 22,
-    },
-    Word {
-        number: 4194268,
-        width: 22,
-    },
-    Word {
-        number: 8388584,
-        width: 23,
-    },
-    Word {
-        number: 8388585,
-        width: 23,
-    },
-    Word {
-        number: 2097118,
-        width: 21,
-    },
-    Word {
-        number: 8388586,
-        width: 23,
-    },
-    Word {
-        number: 4194269,
-        width: 22,
-    },
-    Word {
-        number: 4194270,
-        width: 22,
-    },
-    Word {
-        number: 16777200,
-        width: 24,
-    },
-    Word {
-        number: 2097119,
-        width: 21,
-    },
-    Word {
-        number: 4194271,
-        width: 22,
-    },
-    Word {
-        number: 8388587,
-        width: 23,
-    },
-    Word {
-        number: 8388588,
-        width: 23,
-    },
-    Word {
-        number: 2097120,
-        width: 21,
-    },
-    Word {
-        number: 2097121,
-        width: 21,
-    },
-    Word {
-        number: 4194272,
-        width: 22,
-    },
-    Word {
-        number: 2097122,
-        width: 21,
-    },
-    Word {
-        number: 8388589,
-        width: 23,
-    },
-    Word {
-        number: 4194273,
-        width: 22,
-    },
-    Word {
-        number: 8388590,
-        width: 23,
-    },
-    Word {
-        number: 8388591,
-        width: 23,
-    },
-    Word {
-        number: 1048554,
-        width: 20,
-    },
-    Word {
-        number: 4194274,
-        width: 22,
-    },
-    Word {
-        number: 4194275,
-        width: 22,
-    },
-    Word {
-        number: 4194276,
-        width: 22,
-    },
-    Word {
-        number: 8388592,
-        width: 23,
-    },
-    Word {
-        number: 4194277,
-        width: 22,
-    },
-    Word {
-        number: 4194278,
-        width: 22,
-    },
-    Word {
-        number: 8388593,
-        width: 23,
-    },
-    Word {
-        number: 67108832,
-        width: 26,
-    },
-    Word {
-        number: 67108833,
-        width: 26,
-    },
-    Word {
-        number: 1048555,
-        width: 20,
-    },
-    Word {
-        number: 524273,
-        width: 19,
-    },
-    Word {
-        number: 4194279,
-        width: 22,
-    },
-    Word {
-        number: 8388594,
-        width: 23,
-    },
-    Word {
-        number: 4194280,
-        width: 22,
-    },
-    Word {
-        number: 33554412,
-        width: 25,
-    },
-    Word {
-        number: 67108834,
-        width: 26,
-    },
-    Word {
-        number: 67108835,
-        width: 26,
-    },
-    Word {
-        number: 67108836,
-        width: 26,
-    },
-    Word {
-        number: 134217694,
-        width: 27,
-    },
-    Word {
-        number: 134217695,
-        width: 27,
-    },
-    Word {
-        number: 67108837,
-        width: 26,
-    },
-    Word {
-        number: 16777201,
-        width: 24,
-    },
-    Word {
-        number: 33554413,
-        width: 25,
-    },
-    Word {
-        number: 524274,
-        width: 19,
-    },
-    Word {
-        number: 2097123,
-        width: 21,
-    },
-    Word {
-        number: 67108838,
-        width: 26,
-    },
-    Word {
-        number: 134217696,
-        width: 27,
-    },
-    Word {
-        number: 134217697,
-        width: 27,
-    },
-    Word {
-        number: 67108839,
-        width: 26,
-    },
-    Word {
-        number: 134217698,
-        width: 27,
-    },
-    Word {
-        number: 16777202,
-        width: 24,
-    },
-    Word {
-        number: 2097124,
-        width: 21,
-    },
-    Word {
-        number: 2097125,
-        width: 21,
-    },
-    Word {
-        number: 67108840,
-        width: 26,
-    },
-    Word {
-        number: 67108841,
-        width: 26,
-    },
-    Word {
-        number: 268435453,
-        width: 28,
-    },
-    Word {
-        number: 134217699,
-        width: 27,
-    },
-    Word {
-        number: 134217700,
-        width: 27,
-    },
-    Word {
-        number: 134217701,
-        width: 27,
-    },
-    Word {
-        number: 1048556,
-        width: 20,
-    },
-    Word {
-        number: 16777203,
-        width: 24,
-    },
-    Word {
-        number: 1048557,
-        width: 20,
-    },
-    Word {
-        number: 2097126,
-        width: 21,
-    },
-    Word {
-        number: 4194281,
-        width: 22,
-    },
-    Word {
-        number: 2097127,
-        width: 21,
-    },
-    Word {
-        number: 2097128,
-        width: 21,
-    },
-    Word {
-        number: 8388595,
-        width: 23,
-    },
-    Word {
-        number: 4194282,
-        width: 22,
-    },
-    Word {
-        number: 4194283,
-        width: 22,
-    },
-    Word {
-        number: 33554414,
-        width: 25,
-    },
-    Word {
-        number: 33554415,
-        width: 25,
-    },
-    Word {
-        number: 16777204,
-        width: 24,
-    },
-    Word {
-        number: 16777205,
-        width: 24,
-    },
-    Word {
-        number: 67108842,
-        width: 26,
-    },
-    Word {
-        number: 8388596,
-        width: 23,
-    },
-    Word {
-        number: 67108843,
-        width: 26,
-    },
-    Word {
-        number: 134217702,
-        width: 27,
-    },
-    Word {
-        number: 67108844,
-        width: 26,
-    },
-    Word {
-        number: 67108845,
-        width: 26,
-    },
-    Word {
-        number: 134217703,
-        width: 27,
-    },
-    Word {
-        number: 134217704,
-        width: 27,
-    },
-    Word {
-        number: 134217705,
-        width: 27,
-    },
-    Word {
-        number: 134217706,
-        width: 27,
-    },
-    Word {
-        number: 134217707,
-        width: 27,
-    },
-    Word {
-        number: 268435454,
-        width: 28,
-    },
-    Word {
-        number: 134217708,
-        width: 27,
-    },
-    Word {
-        number: 134217709,
-        width: 27,
-    },
-    Word {
-        number: 134217710,
-        width: 27,
-    },
-    Word {
-        number: 134217711,
-        width: 27,
-    },
-    Word {
-        number: 134217712,
-        width: 27,
-    },
-    Word {
-        number: 67108846,
-        width: 26,
-    },
+/// The number and the width of each octet's code.
+static WORDS: [(u32, u8); 256] = [
+    (8184, 13),
+    (8388568, 23),
+    (268435426, 28),
+    (268435427, 28),
+    (268435428, 28),
+    (268435429, 28),
+    (268435430, 28),
+    (268435431, 28),
+    (268435432, 28),
+    (16777194, 24),
+    (1073741820, 30),
+    (268435433, 28),
+    (268435434, 28),
+    (1073741821, 30),
+    (268435435, 28),
+    (268435436, 28),
+    (268435437, 28),
+    (268435438, 28),
+    (268435439, 28),
+    (268435440, 28),
+    (268435441, 28),
+    (268435442, 28),
+    (1073741822, 30),
+    (268435443, 28),
+    (268435444, 28),
+    (268435445, 28),
+    (268435446, 28),
+    (268435447, 28),
+    (268435448, 28),
+    (268435449, 28),
+    (268435450, 28),
+    (268435451, 28),
+    (20, 6),
+    (1016, 10),
+    (1017, 10),
+    (4090, 12),
+    (8185, 13),
+    (21, 6),
+    (248, 8),
+    (2042, 11),
+    (1018, 10),
+    (1019, 10),
+    (249, 8),
+    (2043, 11),
+    (250, 8),
+    (22, 6),
+    (23, 6),
+    (24, 6),
+    (0, 5),
+    (1, 5),
+    (2, 5),
+    (25, 6),
+    (26, 6),
+    (27, 6),
+    (28, 6),
+    (29, 6),
+    (30, 6),
+    (31, 6),
+    (92, 7),
+    (251, 8),
+    (32764, 15),
+    (32, 6),
+    (4091, 12),
+    (1020, 10),
+    (8186, 13),
+    (33, 6),
+    (93, 7),
+    (94, 7),
+    (95, 7),
+    (96, 7),
+    (97, 7),
+    (98, 7),
+    (99, 7),
+    (100, 7),
+    (101, 7),
+    (102, 7),
+    (103, 7),
+    (104, 7),
+    (105, 7),
+    (106, 7),
+    (107, 7),
+    (108, 7),
+    (109, 7),
+    (110, 7),
+    (111, 7),
+    (112, 7),
+    (113, 7),
+    (114, 7),
+    (252, 8),
+    (115, 7),
+    (253, 8),
+    (8187, 13),
+    (524272, 19),
+    (8188, 13),
+    (16380, 14),
+    (34, 6),
+    (32765, 15),
+    (3, 5),
+    (35, 6),
+    (4, 5),
+    (36, 6),
+    (5, 5),
+    (37, 6),
+    (38, 6),
+    (39, 6),
+    (6, 5),
+    (116, 7),
+    (117, 7),
+    (40, 6),
+    (41, 6),
+    (42, 6),
+    (7, 5),
+    (43, 6),
+    (118, 7),
+    (44, 6),
+    (8, 5),
+    (9, 5),
+    (45, 6),
+    (119, 7),
+    (120, 7),
+    (121, 7),
+    (122, 7),
+    (123, 7),
+    (32766, 15),
+    (2044, 11),
+    (16381, 14),
+    (8189, 13),
+    (268435452, 28),
+    (1048550, 20),
+    (4194258, 22),
+    (1048551, 20),
+    (1048552, 20),
+    (4194259, 22),
+    (4194260, 22),
+    (4194261, 22),
+    (8388569, 23),
+    (4194262, 22),
+    (8388570, 23),
+    (8388571, 23),
+    (8388572, 23),
+    (8388573, 23),
+    (8388574, 23),
+    (16777195, 24),
+    (8388575, 23),
+    (16777196, 24),
+    (16777197, 24),
+    (4194263, 22),
+    (8388576, 23),
+    (16777198, 24),
+    (8388577, 23),
+    (8388578, 23),
+    (8388579, 23),
+    (8388580, 23),
+    (2097116, 21),
+    (4194264, 22),
+    (8388581, 23),
+    (4194265, 22),
+    (8388582, 23),
+    (8388583, 23),
+    (16777199, 24),
+    (4194266, 22),
+    (2097117, 21),
+    (1048553, 20),
+    (4194267, 22),
+    (4194268, 22),
+    (8388584, 23),
+    (8388585, 23),
+    (2097118, 21),
+    (8388586, 23),
+    (4194269, 22),
+    (4194270, 22),
+    (16777200, 24),
+    (2097119, 21),
+    (4194271, 22),
+    (8388587, 23),
+    (8388588, 23),
+    (2097120, 21),
+    (2097121, 21),
+    (4194272, 22),
+    (2097122, 21),
+    (8388589, 23),
+    (4194273, 22),
+    (8388590, 23),
+    (8388591, 23),
+    (1048554, 20),
+    (4194274, 22),
+    (4194275, 22),
+    (4194276, 22),
+    (8388592, 23),
+    (4194277, 22),
+    (4194278, 22),
+    (8388593, 23),
+    (67108832, 26),
+    (67108833, 26),
+    (1048555, 20),
+    (524273, 19),
+    (4194279, 22),
+    (8388594, 23),
+    (4194280, 22),
+    (33554412, 25),
+    (67108834, 26),
+    (67108835, 26),
+    (67108836, 26),
+    (134217694, 27),
+    (134217695, 27),
+    (67108837, 26),
+    (16777201, 24),
+    (33554413, 25),
+    (524274, 19),
+    (2097123, 21),
+    (67108838, 26),
+    (134217696, 27),
+    (134217697, 27),
+    (67108839, 26),
+    (134217698, 27),
+    (16777202, 24),
+    (2097124, 21),
+    (2097125, 21),
+    (67108840, 26),
+    (67108841, 26),
+    (268435453, 28),
+    (134217699, 27),
+    (134217700, 27),
+    (134217701, 27),
+    (1048556, 20),
+    (16777203, 24),
+    (1048557, 20),
+    (2097126, 21),
+    (4194281, 22),
+    (2097127, 21),
+    (2097128, 21),
+    (8388595, 23),
+    (4194282, 22),
+    (4194283, 22),
+    (33554414, 25),
+    (33554415, 25),
+    (16777204, 24),
+    (16777205, 24),
+    (67108842, 26),
+    (8388596, 23),
+    (67108843, 26),
+    (134217702, 27),
+    (67108844, 26),
+    (67108845, 26),
+    (134217703, 27),
+    (134217704, 27),
+    (134217705, 27),
+    (134217706, 27),
+    (134217707, 27),
+    (268435454, 28),
+    (134217708, 27),
+    (134217709, 27),
+    (134217710, 27),
+    (134217711, 27),
+    (134217712, 27),
+    (67108846, 26),
 ];
 
-/// The word of an octet.
-fn word_at(words: &[Word], octet: u8) -> Word
+/// The number and the width of an octet's code.
+fn word_at(words: &[(u32, u8)], octet: u8) -> (u32, u8)
     requires { 256 ≤ length words.now }
     ensures { slice_get words.now octet ≡ Some result }
 {
@@ -1050,5 +282,6 @@ fn word_at(words: &[Word], octet: u8) -> Word
 pub fn word_of(octet: u8) -> Word
     ensures { IsWordOf octet result }
 {
-    word_at(&WORDS, octet)
+    let (number, width) = word_at(&WORDS, octet);
+    Word { number, width }
 }

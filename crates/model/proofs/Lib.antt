@@ -13,3 +13,5 @@ mod Http2Examples
 mod HpackExamples
 pub mod IntegerLemmas
 pub mod HuffmanLemmas
+pub mod BlockLemmas
+pub mod BlockLaws

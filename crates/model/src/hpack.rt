@@ -2,7 +2,10 @@
 
 ghost use Rattle.std.specs.Prelude.{◌≡◌, ◌++◌, List, ℕ};
 ghost use Rattle.model.specs.Integers.{IsInt};
+ghost use Rattle.model.specs.Blocks.{Block};
 ghost use Rattle.model.specs.Huffman.{Huff};
+ghost use Rattle.model.specs.Messages.{Field};
+ghost use Rattle.model.specs.Tables.{Table};
 
 /// No integer's text begins another's, and each has one value (section 5.1).
 pub fn one_integer()
@@ -12,4 +15,9 @@ pub fn one_integer()
 /// Huffman text has one string (section 5.2).
 pub fn one_string()
     ensures { (octets s t : List ℕ) → Huff octets s → Huff octets t → s ≡ t }
+{}
+
+/// A table and a block determine the fields and the next table (sections 3 and 6).
+pub fn one_block()
+    ensures { (table next other : Table) (octets : List ℕ) (fields others : List Field) → Block table octets fields next → Block table octets others other → (fields ≡ others) × (next ≡ other) }
 {}

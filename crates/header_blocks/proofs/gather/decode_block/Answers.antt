@@ -14,4 +14,4 @@ loop-start-preserved c =
     }
 
 pub returns : goal.returns
-returns c = c.finish.ensures c.args.block.now c.args.cap (gathers_all c.args.block.now c.loop-start.start c.args.cap c.loop-start.gathering.fields.items c.loop-start.gathering.room (omega arith) c.loop-start.invariant.gathers)
+returns c = c.finish.ensures.gathered c.args.block.now c.args.cap (gathers_all c.args.block.now c.loop-start.start c.args.cap c.loop-start.gathering.fields.items c.loop-start.gathering.room (omega arith) c.loop-start.invariant.gathers)

@@ -1,7 +1,7 @@
 use Rattle.std.proofs.Common.{rules}
 use Rattle.model.specs.Tables.{static_table}
-use Rattle.header_blocks.proofs.StaticTable.{same_entry}
-use Rattle.header_blocks.proofs.static_table.static_entry.Goals as goal
+use Rattle.hpack_table.proofs.StaticTable.{same_entry}
+use Rattle.hpack_table.proofs.static_table.static_entry.Goals as goal
 
 pub returns : goal.returns
 unfolding static_table

@@ -3,8 +3,11 @@
 ghost use Rattle.std.specs.Prelude.{◌≡◌, MatchOption, slice_get, Some, None};
 ghost use Rattle.model.specs.Tables.{static_table, field_of};
 
+/// The number of its entries.
+pub const STATIC_LENGTH: usize = 61;
+
 /// Names and values, from index 1 on.
-static ENTRIES: [(&[u8], &[u8]); 61] = [
+static ENTRIES: [(&[u8], &[u8]); STATIC_LENGTH] = [
     (b":authority", b""),
     (b":method", b"GET"),
     (b":method", b"POST"),
@@ -77,7 +80,7 @@ fn entry_at(entries: &[Entry], place: usize) -> Option<Entry>
     entries.get(place).copied()
 }
 
-/// The name and the value at a place, from 0 on.
+/// The name and the value at a place of the static table, which is its index less 1 (RFC 7541, appendix A).
 pub fn static_entry(place: usize) -> Option<Entry>
     ensures { MatchOption result (slice_get static_table place ≡ None) (λ p. slice_get static_table place ≡ Some (field_of p.0.now p.1.now)) }
 {

@@ -1,0 +1,4 @@
+pub mod StaticTable
+pub mod Kept
+pub mod Looked
+pub mod Searched

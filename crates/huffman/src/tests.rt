@@ -1,3 +1,5 @@
+ghost use Rattle.std.specs.Prelude.{◌≤◌, length};
+
 use super::*;
 use std::test::Fail;
 
@@ -39,7 +41,9 @@ fn faults_leave_the_octets(rt: HostRuntime) {
 }
 
 /// Whether a string is encoded as this text, behind what stands there already.
-fn encodes(alloc: std::alloc::Global, string: &[u8], text: &[u8]) -> Result<bool, Fail> {
+fn encodes(alloc: std::alloc::Global, string: &[u8], text: &[u8]) -> Result<bool, Fail>
+    requires { length string.now ≤ 65536 }
+{
     let mut out = Vec::new(alloc);
     out.push(b'>')?;
     encode(string, &mut out)?;

@@ -15,3 +15,4 @@ pub mod IntegerLemmas
 pub mod HuffmanLemmas
 pub mod BlockLemmas
 pub mod BlockLaws
+pub mod KeepLemmas

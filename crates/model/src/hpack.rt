@@ -1,11 +1,11 @@
 //! Laws of HPACK's texts (RFC 7541).
 
-ghost use Rattle.std.specs.Prelude.{◌≡◌, ◌++◌, List, ℕ};
+ghost use Rattle.std.specs.Prelude.{◌≡◌, ◌≤◌, ◌++◌, length, List, ℕ};
 ghost use Rattle.model.specs.Integers.{IsInt};
 ghost use Rattle.model.specs.Blocks.{Block};
 ghost use Rattle.model.specs.Huffman.{Huff};
 ghost use Rattle.model.specs.Messages.{Field};
-ghost use Rattle.model.specs.Tables.{Table};
+ghost use Rattle.model.specs.Tables.{keep, Table, total_size};
 
 /// No integer's text begins another's, and each has one value (section 5.1).
 pub fn one_integer()
@@ -20,4 +20,11 @@ pub fn one_string()
 /// A table and a block determine the fields and the next table (sections 3 and 6).
 pub fn one_block()
     ensures { (table next other : Table) (octets : List ℕ) (fields others : List Field) → Block table octets fields next → Block table octets others other → (fields ≡ others) × (next ≡ other) }
+{}
+
+/// What a table keeps is the longest front of its fields whose sizes sum to at most the maximum (section 4).
+pub fn longest_front()
+    ensures fits { (max : ℕ) (fields : List Field) → total_size (keep max fields) ≤ max }
+    ensures front { (max : ℕ) (fields : List Field) → (rest : List Field) × (fields ≡ keep max fields ++ rest) }
+    ensures longest { (max : ℕ) (fields front rest : List Field) → fields ≡ front ++ rest → total_size front ≤ max → length front ≤ length (keep max fields) }
 {}

@@ -156,7 +156,10 @@ both_head = record {
   );
 }
 
-both_framings : (rest : List ℕ) → BeginsNoRequest (codes "PUT /x HTTP/1.1\r\nHost:a\r\nTransfer-Encoding: Chunked\r\ncontent-length: 02\r\n\r\n" ++ rest)
+abbrev pub both_lines : List ℕ
+both_lines = codes "PUT /x HTTP/1.1\r\nHost:a\r\nTransfer-Encoding: Chunked\r\ncontent-length: 02\r\n\r\n"
+
+pub both_framings : (rest : List ℕ) → BeginsNoRequest (both_lines ++ rest)
 both_framings rest = not_framed _ rest _ both_head (λ content body framed. framed)
 
 -- two lengths, though they say one number

@@ -6,7 +6,7 @@ pub mod Http1Lines
 pub mod Http1Bodies
 pub mod Http1Readings
 pub mod Http1Texts
-mod Http1Examples
+pub mod Http1Examples
 pub mod Http2Readings
 pub mod Http2Sends
 mod Http2Examples
@@ -16,3 +16,4 @@ pub mod HuffmanLemmas
 pub mod BlockLemmas
 pub mod BlockLaws
 pub mod KeepLemmas
+mod FaithfulExamples

@@ -4,3 +4,4 @@ pub mod Taken
 pub mod Chained
 pub mod Refused
 pub mod NoBlocks
+pub mod Bounded

@@ -4,3 +4,4 @@ pub mod Everywhere
 pub mod Represented
 pub mod Directions
 pub mod Decoding
+pub mod Bounds

@@ -3,6 +3,7 @@
 ghost use Rattle.std.specs.Prelude.{◌≤◌, ◌<◌, ◌↔◌, drop, length, slice_index, IfErr, IfOk, IsTrue};
 ghost use Rattle.model.specs.Blocks.{NoBlock};
 ghost use Rattle.header_blocks.specs.Represented.{BeginsNoMaximum, UnlessMemory};
+ghost use Rattle.header_blocks.specs.Bounds.{IsBounded};
 ghost use Rattle.header_blocks.specs.Decoding.{TakesMaxima, TakesMaximum};
 
 use crate::faults::DecodeFault;
@@ -39,6 +40,7 @@ pub fn take_maxima(table: &mut Table, block: &[u8]) -> Result<usize, DecodeFault
     ensures taken { IfOk result (λ used. TakesMaxima table.old block.now used table.new) }
     ensures ends { IfOk result (λ used. BeginsNoMaximum (drop used block.now)) }
     ensures none { IfErr result (λ fault. UnlessMemory fault (NoBlock table.old block.now)) }
+    ensures bounded { IsBounded table.old → IsBounded table.new }
 {
     let mut start = 0;
     while start < block.len() && is_maximum(block[start]) {

@@ -1,10 +1,12 @@
 //! The decoder of a direction, with its table.
 
-ghost use Rattle.std.specs.Prelude.{◌≡◌, [], ℕ, List, ◌∷◌, ◌++◌, IfOk, IfErr, IfNone, IfSome, OnOk, Some, None, Err};
+ghost use Rattle.std.specs.Prelude.{◌≡◌, if◌then◌else◌, [], ℕ, List, ◌∷◌, ◌++◌, IfOk, IfErr, IfNone, IfSome, OnOk, Some, None, Err};
 ghost use Rattle.model.specs.Messages.{Field as FieldLine};
 ghost use Rattle.model.specs.Blocks.{NoBlock};
+ghost use Rattle.model.specs.Tables.{added};
 ghost use Rattle.header_blocks.specs.Represented.{UnlessMemory};
 ghost use Rattle.header_blocks.specs.declared.faults.DecodeFault.TheVariants.{Memory};
+ghost use Rattle.header_blocks.specs.Bounds.{IsBounded};
 ghost use Rattle.header_blocks.specs.Decoding.{DecodesFrom, Settles};
 
 use crate::faults::DecodeFault;
@@ -25,11 +27,14 @@ pub struct TableDecoder {
 }
 
 impl Model for TableDecoder {
+    ghost use Rattle.header_blocks.specs.Bounds.{IsBounded};
     ghost use Rattle.header_blocks.specs.Directions.{Direction};
 
     ghost Value = { Direction };
 
     ghost view = { λ decoder. record { table = decoder.table; fault = decoder.fault } };
+
+    ghost invariant = { λ decoder. IsBounded decoder.table };
 }
 
 impl TableDecoder {
@@ -60,6 +65,7 @@ impl TableDecoder {
         ensures goes_on { OnOk result ((self.old.fault ≡ None) × (self.new.fault ≡ None)) }
         ensures fault_stays { IfErr result (λ fault. self.new.fault ≡ Some fault) }
         ensures faulted { IfSome self.old.fault (λ fault. result ≡ Err fault) }
+        ensures bounded { IsBounded self.new.table }
     {
         if let Some(fault) = self.fault {
             return Err(fault);
@@ -81,6 +87,7 @@ fn decode_block(
 ) -> Result<Decoded, DecodeFault>
     ensures decoded { IfOk result (λ decoded. DecodesFrom table.old block.now cap table.new decoded) }
     ensures none { IfErr result (λ fault. UnlessMemory fault (NoBlock table.old block.now)) }
+    ensures bounded { IsBounded table.old → IsBounded table.new }
 {
     let mut start = take_maxima(table, block)?;
     let mut gathering = Gathering::new(alloc, cap);
@@ -105,10 +112,21 @@ fn settle(
 ) -> Result<(), DecodeFault>
     ensures settled { OnOk result (Settles taken table.old table.new gathering.old.fields.items gathering.old.room gathering.new.fields.items gathering.new.room) }
     ensures memory { IfErr result (λ fault. fault ≡ Memory) }
+    ensures bounded { IsBounded table.old → IsBounded table.new }
+{
+    insert(alloc, &taken, table)?;
+    gathering.add(taken.field)?;
+    Ok(())
+}
+
+/// Inserts a field that was taken, where its representation says so.
+fn insert(alloc: Global, taken: &Taken, table: &mut Table) -> Result<(), DecodeFault>
+    ensures inserted { OnOk result (table.new ≡ (if taken.now.inserts then added taken.now.field table.old else table.old)) }
+    ensures memory { IfErr result (λ fault. fault ≡ Memory) }
+    ensures bounded { IsBounded table.old → IsBounded table.new }
 {
     if taken.inserts {
         table.add(taken.field.copy(alloc)?)?;
     }
-    gathering.add(taken.field)?;
     Ok(())
 }

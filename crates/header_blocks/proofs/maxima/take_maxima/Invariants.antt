@@ -1,9 +1,10 @@
 use Rattle.std.proofs.Common.{◌-◌, length}
+use Rattle.header_blocks.specs.Bounds.{IsBounded}
 use Rattle.header_blocks.specs.Decoding.{TakesMaxima}
 use Rattle.header_blocks.proofs.maxima.take_maxima.Given as goal
 
 abbrev pub invariant-loop-start : goal.invariant-loop-start
-invariant-loop-start l = TakesMaxima l.fn.table l.block l.start l.table
+invariant-loop-start l = TakesMaxima l.fn.table l.block l.start l.table × (IsBounded l.fn.table → IsBounded l.table)
 
 abbrev pub decreases-loop-start : goal.decreases-loop-start
 decreases-loop-start l = length l.block - l.start

@@ -5,6 +5,7 @@ use Rattle.std.specs.Prelude.{Option, None, Some, nat_le, is_ok}
 use Rattle.std.proofs.lemmas.Bool.{leb-true, le-leb}
 use Rattle.std.proofs.Math.Seq.{get_or-append_seam, set-append_seam}
 use Rattle.model.specs.Messages.Item.{Content}
+use Rattle.model.specs.Tables.{Table}
 use Rattle.model.specs.Frames.{Frame, Fits, spell, settings_frame, settings_ack, goaway, settings_kind, headers_kind, is_ack, content, ends_headers, ends_stream, has_flag}
 use Rattle.model.specs.Logs.{Output, Event}
 use Rattle.model.specs.Logs.Event.{Client, ClientEnd, ClientTook, Up, UpEnd, UpFailed, UpTook}
@@ -15,7 +16,7 @@ use Rattle.model.specs.Tapes.Note.{NoBlock, Unread}
 use Rattle.model.specs.Decoding.{Partial, joined, completed, IsNoteOf}
 use Rattle.model.specs.Streams.{frame_items}
 use Rattle.gateway.specs.declared.upstream.Upstream.{Upstream}
-use Rattle.gateway.specs.Connections.{greeted, settled, ended, left, put_end, put_farewell}
+use Rattle.gateway.specs.Connections.{greeted, settled, ended, left, with_table, put_end, put_farewell}
 use Rattle.gateway.specs.Moves.{Move, Input, inputs, put_move}
 use Rattle.gateway.specs.Moves.Input.{OfFrame, OfBreach, OfEvent}
 use Rattle.gateway.specs.Moves.Move.{Takes, Breaks, Hears, Sends, Acts}
@@ -72,15 +73,15 @@ note_for (Some block) = Unread
 abbrev unread : Frame → Noted
 unread frame = record { frame = frame; note = note_for (completed [] frame) }
 
-unread_noted : (frame : Frame) → IsNoted (unread frame)
-unread_noted frame table = (table, elim (completed [] frame) as (λ (b : Option Partial). IsNoteOf b table (note_for b) table) [ None ↦ (refl, refl) | Some block ↦ refl ])
+unread_noted : (table : Table) (frame : Frame) (code : ℕ) (next : Table) → IsNoted table (unread frame) (Stopped code next)
+unread_noted table frame code next = (table, elim (completed [] frame) as (λ (b : Option Partial). IsNoteOf b table (note_for b) table) [ None ↦ (refl, refl) | Some block ↦ refl ])
 
 -- a frame ends the connection
-pub answers_stopped : (s s' : State) (o o' : List Output) (frame : Frame) (code : ℕ) → s.closed ≡ false → (s.settled ≡ false → IsPlainSettings frame → ⊥) → s' ≡ left s code → o' ≡ put_farewell o s code → Answers s s' o o' (OfFrame frame ∷ [])
-answers_stopped s s' o o' frame code on not_settings es eo =
+pub answers_stopped : (s s' : State) (o o' : List Output) (frame : Frame) (code : ℕ) (next : Table) → s.closed ≡ false → (s.settled ≡ false → IsPlainSettings frame → ⊥) → s' ≡ left (with_table s next) code → o' ≡ put_farewell o s code → Answers s s' o o' (OfFrame frame ∷ [])
+answers_stopped s s' o o' frame code next on not_settings es eo =
     subst (λ x. Answers s x o o' (OfFrame frame ∷ [])) (sym es)
-    (subst (λ x. Answers s (left s code) o x (OfFrame frame ∷ [])) (sym eo)
-    (answers_from s (left s code) o (put_farewell o s code) (Takes (unread frame) (Stopped code)) (OfFrame frame ∷ []) (record { turn = record { open_yet = on; nothing = refl }; holds = (unread_noted frame, not_settings) }) refl refl (pays_farewell s code o)))
+    (subst (λ x. Answers s (left (with_table s next) code) o x (OfFrame frame ∷ [])) (sym eo)
+    (answers_from s (left (with_table s next) code) o (put_farewell o s code) (Takes (unread frame) (Stopped code next)) (OfFrame frame ∷ []) (record { turn = record { open_yet = on; nothing = refl }; holds = (unread_noted s.table frame code next, not_settings) }) refl refl (pays_farewell (with_table s next) code o)))
 
 -- the client's octets end in a breach
 pub answers_breach : (s s' : State) (o o' : List Output) (breach : Breach) → s.closed ≡ false → s' ≡ left s (breach_code breach) → o' ≡ put_farewell o s (breach_code breach) → Answers s s' o o' (OfBreach breach ∷ [])
@@ -105,7 +106,7 @@ answers_settled s s' o o' frame on first kind no_ack es eo =
       no_block = ap (λ b. if b then None else joined None frame) no_end ∙ no_begin;
       no_item = ap (λ b. frame_items b noted) none ∙ ap (λ k. if k == 0 then Content (content frame) (ends_stream frame) ∷ [] else []) kind;
     } in
-    let note : IsNoted noted = λ table. (table, subst (λ b. IsNoteOf b table NoBlock table) (sym none) (refl, refl)) in
+    let note : IsNoted s.table noted Settled = subst (λ b. IsNoteOf b s.table NoBlock s.table) (sym none) (refl, refl) in
     subst (λ x. Answers s x o o' (OfFrame frame ∷ [])) (sym es)
     (subst (λ x. Answers s (settled s) o x (OfFrame frame ∷ [])) (sym eo)
     (answers_from s (settled s) o (put o (ToClient (spell settings_ack))) (Takes noted Settled) (OfFrame frame ∷ []) (record { turn = record { open_yet = on; nothing = refl }; holds = (note, may) }) refl refl

@@ -4,7 +4,7 @@ use Rattle.std.specs.Prelude.{None}
 use Rattle.std.proofs.lemmas.Bool.Decides.{eqb_tells}
 use Rattle.model.specs.Messages.{Field, Request}
 use Rattle.model.specs.Messages.Item.{Block}
-use Rattle.model.specs.Tables.{Table}
+use Rattle.model.specs.Tables.{Table, first_table}
 use Rattle.model.specs.Frames.{rst_stream_kind}
 use Rattle.model.specs.Http1.{H1Request, forward}
 use Rattle.model.specs.Http2.{H2Request, authority_of, path_of}
@@ -51,10 +51,10 @@ pub record Giving (t : List Entry) (s : State) (ds : List Due) : Type 0 where
   pub no_block : s.closed ≡ false → begun (came t) ≡ None
   pub all_read : s.closed ≡ false → are_read (came t) ≡ true
   pub settled : s.settled ≡ true → (frame : _) → row_first_frame (came t) frame ≡ None
-  pub decodes : (table : Table) × Decodes (came t) table
+  pub decodes : (table : Table) × Decodes (came t) table × (s.closed ≡ false → s.table ≡ table)
 
-pub giving_none : (setup : Setup) (ds : List Due) → to_open 0 ds ≡ [] → (s : State) → s.setup ≡ setup → s.upstreams ≡ [] → s.settled ≡ false → Giving [] s ds
-giving_none setup ds none s es us fs = record {
+pub giving_none : (setup : Setup) (ds : List Due) → to_open 0 ds ≡ [] → (s : State) → s.setup ≡ setup → s.upstreams ≡ [] → s.settled ≡ false → s.table ≡ first_table → Giving [] s ds
+giving_none setup ds none s es us fs ts = record {
   numbered = subst AreNumbered (sym (at_first none)) tt;
   apart = subst AreApart (sym (at_first none)) tt;
   serving = subst (AllServing s.setup [] ds) (sym (at_first none)) tt;
@@ -65,7 +65,7 @@ giving_none setup ds none s es us fs = record {
   no_block = λ o. refl;
   all_read = λ o. refl;
   settled = λ e. absurd (let f : true ≡ false = sym e ∙ fs in cc);
-  decodes = (_, refl);
+  decodes = (first_table, refl, (λ o. ts));
 }
   where
     at_first : to_open 0 ds ≡ [] → all_opens [] ds ≡ []
@@ -101,9 +101,9 @@ pub record Passes (t : List Entry) (e : Entry) (ds ds' : List Due) : Type 0 wher
   pub same_sent : (k : ℕ) → sent_up k (e ∷ t) ≡ sent_up k t
   pub same_came : came (e ∷ t) ≡ came t
 
-pub giving_passes : (t : List Entry) (e : Entry) (s s' : State) (ds ds' : List Due) → Giving t s ds → Passes t e ds ds' → s'.setup ≡ s.setup → length s'.upstreams ≡ length s.upstreams → s'.high ≡ s.high → s'.settled ≡ s.settled → (s'.closed ≡ false → s.closed ≡ false)
+pub giving_passes : (t : List Entry) (e : Entry) (s s' : State) (ds ds' : List Due) → Giving t s ds → Passes t e ds ds' → s'.setup ≡ s.setup → length s'.upstreams ≡ length s.upstreams → s'.high ≡ s.high → s'.settled ≡ s.settled → (s'.closed ≡ false → s.closed ≡ false) → s'.table ≡ s.table
     → Giving (e ∷ t) s' ds'
-giving_passes t e s s' ds ds' h p es eu eh ef ec = record {
+giving_passes t e s s' ds ds' h p es eu eh ef ec et = record {
   numbered = subst AreNumbered (sym p.same_opens) h.numbered;
   apart = subst AreApart (sym p.same_opens) h.apart;
   serving = subst (AllServing s'.setup (e ∷ t) ds') (sym p.same_opens) (subst (λ x. AllServing x (e ∷ t) ds' (all_opens t ds)) (sym es) (serving_same s.setup t e ds ds' (length (all_opens t ds)) (λ k le. p.same_text k) (all_opens t ds) h.numbered (omega arith) h.serving));
@@ -114,7 +114,7 @@ giving_passes t e s s' ds ds' h p es eu eh ef ec = record {
   no_block = λ o. ap begun p.same_came ∙ h.no_block (ec o);
   all_read = λ o. ap are_read p.same_came ∙ h.all_read (ec o);
   settled = λ f frame. ap (λ x. row_first_frame x frame) p.same_came ∙ h.settled (sym ef ∙ f) frame;
-  decodes = (h.decodes.0, subst (λ x. Decodes x h.decodes.0) (sym p.same_came) h.decodes.1);
+  decodes = (h.decodes.0, subst (λ x. Decodes x h.decodes.0) (sym p.same_came) h.decodes.1, (λ o. et ∙ h.decodes.2 (ec o)));
 }
 
 -- an event, which asks for nothing upstream but an end
@@ -160,9 +160,9 @@ passes_end t ds = record {
 
 -- ---- moves that open and send
 
-pub giving_opened : (t : List Entry) (s s' : State) (k route : ℕ) (ds : List Due) → Giving t s (ToDo (Open k route) ∷ ds) → k ≡ suc (length s.upstreams) → s'.setup ≡ s.setup → length s'.upstreams ≡ suc (length s.upstreams) → s'.high ≡ s.high → s'.settled ≡ s.settled → s'.closed ≡ s.closed
+pub giving_opened : (t : List Entry) (s s' : State) (k route : ℕ) (ds : List Due) → Giving t s (ToDo (Open k route) ∷ ds) → k ≡ suc (length s.upstreams) → s'.setup ≡ s.setup → length s'.upstreams ≡ suc (length s.upstreams) → s'.high ≡ s.high → s'.settled ≡ s.settled → s'.closed ≡ s.closed → s'.table ≡ s.table
     → Giving (Did (Open k route) ∷ t) s' ds
-giving_opened t s s' k route ds h at es eu eh ef ec =
+giving_opened t s s' k route ds h at es eu eh ef ec et =
     let e = Did (Open k route) in
     let due : List Due = ToDo (Open k route) ∷ ds in
     let o : Opened = record { k = k; route = route; stream = last_stream t } in
@@ -177,12 +177,12 @@ giving_opened t s s' k route ds h at es eu eh ef ec =
       no_block = λ q. h.no_block (sym ec ∙ q);
       all_read = λ q. h.all_read (sym ec ∙ q);
       settled = λ f frame. h.settled (sym ef ∙ f) frame;
-      decodes = h.decodes;
+      decodes = (h.decodes.0, h.decodes.1, (λ q. et ∙ h.decodes.2 (sym ec ∙ q)));
     }
 
-pub giving_sent : (t : List Entry) (s s' : State) (j : ℕ) (octets : List ℕ) (ds : List Due) → Giving t s (ToDo (ToUp j octets) ∷ ds) → j ≤ length s.upstreams → s'.setup ≡ s.setup → length s'.upstreams ≡ length s.upstreams → s'.high ≡ s.high → s'.settled ≡ s.settled → s'.closed ≡ s.closed
+pub giving_sent : (t : List Entry) (s s' : State) (j : ℕ) (octets : List ℕ) (ds : List Due) → Giving t s (ToDo (ToUp j octets) ∷ ds) → j ≤ length s.upstreams → s'.setup ≡ s.setup → length s'.upstreams ≡ length s.upstreams → s'.high ≡ s.high → s'.settled ≡ s.settled → s'.closed ≡ s.closed → s'.table ≡ s.table
     → Giving (Did (ToUp j octets) ∷ t) s' ds
-giving_sent t s s' j octets ds h within es eu eh ef ec =
+giving_sent t s s' j octets ds h within es eu eh ef ec et =
     let e = Did (ToUp j octets) in
     let due : List Due = ToDo (ToUp j octets) ∷ ds in record {
       numbered = h.numbered;
@@ -200,5 +200,5 @@ giving_sent t s s' j octets ds h within es eu eh ef ec =
       no_block = λ q. h.no_block (sym ec ∙ q);
       all_read = λ q. h.all_read (sym ec ∙ q);
       settled = λ f frame. h.settled (sym ef ∙ f) frame;
-      decodes = h.decodes;
+      decodes = (h.decodes.0, h.decodes.1, (λ q. et ∙ h.decodes.2 (sym ec ∙ q)));
     }

@@ -14,7 +14,7 @@ use Rattle.model.specs.Tapes.{put, Noted}
 use Rattle.model.specs.Tapes.Note.{Fields}
 use Rattle.model.specs.Decoding.{Partial, joined, completed, begun, IsNoteOf}
 use Rattle.model.specs.Streams.{frame_items}
-use Rattle.gateway.specs.Connections.{IsTaken, IsHead, served}
+use Rattle.gateway.specs.Connections.{IsTaken, IsHead, served, with_table}
 use Rattle.gateway.specs.Moves.{Move}
 use Rattle.gateway.specs.Moves.Input.{OfFrame}
 use Rattle.gateway.specs.Moves.Move.{Takes, Acts}
@@ -49,14 +49,14 @@ no_more frame noted same head =
 opened_last : (us : List Upstream) → (upstream_at (us ++ record { is_open = true; untaken = 0 } ∷ []) (suc (length us))).is_open ≡ true
 opened_last us = ap (λ (u : Upstream). u.is_open) (get_or-append_seam us (record { is_open = true; untaken = 0 }) [] nobody)
 
-pub answers_served : (s s' : State) (o o' : List Output) (frame : Frame) (route : ℕ) (text : List ℕ) (fields : List Field) → s.closed ≡ false → s.settled ≡ true → s.high < frame.id → IsHead frame
-    → ((table : Table) → (next : Table) × blocks.Block table frame.payload fields next) → IsTaken s.setup.routes fields route text
-    → s' ≡ served s frame.id (length text) → o' ≡ put (put o (Does (Open (suc (length s.upstreams)) route))) (Does (ToUp (suc (length s.upstreams)) text)) → Answers s s' o o' (OfFrame frame ∷ [])
-answers_served s s' o o' frame route text fields on settled above head decodes is_taken es eo =
+pub answers_served : (s s' : State) (o o' : List Output) (frame : Frame) (route : ℕ) (text : List ℕ) (fields : List Field) (next : Table) → s.closed ≡ false → s.settled ≡ true → s.high < frame.id → IsHead frame
+    → blocks.Block s.table frame.payload fields next → IsTaken s.setup.routes fields route text
+    → s' ≡ served (with_table s next) frame.id (length text) → o' ≡ put (put o (Does (Open (suc (length s.upstreams)) route))) (Does (ToUp (suc (length s.upstreams)) text)) → Answers s s' o o' (OfFrame frame ∷ [])
+answers_served s s' o o' frame route text fields next on settled above head decodes is_taken es eo =
     let k : ℕ = suc (length s.upstreams) in
     let noted : Noted = record { frame = frame; note = Fields fields } in
     let whole = whole_block frame head in
-    let note : IsNoted noted = λ table. let n = decodes table in (n.0, subst (λ b. IsNoteOf b table (Fields fields) n.0) (sym whole) n.1) in
+    let note : IsNoted s.table noted (Served route text is_taken.request next) = subst (λ b. IsNoteOf b s.table (Fields fields) next) (sym whole) decodes in
     let may : MayServe s noted route text is_taken.request = record {
       settled = settled;
       above = above;
@@ -69,7 +69,7 @@ answers_served s s' o o' frame route text fields on settled above head decodes i
       by_route = is_taken.by_route;
       reads = is_taken.reads;
     } in
-    let m : Move = Takes noted (Served route text is_taken.request) in
+    let m : Move = Takes noted (Served route text is_taken.request next) in
     let s1 : State = after s m in
     let s2 : State = after s1 (Acts (Open k route)) in
     let size : length s2.upstreams ≡ k = length-append s.upstreams (record { is_open = true; untaken = 0 } ∷ []) ∙ (omega arith) in
@@ -77,8 +77,8 @@ answers_served s s' o o' frame route text fields on settled above head decodes i
     pays_by s1 (ToDo (Open k route)) (ToDo (ToUp k text) ∷ []) (Acts (Open k route)) o (record { turn = refl; holds = refl }) refl in
     let sends : Pays (record { state = s2; owes = ToDo (ToUp k text) ∷ [] }) (idle (after s2 (Acts (ToUp k text)))) (put o (Does (Open k route))) (put (put o (Does (Open k route))) (Does (ToUp k text))) =
     pays_by s2 (ToDo (ToUp k text)) [] (Acts (ToUp k text)) (put o (Does (Open k route))) (record { turn = refl; holds = (record { counted = omega arith; within = omega (arith, size) }, opened_last s.upstreams) }) refl in
-    let last : after s2 (Acts (ToUp k text)) ≡ served s frame.id (length text) = ap (with s1) (serves_upstreams s.upstreams (length text)) in
+    let last : after s2 (Acts (ToUp k text)) ≡ served (with_table s next) frame.id (length text) = ap (with s1) (serves_upstreams s.upstreams (length text)) in
     subst (λ x. Answers s x o o' (OfFrame frame ∷ [])) (sym es)
-    (subst (λ x. Answers s (served s frame.id (length text)) o x (OfFrame frame ∷ [])) (sym eo)
+    (subst (λ x. Answers s (served (with_table s next) frame.id (length text)) o x (OfFrame frame ∷ [])) (sym eo)
     (subst (λ x. Answers s x o (put (put o (Does (Open k route))) (Does (ToUp k text))) (OfFrame frame ∷ [])) last
     (answers_from s (after s2 (Acts (ToUp k text))) o _ m (OfFrame frame ∷ []) (record { turn = record { open_yet = on; nothing = refl }; holds = (note, may) }) refl refl (pays_then opens sends))))

@@ -31,7 +31,7 @@ pub record Inv (t : List Entry) (p : Point) : Type 0 where
 
 pub inv_start : (setup : Setup) → Inv [] (resting (start setup))
 inv_start setup = record {
-  giving = giving_none setup (ToSend settings_frame ∷ []) refl (start setup) refl refl refl;
+  giving = giving_none setup (ToSend settings_frame ∷ []) refl (start setup) refl refl refl refl;
   shutting = record { shut = λ e. absurd (let f : false ≡ true = e in cc); later = λ e. absurd (let f : false ≡ true = e in cc); told = λ x. absurd x };
   admitting = record { untaken = refl; opened = nobody_up; counted = nobody_counted };
 }
@@ -60,15 +60,15 @@ step_takes t s ds noted Settled h a = record {
   shutting = shutting_same t (Came noted) s (after s (Takes noted Settled)) ds _ h.shutting a.turn.open_yet refl refl (λ x. x);
   admitting = admitting_same t (Came noted) s (after s (Takes noted Settled)) h.admitting refl refl refl (λ k. refl) (λ k. refl);
 }
-step_takes t s ds noted (Served route text request) h a = record {
-  giving = giving_served t s noted route text request (quiet t s ds h.giving a.turn.nothing) a.turn.open_yet a.holds.0 a.holds.1;
-  shutting = shutting_same t (Came noted) s (after s (Takes noted (Served route text request))) ds _ h.shutting a.turn.open_yet refl refl (λ x. x);
-  admitting = admitting_same t (Came noted) s (after s (Takes noted (Served route text request))) h.admitting refl refl refl (λ k. refl) (λ k. refl);
+step_takes t s ds noted (Served route text request next) h a = record {
+  giving = giving_served t s noted route text request next (quiet t s ds h.giving a.turn.nothing) a.turn.open_yet a.holds.0 a.holds.1;
+  shutting = shutting_same t (Came noted) s (after s (Takes noted (Served route text request next))) ds _ h.shutting a.turn.open_yet refl refl (λ x. x);
+  admitting = admitting_same t (Came noted) s (after s (Takes noted (Served route text request next))) h.admitting refl refl refl (λ k. refl) (λ k. refl);
 }
-step_takes t s ds noted (Stopped code) h a = record {
-  giving = giving_stopped t s noted code (quiet t s ds h.giving a.turn.nothing) a.turn.open_yet a.holds.0;
-  shutting = shutting_ends t (Came noted) s (after s (Takes noted (Stopped code))) ds _ h.shutting a.turn.open_yet refl refl (farewell_ends s code);
-  admitting = admitting_same t (Came noted) s (after s (Takes noted (Stopped code))) h.admitting refl refl refl (λ k. refl) (λ k. refl);
+step_takes t s ds noted (Stopped code next) h a = record {
+  giving = giving_stopped t s noted code next (quiet t s ds h.giving a.turn.nothing) a.turn.open_yet a.holds.0;
+  shutting = shutting_ends t (Came noted) s (after s (Takes noted (Stopped code next))) ds _ h.shutting a.turn.open_yet refl refl (farewell_ends s code);
+  admitting = admitting_same t (Came noted) s (after s (Takes noted (Stopped code next))) h.admitting refl refl refl (λ k. refl) (λ k. refl);
 }
 
 -- ---- one connection changes, and the others stay
@@ -101,46 +101,46 @@ less_count t s k j count h = elim (eqb_tells j k) [
 
 -- an event leaves what is given as it is
 gives_event : (t : List Entry) (s : State) (ds : List Due) (event : Event) (s' : State) (ds' : List Due) → Giving t s ds → ds ≡ [] → s.closed ≡ false → ((stream : ℕ) → to_open stream ds' ≡ []) → ((k : ℕ) → owed_up k ds' ≡ [])
-    → s'.setup ≡ s.setup → length s'.upstreams ≡ length s.upstreams → s'.high ≡ s.high → s'.settled ≡ s.settled → Giving (Happened event ∷ t) s' ds'
-gives_event t s ds event s' ds' h nothing on none silent es eu eh ef =
-    giving_passes t (Happened event) s s' [] ds' (quiet t s ds h nothing) (passes_event t event ds' none silent) es eu eh ef (λ o. on)
+    → s'.setup ≡ s.setup → length s'.upstreams ≡ length s.upstreams → s'.high ≡ s.high → s'.settled ≡ s.settled → s'.table ≡ s.table → Giving (Happened event ∷ t) s' ds'
+gives_event t s ds event s' ds' h nothing on none silent es eu eh ef et =
+    giving_passes t (Happened event) s s' [] ds' (quiet t s ds h nothing) (passes_event t event ds' none silent) es eu eh ef (λ o. on) et
 
 step_hears : (t : List Entry) (s : State) (ds : List Due) (event : Event) → Inv t (record { state = s; owes = ds }) → Allowed (record { state = s; owes = ds }) (Hears event) → Inv (Happened event ∷ t) (point_after (record { state = s; owes = ds }) (Hears event))
 step_hears t s ds (Client piece) h a = record {
-  giving = gives_event t s ds (Client piece) (after s (Hears (Client piece))) [] h.giving a.turn.nothing a.turn.open_yet (λ n. refl) (λ k. refl) refl refl refl refl;
+  giving = gives_event t s ds (Client piece) (after s (Hears (Client piece))) [] h.giving a.turn.nothing a.turn.open_yet (λ n. refl) (λ k. refl) refl refl refl refl refl;
   shutting = shutting_same t (Happened (Client piece)) s (after s (Hears (Client piece))) ds _ h.shutting a.turn.open_yet refl refl (λ x. x);
   admitting = admitting_same t (Happened (Client piece)) s (after s (Hears (Client piece))) h.admitting refl refl refl (λ k. refl) (λ k. refl);
 }
 step_hears t s ds ClientEnd h a = record {
-  giving = gives_event t s ds ClientEnd (after s (Hears ClientEnd)) (closes s) h.giving a.turn.nothing a.turn.open_yet (λ n. closes_open n 1 s.upstreams) (λ k. closes_send k 1 s.upstreams) refl refl refl refl;
+  giving = gives_event t s ds ClientEnd (after s (Hears ClientEnd)) (closes s) h.giving a.turn.nothing a.turn.open_yet (λ n. closes_open n 1 s.upstreams) (λ k. closes_send k 1 s.upstreams) refl refl refl refl refl;
   shutting = shutting_ends t (Happened ClientEnd) s (after s (Hears ClientEnd)) ds _ h.shutting a.turn.open_yet refl refl (closes_ends s);
   admitting = admitting_same t (Happened ClientEnd) s (after s (Hears ClientEnd)) h.admitting refl refl refl (λ k. refl) (λ k. refl);
 }
 step_hears t s ds (ClientTook count) h a = record {
-  giving = gives_event t s ds (ClientTook count) (after s (Hears (ClientTook count))) [] h.giving a.turn.nothing a.turn.open_yet (λ n. refl) (λ k. refl) refl refl refl refl;
+  giving = gives_event t s ds (ClientTook count) (after s (Hears (ClientTook count))) [] h.giving a.turn.nothing a.turn.open_yet (λ n. refl) (λ k. refl) refl refl refl refl refl;
   shutting = shutting_same t (Happened (ClientTook count)) s (after s (Hears (ClientTook count))) ds _ h.shutting a.turn.open_yet refl refl (λ x. x);
   admitting = record { untaken = ap (λ n. n - count) h.admitting.untaken; opened = h.admitting.opened; counted = h.admitting.counted };
 }
 step_hears t s ds (Up k piece) h a = record {
-  giving = gives_event t s ds (Up k piece) (after s (Hears (Up k piece))) [] h.giving a.turn.nothing a.turn.open_yet (λ n. refl) (λ k. refl) refl refl refl refl;
+  giving = gives_event t s ds (Up k piece) (after s (Hears (Up k piece))) [] h.giving a.turn.nothing a.turn.open_yet (λ n. refl) (λ k. refl) refl refl refl refl refl;
   shutting = shutting_same t (Happened (Up k piece)) s (after s (Hears (Up k piece))) ds _ h.shutting a.turn.open_yet refl refl (λ x. x);
   admitting = admitting_same t (Happened (Up k piece)) s (after s (Hears (Up k piece))) h.admitting refl refl refl (λ k. refl) (λ k. refl);
 }
 step_hears t s ds (UpEnd k) h a = record {
-  giving = gives_event t s ds (UpEnd k) (after s (Hears (UpEnd k))) (ToDo (Close k) ∷ []) h.giving a.turn.nothing a.turn.open_yet (λ n. refl) (λ k. refl) refl refl refl refl;
+  giving = gives_event t s ds (UpEnd k) (after s (Hears (UpEnd k))) (ToDo (Close k) ∷ []) h.giving a.turn.nothing a.turn.open_yet (λ n. refl) (λ k. refl) refl refl refl refl refl;
   shutting = shutting_same t (Happened (UpEnd k)) s (after s (Hears (UpEnd k))) ds _ h.shutting a.turn.open_yet refl refl (λ x. x);
   admitting = admitting_same t (Happened (UpEnd k)) s (after s (Hears (UpEnd k))) h.admitting refl refl refl (λ k. refl) (λ k. refl);
 }
 step_hears t s ds (UpFailed k) h a =
     let up = is_up s.upstreams k a.holds in record {
-      giving = gives_event t s ds (UpFailed k) (after s (Hears (UpFailed k))) [] h.giving a.turn.nothing a.turn.open_yet (λ n. refl) (λ k. refl) refl (with_length s.upstreams k (closed_up (upstream_at s.upstreams k))) refl refl;
+      giving = gives_event t s ds (UpFailed k) (after s (Hears (UpFailed k))) [] h.giving a.turn.nothing a.turn.open_yet (λ n. refl) (λ k. refl) refl (with_length s.upstreams k (closed_up (upstream_at s.upstreams k))) refl refl refl;
       shutting = shutting_same t (Happened (UpFailed k)) s (after s (Hears (UpFailed k))) ds _ h.shutting a.turn.open_yet refl refl (λ x. x);
       admitting = admitting_changed t (Happened (UpFailed k)) s (after s (Hears (UpFailed k))) k (closed_up (upstream_at s.upstreams k)) h.admitting up.0 up.1 refl refl refl (λ j. refl)
           (λ j. stays_counted t s k j h.admitting);
     }
 step_hears t s ds (UpTook k count) h a =
     let up = is_up s.upstreams k (and_left (upstream_at s.upstreams k).is_open (nat_le count (upstream_at s.upstreams k).untaken) a.holds) in record {
-      giving = gives_event t s ds (UpTook k count) (after s (Hears (UpTook k count))) [] h.giving a.turn.nothing a.turn.open_yet (λ n. refl) (λ k. refl) refl (with_length s.upstreams k (taken count (upstream_at s.upstreams k))) refl refl;
+      giving = gives_event t s ds (UpTook k count) (after s (Hears (UpTook k count))) [] h.giving a.turn.nothing a.turn.open_yet (λ n. refl) (λ k. refl) refl (with_length s.upstreams k (taken count (upstream_at s.upstreams k))) refl refl refl;
       shutting = shutting_same t (Happened (UpTook k count)) s (after s (Hears (UpTook k count))) ds _ h.shutting a.turn.open_yet refl refl (λ x. x);
       admitting = admitting_changed t (Happened (UpTook k count)) s (after s (Hears (UpTook k count))) k (taken count (upstream_at s.upstreams k)) h.admitting up.0 up.1 refl refl refl
           (λ j. stays_open t s k j h.admitting) (λ j. less_count t s k j count h.admitting);
@@ -151,33 +151,33 @@ step_hears t s ds (UpTook k count) h a =
 step_sends : (t : List Entry) (s : State) (frame : Frame) (ds : List Due) → Inv t (record { state = s; owes = ToSend frame ∷ ds }) → Allowed (record { state = s; owes = ToSend frame ∷ ds }) (Sends frame) → Inv (entry_of (Sends frame) ∷ t) (record { state = after s (Sends frame); owes = ds })
 step_sends t s frame ds h a =
     let noted : Noted = record { frame = frame; note = NoBlock } in record {
-      giving = giving_passes t (Sent noted) s (after s (Sends frame)) (ToSend frame ∷ ds) ds h.giving (passes_sent t noted a.holds.1 ds) refl refl refl refl (λ o. o);
+      giving = giving_passes t (Sent noted) s (after s (Sends frame)) (ToSend frame ∷ ds) ds h.giving (passes_sent t noted a.holds.1 ds) refl refl refl refl (λ o. o) refl;
       shutting = shutting_paid t (Sent noted) s (after s (Sends frame)) (ToSend frame) ds h.shutting refl refl (λ x. x) (λ x. x);
       admitting = record { untaken = ap (λ n. n + length (spell frame)) h.admitting.untaken; opened = h.admitting.opened; counted = h.admitting.counted };
     }
 
 step_acts : (t : List Entry) (s : State) (act : Act) (ds : List Due) → Inv t (record { state = s; owes = ToDo act ∷ ds }) → Allowed (record { state = s; owes = ToDo act ∷ ds }) (Acts act) → Inv (Did act ∷ t) (record { state = after s (Acts act); owes = ds })
 step_acts t s (Open k route) ds h a = record {
-  giving = giving_opened t s (after s (Acts (Open k route))) k route ds h.giving a.holds refl (length-append s.upstreams (record { is_open = true; untaken = 0 } ∷ []) ∙ (omega arith)) refl refl refl;
+  giving = giving_opened t s (after s (Acts (Open k route))) k route ds h.giving a.holds refl (length-append s.upstreams (record { is_open = true; untaken = 0 } ∷ []) ∙ (omega arith)) refl refl refl refl;
   shutting = shutting_paid t (Did (Open k route)) s (after s (Acts (Open k route))) (ToDo (Open k route)) ds h.shutting refl refl (λ x. x) (λ x. x);
   admitting = admitting_opened t s (after s (Acts (Open k route))) k route h.admitting a.holds refl refl;
 }
 step_acts t s (ToUp k octets) ds h a =
     let up : IsUp s k = a.holds.0 in record {
-      giving = giving_sent t s (after s (Acts (ToUp k octets))) k octets ds h.giving up.within refl (with_length s.upstreams k (sent_more (length octets) (upstream_at s.upstreams k))) refl refl refl;
+      giving = giving_sent t s (after s (Acts (ToUp k octets))) k octets ds h.giving up.within refl (with_length s.upstreams k (sent_more (length octets) (upstream_at s.upstreams k))) refl refl refl refl;
       shutting = shutting_paid t (Did (ToUp k octets)) s (after s (Acts (ToUp k octets))) (ToDo (ToUp k octets)) ds h.shutting refl refl (λ x. x) (λ x. x);
       admitting = admitting_changed t (Did (ToUp k octets)) s (after s (Acts (ToUp k octets))) k (sent_more (length octets) (upstream_at s.upstreams k)) h.admitting up.counted up.within refl refl refl
           (λ j. stays_open t s k j h.admitting) (λ j. sends_count t s k j octets h.admitting);
     }
 step_acts t s (Close k) ds h a =
     let up : IsUp s k = a.holds in record {
-      giving = giving_passes t (Did (Close k)) s (after s (Acts (Close k))) (ToDo (Close k) ∷ ds) ds h.giving (passes_close t k ds) refl (with_length s.upstreams k (closed_up (upstream_at s.upstreams k))) refl refl (λ o. o);
+      giving = giving_passes t (Did (Close k)) s (after s (Acts (Close k))) (ToDo (Close k) ∷ ds) ds h.giving (passes_close t k ds) refl (with_length s.upstreams k (closed_up (upstream_at s.upstreams k))) refl refl (λ o. o) refl;
       shutting = shutting_paid t (Did (Close k)) s (after s (Acts (Close k))) (ToDo (Close k)) ds h.shutting refl refl (λ x. x) (λ x. x);
       admitting = admitting_changed t (Did (Close k)) s (after s (Acts (Close k))) k (closed_up (upstream_at s.upstreams k)) h.admitting up.counted up.within refl refl refl
           (λ j. refl) (λ j. stays_counted t s k j h.admitting);
     }
 step_acts t s CloseClient ds h a = record {
-  giving = giving_passes t (Did CloseClient) s (after s (Acts CloseClient)) (ToDo CloseClient ∷ ds) ds h.giving (passes_end t ds) refl refl refl refl (λ o. o);
+  giving = giving_passes t (Did CloseClient) s (after s (Acts CloseClient)) (ToDo CloseClient ∷ ds) ds h.giving (passes_end t ds) refl refl refl refl (λ o. o) refl;
   shutting = shutting_closed t (Did CloseClient) s (after s (Acts CloseClient)) ds h.shutting refl refl;
   admitting = admitting_same t (Did CloseClient) s (after s (Acts CloseClient)) h.admitting refl refl refl (λ k. refl) (λ k. refl);
 }

@@ -5,6 +5,7 @@ use Rattle.std.proofs.lemmas.Bool.{eq-eqb}
 use Rattle.std.proofs.lemmas.Bool.Decides.{eqb_tells}
 use Rattle.model.specs.Messages.{Request, Item}
 use Rattle.model.specs.Messages.Item.{Block}
+use Rattle.model.specs.Tables.{Table}
 use Rattle.model.specs.Frames.{Frame, rst_stream_kind, settings_kind, is_ack, ends_headers, settings_ack, protocol_error}
 use Rattle.model.specs.Logs.Act.{Open, ToUp}
 use Rattle.model.specs.Http1.{H1Request, forward}
@@ -44,16 +45,16 @@ no_interrupt stream t noted row kind =
     ∙ ap (λ b. b && noted.frame.id == stream) kind
 
 -- the note is right at its place
-pub decodes_more : (t : List Entry) (s : State) (ds : List Due) (noted : Noted) → Giving t s ds → s.closed ≡ false → IsNoted noted → (table : _) × Decodes (noted ∷ came t) table
-decodes_more t s ds noted h on note =
-    let n = note h.decodes.0 in
-    (n.0, (h.decodes.0, h.decodes.1, subst (λ b. IsNoteOf b h.decodes.0 noted.note n.0) (sym (completed_alone (came t) noted.frame (h.no_block on))) n.1, h.all_read on))
+pub decodes_more : (t : List Entry) (s : State) (ds : List Due) (noted : Noted) (next : Table) → Giving t s ds → s.closed ≡ false → IsNoteOf (completed [] noted.frame) s.table noted.note next → Decodes (noted ∷ came t) next
+decodes_more t s ds noted next h on note =
+    let here : IsNoteOf (completed [] noted.frame) h.decodes.0 noted.note next = subst (λ x. IsNoteOf (completed [] noted.frame) x noted.note next) (h.decodes.2 on) note in
+    (h.decodes.0, h.decodes.1, subst (λ b. IsNoteOf b h.decodes.0 noted.note next) (sym (completed_alone (came t) noted.frame (h.no_block on))) here, h.all_read on)
 
 and_true : (a b : Bool) → a ≡ true → b ≡ true → (a && b) ≡ true
 and_true a b e f = ap (λ x. x && b) e ∙ f
 
 -- the client's settings
-pub giving_settled : (t : List Entry) (s : State) (noted : Noted) → Giving t s [] → s.closed ≡ false → IsNoted noted → MaySettle s noted → Giving (Came noted ∷ t) (after s (Takes noted Settled)) (ToSend settings_ack ∷ [])
+pub giving_settled : (t : List Entry) (s : State) (noted : Noted) → Giving t s [] → s.closed ≡ false → IsNoted s.table noted Settled → MaySettle s noted → Giving (Came noted ∷ t) (after s (Takes noted Settled)) (ToSend settings_ack ∷ [])
 giving_settled t s noted h on note may =
     let row : row_first_frame (came t) noted.frame ≡ None = row_settings (came t) noted.frame may.kind may.no_ack in
     let kind : (noted.frame.kind == rst_stream_kind) ≡ false = ap (λ k. k == rst_stream_kind) may.kind in record {
@@ -71,7 +72,7 @@ giving_settled t s noted h on note may =
       no_block = λ o. begun_alone (came t) noted (h.no_block on) ∙ may.no_block;
       all_read = λ o. and_true (is_read noted.note) (are_read (came t)) may.read (h.all_read on);
       settled = λ e frame. refl;
-      decodes = decodes_more t s [] noted h on note;
+      decodes = (s.table, decodes_more t s [] noted s.table h on note, (λ o. refl));
     }
   where
     either : (b : Bool) → (if b then [] else []) ≡ (let none : List Item = [] in none)
@@ -88,7 +89,7 @@ low_more : (high high' : ℕ) (os : List Opened) → high ≤ high' → AreLow h
 low_more high high' [] le h = tt
 low_more high high' (o ∷ os) le h = ((let x = h.0 in omega (arith, x, le)), low_more high high' os le h.1)
 
-module _ (t : List Entry) (s : State) (noted : Noted) (route : ℕ) (text : List ℕ) (request : Request) (h : Giving t s []) (on : s.closed ≡ false) (note : IsNoted noted) (may : MayServe s noted route text request) where
+module _ (t : List Entry) (s : State) (noted : Noted) (route : ℕ) (text : List ℕ) (request : Request) (next : Table) (h : Giving t s []) (on : s.closed ≡ false) (note : IsNoted s.table noted (Served route text request next)) (may : MayServe s noted route text request) where
   abbrev k : ℕ
   k = suc (length s.upstreams)
 
@@ -125,7 +126,7 @@ module _ (t : List Entry) (s : State) (noted : Noted) (route : ℕ) (text : List
     | inr x ↦ ap (λ b. sent_up j t ++ (if b then text ++ [] else [])) x.0
   ]
 
-  pub giving_served : Giving (Came noted ∷ t) (after s (Takes noted (Served route text request))) due
+  pub giving_served : Giving (Came noted ∷ t) (after s (Takes noted (Served route text request next))) due
   giving_served = record {
     numbered = (ap suc h.count, h.numbered);
     apart = (low_apart s.high noted.frame.id (opens t) may.above h.low, h.apart);
@@ -154,7 +155,7 @@ module _ (t : List Entry) (s : State) (noted : Noted) (route : ℕ) (text : List
     no_block = λ o. begun_alone (came t) noted (h.no_block on) ∙ may.no_block;
     all_read = λ o. and_true (is_read noted.note) (are_read (came t)) (ap is_read may.note) (h.all_read on);
     settled = λ e frame. refl;
-    decodes = decodes_more t s [] noted h on note;
+    decodes = (next, decodes_more t s [] noted next h on note, (λ o. refl));
   }
 
 -- ---- the end
@@ -165,8 +166,8 @@ no_opens t e s code same = ap (λ x. x ++ opens (e ∷ t)) (closes_open (last_st
 no_text : (j : ℕ) (t : List Entry) (e : Entry) (s : State) (code : ℕ) → sent_up j (e ∷ t) ≡ sent_up j t → all_text j (e ∷ t) (farewell s code) ≡ all_text j t []
 no_text j t e s code same = ap (λ x. sent_up j (e ∷ t) ++ x) (closes_send j 1 s.upstreams) ∙ ap (λ x. x ++ []) same
 
-pub giving_stopped : (t : List Entry) (s : State) (noted : Noted) (code : ℕ) → Giving t s [] → s.closed ≡ false → IsNoted noted → Giving (Came noted ∷ t) (after s (Takes noted (Stopped code))) (farewell s code)
-giving_stopped t s noted code h on note =
+pub giving_stopped : (t : List Entry) (s : State) (noted : Noted) (code : ℕ) (next : Table) → Giving t s [] → s.closed ≡ false → IsNoted s.table noted (Stopped code next) → Giving (Came noted ∷ t) (after s (Takes noted (Stopped code next))) (farewell s code)
+giving_stopped t s noted code next h on note =
     let same : all_opens (Came noted ∷ t) (farewell s code) ≡ opens t = no_opens t (Came noted) s code refl in record {
       numbered = subst AreNumbered (sym same) h.numbered;
       apart = subst AreApart (sym same) h.apart;
@@ -178,7 +179,7 @@ giving_stopped t s noted code h on note =
       no_block = λ o. absurd (let f : true ≡ false = o in cc);
       all_read = λ o. absurd (let f : true ≡ false = o in cc);
       settled = λ e frame. refl;
-      decodes = decodes_more t s [] noted h on note;
+      decodes = (note.0, decodes_more t s [] noted note.0 h on note.1, (λ o. absurd (let f : true ≡ false = o in cc)));
     }
 
 pub giving_breached : (t : List Entry) (s : State) (breach : Breach) → Giving t s [] → Giving (Breached breach ∷ t) (after s (Breaks breach)) (farewell s (breach_code breach))
@@ -195,5 +196,5 @@ giving_breached t s breach h =
       no_block = λ o. absurd (let f : true ≡ false = o in cc);
       all_read = λ o. absurd (let f : true ≡ false = o in cc);
       settled = h.settled;
-      decodes = h.decodes;
+      decodes = (h.decodes.0, h.decodes.1, (λ o. absurd (let f : true ≡ false = o in cc)));
     }

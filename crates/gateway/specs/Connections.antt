@@ -2,6 +2,7 @@
 use Rattle.std.specs.Prelude.{◌≡◌, ℕ, ◌+◌, ◌<◌, ◌≤◌, true, false, List, [], ◌∷◌, ◌++◌, length, map}
 use Rattle.model.specs.Messages.{Field, Request}
 use Rattle.model.specs.Messages.Item.{Block}
+use Rattle.model.specs.Tables.{Table}
 use Rattle.model.specs.Http1.{H1Request, forward}
 use Rattle.model.specs.Http2.{H2Request, authority_of, path_of}
 use Rattle.model.specs.Frames.{Frame, spell, settings_frame, settings_ack, goaway}
@@ -24,6 +25,7 @@ state_of c = record {
   high = c.high;
   untaken = c.untaken;
   upstreams = c.upstreams.items;
+  table = c.decoder.table;
 }
 
 -- how many octets for the client there can be: the settings, their acknowledgement and the farewell, each once
@@ -46,6 +48,10 @@ pub record IsTaken (routes : List Route) (fields : List Field) (route : ℕ) (te
 pub record IsHead (frame : Frame) : Type 0 where
   pub kind : frame.kind ≡ 1
   pub flags : frame.flags ≡ 5
+
+-- a header block of the client moves the table
+abbrev pub with_table : State → Table → State
+with_table s next = record s { table = next }
 
 -- the gateway's settings are sent
 abbrev pub greeted : State → State

@@ -2,6 +2,7 @@
 use Rattle.std.specs.Prelude.{ℕ, List, [], ◌∷◌, map}
 use Rattle.model.specs.Messages.{Request}
 use Rattle.model.specs.Frames.{Frame}
+use Rattle.model.specs.Tables.{Table}
 use Rattle.model.specs.Logs.{Event, Act, Output}
 use Rattle.model.specs.Tapes.{Noted, Breach, Entry, put_entry}
 use Rattle.model.specs.Tapes.Note.{NoBlock}
@@ -11,10 +12,10 @@ use Rattle.model.specs.Tapes.Entry.{Came, Breached, Happened, Sent, Did}
 pub data Outcome : Type 0 where
   -- the client's settings, to be acknowledged
   Settled : Outcome
-  -- a whole request, to be sent by a route as a text
-  Served : (route : ℕ) → (text : List ℕ) → (request : Request) → Outcome
-  -- the connection ends with an error code
-  Stopped : (code : ℕ) → Outcome
+  -- a whole request, to be sent by a route as a text; its block leaves the next table
+  Served : (route : ℕ) → (text : List ℕ) → (request : Request) → (next : Table) → Outcome
+  -- the connection ends with an error code; whatever table is kept then isn't read any more
+  Stopped : (code : ℕ) → (next : Table) → Outcome
 
 pub data Move : Type 0 where
   Takes : (noted : Noted) → (outcome : Outcome) → Move

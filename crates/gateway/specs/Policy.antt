@@ -21,9 +21,12 @@ use Rattle.gateway.specs.Moves.Outcome.{Settled, Served, Stopped}
 use Rattle.gateway.specs.declared.upstream.Upstream.{Upstream}
 use Rattle.gateway.specs.State.{State, upstream_at, after}
 
--- Whatever the table, the frame's note is right; no header block was begun before it.
-abbrev pub IsNoted : Noted → Type 0
-IsNoted noted = (table : Table) → (next : Table) × IsNoteOf (completed [] noted.frame) table noted.note next
+-- The frame's note is right behind this table, and leaves the table that is kept, unless the connection ends; no header
+-- block was begun before it.
+abbrev pub IsNoted : Table → Noted → Outcome → Type 0
+IsNoted table noted Settled = IsNoteOf (completed [] noted.frame) table noted.note table
+IsNoted table noted (Served route text request next) = IsNoteOf (completed [] noted.frame) table noted.note next
+IsNoted table noted (Stopped code next) = (left : Table) × IsNoteOf (completed [] noted.frame) table noted.note left
 
 -- The client's first frame is settings that the gateway takes.
 pub record MaySettle (s : State) (noted : Noted) : Type 0 where
@@ -57,8 +60,8 @@ pub record IsPlainSettings (frame : Frame) : Type 0 where
 -- An outcome is one that the frame may come to: such settings are taken where they come first.
 abbrev pub MayBe : State → Noted → Outcome → Type 0
 MayBe s noted Settled = MaySettle s noted
-MayBe s noted (Served route text request) = MayServe s noted route text request
-MayBe s noted (Stopped code) = s.settled ≡ false → IsPlainSettings noted.frame → ⊥
+MayBe s noted (Served route text request next) = MayServe s noted route text request
+MayBe s noted (Stopped code next) = s.settled ≡ false → IsPlainSettings noted.frame → ⊥
 
 -- The event may come, as far as the state tells.
 abbrev pub is_in_order : State → Event → Bool
@@ -82,7 +85,7 @@ MayDo s (Close k) = IsUp s k
 MayDo s CloseClient = Unit {0}
 
 abbrev pub Holds : State → Move → Type 0
-Holds s (Takes noted outcome) = IsNoted noted × MayBe s noted outcome
+Holds s (Takes noted outcome) = IsNoted s.table noted outcome × MayBe s noted outcome
 Holds s (Breaks breach) = Unit {0}
 Holds s (Hears event) = is_in_order s event ≡ true
 Holds s (Sends frame) = Fits frame × ((frame.kind == rst_stream_kind) ≡ false)
@@ -111,8 +114,8 @@ breach_code TooLong = frame_size_error
 
 abbrev pub answer_frame : State → Outcome → List Due
 answer_frame s Settled = ToSend settings_ack ∷ []
-answer_frame s (Served route text request) = ToDo (Open (suc (length s.upstreams)) route) ∷ ToDo (ToUp (suc (length s.upstreams)) text) ∷ []
-answer_frame s (Stopped code) = farewell s code
+answer_frame s (Served route text request next) = ToDo (Open (suc (length s.upstreams)) route) ∷ ToDo (ToUp (suc (length s.upstreams)) text) ∷ []
+answer_frame s (Stopped code next) = farewell s code
 
 abbrev pub answer_event : State → Event → List Due
 answer_event s ClientEnd = closes s

@@ -1,5 +1,6 @@
 -- Where a gateway stands: for which log, and for which tape of it.
 use Rattle.std.specs.Prelude.{◌≡◌, ℕ, ◌+◌, ◌*◌, Bool, true, false, List, [], ◌∷◌, ◌++◌, length, reverse, map, take, slice_get, Some}
+use Rattle.model.specs.Tables.{total_size}
 use Rattle.model.specs.Octets.{IsFront, IsStrictFront}
 use Rattle.model.specs.Frames.{Reading, preface}
 use Rattle.model.specs.Logs.{Event, Output, Step, client_in}
@@ -27,9 +28,10 @@ pub record Standing : Type 0 where
   pub kept : Kept
   pub dead : Bool
 
--- the octets in all lists that the gateway holds, the configuration aside: those of the client that aren't a whole frame
+-- what all lists of octets that the gateway holds sum to, the configuration aside: the client's octets that aren't a whole
+-- frame, and the fields of the table, each with the 32 by which RFC 7541, section 4.1, counts it
 abbrev pub held : Standing → ℕ
-held g = length g.kept.partial
+held g = length g.kept.partial + total_size g.kept.state.table.fields
 
 abbrev pub held_bound : Setup → ℕ
 held_bound setup = 200000 + 100 * (setup.max_body + setup.max_response + 400000)

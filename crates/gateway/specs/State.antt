@@ -2,6 +2,7 @@
 use Rattle.std.specs.Prelude.{ℕ, zero, suc, ◌+◌, ◌-◌, Bool, true, false, List, [], ◌∷◌, ◌++◌, length, set, get_or}
 use Rattle.model.specs.Setup.{Setup}
 use Rattle.model.specs.Frames.{spell}
+use Rattle.model.specs.Tables.{Table, first_table}
 use Rattle.model.specs.Logs.Event.{ClientEnd, ClientTook, UpFailed, UpTook}
 use Rattle.model.specs.Logs.Act.{Open, ToUp, Close}
 use Rattle.gateway.specs.declared.upstream.Upstream.{Upstream}
@@ -23,9 +24,11 @@ pub record State : Type 0 where
   pub untaken : ℕ
   -- the connections to upstreams, by their numbers from 1
   pub upstreams : List Upstream
+  -- the table of the client's header blocks
+  pub table : Table
 
 abbrev pub start : Setup → State
-start setup = record { setup = setup; greeted = false; settled = false; closed = false; high = 0; untaken = 0; upstreams = [] }
+start setup = record { setup = setup; greeted = false; settled = false; closed = false; high = 0; untaken = 0; upstreams = []; table = first_table }
 
 abbrev pub nobody : Upstream
 nobody = record { is_open = false; untaken = 0 }
@@ -57,13 +60,13 @@ settled_after settled (Takes noted Settled) = true
 settled_after settled _ = settled
 
 abbrev pub closed_after : Bool → Move → Bool
-closed_after closed (Takes noted (Stopped code)) = true
+closed_after closed (Takes noted (Stopped code next)) = true
 closed_after closed (Breaks breach) = true
 closed_after closed (Hears ClientEnd) = true
 closed_after closed _ = closed
 
 abbrev pub high_after : ℕ → Move → ℕ
-high_after high (Takes noted (Served route text request)) = noted.frame.id
+high_after high (Takes noted (Served route text request next)) = noted.frame.id
 high_after high _ = high
 
 abbrev pub untaken_after : ℕ → Move → ℕ
@@ -79,6 +82,11 @@ upstreams_after us (Hears (UpFailed k)) = with_upstream us k (closed_up (upstrea
 upstreams_after us (Hears (UpTook k count)) = with_upstream us k (taken count (upstream_at us k))
 upstreams_after us _ = us
 
+abbrev pub table_after : Table → Move → Table
+table_after table (Takes noted (Served route text request next)) = next
+table_after table (Takes noted (Stopped code next)) = next
+table_after table _ = table
+
 abbrev pub after : State → Move → State
 after s m = record {
   setup = s.setup;
@@ -88,4 +96,5 @@ after s m = record {
   high = high_after s.high m;
   untaken = untaken_after s.untaken m;
   upstreams = upstreams_after s.upstreams m;
+  table = table_after s.table m;
 }

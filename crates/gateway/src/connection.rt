@@ -15,9 +15,10 @@ ghost use Rattle.gateway.specs.Moves.Move.{Hears};
 ghost use Rattle.model.specs.Logs.Event.{UpFailed, UpTook};
 ghost use Rattle.gateway.specs.Policy.{is_admitted, Answers, Begins, IsPlainSettings};
 ghost use Rattle.gateway.specs.Receiving.{Takes};
-ghost use Rattle.header_blocks.specs.Everywhere.{BlockEverywhere};
+ghost use Rattle.model.specs.Blocks.{Block as IsBlockOf};
+ghost use Rattle.header_blocks.specs.Bounds.{IsBounded as IsTableBounded};
 ghost use Rattle.model.specs.Messages.{Field as FieldLine};
-ghost use Rattle.gateway.specs.Connections.{greeted, settled, served, ended, left, put_end, put_farewell, IsTaken, IsHead};
+ghost use Rattle.gateway.specs.Connections.{greeted, settled, served, ended, left, put_end, put_farewell, with_table, IsTaken, IsHead};
 
 use crate::config::Config;
 use crate::events::Event;
@@ -25,7 +26,7 @@ use crate::outputs::Outputs;
 use crate::requests::read_request;
 use crate::upstream::{Upstream, close_each, set_upstream, upstream_at};
 use frames::{Split, View};
-use header_blocks::{BlockFault, Decoded, Decoder};
+use header_blocks::{DecodeFault, Decoded, TableDecoder};
 use std::alloc::{AllocError, Global};
 use std::marker::Model;
 
@@ -43,6 +44,8 @@ const INTERNAL_ERROR: u32 = 2;
 
 const FRAME_SIZE_ERROR: u32 = 6;
 
+const COMPRESSION_ERROR: u32 = 9;
+
 /// What is kept of a client's connection. A clause sees the state that its moves lead to.
 #[derive(Drop)]
 pub struct Connection {
@@ -53,7 +56,7 @@ pub struct Connection {
     high: u32,
     untaken: u64,
     upstreams: Vec<Upstream>,
-    decoder: Decoder,
+    decoder: TableDecoder,
 }
 
 impl Model for Connection {
@@ -95,7 +98,8 @@ fn goaway_payload(last: u32, code: u32) -> [u8; 8]
 impl Connection {
     /// A connection to which nothing came.
     pub fn new(alloc: Global, config: Config) -> Connection
-        ensures { result ≡ start (setup_of config) }
+        ensures state { result ≡ start (setup_of config) }
+        ensures bounded { IsTableBounded result.table }
     {
         Connection {
             config,
@@ -105,7 +109,7 @@ impl Connection {
             high: 0,
             untaken: 0,
             upstreams: Vec::new(alloc),
-            decoder: Decoder::new(4096),
+            decoder: TableDecoder::new(alloc, 4096),
         }
     }
 
@@ -148,6 +152,7 @@ impl Connection {
         requires { self.old.greeted ≡ false }
         ensures state { OnOk result (self.new ≡ greeted self.old) }
         ensures outputs { OnOk result (out.new ≡ put out.old (ToClient (spell settings_frame))) }
+        ensures bounded { IsTableBounded self.old.table → IsTableBounded self.new.table }
     {
         let view = View {
             kind: 4,
@@ -163,7 +168,8 @@ impl Connection {
 
     /// Sends the gateway's settings, unless they were sent.
     pub fn begin(&mut self, out: &mut Outputs) -> Result<(), AllocError>
-        ensures { OnOk result (Begins self.old self.new out.old out.new) }
+        ensures begins { OnOk result (Begins self.old self.new out.old out.new) }
+        ensures bounded { IsTableBounded self.old.table → IsTableBounded self.new.table }
     {
         if !self.greeted {
             self.greet(out)?;
@@ -177,6 +183,7 @@ impl Connection {
         requires alive { self.old.closed ≡ false }
         ensures state { OnOk result (self.new ≡ settled self.old) }
         ensures outputs { OnOk result (out.new ≡ put out.old (ToClient (spell settings_ack))) }
+        ensures bounded { IsTableBounded self.old.table → IsTableBounded self.new.table }
     {
         let view = View {
             kind: 4,
@@ -203,6 +210,7 @@ impl Connection {
         requires few { length self.old.upstreams < 100 }
         ensures state { OnOk result (self.new ≡ served self.old stream (length text.items)) }
         ensures outputs { OnOk result (out.new ≡ put (put out.old (Does (DoesOpen (suc (length self.old.upstreams)) route))) (Does (DoesUp (suc (length self.old.upstreams)) text.items))) }
+        ensures bounded { IsTableBounded self.old.table → IsTableBounded self.new.table }
     {
         let k = self.upstreams.len() as u32 + 1;
         let untaken = text.len() as u64;
@@ -220,6 +228,7 @@ impl Connection {
     fn end(&mut self, out: &mut Outputs) -> Result<(), AllocError>
         ensures state { OnOk result (self.new ≡ ended self.old) }
         ensures outputs { OnOk result (out.new ≡ put_end out.old self.old) }
+        ensures bounded { IsTableBounded self.old.table → IsTableBounded self.new.table }
     {
         close_each(&mut self.upstreams, out)?;
         self.closed = true;
@@ -231,6 +240,7 @@ impl Connection {
         requires { self.old.closed ≡ false }
         ensures state { OnOk result (self.new ≡ left self.old code) }
         ensures outputs { OnOk result (out.new ≡ put_farewell out.old self.old code) }
+        ensures bounded { IsTableBounded self.old.table → IsTableBounded self.new.table }
     {
         let payload = goaway_payload(self.high, code);
         let view = View {
@@ -251,7 +261,8 @@ impl Connection {
     fn take_settings(&mut self, view: &View<'_>, out: &mut Outputs) -> Result<(), AllocError>
         requires first { self.old.settled ≡ false }
         requires alive { self.old.closed ≡ false }
-        ensures { OnOk result (Answers self.old self.new out.old out.new (OfFrame (frame_of view.now) ∷ [])) }
+        ensures answers { OnOk result (Answers self.old self.new out.old out.new (OfFrame (frame_of view.now) ∷ [])) }
+        ensures bounded { IsTableBounded self.old.table → IsTableBounded self.new.table }
     {
         if is_plain_settings(view) {
             return self.settle(out);
@@ -265,24 +276,25 @@ impl Connection {
         self.leave(code, out)
     }
 
-    /// The place of the route and the text of the request that a frame is, where it is one that goes on.
+    /// The place of the route and the text of the request that a frame is, where it is one that goes on. Its block moves the
+    /// table.
     fn request_of(
         &mut self,
         alloc: Global,
         view: &View<'_>,
-    ) -> Result<Option<(u32, Vec<u8>)>, AllocError>
-        ensures same { self.new ≡ self.old }
+    ) -> Result<Option<(u32, Vec<u8>)>, DecodeFault>
+        ensures same { self.new ≡ with_table self.old self.new.table }
+        ensures bounded { IsTableBounded self.old.table → IsTableBounded self.new.table }
         ensures taken { IfOk result (λ found. IfSome found (λ p. (fields : List FieldLine) × IsHead (frame_of view.now) × (self.old.high < view.now.id) × (view.now.id < 2147483648) × (length self.old.upstreams < 100)
-            × BlockEverywhere view.now.payload.now fields × IsTaken self.old.setup.routes fields p.0 p.1.items)) }
+            × IsBlockOf self.old.table view.now.payload.now fields self.new.table × IsTaken self.old.setup.routes fields p.0 p.1.items)) }
     {
         let is_new = view.id % 2 == 1 && view.id > self.high && view.id < 2147483648;
         if view.kind != 1 || view.flags != 5 || !is_new || self.upstreams.len() >= 100 {
             return Ok(None);
         }
-        match self.decoder.decode(alloc, view.payload, LIST_LIMIT) {
-            Ok(Decoded::Fields(fields)) => read_request(alloc, &self.config.routes, &fields),
-            Ok(Decoded::TooLarge) | Err(BlockFault::Unread) => Ok(None),
-            Err(BlockFault::Memory) => Err(AllocError),
+        match self.decoder.decode(alloc, view.payload, LIST_LIMIT)? {
+            Decoded::Fields(fields) => Ok(read_request(alloc, &self.config.routes, &fields)?),
+            Decoded::TooLarge => Ok(None),
         }
     }
 
@@ -294,20 +306,24 @@ impl Connection {
         out: &mut Outputs,
     ) -> Result<(), AllocError>
         requires { self.old.closed ≡ false }
-        ensures { OnOk result (Answers self.old self.new out.old out.new (OfFrame (frame_of view.now) ∷ [])) }
+        ensures answers { OnOk result (Answers self.old self.new out.old out.new (OfFrame (frame_of view.now) ∷ [])) }
+        ensures bounded { IsTableBounded self.old.table → IsTableBounded self.new.table }
     {
         if !self.settled {
             return self.take_settings(view, out);
         }
-        match self.request_of(alloc, view)? {
-            Some((route, text)) => self.serve(view.id, route, text, out),
-            None => self.leave(INTERNAL_ERROR, out),
+        match self.request_of(alloc, view) {
+            Ok(Some((route, text))) => self.serve(view.id, route, text, out),
+            Ok(None) => self.leave(INTERNAL_ERROR, out),
+            Err(DecodeFault::Memory) => Err(AllocError),
+            Err(_) => self.leave(COMPRESSION_ERROR, out),
         }
     }
 
     /// Takes a connection to an upstream as closed.
     fn drop_upstream(&mut self, k: u32)
-        ensures { self.new ≡ after self.old (Hears (UpFailed k)) }
+        ensures state { self.new ≡ after self.old (Hears (UpFailed k)) }
+        ensures bounded { IsTableBounded self.old.table → IsTableBounded self.new.table }
     {
         let upstream = upstream_at(&self.upstreams, k);
         let closed = Upstream {
@@ -320,7 +336,8 @@ impl Connection {
     /// Counts octets as taken by an upstream's side.
     fn take_from(&mut self, k: u32, count: u64)
         requires { count ≤ (spec_upstream_at self.old.upstreams k).untaken }
-        ensures { self.new ≡ after self.old (Hears (UpTook k count)) }
+        ensures state { self.new ≡ after self.old (Hears (UpTook k count)) }
+        ensures bounded { IsTableBounded self.old.table → IsTableBounded self.new.table }
     {
         let upstream = upstream_at(&self.upstreams, k);
         let less = Upstream {
@@ -334,7 +351,8 @@ impl Connection {
     pub fn hear(&mut self, event: &Event, out: &mut Outputs) -> Result<(), AllocError>
         requires admitted { is_admitted self.old (event_of event.now) ≡ true }
         requires other { listed (event_of event.now) ≡ event_of event.now ∷ [] }
-        ensures { OnOk result (Answers self.old self.new out.old out.new (OfEvent (event_of event.now) ∷ [])) }
+        ensures answers { OnOk result (Answers self.old self.new out.old out.new (OfEvent (event_of event.now) ∷ [])) }
+        ensures bounded { IsTableBounded self.old.table → IsTableBounded self.new.table }
     {
         match event {
             Event::Client(_) => unreachable!(),
@@ -360,6 +378,7 @@ impl Connection {
     ) -> Result<usize, AllocError>
         ensures within { IfOk result (λ used. used ≤ length text.now) }
         ensures takes { IfOk result (λ used. Takes self.old self.new out.old out.new text.now (drop used text.now)) }
+        ensures bounded { IsTableBounded self.old.table → IsTableBounded self.new.table }
     {
         let mut used = 0;
         while !self.closed {
@@ -383,6 +402,7 @@ impl Connection {
         requires { self.old.closed ≡ false }
         ensures answers { OnOk result (Answers self.old self.new out.old out.new (OfBreach WrongPreface ∷ [])) }
         ensures closed { OnOk result (self.new.closed ≡ true) }
+        ensures bounded { IsTableBounded self.old.table → IsTableBounded self.new.table }
     {
         self.leave(PROTOCOL_ERROR, out)
     }

@@ -46,8 +46,9 @@ impl Model for Gateway {
     ghost view = { λ g. record { kept = record { partial = g.partial.items; begun = g.begun; state = g.connection }; dead = g.dead } };
 
     ghost use Rattle.std.specs.Prelude.{◌<◌, length};
+    ghost use Rattle.header_blocks.specs.Bounds.{IsBounded as IsTableBounded};
 
-    ghost invariant = { λ g. length g.partial.items < 16393 };
+    ghost invariant = { λ g. (length g.partial.items < 16393) × IsTableBounded g.connection.table };
 }
 
 /// Cuts octets off the front of a text.

@@ -11,7 +11,7 @@ returns-clause-steps c =
       steps = record {
         greeted = record { partial = c.self.inside.partial.items; begun = c.self.inside.begun; state = c.begin.new.self };
         begun_outputs = c.begin.new.out;
-        begins = subst (λ o. Begins c.self.inside.connection c.begin.new.self o c.begin.new.out) c.new-outputs.ensures c.in_ok-begin.ensures;
+        begins = subst (λ o. Begins c.self.inside.connection c.begin.new.self o c.begin.new.out) c.new-outputs.ensures c.in_ok-begin.ensures.begins;
         same_partial = refl;
         same_begun = refl;
         happens = c.in_ok-happen.ensures.happens;

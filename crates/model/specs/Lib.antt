@@ -17,3 +17,4 @@ pub mod Streams
 pub mod Admission
 pub mod Requests
 pub mod Faithful
+pub mod Windows

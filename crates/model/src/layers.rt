@@ -1,0 +1,12 @@
+//! Laws of what looks at one window or one turn (RFC 9113, section 6.9).
+
+ghost use Rattle.std.specs.Prelude.{◌≡◌, ℕ, ◌+◌, pos, ◌+ℤ◌, ◌-ℤ◌};
+ghost use Rattle.model.specs.Windows.{sending_window, size_difference};
+
+/// A sending window may be kept as one number: what is sent is taken from it, what is granted is added, and a new first
+/// size shifts it by the difference (RFC 9113, sections 6.9.1 and 6.9.2).
+pub fn running_window()
+    ensures taken { (first granted sent n : ℕ) → sending_window first granted (sent + n) ≡ sending_window first granted sent -ℤ pos n }
+    ensures granted { (first granted sent n : ℕ) → sending_window first (granted + n) sent ≡ sending_window first granted sent +ℤ pos n }
+    ensures shifted { (old new granted sent : ℕ) → sending_window new granted sent ≡ sending_window old granted sent +ℤ size_difference old new }
+{}

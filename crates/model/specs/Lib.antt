@@ -18,3 +18,4 @@ pub mod Admission
 pub mod Requests
 pub mod Faithful
 pub mod Windows
+pub mod Turns

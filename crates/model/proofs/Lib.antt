@@ -11,5 +11,6 @@ pub mod Http2Readings
 pub mod Http2Sends
 mod Http2Examples
 mod HpackExamples
+mod LayersExamples
 pub mod IntegerLemmas
 pub mod HuffmanLemmas

@@ -19,3 +19,4 @@ pub mod Requests
 pub mod Faithful
 pub mod Windows
 pub mod Turns
+pub mod SettingValues

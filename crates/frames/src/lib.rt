@@ -5,8 +5,12 @@ ghost use Rattle.std.specs.Prelude.{◌≡◌, ◌+◌, ◌<◌, ◌++◌, lengt
 ghost use Rattle.model.specs.Frames.{spell, Fits};
 ghost use Rattle.frames.specs.Views.{frame_of, IsSplit};
 
+mod parts;
+mod payload;
 mod views;
 
+pub use parts::{Frame, FrameFault};
+pub use payload::parse;
 use std::alloc::AllocError;
 pub use views::{Split, View};
 
@@ -84,5 +88,7 @@ fn header_of(view: &View<'_>) -> [u8; 9]
     ]
 }
 
+#[cfg(test)]
+mod payload_tests;
 #[cfg(test)]
 mod tests;

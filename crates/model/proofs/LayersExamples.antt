@@ -1,10 +1,12 @@
--- Worked examples of settings, each by computation.
+-- Worked examples of settings, windows and payloads, each by computation.
 use Rattle.std.proofs.Common.{◌≡◌, [], ◌∷◌, ◌++◌, Some, None, refl}
 use Rattle.std.specs.Prelude.{negsuc}
 use Rattle.model.specs.Frames.{setting}
+use Rattle.model.specs.Payloads.{Parts, payload_fault, parts_of}
+use Rattle.model.specs.Payloads.PayloadFault.{WrongSize, OverPadded}
 use Rattle.model.specs.Windows.{size_difference, sending_window}
 use Rattle.model.specs.SettingValues.{settings_in, settings_fault, initial_window_after, smallest_value, last_value}
-use Rattle.model.specs.SettingValues.SettingsFault.{Size, Push, Window, FrameSize}
+use Rattle.model.specs.SettingValues.SettingsFault.{Size, Push, FrameSize}
 
 -- MAX_FRAME_SIZE of 16,383 is a fault: 0005 00003fff
 pub short_frame : settings_fault (0 ∷ 5 ∷ 0 ∷ 0 ∷ 63 ∷ 255 ∷ []) ≡ Some FrameSize
@@ -39,3 +41,29 @@ lowered = refl
 -- a window from which 20,000 octets were sent is below zero then
 pub below_zero : sending_window 10 0 20000 ≡ negsuc 19989
 below_zero = refl
+
+-- HEADERS with padding and a priority: 02 000000000f 82 0000 has the fragment 82
+pub padded_fragment : parts_of (record { kind = 1; flags = 40; id = 1; payload = 2 ∷ 0 ∷ 0 ∷ 0 ∷ 0 ∷ 15 ∷ 130 ∷ 0 ∷ 0 ∷ [] }) ≡ Parts.Headers (130 ∷ [])
+padded_fragment = refl
+
+-- the same with a pad length of 4 is too much padding, and with 3 the fragment is empty
+pub over_padded : payload_fault (record { kind = 1; flags = 40; id = 1; payload = 4 ∷ 0 ∷ 0 ∷ 0 ∷ 0 ∷ 15 ∷ 130 ∷ 0 ∷ 0 ∷ [] }) ≡ Some OverPadded
+over_padded = refl
+
+pub all_padding : payload_fault (record { kind = 1; flags = 40; id = 1; payload = 3 ∷ 0 ∷ 0 ∷ 0 ∷ 0 ∷ 15 ∷ 130 ∷ 0 ∷ 0 ∷ [] }) ≡ None
+all_padding = refl
+
+-- four octets have no room for the priority, nor has an empty payload for the pad length
+pub no_priority : payload_fault (record { kind = 1; flags = 32; id = 1; payload = 0 ∷ 0 ∷ 0 ∷ 0 ∷ [] }) ≡ Some WrongSize
+no_priority = refl
+
+pub no_pad_length : payload_fault (record { kind = 0; flags = 8; id = 1; payload = [] }) ≡ Some WrongSize
+no_pad_length = refl
+
+-- SETTINGS with ACK has no entries
+pub full_ack : payload_fault (record { kind = 4; flags = 1; id = 0; payload = 0 ∷ 3 ∷ 0 ∷ 0 ∷ 0 ∷ 100 ∷ [] }) ≡ Some WrongSize
+full_ack = refl
+
+-- the reserved bit above an increment is ignored: ffff0001 is 2,147,418,113
+pub reserved_increment : parts_of (record { kind = 8; flags = 0; id = 0; payload = 255 ∷ 255 ∷ 0 ∷ 1 ∷ [] }) ≡ Parts.WindowUpdate 2147418113
+reserved_increment = refl

@@ -12,5 +12,6 @@ pub mod Http2Sends
 mod Http2Examples
 mod HpackExamples
 mod LayersExamples
+pub mod LayersPayloads
 pub mod IntegerLemmas
 pub mod HuffmanLemmas

@@ -20,3 +20,4 @@ pub mod Faithful
 pub mod Windows
 pub mod Turns
 pub mod SettingValues
+pub mod Payloads

@@ -1,6 +1,9 @@
-//! Laws of what looks at one window or one turn (RFC 9113, section 6.9).
+//! Laws of what looks at one payload, one window or one turn (RFC 9113, section 6).
 
-ghost use Rattle.std.specs.Prelude.{◌≡◌, ℕ, ◌+◌, pos, ◌+ℤ◌, ◌-ℤ◌};
+ghost use Rattle.std.specs.Prelude.{◌≡◌, ℕ, ◌+◌, pos, ◌+ℤ◌, ◌-ℤ◌, List, Option, None, Some};
+ghost use Rattle.model.specs.Frames.{Frame};
+ghost use Rattle.model.specs.Payloads.{payload_fault, IsPadded};
+ghost use Rattle.model.specs.Turns.{IsNextTurn};
 ghost use Rattle.model.specs.Windows.{sending_window, size_difference};
 
 /// A sending window may be kept as one number: what is sent is taken from it, what is granted is added, and a new first
@@ -9,4 +12,15 @@ pub fn running_window()
     ensures taken { (first granted sent n : ℕ) → sending_window first granted (sent + n) ≡ sending_window first granted sent -ℤ pos n }
     ensures granted { (first granted sent n : ℕ) → sending_window first (granted + n) sent ≡ sending_window first granted sent +ℤ pos n }
     ensures shifted { (old new granted sent : ℕ) → sending_window new granted sent ≡ sending_window old granted sent +ℤ size_difference old new }
+{}
+
+/// A payload without a fault has just the padding that its pad length says, behind its content (RFC 9113, sections 6.1
+/// and 6.2).
+pub fn padded_payload()
+    ensures { (frame : Frame) → payload_fault frame ≡ None → IsPadded frame }
+{}
+
+/// Behind a turn one id alone may be next.
+pub fn one_next_turn()
+    ensures { (last : ℕ) (ready : List ℕ) (a b : Option ℕ) → IsNextTurn last ready a → IsNextTurn last ready b → a ≡ b }
 {}

@@ -21,3 +21,4 @@ pub mod Windows
 pub mod Turns
 pub mod SettingValues
 pub mod Payloads
+pub mod StreamStates

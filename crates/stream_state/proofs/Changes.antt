@@ -1,5 +1,5 @@
 -- What a change and an opening do to records.
-use Rattle.std.proofs.Common.{◌≡◌, ℕ, zero, suc, ◌+◌, ◌<◌, ◌≤◌, ◌≢◌, List, [], ◌∷◌, ◌++◌, length, get_or, set, map, true, false, Bool, refl, sym, ap, subst, ◌∙◌, arith, rules, length-append, length-set, inl, inr}
+use Rattle.std.proofs.Common.{◌≡◌, ℕ, zero, suc, ◌+◌, ◌<◌, ◌≤◌, ◌≢◌, List, [], ◌∷◌, ◌++◌, length, get_or, set, true, false, Bool, refl, ap, subst, arith, length-append, length-set, inl, inr}
 use Rattle.std.proofs.lemmas.List.{map-set, map-append, get_or-map, length-map, get_or_append_left}
 use Rattle.std.proofs.Math.Seq.{get_or-append_seam}
 use Rattle.std.proofs.lemmas.Bool.{cases_lt}
@@ -9,7 +9,7 @@ use Rattle.std.specs.Prelude.{cond, ◌&&◌, nat_lt}
 use Rattle.std.specs.List.{sum_by}
 use Rattle.std.proofs.lemmas.Bool.{ltb-true}
 use Rattle.std.proofs.lemmas.Bool.Decides.{nat_tests}
-use Rattle.model.specs.StreamStates.{OpenedStream, Change, is_active, active_count, after, with_change, changed, is_above, most_streams}
+use Rattle.model.specs.StreamStates.{OpenedStream, Change, is_active, active_count, after, changed, is_above, most_streams}
 use Rattle.stream_state.specs.declared.records.Record.{Record}
 use Rattle.stream_state.specs.declared.states.State.{State}
 use Rattle.stream_state.specs.declared.states.State.TheVariants.{Open, Closed}

@@ -1,8 +1,8 @@
 -- States, kinds and verdicts in words of the definitions.
-use Rattle.std.specs.Prelude.{ℕ, if◌then◌else◌}
+use Rattle.std.specs.Prelude.{◌≡◌, ℕ, ◌<◌, IsTrue, if◌then◌else◌, List, length}
 use Rattle.model.specs.Errors.{Fault}
-use Rattle.model.specs.Frames.{data_kind, headers_kind, rst_stream_kind, window_update_kind}
-use Rattle.model.specs.StreamStates.{StreamState, is_active, Change, Standing, Verdict}
+use Rattle.model.specs.Frames.{data_kind, headers_kind, rst_stream_kind, window_update_kind, refused_stream}
+use Rattle.model.specs.StreamStates.{StreamState, is_active, Change, OpenedStream, is_above, most_streams, Standing, Verdict}
 use Rattle.stream_state.specs.declared.states.State.{State}
 use Rattle.stream_state.specs.declared.states.State.TheVariants as state
 use Rattle.stream_state.specs.declared.states.Step.{Step}
@@ -52,3 +52,14 @@ verdict_in answer.Open = Verdict.Opens
 verdict_in answer.Discard = Verdict.Fails Fault.Discarded
 verdict_in (answer.Stream code) = Verdict.Fails (Fault.Stream code)
 verdict_in (answer.Connection code) = Verdict.Fails (Fault.Connection code)
+
+-- A stream with this id may be opened: it is above all that were, and these aren't all that are opened on a connection.
+pub record IsOpenable (id : ℕ) (streams : List OpenedStream) : Type 0 where
+  pub above : IsTrue (is_above id streams)
+  pub few : length streams < most_streams
+
+-- Where the answer is that a frame opens its stream, or that it is refused though it would, the stream may be opened.
+abbrev pub AllowsOpening : Answer → ℕ → List OpenedStream → Type 0
+AllowsOpening answer.Open id streams = IsOpenable id streams
+AllowsOpening (answer.Stream code) id streams = code ≡ refused_stream → IsOpenable id streams
+AllowsOpening _ id streams = Unit {0}

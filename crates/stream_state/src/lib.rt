@@ -1,7 +1,7 @@
 //! Which streams were opened, in which states they are, and what that says of a frame (RFC 9113, section 5.1).
 #![tactic(auto)]
 
-ghost use Rattle.std.specs.Prelude.{◌≡◌, ◌<◌, ◌≤◌, [], ◌∷◌, ◌++◌, length, IsTrue, OnOk, OnErr};
+ghost use Rattle.std.specs.Prelude.{◌≡◌, ◌≤◌, [], ◌∷◌, ◌++◌, OnOk, OnErr};
 ghost use Rattle.model.specs.StreamStates.{StreamState, standing, verdict, active_count, changed, is_above, unopened, most_streams};
 ghost use Rattle.model.specs.StreamStates.Change.{RemoteEnds, LocalEnds, PeerResets, WeReset};
 
@@ -14,10 +14,9 @@ mod verdicts;
 use crate::records::{Record, place_of};
 use crate::states::{State, Step, count_after, state_after};
 use crate::verdicts::{Place, verdict_at};
+pub use crate::verdicts::{Kind, Verdict};
 use std::alloc::{AllocError, Global};
 use std::marker::Model;
-
-pub use crate::verdicts::{Kind, Verdict};
 
 /// How many streams are opened on a connection (this project's profile).
 const MOST_STREAMS: usize = 10000;
@@ -42,7 +41,7 @@ impl Model for Streams {
 }
 
 impl Streams {
-    ghost use Rattle.stream_state.specs.Views.{change_in, kind_in, standing_in, verdict_in};
+    ghost use Rattle.stream_state.specs.Views.{change_in, kind_in, standing_in, verdict_in, IsOpenable, AllowsOpening};
 
     /// A connection on which no stream was opened.
     pub fn new(alloc: Global) -> Self
@@ -57,18 +56,20 @@ impl Streams {
     /// What comes of a frame on this id by the state of its stream (RFC 9113, sections 5.1, 5.1.1 and 5.1.2). An id above
     /// that of the 10,000th stream is one that a GOAWAY with NO_ERROR has ruled out (RFC 9113, section 6.8).
     ///
-    /// What the id itself is against is judged before: DATA and RST_STREAM on 0.
+    /// DATA and RST_STREAM on 0, which the id alone is against, pass here: they are judged before (RFC 9113, sections 6.1
+    /// and 6.4). Where the answer is `Open`, or REFUSED_STREAM for want of room, `open` may be called with the id.
     pub fn verdict(&self, id: u32, kind: Kind) -> Verdict
-        ensures { verdict_in result ≡ verdict (active_count self.now) (standing self.now id) (kind_in kind) }
+        ensures is { verdict_in result ≡ verdict (active_count self.now) (standing self.now id) (kind_in kind) }
+        ensures allows { AllowsOpening result id self.now }
     {
-        verdict_at(self.active, self.place(id), kind)
+        let place = self.place(id);
+        verdict_at(self.active, place, kind)
     }
 
     /// Opens a stream: its id, odd and above all that were opened, of which there are fewer than 10,000, is added, and is
     /// active. The only error is that no memory was left, and then nothing changes.
     pub fn open(&mut self, id: u32) -> Result<(), AllocError>
-        requires rises { IsTrue (is_above id self.old) }
-        requires few { length self.old < most_streams }
+        requires { IsOpenable id self.old }
         ensures ok { OnOk result (self.new ≡ self.old ++ record { id = id; state = StreamState.Open } ∷ []) }
         ensures err { OnErr result (self.new ≡ self.old) }
     {

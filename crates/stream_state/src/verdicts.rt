@@ -8,7 +8,9 @@ use crate::states::State;
 
 /// Error codes (RFC 9113, section 7).
 const PROTOCOL_ERROR: u32 = 1;
+
 const STREAM_CLOSED: u32 = 5;
+
 const REFUSED_STREAM: u32 = 7;
 
 /// How many streams are active at once: the SETTINGS_MAX_CONCURRENT_STREAMS that is announced (RFC 9113, section 6.5.2).

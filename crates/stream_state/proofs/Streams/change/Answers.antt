@@ -1,5 +1,5 @@
-use Rattle.std.proofs.Common.{◌≡◌, get_or, sym}
-use Rattle.stream_state.specs.Records.{absent, IsAt}
+use Rattle.std.proofs.Common.{sym}
+use Rattle.stream_state.specs.Records.{IsAt}
 use Rattle.stream_state.proofs.Searches.{read}
 use Rattle.stream_state.proofs.Changes.{unchanged_in_gap, read_counted, read_kept, read_changed}
 use Rattle.stream_state.proofs.Streams.change.Goals as goal

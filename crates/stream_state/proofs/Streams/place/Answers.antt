@@ -1,6 +1,5 @@
 use Rattle.stream_state.proofs.Searches.{standing_at, standing_in_gap}
-use Rattle.std.proofs.Common.{◌≡◌, ◌∙◌, ap}
-use Rattle.stream_state.specs.Records.{IsAt, IsGap}
+use Rattle.std.proofs.Common.{◌∙◌}
 use Rattle.stream_state.proofs.Streams.place.Goals as goal
 
 pub returns-in-Ok : goal.returns-in-Ok

@@ -13,5 +13,6 @@ mod Http2Examples
 mod HpackExamples
 mod LayersExamples
 pub mod LayersPayloads
+pub mod LayersTurns
 pub mod IntegerLemmas
 pub mod HuffmanLemmas

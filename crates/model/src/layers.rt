@@ -1,9 +1,9 @@
 //! Laws of what looks at one payload, one window or one turn (RFC 9113, section 6).
 
-ghost use Rattle.std.specs.Prelude.{◌≡◌, ℕ, ◌+◌, pos, ◌+ℤ◌, ◌-ℤ◌, List, Option, None, Some};
+ghost use Rattle.std.specs.Prelude.{◌≡◌, ◌≤◌, ℕ, ◌+◌, pos, ◌+ℤ◌, ◌-ℤ◌, List, Option, None, Some};
 ghost use Rattle.model.specs.Frames.{Frame};
 ghost use Rattle.model.specs.Payloads.{payload_fault, IsPadded};
-ghost use Rattle.model.specs.Turns.{IsNextTurn};
+ghost use Rattle.model.specs.Turns.{IsNextTurn, Turn, AreTurns, IsPassedOver, turns_of};
 ghost use Rattle.model.specs.Windows.{sending_window, size_difference};
 
 /// A sending window may be kept as one number: what is sent is taken from it, what is granted is added, and a new first
@@ -23,4 +23,9 @@ pub fn padded_payload()
 /// Behind a turn one id alone may be next.
 pub fn one_next_turn()
     ensures { (last : ℕ) (ready : List ℕ) (a b : Option ℕ) → IsNextTurn last ready a → IsNextTurn last ready b → a ≡ b }
+{}
+
+/// While a stream that is ready waits for its turn, no other has two.
+pub fn no_second_turn()
+    ensures { (last waiting other : ℕ) (turns : List Turn) → AreTurns last turns → IsPassedOver waiting turns → turns_of other turns ≤ 1 }
 {}

@@ -2,7 +2,7 @@
 #![tactic(auto)]
 
 ghost use Rattle.std.specs.Prelude.{◌≡◌, ◌≤◌, [], ◌∷◌, ◌++◌, OnOk, OnErr};
-ghost use Rattle.model.specs.StreamStates.{StreamState, standing, verdict, active_count, changed, is_above, unopened, most_streams};
+ghost use Rattle.model.specs.StreamStates.{StreamState, standing, verdict, active_count, changed, is_above, most_streams};
 ghost use Rattle.model.specs.StreamStates.Change.{RemoteEnds, LocalEnds, PeerResets, WeReset};
 
 mod records;
@@ -12,8 +12,8 @@ mod tests;
 mod verdicts;
 
 use crate::records::{Record, place_of};
-use crate::states::{State, Step, count_after, state_after};
-use crate::verdicts::{Place, verdict_at};
+use crate::states::{State, Step, count_after};
+use crate::verdicts::{Place, unopened_place, verdict_at};
 pub use crate::verdicts::{Kind, Verdict};
 use std::alloc::{AllocError, Global};
 use std::marker::Model;
@@ -66,8 +66,8 @@ impl Streams {
         verdict_at(self.active, place, kind)
     }
 
-    /// Opens a stream: its id, odd and above all that were opened, of which there are fewer than 10,000, is added, and is
-    /// active. The only error is that no memory was left, and then nothing changes.
+    /// Opens a stream (RFC 9113, section 5.1): its id is added, and is active. It is odd and above all that were opened, of
+    /// which there are fewer than 10,000. The only error is that no memory was left, and then nothing changes.
     pub fn open(&mut self, id: u32) -> Result<(), AllocError>
         requires { IsOpenable id self.old }
         ensures ok { OnOk result (self.new ≡ self.old ++ record { id = id; state = StreamState.Open } ∷ []) }
@@ -131,7 +131,7 @@ impl Streams {
             Ok(place) => Place::Opened(self.records[place].state),
             Err(place) => {
                 let count = self.records.len();
-                unopened(id, place == count, count == MOST_STREAMS)
+                unopened_place(id, place == count, count == MOST_STREAMS)
             }
         }
     }
@@ -144,25 +144,8 @@ impl Streams {
             return;
         };
         let before = self.records[place].state;
-        let state = state_after(before, step);
+        let state = before.after(step);
         self.records[place] = Record { id, state };
         self.active = count_after(self.active, before, state);
-    }
-}
-
-ghost use Rattle.stream_state.specs.Views.{standing_in};
-
-/// The place of an id that wasn't opened.
-fn unopened(id: u32, above: bool, full: bool) -> Place
-    ensures { standing_in result ≡ unopened above full id }
-{
-    if above && full {
-        Place::Beyond
-    } else if id % 2 == 0 {
-        Place::ServerIdle
-    } else if above {
-        Place::Idle
-    } else {
-        Place::Skipped
     }
 }

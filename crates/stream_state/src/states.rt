@@ -1,8 +1,8 @@
 //! The states of streams that were opened (RFC 9113, section 5.1).
 
 ghost use Rattle.std.specs.Prelude.{◌≡◌, ◌+◌, ◌≤◌};
-ghost use Rattle.model.specs.StreamStates.{is_active, after, most_streams};
-ghost use Rattle.stream_state.specs.Views.{state_in, change_in, counted};
+ghost use Rattle.model.specs.StreamStates.{most_streams};
+ghost use Rattle.stream_state.specs.Views.{counted};
 
 /// The state of a stream that was opened; a closed one is told apart by what closed it.
 #[derive(Clone, Copy, Debug, PartialEq, Eq)]
@@ -28,31 +28,36 @@ pub enum Step {
     WeReset,
 }
 
-/// Whether neither a reset nor both ends have closed the stream.
-pub fn is_active(state: State) -> bool
-    ensures { result ≡ is_active (state_in state) }
-{
-    match state {
-        State::Open | State::HalfClosedRemote | State::HalfClosedLocal => true,
-        State::Closed | State::ResetByPeer | State::ResetByUs => false,
-    }
-}
+impl State {
+    ghost use Rattle.model.specs.StreamStates.{is_active, after};
+    ghost use Rattle.stream_state.specs.Views.{state_in, change_in};
 
-/// The state behind a step; a closed stream stays as it is, and so does a side that has ended.
-pub fn state_after(state: State, step: Step) -> State
-    ensures { state_in result ≡ after (change_in step) (state_in state) }
-{
-    if !is_active(state) {
-        return state;
+    /// Whether neither a reset nor both ends have closed the stream.
+    pub fn is_active(self) -> bool
+        ensures { result ≡ is_active (state_in self) }
+    {
+        match self {
+            State::Open | State::HalfClosedRemote | State::HalfClosedLocal => true,
+            State::Closed | State::ResetByPeer | State::ResetByUs => false,
+        }
     }
-    match (step, state) {
-        (Step::PeerResets, _) => State::ResetByPeer,
-        (Step::WeReset, _) => State::ResetByUs,
-        (Step::RemoteEnds, State::Open) => State::HalfClosedRemote,
-        (Step::RemoteEnds, State::HalfClosedLocal) => State::Closed,
-        (Step::LocalEnds, State::Open) => State::HalfClosedLocal,
-        (Step::LocalEnds, State::HalfClosedRemote) => State::Closed,
-        _ => state,
+
+    /// The state behind a step; a closed stream stays as it is, and so does a side that has ended.
+    pub fn after(self, step: Step) -> State
+        ensures { state_in result ≡ after (change_in step) (state_in self) }
+    {
+        if !self.is_active() {
+            return self;
+        }
+        match (step, self) {
+            (Step::PeerResets, _) => State::ResetByPeer,
+            (Step::WeReset, _) => State::ResetByUs,
+            (Step::RemoteEnds, State::Open) => State::HalfClosedRemote,
+            (Step::RemoteEnds, State::HalfClosedLocal) => State::Closed,
+            (Step::LocalEnds, State::Open) => State::HalfClosedLocal,
+            (Step::LocalEnds, State::HalfClosedRemote) => State::Closed,
+            _ => self,
+        }
     }
 }
 
@@ -62,5 +67,5 @@ pub fn count_after(active: u32, before: State, after: State) -> u32
     requires few { active ≤ most_streams }
     ensures { result + counted before ≡ active + counted after }
 {
-    active - u32::from(is_active(before)) + u32::from(is_active(after))
+    active - u32::from(before.is_active()) + u32::from(after.is_active())
 }

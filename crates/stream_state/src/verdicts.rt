@@ -1,7 +1,7 @@
 //! What comes of a frame by the state of its stream (RFC 9113, sections 5.1, 5.1.1, 5.1.2 and 6.8).
 
 ghost use Rattle.std.specs.Prelude.{◌≡◌};
-ghost use Rattle.model.specs.StreamStates.{opened_verdict, idle_verdict, skipped_verdict, verdict};
+ghost use Rattle.model.specs.StreamStates.{opened_verdict, idle_verdict, skipped_verdict, verdict, unopened};
 ghost use Rattle.stream_state.specs.Views.{state_in, kind_in, standing_in, verdict_in};
 
 use crate::states::State;
@@ -107,5 +107,20 @@ fn skipped_verdict(kind: Kind) -> Verdict
         Kind::Headers => Verdict::Connection(PROTOCOL_ERROR),
         Kind::Data => Verdict::Connection(STREAM_CLOSED),
         _ => Verdict::Discard,
+    }
+}
+
+/// The place of an id that wasn't opened: whether it is above every opened one, and whether all streams were opened.
+pub fn unopened_place(id: u32, above: bool, full: bool) -> Place
+    ensures { standing_in result ≡ unopened above full id }
+{
+    if above && full {
+        Place::Beyond
+    } else if id % 2 == 0 {
+        Place::ServerIdle
+    } else if above {
+        Place::Idle
+    } else {
+        Place::Skipped
     }
 }

@@ -26,4 +26,4 @@ pub returns : goal.returns
 returns c =
     let at : IsAt c.self.inside.records.items c.args.id c.in-Ok.place = rw (← c.deref.ensures.value) c.in-Ok.ensures.found in
     let is_read = read c.self.inside.records.items c.in-Ok.place c.index.result.now at.within c.index.ensures in
-    rw (← c.self.view_is) (read_changed c.self.inside.records.items c.args.id c.in-Ok.place c.index.result.now at is_read _ _ c.self.invariant.rising c.state_after-state.ensures)
+    rw (← c.self.view_is) (read_changed c.self.inside.records.items c.args.id c.in-Ok.place c.index.result.now at is_read _ _ c.self.invariant.rising c.after-state.ensures)

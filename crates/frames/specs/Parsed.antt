@@ -17,6 +17,7 @@ parts_in (WindowUpdate increment) = Parts.WindowUpdate increment
 parts_in (Continuation fragment) = Parts.Continuation fragment.now
 parts_in Other = Parts.Other
 
+-- a fault, as that of a payload
 abbrev pub fault_of : FrameFault → PayloadFault
 fault_of Size = WrongSize
 fault_of Protocol = OverPadded

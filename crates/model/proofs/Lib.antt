@@ -14,5 +14,6 @@ mod HpackExamples
 mod LayersExamples
 pub mod LayersPayloads
 pub mod LayersTurns
+pub mod LayersSettings
 pub mod IntegerLemmas
 pub mod HuffmanLemmas

@@ -54,6 +54,7 @@ fault_of_setting setting =
     then Some FrameSize
     else None))
 
+-- the first of two faults
 abbrev pub or_fault : Option SettingsFault → Option SettingsFault → Option SettingsFault
 or_fault (Some fault) later = Some fault
 or_fault None later = later

@@ -106,6 +106,7 @@ abbrev pub unopened : Bool → Bool → ℕ → Standing
 unopened above full id =
     if above && full then Beyond else (if id % 2 == 0 then ServerIdle else (if above then Idle else Skipped))
 
+-- the standing of an id by the state of its stream, or else this one
 abbrev pub opened_or : Option StreamState → Standing → Standing
 opened_or (Some state) otherwise = Opened state
 opened_or None otherwise = otherwise

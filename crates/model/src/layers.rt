@@ -1,8 +1,9 @@
-//! Laws of what looks at one payload, one window or one turn (RFC 9113, section 6).
+//! Laws of what looks at one payload, one window or the turns (RFC 9113, section 6).
 
-ghost use Rattle.std.specs.Prelude.{◌≡◌, ◌≤◌, ℕ, ◌+◌, pos, ◌+ℤ◌, ◌-ℤ◌, List, Option, None, Some};
-ghost use Rattle.model.specs.Frames.{Frame};
+ghost use Rattle.std.specs.Prelude.{◌≡◌, ◌<◌, ◌≤◌, ℕ, ◌+◌, ◌∷◌, ◌++◌, pos, ◌+ℤ◌, ◌-ℤ◌, List, Option, None, Some};
+ghost use Rattle.model.specs.Frames.{Frame, setting};
 ghost use Rattle.model.specs.Payloads.{payload_fault, IsPadded};
+ghost use Rattle.model.specs.SettingValues.{Setting, settings_in, initial_window_after};
 ghost use Rattle.model.specs.Turns.{IsNextTurn, Turn, AreTurns, IsPassedOver, turns_of};
 ghost use Rattle.model.specs.Windows.{sending_window, size_difference};
 
@@ -28,4 +29,11 @@ pub fn one_next_turn()
 /// While a stream that is ready waits for its turn, no other has two.
 pub fn no_second_turn()
     ensures { (last waiting other : ℕ) (turns : List Turn) → AreTurns last turns → IsPassedOver waiting turns → turns_of other turns ≤ 1 }
+{}
+
+/// Settings are read as they are spelled, and those of two frames leave the window that they leave as one (RFC 9113, sections
+/// 6.5.1 and 6.5.3).
+pub fn settings_in_order()
+    ensures read_back { (s : Setting) (more : List ℕ) → s.identifier < 65536 → s.value < 4294967296 → settings_in (setting s.identifier s.value ++ more) ≡ s ∷ settings_in more }
+    ensures applied { (before : ℕ) (earlier later : List Setting) → initial_window_after before (earlier ++ later) ≡ initial_window_after (initial_window_after before earlier) later }
 {}

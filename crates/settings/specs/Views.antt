@@ -8,9 +8,11 @@ use Rattle.settings.specs.declared.SettingFault.{SettingFault}
 use Rattle.settings.specs.declared.SettingFault.TheVariants as fault
 use Rattle.settings.specs.declared.Change.{Change}
 
+-- an entry, as a setting
 abbrev pub setting_of : Entry → Setting
 setting_of entry = record { identifier = entry.identifier; value = entry.value }
 
+-- a fault
 abbrev pub fault_of : SettingFault → SettingsFault
 fault_of fault.Size = Size
 fault_of fault.Push = Push

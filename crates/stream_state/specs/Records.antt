@@ -5,9 +5,11 @@ use Rattle.stream_state.specs.declared.states.State.TheVariants.{Open}
 use Rattle.stream_state.specs.declared.records.Record.{Record}
 use Rattle.stream_state.specs.Views.{state_in}
 
+-- a record, as a stream that was opened
 abbrev pub stream_in : Record → OpenedStream
 stream_in r = record { id = r.id; state = state_in r.state }
 
+-- all records
 abbrev pub streams_in : List Record → List OpenedStream
 streams_in records = map stream_in records
 

@@ -14,6 +14,7 @@ use Rattle.stream_state.specs.declared.verdicts.Place.TheVariants as place
 use Rattle.stream_state.specs.declared.verdicts.Verdict.{Verdict as Answer}
 use Rattle.stream_state.specs.declared.verdicts.Verdict.TheVariants as answer
 
+-- a state
 abbrev pub state_in : State → StreamState
 state_in state.Open = StreamState.Open
 state_in state.HalfClosedRemote = StreamState.HalfClosedRemote
@@ -26,18 +27,21 @@ state_in state.ResetByUs = StreamState.ResetByUs
 abbrev pub counted : State → ℕ
 counted state = if is_active (state_in state) then 1 else 0
 
+-- what changes a state
 abbrev pub change_in : Step → Change
 change_in step.RemoteEnds = Change.RemoteEnds
 change_in step.LocalEnds = Change.LocalEnds
 change_in step.PeerResets = Change.PeerResets
 change_in step.WeReset = Change.WeReset
 
+-- a kind, as the number of its type
 abbrev pub kind_in : Kind → ℕ
 kind_in kind.Data = data_kind
 kind_in kind.Headers = headers_kind
 kind_in kind.RstStream = rst_stream_kind
 kind_in kind.WindowUpdate = window_update_kind
 
+-- a place, as the standing of its id
 abbrev pub standing_in : Place → Standing
 standing_in place.WholeConnection = Standing.WholeConnection
 standing_in (place.Opened state) = Standing.Opened (state_in state)
@@ -46,6 +50,7 @@ standing_in place.ServerIdle = Standing.ServerIdle
 standing_in place.Skipped = Standing.Skipped
 standing_in place.Beyond = Standing.Beyond
 
+-- an answer
 abbrev pub verdict_in : Answer → Verdict
 verdict_in answer.Pass = Verdict.Passes
 verdict_in answer.Open = Verdict.Opens

@@ -1,6 +1,6 @@
 -- The payload of a frame by its type (RFC 9113, section 6): what is wrong with it, and its parts without padding, priority
 -- octets and reserved bits.
-use Rattle.std.specs.Prelude.{◌≡◌, ◌++◌, ℕ, ◌+◌, ◌-◌, ◌*◌, ◌%◌, Bool, not, ◌&&◌, ◌||◌, ◌==◌, nat_lt, nat_le, if◌then◌else◌, List, length, slice_index, Option, Some, None}
+use Rattle.std.specs.Prelude.{◌≡◌, ◌++◌, ℕ, ◌+◌, ◌-◌, ◌*◌, ◌%◌, Bool, not, ◌&&◌, ◌||◌, ◌==◌, nat_lt, nat_le, if◌then◌else◌, List, [], ◌∷◌, length, slice_index, Option, Some, None}
 use Rattle.model.specs.Frames.{Frame, data_kind, headers_kind, priority_kind, rst_stream_kind, settings_kind, ping_kind, goaway_kind, window_update_kind, continuation_kind, is_ack, content_offset, pad_length, content, protocol_error, frame_size_error}
 
 -- The rule holds of a frame of this type.
@@ -65,27 +65,24 @@ pub data Parts : Type 0 where
   -- what the gateway doesn't use: PRIORITY, PUSH_PROMISE, GOAWAY and types that aren't known (sections 4.1, 6.3, 6.6, 6.8)
   Other : Parts
 
+-- the parts beside this type, if it is among those that are used
+abbrev pub parts_beside : ℕ → List (ℕ × Parts) → Parts
+parts_beside kind [] = Other
+parts_beside kind ((used, parts) ∷ more) = if kind == used then parts else parts_beside kind more
+
 -- what the payload of a frame says that has no fault
 abbrev pub parts_of : Frame → Parts
 parts_of frame =
-    if frame.kind == data_kind
-    then Data (content frame)
-    else
-    (if frame.kind == headers_kind
-    then Headers (content frame)
-    else
-    (if frame.kind == rst_stream_kind
-    then RstStream (number_field frame.payload)
-    else
-    (if frame.kind == settings_kind
-    then Settings frame.payload
-    else
-    (if frame.kind == ping_kind
-    then Ping frame.payload
-    else
-    (if frame.kind == window_update_kind
-    then WindowUpdate (number_field frame.payload % 2147483648)
-    else (if frame.kind == continuation_kind then Continuation (content frame) else Other))))))
+    parts_beside frame.kind (
+    (data_kind, Data (content frame))
+    ∷ (headers_kind, Headers (content frame))
+    ∷ (rst_stream_kind, RstStream (number_field frame.payload))
+    ∷ (settings_kind, Settings frame.payload)
+    ∷ (ping_kind, Ping frame.payload)
+    ∷ (window_update_kind, WindowUpdate (number_field frame.payload % 2147483648))
+    ∷ (continuation_kind, Continuation (content frame))
+    ∷ []
+    )
 
 -- The payload is what stands before the content, the content, and as much padding as it says (sections 6.1 and 6.2).
 pub record IsPadded (frame : Frame) : Type 0 where

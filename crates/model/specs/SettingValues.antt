@@ -1,6 +1,6 @@
 -- What a SETTINGS frame says (RFC 9113, section 6.5): its settings in order, which of them is a fault, and the values that
 -- they leave.
-use Rattle.std.specs.Prelude.{ℕ, ◌+◌, ◌*◌, ◌%◌, min, not, ◌&&◌, ◌==◌, nat_lt, if◌then◌else◌, List, [], ◌∷◌, map, length, Option, Some, None, unwrap_or}
+use Rattle.std.specs.Prelude.{ℕ, ◌+◌, ◌*◌, ◌%◌, min, Bool, not, ◌&&◌, ◌==◌, nat_le, if◌then◌else◌, List, [], ◌∷◌, map, length, Option, Some, None, unwrap_or}
 use Rattle.std.specs.List.{filter, reduce, last_or}
 use Rattle.model.specs.Octets.{is_between}
 use Rattle.model.specs.Frames.{protocol_error, flow_control_error, frame_size_error}
@@ -41,23 +41,25 @@ pub data SettingsFault : Type 0 where
   -- MAX_FRAME_SIZE below 16,384 or past 16,777,215
   FrameSize : SettingsFault
 
--- the fault of one setting; any value is allowed to all others (section 6.5.2)
-abbrev pub fault_of_setting : Setting → Option SettingsFault
-fault_of_setting setting =
-    if setting.identifier == enable_push && nat_lt 1 setting.value
-    then Some Push
-    else
-    (if setting.identifier == initial_window_size && nat_lt greatest_window setting.value
-    then Some Window
-    else
-    (if setting.identifier == max_frame_size && not (is_between 16384 16777215 setting.value)
-    then Some FrameSize
-    else None))
+-- the fault where there is one
+abbrev pub fault_where : Bool → SettingsFault → Option SettingsFault
+fault_where is_wrong fault = if is_wrong then Some fault else None
 
 -- the first of two faults
 abbrev pub or_fault : Option SettingsFault → Option SettingsFault → Option SettingsFault
 or_fault (Some fault) later = Some fault
 or_fault None later = later
+
+-- the setting is this one, and its value isn't allowed
+abbrev pub is_wrong : ℕ → Setting → Bool → Bool
+is_wrong identifier setting is_allowed = setting.identifier == identifier && not is_allowed
+
+-- the fault of one setting; any value is allowed to all others (section 6.5.2)
+abbrev pub fault_of_setting : Setting → Option SettingsFault
+fault_of_setting setting =
+    or_fault (fault_where (is_wrong enable_push setting (nat_le setting.value 1)) Push) (
+    or_fault (fault_where (is_wrong initial_window_size setting (nat_le setting.value greatest_window)) Window) (
+    fault_where (is_wrong max_frame_size setting (is_between 16384 16777215 setting.value)) FrameSize))
 
 -- the fault of the first setting that has one
 abbrev pub first_fault : List Setting → Option SettingsFault

@@ -45,10 +45,11 @@ pub data SettingsFault : Type 0 where
 abbrev pub fault_where : Bool → SettingsFault → Option SettingsFault
 fault_where is_wrong fault = if is_wrong then Some fault else None
 
--- the first of two faults
-abbrev pub or_fault : Option SettingsFault → Option SettingsFault → Option SettingsFault
-or_fault (Some fault) later = Some fault
-or_fault None later = later
+-- the first of these that is a fault
+abbrev pub first_of_faults : List (Option SettingsFault) → Option SettingsFault
+first_of_faults [] = None
+first_of_faults (None ∷ later) = first_of_faults later
+first_of_faults (Some fault ∷ later) = Some fault
 
 -- the setting is this one, and its value isn't allowed
 abbrev pub is_wrong : ℕ → Setting → Bool → Bool
@@ -57,14 +58,16 @@ is_wrong identifier setting is_allowed = setting.identifier == identifier && not
 -- the fault of one setting; any value is allowed to all others (section 6.5.2)
 abbrev pub fault_of_setting : Setting → Option SettingsFault
 fault_of_setting setting =
-    or_fault (fault_where (is_wrong enable_push setting (nat_le setting.value 1)) Push) (
-    or_fault (fault_where (is_wrong initial_window_size setting (nat_le setting.value greatest_window)) Window) (
-    fault_where (is_wrong max_frame_size setting (is_between 16384 16777215 setting.value)) FrameSize))
+    first_of_faults (
+    fault_where (is_wrong enable_push setting (nat_le setting.value 1)) Push
+    ∷ fault_where (is_wrong initial_window_size setting (nat_le setting.value greatest_window)) Window
+    ∷ fault_where (is_wrong max_frame_size setting (is_between 16384 16777215 setting.value)) FrameSize
+    ∷ []
+    )
 
 -- the fault of the first setting that has one
 abbrev pub first_fault : List Setting → Option SettingsFault
-first_fault [] = None
-first_fault (setting ∷ settings) = or_fault (fault_of_setting setting) (first_fault settings)
+first_fault settings = first_of_faults (map fault_of_setting settings)
 
 -- the fault of a payload: its length is judged first (section 6.5)
 abbrev pub settings_fault : List ℕ → Option SettingsFault

@@ -4,7 +4,7 @@ use Rattle.std.proofs.lemmas.List.{take_rest}
 use Rattle.std.specs.Prelude.{Option, Some, None, IfSome, true, false, cond, ◌==◌, map, unwrap_or}
 use Rattle.std.specs.List.{last_or, filter}
 use Rattle.model.specs.Windows.{greatest_window}
-use Rattle.model.specs.SettingValues.{Setting, SettingsFault, settings_in, fault_of_setting, or_fault, first_fault, values_of, last_value, initial_window_size}
+use Rattle.model.specs.SettingValues.{Setting, SettingsFault, settings_in, fault_of_setting, first_of_faults, first_fault, values_of, last_value, initial_window_size}
 
 -- the entry in the first six octets
 abbrev pub entry_at_front : List ℕ → Setting
@@ -40,15 +40,15 @@ no_entry [] h = refl
 window_value : (setting : Setting) → (setting.identifier == initial_window_size) ≡ true → fault_of_setting setting ≡ None → setting.value ≤ greatest_window
 window_value setting is e = grind arith
 
-none_first : (a b : Option SettingsFault) → or_fault a b ≡ None → (a ≡ None) × (b ≡ None)
-none_first None b e = (refl, e)
-none_first (Some fault) b e = absurd (cc)
+none_first : (o : Option SettingsFault) (later : List (Option SettingsFault)) → first_of_faults (o ∷ later) ≡ None → (o ≡ None) × (first_of_faults later ≡ None)
+none_first None later e = (refl, e)
+none_first (Some fault) later e = absurd (cc)
 
 -- the last window that faultless settings name is no more than the greatest
 pub window_in_range : (o : Option ℕ) (settings : List Setting) → IfSome o (λ v. v ≤ greatest_window) → first_fault settings ≡ None → IfSome (last_or o (values_of initial_window_size settings)) (λ v. v ≤ greatest_window)
 window_in_range o [] h e = h
 window_in_range o (setting ∷ settings) h e =
-    let none = none_first (fault_of_setting setting) (first_fault settings) e in
+    let none = none_first (fault_of_setting setting) (map fault_of_setting settings) e in
     elim (setting.identifier == initial_window_size) as
     (λ b. (setting.identifier == initial_window_size) ≡ b → IfSome (last_or o (map (λ s. s.value) (cond b (setting ∷ filter (λ s. s.identifier == initial_window_size) settings) (filter (λ s. s.identifier == initial_window_size) settings)))) (λ v. v ≤ greatest_window)) [
       | true ↦ λ is. window_in_range (Some setting.value) settings (window_value setting is none.0) none.1

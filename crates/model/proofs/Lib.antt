@@ -15,5 +15,6 @@ mod LayersExamples
 pub mod LayersPayloads
 pub mod LayersTurns
 pub mod LayersSettings
+pub mod LayersStreams
 pub mod IntegerLemmas
 pub mod HuffmanLemmas

@@ -1,9 +1,11 @@
-//! Laws of what looks at one payload, one window or the turns (RFC 9113, section 6).
+//! Laws of what looks at one payload, one stream, one window or the turns (RFC 9113, sections 5 and 6).
 
-ghost use Rattle.std.specs.Prelude.{◌≡◌, ◌<◌, ◌≤◌, ℕ, ◌+◌, ◌∷◌, ◌++◌, pos, ◌+ℤ◌, ◌-ℤ◌, List, Option, None, Some};
+ghost use Rattle.std.specs.Prelude.{◌≡◌, ◌≢◌, map, ◌<◌, ◌≤◌, ℕ, ◌+◌, ◌∷◌, ◌++◌, pos, ◌+ℤ◌, ◌-ℤ◌, List, Option, None, Some};
 ghost use Rattle.model.specs.Frames.{Frame, setting};
 ghost use Rattle.model.specs.Payloads.{payload_fault, IsPadded};
 ghost use Rattle.model.specs.SettingValues.{Setting, settings_in, initial_window_after};
+ghost use Rattle.model.specs.StreamStates.{OpenedStream, Change, after, state_of, changed};
+ghost use Rattle.std.specs.Option.{option_map};
 ghost use Rattle.model.specs.Turns.{IsNextTurn, Turn, AreTurns, IsPassedOver, turns_of};
 ghost use Rattle.model.specs.Windows.{sending_window, size_difference};
 
@@ -36,4 +38,11 @@ pub fn no_second_turn()
 pub fn settings_in_order()
     ensures read_back { (s : Setting) (more : List ℕ) → s.identifier < 65536 → s.value < 4294967296 → settings_in (setting s.identifier s.value ++ more) ≡ s ∷ settings_in more }
     ensures applied { (before : ℕ) (earlier later : List Setting) → initial_window_after before (earlier ++ later) ≡ initial_window_after (initial_window_after before earlier) later }
+{}
+
+/// A change of one stream leaves the ids as they were, and the states of all others (RFC 9113, section 5.1).
+pub fn one_stream_changes()
+    ensures this { (change : Change) (id : ℕ) (streams : List OpenedStream) → state_of id (changed change id streams) ≡ option_map (after change) (state_of id streams) }
+    ensures others { (change : Change) (id other : ℕ) (streams : List OpenedStream) → other ≢ id → state_of other (changed change id streams) ≡ state_of other streams }
+    ensures ids { (change : Change) (id : ℕ) (streams : List OpenedStream) → map (λ stream. stream.id) (changed change id streams) ≡ map (λ stream. stream.id) streams }
 {}

@@ -2,7 +2,7 @@
 #![tactic(auto)]
 
 ghost use Rattle.std.specs.Prelude.{◌≡◌, ◌≤◌, pos, ◌+ℤ◌, ◌-ℤ◌, ◌≤ℤ◌, IfOk, OnOk, OnErr};
-ghost use Rattle.model.specs.Windows.{IsPast, IsAboveLeast, IsSize};
+ghost use Rattle.model.specs.Windows.{greatest_window, IsPast, IsAboveLeast, IsSize};
 
 use std::marker::Model;
 
@@ -34,7 +34,7 @@ impl Model for Window {
 impl Window {
     /// A window with this first size in octets, of at most 2,147,483,647 (RFC 9113, section 6.9.2).
     pub fn new(first: u32) -> Self
-        requires { first ≤ 2147483647 }
+        requires { first ≤ greatest_window }
         ensures { result ≡ pos first }
     {
         Window {

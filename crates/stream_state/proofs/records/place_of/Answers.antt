@@ -8,4 +8,4 @@ pub returns : goal.returns
 returns c =
     let facts = c.binary_search_by_key.ensures in
     let by_id = facts.position (λ r. r.id) (answers_always _ _ _ (λ f a r g called. search rules)) in
-    searched _ c.requires c.args.id _ facts.bound by_id
+    searched c.args.records.now c.requires c.args.id c.binary_search_by_key.result facts.bound by_id

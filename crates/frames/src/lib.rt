@@ -1,4 +1,5 @@
-//! Frames of HTTP/2 (RFC 9113, section 4.1): one is split from the front of some octets, and one is written behind others.
+//! Frames of HTTP/2 (RFC 9113, sections 4.1 and 6): one is split from the front of some octets, what its payload says is
+//! told, and one is written behind others.
 #![tactic(auto)]
 
 ghost use Rattle.std.specs.Prelude.{◌≡◌, ◌+◌, ◌<◌, ◌++◌, length, vec_len, vec_capacity, OnOk, OnErr};

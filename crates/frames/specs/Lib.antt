@@ -1,2 +1,4 @@
 pub mod Views
+pub mod Parsed
 pub use Rattle.model.specs.Frames
+pub use Rattle.model.specs.Payloads

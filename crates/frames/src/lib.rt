@@ -1,12 +1,17 @@
-//! Frames of HTTP/2 (RFC 9113, section 4.1): one is split from the front of some octets, and one is written behind others.
+//! Frames of HTTP/2 (RFC 9113, sections 4.1 and 6): one is split from the front of some octets, what its payload says is
+//! told, and one is written behind others.
 #![tactic(auto)]
 
 ghost use Rattle.std.specs.Prelude.{◌≡◌, ◌+◌, ◌<◌, ◌++◌, length, vec_len, vec_capacity, OnOk, OnErr};
 ghost use Rattle.model.specs.Frames.{spell, Fits};
 ghost use Rattle.frames.specs.Views.{frame_of, IsSplit};
 
+mod parts;
+mod payload;
 mod views;
 
+pub use parts::{Frame, FrameFault};
+pub use payload::parse;
 use std::alloc::AllocError;
 pub use views::{Split, View};
 
@@ -84,5 +89,7 @@ fn header_of(view: &View<'_>) -> [u8; 9]
     ]
 }
 
+#[cfg(test)]
+mod payload_tests;
 #[cfg(test)]
 mod tests;

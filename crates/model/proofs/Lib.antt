@@ -11,6 +11,11 @@ pub mod Http2Readings
 pub mod Http2Sends
 mod Http2Examples
 mod HpackExamples
+mod LayersExamples
+pub mod LayersPayloads
+pub mod LayersTurns
+pub mod LayersSettings
+pub mod LayersStreams
 pub mod IntegerLemmas
 pub mod HuffmanLemmas
 pub mod BlockLemmas

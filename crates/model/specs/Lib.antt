@@ -17,3 +17,8 @@ pub mod Streams
 pub mod Admission
 pub mod Requests
 pub mod Faithful
+pub mod Windows
+pub mod Turns
+pub mod SettingValues
+pub mod Payloads
+pub mod StreamStates

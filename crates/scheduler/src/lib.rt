@@ -1,0 +1,60 @@
+//! Turns of the streams that are ready, so that none waits while another is served twice.
+#![tactic(auto)]
+
+ghost use Rattle.std.specs.Prelude.{length};
+ghost use Rattle.model.specs.Turns.{IsNextTurn};
+ghost use Rattle.scheduler.specs.Least.{IsLeastAbove};
+
+/// The turns of streams, by rising ids and then from the least again.
+pub struct Turn;
+
+impl Turn {
+    /// The stream whose turn is next behind that of `last`, the id of the stream that had the turn before, or 0: the least
+    /// id of `ready` above it, else the least of all (this project's profile). There is none just where `ready` is empty.
+    /// The ids may stand in any order.
+    pub fn next(last: u32, ready: &[u32]) -> Option<u32>
+        ensures { IsNextTurn last ready.now result }
+    {
+        match least_above(last, ready) {
+            Some(id) => Some(id),
+            None => ready.iter().copied().min(),
+        }
+    }
+}
+
+/// The least id above the last, if one is.
+fn least_above(last: u32, ready: &[u32]) -> Option<u32>
+    ensures { IsLeastAbove last ready.now (length ready.now) result }
+{
+    let mut least = None;
+    for id in ready {
+        if *id > last && least.is_none_or(|other| *id < other) {
+            least = Some(*id);
+        }
+    }
+    least
+}
+
+#[cfg(test)]
+mod tests {
+    use super::*;
+
+    #[test]
+    fn each_in_turn(rt: HostRuntime) {
+        assert_eq!(rt; Turn::next(0, &[3, 5]), Some(3));
+        assert_eq!(rt; Turn::next(3, &[3, 5]), Some(5));
+        assert_eq!(rt; Turn::next(5, &[3, 5]), Some(3));
+        assert_eq!(rt; Turn::next(5, &[]), None);
+    }
+
+    #[test]
+    fn turns_go_round(rt: HostRuntime) {
+        assert_eq!(rt; Turn::next(0, &[5, 1, 3]), Some(1));
+        assert_eq!(rt; Turn::next(1, &[5, 1, 3]), Some(3));
+        assert_eq!(rt; Turn::next(3, &[5, 1, 3]), Some(5));
+        assert_eq!(rt; Turn::next(5, &[5, 1, 3]), Some(1));
+        assert_eq!(rt; Turn::next(4, &[3, 1]), Some(1));
+        assert_eq!(rt; Turn::next(4294967295, &[7]), Some(7));
+        assert_eq!(rt; Turn::next(2, &[]), None);
+    }
+}

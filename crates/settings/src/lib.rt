@@ -1,0 +1,111 @@
+//! The settings that the peer sends (RFC 9113, section 6.5).
+#![tactic(auto)]
+
+ghost use Rattle.std.specs.Prelude.{◌≡◌, ◌≤◌, Some, None, IfOk, IfErr, OnOk, OnErr};
+ghost use Rattle.model.specs.Windows.{greatest_window};
+ghost use Rattle.model.specs.SettingValues.{settings_in, settings_fault};
+
+mod entries;
+#[cfg(test)]
+mod tests;
+
+use crate::entries::{first_fault, values_in};
+use std::marker::Model;
+
+/// The octets of one entry: its identifier in two, and its value in four (RFC 9113, section 6.5.1).
+const ENTRY: usize = 6;
+
+/// The first size of windows while no setting says otherwise (RFC 9113, section 6.9.2).
+const FIRST_WINDOW: u32 = 65535;
+
+/// What is wrong with a SETTINGS payload (RFC 9113, section 6.5).
+#[derive(Clone, Copy, Debug, PartialEq, Eq)]
+pub enum SettingFault {
+    /// Its length isn't a multiple of six octets.
+    Size,
+    /// ENABLE_PUSH is neither 0 nor 1.
+    Push,
+    /// INITIAL_WINDOW_SIZE is past 2,147,483,647.
+    Window,
+    /// MAX_FRAME_SIZE isn't from 16,384 to 16,777,215.
+    FrameSize,
+}
+
+/// What a SETTINGS frame changes.
+#[derive(Clone, Copy, Debug, PartialEq, Eq)]
+pub struct Change {
+    /// The first size of windows behind the frame less that before it, in octets.
+    pub difference: i64,
+    /// The smallest HEADER_TABLE_SIZE that the frame names, in octets.
+    pub smallest: Option<u32>,
+    /// The last HEADER_TABLE_SIZE that it names, in octets.
+    pub last: Option<u32>,
+}
+
+/// The peer's settings, seen as the first size of windows, which alone has to be kept.
+#[derive(Debug, Drop)]
+pub struct Settings {
+    initial_window: u32,
+}
+
+impl Model for Settings {
+    ghost use Rattle.std.specs.Prelude.{ℕ, ◌≤◌};
+    ghost use Rattle.model.specs.Windows.{greatest_window};
+
+    ghost Value = { ℕ };
+
+    ghost view = { λ settings. settings.initial_window };
+
+    ghost invariant = { λ settings. settings.initial_window ≤ greatest_window };
+}
+
+impl Default for Settings {
+    ghost is_default = { λ settings. settings ≡ 65535 };
+
+    /// The settings before any frame: windows begin with 65,535 octets (RFC 9113, section 6.5.2).
+    fn default() -> Self {
+        Settings {
+            initial_window: FIRST_WINDOW,
+        }
+    }
+}
+
+impl Settings {
+    ghost use Rattle.settings.specs.Views.{fault_of, IsChange};
+
+    /// Applies the entries of a SETTINGS payload in order, and says what they change (RFC 9113, sections 6.5.2 and 6.5.3).
+    /// Identifiers that aren't known are ignored.
+    ///
+    /// `Size` comes just where the length isn't a multiple of six, whatever the entries say; else the first entry with a
+    /// fault decides. A refusal changes nothing.
+    pub fn apply(&mut self, payload: &[u8]) -> Result<Change, SettingFault>
+        ensures ok { IfOk result (λ change. IsChange self.old self.new (settings_in payload.now) change) }
+        ensures faultless { OnOk result (settings_fault payload.now ≡ None) }
+        ensures refused { IfErr result (λ fault. settings_fault payload.now ≡ Some (fault_of fault)) }
+        ensures unchanged { OnErr result (self.new ≡ self.old) }
+    {
+        if payload.len() % ENTRY != 0 {
+            return Err(SettingFault::Size);
+        }
+        if let Some(fault) = first_fault(payload) {
+            return Err(fault);
+        }
+        let values = values_in(payload);
+        let before = self.initial_window;
+        self.initial_window = values.initial_window.unwrap_or(before);
+        Ok(Change {
+            difference: i64::from(self.initial_window) - i64::from(before),
+            smallest: values.smallest_table,
+            last: values.last_table,
+        })
+    }
+
+    /// The first size of the windows of streams as it is now, in octets (RFC 9113, section 6.5.2).
+    pub fn initial_window(&self) -> u32
+        ensures is { result ≡ self.now }
+        ensures in_range { self.now ≤ greatest_window }
+    {
+        let Settings { initial_window } = self;
+        *initial_window
+    }
+}

@@ -1,0 +1,3 @@
+mod Searches
+mod Changes
+mod Openings

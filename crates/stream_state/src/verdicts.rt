@@ -1,0 +1,126 @@
+//! What comes of a frame by the state of its stream (RFC 9113, sections 5.1, 5.1.1, 5.1.2 and 6.8).
+
+ghost use Rattle.std.specs.Prelude.{◌≡◌};
+ghost use Rattle.model.specs.StreamStates.{opened_verdict, idle_verdict, skipped_verdict, verdict, unopened};
+ghost use Rattle.stream_state.specs.Views.{state_in, kind_in, standing_in, verdict_in};
+
+use crate::states::State;
+
+/// Error codes (RFC 9113, section 7).
+const PROTOCOL_ERROR: u32 = 1;
+
+const STREAM_CLOSED: u32 = 5;
+
+const REFUSED_STREAM: u32 = 7;
+
+/// How many streams are active at once: the SETTINGS_MAX_CONCURRENT_STREAMS that is announced (RFC 9113, section 6.5.2).
+const MOST_ACTIVE: u32 = 100;
+
+/// A frame that a stream's state allows or forbids. HEADERS stand for a whole header block.
+#[derive(Clone, Copy, Debug, PartialEq, Eq)]
+pub enum Kind {
+    Data,
+    Headers,
+    RstStream,
+    WindowUpdate,
+}
+
+/// What comes of a frame by the state of its stream.
+#[derive(Clone, Copy, Debug, PartialEq, Eq)]
+pub enum Verdict {
+    /// The state allows it.
+    Pass,
+    /// It opens the stream.
+    Open,
+    /// Nothing comes of it, but that a block is decoded and the octets of DATA are given back.
+    Discard,
+    /// An error of the stream with this code (RFC 9113, section 7).
+    Stream(u32),
+    /// An error of the connection with this code (RFC 9113, section 7).
+    Connection(u32),
+}
+
+/// How an id stands to the streams that were opened.
+#[derive(Clone, Copy, Debug, PartialEq, Eq)]
+pub enum Place {
+    /// It is 0, that of the whole connection.
+    WholeConnection,
+    /// Its stream was opened.
+    Opened(State),
+    /// The client may open it yet.
+    Idle,
+    /// It is even, so a server alone might open it.
+    ServerIdle,
+    /// It wasn't opened before one above it was.
+    Skipped,
+    /// It is above the last id that a GOAWAY named.
+    Beyond,
+}
+
+/// The verdict on a frame by the place of its id, where so many streams are active.
+pub fn verdict_at(active: u32, place: Place, kind: Kind) -> Verdict
+    ensures { verdict_in result ≡ verdict active (standing_in place) (kind_in kind) }
+{
+    match place {
+        Place::WholeConnection => match kind {
+            Kind::Headers => Verdict::Connection(PROTOCOL_ERROR),
+            _ => Verdict::Pass,
+        },
+        Place::Opened(state) => opened_verdict(state, kind),
+        Place::Idle => idle_verdict(active, kind),
+        Place::ServerIdle => Verdict::Connection(PROTOCOL_ERROR),
+        Place::Skipped => skipped_verdict(kind),
+        Place::Beyond => Verdict::Discard,
+    }
+}
+
+/// The verdict on a stream that was opened.
+fn opened_verdict(state: State, kind: Kind) -> Verdict
+    ensures { verdict_in result ≡ opened_verdict (state_in state) (kind_in kind) }
+{
+    match (state, kind) {
+        (State::Open | State::HalfClosedLocal, _) => Verdict::Pass,
+        (State::HalfClosedRemote, Kind::Data | Kind::Headers) => Verdict::Stream(STREAM_CLOSED),
+        (State::HalfClosedRemote, _) => Verdict::Pass,
+        (State::ResetByUs, _) => Verdict::Discard,
+        (_, Kind::Data | Kind::Headers) => Verdict::Connection(STREAM_CLOSED),
+        _ => Verdict::Discard,
+    }
+}
+
+/// The verdict on a stream that the client may open yet.
+fn idle_verdict(active: u32, kind: Kind) -> Verdict
+    ensures { verdict_in result ≡ idle_verdict active (kind_in kind) }
+{
+    match kind {
+        Kind::Headers if active < MOST_ACTIVE => Verdict::Open,
+        Kind::Headers => Verdict::Stream(REFUSED_STREAM),
+        _ => Verdict::Connection(PROTOCOL_ERROR),
+    }
+}
+
+/// The verdict on a stream that was passed over.
+fn skipped_verdict(kind: Kind) -> Verdict
+    ensures { verdict_in result ≡ skipped_verdict (kind_in kind) }
+{
+    match kind {
+        Kind::Headers => Verdict::Connection(PROTOCOL_ERROR),
+        Kind::Data => Verdict::Connection(STREAM_CLOSED),
+        _ => Verdict::Discard,
+    }
+}
+
+/// The place of an id that wasn't opened: whether it is above every opened one, and whether all streams were opened.
+pub fn unopened_place(id: u32, above: bool, full: bool) -> Place
+    ensures { standing_in result ≡ unopened above full id }
+{
+    if above && full {
+        Place::Beyond
+    } else if id % 2 == 0 {
+        Place::ServerIdle
+    } else if above {
+        Place::Idle
+    } else {
+        Place::Skipped
+    }
+}

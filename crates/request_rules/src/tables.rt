@@ -1,21 +1,15 @@
 //! Heads around the edge of each rule. What is expected comes from the rules: RFC 9113, section 8, RFC 9110, section 5.
 use super::*;
-use crate::tests::{AUTHORITY, Line, METHOD, PATH, SCHEME, head, rule_of};
+use crate::tests::{AUTHORITY, Line, METHOD, PATH, SCHEME, head};
 use hpack_table::Field;
 use std::alloc::{AllocError, Global};
 use std::process::Abort;
 use std::test::*;
 
-/// A head, whether it ends its stream, and the first rule that it breaks.
-type Row = (&'static [Line], bool, Option<Rule>);
+const HEAD: [Line; 4] = [METHOD, SCHEME, PATH, AUTHORITY];
 
-fn walk(rt: &impl Abort, alloc: Global, rows: &[Row]) -> Result<(), AllocError> {
-    for (place, row) in rows.iter().enumerate() {
-        let told = rule_of(alloc, row.0, row.1)?;
-        assert_eq!(rt; told, row.2, "row {place}");
-    }
-    Ok(())
-}
+/// Fields of a head, whether it ends its stream, and the first rule that it breaks.
+type Row = (&'static [Line], bool, Option<Rule>);
 
 fn field(alloc: Global, name: &[u8], value: &[u8]) -> Result<Field, AllocError> {
     let name = Vec::from_slice(alloc, name)?;
@@ -30,21 +24,45 @@ fn told_of(alloc: Global, fields: &[Field], ended: bool) -> Option<Rule> {
     }
 }
 
-/// What is told of a head that ends its stream and is right but perhaps for its last field.
+/// Judges heads that begin with these lines.
+fn walk(rt: &impl Abort, alloc: Global, front: &[Line], rows: &[Row]) -> Result<(), AllocError> {
+    for (place, row) in rows.iter().enumerate() {
+        let mut fields = head(alloc, front)?;
+        for line in row.0 {
+            fields.push(field(alloc, line.0, line.1)?)?;
+        }
+        assert_eq!(rt; told_of(alloc, &fields, row.1), row.2, "row {place}");
+    }
+    Ok(())
+}
+
+/// What is told of a right head that ends its stream, with this field in its name's place, or behind the others.
 fn rule_with(alloc: Global, name: &[u8], value: &[u8]) -> Result<Option<Rule>, AllocError> {
-    let mut fields = head(alloc, &[METHOD, SCHEME, PATH, AUTHORITY])?;
-    fields.push(field(alloc, name, value)?)?;
+    let mut fields = Vec::new(alloc);
+    let mut stands = false;
+    for line in HEAD {
+        if line.0 == name {
+            fields.push(field(alloc, name, value)?)?;
+            stands = true;
+        } else {
+            fields.push(field(alloc, line.0, line.1)?)?;
+        }
+    }
+    if !stands {
+        fields.push(field(alloc, name, value)?)?;
+    }
     Ok(told_of(alloc, &fields, true))
 }
 
-/// What is told of a head with this method.
-fn rule_of_method(alloc: Global, method: &[u8]) -> Result<Option<Rule>, AllocError> {
-    let mut fields = Vec::new(alloc);
-    fields.push(field(alloc, b":method", method)?)?;
-    fields.push(field(alloc, b":scheme", b"http")?)?;
-    fields.push(field(alloc, b":path", b"/")?)?;
-    fields.push(field(alloc, b":authority", b"h")?)?;
-    Ok(told_of(alloc, &fields, true))
+/// A field of such a head, and what is told.
+type Told = (&'static [u8], &'static [u8], Option<Rule>);
+
+fn walk_fields(rt: &impl Abort, alloc: Global, rows: &[Told]) -> Result<(), AllocError> {
+    for (place, row) in rows.iter().enumerate() {
+        let told = rule_with(alloc, row.0, row.1)?;
+        assert_eq!(rt; told, row.2, "row {place}");
+    }
+    Ok(())
 }
 
 /// An octet at an edge of the token's octets (RFC 9110, section 5.6.2), and what is told where it stands within a name and
@@ -116,14 +134,14 @@ fn names_are_lower_case_tokens(rt: HostRuntime) -> Result<(), Fail> {
 fn methods_are_tokens(rt: HostRuntime) -> Result<(), Fail> {
     let alloc = rt.alloc();
     for edge in TOKEN_EDGES {
-        let told = rule_of_method(alloc, &[b'M', edge.0, b'M'])?;
+        let told = rule_with(alloc, b":method", &[b'M', edge.0, b'M'])?;
         assert_eq!(rt; told, edge.2, "octet {}", edge.0);
     }
-    assert_eq!(rt; rule_of_method(alloc, b"")?, Some(Rule::Method));
-    assert_eq!(rt; rule_of_method(alloc, b" GET")?, Some(Rule::Value));
-    assert_eq!(rt; rule_of_method(alloc, b"GET ")?, Some(Rule::Value));
-    assert_eq!(rt; rule_of_method(alloc, b"get")?, None);
-    assert_eq!(rt; rule_of_method(alloc, b"connect")?, None);
+    assert_eq!(rt; rule_with(alloc, b":method", b"")?, Some(Rule::Method));
+    assert_eq!(rt; rule_with(alloc, b":method", b" GET")?, Some(Rule::Value));
+    assert_eq!(rt; rule_with(alloc, b":method", b"GET ")?, Some(Rule::Value));
+    assert_eq!(rt; rule_with(alloc, b":method", b"get")?, None);
+    assert_eq!(rt; rule_with(alloc, b":method", b"connect")?, None);
     Ok(())
 }
 
@@ -173,35 +191,21 @@ const PORT: Line = (b":authority", b"h:80");
 const PSEUDO_FIELDS: &[Row] = &[
     (&[METHOD, SCHEME, PATH, AUTHORITY], true, None),
     (&[AUTHORITY, PATH, SCHEME, METHOD], true, None),
+    (&[METHOD, SCHEME, PATH, AUTHORITY, ANY], true, None),
     // missing
     (&[], true, Some(Rule::PseudoField)),
     (&[SCHEME, PATH, AUTHORITY], true, Some(Rule::PseudoField)),
     (&[METHOD, PATH, AUTHORITY], true, Some(Rule::PseudoField)),
     (&[METHOD, SCHEME, AUTHORITY], true, Some(Rule::PseudoField)),
     (&[METHOD, SCHEME, PATH], true, Some(Rule::Authority)),
-    // doubled
+    // unknown in place of a known one
     (
-        &[METHOD, METHOD, SCHEME, PATH, AUTHORITY],
+        &[METHOD, SCHEME, (b":Path", b"/")],
         true,
         Some(Rule::PseudoField),
     ),
     (
-        &[METHOD, SCHEME, SCHEME, PATH, AUTHORITY],
-        true,
-        Some(Rule::PseudoField),
-    ),
-    (
-        &[METHOD, SCHEME, PATH, PATH, AUTHORITY],
-        true,
-        Some(Rule::PseudoField),
-    ),
-    (
-        &[METHOD, SCHEME, PATH, AUTHORITY, AUTHORITY],
-        true,
-        Some(Rule::PseudoField),
-    ),
-    (
-        &[METHOD, SCHEME, PATH, AUTHORITY, CONNECT],
+        &[METHOD, SCHEME, (b"path", b"/")],
         true,
         Some(Rule::PseudoField),
     ),
@@ -231,53 +235,27 @@ const PSEUDO_FIELDS: &[Row] = &[
         true,
         Some(Rule::PseudoField),
     ),
-    (&[METHOD, SCHEME, PATH, AUTHORITY, ANY], true, None),
-    // unknown
-    (
-        &[METHOD, SCHEME, PATH, AUTHORITY, (b":status", b"200")],
-        true,
-        Some(Rule::PseudoField),
-    ),
-    (
-        &[METHOD, SCHEME, PATH, AUTHORITY, (b":protocol", b"x")],
-        true,
-        Some(Rule::PseudoField),
-    ),
-    (
-        &[METHOD, SCHEME, PATH, AUTHORITY, (b":", b"")],
-        true,
-        Some(Rule::PseudoField),
-    ),
-    (
-        &[METHOD, SCHEME, PATH, AUTHORITY, (b":host", b"h")],
-        true,
-        Some(Rule::PseudoField),
-    ),
-    (
-        &[METHOD, SCHEME, PATH, AUTHORITY, (b":Path", b"/")],
-        true,
-        Some(Rule::PseudoField),
-    ),
-    (
-        &[METHOD, SCHEME, PATH, AUTHORITY, (b":path ", b"/")],
-        true,
-        Some(Rule::PseudoField),
-    ),
-    (
-        &[METHOD, SCHEME, (b":Path", b"/"), AUTHORITY],
-        true,
-        Some(Rule::PseudoField),
-    ),
-    (
-        &[METHOD, SCHEME, (b"path", b"/"), AUTHORITY],
-        true,
-        Some(Rule::PseudoField),
-    ),
+];
+
+/// Fields behind the four, that are there twice or unknown.
+const TOO_MANY_PSEUDO_FIELDS: &[Row] = &[
+    (&[METHOD], true, Some(Rule::PseudoField)),
+    (&[SCHEME], true, Some(Rule::PseudoField)),
+    (&[PATH], true, Some(Rule::PseudoField)),
+    (&[AUTHORITY], true, Some(Rule::PseudoField)),
+    (&[CONNECT], true, Some(Rule::PseudoField)),
+    (&[(b":status", b"200")], true, Some(Rule::PseudoField)),
+    (&[(b":protocol", b"x")], true, Some(Rule::PseudoField)),
+    (&[(b":", b"")], true, Some(Rule::PseudoField)),
+    (&[(b":host", b"h")], true, Some(Rule::PseudoField)),
+    (&[(b":Path", b"/")], true, Some(Rule::PseudoField)),
+    (&[(b":path ", b"/")], true, Some(Rule::PseudoField)),
 ];
 
 #[test]
 fn pseudo_fields_are_there_once_and_first(rt: HostRuntime) -> Result<(), Fail> {
-    walk(&rt, rt.alloc(), PSEUDO_FIELDS)?;
+    walk(&rt, rt.alloc(), &[], PSEUDO_FIELDS)?;
+    walk(&rt, rt.alloc(), &HEAD, TOO_MANY_PSEUDO_FIELDS)?;
     Ok(())
 }
 
@@ -329,18 +307,7 @@ const TUNNELS: &[Row] = &[
 
 #[test]
 fn tunnels_have_an_authority_alone(rt: HostRuntime) -> Result<(), Fail> {
-    walk(&rt, rt.alloc(), TUNNELS)?;
-    Ok(())
-}
-
-/// A field behind a head that is right and ends its stream, and what is told.
-type Told = (&'static [u8], &'static [u8], Option<Rule>);
-
-fn walk_fields(rt: &impl Abort, alloc: Global, rows: &[Told]) -> Result<(), AllocError> {
-    for (place, row) in rows.iter().enumerate() {
-        let told = rule_with(alloc, row.0, row.1)?;
-        assert_eq!(rt; told, row.2, "row {place}");
-    }
+    walk(&rt, rt.alloc(), &[], TUNNELS)?;
     Ok(())
 }
 
@@ -392,206 +359,76 @@ const TE: &[Told] = &[
     (b"tee", b"gzip", None),
 ];
 
+const TRAILERS_ONLY: Line = (b"te", b"trailers");
+
+const GZIP: Line = (b"te", b"gzip");
+
 const TWO_TES: &[Row] = &[
-    (
-        &[
-            METHOD,
-            SCHEME,
-            PATH,
-            AUTHORITY,
-            (b"te", b"trailers"),
-            (b"te", b"trailers"),
-        ],
-        true,
-        None,
-    ),
-    (
-        &[
-            METHOD,
-            SCHEME,
-            PATH,
-            AUTHORITY,
-            (b"te", b"trailers"),
-            (b"te", b"gzip"),
-        ],
-        true,
-        Some(Rule::Te),
-    ),
-    (
-        &[
-            METHOD,
-            SCHEME,
-            PATH,
-            AUTHORITY,
-            (b"te", b"gzip"),
-            (b"te", b"trailers"),
-        ],
-        true,
-        Some(Rule::Te),
-    ),
+    (&[TRAILERS_ONLY, TRAILERS_ONLY], true, None),
+    (&[TRAILERS_ONLY, GZIP], true, Some(Rule::Te)),
+    (&[GZIP, TRAILERS_ONLY], true, Some(Rule::Te)),
 ];
 
 #[test]
 fn te_says_trailers_alone(rt: HostRuntime) -> Result<(), Fail> {
     walk_fields(&rt, rt.alloc(), TE)?;
-    walk(&rt, rt.alloc(), TWO_TES)?;
+    walk(&rt, rt.alloc(), &HEAD, TWO_TES)?;
     Ok(())
 }
 
-const SCHEMES: &[Row] = &[
-    (
-        &[METHOD, (b":scheme", b"http"), PATH, AUTHORITY],
-        true,
-        None,
-    ),
-    (
-        &[METHOD, (b":scheme", b"https"), PATH, AUTHORITY],
-        true,
-        None,
-    ),
-    (
-        &[METHOD, (b":scheme", b"HTTP"), PATH, AUTHORITY],
-        true,
-        Some(Rule::Scheme),
-    ),
-    (
-        &[METHOD, (b":scheme", b"Https"), PATH, AUTHORITY],
-        true,
-        Some(Rule::Scheme),
-    ),
-    (
-        &[METHOD, (b":scheme", b"ftp"), PATH, AUTHORITY],
-        true,
-        Some(Rule::Scheme),
-    ),
-    (
-        &[METHOD, (b":scheme", b""), PATH, AUTHORITY],
-        true,
-        Some(Rule::Scheme),
-    ),
-    (
-        &[METHOD, (b":scheme", b"htt"), PATH, AUTHORITY],
-        true,
-        Some(Rule::Scheme),
-    ),
-    (
-        &[METHOD, (b":scheme", b"httpss"), PATH, AUTHORITY],
-        true,
-        Some(Rule::Scheme),
-    ),
-    (
-        &[METHOD, (b":scheme", b"http:"), PATH, AUTHORITY],
-        true,
-        Some(Rule::Scheme),
-    ),
-    (
-        &[METHOD, (b":scheme", b"ht tp"), PATH, AUTHORITY],
-        true,
-        Some(Rule::Scheme),
-    ),
-    (
-        &[METHOD, (b":scheme", b"http "), PATH, AUTHORITY],
-        true,
-        Some(Rule::Value),
-    ),
+const SCHEMES: &[Told] = &[
+    (b":scheme", b"http", None),
+    (b":scheme", b"https", None),
+    (b":scheme", b"HTTP", Some(Rule::Scheme)),
+    (b":scheme", b"Https", Some(Rule::Scheme)),
+    (b":scheme", b"ftp", Some(Rule::Scheme)),
+    (b":scheme", b"", Some(Rule::Scheme)),
+    (b":scheme", b"htt", Some(Rule::Scheme)),
+    (b":scheme", b"httpss", Some(Rule::Scheme)),
+    (b":scheme", b"http:", Some(Rule::Scheme)),
+    (b":scheme", b"ht tp", Some(Rule::Scheme)),
+    (b":scheme", b"http ", Some(Rule::Value)),
 ];
 
 #[test]
 fn schemes_are_two(rt: HostRuntime) -> Result<(), Fail> {
-    walk(&rt, rt.alloc(), SCHEMES)?;
+    walk_fields(&rt, rt.alloc(), SCHEMES)?;
     Ok(())
 }
 
 const OPTIONS: Line = (b":method", b"OPTIONS");
 
-const PATHS: &[Row] = &[
-    (&[METHOD, SCHEME, (b":path", b"/"), AUTHORITY], true, None),
-    (&[METHOD, SCHEME, (b":path", b"//"), AUTHORITY], true, None),
-    (
-        &[METHOD, SCHEME, (b":path", b"/a?b=c"), AUTHORITY],
-        true,
-        None,
-    ),
-    (&[METHOD, SCHEME, (b":path", b"/!"), AUTHORITY], true, None),
-    (&[METHOD, SCHEME, (b":path", b"/~"), AUTHORITY], true, None),
-    (&[METHOD, SCHEME, (b":path", b"/#"), AUTHORITY], true, None),
-    (
-        &[METHOD, SCHEME, (b":path", b""), AUTHORITY],
-        true,
-        Some(Rule::Path),
-    ),
-    (
-        &[METHOD, SCHEME, (b":path", b"a"), AUTHORITY],
-        true,
-        Some(Rule::Path),
-    ),
-    (
-        &[METHOD, SCHEME, (b":path", b"?a"), AUTHORITY],
-        true,
-        Some(Rule::Path),
-    ),
-    (
-        &[METHOD, SCHEME, (b":path", b"http://h/"), AUTHORITY],
-        true,
-        Some(Rule::Path),
-    ),
-    (
-        &[METHOD, SCHEME, (b":path", b"/a b"), AUTHORITY],
-        true,
-        Some(Rule::Path),
-    ),
-    (
-        &[METHOD, SCHEME, (b":path", b"/ HTTP/1.1"), AUTHORITY],
-        true,
-        Some(Rule::Path),
-    ),
-    (
-        &[METHOD, SCHEME, (b":path", b"/a\tb"), AUTHORITY],
-        true,
-        Some(Rule::Path),
-    ),
-    (
-        &[METHOD, SCHEME, (b":path", b"/\x80"), AUTHORITY],
-        true,
-        Some(Rule::Path),
-    ),
-    (
-        &[METHOD, SCHEME, (b":path", b"/\xff"), AUTHORITY],
-        true,
-        Some(Rule::Path),
-    ),
-    (
-        &[METHOD, SCHEME, (b":path", b"/\x7f"), AUTHORITY],
-        true,
-        Some(Rule::Value),
-    ),
-    (
-        &[METHOD, SCHEME, (b":path", b"/\x1f"), AUTHORITY],
-        true,
-        Some(Rule::Value),
-    ),
-    (
-        &[METHOD, SCHEME, (b":path", b"/\r\n"), AUTHORITY],
-        true,
-        Some(Rule::Value),
-    ),
-    (
-        &[METHOD, SCHEME, (b":path", b"/ "), AUTHORITY],
-        true,
-        Some(Rule::Value),
-    ),
-    (
-        &[METHOD, SCHEME, (b":path", b" /"), AUTHORITY],
-        true,
-        Some(Rule::Value),
-    ),
-    (
-        &[METHOD, SCHEME, (b":path", b"*"), AUTHORITY],
-        true,
-        Some(Rule::Path),
-    ),
-    (&[OPTIONS, SCHEME, (b":path", b"*"), AUTHORITY], true, None),
-    (&[OPTIONS, SCHEME, (b":path", b"/"), AUTHORITY], true, None),
+const STAR: Line = (b":path", b"*");
+
+const PATHS: &[Told] = &[
+    (b":path", b"/", None),
+    (b":path", b"//", None),
+    (b":path", b"/a?b=c", None),
+    (b":path", b"/!", None),
+    (b":path", b"/~", None),
+    (b":path", b"/#", None),
+    (b":path", b"", Some(Rule::Path)),
+    (b":path", b"a", Some(Rule::Path)),
+    (b":path", b"?a", Some(Rule::Path)),
+    (b":path", b"http://h/", Some(Rule::Path)),
+    (b":path", b"/a b", Some(Rule::Path)),
+    (b":path", b"/ HTTP/1.1", Some(Rule::Path)),
+    (b":path", b"/a\tb", Some(Rule::Path)),
+    (b":path", b"/\x80", Some(Rule::Path)),
+    (b":path", b"/\xff", Some(Rule::Path)),
+    (b":path", b"*", Some(Rule::Path)),
+    (b":path", b"/\x7f", Some(Rule::Value)),
+    (b":path", b"/\x1f", Some(Rule::Value)),
+    (b":path", b"/\r\n", Some(Rule::Value)),
+    (b":path", b"/ ", Some(Rule::Value)),
+    (b":path", b" /", Some(Rule::Value)),
+];
+
+const STARS: &[Row] = &[
+    (&[OPTIONS, SCHEME, STAR, AUTHORITY], true, None),
+    (&[STAR, OPTIONS, SCHEME, AUTHORITY], true, None),
+    (&[OPTIONS, SCHEME, PATH, AUTHORITY], true, None),
+    (&[METHOD, SCHEME, STAR, AUTHORITY], true, Some(Rule::Path)),
     (
         &[OPTIONS, SCHEME, (b":path", b""), AUTHORITY],
         true,
@@ -608,17 +445,12 @@ const PATHS: &[Row] = &[
         Some(Rule::Path),
     ),
     (
-        &[
-            (b":method", b"options"),
-            SCHEME,
-            (b":path", b"*"),
-            AUTHORITY,
-        ],
+        &[(b":method", b"options"), SCHEME, STAR, AUTHORITY],
         true,
         Some(Rule::Path),
     ),
     (
-        &[(b":method", b"OPTION"), SCHEME, (b":path", b"*"), AUTHORITY],
+        &[(b":method", b"OPTION"), SCHEME, STAR, AUTHORITY],
         true,
         Some(Rule::Path),
     ),
@@ -626,235 +458,93 @@ const PATHS: &[Row] = &[
 
 #[test]
 fn paths_are_visible_from_a_slash_on(rt: HostRuntime) -> Result<(), Fail> {
-    walk(&rt, rt.alloc(), PATHS)?;
+    walk_fields(&rt, rt.alloc(), PATHS)?;
+    walk(&rt, rt.alloc(), &[], STARS)?;
     Ok(())
 }
 
-/// Each octet of an authority's edges behind a letter.
-const AUTHORITIES: &[Row] = &[
-    (&[METHOD, SCHEME, PATH, (b":authority", b"h")], true, None),
-    (
-        &[METHOD, SCHEME, PATH, (b":authority", b"h:80")],
-        true,
-        None,
-    ),
-    (
-        &[METHOD, SCHEME, PATH, (b":authority", b"[::1]:80")],
-        true,
-        None,
-    ),
-    (&[METHOD, SCHEME, PATH, (b":authority", b"h!")], true, None),
-    (&[METHOD, SCHEME, PATH, (b":authority", b"h\"")], true, None),
-    (&[METHOD, SCHEME, PATH, (b":authority", b"h~")], true, None),
-    (
-        &[METHOD, SCHEME, PATH, (b":authority", b"")],
-        true,
-        Some(Rule::Authority),
-    ),
-    (
-        &[METHOD, SCHEME, PATH, (b":authority", b"user@h")],
-        true,
-        Some(Rule::Authority),
-    ),
-    (
-        &[METHOD, SCHEME, PATH, (b":authority", b"h/")],
-        true,
-        Some(Rule::Authority),
-    ),
-    (
-        &[METHOD, SCHEME, PATH, (b":authority", b"h?")],
-        true,
-        Some(Rule::Authority),
-    ),
-    (
-        &[METHOD, SCHEME, PATH, (b":authority", b"h#")],
-        true,
-        Some(Rule::Authority),
-    ),
-    (
-        &[METHOD, SCHEME, PATH, (b":authority", b"h\\")],
-        true,
-        Some(Rule::Authority),
-    ),
-    (
-        &[METHOD, SCHEME, PATH, (b":authority", b"/h")],
-        true,
-        Some(Rule::Authority),
-    ),
-    (
-        &[METHOD, SCHEME, PATH, (b":authority", b"h h")],
-        true,
-        Some(Rule::Authority),
-    ),
-    (
-        &[METHOD, SCHEME, PATH, (b":authority", b"h\th")],
-        true,
-        Some(Rule::Authority),
-    ),
-    (
-        &[METHOD, SCHEME, PATH, (b":authority", b"h\x80")],
-        true,
-        Some(Rule::Authority),
-    ),
-    (
-        &[METHOD, SCHEME, PATH, (b":authority", b"h\x7f")],
-        true,
-        Some(Rule::Value),
-    ),
-    (
-        &[METHOD, SCHEME, PATH, (b":authority", b"h\r\nx: y")],
-        true,
-        Some(Rule::Value),
-    ),
-    (
-        &[METHOD, SCHEME, PATH, (b":authority", b" h")],
-        true,
-        Some(Rule::Value),
-    ),
+const AUTHORITIES: &[Told] = &[
+    (b":authority", b"h", None),
+    (b":authority", b"h:80", None),
+    (b":authority", b"[::1]:80", None),
+    (b":authority", b"h!", None),
+    (b":authority", b"h\"", None),
+    (b":authority", b"h~", None),
+    (b":authority", b"", Some(Rule::Authority)),
+    (b":authority", b"user@h", Some(Rule::Authority)),
+    (b":authority", b"h@", Some(Rule::Authority)),
+    (b":authority", b"h/", Some(Rule::Authority)),
+    (b":authority", b"h?", Some(Rule::Authority)),
+    (b":authority", b"h#", Some(Rule::Authority)),
+    (b":authority", b"h\\", Some(Rule::Authority)),
+    (b":authority", b"/h", Some(Rule::Authority)),
+    (b":authority", b"h h", Some(Rule::Authority)),
+    (b":authority", b"h\th", Some(Rule::Authority)),
+    (b":authority", b"h\x80", Some(Rule::Authority)),
+    (b":authority", b"h\xff", Some(Rule::Authority)),
+    (b":authority", b"h\x7f", Some(Rule::Value)),
+    (b":authority", b"h\r\nx: y", Some(Rule::Value)),
+    (b":authority", b" h", Some(Rule::Value)),
+    (b":authority", b"h ", Some(Rule::Value)),
 ];
 
 #[test]
 fn authorities_are_of_their_octets(rt: HostRuntime) -> Result<(), Fail> {
-    walk(&rt, rt.alloc(), AUTHORITIES)?;
+    walk_fields(&rt, rt.alloc(), AUTHORITIES)?;
     Ok(())
 }
 
 const HOST: Line = (b"host", b"h");
 
 const HOSTS: &[Row] = &[
-    (&[METHOD, SCHEME, PATH, HOST], true, None),
-    (&[METHOD, SCHEME, PATH, ANY, HOST, ANY], true, None),
-    (&[METHOD, SCHEME, PATH, AUTHORITY, HOST], true, None),
+    (&[HOST], true, None),
+    (&[ANY, HOST, ANY], true, None),
+    (&[AUTHORITY, HOST], true, None),
+    (&[AUTHORITY, (b"host", b"H")], true, None),
+    (&[(b":authority", b"AZ"), (b"host", b"az")], true, None),
+    (&[(b":authority", b"az"), (b"host", b"AZ")], true, None),
     (
-        &[METHOD, SCHEME, PATH, AUTHORITY, (b"host", b"H")],
-        true,
-        None,
-    ),
-    (
-        &[
-            METHOD,
-            SCHEME,
-            PATH,
-            (b":authority", b"AZ"),
-            (b"host", b"az"),
-        ],
-        true,
-        None,
-    ),
-    (
-        &[
-            METHOD,
-            SCHEME,
-            PATH,
-            (b":authority", b"az"),
-            (b"host", b"AZ"),
-        ],
-        true,
-        None,
-    ),
-    (
-        &[
-            METHOD,
-            SCHEME,
-            PATH,
-            (b":authority", b"h["),
-            (b"host", b"h{"),
-        ],
+        &[(b":authority", b"h["), (b"host", b"h{")],
         true,
         Some(Rule::Authority),
     ),
     (
-        &[
-            METHOD,
-            SCHEME,
-            PATH,
-            (b":authority", b"h^"),
-            (b"host", b"h~"),
-        ],
+        &[(b":authority", b"h^"), (b"host", b"h~")],
         true,
         Some(Rule::Authority),
     ),
     (
-        &[
-            METHOD,
-            SCHEME,
-            PATH,
-            (b":authority", b"h`"),
-            (b"host", b"h@"),
-        ],
+        &[(b":authority", b"h`"), (b"host", b"h@")],
         true,
         Some(Rule::Authority),
     ),
+    (&[AUTHORITY, (b"host", b"x")], true, Some(Rule::Authority)),
+    (&[AUTHORITY, (b"host", b"")], true, Some(Rule::Authority)),
+    (&[AUTHORITY, (b"host", b"hh")], true, Some(Rule::Authority)),
     (
-        &[METHOD, SCHEME, PATH, AUTHORITY, (b"host", b"x")],
+        &[AUTHORITY, (b"host", b"h:80")],
         true,
         Some(Rule::Authority),
     ),
+    (&[(b":authority", b""), HOST], true, Some(Rule::Authority)),
     (
-        &[METHOD, SCHEME, PATH, AUTHORITY, (b"host", b"")],
+        &[(b":authority", b""), (b"host", b"")],
         true,
         Some(Rule::Authority),
     ),
-    (
-        &[METHOD, SCHEME, PATH, AUTHORITY, (b"host", b"hh")],
-        true,
-        Some(Rule::Authority),
-    ),
-    (
-        &[METHOD, SCHEME, PATH, AUTHORITY, (b"host", b"h:80")],
-        true,
-        Some(Rule::Authority),
-    ),
-    (
-        &[METHOD, SCHEME, PATH, (b":authority", b""), HOST],
-        true,
-        Some(Rule::Authority),
-    ),
-    (
-        &[METHOD, SCHEME, PATH, (b":authority", b""), (b"host", b"")],
-        true,
-        Some(Rule::Authority),
-    ),
-    (
-        &[METHOD, SCHEME, PATH, AUTHORITY, HOST, HOST],
-        true,
-        Some(Rule::Authority),
-    ),
-    (
-        &[METHOD, SCHEME, PATH, HOST, HOST],
-        true,
-        Some(Rule::Authority),
-    ),
-    (
-        &[METHOD, SCHEME, PATH, HOST, (b"host", b"x")],
-        true,
-        Some(Rule::Authority),
-    ),
-    (
-        &[METHOD, SCHEME, PATH, (b"host", b"")],
-        true,
-        Some(Rule::Authority),
-    ),
-    (
-        &[METHOD, SCHEME, PATH, (b"host", b"u@h")],
-        true,
-        Some(Rule::Authority),
-    ),
-    (
-        &[METHOD, SCHEME, PATH, (b"host", b"h/")],
-        true,
-        Some(Rule::Authority),
-    ),
-    (
-        &[METHOD, SCHEME, PATH, (b"host", b"h x")],
-        true,
-        Some(Rule::Authority),
-    ),
+    (&[AUTHORITY, HOST, HOST], true, Some(Rule::Authority)),
+    (&[HOST, HOST], true, Some(Rule::Authority)),
+    (&[HOST, (b"host", b"x")], true, Some(Rule::Authority)),
+    (&[], true, Some(Rule::Authority)),
+    (&[(b"host", b"")], true, Some(Rule::Authority)),
+    (&[(b"host", b"u@h")], true, Some(Rule::Authority)),
+    (&[(b"host", b"h/")], true, Some(Rule::Authority)),
+    (&[(b"host", b"h x")], true, Some(Rule::Authority)),
 ];
 
 #[test]
 fn the_host_says_the_authority(rt: HostRuntime) -> Result<(), Fail> {
-    walk(&rt, rt.alloc(), HOSTS)?;
+    walk(&rt, rt.alloc(), &[METHOD, SCHEME, PATH], HOSTS)?;
     Ok(())
 }
 
@@ -908,55 +598,25 @@ const NINES: Line = (b"content-length", b"999999999999999999");
 const TOO_LONG: Line = (b"content-length", b"0000000000000000001");
 
 const LENGTHS_OF_HEADS: &[Row] = &[
-    (&[METHOD, SCHEME, PATH, AUTHORITY], true, None),
-    (&[METHOD, SCHEME, PATH, AUTHORITY], false, None),
-    (&[METHOD, SCHEME, PATH, AUTHORITY, NONE], true, None),
-    (&[METHOD, SCHEME, PATH, AUTHORITY, NONE], false, None),
-    (
-        &[METHOD, SCHEME, PATH, AUTHORITY, ONE],
-        true,
-        Some(Rule::Length),
-    ),
-    (&[METHOD, SCHEME, PATH, AUTHORITY, ONE], false, None),
-    (
-        &[METHOD, SCHEME, PATH, AUTHORITY, NINES],
-        true,
-        Some(Rule::Length),
-    ),
-    (&[METHOD, SCHEME, PATH, AUTHORITY, NINES], false, None),
-    (
-        &[METHOD, SCHEME, PATH, AUTHORITY, TOO_LONG],
-        false,
-        Some(Rule::ContentLength),
-    ),
-    (
-        &[METHOD, SCHEME, PATH, AUTHORITY, ONE, ONE],
-        false,
-        Some(Rule::ContentLength),
-    ),
-    (
-        &[METHOD, SCHEME, PATH, AUTHORITY, NONE, NONE],
-        true,
-        Some(Rule::ContentLength),
-    ),
-    (
-        &[METHOD, SCHEME, PATH, AUTHORITY, NONE, ONE],
-        false,
-        Some(Rule::ContentLength),
-    ),
-    (
-        &[METHOD, SCHEME, PATH, AUTHORITY, ONE, ANY, NONE],
-        true,
-        Some(Rule::ContentLength),
-    ),
-    (&[CONNECT, PORT, ONE], true, Some(Rule::Length)),
-    (&[CONNECT, PORT, NONE], true, None),
+    (&[], true, None),
+    (&[], false, None),
+    (&[NONE], true, None),
+    (&[NONE], false, None),
+    (&[ONE], true, Some(Rule::Length)),
+    (&[ONE], false, None),
+    (&[NINES], true, Some(Rule::Length)),
+    (&[NINES], false, None),
+    (&[TOO_LONG], false, Some(Rule::ContentLength)),
+    (&[ONE, ONE], false, Some(Rule::ContentLength)),
+    (&[NONE, NONE], true, Some(Rule::ContentLength)),
+    (&[NONE, ONE], false, Some(Rule::ContentLength)),
+    (&[ONE, ANY, NONE], true, Some(Rule::ContentLength)),
 ];
 
 #[test]
 fn lengths_are_digits_once(rt: HostRuntime) -> Result<(), Fail> {
     walk_fields(&rt, rt.alloc(), LENGTHS)?;
-    walk(&rt, rt.alloc(), LENGTHS_OF_HEADS)?;
+    walk(&rt, rt.alloc(), &HEAD, LENGTHS_OF_HEADS)?;
     Ok(())
 }
 
@@ -1182,6 +842,6 @@ const WHOLE_HEADS: &[Row] = &[
 
 #[test]
 fn whole_heads_are_judged(rt: HostRuntime) -> Result<(), Fail> {
-    walk(&rt, rt.alloc(), WHOLE_HEADS)?;
+    walk(&rt, rt.alloc(), &[], WHOLE_HEADS)?;
     Ok(())
 }

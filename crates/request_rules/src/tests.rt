@@ -19,11 +19,7 @@ pub(crate) fn head(alloc: Global, lines: &[Line]) -> Result<Vec<Field>, AllocErr
     Ok(fields)
 }
 
-pub(crate) fn rule_of(
-    alloc: Global,
-    lines: &[Line],
-    ended: bool,
-) -> Result<Option<Rule>, AllocError> {
+fn rule_of(alloc: Global, lines: &[Line], ended: bool) -> Result<Option<Rule>, AllocError> {
     let fields = head(alloc, lines)?;
     Ok(match check_head(alloc, &fields, ended) {
         Ok(_) => None,

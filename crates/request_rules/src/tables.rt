@@ -1,4 +1,5 @@
-//! Heads around the edge of each rule. What is expected comes from the rules: RFC 9113, section 8, RFC 9110, section 5.
+//! Heads around the edge of each rule. What is expected comes from RFC 9113, section 8, RFC 9110, section 5, and what this
+//! project defines beside them: which schemes, authorities and lengths it takes.
 use super::*;
 use crate::tests::{AUTHORITY, Line, METHOD, PATH, SCHEME, head};
 use hpack_table::Field;
@@ -77,6 +78,9 @@ const TOKEN_EDGES: &[(u8, Option<Rule>, Option<Rule>)] = &[
     (b'!', None, None),
     (b'"', Some(Rule::Name), Some(Rule::Method)),
     (b'#', None, None),
+    (b'$', None, None),
+    (b'%', None, None),
+    (b'&', None, None),
     (b'\'', None, None),
     (b'(', Some(Rule::Name), Some(Rule::Method)),
     (b')', Some(Rule::Name), Some(Rule::Method)),
@@ -470,6 +474,7 @@ const AUTHORITIES: &[Told] = &[
     (b":authority", b"h!", None),
     (b":authority", b"h\"", None),
     (b":authority", b"h~", None),
+    (b":authority", b"h$.0>A[]", None),
     (b":authority", b"", Some(Rule::Authority)),
     (b":authority", b"user@h", Some(Rule::Authority)),
     (b":authority", b"h@", Some(Rule::Authority)),

@@ -464,6 +464,8 @@ const STARS: &[Row] = &[
 fn paths_are_visible_from_a_slash_on(rt: HostRuntime) -> Result<(), Fail> {
     walk_fields(&rt, rt.alloc(), PATHS)?;
     walk(&rt, rt.alloc(), &[], STARS)?;
+    let fields = head(rt.alloc(), &[METHOD, (b":path", b"/\x7f")])?;
+    assert!(rt; !rules::path_holds(&fields));
     Ok(())
 }
 
@@ -496,6 +498,8 @@ const AUTHORITIES: &[Told] = &[
 #[test]
 fn authorities_are_of_their_octets(rt: HostRuntime) -> Result<(), Fail> {
     walk_fields(&rt, rt.alloc(), AUTHORITIES)?;
+    let fields = head(rt.alloc(), &[(b":authority", b"h\x7f")])?;
+    assert!(rt; !rules::authority_holds(&fields));
     Ok(())
 }
 

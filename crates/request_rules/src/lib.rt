@@ -9,6 +9,8 @@ mod octets;
 mod rule;
 mod rules;
 #[cfg(test)]
+mod tables;
+#[cfg(test)]
 mod tests;
 
 pub use crate::body_count::BodyCount;

@@ -3,7 +3,7 @@ use hpack_table::Field;
 use std::alloc::{AllocError, Global};
 use std::test::*;
 
-type Line = (&'static [u8], &'static [u8]);
+pub(crate) type Line = (&'static [u8], &'static [u8]);
 
 fn field(alloc: Global, line: Line) -> Result<Field, AllocError> {
     let name = Vec::from_slice(alloc, line.0)?;
@@ -11,7 +11,7 @@ fn field(alloc: Global, line: Line) -> Result<Field, AllocError> {
     Ok(Field::new(name, value))
 }
 
-fn head(alloc: Global, lines: &[Line]) -> Result<Vec<Field>, AllocError> {
+pub(crate) fn head(alloc: Global, lines: &[Line]) -> Result<Vec<Field>, AllocError> {
     let mut fields = Vec::new(alloc);
     for line in lines {
         fields.push(field(alloc, *line)?)?;
@@ -27,13 +27,13 @@ fn rule_of(alloc: Global, lines: &[Line], ended: bool) -> Result<Option<Rule>, A
     })
 }
 
-const METHOD: Line = (b":method", b"GET");
+pub(crate) const METHOD: Line = (b":method", b"GET");
 
-const SCHEME: Line = (b":scheme", b"http");
+pub(crate) const SCHEME: Line = (b":scheme", b"http");
 
-const PATH: Line = (b":path", b"/");
+pub(crate) const PATH: Line = (b":path", b"/");
 
-const AUTHORITY: Line = (b":authority", b"h");
+pub(crate) const AUTHORITY: Line = (b":authority", b"h");
 
 #[test]
 fn a_head_has_its_parts(rt: HostRuntime) -> Result<(), Fail> {

@@ -13,3 +13,6 @@ mod Http2Examples
 mod HpackExamples
 pub mod IntegerLemmas
 pub mod HuffmanLemmas
+pub mod ResponseHeadReadings
+pub mod ResponseBodies
+pub mod ResponseReadings

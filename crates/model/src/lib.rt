@@ -6,3 +6,4 @@ pub mod frame_laws;
 pub mod hpack;
 pub mod http1;
 pub mod http2;
+pub mod responses;

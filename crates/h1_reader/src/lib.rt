@@ -1,0 +1,16 @@
+//! Responses of an HTTP/1.1 server, read from octets that come in pieces of any length (RFC 9112).
+#![tactic(auto)]
+
+mod fault;
+mod fields;
+mod framing;
+mod head;
+mod octets;
+mod piece;
+mod reader;
+#[cfg(test)]
+mod tests;
+
+pub use crate::fault::ResponseFault;
+pub use crate::piece::{Piece, ResponseHead};
+pub use crate::reader::{Ended, Reader};

@@ -1,6 +1,9 @@
 //! Why a response is refused.
 
-use std::alloc::{AllocError, AllocFailed};
+ghost use Rattle.std.specs.Prelude.{◌≡◌};
+ghost use Rattle.h1_reader.specs.declared.fault.ResponseFault.TheVariants.{Memory};
+
+use std::alloc::AllocError;
 
 /// Why no whole response comes any more.
 #[derive(Clone, Copy, PartialEq, Eq, Debug, Drop)]
@@ -22,9 +25,7 @@ pub enum ResponseFault {
 }
 
 impl From<AllocError> for ResponseFault {
-    ghost use Rattle.std.specs.Prelude.{◌≡◌};
-
-    ghost from_gives = { λ e fault. fault ≡ ResponseFault.Memory };
+    ghost from_gives = { λ _ fault. fault ≡ Memory };
 
     fn from(_error: AllocError) -> ResponseFault {
         ResponseFault::Memory

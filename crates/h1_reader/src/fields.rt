@@ -1,12 +1,12 @@
 //! What the fields of a response's head say.
 
-ghost use Rattle.std.specs.Prelude.{◌≡◌, ◌≤◌, ◌≡◌, ◌++◌, ℕ, not, ◌&&◌, ◌||◌, [], ◌∷◌, codes, bytes_eq, filter, map, length, IfOk, IfSome, OnOk};
+ghost use Rattle.std.specs.Prelude.{◌≡◌, ◌++◌, ℕ, not, ◌&&◌, ◌||◌, [], ◌∷◌, codes, bytes_eq, filter, map, length, IfOk, IfSome, OnOk};
 ghost use Rattle.std.specs.List.{list_all, list_any};
 ghost use Rattle.model.specs.Messages.{Field as Meaning};
 ghost use Rattle.model.specs.Octets.{is_value_octet};
 ghost use Rattle.model.specs.Http1.{values_of, without};
 ghost use Rattle.model.specs.Http2.{connection_names};
-ghost use Rattle.model.specs.ResponseHeads.{named_by_connection, never_has_body, without_framing, passed, with_one};
+ghost use Rattle.model.specs.ResponseHeads.{names_in, named_by_connection, never_has_body, without_framing, passed, with_one};
 
 use crate::octets;
 use hpack_table::Field;
@@ -28,16 +28,25 @@ pub fn values_hold(fields: &[Field]) -> bool
         .all(|field| octets::are_value_octets(field.value()))
 }
 
+/// Whether the field is a Connection that names this name.
+fn names(field: &Field, name: &[u8]) -> bool
+    ensures { result ≡ (bytes_eq field.now.name (codes "connection") && list_any (bytes_eq name.now) (names_in field.now.value)) }
+{
+    is_named(field, b"connection") && octets::names(field.value(), name)
+}
+
+/// Whether some field is a Connection that names this name.
+fn some_names(fields: &[Field], name: &[u8]) -> bool
+    ensures { result ≡ list_any (λ field. bytes_eq field.name (codes "connection") && list_any (bytes_eq name.now) (names_in field.value)) fields.now }
+{
+    fields.iter().any(|field| names(field, name))
+}
+
 /// Whether some field Connection names this name (RFC 9110, section 7.6.1).
 fn is_named_by_connection(fields: &[Field], name: &[u8]) -> bool
     ensures { result ≡ list_any (bytes_eq name.now) (named_by_connection fields.now) }
 {
-    for field in fields {
-        if is_named(field, b"connection") && octets::names(field.value(), name) {
-            return true;
-        }
-    }
-    false
+    some_names(fields, name)
 }
 
 /// Whether the field is one of a connection (RFC 9113, section 8.2.2).
@@ -84,43 +93,57 @@ fn push_passed(alloc: Global, all: &[Field], fields: &[Field], out: &mut Vec<Fie
     Ok(())
 }
 
-/// The fields that don't frame a body.
-fn without_any_framing(alloc: Global, fields: &[Field]) -> Result<Vec<Field>, AllocError>
-    ensures { IfOk result (λ kept. kept.items ≡ without (codes "content-length" ∷ codes "transfer-encoding" ∷ []) fields.now) }
+/// Adds the fields that don't frame a body.
+fn push_unframing(alloc: Global, fields: &[Field], out: &mut Vec<Field>) -> Result<(), AllocError>
+    ensures { OnOk result (out.new.items ≡ out.old.items ++ without (codes "content-length" ∷ codes "transfer-encoding" ∷ []) fields.now) }
 {
-    let mut kept = Vec::new(alloc);
     for field in fields {
         if !is_of_framing(field) {
-            kept.push(field.copy(alloc)?)?;
+            out.push(field.copy(alloc)?)?;
         }
     }
-    Ok(kept)
+    Ok(())
 }
 
-/// The fields with the first content-length alone.
-fn with_one_length(alloc: Global, fields: &[Field]) -> Result<Vec<Field>, AllocError>
-    ensures { IfOk result (λ kept. kept.items ≡ with_one (codes "content-length") fields.now) }
+/// Whether the field is no second content-length.
+fn is_kept(field: &Field, found: bool) -> bool
+    ensures { result ≡ not (bytes_eq field.now.name (codes "content-length") && found) }
 {
-    let mut kept = Vec::new(alloc);
+    !(is_named(field, b"content-length") && found)
+}
+
+/// Whether a content-length was found, with this field.
+fn is_found(field: &Field, found: bool) -> bool
+    ensures { result ≡ (found || bytes_eq field.now.name (codes "content-length")) }
+{
+    found || is_named(field, b"content-length")
+}
+
+/// Adds the fields with the first content-length alone.
+fn push_with_one_length(alloc: Global, fields: &[Field], out: &mut Vec<Field>) -> Result<(), AllocError>
+    ensures { OnOk result (out.new.items ≡ out.old.items ++ with_one (codes "content-length") fields.now) }
+{
     let mut found = false;
     for field in fields {
-        let is_length = is_named(field, b"content-length");
-        if !(is_length && found) {
-            kept.push(field.copy(alloc)?)?;
+        if is_kept(field, found) {
+            out.push(field.copy(alloc)?)?;
         }
-        found = found || is_length;
+        found = is_found(field, found);
     }
-    Ok(kept)
+    Ok(())
 }
 
 /// The fields without what framing leaves no meaning (RFC 9112, sections 6.1 to 6.3).
 fn without_framing(alloc: Global, status: u16, fields: &[Field]) -> Result<Vec<Field>, AllocError>
     ensures { IfOk result (λ kept. kept.items ≡ without_framing status fields.now) }
 {
+    let mut kept = Vec::new(alloc);
     if never_has_body(status) {
-        return without_any_framing(alloc, fields);
+        push_unframing(alloc, fields, &mut kept)?;
+    } else {
+        push_with_one_length(alloc, fields, &mut kept)?;
     }
-    with_one_length(alloc, fields)
+    Ok(kept)
 }
 
 /// The fields of a head that are passed back (RFC 9110, section 7.6.1).

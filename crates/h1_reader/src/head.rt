@@ -1,5 +1,9 @@
 //! The head at the front of octets.
 
+ghost use Rattle.std.specs.Prelude.{◌≡◌, ◌≢◌, ◌≤◌, map, length, All, IfOk, MatchResult};
+ghost use Rattle.httparse.specs.Spans.{IsHeaderWithin, IsResponseWithin, IsResponseOf};
+ghost use Rattle.h1_reader.specs.Heads.{field_from, IsHeadRead, HasNoHead};
+
 use crate::fault::ResponseFault;
 use crate::framing::{Framing, framing_of};
 use crate::piece::ResponseHead;
@@ -24,14 +28,20 @@ pub enum HeadRead {
 }
 
 /// The field of a line.
-fn field_at(alloc: Global, text: &[u8], line: HeaderSpan) -> Result<Field, AllocError> {
+fn field_at(alloc: Global, text: &[u8], line: HeaderSpan) -> Result<Field, AllocError>
+    requires { IsHeaderWithin (length text.now) line }
+    ensures { IfOk result (λ field. field ≡ field_from text.now line) }
+{
     let name = octets::lowered(alloc, line.name.of(text))?;
     let value = Vec::from_slice(alloc, line.value.of(text))?;
     Ok(Field::new(name, value))
 }
 
 /// The fields of lines.
-fn fields_at(alloc: Global, text: &[u8], lines: &[HeaderSpan]) -> Result<Vec<Field>, AllocError> {
+fn fields_at(alloc: Global, text: &[u8], lines: &[HeaderSpan]) -> Result<Vec<Field>, AllocError>
+    requires { All (IsHeaderWithin (length text.now)) lines.now }
+    ensures { IfOk result (λ fields. fields.items ≡ map (field_from text.now) lines.now) }
+{
     let mut fields = Vec::new(alloc);
     for line in lines {
         fields.push(field_at(alloc, text, *line)?)?;
@@ -45,7 +55,11 @@ pub fn read_head(
     to_head: bool,
     text: &[u8],
     spans: &mut [HeaderSpan],
-) -> Result<HeadRead, ResponseFault> {
+) -> Result<HeadRead, ResponseFault>
+    requires short { length text.now ≤ 16384 }
+    requires room { 100 ≤ length spans.old }
+    ensures { MatchResult result (IsHeadRead to_head text.now) (λ fault. fault ≢ ResponseFault.Memory → HasNoHead to_head text.now) }
+{
     match parse_response(text, spans) {
         Ok(Status::Complete(found)) => take_head(alloc, to_head, text, spans, found),
         Ok(Status::Partial) => Ok(HeadRead::More),
@@ -60,7 +74,12 @@ fn take_head(
     text: &[u8],
     spans: &[HeaderSpan],
     found: ResponseSpans,
-) -> Result<HeadRead, ResponseFault> {
+) -> Result<HeadRead, ResponseFault>
+    requires short { length text.now ≤ 16384 }
+    requires within { IsResponseWithin text.now spans.now found }
+    requires is_head { IsResponseOf text.now spans.now found }
+    ensures { MatchResult result (IsHeadRead to_head text.now) (λ fault. fault ≢ ResponseFault.Memory → HasNoHead to_head text.now) }
+{
     if found.headers > MOST_FIELDS || found.code < 100 {
         return Err(ResponseFault::Head);
     }

@@ -1,11 +1,11 @@
 //! Octets of names and values.
 
-ghost use Rattle.std.specs.Prelude.{◌≡◌, ◌≤◌, ◌&&◌, ℕ, true, length, reverse, bytes_eq, IfOk};
+ghost use Rattle.std.specs.Prelude.{◌≡◌, ◌≤◌, ◌<◌, ◌∷◌, [], true, length, reverse, bytes_eq, IfOk, IfSome, MatchOption};
 ghost use Rattle.std.specs.List.{list_all, list_any};
 ghost use Rattle.std.specs.Str.Parse.{digits_value};
 ghost use Rattle.httparse.specs.Grammar.{skip_ows, trim_ows};
 ghost use Rattle.model.specs.Octets.{some_of, is_digit, is_space, is_value_octet, lower, lower_octet};
-ghost use Rattle.model.specs.ResponseHeads.{names_in};
+ghost use Rattle.model.specs.ResponseHeads.{cut_at, names_in};
 
 use std::alloc::{AllocError, Global};
 
@@ -24,11 +24,7 @@ fn lower_octet(octet: u8) -> u8
 pub fn lowered(alloc: Global, text: &[u8]) -> Result<Vec<u8>, AllocError>
     ensures { IfOk result (λ low. low.items ≡ lower text.now) }
 {
-    let mut low = Vec::new(alloc);
-    for octet in text {
-        low.push(lower_octet(*octet))?;
-    }
-    Ok(low)
+    text.iter().map(|octet| lower_octet(*octet)).collect(alloc)
 }
 
 /// Whether the octet is a space or a tab.
@@ -111,6 +107,7 @@ fn without_back(text: &[u8]) -> &[u8]
 }
 
 /// The text without the spaces and tabs at its ends.
+#[tactic(auto, unfolding(httparse::specs::Grammar::trim_ows))]
 fn trimmed(text: &[u8]) -> &[u8]
     ensures { result.now ≡ trim_ows text.now }
 {
@@ -130,14 +127,29 @@ fn is_lower_of(name: &[u8], text: &[u8]) -> bool
     }
 }
 
+/// The text before the first comma, and the text behind it, if there is one.
+fn cut(text: &[u8]) -> (&[u8], Option<&[u8]>)
+    ensures cut { MatchOption result.1 (cut_at 44 text.now ≡ result.0.now ∷ []) (λ rest. cut_at 44 text.now ≡ result.0.now ∷ cut_at 44 rest.now) }
+    ensures shorter { IfSome result.1 (λ rest. length rest.now < length text.now) }
+{
+    for place in 0..text.len() {
+        if text[place] == b',' {
+            return (&text[..place], Some(&text[place + 1..]));
+        }
+    }
+    (text, None)
+}
+
 /// Whether a value of Connection names this name, which is in lower case (RFC 9110, section 7.6.1).
 pub fn names(value: &[u8], name: &[u8]) -> bool
     ensures { result ≡ list_any (bytes_eq name.now) (names_in value.now) }
 {
-    match value.iter().position(|octet| *octet == b',') {
-        None => is_lower_of(name, trimmed(value)),
-        Some(place) => {
-            is_lower_of(name, trimmed(&value[..place])) || names(&value[place + 1..], name)
-        }
+    let (part, rest) = cut(value);
+    if is_lower_of(name, trimmed(part)) {
+        return true;
+    }
+    match rest {
+        None => false,
+        Some(rest) => names(rest, name),
     }
 }

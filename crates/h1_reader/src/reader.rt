@@ -27,7 +27,7 @@ pub enum Ended {
 }
 
 /// Where a reader stands.
-#[derive(Clone, Copy, PartialEq, Eq, Debug, Drop)]
+#[derive(Clone, Copy, Drop)]
 pub enum Place {
     /// Before the end of a head, behind so many interim heads.
     Head(u8),

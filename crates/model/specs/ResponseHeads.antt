@@ -114,13 +114,17 @@ abbrev pub unless_bodiless : Bool → Option Framing → Option Framing
 unless_bodiless bodiless None = None
 unless_bodiless bodiless (Some framing) = if bodiless then Some Bodiless else Some framing
 
--- How the body of a final head is framed: a head that answers HEAD, a 204 and a 304 have none (RFC 9112, section 6.3).
-abbrev pub framing_of : Bool → grammar.ResponseHead → Option Framing
-framing_of to_head spelled =
-    let fields = map meant spelled.fields in
-    if status_code spelled == 204
+-- How a body is framed by the minor version, the status and the fields of its head: a head that answers HEAD, a 204 and a
+-- 304 have none (RFC 9112, section 6.3).
+abbrev pub framing_for : Bool → ℕ → ℕ → List Field → Option Framing
+framing_for to_head minor status fields =
+    if status == 204
     then Some Bodiless
-    else (unless_bodiless (to_head || status_code spelled == 304) (framed_by spelled.minor (values_of (codes "content-length") fields) (values_of (codes "transfer-encoding") fields)))
+    else (unless_bodiless (to_head || status == 304) (framed_by minor (values_of (codes "content-length") fields) (values_of (codes "transfer-encoding") fields)))
+
+-- how the body of a final head is framed
+abbrev pub framing_of : Bool → grammar.ResponseHead → Option Framing
+framing_of to_head spelled = framing_for to_head spelled.minor (status_code spelled) (map meant spelled.fields)
 
 -- The text is an interim head (RFC 9110, section 15.2).
 pub record Interim (text : List ℕ) (head : Head) : Type 0 where

@@ -1,9 +1,9 @@
 -- What the parser's answer says of the heads that are taken.
-use Rattle.std.proofs.Common.{◌≡◌, ℕ, ◌<◌, ◌≤◌, Bool, true, false, List, [], ◌∷◌, ◌++◌, length, take, drop, map, refl, sym, ap, ◌∙◌, subst, arith}
+use Rattle.std.proofs.Common.{suc, ◌≡◌, ℕ, ◌<◌, ◌≤◌, Bool, true, false, List, [], ◌∷◌, ◌++◌, length, take, drop, map, refl, sym, ap, ◌∙◌, subst, length-take-le, arith}
 use Rattle.std.specs.Prelude.{Option, Some, None, ◌&&◌}
 use Rattle.std.specs.List.{list_all}
 use Rattle.std.proofs.lemmas.Bool.{false≢true}
-use Rattle.std.proofs.lemmas.List.{append-nil, length-map}
+use Rattle.std.proofs.lemmas.List.{append-nil}
 use Rattle.std.proofs.Math.Seq.{take-append_seam}
 use Rattle.httparse.specs.Grammar as grammar
 use Rattle.httparse.specs.Grammar.{ReadsResponse, print_response, status_code}
@@ -53,9 +53,17 @@ pub meant_at : (text : List ℕ) (spans : List HeaderSpan) (count : ℕ) (lines 
 meant_at text spans count lines at =
     sym (map_map paired (header_bytes text) (take count spans)) ∙ ap (map paired) at ∙ map_lines paired name_and_value lines
 
+length_mapped : (f : HeaderSpan → List ℕ × List ℕ) (xs : List HeaderSpan) → length (map f xs) ≡ length xs
+length_mapped f [] = refl
+length_mapped f (x ∷ xs) = ap suc (length_mapped f xs)
+
+length_lines : (f : grammar.Field → List ℕ × List ℕ) (xs : List grammar.Field) → length (map f xs) ≡ length xs
+length_lines f [] = refl
+length_lines f (x ∷ xs) = ap suc (length_lines f xs)
+
 pub count_is : (text : List ℕ) (spans : List HeaderSpan) (count : ℕ) (lines : List grammar.Field) → count ≤ length spans → AreFieldsAt text spans count lines → count ≡ length lines
 count_is text spans count lines fits at =
-    let lengths : length (take count spans) ≡ length lines = sym (length-map (header_bytes text) (take count spans)) ∙ ap length at ∙ length-map name_and_value lines in
+    let lengths : length (take count spans) ≡ length lines = sym (length_mapped (header_bytes text) (take count spans)) ∙ ap length at ∙ length_lines name_and_value lines in
     let taken : length (take count spans) ≡ count = length-take-le count spans fits in
     sym taken ∙ lengths
 

@@ -80,7 +80,10 @@ fn take_head(
     requires is_head { IsResponseOf text.now spans.now found }
     ensures { MatchResult result (IsHeadRead to_head text.now) (λ fault. fault ≢ ResponseFault.Memory → HasNoHead to_head text.now) }
 {
-    if found.headers > MOST_FIELDS || found.code < 100 {
+    if found.headers > MOST_FIELDS {
+        return Err(ResponseFault::Head);
+    }
+    if found.code < 100 {
         return Err(ResponseFault::Head);
     }
     if found.code == 101 {
@@ -95,6 +98,8 @@ fn take_head(
     if found.code < 200 {
         return Ok(HeadRead::Interim(head, found.len));
     }
-    let framing = framing_of(to_head, found.version, found.code, &all)?;
-    Ok(HeadRead::Final(head, framing, found.len))
+    match framing_of(to_head, found.version, found.code, &all) {
+        Ok(framing) => Ok(HeadRead::Final(head, framing, found.len)),
+        Err(fault) => Err(fault),
+    }
 }

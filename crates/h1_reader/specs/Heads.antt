@@ -1,5 +1,5 @@
 -- What a read of a head says of the octets.
-use Rattle.std.specs.Prelude.{◌≡◌, ℕ, ◌≤◌, Bool, List, ◌++◌, length, take}
+use Rattle.std.specs.Prelude.{◌≡◌, ℕ, ◌<◌, ◌≤◌, Bool, List, ◌++◌, length, take}
 use Rattle.httparse.specs.Grammar.{HasNoResponse}
 use Rattle.httparse.specs.declared.spans.HeaderSpan.{HeaderSpan}
 use Rattle.httparse.specs.Spans.{span_bytes}
@@ -9,6 +9,8 @@ use Rattle.model.specs.ResponseHeads as model
 use Rattle.h1_reader.specs.Views.{framing_view}
 use Rattle.h1_reader.specs.declared.head.HeadRead.{HeadRead}
 use Rattle.h1_reader.specs.declared.head.HeadRead.TheVariants.{More, Interim, Final}
+use Rattle.h1_reader.specs.declared.front.FrontRead.{FrontRead}
+use Rattle.h1_reader.specs.declared.front.FrontRead.TheVariants.{OnGoing, InterimAt, FinalAt}
 
 -- the field of a line
 abbrev pub field_from : List ℕ → HeaderSpan → Field
@@ -24,3 +26,9 @@ IsHeadRead to_head text (Final head framing used) = (used ≤ length text) × mo
 pub record HasNoHead (to_head : Bool) (text : List ℕ) : Type 0 where
   pub no_interim : (more front past : List ℕ) (head : model.Head) → text ++ more ≡ front ++ past → model.Interim front head → ⊥
   pub no_final : (more front past : List ℕ) (head : model.Head) (framing : model.Framing) → text ++ more ≡ front ++ past → model.Final to_head front head framing → ⊥
+
+-- The octets behind those that were held end before a head does, or so many of them end one.
+abbrev pub IsFrontRead : Bool → List ℕ → List ℕ → FrontRead → Type 0
+IsFrontRead to_head held octets (OnGoing text) = (text.items ≡ held ++ octets) × (length text.items ≤ 16384) × HasNoResponse text.items
+IsFrontRead to_head held octets (InterimAt head used) = (0 < used) × (used ≤ length octets) × model.Interim (held ++ take used octets) head
+IsFrontRead to_head held octets (FinalAt head framing used) = (0 < used) × (used ≤ length octets) × model.Final to_head (held ++ take used octets) head (framing_view framing)

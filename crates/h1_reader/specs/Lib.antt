@@ -1,3 +1,5 @@
 pub mod Parts
 pub mod Views
 pub mod Heads
+pub mod Standing
+pub mod Begins

@@ -4,6 +4,7 @@
 mod fault;
 mod fields;
 mod framing;
+mod front;
 mod head;
 mod octets;
 mod piece;

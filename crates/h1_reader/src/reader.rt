@@ -1,21 +1,22 @@
 //! A reader of one response.
 
+ghost use Rattle.std.specs.Prelude.{◌≡◌, ◌≢◌, ◌<◌, ◌≤◌, ◌++◌, [], List, Err, length, take, OnOk, OnErr, IfOk, IfErr};
+ghost use Rattle.h1_reader.specs.Parts.{Part};
+ghost use Rattle.h1_reader.specs.Views.{parts_of};
+ghost use Rattle.h1_reader.specs.Standing.{Hears, Breaks};
+ghost use Rattle.h1_reader.specs.Begins.{Begins};
+
 use crate::fault::ResponseFault;
 use crate::framing::Framing;
-use crate::head::{HeadRead, read_head};
+use crate::front::{FrontRead, read_front};
 use crate::piece::{Piece, Told};
-use httparse::spans::{EMPTY_HEADER_SPAN, HeaderSpan};
+use httparse::spans::HeaderSpan;
 use std::alloc::Global;
 use std::marker::Model;
-
-/// The longest head (this project's profile).
-const LONGEST_HEAD: usize = 16384;
+use std::mem;
 
 /// The most interim heads (this project's profile).
 const MOST_INTERIMS: u8 = 8;
-
-/// Room for the fields of every head of at most 16,384 octets, since each takes three or more.
-const ROOM: usize = 5462;
 
 /// Whether a response that its server ended was whole.
 #[derive(Clone, Copy, PartialEq, Eq, Debug, Drop)]
@@ -51,9 +52,24 @@ pub struct Reader {
     spans: Vec<HeaderSpan>,
 }
 
+impl Model for Reader {
+    ghost use Rattle.h1_reader.specs.Standing.{State};
+
+    ghost Value = { State };
+
+    ghost view = { λ r. record { to_head = r.to_head; place = r.place; held = r.held.items } };
+
+    ghost use Rattle.std.specs.Prelude.{◌≤◌, length};
+    ghost use Rattle.httparse.specs.Grammar.{HasNoResponse};
+
+    ghost invariant = { λ r. (length r.held.items ≤ 16384) × HasNoResponse r.held.items };
+}
+
 impl Reader {
     /// A reader of the response to a request whose method is HEAD or isn't. It takes no memory.
-    pub fn new(alloc: Global, to_head: bool) -> Self {
+    pub fn new(alloc: Global, to_head: bool) -> Self
+        ensures { result ≡ record { to_head = to_head; place = Place.Head 0; held = [] } }
+    {
         Reader {
             alloc,
             to_head,
@@ -66,20 +82,21 @@ impl Reader {
     /// Takes the next octets, and adds what they tell to the pieces.
     ///
     /// What stands behind a whole response is ignored. A fault adds nothing, and every later call answers the same one.
-    pub fn feed(&mut self, octets: &[u8], pieces: &mut Vec<Piece>) -> Result<(), ResponseFault> {
+    pub fn feed(&mut self, octets: &[u8], pieces: &mut Vec<Piece>) -> Result<(), ResponseFault>
+        ensures ok { OnOk result ((added : List Part) × (parts_of pieces.new.items ≡ parts_of pieces.old.items ++ added) × Hears self.old octets.now added self.new) }
+        ensures fault { IfErr result (λ fault. fault ≢ ResponseFault.Memory → fault ≢ ResponseFault.Untreated → Breaks self.old octets.now) }
+        ensures unchanged { OnErr result (pieces.new.items ≡ pieces.old.items) }
+        ensures broken { IfErr result (λ fault. self.new.place ≡ Place.Broken fault) }
+        ensures again { (fault : ResponseFault) → self.old.place ≡ Place.Broken fault → result ≡ Err fault }
+    {
+        if let Place::Broken(fault) = self.place {
+            return Err(fault);
+        }
         let outcome = self.tell(octets, pieces);
         if let Err(fault) = outcome {
             self.place = Place::Broken(fault);
         }
         outcome
-    }
-
-    /// Takes the next octets, and adds what they tell to the pieces, or nothing where there is a fault.
-    fn tell(&mut self, octets: &[u8], pieces: &mut Vec<Piece>) -> Result<(), ResponseFault> {
-        let mut told = Told::new(self.alloc);
-        self.take_all(octets, &mut told)?;
-        told.move_to(pieces)?;
-        Ok(())
     }
 
     /// What the end of the connection makes of the response.
@@ -90,81 +107,106 @@ impl Reader {
         }
     }
 
+    /// Takes the next octets, and adds what they tell to the pieces, or nothing where there is a fault.
+    fn tell(&mut self, octets: &[u8], pieces: &mut Vec<Piece>) -> Result<(), ResponseFault>
+        ensures ok { OnOk result ((added : List Part) × (parts_of pieces.new.items ≡ parts_of pieces.old.items ++ added) × Hears self.old octets.now added self.new) }
+        ensures fault { IfErr result (λ fault. fault ≢ ResponseFault.Memory → fault ≢ ResponseFault.Untreated → Breaks self.old octets.now) }
+        ensures unchanged { OnErr result (pieces.new.items ≡ pieces.old.items) }
+    {
+        let mut told = Told::new(self.alloc);
+        self.take_all(octets, &mut told)?;
+        told.move_to(pieces)?;
+        Ok(())
+    }
+
     /// Takes all octets, one step after another.
-    fn take_all(&mut self, octets: &[u8], added: &mut Told) -> Result<(), ResponseFault> {
+    fn take_all(&mut self, octets: &[u8], told: &mut Told) -> Result<(), ResponseFault>
+        ensures ok { OnOk result ((added : List Part) × (told.new ≡ told.old ++ added) × Hears self.old octets.now added self.new) }
+        ensures fault { IfErr result (λ fault. fault ≢ ResponseFault.Memory → fault ≢ ResponseFault.Untreated → Breaks self.old octets.now) }
+    {
         let mut rest = octets;
         while !rest.is_empty() {
-            let used = self.take(rest, added)?;
+            let used = self.take(rest, told)?;
             rest = &rest[used..];
         }
         Ok(())
     }
 
     /// Takes some octets, one or more, and answers how many.
-    fn take(&mut self, octets: &[u8], added: &mut Told) -> Result<usize, ResponseFault> {
+    fn take(&mut self, octets: &[u8], told: &mut Told) -> Result<usize, ResponseFault>
+        requires { 0 < length octets.now }
+        ensures ok { IfOk result (λ used. (0 < used) × (used ≤ length octets.now) × ((added : List Part) × (told.new ≡ told.old ++ added) × Hears self.old (take used octets.now) added self.new)) }
+        ensures fault { IfErr result (λ fault. fault ≢ ResponseFault.Memory → fault ≢ ResponseFault.Untreated → Breaks self.old octets.now) }
+    {
         match self.place {
-            Place::Head(interims) => self.take_head(interims, octets, added),
-            Place::Sized(left) => self.take_sized(left, octets, added),
-            Place::UntilEnd => self.take_body(octets, added),
+            Place::Head(interims) => self.take_head(interims, octets, told),
+            Place::Sized(left) => self.take_sized(left, octets, told),
+            Place::UntilEnd => {
+                told.body(octets)?;
+                Ok(octets.len())
+            }
             Place::Past => Ok(octets.len()),
             Place::Broken(fault) => Err(fault),
         }
     }
 
-    /// Takes octets of a body.
-    fn take_body(&mut self, octets: &[u8], added: &mut Told) -> Result<usize, ResponseFault> {
-        added.body(octets)?;
-        Ok(octets.len())
-    }
-
-    /// Takes octets of a body of a known length.
-    fn take_sized(&mut self, left: u64, octets: &[u8], added: &mut Told) -> Result<usize, ResponseFault> {
+    /// Takes octets of a body of which so many are to come.
+    fn take_sized(&mut self, left: u64, octets: &[u8], told: &mut Told) -> Result<usize, ResponseFault>
+        requires place { self.old.place ≡ Place.Sized left }
+        requires octets { 0 < length octets.now }
+        ensures ok { IfOk result (λ used. (0 < used) × (used ≤ length octets.now) × ((added : List Part) × (told.new ≡ told.old ++ added) × Hears self.old (take used octets.now) added self.new)) }
+        ensures fault { IfErr result (λ fault. fault ≡ ResponseFault.Memory) }
+    {
         let count = octets.len() as u64;
         if count < left {
+            told.body(octets)?;
             self.place = Place::Sized(left - count);
-            return self.take_body(octets, added);
+            return Ok(octets.len());
         }
         let used = left as usize;
-        let used = self.take_body(&octets[..used], added)?;
-        added.done()?;
+        told.body(&octets[..used])?;
+        told.done()?;
         self.place = Place::Past;
         Ok(used)
     }
 
-    /// Takes octets of a head.
-    fn take_head(&mut self, interims: u8, octets: &[u8], added: &mut Told) -> Result<usize, ResponseFault> {
-        if self.spans.is_empty() {
-            self.spans = vec![in self.alloc; EMPTY_HEADER_SPAN; ROOM]?;
-        }
-        let before = self.held.len();
-        let taken = octets.len().min(LONGEST_HEAD - before);
-        self.held.extend_from_slice(&octets[..taken])?;
-        match read_head(self.alloc, self.to_head, &self.held, &mut self.spans)? {
-            HeadRead::More if taken < octets.len() => Err(ResponseFault::TooLong),
-            HeadRead::More => Ok(taken),
-            HeadRead::Interim(head, used) => {
+    /// Takes octets of a head, behind so many interim heads.
+    fn take_head(&mut self, interims: u8, octets: &[u8], told: &mut Told) -> Result<usize, ResponseFault>
+        requires place { self.old.place ≡ Place.Head interims }
+        requires octets { 0 < length octets.now }
+        ensures ok { IfOk result (λ used. (0 < used) × (used ≤ length octets.now) × ((added : List Part) × (told.new ≡ told.old ++ added) × Hears self.old (take used octets.now) added self.new)) }
+        ensures fault { IfErr result (λ fault. fault ≢ ResponseFault.Memory → fault ≢ ResponseFault.Untreated → Breaks self.old octets.now) }
+    {
+        let held = mem::replace(&mut self.held, Vec::new(self.alloc));
+        match read_front(self.alloc, self.to_head, held, octets, &mut self.spans)? {
+            FrontRead::OnGoing(text) => {
+                self.held = text;
+                Ok(octets.len())
+            }
+            FrontRead::InterimAt(head, used) => {
                 if interims >= MOST_INTERIMS {
                     return Err(ResponseFault::TooLong);
                 }
-                added.interim(head)?;
-                self.held.clear();
+                told.interim(head)?;
                 self.place = Place::Head(interims + 1);
-                Ok(used - before)
+                Ok(used)
             }
-            HeadRead::Final(head, framing, used) => {
-                added.head(head)?;
-                self.held.clear();
-                self.begin_body(framing, added)?;
-                Ok(used - before)
+            FrontRead::FinalAt(head, framing, used) => {
+                told.head(head)?;
+                self.begin_body(framing, told)?;
+                Ok(used)
             }
         }
     }
 
     /// Goes on behind a final head.
-    fn begin_body(&mut self, framing: Framing, added: &mut Told) -> Result<(), ResponseFault> {
+    fn begin_body(&mut self, framing: Framing, told: &mut Told) -> Result<(), ResponseFault>
+        ensures ok { OnOk result (Begins framing self.old self.new told.old told.new) }
+        ensures fault { IfErr result (λ fault. fault ≢ ResponseFault.Memory → fault ≡ ResponseFault.Untreated) }
+    {
         match framing {
             Framing::Bodiless | Framing::Sized(0) => {
-                added.done()?;
+                told.done()?;
                 self.place = Place::Past;
             }
             Framing::Sized(left) => self.place = Place::Sized(left),

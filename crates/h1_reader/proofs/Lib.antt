@@ -2,3 +2,5 @@ pub mod Numbers
 pub mod Texts
 pub mod FieldLists
 pub mod HeadLemmas
+pub mod FrontLemmas
+pub mod Steps

@@ -1,6 +1,7 @@
 -- Heads that octets end behind others.
 use Rattle.std.proofs.Common.{zero, suc, ◌≡◌, ℕ, ◌+◌, ◌-◌, ◌<◌, ◌≤◌, Bool, List, [], ◌∷◌, ◌++◌, length, take, drop, refl, sym, ap, ◌∙◌, subst, append_assoc, length-take-le, length-append, inl, inr, arith}
-use Rattle.std.proofs.lemmas.List.{take-append-le, take-append-drop}
+use Rattle.std.proofs.lemmas.List.{take-append-le, take-append-drop, take_all}
+use Rattle.std.proofs.lemmas.Bool.{cases_lt}  -- `cases_lt` is `lt_or_ge` in other libraries, and gives their `le_total`
 use Rattle.std.proofs.Math.Seq.{take-append_seam}
 use Rattle.httparse.specs.Grammar as grammar
 use Rattle.httparse.specs.Grammar.{ReadsResponse, HasNoResponse}
@@ -33,7 +34,7 @@ none_longer to_head t x none = record {
 }
 
 below : (a b : ℕ) → (b ≤ a → ⊥) → a < b
-below a b h = elim (le_or_lt b a) [ inl p ↦ absurd (h p) | inr p ↦ p ]
+below a b h = elim (cases_lt a b) [ inl p ↦ p | inr p ↦ absurd (h p) ]
 
 -- a head ends behind octets that begin none
 pub ends_behind : (held octets : List ℕ) (used : ℕ) (k : grammar.ResponseHead) → HasNoResponse held → used ≤ length (held ++ octets) → Spelled (take used (held ++ octets)) k → length held < used
@@ -50,3 +51,62 @@ taken_behind (o ∷ held) octets zero h = absurd (omega arith)
 taken_behind (o ∷ held) octets (suc used) h =
     let same : suc used - length (o ∷ held) ≡ used - length held = omega arith in
     ap (λ (t : List ℕ). o ∷ t) (taken_behind held octets used (omega arith)) ∙ ap (λ n. o ∷ (held ++ take n octets)) (sym same)
+
+-- nothing begins with no head
+pub none_in_nothing : HasNoResponse []
+unfolding grammar.print_response
+none_in_nothing h rest p =
+    let e : 0 ≡ length (grammar.print_response h) + length rest = ap length p.1 ∙ length-append (grammar.print_response h) rest in
+    let some : 0 < length (grammar.print_response h) = simp length-append (omega arith) in
+    absurd (omega arith)
+
+-- a front of a front
+pub taken_of_taken : (octets : List ℕ) (n m : ℕ) → n ≤ m → take n (take m octets) ≡ take n octets
+taken_of_taken octets n m h =
+    let cut : take m octets ++ drop m octets ≡ octets = take-append-drop m octets in
+    elim (cases_lt m (length octets)) [
+      | inl p ↦ let fits : length (take m octets) ≡ m = length-take-le m octets (omega arith) in
+          let low : n ≤ length (take m octets) = omega arith in
+          sym (take-append-le n (take m octets) (drop m octets) low) ∙ ap (take n) cut
+      | inr p ↦ ap (take n) (take_all m octets p)
+    ]
+
+-- where a head ends that was not whole before
+pub record EndsIn (held octets text : List ℕ) (before used : ℕ) : Type 0 where
+  pub more : before < used
+  pub fits : used - before ≤ length octets
+  pub is : take used text ≡ held ++ take (used - before) octets
+
+pub ends_in : (held octets text : List ℕ) (before taken used : ℕ) (k : grammar.ResponseHead) → HasNoResponse held → before ≡ length held → taken ≤ length octets
+    → text ≡ held ++ take taken octets → used ≤ length text → Spelled (take used text) k → EndsIn held octets text before used
+ends_in held octets text before taken used k none is few whole fits p =
+    let lengths : length (held ++ take taken octets) ≡ length held + length (take taken octets) = length-append held (take taken octets) in
+    let counted : length (take taken octets) ≡ taken = length-take-le taken octets few in
+    let all : length text ≡ length (held ++ take taken octets) = ap length whole in
+    let there : Spelled (take used (held ++ take taken octets)) k = subst (λ (o : List ℕ). Spelled (take used o) k) whole p in
+    let more : length held < used = ends_behind held (take taken octets) used k none (omega arith) there in
+    let short : used - length held ≤ taken = omega arith in
+    let cut : take used text ≡ held ++ take (used - length held) octets =
+    ap (take used) whole ∙ taken_behind held (take taken octets) used (omega arith) ∙ ap (λ (o : List ℕ). held ++ o) (taken_of_taken octets (used - length held) taken short) in
+    record {
+      more = omega arith;
+      fits = omega arith;
+      is = cut ∙ ap (λ n. held ++ take (used - n) octets) (sym is);
+    }
+
+-- the text with no more octets than a head may have
+pub too_long : (to_head : Bool) (held octets text : List ℕ) (before taken : ℕ) → before ≡ length held → before ≤ 16384 → taken ≤ length octets → taken ≡ 16384 - before
+    → text ≡ held ++ take taken octets → HasNoResponse text → HasNoHead to_head (held ++ octets)
+too_long to_head held octets text before taken is low few all whole none =
+    let lengths : length (held ++ take taken octets) ≡ length held + length (take taken octets) = length-append held (take taken octets) in
+    let counted : length (take taken octets) ≡ taken = length-take-le taken octets few in
+    let long : 16384 ≤ length text = rw whole (omega arith) in
+    let cut : text ++ drop taken octets ≡ held ++ octets =
+    ap (λ (o : List ℕ). o ++ drop taken octets) whole ∙ append_assoc held (take taken octets) (drop taken octets) ∙ ap (λ (o : List ℕ). held ++ o) (take-append-drop taken octets) in
+    subst (λ (o : List ℕ). HasNoHead to_head o) cut (none_so_long to_head text (drop taken octets) none long)
+
+pub none_behind : (to_head : Bool) (held octets text : List ℕ) (taken : ℕ) → text ≡ held ++ take taken octets → HasNoHead to_head text → HasNoHead to_head (held ++ octets)
+none_behind to_head held octets text taken whole none =
+    let cut : text ++ drop taken octets ≡ held ++ octets =
+    ap (λ (o : List ℕ). o ++ drop taken octets) whole ∙ append_assoc held (take taken octets) (drop taken octets) ∙ ap (λ (o : List ℕ). held ++ o) (take-append-drop taken octets) in
+    subst (λ (o : List ℕ). HasNoHead to_head o) cut (none_longer to_head text (drop taken octets) none)

@@ -1,7 +1,7 @@
 -- What each step of a reader does to where it stands.
 use Rattle.std.proofs.Common.{suc, zero, ◌≡◌, ℕ, ◌+◌, ◌-◌, ◌<◌, ◌≤◌, Bool, true, false, List, [], ◌∷◌, ◌++◌, length, take, drop, map, refl, sym, ap, ◌∙◌, subst, append_assoc, length-append, arith}
 use Rattle.std.specs.List.{concat}
-use Rattle.std.proofs.lemmas.List.{append-nil, map-append, append_cancel_right, take-append-drop}
+use Rattle.std.proofs.lemmas.List.{append-nil, map-append, take-append-drop, take_all}
 use Rattle.std.proofs.lemmas.List.Folds.{concat-append}
 use Rattle.httparse.specs.Grammar.{HasNoResponse}
 use Rattle.model.specs.Octets.{Joined}
@@ -314,3 +314,13 @@ breaks_then a b xs ys p h k text before s =
 
 pub breaks_none : (a : State) (fault : _) (xs : List ℕ) → a.place ≡ Broken fault → Breaks a xs
 breaks_none a fault xs e text before s = absurd (at (Broken fault) a text before e s)
+
+-- all octets are taken
+pub all_taken : (a b : State) (xs : List ℕ) (p : List Part) → Hears a xs p b → Hears a (take (length xs) xs) p b
+all_taken a b xs p h =
+    let all : take (length xs) xs ≡ xs = take_all (length xs) xs (omega arith) in
+    subst (λ (o : List ℕ). Hears a o p b) (sym all) h
+
+-- a state seen through its parts
+pub seen : (old new : State) (place : Place) (held : List ℕ) → new ≡ record { to_head = old.to_head; place = place; held = held } → new ≡ record { to_head = old.to_head; place = place; held = held }
+seen old new place held e = e

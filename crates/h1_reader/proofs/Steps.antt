@@ -13,6 +13,11 @@ use Rattle.model.proofs.ResponseHeadReadings.{one_interim, none_at_final}
 use Rattle.h1_reader.specs.Parts.{Part}
 use Rattle.h1_reader.specs.Parts.Part.{Interim, Final, Body, Done}
 use Rattle.h1_reader.specs.Heads.{HasNoHead}
+use Rattle.h1_reader.specs.Views.{framing_view}
+use Rattle.h1_reader.specs.Begins.{Begins, place_behind, told_behind}
+use Rattle.h1_reader.specs.declared.framing.Framing.{Framing}
+use Rattle.h1_reader.specs.declared.framing.Framing.TheVariants as ways
+use Rattle.h1_reader.proofs.FrontLemmas.{none_in_nothing}
 use Rattle.h1_reader.specs.Standing.{State, BeforeHead, InBody, InSized, InRest, IsPast, StandsAt, Stands, Hears, Breaks}
 use Rattle.h1_reader.specs.declared.reader.Place.{Place}
 use Rattle.h1_reader.specs.declared.reader.Place.TheVariants.{Head, Sized, UntilEnd, Past, Broken}
@@ -321,6 +326,37 @@ all_taken a b xs p h =
     let all : take (length xs) xs ≡ xs = take_all (length xs) xs (omega arith) in
     subst (λ (o : List ℕ). Hears a o p b) (sym all) h
 
--- a state seen through its parts
-pub seen : (old new : State) (place : Place) (held : List ℕ) → new ≡ record { to_head = old.to_head; place = place; held = held } → new ≡ record { to_head = old.to_head; place = place; held = held }
-seen old new place held e = e
+-- nothing is held
+pub nothing_held : (held : List ℕ) → held ≡ [] → (length held ≤ 16384) × HasNoResponse held
+nothing_held held e = (rw e (omega arith), subst HasNoResponse (sym e) none_in_nothing)
+
+-- where a reader stands behind a final head
+stands_behind : (framing : Framing) (to_head : Bool) (held text : List ℕ) (parts : List Part) → (framing ≡ ways.Chunks → ⊥) → InBody to_head (framing_view framing) text [] [] parts []
+    → StandsAt (place_behind framing) to_head held text (parts ++ told_behind framing)
+stands_behind ways.Bodiless to_head held text parts n b = record { framing = IsBodiless; rest = []; octets = []; body = end_step to_head IsBodiless text [] [] parts b; whole = refl }
+stands_behind ways.Chunks to_head held text parts n b = absurd (n refl)
+stands_behind (ways.Sized zero) to_head held text parts n b =
+    record { framing = IsSized 0; rest = []; octets = []; body = end_step to_head (IsSized 0) text [] [] parts b; whole = record { past = []; is = refl; has_count = refl } }
+stands_behind (ways.Sized (suc count)) to_head held text parts n b =
+    let same : parts ≡ parts ++ [] = sym (append-nil parts) in
+    subst (λ (o : List Part). InSized to_head (suc count) text o) same (record { octets = []; count = suc count; body = b; has_count = omega arith; some = omega arith })
+stands_behind ways.UntilEnd to_head held text parts n b =
+    let same : parts ≡ parts ++ [] = sym (append-nil parts) in
+    subst (λ (o : List Part). InRest to_head text o) same (record { octets = []; body = b })
+
+pub hears_final : (old mid new : State) (count : ℕ) (xs : List ℕ) (head : model.Head) (framing : Framing) (t0 t1 t2 : List Part) → old.place ≡ Head count
+    → model.Final old.to_head (old.held ++ xs) head (framing_view framing) → mid.to_head ≡ old.to_head → Begins framing mid new t1 t2 → t1 ≡ t0 ++ Final head ∷ []
+    → (added : List Part) × (t2 ≡ t0 ++ added) × Hears old xs added new
+hears_final old mid new count xs head framing t0 t1 t2 e p same begins told =
+    (Final head ∷ told_behind framing,
+     begins.told ∙ ap (λ (o : List Part). o ++ told_behind framing) told ∙ append_assoc t0 (Final head ∷ []) (told_behind framing),
+     record {
+       same = ap (λ (n : State). n.to_head) begins.is ∙ same;
+       stands = λ text before s.
+           let b = final_step old count xs text before head (framing_view framing) p (at (Head count) old text before e s) in
+           let there = stands_behind framing old.to_head mid.held (text ++ xs) (before ++ Final head ∷ []) begins.treated b in
+           let is : new ≡ record { to_head = old.to_head; place = place_behind framing; held = mid.held } = begins.is ∙ (λ i. record { to_head = same i; place = place_behind framing; held = mid.held }) in
+           let stands : Stands (text ++ xs) ((before ++ Final head ∷ []) ++ told_behind framing) new =
+           arrives new old.to_head (place_behind framing) mid.held (text ++ xs) ((before ++ Final head ∷ []) ++ told_behind framing) is there in
+           subst (λ (o : List Part). Stands (text ++ xs) o new) (append_assoc before (Final head ∷ []) (told_behind framing)) stands;
+     })

@@ -63,6 +63,11 @@ pub record IsPast (to_head : Bool) (text : List ℕ) (parts : List Part) : Type 
   pub body : InBody to_head framing text rest octets parts (Done ∷ [])
   pub whole : HasBody framing false rest octets
 
+-- In a body of a known length one octet or more is to come.
+abbrev pub HasMore : Place → Type 0
+HasMore (Sized left) = 0 < left
+HasMore _ = Unit {0}
+
 abbrev pub StandsAt : Place → Bool → List ℕ → List ℕ → List Part → Type 0
 StandsAt (Head count) to_head held text parts = BeforeHead count held text parts
 StandsAt (Sized left) to_head held text parts = InSized to_head left text parts

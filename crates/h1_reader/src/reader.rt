@@ -62,7 +62,9 @@ impl Model for Reader {
     ghost use Rattle.std.specs.Prelude.{◌≤◌, length};
     ghost use Rattle.httparse.specs.Grammar.{HasNoResponse};
 
-    ghost invariant = { λ r. (length r.held.items ≤ 16384) × HasNoResponse r.held.items };
+    ghost use Rattle.h1_reader.specs.Standing.{HasMore};
+
+    ghost invariant = { λ r. (length r.held.items ≤ 16384) × HasNoResponse r.held.items × HasMore r.place };
 }
 
 impl Reader {
@@ -114,9 +116,10 @@ impl Reader {
         ensures unchanged { OnErr result (pieces.new.items ≡ pieces.old.items) }
     {
         let mut told = Told::new(self.alloc);
-        self.take_all(octets, &mut told)?;
-        told.move_to(pieces)?;
-        Ok(())
+        match self.take_all(octets, &mut told) {
+            Ok(()) => Ok(told.move_to(pieces)?),
+            Err(fault) => Err(fault),
+        }
     }
 
     /// Takes all octets, one step after another.
@@ -126,8 +129,10 @@ impl Reader {
     {
         let mut rest = octets;
         while !rest.is_empty() {
-            let used = self.take(rest, told)?;
-            rest = &rest[used..];
+            match self.take(rest, told) {
+                Ok(used) => rest = &rest[used..],
+                Err(fault) => return Err(fault),
+            }
         }
         Ok(())
     }
@@ -178,12 +183,12 @@ impl Reader {
         ensures fault { IfErr result (λ fault. fault ≢ ResponseFault.Memory → fault ≢ ResponseFault.Untreated → Breaks self.old octets.now) }
     {
         let held = mem::replace(&mut self.held, Vec::new(self.alloc));
-        match read_front(self.alloc, self.to_head, held, octets, &mut self.spans)? {
-            FrontRead::OnGoing(text) => {
+        match read_front(self.alloc, self.to_head, held, octets, &mut self.spans) {
+            Ok(FrontRead::OnGoing(text)) => {
                 self.held = text;
                 Ok(octets.len())
             }
-            FrontRead::InterimAt(head, used) => {
+            Ok(FrontRead::InterimAt(head, used)) => {
                 if interims >= MOST_INTERIMS {
                     return Err(ResponseFault::TooLong);
                 }
@@ -191,11 +196,12 @@ impl Reader {
                 self.place = Place::Head(interims + 1);
                 Ok(used)
             }
-            FrontRead::FinalAt(head, framing, used) => {
+            Ok(FrontRead::FinalAt(head, framing, used)) => {
                 told.head(head)?;
                 self.begin_body(framing, told)?;
                 Ok(used)
             }
+            Err(fault) => Err(fault),
         }
     }
 

@@ -80,7 +80,7 @@ pub returns-in_ok-begin_body-in-Ok-FinalAt-clause-ok : goal.returns-in_ok-begin_
 returns-in_ok-begin_body-in-Ok-FinalAt-clause-ok c =
     let read = rw c.in-Ok-FinalAt.field-0-is at c.in-Ok-FinalAt.ensures in
     let held : c.replace-held.result.items ≡ c.args.self.now.held = ap (λ (v : Vec ℕ Global). v.items) c.replace-held.ensures.value ∙ ap (λ (s : State). s.held) c.self.view_is in
-    (read.0, read.1, hears_final c.args.self.now (record { to_head = c.self.inside.to_head; place = c.self.inside.place; held = c.replace-held.new.dest.items }) _ c.args.interims (take c.in-Ok-FinalAt.used c.args.octets.now) c.in-Ok-FinalAt.head c.in-Ok-FinalAt.framing c.args.told.now _ _ c.requires.place
+    (read.0, read.1, hears_final c.args.self.now (record { to_head = c.self.inside.to_head; place = c.self.inside.place; held = c.replace-held.new.dest.items }) c.begin_body.new.self c.args.interims (take c.in-Ok-FinalAt.used c.args.octets.now) c.in-Ok-FinalAt.head c.in-Ok-FinalAt.framing c.args.told.now c.head-in-Ok-FinalAt.new.self c.begin_body.new.told c.requires.place
       (subst (λ (o : List ℕ). model.Final c.args.self.now.to_head (o ++ take c.in-Ok-FinalAt.used c.args.octets.now) c.in-Ok-FinalAt.head (framing_view c.in-Ok-FinalAt.framing)) held
       (subst (λ t. model.Final t (c.replace-held.result.items ++ take c.in-Ok-FinalAt.used c.args.octets.now) c.in-Ok-FinalAt.head (framing_view c.in-Ok-FinalAt.framing)) (ap (λ (s : State). s.to_head) c.self.view_is) read.2))
-      (ap (λ (s : State). s.to_head) c.self.view_is) c.in_ok-begin_body-in-Ok-FinalAt.ensures c.in_ok-head-in-Ok-FinalAt.ensures)
+      (ap (λ (s : State). s.to_head) c.self.view_is) c.in_ok-begin_body-in-Ok-FinalAt.ensures.ok c.in_ok-head-in-Ok-FinalAt.ensures)

@@ -4,3 +4,4 @@ pub mod FieldLists
 pub mod HeadLemmas
 pub mod FrontLemmas
 pub mod Steps
+pub mod Ends

@@ -5,10 +5,12 @@ use Rattle.httparse.specs.Grammar.{HasNoResponse}
 use Rattle.model.specs.Octets.{Joined}
 use Rattle.model.specs.ResponseHeads as model
 use Rattle.model.specs.ResponseHeads.Framing.{Sized as IsSized, UntilEnd as IsUntilEnd}
-use Rattle.model.specs.Responses.{most_interims, HasBody, IsSpoilt}
+use Rattle.model.specs.Responses.{most_interims, HasBody, IsComplete, IsSpoilt}
 use Rattle.h1_reader.specs.Parts.{Part}
 use Rattle.h1_reader.specs.Parts.Part.{Interim, Final, Body, Done}
 use Rattle.h1_reader.specs.declared.reader.Place.{Place}
+use Rattle.h1_reader.specs.declared.reader.Ended.{Ended}
+use Rattle.h1_reader.specs.declared.reader.Ended.TheVariants.{Complete, Short}
 use Rattle.h1_reader.specs.declared.reader.Place.TheVariants.{Head, Sized, UntilEnd, Past, Broken}
 
 -- A reader's value: whether the response answers HEAD, its place, and the octets that begin no head yet.
@@ -87,3 +89,8 @@ pub record Hears (old : State) (octets : List ℕ) (added : List Part) (new : St
 -- With these octets no whole response comes any more, whatever follows.
 abbrev pub Breaks : State → List ℕ → Type 0
 Breaks old octets = (text : List ℕ) (before : List Part) → Stands text before old → IsSpoilt (text ++ octets) old.to_head
+
+-- The end of the connection makes a whole response of the octets so far, or none.
+abbrev pub IsEnd : Ended → State → Type 0
+IsEnd Complete state = (text : List ℕ) (parts : List Part) → Stands text parts state → IsComplete text true state.to_head
+IsEnd Short state = (text : List ℕ) (parts : List Part) → Stands text parts state → IsComplete text true state.to_head → ⊥

@@ -3,7 +3,7 @@
 ghost use Rattle.std.specs.Prelude.{◌≡◌, ◌≢◌, ◌<◌, ◌≤◌, ◌++◌, [], List, Err, length, take, OnOk, OnErr, IfOk, IfErr};
 ghost use Rattle.h1_reader.specs.Parts.{Part};
 ghost use Rattle.h1_reader.specs.Views.{parts_of};
-ghost use Rattle.h1_reader.specs.Standing.{Hears, Breaks};
+ghost use Rattle.h1_reader.specs.Standing.{Hears, Breaks, IsEnd};
 ghost use Rattle.h1_reader.specs.Begins.{Begins};
 
 use crate::fault::ResponseFault;
@@ -102,10 +102,15 @@ impl Reader {
     }
 
     /// What the end of the connection makes of the response.
-    pub fn end(&self) -> Ended {
+    pub fn end(&self) -> Ended
+        ensures { IsEnd result self.now }
+    {
         match self.place {
-            Place::UntilEnd | Place::Past => Ended::Complete,
-            _ => Ended::Short,
+            Place::Head(_) => Ended::Short,
+            Place::Sized(_) => Ended::Short,
+            Place::UntilEnd => Ended::Complete,
+            Place::Past => Ended::Complete,
+            Place::Broken(_) => Ended::Short,
         }
     }
 

@@ -5,3 +5,4 @@ pub mod HeadLemmas
 pub mod FrontLemmas
 pub mod Steps
 pub mod Ends
+pub mod Telling

@@ -1,11 +1,11 @@
 -- Where a reader stands: what its value says of all octets that it was fed, and of all pieces that it told.
-use Rattle.std.specs.Prelude.{◌≡◌, ◌≢◌, ℕ, ◌+◌, ◌<◌, ◌≤◌, Bool, true, false, List, [], ◌∷◌, ◌++◌, length, map}
-use Rattle.std.specs.List.{concat}
+use Rattle.std.specs.Prelude.{◌≡◌, ◌≢◌, ℕ, ◌+◌, ◌<◌, ◌≤◌, Bool, true, false, List, [], ◌∷◌, ◌++◌, length, map, ◌⊎◌, Some, None}
+use Rattle.std.specs.List.{concat, list_any}
 use Rattle.httparse.specs.Grammar.{HasNoResponse}
 use Rattle.model.specs.Octets.{Joined}
 use Rattle.model.specs.ResponseHeads as model
 use Rattle.model.specs.ResponseHeads.Framing.{Sized as IsSized, UntilEnd as IsUntilEnd}
-use Rattle.model.specs.Responses.{most_interims, HasBody, IsComplete, IsSpoilt}
+use Rattle.model.specs.Responses.{most_interims, HasBody, IsComplete, IsSpoilt, Seen}
 use Rattle.h1_reader.specs.Parts.{Part}
 use Rattle.h1_reader.specs.Parts.Part.{Interim, Final, Body, Done}
 use Rattle.h1_reader.specs.declared.reader.Place.{Place}
@@ -94,3 +94,31 @@ Breaks old octets = (text : List ℕ) (before : List Part) → Stands text befor
 abbrev pub IsEnd : Ended → State → Type 0
 IsEnd Complete state = (text : List ℕ) (parts : List Part) → Stands text parts state → IsComplete text true state.to_head
 IsEnd Short state = (text : List ℕ) (parts : List Part) → Stands text parts state → IsComplete text true state.to_head → ⊥
+
+-- a piece that says that the response is whole
+abbrev pub is_end : Part → Bool
+is_end Done = true
+is_end _ = false
+
+abbrev pub is_done : List Part → Bool
+is_done parts = list_any is_end parts
+
+-- Whole interim heads stand in the text, and these were told.
+pub record TellsBefore (text : List ℕ) (to_head : Bool) (parts : List Part) : Type 0 where
+  pub interims : List model.Head
+  pub seen : Seen text to_head interims None []
+  pub told : parts ≡ map Interim interims
+
+-- A final head stands in the text; it was told, and the octets of its body that stand there, and perhaps that it is whole.
+pub record TellsBehind (text : List ℕ) (to_head : Bool) (parts : List Part) : Type 0 where
+  pub interims : List model.Head
+  pub head : model.Head
+  pub bodies : List (List ℕ)
+  pub ends : List Part
+  pub seen : Seen text to_head interims (Some head) (concat bodies)
+  pub told : parts ≡ map Interim interims ++ (Final head ∷ map Body bodies ++ ends)
+  pub ends_are : (ends ≡ []) ⊎ (ends ≡ Done ∷ [])
+
+-- The pieces tell what stands in the text.
+abbrev pub Tells : List ℕ → Bool → List Part → Type 0
+Tells text to_head parts = TellsBefore text to_head parts ⊎ TellsBehind text to_head parts

@@ -6,6 +6,7 @@ mod fields;
 mod framing;
 mod front;
 mod head;
+pub mod laws;
 mod octets;
 mod piece;
 mod reader;

@@ -392,3 +392,9 @@ taken_breaks a b t0 t1 octets rest i h = subst (λ (o : List ℕ). Breaks a o) (
 
 pub taken_none : (a : State) (t0 : List Part) (octets : List ℕ) → Taken a t0 octets octets t0 a
 taken_none a t0 octets = ([], [], refl, sym (append-nil t0), hears_none a)
+
+-- a new reader stands for nothing
+pub stands_new : (to_head : Bool) (held : List ℕ) → held ≡ [] → Stands [] [] (record { to_head = to_head; place = Head 0; held = held })
+stands_new to_head held e =
+    let b : BeforeHead 0 [] [] [] = record { interims = []; front = []; is = refl; are_interims = refl; has_count = refl; few = omega arith; no_head = none_in_nothing; told = refl } in
+    subst (λ (o : List ℕ). BeforeHead 0 o [] []) (sym e) b

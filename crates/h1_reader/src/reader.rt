@@ -3,7 +3,7 @@
 ghost use Rattle.std.specs.Prelude.{◌≡◌, ◌≢◌, ◌<◌, ◌≤◌, ◌++◌, [], List, Err, length, take, OnOk, OnErr, IfOk, IfErr};
 ghost use Rattle.h1_reader.specs.Parts.{Part};
 ghost use Rattle.h1_reader.specs.Views.{parts_of};
-ghost use Rattle.h1_reader.specs.Standing.{Hears, Breaks, IsEnd};
+ghost use Rattle.h1_reader.specs.Standing.{Stands, Hears, Breaks, IsEnd};
 ghost use Rattle.h1_reader.specs.Begins.{Begins};
 
 use crate::fault::ResponseFault;
@@ -70,7 +70,8 @@ impl Model for Reader {
 impl Reader {
     /// A reader of the response to a request whose method is HEAD or isn't. It takes no memory.
     pub fn new(alloc: Global, to_head: bool) -> Self
-        ensures { result ≡ record { to_head = to_head; place = Place.Head 0; held = [] } }
+        ensures is { result ≡ record { to_head = to_head; place = Place.Head 0; held = [] } }
+        ensures stands { Stands [] [] result }
     {
         Reader {
             alloc,

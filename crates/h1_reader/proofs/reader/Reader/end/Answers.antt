@@ -1,4 +1,4 @@
-use Rattle.std.proofs.Common.{◌∙◌, sym, ap}
+use Rattle.std.proofs.Common.{true, ◌∙◌, sym, ap}
 use Rattle.h1_reader.specs.Standing.{State}
 use Rattle.h1_reader.specs.declared.reader.Place.TheVariants.{Head, Sized, UntilEnd, Past, Broken}
 use Rattle.h1_reader.proofs.Ends.{at, head_short, sized_short, rest_complete, past_complete}

@@ -1,15 +1,14 @@
 -- What the end of the connection makes of where a reader stands.
-use Rattle.std.proofs.Common.{suc, zero, ◌≡◌, ℕ, ◌+◌, ◌<◌, ◌≤◌, Bool, true, false, List, [], ◌∷◌, ◌++◌, length, refl, sym, ap, ◌∙◌, subst, append_assoc, length-append, arith}
-use Rattle.httparse.specs.Grammar.{HasNoResponse, ReadsResponse}
+use Rattle.std.proofs.Common.{◌≡◌, ℕ, ◌+◌, ◌<◌, ◌≤◌, Bool, true, false, List, ◌++◌, length, refl, sym, ap, ◌∙◌, subst, append_assoc, length-append, arith}
+use Rattle.httparse.specs.Grammar.{ReadsResponse}
 use Rattle.model.specs.ResponseHeads as model
 use Rattle.model.specs.ResponseHeads.Framing.{Bodiless as IsBodiless, Chunks as IsChunks, Sized as IsSized, UntilEnd as IsUntilEnd}
-use Rattle.model.specs.Responses.{Response, H1Response, HasBody, IsComplete}
+use Rattle.model.specs.Responses.{HasBody, IsComplete}
 use Rattle.model.proofs.Http1Runs.{same_rest, one_joined}
 use Rattle.model.proofs.ResponseHeadReadings.{one_interim, none_at_final, none_without_head, one_front, spelled_reads}
 use Rattle.h1_reader.specs.Parts.{Part}
 use Rattle.h1_reader.specs.Standing.{State, BeforeHead, InBody, InSized, InRest, IsPast, StandsAt, Stands}
 use Rattle.h1_reader.specs.declared.reader.Place.{Place}
-use Rattle.h1_reader.specs.declared.reader.Place.TheVariants.{Head, Sized, UntilEnd, Past, Broken}
 
 false_true : ◌≡◌ {A = Bool} false true → ⊥
 false_true e = cc
@@ -23,9 +22,10 @@ whole_at_end IsUntilEnd rest octets w = absurd (false_true w.0)
 
 whole_response : (to_head ended : Bool) (framing : model.Framing) (text rest octets : List ℕ) (parts ends : List Part)
     → InBody to_head framing text rest octets parts ends → HasBody framing ended rest octets → IsComplete text ended to_head
-whole_response to_head ended framing text rest octets parts ends b w =
-    (record { interims = b.interims; head = b.head; body = octets },
-     record { front = b.front; head_text = b.head_text; rest = rest; framing = framing; is = b.is; are_interims = b.are_interims; few_interims = b.few; is_final = b.is_final; body = w })
+whole_response to_head ended framing text rest octets parts ends b w = (
+  record { interims = b.interims; head = b.head; body = octets },
+  record { front = b.front; head_text = b.head_text; rest = rest; framing = framing; is = b.is; are_interims = b.are_interims; few_interims = b.few; is_final = b.is_final; body = w },
+)
 
 pub past_complete : (ended : Bool) (to_head : Bool) (text : List ℕ) (parts : List Part) → IsPast to_head text parts → IsComplete text ended to_head
 past_complete true to_head text parts b = whole_response to_head true b.framing text b.rest b.octets parts _ b.body (whole_at_end b.framing b.rest b.octets b.whole)
@@ -66,4 +66,3 @@ sized_short ended to_head left text parts b whole =
 
 pub at : (place : Place) (state : State) (text : List ℕ) (parts : List Part) → state.place ≡ place → Stands text parts state → StandsAt place state.to_head state.held text parts
 at place state text parts e s = subst (λ (p : Place). StandsAt p state.to_head state.held text parts) e s
-

@@ -1,8 +1,8 @@
 -- Lists of fields read field by field.
-use Rattle.std.proofs.Common.{zero, suc, ◌≡◌, ℕ, ◌+◌, ◌<◌, Bool, true, false, List, [], ◌∷◌, ◌++◌, length, take, get_or, filter, append_assoc, refl, sym, ap, ◌∙◌, inl, inr, add-one, arith}
+use Rattle.std.proofs.Common.{suc, ◌≡◌, ℕ, ◌+◌, ◌<◌, Bool, true, false, List, [], ◌∷◌, ◌++◌, length, take, get_or, filter, append_assoc, refl, sym, ap, ◌∙◌, inl, inr, add-one, arith}
 use Rattle.std.specs.Prelude.{not, ◌&&◌, ◌||◌, bytes_eq, codes, count_by, if◌then◌else◌}
-use Rattle.std.specs.List.{list_all, list_any, flat_map}
-use Rattle.std.proofs.lemmas.Bool.{cases_Bool, cond-true, cond-false, not-true, not_from_true, and_parts}
+use Rattle.std.specs.List.{list_all, list_any}
+use Rattle.std.proofs.lemmas.Bool.{cases_Bool, cond-true, cond-false}
 use Rattle.std.proofs.lemmas.List.Folds.{list_any-append}
 use Rattle.std.proofs.lemmas.List.Elements.{filter-append}
 use Rattle.std.proofs.lemmas.List.Sums.{length-filter}
@@ -118,10 +118,11 @@ taken_more fields i x h e = rw add-one (take-suc fields i x h ∙ ap (λ (o : Fi
 pub first_there : (name : List ℕ) (fields : List Field) (first : Field) → 0 < length fields → first ≡ get_or fields 0 first → bytes_eq first.name name ≡ true
     → (others : List (List ℕ)) × (values_of name fields ≡ first.value ∷ others)
 first_there name [] first h e p = absurd (omega arith)
-first_there name (field ∷ fields) first h e p =
-    (values_of name fields,
-     cond-true (bytes_eq field.name name) (field.value ∷ values_of name fields) (values_of name fields) (ap (λ (f : Field). bytes_eq f.name name) (sym e) ∙ p)
-     ∙ ap (λ (f : Field). f.value ∷ values_of name fields) (sym e))
+first_there name (field ∷ fields) first h e p = (
+  values_of name fields,
+  cond-true (bytes_eq field.name name) (field.value ∷ values_of name fields) (values_of name fields) (ap (λ (f : Field). bytes_eq f.name name) (sym e) ∙ p)
+      ∙ ap (λ (f : Field). f.value ∷ values_of name fields) (sym e),
+)
 
 -- what is written of the fields so far, with a field that is kept
 pub kept_to : (name : List ℕ) (begun out fields : List Field) (i : ℕ) (x y : Field) (found kept : Bool)

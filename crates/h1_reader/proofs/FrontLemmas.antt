@@ -1,11 +1,10 @@
 -- Heads that octets end behind others.
-use Rattle.std.proofs.Common.{zero, suc, ◌≡◌, ℕ, ◌+◌, ◌-◌, ◌<◌, ◌≤◌, Bool, List, [], ◌∷◌, ◌++◌, length, take, drop, refl, sym, ap, ◌∙◌, subst, append_assoc, length-take-le, length-append, inl, inr, arith}
+use Rattle.std.proofs.Common.{zero, suc, ◌≡◌, ℕ, ◌+◌, ◌-◌, ◌<◌, ◌≤◌, Bool, List, [], ◌∷◌, ◌++◌, length, take, drop, sym, ap, ◌∙◌, subst, append_assoc, length-take-le, length-append, inl, inr, arith}
 use Rattle.std.proofs.lemmas.List.{take-append-le, take-append-drop, take_all}
 use Rattle.std.proofs.lemmas.Bool.{cases_lt}  -- `cases_lt` is `lt_or_ge` in other libraries, and gives their `le_total`
 use Rattle.std.proofs.Math.Seq.{take-append_seam}
 use Rattle.httparse.specs.Grammar as grammar
 use Rattle.httparse.specs.Grammar.{ReadsResponse, HasNoResponse}
-use Rattle.model.specs.ResponseHeads.{Head, Framing, IsTaken, Interim, Final}
 use Rattle.model.proofs.ResponseHeadReadings.{Spelled, spelled_reads}
 use Rattle.h1_reader.specs.Heads.{HasNoHead}
 use Rattle.h1_reader.proofs.HeadLemmas.{none_taken}
@@ -20,11 +19,11 @@ front_of_longer t x front past e h =
 pub none_so_long : (to_head : Bool) (t x : List ℕ) → HasNoResponse t → 16384 ≤ length t → HasNoHead to_head (t ++ x)
 none_so_long to_head t x none long =
     none_taken to_head (t ++ x) (λ more front past k e p.
-        let whole : t ++ (x ++ more) ≡ front ++ past = sym (append_assoc t x more) ∙ e in
-        let short : length front ≤ 16384 = p.is_short in
-        let fits : length front ≤ length t = omega arith in
-        let there : front ++ drop (length front) t ≡ t = front_of_longer t (x ++ more) front past whole fits in
-        none k (drop (length front) t) (subst (λ (o : List ℕ). ReadsResponse o k (drop (length front) t)) there (spelled_reads front (drop (length front) t) k p.reads)))
+    let whole : t ++ (x ++ more) ≡ front ++ past = sym (append_assoc t x more) ∙ e in
+    let short : length front ≤ 16384 = p.is_short in
+    let fits : length front ≤ length t = omega arith in
+    let there : front ++ drop (length front) t ≡ t = front_of_longer t (x ++ more) front past whole fits in
+    none k (drop (length front) t) (subst (λ (o : List ℕ). ReadsResponse o k (drop (length front) t)) there (spelled_reads front (drop (length front) t) k p.reads)))
 
 -- no head is known of more octets, so none of fewer is
 pub none_longer : (to_head : Bool) (t x : List ℕ) → HasNoHead to_head t → HasNoHead to_head (t ++ x)
@@ -40,9 +39,9 @@ below a b h = elim (cases_lt a b) [ inl p ↦ p | inr p ↦ absurd (h p) ]
 pub ends_behind : (held octets : List ℕ) (used : ℕ) (k : grammar.ResponseHead) → HasNoResponse held → used ≤ length (held ++ octets) → Spelled (take used (held ++ octets)) k → length held < used
 ends_behind held octets used k none fits p =
     below (length held) used (λ h.
-        let front : take used (held ++ octets) ≡ take used held = take-append-le used held octets h in
-        let reads : ReadsResponse (take used held ++ drop used held) k (drop used held) = spelled_reads (take used held) (drop used held) k (subst (λ (o : List ℕ). Spelled o k) front p) in
-        none k (drop used held) (subst (λ (o : List ℕ). ReadsResponse o k (drop used held)) (take-append-drop used held) reads))
+    let front : take used (held ++ octets) ≡ take used held = take-append-le used held octets h in
+    let reads : ReadsResponse (take used held ++ drop used held) k (drop used held) = spelled_reads (take used held) (drop used held) k (subst (λ (o : List ℕ). Spelled o k) front p) in
+    none k (drop used held) (subst (λ (o : List ℕ). ReadsResponse o k (drop used held)) (take-append-drop used held) reads))
 
 -- what is taken of two texts is the first and a front of the second
 pub taken_behind : (held octets : List ℕ) (used : ℕ) → length held ≤ used → take used (held ++ octets) ≡ held ++ take (used - length held) octets

@@ -9,11 +9,11 @@ use Rattle.httparse.specs.Grammar as grammar
 use Rattle.httparse.specs.Grammar.{ReadsResponse, print_response, status_code}
 use Rattle.httparse.specs.declared.spans.HeaderSpan.{HeaderSpan}
 use Rattle.httparse.specs.declared.spans.ResponseSpans.{ResponseSpans}
-use Rattle.httparse.specs.Spans.{IsResponseAt, IsResponseOf, IsResponseWithin, IsSectionWithin, AreFieldsAt, ResponseOverflows, header_bytes, name_and_value}
+use Rattle.httparse.specs.Spans.{IsResponseAt, IsResponseOf, IsResponseWithin, AreFieldsAt, ResponseOverflows, header_bytes, name_and_value}
 use Rattle.httparse.proofs.GrammarLemmas.{response_unique, ReadsResponse-append}
 use Rattle.model.specs.Octets.{is_value_octet, lower}
 use Rattle.model.specs.Messages.{Field}
-use Rattle.model.specs.ResponseHeads.{Head, Framing, IsTaken, Interim, Final, meant, values_hold, framing_of, framing_for, head_of, passed, without_framing}
+use Rattle.model.specs.ResponseHeads.{Head, Framing, IsTaken, meant, values_hold, framing_of, framing_for, head_of, passed, without_framing}
 use Rattle.model.proofs.ResponseHeadReadings.{Spelled, spelled_reads}
 use Rattle.h1_reader.specs.Heads.{field_from, HasNoHead}
 
@@ -32,10 +32,10 @@ none_taken to_head text none = record {
 pub overflowing : (to_head : Bool) (room : ℕ) (text : List ℕ) → 100 ≤ room → ResponseOverflows room text → HasNoHead to_head text
 overflowing to_head room text h over =
     none_taken to_head text (λ more front past k e p.
-        let reads : ReadsResponse (text ++ more) k past = subst (λ (t : List ℕ). ReadsResponse t k past) (sym e) (spelled_reads front past k p.reads) in
-        let many : room < length k.fields = over more k past reads in
-        let few : length k.fields ≤ 100 = p.has_few in
-        absurd (omega arith))
+    let reads : ReadsResponse (text ++ more) k past = subst (λ (t : List ℕ). ReadsResponse t k past) (sym e) (spelled_reads front past k p.reads) in
+    let many : room < length k.fields = over more k past reads in
+    let few : length k.fields ≤ 100 = p.has_few in
+    absurd (omega arith))
 
 map_map : (f : List ℕ × List ℕ → Field) (g : HeaderSpan → List ℕ × List ℕ) (xs : List HeaderSpan) → map f (map g xs) ≡ map (λ x. f (g x)) xs
 map_map f g [] = refl
@@ -73,42 +73,43 @@ values_at (line ∷ lines) = ap (λ t. list_all is_value_octet (meant line).valu
 
 -- the front of the octets is the head's text
 pub front_is : (text : List ℕ) (spans : List HeaderSpan) (found : ResponseSpans) (h : grammar.ResponseHead) → IsResponseAt text spans found h → Spelled (take found.len text) h
-front_is text spans found h at =
-    (at.reads.0,
-     ap (take found.len) at.reads.1 ∙ ap (λ n. take n (print_response h ++ drop found.len text)) at.len ∙ take-append_seam (print_response h) (drop found.len text) ∙ sym (append-nil (print_response h)))
+front_is text spans found h at = (
+  at.reads.0,
+  ap (take found.len) at.reads.1 ∙ ap (λ n. take n (print_response h ++ drop found.len text)) at.len ∙ take-append_seam (print_response h) (drop found.len text) ∙ sym (append-nil (print_response h)),
+)
 
 pub too_many : (to_head : Bool) (text : List ℕ) (spans : List HeaderSpan) (found : ResponseSpans) → IsResponseWithin text spans found → IsResponseOf text spans found → 100 < found.headers → HasNoHead to_head text
 too_many to_head text spans found within of many =
     none_taken to_head text (λ more front past k e p.
-        let same = same_spelled text more front past (drop found.len text) of.0 k of.1.reads e p.reads in
-        let count : found.headers ≡ length of.0.fields = count_is text spans found.headers of.0.fields within.section.count_fits of.1.fields in
-        let lengths : length of.0.fields ≡ length k.fields = ap (λ (s : grammar.ResponseHead). length s.fields) same in
-        let few : length k.fields ≤ 100 = p.has_few in
-        absurd (omega arith))
+    let same = same_spelled text more front past (drop found.len text) of.0 k of.1.reads e p.reads in
+    let count : found.headers ≡ length of.0.fields = count_is text spans found.headers of.0.fields within.section.count_fits of.1.fields in
+    let lengths : length of.0.fields ≡ length k.fields = ap (λ (s : grammar.ResponseHead). length s.fields) same in
+    let few : length k.fields ≤ 100 = p.has_few in
+    absurd (omega arith))
 
 pub too_low : (to_head : Bool) (text : List ℕ) (spans : List HeaderSpan) (found : ResponseSpans) → IsResponseOf text spans found → found.code < 100 → HasNoHead to_head text
 too_low to_head text spans found of low =
     none_taken to_head text (λ more front past k e p.
-        let same = same_spelled text more front past (drop found.len text) of.0 k of.1.reads e p.reads in
-        let code : found.code ≡ status_code of.0 = of.1.code in
-        let codes : status_code of.0 ≡ status_code k = ap status_code same in
-        let high : 100 ≤ status_code k = p.has_class in
-        absurd (omega arith))
+    let same = same_spelled text more front past (drop found.len text) of.0 k of.1.reads e p.reads in
+    let code : found.code ≡ status_code of.0 = of.1.code in
+    let codes : status_code of.0 ≡ status_code k = ap status_code same in
+    let high : 100 ≤ status_code k = p.has_class in
+    absurd (omega arith))
 
 pub upgrades : (to_head : Bool) (text : List ℕ) (spans : List HeaderSpan) (found : ResponseSpans) → IsResponseOf text spans found → found.code ≡ 101 → HasNoHead to_head text
 upgrades to_head text spans found of is =
     none_taken to_head text (λ more front past k e p.
-        let same = same_spelled text more front past (drop found.len text) of.0 k of.1.reads e p.reads in
-        absurd (p.no_upgrade (sym (ap status_code same) ∙ sym of.1.code ∙ is)))
+    let same = same_spelled text more front past (drop found.len text) of.0 k of.1.reads e p.reads in
+    absurd (p.no_upgrade (sym (ap status_code same) ∙ sym of.1.code ∙ is)))
 
 pub bad_values : (to_head : Bool) (text : List ℕ) (spans : List HeaderSpan) (found : ResponseSpans) (fields : List Field) → IsResponseOf text spans found
     → fields ≡ map (field_from text) (take found.headers spans) → list_all (λ field. list_all is_value_octet field.value) fields ≡ false → HasNoHead to_head text
 bad_values to_head text spans found fields of is fails =
     none_taken to_head text (λ more front past k e p.
-        let same = same_spelled text more front past (drop found.len text) of.0 k of.1.reads e p.reads in
-        let lines = is ∙ meant_at text spans found.headers of.0.fields of.1.fields in
-        let test : false ≡ values_hold of.0.fields = sym fails ∙ ap (list_all (λ field. list_all is_value_octet field.value)) lines ∙ values_at of.0.fields in
-        absurd (false≢true (test ∙ ap (λ (s : grammar.ResponseHead). values_hold s.fields) same ∙ p.values)))
+    let same = same_spelled text more front past (drop found.len text) of.0 k of.1.reads e p.reads in
+    let lines = is ∙ meant_at text spans found.headers of.0.fields of.1.fields in
+    let test : false ≡ values_hold of.0.fields = sym fails ∙ ap (list_all (λ field. list_all is_value_octet field.value)) lines ∙ values_at of.0.fields in
+    absurd (false≢true (test ∙ ap (λ (s : grammar.ResponseHead). values_hold s.fields) same ∙ p.values)))
 
 none_some : (f : Framing) → ◌≡◌ {A = Option Framing} None (Some f) → ⊥
 none_some f e = cc

@@ -9,7 +9,7 @@ use Rattle.httparse.specs.Grammar.{HasNoResponse}
 use Rattle.model.specs.Octets.{Joined}
 use Rattle.model.specs.ResponseHeads as model
 use Rattle.model.specs.ResponseHeads.Framing.{Bodiless as IsBodiless, Chunks as IsChunks, Sized as IsSized, UntilEnd as IsUntilEnd}
-use Rattle.model.specs.Responses.{Chunked, HasBody, IsSpoilt, H1Response, Response}
+use Rattle.model.specs.Responses.{HasBody, IsSpoilt}
 use Rattle.model.proofs.Http1Runs.{same_rest, BeginsNone, one_joined}
 use Rattle.model.proofs.ResponseHeadReadings.{one_interim, none_at_final}
 use Rattle.h1_reader.specs.Parts.{Part}
@@ -156,12 +156,12 @@ hears_past old xs e = record {
       let b = at Past old text before e s in
       arrives old old.to_head Past old.held (text ++ xs) (before ++ []) (λ i. record { to_head = old.to_head; place = e i; held = old.held })
       (let whole : IsPast old.to_head (text ++ xs) before = record {
-          framing = b.framing;
-          rest = b.rest ++ xs;
-          octets = b.octets;
-          body = past_step old.to_head b.framing text b.rest b.octets xs before (Done ∷ []) b.body;
-          whole = whole_longer b.framing b.rest b.octets xs b.whole;
-        } in subst (λ (o : List Part). IsPast old.to_head (text ++ xs) o) (sym (append-nil before)) whole);
+        framing = b.framing;
+        rest = b.rest ++ xs;
+        octets = b.octets;
+        body = past_step old.to_head b.framing text b.rest b.octets xs before (Done ∷ []) b.body;
+        whole = whole_longer b.framing b.rest b.octets xs b.whole;
+      } in subst (λ (o : List Part). IsPast old.to_head (text ++ xs) o) (sym (append-nil before)) whole);
 }
 
 pub hears_sized : (old new : State) (left : ℕ) (xs : List ℕ) → old.place ≡ Sized left → length xs < left → new ≡ record { to_head = old.to_head; place = Sized (left - length xs); held = old.held }
@@ -186,12 +186,12 @@ hears_sized_all old new left xs e all is = record {
       let longer : length (b.octets ++ xs) ≡ length b.octets + length xs = length-append b.octets xs in
       let body = end_step old.to_head (IsSized b.count) (text ++ xs) (b.octets ++ xs) (b.octets ++ xs) (before ++ Body xs ∷ []) (body_step old.to_head (IsSized b.count) text b.octets xs before b.body) in
       let whole : IsPast old.to_head (text ++ xs) ((before ++ Body xs ∷ []) ++ Done ∷ []) = record {
-          framing = IsSized b.count;
-          rest = b.octets ++ xs;
-          octets = b.octets ++ xs;
-          body = body;
-          whole = record { past = []; is = sym (append-nil (b.octets ++ xs)); has_count = omega arith };
-        } in
+        framing = IsSized b.count;
+        rest = b.octets ++ xs;
+        octets = b.octets ++ xs;
+        body = body;
+        whole = record { past = []; is = sym (append-nil (b.octets ++ xs)); has_count = omega arith };
+      } in
       arrives new old.to_head Past old.held (text ++ xs) (before ++ Body xs ∷ Done ∷ []) is
       (subst (λ (o : List Part). IsPast old.to_head (text ++ xs) o) (append_assoc before (Body xs ∷ []) (Done ∷ [])) whole);
 }
@@ -349,19 +349,20 @@ stands_behind ways.UntilEnd to_head held text parts n b =
 pub hears_final : (old mid new : State) (count : ℕ) (xs : List ℕ) (head : model.Head) (framing : Framing) (t0 t1 t2 : List Part) → old.place ≡ Head count
     → model.Final old.to_head (old.held ++ xs) head (framing_view framing) → mid.to_head ≡ old.to_head → Begins framing mid new t1 t2 → t1 ≡ t0 ++ Final head ∷ []
     → (added : List Part) × (t2 ≡ t0 ++ added) × Hears old xs added new
-hears_final old mid new count xs head framing t0 t1 t2 e p same begins told =
-    (Final head ∷ told_behind framing,
-     begins.told ∙ ap (λ (o : List Part). o ++ told_behind framing) told ∙ append_assoc t0 (Final head ∷ []) (told_behind framing),
-     record {
-       same = ap (λ (n : State). n.to_head) begins.is ∙ same;
-       stands = λ text before s.
-           let b = final_step old count xs text before head (framing_view framing) p (at (Head count) old text before e s) in
-           let there = stands_behind framing old.to_head mid.held (text ++ xs) (before ++ Final head ∷ []) begins.treated b in
-           let is : new ≡ record { to_head = old.to_head; place = place_behind framing; held = mid.held } = begins.is ∙ (λ i. record { to_head = same i; place = place_behind framing; held = mid.held }) in
-           let stands : Stands (text ++ xs) ((before ++ Final head ∷ []) ++ told_behind framing) new =
-           arrives new old.to_head (place_behind framing) mid.held (text ++ xs) ((before ++ Final head ∷ []) ++ told_behind framing) is there in
-           subst (λ (o : List Part). Stands (text ++ xs) o new) (append_assoc before (Final head ∷ []) (told_behind framing)) stands;
-     })
+hears_final old mid new count xs head framing t0 t1 t2 e p same begins told = (
+  Final head ∷ told_behind framing,
+  begins.told ∙ ap (λ (o : List Part). o ++ told_behind framing) told ∙ append_assoc t0 (Final head ∷ []) (told_behind framing),
+  record {
+    same = ap (λ (n : State). n.to_head) begins.is ∙ same;
+    stands = λ text before s.
+        let b = final_step old count xs text before head (framing_view framing) p (at (Head count) old text before e s) in
+        let there = stands_behind framing old.to_head mid.held (text ++ xs) (before ++ Final head ∷ []) begins.treated b in
+        let is : new ≡ record { to_head = old.to_head; place = place_behind framing; held = mid.held } = begins.is ∙ (λ i. record { to_head = same i; place = place_behind framing; held = mid.held }) in
+        let stands : Stands (text ++ xs) ((before ++ Final head ∷ []) ++ told_behind framing) new =
+        arrives new old.to_head (place_behind framing) mid.held (text ++ xs) ((before ++ Final head ∷ []) ++ told_behind framing) is there in
+        subst (λ (o : List Part). Stands (text ++ xs) o new) (append_assoc before (Final head ∷ []) (told_behind framing)) stands;
+  },
+)
 
 nil_of : (xs : List ℕ) → (length xs == 0) ≡ true → xs ≡ []
 nil_of [] e = refl

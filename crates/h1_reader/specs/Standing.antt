@@ -1,5 +1,5 @@
 -- Where a reader stands: what its value says of all octets that it was fed, and of all pieces that it told.
-use Rattle.std.specs.Prelude.{◌≡◌, ◌≢◌, ℕ, ◌+◌, ◌<◌, ◌≤◌, Bool, true, false, List, [], ◌∷◌, ◌++◌, length, map, ◌⊎◌, Some, None}
+use Rattle.std.specs.Prelude.{◌≡◌, ℕ, ◌+◌, ◌<◌, ◌≤◌, Bool, true, false, List, [], ◌∷◌, ◌++◌, length, map, ◌⊎◌, Some, None}
 use Rattle.std.specs.List.{concat, list_any}
 use Rattle.httparse.specs.Grammar.{HasNoResponse}
 use Rattle.model.specs.Octets.{Joined}

@@ -82,7 +82,12 @@ fn is_passed(all: &[Field], field: &Field) -> bool
 }
 
 /// Adds the fields that are passed back, by all fields of their head.
-fn push_passed(alloc: Global, all: &[Field], fields: &[Field], out: &mut Vec<Field>) -> Result<(), AllocError>
+fn push_passed(
+    alloc: Global,
+    all: &[Field],
+    fields: &[Field],
+    out: &mut Vec<Field>,
+) -> Result<(), AllocError>
     ensures { OnOk result (out.new.items ≡ out.old.items ++ passed all.now fields.now) }
 {
     for field in fields {
@@ -120,7 +125,11 @@ fn is_found(field: &Field, found: bool) -> bool
 }
 
 /// Adds the fields with the first content-length alone.
-fn push_with_one_length(alloc: Global, fields: &[Field], out: &mut Vec<Field>) -> Result<(), AllocError>
+fn push_with_one_length(
+    alloc: Global,
+    fields: &[Field],
+    out: &mut Vec<Field>,
+) -> Result<(), AllocError>
     ensures { OnOk result (out.new.items ≡ out.old.items ++ with_one (codes "content-length") fields.now) }
 {
     let mut found = false;

@@ -124,7 +124,12 @@ fn framed_by(minor: u8, fields: &[Field]) -> Result<Framing, ResponseFault>
 }
 
 /// How the body is framed behind a final head that answers HEAD or another method (RFC 9112, section 6.3).
-pub fn framing_of(to_head: bool, minor: u8, status: u16, fields: &[Field]) -> Result<Framing, ResponseFault>
+pub fn framing_of(
+    to_head: bool,
+    minor: u8,
+    status: u16,
+    fields: &[Field],
+) -> Result<Framing, ResponseFault>
     ensures { MatchResult result (λ framing. framing_for to_head minor status fields.now ≡ Some (framing_view framing)) (λ _. framing_for to_head minor status fields.now ≡ None) }
 {
     if status == 204 {

@@ -61,7 +61,6 @@ impl Model for Reader {
 
     ghost use Rattle.std.specs.Prelude.{◌≤◌, length};
     ghost use Rattle.httparse.specs.Grammar.{HasNoResponse};
-
     ghost use Rattle.h1_reader.specs.Standing.{HasMore};
 
     ghost invariant = { λ r. (length r.held.items ≤ 16384) × HasNoResponse r.held.items × HasMore r.place };
@@ -162,7 +161,12 @@ impl Reader {
     }
 
     /// Takes octets of a body of which so many are to come.
-    fn take_sized(&mut self, left: u64, octets: &[u8], told: &mut Told) -> Result<usize, ResponseFault>
+    fn take_sized(
+        &mut self,
+        left: u64,
+        octets: &[u8],
+        told: &mut Told,
+    ) -> Result<usize, ResponseFault>
         requires place { self.old.place ≡ Place.Sized left }
         requires octets { 0 < length octets.now }
         ensures ok { IfOk result (λ used. (0 < used) × (used ≤ length octets.now) × ((added : List Part) × (told.new ≡ told.old ++ added) × Hears self.old (take used octets.now) added self.new)) }
@@ -182,7 +186,12 @@ impl Reader {
     }
 
     /// Takes octets of a head, behind so many interim heads.
-    fn take_head(&mut self, interims: u8, octets: &[u8], told: &mut Told) -> Result<usize, ResponseFault>
+    fn take_head(
+        &mut self,
+        interims: u8,
+        octets: &[u8],
+        told: &mut Told,
+    ) -> Result<usize, ResponseFault>
         requires place { self.old.place ≡ Place.Head interims }
         requires octets { 0 < length octets.now }
         ensures ok { IfOk result (λ used. (0 < used) × (used ≤ length octets.now) × ((added : List Part) × (told.new ≡ told.old ++ added) × Hears self.old (take used octets.now) added self.new)) }

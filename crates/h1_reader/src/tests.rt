@@ -54,7 +54,13 @@ fn show_head(shown: &mut String, kind: &str, head: &ResponseHead) -> Result<(), 
 }
 
 /// The text, cut at each octet, is told as wanted.
-fn check(rt: &impl Abort, alloc: Global, to_head: bool, text: &[u8], wanted: &str) -> Result<(), Fail> {
+fn check(
+    rt: &impl Abort,
+    alloc: Global,
+    to_head: bool,
+    text: &[u8],
+    wanted: &str,
+) -> Result<(), Fail> {
     for cut in 0..text.len() {
         let shown = show(alloc, to_head, text, cut)?;
         assert_eq!(rt; shown.as_str(), wanted);
@@ -65,15 +71,69 @@ fn check(rt: &impl Abort, alloc: Global, to_head: bool, text: &[u8], wanted: &st
 #[test]
 fn responses(rt: HostRuntime) -> Result<(), Fail> {
     let alloc = rt.alloc();
-    check(&rt, alloc, false, b"HTTP/1.1 200 OK\r\nContent-Length: 2\r\n\r\nhi", "head200 content-length=2|hi|done|Complete")?;
-    check(&rt, alloc, false, b"HTTP/1.1 200 OK\r\nContent-Length: 2\r\nX-A:  b \r\nContent-Length: 2\r\n\r\nhi, and more", "head200 content-length=2 x-a=b|hi|done|Complete")?;
-    check(&rt, alloc, false, b"HTTP/1.1 200 OK\r\nContent-Length: 3\r\n\r\nhi", "head200 content-length=3|hi|Short")?;
-    check(&rt, alloc, false, b"HTTP/1.1 200 OK\r\n\r\nhi", "head200|hi|Complete")?;
-    check(&rt, alloc, true, b"HTTP/1.1 200 OK\r\nContent-Length: 3\r\n\r\nhi", "head200 content-length=3||done|Complete")?;
-    check(&rt, alloc, false, b"HTTP/1.1 304 Not Modified\r\nContent-Length: 3\r\n\r\nhi", "head304 content-length=3||done|Complete")?;
-    check(&rt, alloc, false, b"HTTP/1.1 204 No Content\r\nContent-Length: x\r\nTransfer-Encoding: y\r\n\r\nhi", "head204||done|Complete")?;
-    check(&rt, alloc, false, b"HTTP/1.1 100 Continue\r\nA: b\r\n\r\nHTTP/1.1 200 OK\r\nContent-Length: 0\r\n\r\n", "interim100 a=b|head200 content-length=0||done|Complete")?;
-    check(&rt, alloc, false, b"HTTP/1.1 200 OK\r\nConnection: X-A , close\r\nx-a: 1\r\nX-B: 2\r\nKeep-Alive: 3\r\nConnection: content-length\r\nContent-Length: 1\r\n\r\na", "head200 x-b=2|a|done|Complete")?;
+    check(
+        &rt,
+        alloc,
+        false,
+        b"HTTP/1.1 200 OK\r\nContent-Length: 2\r\n\r\nhi",
+        "head200 content-length=2|hi|done|Complete",
+    )?;
+    check(
+        &rt,
+        alloc,
+        false,
+        b"HTTP/1.1 200 OK\r\nContent-Length: 2\r\nX-A:  b \r\nContent-Length: 2\r\n\r\nhi, and more",
+        "head200 content-length=2 x-a=b|hi|done|Complete",
+    )?;
+    check(
+        &rt,
+        alloc,
+        false,
+        b"HTTP/1.1 200 OK\r\nContent-Length: 3\r\n\r\nhi",
+        "head200 content-length=3|hi|Short",
+    )?;
+    check(
+        &rt,
+        alloc,
+        false,
+        b"HTTP/1.1 200 OK\r\n\r\nhi",
+        "head200|hi|Complete",
+    )?;
+    check(
+        &rt,
+        alloc,
+        true,
+        b"HTTP/1.1 200 OK\r\nContent-Length: 3\r\n\r\nhi",
+        "head200 content-length=3||done|Complete",
+    )?;
+    check(
+        &rt,
+        alloc,
+        false,
+        b"HTTP/1.1 304 Not Modified\r\nContent-Length: 3\r\n\r\nhi",
+        "head304 content-length=3||done|Complete",
+    )?;
+    check(
+        &rt,
+        alloc,
+        false,
+        b"HTTP/1.1 204 No Content\r\nContent-Length: x\r\nTransfer-Encoding: y\r\n\r\nhi",
+        "head204||done|Complete",
+    )?;
+    check(
+        &rt,
+        alloc,
+        false,
+        b"HTTP/1.1 100 Continue\r\nA: b\r\n\r\nHTTP/1.1 200 OK\r\nContent-Length: 0\r\n\r\n",
+        "interim100 a=b|head200 content-length=0||done|Complete",
+    )?;
+    check(
+        &rt,
+        alloc,
+        false,
+        b"HTTP/1.1 200 OK\r\nConnection: X-A , close\r\nx-a: 1\r\nX-B: 2\r\nKeep-Alive: 3\r\nConnection: content-length\r\nContent-Length: 1\r\n\r\na",
+        "head200 x-b=2|a|done|Complete",
+    )?;
     Ok(())
 }
 
@@ -83,14 +143,38 @@ fn faults(rt: HostRuntime) -> Result<(), Fail> {
     for (text, wanted) in [
         (b"junk".as_slice(), "|Head|Short"),
         (b"HTTP/1.1 099 OK\r\n\r\n".as_slice(), "|Head|Short"),
-        (b"HTTP/1.1 101 Switching\r\n\r\n".as_slice(), "|Upgrade|Short"),
-        (b"HTTP/1.1 200 OK\r\nContent-Length: 2\r\nContent-Length: 3\r\n\r\nhi".as_slice(), "|Length|Short"),
-        (b"HTTP/1.1 200 OK\r\nContent-Length: +2\r\n\r\nhi".as_slice(), "|Length|Short"),
-        (b"HTTP/1.1 200 OK\r\nContent-Length: 1234567890123456789\r\n\r\nhi".as_slice(), "|Length|Short"),
-        (b"HTTP/1.1 200 OK\r\nContent-Length: 2\r\nTransfer-Encoding: chunked\r\n\r\nhi".as_slice(), "|Coding|Short"),
-        (b"HTTP/1.1 200 OK\r\nTransfer-Encoding: gzip\r\n\r\nhi".as_slice(), "|Coding|Short"),
-        (b"HTTP/1.0 200 OK\r\nTransfer-Encoding: chunked\r\n\r\nhi".as_slice(), "|Coding|Short"),
-        (b"HTTP/1.1 304 OK\r\nTransfer-Encoding: gzip\r\n\r\nhi".as_slice(), "|Coding|Short"),
+        (
+            b"HTTP/1.1 101 Switching\r\n\r\n".as_slice(),
+            "|Upgrade|Short",
+        ),
+        (
+            b"HTTP/1.1 200 OK\r\nContent-Length: 2\r\nContent-Length: 3\r\n\r\nhi".as_slice(),
+            "|Length|Short",
+        ),
+        (
+            b"HTTP/1.1 200 OK\r\nContent-Length: +2\r\n\r\nhi".as_slice(),
+            "|Length|Short",
+        ),
+        (
+            b"HTTP/1.1 200 OK\r\nContent-Length: 1234567890123456789\r\n\r\nhi".as_slice(),
+            "|Length|Short",
+        ),
+        (
+            b"HTTP/1.1 200 OK\r\nContent-Length: 2\r\nTransfer-Encoding: chunked\r\n\r\nhi".as_slice(),
+            "|Coding|Short",
+        ),
+        (
+            b"HTTP/1.1 200 OK\r\nTransfer-Encoding: gzip\r\n\r\nhi".as_slice(),
+            "|Coding|Short",
+        ),
+        (
+            b"HTTP/1.0 200 OK\r\nTransfer-Encoding: chunked\r\n\r\nhi".as_slice(),
+            "|Coding|Short",
+        ),
+        (
+            b"HTTP/1.1 304 OK\r\nTransfer-Encoding: gzip\r\n\r\nhi".as_slice(),
+            "|Coding|Short",
+        ),
     ] {
         let shown = show(alloc, false, text, text.len())?;
         assert_eq!(rt; shown.as_str(), wanted);

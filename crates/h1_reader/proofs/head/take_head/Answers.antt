@@ -1,4 +1,4 @@
-use Rattle.std.proofs.Common.{◌≡◌, ◌<◌, ◌≤◌, ◌∙◌, sym, ap, List, arith, true, false}
+use Rattle.std.proofs.Common.{◌≡◌, ◌<◌, ◌≤◌, ◌∙◌, sym, ap, List, arith, true}
 use Rattle.std.specs.List.{list_all}
 use Rattle.model.specs.Octets.{is_value_octet}
 use Rattle.model.specs.Messages.{Field}
@@ -28,14 +28,16 @@ returns-then-found-lt200 c =
     let values : list_all (λ field. list_all is_value_octet field.value) c.in_ok-all.all.items ≡ true =
     ap (list_all (λ field. list_all is_value_octet field.value)) (sym c.deref.ensures.value) ∙ sym c.values_hold.ensures ∙ c.if-not-values_hold.false in
     let code : c.args.found.code ≡ status_code of.0 = of.1.code in
-    let low : c.args.found.code < 200 = c.if-found-lt200.true in
-    (c.requires.within.section.len_fits, record {
-      spelled = of.0;
-      taken = taken c.args.text.now c.args.spans.now c.args.found c.in_ok-all.all.items of c.requires.within c.in_ok-all.ensures values c.requires.short c.if-found-gt-MOST_FIELDS.false c.if-found-lt100.false c.if-found-eq101.false;
-      is_interim = omega arith;
-      says = says c.args.text.now c.args.spans.now c.args.found c.in_ok-all.all.items c.in_ok-passed.passed.items c.new-head.result of c.in_ok-all.ensures
-          (c.in_ok-passed.ensures ∙ ap (λ (fs : List Field). passed fs (without_framing c.args.found.code fs)) c.deref-2.ensures.value) c.new-head.ensures.status c.new-head.ensures.fields;
-    })
+    let low : c.args.found.code < 200 = c.if-found-lt200.true in (
+      c.requires.within.section.len_fits,
+      record {
+        spelled = of.0;
+        taken = taken c.args.text.now c.args.spans.now c.args.found c.in_ok-all.all.items of c.requires.within c.in_ok-all.ensures values c.requires.short c.if-found-gt-MOST_FIELDS.false c.if-found-lt100.false c.if-found-eq101.false;
+        is_interim = omega arith;
+        says = says c.args.text.now c.args.spans.now c.args.found c.in_ok-all.all.items c.in_ok-passed.passed.items c.new-head.result of c.in_ok-all.ensures
+            (c.in_ok-passed.ensures ∙ ap (λ (fs : List Field). passed fs (without_framing c.args.found.code fs)) c.deref-2.ensures.value) c.new-head.ensures.status c.new-head.ensures.fields;
+      },
+    )
 
 pub returns-in-Ok : goal.returns-in-Ok
 returns-in-Ok c =
@@ -43,16 +45,18 @@ returns-in-Ok c =
     let values : list_all (λ field. list_all is_value_octet field.value) c.in_ok-all.all.items ≡ true =
     ap (list_all (λ field. list_all is_value_octet field.value)) (sym c.deref.ensures.value) ∙ sym c.values_hold.ensures ∙ c.if-not-values_hold.false in
     let code : c.args.found.code ≡ status_code of.0 = of.1.code in
-    let high : 200 ≤ c.args.found.code = c.if-found-lt200.false in
-    (c.requires.within.section.len_fits, record {
-      spelled = of.0;
-      taken = taken c.args.text.now c.args.spans.now c.args.found c.in_ok-all.all.items of c.requires.within c.in_ok-all.ensures values c.requires.short c.if-found-gt-MOST_FIELDS.false c.if-found-lt100.false c.if-found-eq101.false;
-      is_final = omega arith;
-      framed = framed c.args.to_head c.args.text.now c.args.spans.now c.args.found c.in_ok-all.all.items (framing_view c.in-Ok.framing) of c.in_ok-all.ensures
-          (ap (framing_for c.args.to_head c.args.found.version c.args.found.code) (sym c.deref-3.ensures.value) ∙ c.in-Ok.ensures);
-      says = says c.args.text.now c.args.spans.now c.args.found c.in_ok-all.all.items c.in_ok-passed.passed.items c.new-head.result of c.in_ok-all.ensures
-          (c.in_ok-passed.ensures ∙ ap (λ (fs : List Field). passed fs (without_framing c.args.found.code fs)) c.deref-2.ensures.value) c.new-head.ensures.status c.new-head.ensures.fields;
-    })
+    let high : 200 ≤ c.args.found.code = c.if-found-lt200.false in (
+      c.requires.within.section.len_fits,
+      record {
+        spelled = of.0;
+        taken = taken c.args.text.now c.args.spans.now c.args.found c.in_ok-all.all.items of c.requires.within c.in_ok-all.ensures values c.requires.short c.if-found-gt-MOST_FIELDS.false c.if-found-lt100.false c.if-found-eq101.false;
+        is_final = omega arith;
+        framed = framed c.args.to_head c.args.text.now c.args.spans.now c.args.found c.in_ok-all.all.items (framing_view c.in-Ok.framing) of c.in_ok-all.ensures
+            (ap (framing_for c.args.to_head c.args.found.version c.args.found.code) (sym c.deref-3.ensures.value) ∙ c.in-Ok.ensures);
+        says = says c.args.text.now c.args.spans.now c.args.found c.in_ok-all.all.items c.in_ok-passed.passed.items c.new-head.result of c.in_ok-all.ensures
+            (c.in_ok-passed.ensures ∙ ap (λ (fs : List Field). passed fs (without_framing c.args.found.code fs)) c.deref-2.ensures.value) c.new-head.ensures.status c.new-head.ensures.fields;
+      },
+    )
 
 pub returns : goal.returns
 returns c =

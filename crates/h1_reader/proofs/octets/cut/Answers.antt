@@ -1,4 +1,4 @@
-use Rattle.std.proofs.Common.{◌≡◌, ◌+◌, true, take, subst, List, ℕ}
+use Rattle.std.proofs.Common.{◌≡◌, ◌+◌, true, subst, List, ℕ}
 use Rattle.std.specs.List.{list_all}
 use Rattle.std.proofs.lemmas.List.{take_rest, take_all}
 use Rattle.h1_reader.proofs.Texts.{cut_there, cut_none, is_other}

@@ -1,6 +1,4 @@
 use Rattle.std.proofs.Common.{arith}
-use Rattle.std.proofs.lemmas.Grind.{common_steps}
-use Rattle.std.proofs.Common.{ap, Vec, ℕ, Global}
 use Rattle.h1_reader.proofs.Steps.{stands_new}
 use Rattle.h1_reader.proofs.FrontLemmas.{none_in_nothing}
 use Rattle.h1_reader.proofs.reader.Reader.new.Goals as goal

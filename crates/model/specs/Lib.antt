@@ -8,6 +8,8 @@ pub mod Frames
 pub mod Http1
 pub mod Http1Text
 pub mod Http2
+pub mod ResponseHeads
+pub mod Responses
 pub mod Logs
 pub mod Setup
 pub mod Tapes

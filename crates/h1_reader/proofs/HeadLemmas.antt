@@ -1,0 +1,171 @@
+-- What the parser's answer says of the heads that are taken.
+use Rattle.std.proofs.Common.{suc, ◌≡◌, ℕ, ◌<◌, ◌≤◌, Bool, true, false, List, [], ◌∷◌, ◌++◌, length, take, drop, map, refl, sym, ap, ◌∙◌, subst, length-take-le, arith}
+use Rattle.std.specs.Prelude.{Option, Some, None, ◌&&◌}
+use Rattle.std.specs.List.{list_all}
+use Rattle.std.proofs.lemmas.Bool.{false≢true}
+use Rattle.std.proofs.lemmas.List.{append-nil}
+use Rattle.std.proofs.Math.Seq.{take-append_seam}
+use Rattle.httparse.specs.Grammar as grammar
+use Rattle.httparse.specs.Grammar.{ReadsResponse, print_response, status_code}
+use Rattle.httparse.specs.declared.spans.HeaderSpan.{HeaderSpan}
+use Rattle.httparse.specs.declared.spans.ResponseSpans.{ResponseSpans}
+use Rattle.httparse.specs.Spans.{IsResponseAt, IsResponseOf, IsResponseWithin, AreFieldsAt, ResponseOverflows, header_bytes, name_and_value}
+use Rattle.httparse.proofs.GrammarLemmas.{response_unique, ReadsResponse-append}
+use Rattle.model.specs.Octets.{is_value_octet, lower}
+use Rattle.model.specs.Messages.{Field}
+use Rattle.model.specs.ResponseHeads.{Head, Framing, IsTaken, meant, values_hold, framing_of, framing_for, head_of, passed, without_framing}
+use Rattle.model.proofs.ResponseHeadReadings.{Spelled, spelled_reads}
+use Rattle.h1_reader.specs.Heads.{field_from, HasNoHead}
+
+-- a head that stands at the front is the one that any head at the front of more octets is
+pub same_spelled : (text more front past rest : List ℕ) (h k : grammar.ResponseHead) → ReadsResponse text h rest → text ++ more ≡ front ++ past → Spelled front k → h ≡ k
+same_spelled text more front past rest h k p e q =
+    (response_unique (text ++ more) h k (rest ++ more) past (ReadsResponse-append text h rest more p) (subst (λ (t : List ℕ). ReadsResponse t k past) (sym e) (spelled_reads front past k q))).0
+
+pub none_taken : (to_head : Bool) (text : List ℕ) → ((more front past : List ℕ) (k : grammar.ResponseHead) → text ++ more ≡ front ++ past → IsTaken front k → ⊥) → HasNoHead to_head text
+none_taken to_head text none = record {
+  no_interim = λ more front past head e p. none more front past p.spelled e p.taken;
+  no_final = λ more front past head framing e p. none more front past p.spelled e p.taken;
+}
+
+-- a head with too many fields for the room isn't taken
+pub overflowing : (to_head : Bool) (room : ℕ) (text : List ℕ) → 100 ≤ room → ResponseOverflows room text → HasNoHead to_head text
+overflowing to_head room text h over =
+    none_taken to_head text (λ more front past k e p.
+    let reads : ReadsResponse (text ++ more) k past = subst (λ (t : List ℕ). ReadsResponse t k past) (sym e) (spelled_reads front past k p.reads) in
+    let many : room < length k.fields = over more k past reads in
+    let few : length k.fields ≤ 100 = p.has_few in
+    absurd (omega arith))
+
+map_map : (f : List ℕ × List ℕ → Field) (g : HeaderSpan → List ℕ × List ℕ) (xs : List HeaderSpan) → map f (map g xs) ≡ map (λ x. f (g x)) xs
+map_map f g [] = refl
+map_map f g (x ∷ xs) = ap (λ (o : List Field). f (g x) ∷ o) (map_map f g xs)
+
+map_lines : (f : List ℕ × List ℕ → Field) (g : grammar.Field → List ℕ × List ℕ) (xs : List grammar.Field) → map f (map g xs) ≡ map (λ x. f (g x)) xs
+map_lines f g [] = refl
+map_lines f g (x ∷ xs) = ap (λ (o : List Field). f (g x) ∷ o) (map_lines f g xs)
+
+abbrev paired : List ℕ × List ℕ → Field
+paired p = record { name = lower p.0; value = p.1 }
+
+-- the fields at the spans are the fields that the lines mean
+pub meant_at : (text : List ℕ) (spans : List HeaderSpan) (count : ℕ) (lines : List grammar.Field) → AreFieldsAt text spans count lines → map (field_from text) (take count spans) ≡ map meant lines
+meant_at text spans count lines at =
+    sym (map_map paired (header_bytes text) (take count spans)) ∙ ap (map paired) at ∙ map_lines paired name_and_value lines
+
+length_mapped : (f : HeaderSpan → List ℕ × List ℕ) (xs : List HeaderSpan) → length (map f xs) ≡ length xs
+length_mapped f [] = refl
+length_mapped f (x ∷ xs) = ap suc (length_mapped f xs)
+
+length_lines : (f : grammar.Field → List ℕ × List ℕ) (xs : List grammar.Field) → length (map f xs) ≡ length xs
+length_lines f [] = refl
+length_lines f (x ∷ xs) = ap suc (length_lines f xs)
+
+pub count_is : (text : List ℕ) (spans : List HeaderSpan) (count : ℕ) (lines : List grammar.Field) → count ≤ length spans → AreFieldsAt text spans count lines → count ≡ length lines
+count_is text spans count lines fits at =
+    let lengths : length (take count spans) ≡ length lines = sym (length_mapped (header_bytes text) (take count spans)) ∙ ap length at ∙ length_lines name_and_value lines in
+    let taken : length (take count spans) ≡ count = length-take-le count spans fits in
+    sym taken ∙ lengths
+
+pub values_at : (lines : List grammar.Field) → list_all (λ field. list_all is_value_octet field.value) (map meant lines) ≡ values_hold lines
+values_at [] = refl
+values_at (line ∷ lines) = ap (λ t. list_all is_value_octet (meant line).value && t) (values_at lines)
+
+-- the front of the octets is the head's text
+pub front_is : (text : List ℕ) (spans : List HeaderSpan) (found : ResponseSpans) (h : grammar.ResponseHead) → IsResponseAt text spans found h → Spelled (take found.len text) h
+front_is text spans found h at = (
+  at.reads.0,
+  ap (take found.len) at.reads.1 ∙ ap (λ n. take n (print_response h ++ drop found.len text)) at.len ∙ take-append_seam (print_response h) (drop found.len text) ∙ sym (append-nil (print_response h)),
+)
+
+pub too_many : (to_head : Bool) (text : List ℕ) (spans : List HeaderSpan) (found : ResponseSpans) → IsResponseWithin text spans found → IsResponseOf text spans found → 100 < found.headers → HasNoHead to_head text
+too_many to_head text spans found within of many =
+    none_taken to_head text (λ more front past k e p.
+    let same = same_spelled text more front past (drop found.len text) of.0 k of.1.reads e p.reads in
+    let count : found.headers ≡ length of.0.fields = count_is text spans found.headers of.0.fields within.section.count_fits of.1.fields in
+    let lengths : length of.0.fields ≡ length k.fields = ap (λ (s : grammar.ResponseHead). length s.fields) same in
+    let few : length k.fields ≤ 100 = p.has_few in
+    absurd (omega arith))
+
+pub too_low : (to_head : Bool) (text : List ℕ) (spans : List HeaderSpan) (found : ResponseSpans) → IsResponseOf text spans found → found.code < 100 → HasNoHead to_head text
+too_low to_head text spans found of low =
+    none_taken to_head text (λ more front past k e p.
+    let same = same_spelled text more front past (drop found.len text) of.0 k of.1.reads e p.reads in
+    let code : found.code ≡ status_code of.0 = of.1.code in
+    let codes : status_code of.0 ≡ status_code k = ap status_code same in
+    let high : 100 ≤ status_code k = p.has_class in
+    absurd (omega arith))
+
+pub upgrades : (to_head : Bool) (text : List ℕ) (spans : List HeaderSpan) (found : ResponseSpans) → IsResponseOf text spans found → found.code ≡ 101 → HasNoHead to_head text
+upgrades to_head text spans found of is =
+    none_taken to_head text (λ more front past k e p.
+    let same = same_spelled text more front past (drop found.len text) of.0 k of.1.reads e p.reads in
+    absurd (p.no_upgrade (sym (ap status_code same) ∙ sym of.1.code ∙ is)))
+
+pub bad_values : (to_head : Bool) (text : List ℕ) (spans : List HeaderSpan) (found : ResponseSpans) (fields : List Field) → IsResponseOf text spans found
+    → fields ≡ map (field_from text) (take found.headers spans) → list_all (λ field. list_all is_value_octet field.value) fields ≡ false → HasNoHead to_head text
+bad_values to_head text spans found fields of is fails =
+    none_taken to_head text (λ more front past k e p.
+    let same = same_spelled text more front past (drop found.len text) of.0 k of.1.reads e p.reads in
+    let lines = is ∙ meant_at text spans found.headers of.0.fields of.1.fields in
+    let test : false ≡ values_hold of.0.fields = sym fails ∙ ap (list_all (λ field. list_all is_value_octet field.value)) lines ∙ values_at of.0.fields in
+    absurd (false≢true (test ∙ ap (λ (s : grammar.ResponseHead). values_hold s.fields) same ∙ p.values)))
+
+none_some : (f : Framing) → ◌≡◌ {A = Option Framing} None (Some f) → ⊥
+none_some f e = cc
+
+pub unframed : (to_head : Bool) (text : List ℕ) (spans : List HeaderSpan) (found : ResponseSpans) (fields : List Field) → IsResponseOf text spans found
+    → fields ≡ map (field_from text) (take found.headers spans) → 200 ≤ found.code → framing_for to_head found.version found.code fields ≡ None → HasNoHead to_head text
+unframed to_head text spans found fields of is high none =
+    let lines = is ∙ meant_at text spans found.headers of.0.fields of.1.fields in
+    let code : found.code ≡ status_code of.0 = of.1.code in
+    record {
+      no_interim = λ more front past head e p.
+          let same = same_spelled text more front past (drop found.len text) of.0 p.spelled of.1.reads e p.taken.reads in
+          let codes : status_code of.0 ≡ status_code p.spelled = ap status_code same in
+          let low : status_code p.spelled < 200 = p.is_interim in
+          absurd (omega arith);
+      no_final = λ more front past head framing e p.
+          let same = same_spelled text more front past (drop found.len text) of.0 p.spelled of.1.reads e p.taken.reads in
+          let here : framing_of to_head of.0 ≡ None =
+          sym (ap (λ (fs : List Field). framing_for to_head of.0.minor (status_code of.0) fs) lines) ∙ ap (λ n. framing_for to_head of.0.minor n fields) (sym code)
+          ∙ ap (λ n. framing_for to_head n found.code fields) (sym of.1.version) ∙ none in
+          absurd (none_some framing (sym here ∙ ap (framing_of to_head) same ∙ p.framed));
+    }
+
+-- a head that passes all tests is taken
+pub taken : (text : List ℕ) (spans : List HeaderSpan) (found : ResponseSpans) (fields : List Field) → (of : IsResponseOf text spans found) → IsResponseWithin text spans found
+    → fields ≡ map (field_from text) (take found.headers spans) → list_all (λ field. list_all is_value_octet field.value) fields ≡ true
+    → length text ≤ 16384 → found.headers ≤ 100 → 100 ≤ found.code → (found.code ≡ 101 → ⊥) → IsTaken (take found.len text) of.0
+taken text spans found fields of within is holds short few high other =
+    let lines = is ∙ meant_at text spans found.headers of.0.fields of.1.fields in
+    let code : found.code ≡ status_code of.0 = of.1.code in
+    let count : found.headers ≡ length of.0.fields = count_is text spans found.headers of.0.fields within.section.count_fits of.1.fields in
+    let fits : length (take found.len text) ≡ found.len = length-take-le found.len text within.section.len_fits in
+    let inside : found.len ≤ length text = within.section.len_fits in
+    record {
+      reads = front_is text spans found of.0 of.1;
+      is_short = omega arith;
+      has_few = omega arith;
+      values = sym (values_at of.0.fields) ∙ sym (ap (list_all (λ field. list_all is_value_octet field.value)) lines) ∙ holds;
+      has_class = omega arith;
+      no_upgrade = λ e. other (code ∙ e);
+    }
+
+head_same : (h k : Head) → h.status ≡ k.status → h.fields ≡ k.fields → h ≡ k
+head_same h k s f = λ i. record { status = s i; fields = f i }
+
+pub says : (text : List ℕ) (spans : List HeaderSpan) (found : ResponseSpans) (fields kept : List Field) (head : Head) → (of : IsResponseOf text spans found)
+    → fields ≡ map (field_from text) (take found.headers spans) → kept ≡ passed fields (without_framing found.code fields)
+    → head.status ≡ found.code → head.fields ≡ kept → head ≡ head_of of.0
+says text spans found fields kept head of is passes status back =
+    let lines = is ∙ meant_at text spans found.headers of.0.fields of.1.fields in
+    head_same head (head_of of.0) (status ∙ of.1.code)
+    (back ∙ passes ∙ ap (λ n. passed fields (without_framing n fields)) of.1.code ∙ ap (λ (fs : List Field). passed fs (without_framing (status_code of.0) fs)) lines)
+
+pub framed : (to_head : Bool) (text : List ℕ) (spans : List HeaderSpan) (found : ResponseSpans) (fields : List Field) (framing : Framing) → (of : IsResponseOf text spans found)
+    → fields ≡ map (field_from text) (take found.headers spans) → framing_for to_head found.version found.code fields ≡ Some framing → framing_of to_head of.0 ≡ Some framing
+framed to_head text spans found fields framing of is some =
+    let lines = is ∙ meant_at text spans found.headers of.0.fields of.1.fields in
+    sym (ap (λ (fs : List Field). framing_for to_head of.0.minor (status_code of.0) fs) lines) ∙ ap (λ n. framing_for to_head of.0.minor n fields) (sym of.1.code)
+    ∙ ap (λ n. framing_for to_head n found.code fields) (sym of.1.version) ∙ some

@@ -1,0 +1,401 @@
+-- What each step of a reader does to where it stands.
+use Rattle.std.proofs.Common.{suc, zero, ◌≡◌, ℕ, ◌+◌, ◌-◌, ◌<◌, ◌≤◌, Bool, true, false, List, [], ◌∷◌, ◌++◌, length, take, drop, map, refl, sym, ap, ◌∙◌, subst, append_assoc, length-append, arith}
+use Rattle.std.specs.List.{concat}
+use Rattle.std.proofs.lemmas.List.{append-nil, map-append, take-append-drop, take_all}
+use Rattle.std.proofs.lemmas.List.Folds.{concat-append}
+use Rattle.std.proofs.lemmas.Bool.{eqb-true}
+use Rattle.std.specs.Prelude.{◌==◌}
+use Rattle.httparse.specs.Grammar.{HasNoResponse}
+use Rattle.model.specs.Octets.{Joined}
+use Rattle.model.specs.ResponseHeads as model
+use Rattle.model.specs.ResponseHeads.Framing.{Bodiless as IsBodiless, Chunks as IsChunks, Sized as IsSized, UntilEnd as IsUntilEnd}
+use Rattle.model.specs.Responses.{HasBody, IsSpoilt}
+use Rattle.model.proofs.Http1Runs.{same_rest, BeginsNone, one_joined}
+use Rattle.model.proofs.ResponseHeadReadings.{one_interim, none_at_final}
+use Rattle.h1_reader.specs.Parts.{Part}
+use Rattle.h1_reader.specs.Parts.Part.{Interim, Final, Body, Done}
+use Rattle.h1_reader.specs.Heads.{HasNoHead}
+use Rattle.h1_reader.specs.Views.{framing_view}
+use Rattle.h1_reader.specs.Begins.{Begins, place_behind, told_behind}
+use Rattle.h1_reader.specs.declared.framing.Framing.{Framing}
+use Rattle.h1_reader.specs.declared.framing.Framing.TheVariants as ways
+use Rattle.h1_reader.proofs.FrontLemmas.{none_in_nothing}
+use Rattle.h1_reader.specs.Standing.{State, BeforeHead, InBody, InSized, InRest, IsPast, StandsAt, Stands, Hears, Breaks}
+use Rattle.h1_reader.specs.declared.reader.Place.{Place}
+use Rattle.h1_reader.specs.declared.reader.Place.TheVariants.{Head, Sized, UntilEnd, Past, Broken}
+
+-- ---- texts and pieces
+
+ends_told : (f m xs : List Part) → (f ++ (m ++ [])) ++ xs ≡ f ++ (m ++ xs)
+ends_told f m xs = ap (λ (o : List Part). (f ++ o) ++ xs) (append-nil m) ∙ append_assoc f m xs
+
+body_told : (f : List Part) (h : Part) (bodies : List (List ℕ)) (xs : List ℕ)
+    → f ++ (h ∷ map Body bodies ++ (Body xs ∷ [])) ≡ f ++ (h ∷ map Body (bodies ++ xs ∷ []) ++ [])
+body_told f h bodies xs =
+    let same : map Body bodies ++ Body xs ∷ [] ≡ map Body (bodies ++ xs ∷ []) = sym (map-append Body bodies (xs ∷ [])) in
+    ap (λ (o : List Part). f ++ (h ∷ o)) same ∙ ap (λ (o : List Part). f ++ (h ∷ o)) (sym (append-nil (map Body (bodies ++ xs ∷ []))))
+
+one_concat : (bodies : List (List ℕ)) (xs : List ℕ) → concat (bodies ++ xs ∷ []) ≡ concat bodies ++ xs
+one_concat bodies xs = concat-append bodies (xs ∷ []) ∙ ap (λ (o : List ℕ). concat bodies ++ o) (append-nil xs)
+
+-- octets of a body are told
+pub body_step : (to_head : Bool) (framing : model.Framing) (text octets xs : List ℕ) (parts : List Part)
+    → InBody to_head framing text octets octets parts [] → InBody to_head framing (text ++ xs) (octets ++ xs) (octets ++ xs) (parts ++ Body xs ∷ []) []
+body_step to_head framing text octets xs parts b = record {
+  interims = b.interims;
+  head = b.head;
+  front = b.front;
+  head_text = b.head_text;
+  bodies = b.bodies ++ xs ∷ [];
+  is = ap (λ (o : List ℕ). o ++ xs) b.is ∙ append_assoc (b.front ++ b.head_text) octets xs;
+  are_interims = b.are_interims;
+  few = b.few;
+  is_final = b.is_final;
+  has_octets = ap (λ (o : List ℕ). o ++ xs) b.has_octets ∙ sym (one_concat b.bodies xs);
+  told = ap (λ (o : List Part). o ++ Body xs ∷ []) b.told ∙ ends_told (map Interim b.interims) (Final b.head ∷ map Body b.bodies) (Body xs ∷ [])
+      ∙ body_told (map Interim b.interims) (Final b.head) b.bodies xs;
+}
+
+-- the end is told
+pub end_step : (to_head : Bool) (framing : model.Framing) (text rest octets : List ℕ) (parts : List Part)
+    → InBody to_head framing text rest octets parts [] → InBody to_head framing text rest octets (parts ++ Done ∷ []) (Done ∷ [])
+end_step to_head framing text rest octets parts b = record {
+  interims = b.interims;
+  head = b.head;
+  front = b.front;
+  head_text = b.head_text;
+  bodies = b.bodies;
+  is = b.is;
+  are_interims = b.are_interims;
+  few = b.few;
+  is_final = b.is_final;
+  has_octets = b.has_octets;
+  told = ap (λ (o : List Part). o ++ Done ∷ []) b.told ∙ ends_told (map Interim b.interims) (Final b.head ∷ map Body b.bodies) (Done ∷ []);
+}
+
+-- octets past the end
+pub past_step : (to_head : Bool) (framing : model.Framing) (text rest octets xs : List ℕ) (parts ends : List Part)
+    → InBody to_head framing text rest octets parts ends → InBody to_head framing (text ++ xs) (rest ++ xs) octets parts ends
+past_step to_head framing text rest octets xs parts ends b = record {
+  interims = b.interims;
+  head = b.head;
+  front = b.front;
+  head_text = b.head_text;
+  bodies = b.bodies;
+  is = ap (λ (o : List ℕ). o ++ xs) b.is ∙ append_assoc (b.front ++ b.head_text) rest xs;
+  are_interims = b.are_interims;
+  few = b.few;
+  is_final = b.is_final;
+  has_octets = b.has_octets;
+  told = b.told;
+}
+
+false_true : ◌≡◌ {A = Bool} false true → ⊥
+false_true e = cc
+
+-- a whole body is whole whatever follows
+whole_longer : (framing : model.Framing) (rest octets xs : List ℕ) → HasBody framing false rest octets → HasBody framing false (rest ++ xs) octets
+whole_longer IsBodiless rest octets xs w = w
+whole_longer IsChunks rest octets xs w = record {
+  chunks = w.chunks;
+  front = w.front;
+  line = w.line;
+  trailers = w.trailers;
+  past = w.past ++ xs;
+  is = ap (λ (o : List ℕ). o ++ xs) w.is ∙ append_assoc (w.front ++ w.line ++ w.trailers) w.past xs;
+  are_chunks = w.are_chunks;
+  is_last = w.is_last;
+  are_trailers = w.are_trailers;
+  is_body = w.is_body;
+}
+whole_longer (IsSized count) rest octets xs w = record { past = w.past ++ xs; is = ap (λ (o : List ℕ). o ++ xs) w.is ∙ append_assoc octets w.past xs; has_count = w.has_count }
+whole_longer IsUntilEnd rest octets xs w = absurd (false_true w.0)
+
+-- ---- interim heads
+
+joined_more : (s x : List ℕ) (hs : List model.Head) (h : model.Head) → Joined model.Interim s hs → model.Interim x h → Joined model.Interim (s ++ x) (hs ++ h ∷ [])
+joined_more s x [] h p q = (x, [], q, ap (λ (o : List ℕ). o ++ x) p ∙ sym (append-nil x), refl)
+joined_more s x (k ∷ hs) h p q = (p.0, p.1 ++ x, p.2, ap (λ (o : List ℕ). o ++ x) p.3 ∙ append_assoc p.0 p.1 x, joined_more p.1 x hs h p.4 q)
+
+joined_longer : (s t x y : List ℕ) (hs ks : List model.Head) → Joined model.Interim s hs → Joined model.Interim t ks → BeginsNone model.Interim y → s ++ x ≡ t ++ y → length hs ≤ length ks
+joined_longer s t x y [] ks p q none e = omega arith
+joined_longer s t x y (h ∷ hs) [] p q none e =
+    absurd (none p.0 (p.1 ++ x) h p.2 (sym (ap (λ (o : List ℕ). o ++ y) q) ∙ sym e ∙ ap (λ (o : List ℕ). o ++ x) p.3 ∙ append_assoc p.0 p.1 x))
+joined_longer s t x y (h ∷ hs) (k ∷ ks) p q none e =
+    let whole : p.0 ++ (p.1 ++ x) ≡ q.0 ++ (q.1 ++ y) =
+    sym (append_assoc p.0 p.1 x) ∙ ap (λ (o : List ℕ). o ++ x) (sym p.3) ∙ e ∙ ap (λ (o : List ℕ). o ++ y) q.3 ∙ append_assoc q.0 q.1 y in
+    let same = one_interim p.0 q.0 (p.1 ++ x) (q.1 ++ y) h k p.2 q.2 whole in
+    let more : length hs ≤ length ks = joined_longer p.1 q.1 x y hs ks p.4 q.4 none (same_rest p.0 q.0 (p.1 ++ x) (q.1 ++ y) same.0 whole) in
+    omega arith
+
+-- ---- where a reader stands
+
+at : (place : Place) (state : State) (text : List ℕ) (parts : List Part) → state.place ≡ place → Stands text parts state → StandsAt place state.to_head state.held text parts
+at place state text parts e s = subst (λ (p : Place). StandsAt p state.to_head state.held text parts) e s
+
+abbrev state_of : Bool → Place → List ℕ → State
+state_of to_head place held = record { to_head = to_head; place = place; held = held }
+
+-- the reader goes to a place, holding these octets
+arrives : (new : State) (to_head : Bool) (place : Place) (held text : List ℕ) (parts : List Part) → new ≡ state_of to_head place held → StandsAt place to_head held text parts → Stands text parts new
+arrives new to_head place held text parts e s = subst (λ (n : State). Stands text parts n) (sym e) s
+
+pub hears_rest : (old : State) (xs : List ℕ) → old.place ≡ UntilEnd → Hears old xs (Body xs ∷ []) old
+hears_rest old xs e = record {
+  same = refl;
+  stands = λ text before s.
+      let b = at UntilEnd old text before e s in
+      arrives old old.to_head UntilEnd old.held (text ++ xs) (before ++ Body xs ∷ []) (λ i. record { to_head = old.to_head; place = e i; held = old.held })
+      (record { octets = b.octets ++ xs; body = body_step old.to_head IsUntilEnd text b.octets xs before b.body });
+}
+
+pub hears_past : (old : State) (xs : List ℕ) → old.place ≡ Past → Hears old xs [] old
+hears_past old xs e = record {
+  same = refl;
+  stands = λ text before s.
+      let b = at Past old text before e s in
+      arrives old old.to_head Past old.held (text ++ xs) (before ++ []) (λ i. record { to_head = old.to_head; place = e i; held = old.held })
+      (let whole : IsPast old.to_head (text ++ xs) before = record {
+        framing = b.framing;
+        rest = b.rest ++ xs;
+        octets = b.octets;
+        body = past_step old.to_head b.framing text b.rest b.octets xs before (Done ∷ []) b.body;
+        whole = whole_longer b.framing b.rest b.octets xs b.whole;
+      } in subst (λ (o : List Part). IsPast old.to_head (text ++ xs) o) (sym (append-nil before)) whole);
+}
+
+pub hears_sized : (old new : State) (left : ℕ) (xs : List ℕ) → old.place ≡ Sized left → length xs < left → new ≡ record { to_head = old.to_head; place = Sized (left - length xs); held = old.held }
+    → Hears old xs (Body xs ∷ []) new
+hears_sized old new left xs e less is = record {
+  same = ap (λ (n : State). n.to_head) is;
+  stands = λ text before s.
+      let b = at (Sized left) old text before e s in
+      let sum : length b.octets + left ≡ b.count = b.has_count in
+      let longer : length (b.octets ++ xs) ≡ length b.octets + length xs = length-append b.octets xs in
+      arrives new old.to_head (Sized (left - length xs)) old.held (text ++ xs) (before ++ Body xs ∷ []) is
+      (record { octets = b.octets ++ xs; count = b.count; body = body_step old.to_head (IsSized b.count) text b.octets xs before b.body; has_count = omega arith; some = omega arith });
+}
+
+pub hears_sized_all : (old new : State) (left : ℕ) (xs : List ℕ) → old.place ≡ Sized left → length xs ≡ left → new ≡ record { to_head = old.to_head; place = Past; held = old.held }
+    → Hears old xs (Body xs ∷ Done ∷ []) new
+hears_sized_all old new left xs e all is = record {
+  same = ap (λ (n : State). n.to_head) is;
+  stands = λ text before s.
+      let b = at (Sized left) old text before e s in
+      let sum : length b.octets + left ≡ b.count = b.has_count in
+      let longer : length (b.octets ++ xs) ≡ length b.octets + length xs = length-append b.octets xs in
+      let body = end_step old.to_head (IsSized b.count) (text ++ xs) (b.octets ++ xs) (b.octets ++ xs) (before ++ Body xs ∷ []) (body_step old.to_head (IsSized b.count) text b.octets xs before b.body) in
+      let whole : IsPast old.to_head (text ++ xs) ((before ++ Body xs ∷ []) ++ Done ∷ []) = record {
+        framing = IsSized b.count;
+        rest = b.octets ++ xs;
+        octets = b.octets ++ xs;
+        body = body;
+        whole = record { past = []; is = sym (append-nil (b.octets ++ xs)); has_count = omega arith };
+      } in
+      arrives new old.to_head Past old.held (text ++ xs) (before ++ Body xs ∷ Done ∷ []) is
+      (subst (λ (o : List Part). IsPast old.to_head (text ++ xs) o) (append_assoc before (Body xs ∷ []) (Done ∷ [])) whole);
+}
+
+pub hears_more : (old new : State) (count : ℕ) (xs held : List ℕ) → old.place ≡ Head count → held ≡ old.held ++ xs → HasNoResponse held → new ≡ record { to_head = old.to_head; place = Head count; held = held }
+    → Hears old xs [] new
+hears_more old new count xs held e longer none is = record {
+  same = ap (λ (n : State). n.to_head) is;
+  stands = λ text before s.
+      let b = at (Head count) old text before e s in
+      arrives new old.to_head (Head count) held (text ++ xs) (before ++ []) is (record {
+        interims = b.interims;
+        front = b.front;
+        is = ap (λ (o : List ℕ). o ++ xs) b.is ∙ append_assoc b.front old.held xs ∙ ap (λ (o : List ℕ). b.front ++ o) (sym longer);
+        are_interims = b.are_interims;
+        has_count = b.has_count;
+        few = b.few;
+        no_head = none;
+        told = append-nil before ∙ b.told;
+      });
+}
+
+pub hears_interim : (old new : State) (count : ℕ) (xs : List ℕ) (head : model.Head) → old.place ≡ Head count → count < 8 → model.Interim (old.held ++ xs) head → HasNoResponse []
+    → new ≡ record { to_head = old.to_head; place = Head (count + 1); held = [] } → Hears old xs (Interim head ∷ []) new
+hears_interim old new count xs head e less p none is = record {
+  same = ap (λ (n : State). n.to_head) is;
+  stands = λ text before s.
+      let b = at (Head count) old text before e s in
+      let counted : count ≡ length b.interims = b.has_count in
+      let longer : length (b.interims ++ head ∷ []) ≡ length b.interims + 1 = length-append b.interims (head ∷ []) in
+      arrives new old.to_head (Head (count + 1)) [] (text ++ xs) (before ++ Interim head ∷ []) is (record {
+        interims = b.interims ++ head ∷ [];
+        front = b.front ++ (old.held ++ xs);
+        is = ap (λ (o : List ℕ). o ++ xs) b.is ∙ append_assoc b.front old.held xs ∙ sym (append-nil (b.front ++ (old.held ++ xs)));
+        are_interims = joined_more b.front (old.held ++ xs) b.interims head b.are_interims p;
+        has_count = omega arith;
+        few = omega arith;
+        no_head = none;
+        told = ap (λ (o : List Part). o ++ Interim head ∷ []) b.told ∙ sym (map-append Interim b.interims (head ∷ []));
+      });
+}
+
+-- a final head is told, and nothing of its body is there yet
+pub final_step : (old : State) (count : ℕ) (xs text : List ℕ) (before : List Part) (head : model.Head) (framing : model.Framing) → model.Final old.to_head (old.held ++ xs) head framing
+    → BeforeHead count old.held text before → InBody old.to_head framing (text ++ xs) [] [] (before ++ Final head ∷ []) []
+final_step old count xs text before head framing p b =
+    let counted : count ≡ length b.interims = b.has_count in
+    let few : count ≤ 8 = b.few in
+    record {
+      interims = b.interims;
+      head = head;
+      front = b.front;
+      head_text = old.held ++ xs;
+      bodies = [];
+      is = ap (λ (o : List ℕ). o ++ xs) b.is ∙ append_assoc b.front old.held xs ∙ sym (append-nil (b.front ++ (old.held ++ xs)));
+      are_interims = b.are_interims;
+      few = omega arith;
+      is_final = p;
+      has_octets = refl;
+      told = ap (λ (o : List Part). o ++ Final head ∷ []) b.told;
+    }
+
+-- ---- faults
+
+whole_text : (text front held xs more : List ℕ) → text ≡ front ++ held → (text ++ xs) ++ more ≡ front ++ ((held ++ xs) ++ more)
+whole_text text front held xs more e =
+    ap (λ (o : List ℕ). (o ++ xs) ++ more) e ∙ ap (λ (o : List ℕ). o ++ more) (append_assoc front held xs) ∙ append_assoc front (held ++ xs) more
+
+pub breaks_head : (old : State) (count : ℕ) (xs : List ℕ) → old.place ≡ Head count → HasNoHead old.to_head (old.held ++ xs) → Breaks old xs
+breaks_head old count xs e none text before s more ended whole =
+    let b = at (Head count) old text before e s in
+    let r = whole.0 in
+    let p = whole.1 in
+    let parts : b.front ++ ((old.held ++ xs) ++ more) ≡ p.front ++ (p.head_text ++ p.rest) =
+    sym (whole_text text b.front old.held xs more b.is) ∙ p.is ∙ append_assoc p.front p.head_text p.rest in
+    let fronts = one_joined model.Interim one_interim b.front p.front ((old.held ++ xs) ++ more) (p.head_text ++ p.rest) b.interims r.interims b.are_interims p.are_interims
+    (λ front past head q f. none.no_interim more front past head f q) (none_at_final old.to_head p.head_text p.rest r.head p.framing p.is_final) parts in
+    none.no_final more p.head_text p.rest r.head p.framing (same_rest b.front p.front ((old.held ++ xs) ++ more) (p.head_text ++ p.rest) fronts.0 parts) p.is_final
+
+cut_text : (front held xs more : List ℕ) (used : ℕ) → front ++ ((held ++ xs) ++ more) ≡ (front ++ (held ++ take used xs)) ++ (drop used xs ++ more)
+cut_text front held xs more used =
+    let cut : xs ≡ take used xs ++ drop used xs = sym (take-append-drop used xs) in
+    ap (λ (o : List ℕ). front ++ ((held ++ o) ++ more)) cut
+    ∙ ap (λ (o : List ℕ). front ++ (o ++ more)) (sym (append_assoc held (take used xs) (drop used xs)))
+    ∙ ap (λ (o : List ℕ). front ++ o) (append_assoc (held ++ take used xs) (drop used xs) more)
+    ∙ sym (append_assoc front (held ++ take used xs) (drop used xs ++ more))
+
+pub breaks_ninth : (old : State) (count used : ℕ) (xs : List ℕ) (head : model.Head) → old.place ≡ Head count → 8 ≤ count → model.Interim (old.held ++ take used xs) head → Breaks old xs
+breaks_ninth old count used xs head e many i text before s more ended whole =
+    let b = at (Head count) old text before e s in
+    let r = whole.0 in
+    let p = whole.1 in
+    let parts : (b.front ++ (old.held ++ take used xs)) ++ (drop used xs ++ more) ≡ p.front ++ (p.head_text ++ p.rest) =
+    sym (cut_text b.front old.held xs more used) ∙ sym (whole_text text b.front old.held xs more b.is) ∙ p.is ∙ append_assoc p.front p.head_text p.rest in
+    let nine : length (b.interims ++ head ∷ []) ≤ length r.interims =
+    joined_longer (b.front ++ (old.held ++ take used xs)) p.front (drop used xs ++ more) (p.head_text ++ p.rest) (b.interims ++ head ∷ []) r.interims
+    (joined_more b.front (old.held ++ take used xs) b.interims head b.are_interims i) p.are_interims (none_at_final old.to_head p.head_text p.rest r.head p.framing p.is_final) parts in
+    let counted : count ≡ length b.interims = b.has_count in
+    let few : length r.interims ≤ 8 = p.few_interims in
+    let longer : length (b.interims ++ head ∷ []) ≡ length b.interims + 1 = length-append b.interims (head ∷ []) in
+    absurd (omega arith)
+
+-- ---- one step after another
+
+pub hears_none : (old : State) → Hears old [] [] old
+hears_none old = record {
+  same = refl;
+  stands = λ text before s.
+      let longer : Stands (text ++ []) before old = subst (λ (o : List ℕ). Stands o before old) (sym (append-nil text)) s in
+      subst (λ (o : List Part). Stands (text ++ []) o old) (sym (append-nil before)) longer;
+}
+
+pub hears_then : (a b c : State) (xs ys : List ℕ) (p q : List Part) → Hears a xs p b → Hears b ys q c → Hears a (xs ++ ys) (p ++ q) c
+hears_then a b c xs ys p q h k = record {
+  same = k.same ∙ h.same;
+  stands = λ text before s.
+      let all : Stands ((text ++ xs) ++ ys) ((before ++ p) ++ q) c = k.stands (text ++ xs) (before ++ p) (h.stands text before s) in
+      let texts : Stands (text ++ (xs ++ ys)) ((before ++ p) ++ q) c = subst (λ (o : List ℕ). Stands o ((before ++ p) ++ q) c) (append_assoc text xs ys) all in
+      subst (λ (o : List Part). Stands (text ++ (xs ++ ys)) o c) (append_assoc before p q) texts;
+}
+
+pub breaks_then : (a b : State) (xs ys : List ℕ) (p : List Part) → Hears a xs p b → Breaks b ys → Breaks a (xs ++ ys)
+breaks_then a b xs ys p h k text before s =
+    let spoilt : IsSpoilt ((text ++ xs) ++ ys) b.to_head = k (text ++ xs) (before ++ p) (h.stands text before s) in
+    let same : IsSpoilt ((text ++ xs) ++ ys) a.to_head = subst (λ (t : Bool). IsSpoilt ((text ++ xs) ++ ys) t) h.same spoilt in
+    subst (λ (o : List ℕ). IsSpoilt o a.to_head) (append_assoc text xs ys) same
+
+pub breaks_none : (a : State) (fault : _) (xs : List ℕ) → a.place ≡ Broken fault → Breaks a xs
+breaks_none a fault xs e text before s = absurd (at (Broken fault) a text before e s)
+
+-- all octets are taken
+pub all_taken : (a b : State) (xs : List ℕ) (p : List Part) → Hears a xs p b → Hears a (take (length xs) xs) p b
+all_taken a b xs p h =
+    let all : take (length xs) xs ≡ xs = take_all (length xs) xs (omega arith) in
+    subst (λ (o : List ℕ). Hears a o p b) (sym all) h
+
+-- nothing is held
+pub nothing_held : (held : List ℕ) → held ≡ [] → (length held ≤ 16384) × HasNoResponse held
+nothing_held held e = (rw e (omega arith), subst HasNoResponse (sym e) none_in_nothing)
+
+-- where a reader stands behind a final head
+stands_behind : (framing : Framing) (to_head : Bool) (held text : List ℕ) (parts : List Part) → (framing ≡ ways.Chunks → ⊥) → InBody to_head (framing_view framing) text [] [] parts []
+    → StandsAt (place_behind framing) to_head held text (parts ++ told_behind framing)
+stands_behind ways.Bodiless to_head held text parts n b = record { framing = IsBodiless; rest = []; octets = []; body = end_step to_head IsBodiless text [] [] parts b; whole = refl }
+stands_behind ways.Chunks to_head held text parts n b = absurd (n refl)
+stands_behind (ways.Sized zero) to_head held text parts n b =
+    record { framing = IsSized 0; rest = []; octets = []; body = end_step to_head (IsSized 0) text [] [] parts b; whole = record { past = []; is = refl; has_count = refl } }
+stands_behind (ways.Sized (suc count)) to_head held text parts n b =
+    let same : parts ≡ parts ++ [] = sym (append-nil parts) in
+    subst (λ (o : List Part). InSized to_head (suc count) text o) same (record { octets = []; count = suc count; body = b; has_count = omega arith; some = omega arith })
+stands_behind ways.UntilEnd to_head held text parts n b =
+    let same : parts ≡ parts ++ [] = sym (append-nil parts) in
+    subst (λ (o : List Part). InRest to_head text o) same (record { octets = []; body = b })
+
+pub hears_final : (old mid new : State) (count : ℕ) (xs : List ℕ) (head : model.Head) (framing : Framing) (t0 t1 t2 : List Part) → old.place ≡ Head count
+    → model.Final old.to_head (old.held ++ xs) head (framing_view framing) → mid.to_head ≡ old.to_head → Begins framing mid new t1 t2 → t1 ≡ t0 ++ Final head ∷ []
+    → (added : List Part) × (t2 ≡ t0 ++ added) × Hears old xs added new
+hears_final old mid new count xs head framing t0 t1 t2 e p same begins told = (
+  Final head ∷ told_behind framing,
+  begins.told ∙ ap (λ (o : List Part). o ++ told_behind framing) told ∙ append_assoc t0 (Final head ∷ []) (told_behind framing),
+  record {
+    same = ap (λ (n : State). n.to_head) begins.is ∙ same;
+    stands = λ text before s.
+        let b = final_step old count xs text before head (framing_view framing) p (at (Head count) old text before e s) in
+        let there = stands_behind framing old.to_head mid.held (text ++ xs) (before ++ Final head ∷ []) begins.treated b in
+        let is : new ≡ record { to_head = old.to_head; place = place_behind framing; held = mid.held } = begins.is ∙ (λ i. record { to_head = same i; place = place_behind framing; held = mid.held }) in
+        let stands : Stands (text ++ xs) ((before ++ Final head ∷ []) ++ told_behind framing) new =
+        arrives new old.to_head (place_behind framing) mid.held (text ++ xs) ((before ++ Final head ∷ []) ++ told_behind framing) is there in
+        subst (λ (o : List Part). Stands (text ++ xs) o new) (append_assoc before (Final head ∷ []) (told_behind framing)) stands;
+  },
+)
+
+nil_of : (xs : List ℕ) → (length xs == 0) ≡ true → xs ≡ []
+nil_of [] e = refl
+nil_of (x ∷ xs) e = let none : length (x ∷ xs) ≡ 0 = eqb-true (length (x ∷ xs)) 0 e in absurd (omega arith)
+
+-- what a loop over all octets has taken
+abbrev pub Taken : State → List Part → List ℕ → List ℕ → List Part → State → Type 0
+Taken a t0 octets rest t1 b = (taken : List ℕ) × (added : List Part) × (octets ≡ taken ++ rest) × (t1 ≡ t0 ++ added) × Hears a taken added b
+
+pub taken_more : (a b c : State) (t0 t1 t2 : List Part) (octets rest : List ℕ) (used : ℕ) → Taken a t0 octets rest t1 b
+    → ((added : List Part) × (t2 ≡ t1 ++ added) × Hears b (take used rest) added c) → Taken a t0 octets (drop used rest) t2 c
+taken_more a b c t0 t1 t2 octets rest used i r = (
+  i.0 ++ take used rest,
+  i.1 ++ r.0,
+  i.2 ∙ ap (λ (o : List ℕ). i.0 ++ o) (sym (take-append-drop used rest)) ∙ sym (append_assoc i.0 (take used rest) (drop used rest)),
+  r.1 ∙ ap (λ (o : List Part). o ++ r.0) i.3 ∙ append_assoc t0 i.1 r.0,
+  hears_then a b c i.0 (take used rest) i.1 r.0 i.4 r.2,
+)
+
+pub taken_all : (a b : State) (t0 t1 : List Part) (octets rest : List ℕ) → Taken a t0 octets rest t1 b → (length rest == 0) ≡ true
+    → (added : List Part) × (t1 ≡ t0 ++ added) × Hears a octets added b
+taken_all a b t0 t1 octets rest i e =
+    let all : octets ≡ i.0 = i.2 ∙ ap (λ (o : List ℕ). i.0 ++ o) (nil_of rest e) ∙ append-nil i.0 in
+    (i.1, i.3, subst (λ (o : List ℕ). Hears a o i.1 b) (sym all) i.4)
+
+pub taken_breaks : (a b : State) (t0 t1 : List Part) (octets rest : List ℕ) → Taken a t0 octets rest t1 b → Breaks b rest → Breaks a octets
+taken_breaks a b t0 t1 octets rest i h = subst (λ (o : List ℕ). Breaks a o) (sym i.2) (breaks_then a b i.0 rest i.1 i.4 h)
+
+pub taken_none : (a : State) (t0 : List Part) (octets : List ℕ) → Taken a t0 octets octets t0 a
+taken_none a t0 octets = ([], [], refl, sym (append-nil t0), hears_none a)
+
+-- a new reader stands for nothing
+pub stands_new : (to_head : Bool) (held : List ℕ) → held ≡ [] → Stands [] [] (record { to_head = to_head; place = Head 0; held = held })
+stands_new to_head held e =
+    let b : BeforeHead 0 [] [] [] = record { interims = []; front = []; is = refl; are_interims = refl; has_count = refl; few = omega arith; no_head = none_in_nothing; told = refl } in
+    subst (λ (o : List ℕ). BeforeHead 0 o [] []) (sym e) b

@@ -1,0 +1,112 @@
+-- What was told stands in the octets.
+use Rattle.std.proofs.Common.{◌≡◌, ℕ, ◌+◌, ◌≤◌, Bool, true, false, List, [], ◌∷◌, ◌++◌, length, take, map, refl, sym, ap, ◌∙◌, subst, append_assoc, inl, inr, arith}
+use Rattle.std.specs.Prelude.{◌||◌, ◌⊎◌}
+use Rattle.std.specs.List.{concat}
+use Rattle.std.proofs.lemmas.List.{append-nil, take_all}
+use Rattle.std.proofs.lemmas.List.Folds.{list_any-append}
+use Rattle.std.proofs.Math.Seq.{take-append_seam}
+use Rattle.model.specs.ResponseHeads as model
+use Rattle.model.specs.ResponseHeads.Framing.{Bodiless as IsBodiless, Chunks as IsChunks, Sized as IsSized, UntilEnd as IsUntilEnd}
+use Rattle.model.specs.Responses.{HasBody, StandsIn, IsComplete}
+use Rattle.model.proofs.ResponseHeadReadings.{one_front}
+use Rattle.h1_reader.specs.Parts.{Part}
+use Rattle.h1_reader.specs.Parts.Part.{Interim, Final, Body, Done}
+use Rattle.h1_reader.specs.Standing.{State, InBody, InRest, StandsAt, Stands, Tells, TellsBehind, is_done, is_end}
+use Rattle.h1_reader.specs.declared.reader.Place.{Place}
+use Rattle.h1_reader.specs.declared.reader.Place.TheVariants.{Head, Sized, UntilEnd, Past, Broken}
+use Rattle.h1_reader.proofs.Ends.{head_short, sized_short, past_complete}
+
+false_true : ◌≡◌ {A = Bool} false true → ⊥
+false_true e = cc
+
+-- a whole body stands in its text
+stands_whole : (framing : model.Framing) (rest octets : List ℕ) → HasBody framing false rest octets → StandsIn framing rest octets
+stands_whole IsBodiless rest octets w = w
+stands_whole IsChunks rest octets w = record {
+  chunks = w.chunks;
+  front = w.front;
+  behind = w.line ++ (w.trailers ++ w.past);
+  next = [];
+  is = w.is ∙ append_assoc (w.front ++ w.line) w.trailers w.past ∙ append_assoc w.front w.line (w.trailers ++ w.past);
+  are_chunks = w.are_chunks;
+  behind_them = inl (refl, inr (inr (record { line = w.line; trailers = w.trailers; past = w.past; is = sym (append_assoc w.line w.trailers w.past); is_last = w.is_last; are_trailers = w.are_trailers })));
+  has_octets = w.is_body ∙ sym (append-nil (concat w.chunks));
+}
+stands_whole (IsSized count) rest octets w = sym (ap (take count) w.is ∙ ap (λ n. take n (octets ++ w.past)) (sym w.has_count) ∙ take-append_seam octets w.past)
+stands_whole IsUntilEnd rest octets w = absurd (false_true w.0)
+
+tells_behind : (to_head : Bool) (framing : model.Framing) (text rest octets : List ℕ) (parts ends : List Part) → InBody to_head framing text rest octets parts ends
+    → StandsIn framing rest octets → (ends ≡ []) ⊎ (ends ≡ Done ∷ []) → TellsBehind text to_head parts
+tells_behind to_head framing text rest octets parts ends b s e = record {
+  interims = b.interims;
+  head = b.head;
+  bodies = b.bodies;
+  ends = ends;
+  seen = record { front = b.front; head_text = b.head_text; rest = rest; framing = framing; is = b.is; are_interims = b.are_interims; few_interims = b.few; is_final = b.is_final; body = subst (λ (o : List ℕ). StandsIn framing rest o) b.has_octets s };
+  told = b.told;
+  ends_are = e;
+}
+
+tells_at : (place : Place) (to_head : Bool) (held text : List ℕ) (parts : List Part) → StandsAt place to_head held text parts → Tells text to_head parts
+tells_at (Head count) to_head held text parts b =
+    let counted : count ≡ length b.interims = b.has_count in
+    let few : count ≤ 8 = b.few in
+    inl (record { interims = b.interims; seen = (record { front = b.front; rest = held; is = b.is; are_interims = b.are_interims; few_interims = omega arith; no_head = b.no_head }, refl); told = b.told })
+tells_at (Sized left) to_head held text parts b =
+    let sum : length b.octets + left ≡ b.count = b.has_count in
+    let all : b.octets ≡ take b.count b.octets = sym (take_all b.count b.octets (omega arith)) in
+    inr (tells_behind to_head (IsSized b.count) text b.octets b.octets parts [] b.body all (inl refl))
+tells_at UntilEnd to_head held text parts b = inr (tells_behind to_head IsUntilEnd text b.octets b.octets parts [] b.body refl (inl refl))
+tells_at Past to_head held text parts b = inr (tells_behind to_head b.framing text b.rest b.octets parts (Done ∷ []) b.body (stands_whole b.framing b.rest b.octets b.whole) (inr refl))
+tells_at (Broken fault) to_head held text parts b = absurd b
+
+pub tells : (text : List ℕ) (parts : List Part) (state : State) → Stands text parts state → Tells text state.to_head parts
+tells text parts state s = tells_at state.place state.to_head state.held text parts s
+
+-- ---- the last piece
+
+no_interim_ends : (heads : List model.Head) → is_done (map Interim heads) ≡ false
+no_interim_ends [] = refl
+no_interim_ends (head ∷ heads) = no_interim_ends heads
+
+no_body_ends : (bodies : List (List ℕ)) → is_done (map Body bodies) ≡ false
+no_body_ends [] = refl
+no_body_ends (body ∷ bodies) = no_body_ends bodies
+
+ends_done : (to_head : Bool) (framing : model.Framing) (text rest octets : List ℕ) (parts ends : List Part) → InBody to_head framing text rest octets parts ends → is_done parts ≡ is_done ends
+ends_done to_head framing text rest octets parts ends b =
+    ap is_done b.told ∙ list_any-append is_end (map Interim b.interims) (Final b.head ∷ map Body b.bodies ++ ends)
+    ∙ ap (λ t. t || is_done (map Body b.bodies ++ ends)) (no_interim_ends b.interims)
+    ∙ list_any-append is_end (map Body b.bodies) ends ∙ ap (λ t. t || is_done ends) (no_body_ends b.bodies)
+
+rest_framed : (framing : model.Framing) (rest body : List ℕ) → IsUntilEnd ≡ framing → HasBody framing false rest body → ⊥
+rest_framed framing rest body e w =
+    let open_end : HasBody IsUntilEnd false rest body = subst (λ (f : model.Framing). HasBody f false rest body) (sym e) w in
+    false_true open_end.0
+
+rest_short : (to_head : Bool) (text : List ℕ) (parts : List Part) → InRest to_head text parts → IsComplete text false to_head → ⊥
+rest_short to_head text parts b whole =
+    let p = whole.1 in
+    let same = one_front to_head b.body.front p.front b.body.head_text p.head_text b.octets p.rest b.body.interims whole.0.interims b.body.head whole.0.head IsUntilEnd p.framing
+    b.body.are_interims p.are_interims b.body.is_final p.is_final (sym b.body.is ∙ p.is) in
+    rest_framed p.framing p.rest whole.0.body same.final.framing p.body
+
+done_at : (place : Place) (to_head : Bool) (held text : List ℕ) (parts : List Part) → StandsAt place to_head held text parts → is_done parts ≡ true → IsComplete text false to_head
+done_at (Head count) to_head held text parts b d = absurd (false_true (sym (ap is_done b.told ∙ no_interim_ends b.interims) ∙ d))
+done_at (Sized left) to_head held text parts b d = absurd (false_true (sym (ends_done to_head (IsSized b.count) text b.octets b.octets parts [] b.body) ∙ d))
+done_at UntilEnd to_head held text parts b d = absurd (false_true (sym (ends_done to_head IsUntilEnd text b.octets b.octets parts [] b.body) ∙ d))
+done_at Past to_head held text parts b d = past_complete false to_head text parts b
+done_at (Broken fault) to_head held text parts b d = absurd b
+
+pub done : (text : List ℕ) (parts : List Part) (state : State) → Stands text parts state → is_done parts ≡ true → IsComplete text false state.to_head
+done text parts state s d = done_at state.place state.to_head state.held text parts s d
+
+not_done_at : (place : Place) (to_head : Bool) (held text : List ℕ) (parts : List Part) → StandsAt place to_head held text parts → is_done parts ≡ false → IsComplete text false to_head → ⊥
+not_done_at (Head count) to_head held text parts b d w = head_short false to_head count held text parts b w
+not_done_at (Sized left) to_head held text parts b d w = sized_short false to_head left text parts b w
+not_done_at UntilEnd to_head held text parts b d w = rest_short to_head text parts b w
+not_done_at Past to_head held text parts b d w = false_true (sym d ∙ ends_done to_head b.framing text b.rest b.octets parts (Done ∷ []) b.body)
+not_done_at (Broken fault) to_head held text parts b d w = b
+
+pub not_done : (text : List ℕ) (parts : List Part) (state : State) → Stands text parts state → is_done parts ≡ false → IsComplete text false state.to_head → ⊥
+not_done text parts state s d w = not_done_at state.place state.to_head state.held text parts s d w

@@ -1,0 +1,52 @@
+use Rattle.std.proofs.Common.{◌≡◌, ◌≤◌, ◌<◌, length, ◌∙◌, subst, rules, arith, List, ℕ}
+use Rattle.model.specs.ResponseHeads.{Interim, Final}
+use Rattle.h1_reader.specs.Views.{framing_view}
+use Rattle.h1_reader.proofs.FrontLemmas.{ends_in, too_long, none_behind}
+use Rattle.h1_reader.proofs.front.read_front.Goals as goal
+
+pub returns-then-taken-octets : goal.returns-then-taken-octets
+returns-then-taken-octets c =
+    let counted : c.len-before.result ≡ length c.args.held.items = search rules in
+    let less : c.min-taken.result < length c.args.octets.now = c.if-taken-octets.true in
+    let low : length c.args.held.items ≤ 16384 = c.requires.short in
+    λ _. too_long c.args.to_head c.args.held.items c.args.octets.now c.deref.result.now c.len-before.result c.min-taken.result counted (omega arith) (omega arith) (omega (arith, c.min-taken.ensures))
+    (c.deref.ensures.value ∙ c.in_ok-extend_from_slice.ensures.items) (rw c.in-Ok-More.field-0-is at c.in-Ok-More.ensures)
+
+pub overflow_sub-result : goal.overflow_sub-result
+overflow_sub-result c =
+    let counted : c.len-before.result ≡ length c.args.held.items = search rules in
+    let read = rw c.in-Ok-Interim.field-0-is at c.in-Ok-Interim.ensures in
+    let ends = ends_in c.args.held.items c.args.octets.now c.deref.result.now c.len-before.result c.min-taken.result c.in-Ok-Interim.used _ c.requires.none counted (omega (arith, c.min-taken.ensures))
+    (c.deref.ensures.value ∙ c.in_ok-extend_from_slice.ensures.items) read.0 read.1.taken.reads in
+    let more : c.len-before.result < c.in-Ok-Interim.used = ends.more in
+    omega arith
+
+pub overflow_sub-result-in-Ok-Final : goal.overflow_sub-result-in-Ok-Final
+overflow_sub-result-in-Ok-Final c =
+    let counted : c.len-before.result ≡ length c.args.held.items = search rules in
+    let read = rw c.in-Ok-Final.field-0-is at c.in-Ok-Final.ensures in
+    let ends = ends_in c.args.held.items c.args.octets.now c.deref.result.now c.len-before.result c.min-taken.result c.in-Ok-Final.used _ c.requires.none counted (omega (arith, c.min-taken.ensures))
+    (c.deref.ensures.value ∙ c.in_ok-extend_from_slice.ensures.items) read.0 read.1.taken.reads in
+    let more : c.len-before.result < c.in-Ok-Final.used = ends.more in
+    omega arith
+
+pub returns-in-Ok-Interim : goal.returns-in-Ok-Interim
+returns-in-Ok-Interim c =
+    let counted : c.len-before.result ≡ length c.args.held.items = search rules in
+    let read = rw c.in-Ok-Interim.field-0-is at c.in-Ok-Interim.ensures in
+    let ends = ends_in c.args.held.items c.args.octets.now c.deref.result.now c.len-before.result c.min-taken.result c.in-Ok-Interim.used _ c.requires.none counted (omega (arith, c.min-taken.ensures))
+    (c.deref.ensures.value ∙ c.in_ok-extend_from_slice.ensures.items) read.0 read.1.taken.reads in
+    let more : c.len-before.result < c.in-Ok-Interim.used = ends.more in
+    (omega arith, ends.fits, subst (λ (o : List ℕ). Interim o c.in-Ok-Interim.head) ends.is read.1)
+
+pub returns-in-Ok-Final : goal.returns-in-Ok-Final
+returns-in-Ok-Final c =
+    let counted : c.len-before.result ≡ length c.args.held.items = search rules in
+    let read = rw c.in-Ok-Final.field-0-is at c.in-Ok-Final.ensures in
+    let ends = ends_in c.args.held.items c.args.octets.now c.deref.result.now c.len-before.result c.min-taken.result c.in-Ok-Final.used _ c.requires.none counted (omega (arith, c.min-taken.ensures))
+    (c.deref.ensures.value ∙ c.in_ok-extend_from_slice.ensures.items) read.0 read.1.taken.reads in
+    let more : c.len-before.result < c.in-Ok-Final.used = ends.more in
+    (omega arith, ends.fits, subst (λ (o : List ℕ). Final c.args.to_head o c.in-Ok-Final.head (framing_view c.in-Ok-Final.framing)) ends.is read.1)
+
+pub returns-in-Err : goal.returns-in-Err
+returns-in-Err c = λ n. none_behind c.args.to_head c.args.held.items c.args.octets.now c.deref.result.now c.min-taken.result (c.deref.ensures.value ∙ c.in_ok-extend_from_slice.ensures.items) (c.in-Err.ensures n)

@@ -1,0 +1,10 @@
+use Rattle.std.proofs.Common.{arith}
+use Rattle.h1_reader.proofs.Steps.{stands_new}
+use Rattle.h1_reader.proofs.FrontLemmas.{none_in_nothing}
+use Rattle.h1_reader.proofs.reader.Reader.new.Goals as goal
+
+pub invariant_of-result : goal.invariant_of-result
+invariant_of-result c = rw c.new.ensures.items (omega arith, none_in_nothing, tt)
+
+pub returns-clause-stands : goal.returns-clause-stands
+returns-clause-stands c = stands_new c.args.to_head c.new.result.items c.new.ensures.items

@@ -1,0 +1,34 @@
+-- What a read of a head says of the octets.
+use Rattle.std.specs.Prelude.{◌≡◌, ℕ, ◌<◌, ◌≤◌, Bool, List, ◌++◌, length, take}
+use Rattle.httparse.specs.Grammar.{HasNoResponse}
+use Rattle.httparse.specs.declared.spans.HeaderSpan.{HeaderSpan}
+use Rattle.httparse.specs.Spans.{span_bytes}
+use Rattle.model.specs.Octets.{lower}
+use Rattle.model.specs.Messages.{Field}
+use Rattle.model.specs.ResponseHeads as model
+use Rattle.h1_reader.specs.Views.{framing_view}
+use Rattle.h1_reader.specs.declared.head.HeadRead.{HeadRead}
+use Rattle.h1_reader.specs.declared.head.HeadRead.TheVariants.{More, Interim, Final}
+use Rattle.h1_reader.specs.declared.front.FrontRead.{FrontRead}
+use Rattle.h1_reader.specs.declared.front.FrontRead.TheVariants.{OnGoing, InterimAt, FinalAt}
+
+-- the field of a line
+abbrev pub field_from : List ℕ → HeaderSpan → Field
+field_from text line = record { name = lower (span_bytes text line.name); value = span_bytes text line.value }
+
+-- no head begins the octets, or one of so many octets does
+abbrev pub IsHeadRead : Bool → List ℕ → HeadRead → Type 0
+IsHeadRead to_head text More = HasNoResponse text
+IsHeadRead to_head text (Interim head used) = (used ≤ length text) × model.Interim (take used text) head
+IsHeadRead to_head text (Final head framing used) = (used ≤ length text) × model.Final to_head (take used text) head (framing_view framing)
+
+-- Whatever follows the octets, they begin with no interim head and with no final one.
+pub record HasNoHead (to_head : Bool) (text : List ℕ) : Type 0 where
+  pub no_interim : (more front past : List ℕ) (head : model.Head) → text ++ more ≡ front ++ past → model.Interim front head → ⊥
+  pub no_final : (more front past : List ℕ) (head : model.Head) (framing : model.Framing) → text ++ more ≡ front ++ past → model.Final to_head front head framing → ⊥
+
+-- The octets behind those that were held end before a head does, or so many of them end one.
+abbrev pub IsFrontRead : Bool → List ℕ → List ℕ → FrontRead → Type 0
+IsFrontRead to_head held octets (OnGoing text) = (text.items ≡ held ++ octets) × (length text.items ≤ 16384) × HasNoResponse text.items
+IsFrontRead to_head held octets (InterimAt head used) = (0 < used) × (used ≤ length octets) × model.Interim (held ++ take used octets) head
+IsFrontRead to_head held octets (FinalAt head framing used) = (0 < used) × (used ≤ length octets) × model.Final to_head (held ++ take used octets) head (framing_view framing)

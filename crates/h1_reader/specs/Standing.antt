@@ -1,0 +1,124 @@
+-- Where a reader stands: what its value says of all octets that it was fed, and of all pieces that it told.
+use Rattle.std.specs.Prelude.{◌≡◌, ℕ, ◌+◌, ◌<◌, ◌≤◌, Bool, true, false, List, [], ◌∷◌, ◌++◌, length, map, ◌⊎◌, Some, None}
+use Rattle.std.specs.List.{concat, list_any}
+use Rattle.httparse.specs.Grammar.{HasNoResponse}
+use Rattle.model.specs.Octets.{Joined}
+use Rattle.model.specs.ResponseHeads as model
+use Rattle.model.specs.ResponseHeads.Framing.{Sized as IsSized, UntilEnd as IsUntilEnd}
+use Rattle.model.specs.Responses.{most_interims, HasBody, IsComplete, IsSpoilt, Seen}
+use Rattle.h1_reader.specs.Parts.{Part}
+use Rattle.h1_reader.specs.Parts.Part.{Interim, Final, Body, Done}
+use Rattle.h1_reader.specs.declared.reader.Place.{Place}
+use Rattle.h1_reader.specs.declared.reader.Ended.{Ended}
+use Rattle.h1_reader.specs.declared.reader.Ended.TheVariants.{Complete, Short}
+use Rattle.h1_reader.specs.declared.reader.Place.TheVariants.{Head, Sized, UntilEnd, Past, Broken}
+
+-- A reader's value: whether the response answers HEAD, its place, and the octets that begin no head yet.
+pub record State : Type 0 where
+  pub to_head : Bool
+  pub place : Place
+  pub held : List ℕ
+
+-- Whole interim heads were told, and the rest of the octets, which is held, begins with no head.
+pub record BeforeHead (count : ℕ) (held text : List ℕ) (parts : List Part) : Type 0 where
+  pub interims : List model.Head
+  pub front : List ℕ
+  pub is : text ≡ front ++ held
+  pub are_interims : Joined model.Interim front interims
+  pub has_count : count ≡ length interims
+  pub few : count ≤ most_interims
+  pub no_head : HasNoResponse held
+  pub told : parts ≡ map Interim interims
+
+-- Whole interim heads, the final head and octets of its body were told; behind the head stands the rest.
+pub record InBody (to_head : Bool) (framing : model.Framing) (text rest octets : List ℕ) (parts ends : List Part) : Type 0 where
+  pub interims : List model.Head
+  pub head : model.Head
+  pub front : List ℕ
+  pub head_text : List ℕ
+  pub bodies : List (List ℕ)
+  pub is : text ≡ front ++ head_text ++ rest
+  pub are_interims : Joined model.Interim front interims
+  pub few : length interims ≤ most_interims
+  pub is_final : model.Final to_head head_text head framing
+  pub has_octets : octets ≡ concat bodies
+  pub told : parts ≡ map Interim interims ++ (Final head ∷ map Body bodies ++ ends)
+
+-- So many octets of the body are to come.
+pub record InSized (to_head : Bool) (left : ℕ) (text : List ℕ) (parts : List Part) : Type 0 where
+  pub octets : List ℕ
+  pub count : ℕ
+  pub body : InBody to_head (IsSized count) text octets octets parts []
+  pub has_count : length octets + left ≡ count
+  pub some : 0 < left
+
+-- The body goes on until the server ends the connection.
+pub record InRest (to_head : Bool) (text : List ℕ) (parts : List Part) : Type 0 where
+  pub octets : List ℕ
+  pub body : InBody to_head IsUntilEnd text octets octets parts []
+
+-- The whole body was told, wherever the octets end.
+pub record IsPast (to_head : Bool) (text : List ℕ) (parts : List Part) : Type 0 where
+  pub framing : model.Framing
+  pub rest : List ℕ
+  pub octets : List ℕ
+  pub body : InBody to_head framing text rest octets parts (Done ∷ [])
+  pub whole : HasBody framing false rest octets
+
+-- In a body of a known length one octet or more is to come.
+abbrev pub HasMore : Place → Type 0
+HasMore (Sized left) = 0 < left
+HasMore _ = Unit {0}
+
+abbrev pub StandsAt : Place → Bool → List ℕ → List ℕ → List Part → Type 0
+StandsAt (Head count) to_head held text parts = BeforeHead count held text parts
+StandsAt (Sized left) to_head held text parts = InSized to_head left text parts
+StandsAt UntilEnd to_head held text parts = InRest to_head text parts
+StandsAt Past to_head held text parts = IsPast to_head text parts
+StandsAt (Broken fault) to_head held text parts = ⊥
+
+-- The reader was fed this text and told these pieces.
+abbrev pub Stands : List ℕ → List Part → State → Type 0
+Stands text parts state = StandsAt state.place state.to_head state.held text parts
+
+-- With these octets the reader tells these pieces: whatever it was fed before, it stands for all of it.
+pub record Hears (old : State) (octets : List ℕ) (added : List Part) (new : State) : Type 0 where
+  pub same : new.to_head ≡ old.to_head
+  pub stands : (text : List ℕ) (before : List Part) → Stands text before old → Stands (text ++ octets) (before ++ added) new
+
+-- With these octets no whole response comes any more, whatever follows.
+abbrev pub Breaks : State → List ℕ → Type 0
+Breaks old octets = (text : List ℕ) (before : List Part) → Stands text before old → IsSpoilt (text ++ octets) old.to_head
+
+-- The end of the connection makes a whole response of the octets so far, or none.
+abbrev pub IsEnd : Ended → State → Type 0
+IsEnd Complete state = (text : List ℕ) (parts : List Part) → Stands text parts state → IsComplete text true state.to_head
+IsEnd Short state = (text : List ℕ) (parts : List Part) → Stands text parts state → IsComplete text true state.to_head → ⊥
+
+-- a piece that says that the response is whole
+abbrev pub is_end : Part → Bool
+is_end Done = true
+is_end _ = false
+
+abbrev pub is_done : List Part → Bool
+is_done parts = list_any is_end parts
+
+-- Whole interim heads stand in the text, and these were told.
+pub record TellsBefore (text : List ℕ) (to_head : Bool) (parts : List Part) : Type 0 where
+  pub interims : List model.Head
+  pub seen : Seen text to_head interims None []
+  pub told : parts ≡ map Interim interims
+
+-- A final head stands in the text; it was told, and the octets of its body that stand there, and perhaps that it is whole.
+pub record TellsBehind (text : List ℕ) (to_head : Bool) (parts : List Part) : Type 0 where
+  pub interims : List model.Head
+  pub head : model.Head
+  pub bodies : List (List ℕ)
+  pub ends : List Part
+  pub seen : Seen text to_head interims (Some head) (concat bodies)
+  pub told : parts ≡ map Interim interims ++ (Final head ∷ map Body bodies ++ ends)
+  pub ends_are : (ends ≡ []) ⊎ (ends ≡ Done ∷ [])
+
+-- The pieces tell what stands in the text.
+abbrev pub Tells : List ℕ → Bool → List Part → Type 0
+Tells text to_head parts = TellsBefore text to_head parts ⊎ TellsBehind text to_head parts

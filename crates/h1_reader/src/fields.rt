@@ -1,0 +1,166 @@
+//! What the fields of a response's head say.
+
+ghost use Rattle.std.specs.Prelude.{◌≡◌, ◌++◌, ℕ, not, ◌&&◌, ◌||◌, [], ◌∷◌, codes, bytes_eq, filter, map, length, IfOk, IfSome, OnOk};
+ghost use Rattle.std.specs.List.{list_all, list_any};
+ghost use Rattle.model.specs.Messages.{Field as Meaning};
+ghost use Rattle.model.specs.Octets.{is_value_octet};
+ghost use Rattle.model.specs.Http1.{values_of, without};
+ghost use Rattle.model.specs.Http2.{connection_names};
+ghost use Rattle.model.specs.ResponseHeads.{names_in, named_by_connection, never_has_body, without_framing, passed, with_one};
+
+use crate::octets;
+use hpack_table::Field;
+use std::alloc::{AllocError, Global};
+
+/// Whether the field has this name.
+pub fn is_named(field: &Field, name: &[u8]) -> bool
+    ensures { result ≡ bytes_eq field.now.name name.now }
+{
+    field.name() == name
+}
+
+/// Whether each octet of each value may stand in one (RFC 9110, section 5.5).
+pub fn values_hold(fields: &[Field]) -> bool
+    ensures { result ≡ list_all (λ field. list_all is_value_octet field.value) fields.now }
+{
+    fields
+        .iter()
+        .all(|field| octets::are_value_octets(field.value()))
+}
+
+/// Whether the field is a Connection that names this name.
+fn names(field: &Field, name: &[u8]) -> bool
+    ensures { result ≡ (bytes_eq field.now.name (codes "connection") && list_any (bytes_eq name.now) (names_in field.now.value)) }
+{
+    is_named(field, b"connection") && octets::names(field.value(), name)
+}
+
+/// Whether some field is a Connection that names this name.
+fn some_names(fields: &[Field], name: &[u8]) -> bool
+    ensures { result ≡ list_any (λ field. bytes_eq field.name (codes "connection") && list_any (bytes_eq name.now) (names_in field.value)) fields.now }
+{
+    fields.iter().any(|field| names(field, name))
+}
+
+/// Whether some field Connection names this name (RFC 9110, section 7.6.1).
+fn is_named_by_connection(fields: &[Field], name: &[u8]) -> bool
+    ensures { result ≡ list_any (bytes_eq name.now) (named_by_connection fields.now) }
+{
+    some_names(fields, name)
+}
+
+/// Whether the field is one of a connection (RFC 9113, section 8.2.2).
+fn is_of_connection(field: &Field) -> bool
+    ensures { result ≡ list_any (bytes_eq field.now.name) connection_names }
+{
+    is_named(field, b"connection")
+        || is_named(field, b"proxy-connection")
+        || is_named(field, b"keep-alive")
+        || is_named(field, b"transfer-encoding")
+        || is_named(field, b"upgrade")
+}
+
+/// Whether the field frames a body.
+fn is_of_framing(field: &Field) -> bool
+    ensures { result ≡ list_any (bytes_eq field.now.name) (codes "content-length" ∷ codes "transfer-encoding" ∷ []) }
+{
+    is_named(field, b"content-length") || is_named(field, b"transfer-encoding")
+}
+
+/// Whether there is never a body behind a head with this status (RFC 9110, sections 15.2 and 15.3.5).
+fn never_has_body(status: u16) -> bool
+    ensures { result ≡ never_has_body status }
+{
+    status < 200 || status == 204
+}
+
+/// Whether a field is passed back, by all fields of its head.
+fn is_passed(all: &[Field], field: &Field) -> bool
+    ensures { result ≡ not (list_any (bytes_eq field.now.name) (connection_names ++ named_by_connection all.now)) }
+{
+    !is_of_connection(field) && !is_named_by_connection(all, field.name())
+}
+
+/// Adds the fields that are passed back, by all fields of their head.
+fn push_passed(
+    alloc: Global,
+    all: &[Field],
+    fields: &[Field],
+    out: &mut Vec<Field>,
+) -> Result<(), AllocError>
+    ensures { OnOk result (out.new.items ≡ out.old.items ++ passed all.now fields.now) }
+{
+    for field in fields {
+        if is_passed(all, field) {
+            out.push(field.copy(alloc)?)?;
+        }
+    }
+    Ok(())
+}
+
+/// Adds the fields that don't frame a body.
+fn push_unframing(alloc: Global, fields: &[Field], out: &mut Vec<Field>) -> Result<(), AllocError>
+    ensures { OnOk result (out.new.items ≡ out.old.items ++ without (codes "content-length" ∷ codes "transfer-encoding" ∷ []) fields.now) }
+{
+    for field in fields {
+        if !is_of_framing(field) {
+            out.push(field.copy(alloc)?)?;
+        }
+    }
+    Ok(())
+}
+
+/// Whether the field is no second content-length.
+fn is_kept(field: &Field, found: bool) -> bool
+    ensures { result ≡ not (bytes_eq field.now.name (codes "content-length") && found) }
+{
+    !(is_named(field, b"content-length") && found)
+}
+
+/// Whether a content-length was found, with this field.
+fn is_found(field: &Field, found: bool) -> bool
+    ensures { result ≡ (found || bytes_eq field.now.name (codes "content-length")) }
+{
+    found || is_named(field, b"content-length")
+}
+
+/// Adds the fields with the first content-length alone.
+fn push_with_one_length(
+    alloc: Global,
+    fields: &[Field],
+    out: &mut Vec<Field>,
+) -> Result<(), AllocError>
+    ensures { OnOk result (out.new.items ≡ out.old.items ++ with_one (codes "content-length") fields.now) }
+{
+    let mut found = false;
+    for field in fields {
+        if is_kept(field, found) {
+            out.push(field.copy(alloc)?)?;
+        }
+        found = is_found(field, found);
+    }
+    Ok(())
+}
+
+/// The fields without what framing leaves no meaning (RFC 9112, sections 6.1 to 6.3).
+fn without_framing(alloc: Global, status: u16, fields: &[Field]) -> Result<Vec<Field>, AllocError>
+    ensures { IfOk result (λ kept. kept.items ≡ without_framing status fields.now) }
+{
+    let mut kept = Vec::new(alloc);
+    if never_has_body(status) {
+        push_unframing(alloc, fields, &mut kept)?;
+    } else {
+        push_with_one_length(alloc, fields, &mut kept)?;
+    }
+    Ok(kept)
+}
+
+/// The fields of a head that are passed back (RFC 9110, section 7.6.1).
+pub fn passed_back(alloc: Global, status: u16, fields: &[Field]) -> Result<Vec<Field>, AllocError>
+    ensures { IfOk result (λ kept. kept.items ≡ passed fields.now (without_framing status fields.now)) }
+{
+    let kept = without_framing(alloc, status, fields)?;
+    let mut out = Vec::new(alloc);
+    push_passed(alloc, fields, &kept, &mut out)?;
+    Ok(out)
+}

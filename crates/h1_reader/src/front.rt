@@ -1,0 +1,71 @@
+//! The head that octets end, behind those that were held.
+
+ghost use Rattle.std.specs.Prelude.{◌≡◌, ◌≢◌, ◌≤◌, ◌++◌, length, vec_len, OnOk, MatchResult};
+ghost use Rattle.httparse.specs.Grammar.{HasNoResponse};
+ghost use Rattle.h1_reader.specs.Heads.{IsFrontRead, HasNoHead};
+
+use crate::fault::ResponseFault;
+use crate::framing::Framing;
+use crate::head::{HeadRead, read_head};
+use crate::piece::ResponseHead;
+use httparse::spans::{EMPTY_HEADER_SPAN, HeaderSpan};
+use std::alloc::{AllocError, Global};
+
+/// The longest head (this project's profile).
+const LONGEST_HEAD: usize = 16384;
+
+/// Room for the fields of every head of at most 16,384 octets, since each takes three or more.
+const ROOM: usize = 5462;
+
+/// What stands in octets behind those that were held, with how many of them it takes.
+#[derive(Drop)]
+pub enum FrontRead {
+    /// Less than a head: the octets so far.
+    OnGoing(Vec<u8>),
+    /// An interim head.
+    InterimAt(ResponseHead, usize),
+    /// A final head, and how its body is framed.
+    FinalAt(ResponseHead, Framing, usize),
+}
+
+/// Makes the room for a head's fields, where it isn't there yet.
+fn make_room(alloc: Global, spans: &mut Vec<HeaderSpan>) -> Result<(), AllocError>
+    ensures { OnOk result (5462 ≤ vec_len spans.new) }
+{
+    if spans.len() < ROOM {
+        *spans = vec![in alloc; EMPTY_HEADER_SPAN; ROOM]?;
+    }
+    Ok(())
+}
+
+/// Reads the head at the front of the octets that were held and those that follow them.
+pub fn read_front(
+    alloc: Global,
+    to_head: bool,
+    held: Vec<u8>,
+    octets: &[u8],
+    spans: &mut Vec<HeaderSpan>,
+) -> Result<FrontRead, ResponseFault>
+    requires short { length held.items ≤ 16384 }
+    requires none { HasNoResponse held.items }
+    ensures { MatchResult result (IsFrontRead to_head held.items octets.now) (λ fault. fault ≢ ResponseFault.Memory → HasNoHead to_head (held.items ++ octets.now)) }
+{
+    make_room(alloc, spans)?;
+    let before = held.len();
+    let taken = octets.len().min(LONGEST_HEAD - before);
+    let mut text = held;
+    text.extend_from_slice(&octets[..taken])?;
+    match read_head(alloc, to_head, &text, spans) {
+        Ok(HeadRead::More) => {
+            if taken < octets.len() {
+                return Err(ResponseFault::TooLong);
+            }
+            Ok(FrontRead::OnGoing(text))
+        }
+        Ok(HeadRead::Interim(head, used)) => Ok(FrontRead::InterimAt(head, used - before)),
+        Ok(HeadRead::Final(head, framing, used)) => {
+            Ok(FrontRead::FinalAt(head, framing, used - before))
+        }
+        Err(fault) => Err(fault),
+    }
+}

@@ -1,0 +1,105 @@
+//! The head at the front of octets.
+
+ghost use Rattle.std.specs.Prelude.{◌≡◌, ◌≢◌, ◌≤◌, map, length, All, IfOk, MatchResult};
+ghost use Rattle.httparse.specs.Spans.{IsHeaderWithin, IsResponseWithin, IsResponseOf};
+ghost use Rattle.h1_reader.specs.Heads.{field_from, IsHeadRead, HasNoHead};
+
+use crate::fault::ResponseFault;
+use crate::framing::{Framing, framing_of};
+use crate::piece::ResponseHead;
+use crate::{fields, octets};
+use hpack_table::Field;
+use httparse::Status;
+use httparse::spans::{HeaderSpan, ResponseSpans, parse_response};
+use std::alloc::{AllocError, Global};
+
+/// The most fields of a head (this project's profile).
+const MOST_FIELDS: usize = 100;
+
+/// What stands at the front, with how many octets it takes.
+#[derive(Drop)]
+pub enum HeadRead {
+    /// No head.
+    More,
+    /// An interim head.
+    Interim(ResponseHead, usize),
+    /// A final head, and how its body is framed.
+    Final(ResponseHead, Framing, usize),
+}
+
+/// The field of a line.
+fn field_at(alloc: Global, text: &[u8], line: HeaderSpan) -> Result<Field, AllocError>
+    requires { IsHeaderWithin (length text.now) line }
+    ensures { IfOk result (λ field. field ≡ field_from text.now line) }
+{
+    let name = octets::lowered(alloc, line.name.of(text))?;
+    let value = Vec::from_slice(alloc, line.value.of(text))?;
+    Ok(Field::new(name, value))
+}
+
+/// The fields of lines.
+fn fields_at(alloc: Global, text: &[u8], lines: &[HeaderSpan]) -> Result<Vec<Field>, AllocError>
+    requires { All (IsHeaderWithin (length text.now)) lines.now }
+    ensures { IfOk result (λ fields. fields.items ≡ map (field_from text.now) lines.now) }
+{
+    let mut fields = Vec::new(alloc);
+    for line in lines {
+        fields.push(field_at(alloc, text, *line)?)?;
+    }
+    Ok(fields)
+}
+
+/// Reads the head at the front of at most 16,384 octets, of a response to HEAD or to another method.
+pub fn read_head(
+    alloc: Global,
+    to_head: bool,
+    text: &[u8],
+    spans: &mut [HeaderSpan],
+) -> Result<HeadRead, ResponseFault>
+    requires short { length text.now ≤ 16384 }
+    requires room { 100 ≤ length spans.old }
+    ensures { MatchResult result (IsHeadRead to_head text.now) (λ fault. fault ≢ ResponseFault.Memory → HasNoHead to_head text.now) }
+{
+    match parse_response(text, spans) {
+        Ok(Status::Complete(found)) => take_head(alloc, to_head, text, spans, found),
+        Ok(Status::Partial) => Ok(HeadRead::More),
+        Err(_) => Err(ResponseFault::Head),
+    }
+}
+
+/// Takes the head that was found, or refuses it.
+fn take_head(
+    alloc: Global,
+    to_head: bool,
+    text: &[u8],
+    spans: &[HeaderSpan],
+    found: ResponseSpans,
+) -> Result<HeadRead, ResponseFault>
+    requires short { length text.now ≤ 16384 }
+    requires within { IsResponseWithin text.now spans.now found }
+    requires is_head { IsResponseOf text.now spans.now found }
+    ensures { MatchResult result (IsHeadRead to_head text.now) (λ fault. fault ≢ ResponseFault.Memory → HasNoHead to_head text.now) }
+{
+    if found.headers > MOST_FIELDS {
+        return Err(ResponseFault::Head);
+    }
+    if found.code < 100 {
+        return Err(ResponseFault::Head);
+    }
+    if found.code == 101 {
+        return Err(ResponseFault::Upgrade);
+    }
+    let all = fields_at(alloc, text, &spans[..found.headers])?;
+    if !fields::values_hold(&all) {
+        return Err(ResponseFault::Head);
+    }
+    let passed = fields::passed_back(alloc, found.code, &all)?;
+    let head = ResponseHead::new(found.code, passed);
+    if found.code < 200 {
+        return Ok(HeadRead::Interim(head, found.len));
+    }
+    match framing_of(to_head, found.version, found.code, &all) {
+        Ok(framing) => Ok(HeadRead::Final(head, framing, found.len)),
+        Err(fault) => Err(fault),
+    }
+}

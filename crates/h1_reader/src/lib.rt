@@ -1,0 +1,18 @@
+//! Responses of an HTTP/1.1 server, read from octets that come in pieces of any length (RFC 9112).
+#![tactic(auto)]
+
+mod fault;
+mod fields;
+mod framing;
+mod front;
+mod head;
+pub mod laws;
+mod octets;
+mod piece;
+mod reader;
+#[cfg(test)]
+mod tests;
+
+pub use crate::fault::ResponseFault;
+pub use crate::piece::{Piece, ResponseHead};
+pub use crate::reader::{Ended, Reader};

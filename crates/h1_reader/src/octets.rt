@@ -1,0 +1,155 @@
+//! Octets of names and values.
+
+ghost use Rattle.std.specs.Prelude.{◌≡◌, ◌≤◌, ◌<◌, ◌∷◌, [], true, length, reverse, bytes_eq, IfOk, IfSome, MatchOption};
+ghost use Rattle.std.specs.List.{list_all, list_any};
+ghost use Rattle.std.specs.Str.Parse.{digits_value};
+ghost use Rattle.httparse.specs.Grammar.{skip_ows, trim_ows};
+ghost use Rattle.model.specs.Octets.{some_of, is_digit, is_space, is_value_octet, lower, lower_octet};
+ghost use Rattle.model.specs.ResponseHeads.{cut_at, names_in};
+
+use std::alloc::{AllocError, Global};
+
+/// An ASCII letter in lower case, any other octet as it is.
+fn lower_octet(octet: u8) -> u8
+    ensures { result ≡ lower_octet octet }
+{
+    if matches!(octet, b'A'..=b'Z') {
+        octet + 32
+    } else {
+        octet
+    }
+}
+
+/// The text in lower case.
+pub fn lowered(alloc: Global, text: &[u8]) -> Result<Vec<u8>, AllocError>
+    ensures { IfOk result (λ low. low.items ≡ lower text.now) }
+{
+    text.iter().map(|octet| lower_octet(*octet)).collect(alloc)
+}
+
+/// Whether the octet is a space or a tab.
+fn is_space(octet: u8) -> bool
+    ensures { result ≡ is_space octet }
+{
+    matches!(octet, b' ' | b'\t')
+}
+
+/// Whether a field's value may hold the octet (RFC 9110, section 5.5).
+fn is_value_octet(octet: u8) -> bool
+    ensures { result ≡ is_value_octet octet }
+{
+    matches!(octet, b'\t' | 0x20..=0x7e | 0x80..=0xff)
+}
+
+/// Whether all octets may stand in a value.
+pub fn are_value_octets(text: &[u8]) -> bool
+    ensures { result ≡ list_all is_value_octet text.now }
+{
+    text.iter().all(|octet| is_value_octet(*octet))
+}
+
+/// Whether all octets are digits.
+fn are_digits(text: &[u8]) -> bool
+    ensures { result ≡ list_all is_digit text.now }
+{
+    text.iter().all(|octet| matches!(octet, b'0'..=b'9'))
+}
+
+/// Whether the text is one or more digits.
+pub fn is_number(text: &[u8]) -> bool
+    ensures { result ≡ some_of is_digit text.now }
+{
+    match text {
+        [] => false,
+        _ => are_digits(text),
+    }
+}
+
+/// The number that decimal digits write, at most 18 of them.
+pub fn number(digits: &[u8]) -> u64
+    requires digits { list_all is_digit digits.now ≡ true }
+    requires short { length digits.now ≤ 18 }
+    ensures { result ≡ digits_value 10 digits.now }
+{
+    let mut sum: u64 = 0;
+    for digit in digits {
+        sum = 10 * sum + (*digit - b'0') as u64;
+    }
+    sum
+}
+
+/// The text without the spaces and tabs before it.
+fn without_front(text: &[u8]) -> &[u8]
+    ensures { result.now ≡ skip_ows text.now }
+{
+    let mut rest = text;
+    while let [first, more @ ..] = rest {
+        if !is_space(*first) {
+            return rest;
+        }
+        rest = more;
+    }
+    rest
+}
+
+/// The text without the spaces and tabs behind it.
+fn without_back(text: &[u8]) -> &[u8]
+    ensures { result.now ≡ reverse (skip_ows (reverse text.now)) }
+{
+    let mut rest = text;
+    while let [more @ .., last] = rest {
+        if !is_space(*last) {
+            return rest;
+        }
+        rest = more;
+    }
+    rest
+}
+
+/// The text without the spaces and tabs at its ends.
+#[tactic(auto, unfolding(httparse::specs::Grammar::trim_ows))]
+fn trimmed(text: &[u8]) -> &[u8]
+    ensures { result.now ≡ trim_ows text.now }
+{
+    without_back(without_front(text))
+}
+
+/// Whether the name is the text in lower case.
+fn is_lower_of(name: &[u8], text: &[u8]) -> bool
+    ensures { result ≡ bytes_eq name.now (lower text.now) }
+{
+    match (name, text) {
+        ([], []) => true,
+        ([octet, name @ ..], [other, text @ ..]) => {
+            *octet == lower_octet(*other) && is_lower_of(name, text)
+        }
+        _ => false,
+    }
+}
+
+/// The text before the first comma, and the text behind it, if there is one.
+fn cut(text: &[u8]) -> (&[u8], Option<&[u8]>)
+    ensures cut { MatchOption result.1 (cut_at 44 text.now ≡ result.0.now ∷ []) (λ rest. cut_at 44 text.now ≡ result.0.now ∷ cut_at 44 rest.now) }
+    ensures shorter { IfSome result.1 (λ rest. length rest.now < length text.now) }
+{
+    for place in 0..text.len() {
+        if text[place] == b',' {
+            return (&text[..place], Some(&text[place + 1..]));
+        }
+    }
+    (text, None)
+}
+
+/// Whether a value of Connection names this name, which is in lower case (RFC 9110, section 7.6.1).
+pub fn names(value: &[u8], name: &[u8]) -> bool
+    ensures { result ≡ list_any (bytes_eq name.now) (names_in value.now) }
+{
+    let (part, rest) = cut(value);
+    if is_lower_of(name, trimmed(part)) {
+        return true;
+    }
+    match rest {
+        None => false,
+        Some(rest) => names(rest, name),
+    }
+}

@@ -1,0 +1,132 @@
+//! What a response is told in.
+
+ghost use Rattle.std.specs.Prelude.{◌≡◌, ◌++◌, ◌∷◌, [], OnOk, OnErr};
+ghost use Rattle.h1_reader.specs.Parts.Part.{Interim, Final, Body, Done};
+ghost use Rattle.h1_reader.specs.Views.{parts_of};
+
+use hpack_table::Field;
+use std::alloc::{AllocError, Global};
+use std::marker::Model;
+
+/// A head as it is passed back: its status, and its fields with names in lower case (RFC 9110, section 7.6.1).
+#[derive(Drop)]
+pub struct ResponseHead {
+    status: u16,
+    fields: Vec<Field>,
+}
+
+impl Model for ResponseHead {
+    ghost use Rattle.model.specs.ResponseHeads.{Head};
+
+    ghost Value = { Head };
+
+    ghost view = { λ head. record { status = head.status; fields = head.fields.items } };
+}
+
+impl ResponseHead {
+    /// The head of this status and these fields.
+    pub(crate) fn new(status: u16, fields: Vec<Field>) -> Self
+        ensures status { result.status ≡ status }
+        ensures fields { result.fields ≡ fields.items }
+    {
+        ResponseHead { status, fields }
+    }
+
+    /// The status, of three digits (RFC 9112, section 4).
+    pub fn status(&self) -> u16
+        ensures { result ≡ self.now.status }
+    {
+        self.status
+    }
+
+    /// The fields in their order.
+    pub fn fields(&self) -> &[Field]
+        ensures { result.now ≡ self.now.fields }
+    {
+        &self.fields
+    }
+}
+
+/// A part of a response, in the order in which they come.
+#[derive(Drop)]
+pub enum Piece {
+    /// An interim head (RFC 9110, section 15.2).
+    Interim(ResponseHead),
+    /// The final head.
+    Head(ResponseHead),
+    /// Octets of the body.
+    Body(Vec<u8>),
+    /// The response is whole.
+    Done,
+}
+
+/// Pieces that are told, in their order.
+#[derive(Drop)]
+pub(crate) struct Told {
+    alloc: Global,
+    items: Vec<Piece>,
+}
+
+impl Model for Told {
+    ghost use Rattle.std.specs.Prelude.{List};
+    ghost use Rattle.h1_reader.specs.Parts.{Part};
+    ghost use Rattle.h1_reader.specs.Views.{parts_of};
+
+    ghost Value = { List Part };
+
+    ghost view = { λ told. parts_of told.items.items };
+}
+
+impl Told {
+    /// No pieces.
+    pub(crate) fn new(alloc: Global) -> Self
+        ensures { result ≡ [] }
+    {
+        Told {
+            alloc,
+            items: Vec::new(alloc),
+        }
+    }
+
+    /// Adds an interim head.
+    pub(crate) fn interim(&mut self, head: ResponseHead) -> Result<(), AllocError>
+        ensures { OnOk result (self.new ≡ self.old ++ Interim head ∷ []) }
+    {
+        self.items.push(Piece::Interim(head))?;
+        Ok(())
+    }
+
+    /// Adds a final head.
+    pub(crate) fn head(&mut self, head: ResponseHead) -> Result<(), AllocError>
+        ensures { OnOk result (self.new ≡ self.old ++ Final head ∷ []) }
+    {
+        self.items.push(Piece::Head(head))?;
+        Ok(())
+    }
+
+    /// Adds octets of a body.
+    pub(crate) fn body(&mut self, octets: &[u8]) -> Result<(), AllocError>
+        ensures { OnOk result (self.new ≡ self.old ++ Body octets.now ∷ []) }
+    {
+        let octets = Vec::from_slice(self.alloc, octets)?;
+        self.items.push(Piece::Body(octets))?;
+        Ok(())
+    }
+
+    /// Adds that the response is whole.
+    pub(crate) fn done(&mut self) -> Result<(), AllocError>
+        ensures { OnOk result (self.new ≡ self.old ++ Done ∷ []) }
+    {
+        self.items.push(Piece::Done)?;
+        Ok(())
+    }
+
+    /// Moves the pieces behind others.
+    pub(crate) fn move_to(self, pieces: &mut Vec<Piece>) -> Result<(), AllocError>
+        ensures ok { OnOk result (parts_of pieces.new.items ≡ parts_of pieces.old.items ++ self) }
+        ensures err { OnErr result (pieces.new.items ≡ pieces.old.items) }
+    {
+        let mut items = self.items;
+        pieces.append(&mut items)
+    }
+}

@@ -1,0 +1,239 @@
+//! A reader of one response.
+
+ghost use Rattle.std.specs.Prelude.{◌≡◌, ◌≢◌, ◌<◌, ◌≤◌, ◌++◌, [], List, Err, length, take, OnOk, OnErr, IfOk, IfErr};
+ghost use Rattle.h1_reader.specs.Parts.{Part};
+ghost use Rattle.h1_reader.specs.Views.{parts_of};
+ghost use Rattle.h1_reader.specs.Standing.{Stands, Hears, Breaks, IsEnd};
+ghost use Rattle.h1_reader.specs.Begins.{Begins};
+
+use crate::fault::ResponseFault;
+use crate::framing::Framing;
+use crate::front::{FrontRead, read_front};
+use crate::piece::{Piece, Told};
+use httparse::spans::HeaderSpan;
+use std::alloc::Global;
+use std::marker::Model;
+use std::mem;
+
+/// The most interim heads (this project's profile).
+const MOST_INTERIMS: u8 = 8;
+
+/// Whether a response that its server ended was whole.
+#[derive(Clone, Copy, PartialEq, Eq, Debug, Drop)]
+pub enum Ended {
+    /// It was whole.
+    Complete,
+    /// It was cut short, or refused before.
+    Short,
+}
+
+/// Where a reader stands.
+#[derive(Clone, Copy, Drop)]
+pub enum Place {
+    /// Before the end of a head, behind so many interim heads.
+    Head(u8),
+    /// In a body of which so many octets, one or more, are still to come.
+    Sized(u64),
+    /// In a body that goes on until the server ends the connection.
+    UntilEnd,
+    /// Behind a whole response.
+    Past,
+    /// Behind a fault.
+    Broken(ResponseFault),
+}
+
+/// A reader of one response (RFC 9112), whose octets come in pieces of any length.
+#[derive(Drop)]
+pub struct Reader {
+    alloc: Global,
+    to_head: bool,
+    place: Place,
+    held: Vec<u8>,
+    spans: Vec<HeaderSpan>,
+}
+
+impl Model for Reader {
+    ghost use Rattle.h1_reader.specs.Standing.{State};
+
+    ghost Value = { State };
+
+    ghost view = { λ r. record { to_head = r.to_head; place = r.place; held = r.held.items } };
+
+    ghost use Rattle.std.specs.Prelude.{◌≤◌, length};
+    ghost use Rattle.httparse.specs.Grammar.{HasNoResponse};
+    ghost use Rattle.h1_reader.specs.Standing.{HasMore};
+
+    ghost invariant = { λ r. (length r.held.items ≤ 16384) × HasNoResponse r.held.items × HasMore r.place };
+}
+
+impl Reader {
+    /// A reader of the response to a request whose method is HEAD or isn't. It takes no memory.
+    pub fn new(alloc: Global, to_head: bool) -> Self
+        ensures is { result ≡ record { to_head = to_head; place = Place.Head 0; held = [] } }
+        ensures stands { Stands [] [] result }
+    {
+        Reader {
+            alloc,
+            to_head,
+            place: Place::Head(0),
+            held: Vec::new(alloc),
+            spans: Vec::new(alloc),
+        }
+    }
+
+    /// Takes the next octets, and adds what they tell to the pieces.
+    ///
+    /// What stands behind a whole response is ignored. A fault adds nothing, and every later call answers the same one.
+    pub fn feed(&mut self, octets: &[u8], pieces: &mut Vec<Piece>) -> Result<(), ResponseFault>
+        ensures ok { OnOk result ((added : List Part) × (parts_of pieces.new.items ≡ parts_of pieces.old.items ++ added) × Hears self.old octets.now added self.new) }
+        ensures fault { IfErr result (λ fault. fault ≢ ResponseFault.Memory → fault ≢ ResponseFault.Untreated → Breaks self.old octets.now) }
+        ensures unchanged { OnErr result (pieces.new.items ≡ pieces.old.items) }
+        ensures broken { IfErr result (λ fault. self.new.place ≡ Place.Broken fault) }
+        ensures again { (fault : ResponseFault) → self.old.place ≡ Place.Broken fault → result ≡ Err fault }
+    {
+        if let Place::Broken(fault) = self.place {
+            return Err(fault);
+        }
+        let outcome = self.tell(octets, pieces);
+        if let Err(fault) = outcome {
+            self.place = Place::Broken(fault);
+        }
+        outcome
+    }
+
+    /// What the end of the connection makes of the response.
+    pub fn end(&self) -> Ended
+        ensures { IsEnd result self.now }
+    {
+        match self.place {
+            Place::Head(_) => Ended::Short,
+            Place::Sized(_) => Ended::Short,
+            Place::UntilEnd => Ended::Complete,
+            Place::Past => Ended::Complete,
+            Place::Broken(_) => Ended::Short,
+        }
+    }
+
+    /// Takes the next octets, and adds what they tell to the pieces, or nothing where there is a fault.
+    fn tell(&mut self, octets: &[u8], pieces: &mut Vec<Piece>) -> Result<(), ResponseFault>
+        ensures ok { OnOk result ((added : List Part) × (parts_of pieces.new.items ≡ parts_of pieces.old.items ++ added) × Hears self.old octets.now added self.new) }
+        ensures fault { IfErr result (λ fault. fault ≢ ResponseFault.Memory → fault ≢ ResponseFault.Untreated → Breaks self.old octets.now) }
+        ensures unchanged { OnErr result (pieces.new.items ≡ pieces.old.items) }
+    {
+        let mut told = Told::new(self.alloc);
+        match self.take_all(octets, &mut told) {
+            Ok(()) => Ok(told.move_to(pieces)?),
+            Err(fault) => Err(fault),
+        }
+    }
+
+    /// Takes all octets, one step after another.
+    fn take_all(&mut self, octets: &[u8], told: &mut Told) -> Result<(), ResponseFault>
+        ensures ok { OnOk result ((added : List Part) × (told.new ≡ told.old ++ added) × Hears self.old octets.now added self.new) }
+        ensures fault { IfErr result (λ fault. fault ≢ ResponseFault.Memory → fault ≢ ResponseFault.Untreated → Breaks self.old octets.now) }
+    {
+        let mut rest = octets;
+        while !rest.is_empty() {
+            match self.take(rest, told) {
+                Ok(used) => rest = &rest[used..],
+                Err(fault) => return Err(fault),
+            }
+        }
+        Ok(())
+    }
+
+    /// Takes some octets, one or more, and answers how many.
+    fn take(&mut self, octets: &[u8], told: &mut Told) -> Result<usize, ResponseFault>
+        requires { 0 < length octets.now }
+        ensures ok { IfOk result (λ used. (0 < used) × (used ≤ length octets.now) × ((added : List Part) × (told.new ≡ told.old ++ added) × Hears self.old (take used octets.now) added self.new)) }
+        ensures fault { IfErr result (λ fault. fault ≢ ResponseFault.Memory → fault ≢ ResponseFault.Untreated → Breaks self.old octets.now) }
+    {
+        match self.place {
+            Place::Head(interims) => self.take_head(interims, octets, told),
+            Place::Sized(left) => self.take_sized(left, octets, told),
+            Place::UntilEnd => {
+                told.body(octets)?;
+                Ok(octets.len())
+            }
+            Place::Past => Ok(octets.len()),
+            Place::Broken(fault) => Err(fault),
+        }
+    }
+
+    /// Takes octets of a body of which so many are to come.
+    fn take_sized(
+        &mut self,
+        left: u64,
+        octets: &[u8],
+        told: &mut Told,
+    ) -> Result<usize, ResponseFault>
+        requires place { self.old.place ≡ Place.Sized left }
+        requires octets { 0 < length octets.now }
+        ensures ok { IfOk result (λ used. (0 < used) × (used ≤ length octets.now) × ((added : List Part) × (told.new ≡ told.old ++ added) × Hears self.old (take used octets.now) added self.new)) }
+        ensures fault { IfErr result (λ fault. fault ≡ ResponseFault.Memory) }
+    {
+        let count = octets.len() as u64;
+        if count < left {
+            told.body(octets)?;
+            self.place = Place::Sized(left - count);
+            return Ok(octets.len());
+        }
+        let used = left as usize;
+        told.body(&octets[..used])?;
+        told.done()?;
+        self.place = Place::Past;
+        Ok(used)
+    }
+
+    /// Takes octets of a head, behind so many interim heads.
+    fn take_head(
+        &mut self,
+        interims: u8,
+        octets: &[u8],
+        told: &mut Told,
+    ) -> Result<usize, ResponseFault>
+        requires place { self.old.place ≡ Place.Head interims }
+        requires octets { 0 < length octets.now }
+        ensures ok { IfOk result (λ used. (0 < used) × (used ≤ length octets.now) × ((added : List Part) × (told.new ≡ told.old ++ added) × Hears self.old (take used octets.now) added self.new)) }
+        ensures fault { IfErr result (λ fault. fault ≢ ResponseFault.Memory → fault ≢ ResponseFault.Untreated → Breaks self.old octets.now) }
+    {
+        let held = mem::replace(&mut self.held, Vec::new(self.alloc));
+        match read_front(self.alloc, self.to_head, held, octets, &mut self.spans) {
+            Ok(FrontRead::OnGoing(text)) => {
+                self.held = text;
+                Ok(octets.len())
+            }
+            Ok(FrontRead::InterimAt(head, used)) => {
+                if interims >= MOST_INTERIMS {
+                    return Err(ResponseFault::TooLong);
+                }
+                told.interim(head)?;
+                self.place = Place::Head(interims + 1);
+                Ok(used)
+            }
+            Ok(FrontRead::FinalAt(head, framing, used)) => {
+                told.head(head)?;
+                self.begin_body(framing, told)?;
+                Ok(used)
+            }
+            Err(fault) => Err(fault),
+        }
+    }
+
+    /// Goes on behind a final head.
+    fn begin_body(&mut self, framing: Framing, told: &mut Told) -> Result<(), ResponseFault>
+        ensures ok { OnOk result (Begins framing self.old self.new told.old told.new) }
+        ensures fault { IfErr result (λ fault. fault ≢ ResponseFault.Memory → fault ≡ ResponseFault.Untreated) }
+    {
+        match framing {
+            Framing::Bodiless | Framing::Sized(0) => {
+                told.done()?;
+                self.place = Place::Past;
+            }
+            Framing::Sized(left) => self.place = Place::Sized(left),
+            Framing::UntilEnd => self.place = Place::UntilEnd,
+            Framing::Chunks => return Err(ResponseFault::Untreated),
+        }
+        Ok(())
+    }
+}

@@ -26,7 +26,7 @@ use crate::outputs::Outputs;
 use crate::requests::read_request;
 use crate::upstream::{Upstream, close_each, set_upstream, upstream_at};
 use frames::{Split, View};
-use header_blocks::{DecodeFault, Decoded, TableDecoder};
+use header_blocks::{DecodeFault, Decoded, Decoder};
 use std::alloc::{AllocError, Global};
 use std::marker::Model;
 
@@ -56,7 +56,7 @@ pub struct Connection {
     high: u32,
     untaken: u64,
     upstreams: Vec<Upstream>,
-    decoder: TableDecoder,
+    decoder: Decoder,
 }
 
 impl Model for Connection {
@@ -109,7 +109,7 @@ impl Connection {
             high: 0,
             untaken: 0,
             upstreams: Vec::new(alloc),
-            decoder: TableDecoder::new(alloc, 4096),
+            decoder: Decoder::new(alloc, 4096),
         }
     }
 

@@ -119,6 +119,31 @@ fn ping_stops_the_connection(rt: HostRuntime) -> Result<(), Fail> {
     Ok(())
 }
 
+// The blocks of RFC 7541, appendices C.4.1 and C.4.2.
+#[test]
+fn blocks_share_a_table(rt: HostRuntime) -> Result<(), Fail> {
+    let alloc = rt.alloc();
+    let first = "000011010500000001828684418cf1e3c2e5f23a6ba0ab90f4ff";
+    let second = "00000c010500000003828684be5886a8eb10649cbf";
+    let text =
+        "474554202f20485454502f312e310d0a686f73743a207777772e6578616d706c652e636f6d0d0a63616368652d636f6e74726f6c3a206e6f2d63616368650d0a7669613a20322e3020683267770d0a636f6e6e656374696f6e3a20636c6f73650d0a0d0a";
+    let script = format!(in alloc; "C {PREFACE}{SETTINGS}{first}\nC {second}\n")?;
+    let lines = format!(in alloc; "C {OWN_SETTINGS}{ACK}\nO 1 0\nU 1 {GET}\nO 2 0\nU 2 {text}\n")?;
+    assert_prints(&rt, rt.alloc(), &script, &lines);
+    Ok(())
+}
+
+#[test]
+fn an_index_without_an_entry_ends_the_connection(rt: HostRuntime) -> Result<(), Fail> {
+    let alloc = rt.alloc();
+    let headers = "000001010500000001be";
+    let script = format!(in alloc; "C {PREFACE}{SETTINGS}\nC {headers}\n")?;
+    let goaway = "0000080700000000000000000000000009";
+    let lines = format!(in alloc; "C {OWN_SETTINGS}{ACK}\nC {goaway}\nXC\n")?;
+    assert_prints(&rt, rt.alloc(), &script, &lines);
+    Ok(())
+}
+
 #[test]
 fn refused_scripts(rt: HostRuntime) -> Result<(), Fail> {
     assert_refuses(&rt, rt.alloc(), "CT 1", "line 1: not admitted\n");

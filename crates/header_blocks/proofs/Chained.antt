@@ -5,7 +5,7 @@ use Rattle.std.proofs.Math.Seq.{take-add}
 use Rattle.model.specs.Messages.{Field}
 use Rattle.model.specs.Tables.{Table, added, resized}
 use Rattle.model.specs.Blocks.{Represents, AreMaxima, IsNewMaximum, IsBlock, Block}
-use Rattle.header_blocks.specs.Everywhere.{Holds, Finishes}
+use Rattle.header_blocks.specs.Gathering.{Holds, Finishes}
 use Rattle.header_blocks.specs.Represented.{TakesField}
 use Rattle.header_blocks.specs.Decoding.{TakesMaximum, TakesMaxima, Settles, GathersFrom, DecodesFrom}
 use Rattle.header_blocks.specs.declared.fields.Taken.{Taken}

@@ -12,7 +12,7 @@ use Rattle.model.proofs.BlockLaws.{one_field, none_longer, field_some, field_hea
 use Rattle.hpack_int.specs.Reading.{ReadsValue}
 use Rattle.header_blocks.specs.Represented.{BeginsNoField, BeginsNoMaximum, TakesField}
 use Rattle.header_blocks.specs.Decoding.{TakesMaxima, GathersFrom, Settles}
-use Rattle.header_blocks.specs.Everywhere.{Holds}
+use Rattle.header_blocks.specs.Gathering.{Holds}
 use Rattle.header_blocks.specs.declared.fields.Taken.{Taken}
 use Rattle.header_blocks.proofs.Chained.{gathers_start, gathers_field}
 use Rattle.header_blocks.proofs.Gathered.{within_rest}

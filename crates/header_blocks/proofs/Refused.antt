@@ -11,8 +11,8 @@ use Rattle.model.proofs.IntegerLemmas.{one_int}
 use Rattle.model.proofs.BlockLemmas.{head_mark, cancel, literal_head, one_name}
 use Rattle.hpack_int.specs.Reading.{ReadsValue, IsBad}
 use Rattle.header_blocks.specs.Represented.{UnlessMemory, BeginsNoString, BeginsNoName, BeginsNoLiteral, BeginsNoField, TakesName}
-use Rattle.header_blocks.specs.declared.faults.DecodeFault.{DecodeFault}
-use Rattle.header_blocks.specs.declared.faults.DecodeFault.TheVariants.{Integer, Text, Index, Maximum, Late, Cut, Memory}
+use Rattle.header_blocks.specs.declared.fault.DecodeFault.{DecodeFault}
+use Rattle.header_blocks.specs.declared.fault.DecodeFault.TheVariants.{Integer, Text, Index, Maximum, Late, Cut, Memory}
 
 pub unless : (fault : DecodeFault) (P : Type 0) → P → UnlessMemory fault P
 unless Integer P p = p

@@ -3,7 +3,7 @@ use Rattle.std.specs.Prelude.{◌≡◌, ℕ, ◌≤◌, ◌<◌, if◌then◌el
 use Rattle.model.specs.Messages.{Field}
 use Rattle.model.specs.Tables.{Table, total_size, added}
 use Rattle.model.specs.Blocks.{AreMaxima, IsNewMaximum, IsBlock, Block}
-use Rattle.header_blocks.specs.Everywhere.{Holds}
+use Rattle.header_blocks.specs.Gathering.{Holds}
 use Rattle.header_blocks.specs.declared.fields.Taken.{Taken}
 use Rattle.header_blocks.specs.declared.gather.Decoded.{Decoded}
 use Rattle.header_blocks.specs.declared.gather.Decoded.TheVariants.{Fields, TooLarge}

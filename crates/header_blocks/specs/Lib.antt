@@ -1,6 +1,6 @@
 pub use Rattle.model.specs.Blocks
 pub use Rattle.model.specs.Tables
-pub mod Everywhere
+pub mod Gathering
 pub mod Represented
 pub mod Directions
 pub mod Decoding

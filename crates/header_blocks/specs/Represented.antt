@@ -4,8 +4,8 @@ use Rattle.model.specs.Messages.{Field}
 use Rattle.model.specs.Tables.{Table, added}
 use Rattle.model.specs.Blocks.{IsString, IsNewName, IsNameOfEntry, IsLiteral, Represents, IsNewMaximum}
 use Rattle.header_blocks.specs.declared.fields.Taken.{Taken}
-use Rattle.header_blocks.specs.declared.faults.DecodeFault.{DecodeFault}
-use Rattle.header_blocks.specs.declared.faults.DecodeFault.TheVariants.{Memory}
+use Rattle.header_blocks.specs.declared.fault.DecodeFault.{DecodeFault}
+use Rattle.header_blocks.specs.declared.fault.DecodeFault.TheVariants.{Memory}
 
 -- The first octets, so many, are a string.
 pub record TakesString (octets string : List ℕ) (used : ℕ) : Type 0 where

@@ -1,54 +1,132 @@
-//! The decoder of a direction.
+//! The decoder of a direction, with its table.
 
-ghost use Rattle.std.specs.Prelude.{◌≡◌, IfOk, IfErr, IfSome, OnOk, Some, None, Err};
-ghost use Rattle.header_blocks.specs.Everywhere.{Decodes};
+ghost use Rattle.std.specs.Prelude.{◌≡◌, if◌then◌else◌, [], ℕ, List, ◌∷◌, ◌++◌, IfOk, IfErr, IfNone, IfSome, OnOk, Some, None, Err};
+ghost use Rattle.model.specs.Messages.{Field as FieldLine};
+ghost use Rattle.model.specs.Blocks.{NoBlock};
+ghost use Rattle.model.specs.Tables.{added};
+ghost use Rattle.header_blocks.specs.Represented.{UnlessMemory};
+ghost use Rattle.header_blocks.specs.declared.fault.DecodeFault.TheVariants.{Memory};
+ghost use Rattle.header_blocks.specs.Bounds.{IsBounded};
+ghost use Rattle.header_blocks.specs.Decoding.{DecodesFrom, Settles};
 
-use crate::fault::BlockFault;
-use crate::gather::{Decoded, decode_block};
+use crate::fault::DecodeFault;
+use crate::fields::{Taken, take_field};
+use crate::gather::{Decoded, Gathering};
+use crate::maxima::{is_maximum, take_maxima};
+use crate::strings::take_int;
+use hpack_table::Table;
 use std::alloc::Global;
 use std::marker::Model;
 
-/// Decodes the blocks of a direction, in the order in which they come (RFC 7541). A clause sees the fault that it answers
-/// from then on, if any.
+/// Decodes the blocks of a direction, in the order in which they come (RFC 7541). A clause sees its table and the fault that
+/// it answers from then on, if any.
 #[derive(Drop)]
 pub struct Decoder {
-    fault: Option<BlockFault>,
+    table: Table,
+    fault: Option<DecodeFault>,
 }
 
 impl Model for Decoder {
-    ghost use Rattle.std.specs.Prelude.{Option};
-    ghost use Rattle.header_blocks.specs.declared.fault.BlockFault.{BlockFault};
+    ghost use Rattle.header_blocks.specs.Bounds.{IsBounded};
+    ghost use Rattle.header_blocks.specs.Directions.{Direction};
 
-    ghost Value = { Option BlockFault };
+    ghost Value = { Direction };
 
-    ghost view = { λ decoder. decoder.fault };
+    ghost view = { λ decoder. record { table = decoder.table; fault = decoder.fault } };
+
+    ghost invariant = { λ decoder. IsBounded decoder.table };
 }
 
 impl Decoder {
     /// A decoder whose table has this maximum at first.
-    pub fn new(limit: u32) -> Decoder
+    pub fn new(alloc: Global, limit: u32) -> Decoder
         requires { limit ≡ 4096 }
-        ensures { result ≡ None }
+        ensures fields { result.table.fields ≡ [] }
+        ensures maximum { result.table.maximum ≡ limit }
+        ensures fault { result.fault ≡ None }
     {
-        let _ = limit;
-        Decoder { fault: None }
+        Decoder {
+            table: Table::new(alloc, limit),
+            fault: None,
+        }
     }
 
     /// The fields of the next block of the direction, where their sizes (the octets of name and value, and 32) sum to at most
-    /// `cap`. After a fault every call answers the same fault.
-    pub fn decode(&mut self, alloc: Global, block: &[u8], cap: usize) -> Result<Decoded, BlockFault>
-        ensures decoded { IfOk result (λ decoded. Decodes block.now cap decoded) }
-        ensures goes_on { OnOk result ((self.old ≡ None) × (self.new ≡ None)) }
-        ensures fault_stays { IfErr result (λ fault. self.new ≡ Some fault) }
-        ensures faulted { IfSome self.old (λ fault. result ≡ Err fault) }
+    /// `cap`; otherwise the whole block is decoded into the table all the same. After a fault every call answers the same
+    /// fault.
+    pub fn decode(
+        &mut self,
+        alloc: Global,
+        block: &[u8],
+        cap: usize,
+    ) -> Result<Decoded, DecodeFault>
+        ensures decoded { IfOk result (λ decoded. DecodesFrom self.old.table block.now cap self.new.table decoded) }
+        ensures no_block { IfNone self.old.fault (IfErr result (λ fault. UnlessMemory fault (NoBlock self.old.table block.now))) }
+        ensures goes_on { OnOk result ((self.old.fault ≡ None) × (self.new.fault ≡ None)) }
+        ensures fault_stays { IfErr result (λ fault. self.new.fault ≡ Some fault) }
+        ensures faulted { IfSome self.old.fault (λ fault. result ≡ Err fault) }
+        ensures bounded { IsBounded self.new.table }
     {
         if let Some(fault) = self.fault {
             return Err(fault);
         }
-        let result = decode_block(alloc, block, cap);
+        let result = decode_block(alloc, &mut self.table, block, cap);
         if let Err(fault) = &result {
             self.fault = Some(*fault);
         }
         result
     }
+}
+
+/// The fields of a block, where their sizes sum to at most `cap`.
+fn decode_block(
+    alloc: Global,
+    table: &mut Table,
+    block: &[u8],
+    cap: usize,
+) -> Result<Decoded, DecodeFault>
+    ensures decoded { IfOk result (λ decoded. DecodesFrom table.old block.now cap table.new decoded) }
+    ensures none { IfErr result (λ fault. UnlessMemory fault (NoBlock table.old block.now)) }
+    ensures bounded { IsBounded table.old → IsBounded table.new }
+{
+    let mut start = take_maxima(table, block)?;
+    let mut gathering = Gathering::new(alloc, cap);
+    while start < block.len() {
+        if is_maximum(block[start]) {
+            take_int(5, &block[start..])?;
+            return Err(DecodeFault::Late);
+        }
+        let taken = take_field(alloc, table, &block[start..])?;
+        start += taken.used;
+        settle(alloc, taken, table, &mut gathering)?;
+    }
+    Ok(gathering.finish())
+}
+
+/// Inserts a field that was taken, where its representation says so, and gathers it.
+fn settle(
+    alloc: Global,
+    taken: Taken,
+    table: &mut Table,
+    gathering: &mut Gathering,
+) -> Result<(), DecodeFault>
+    ensures settled { OnOk result (Settles taken table.old table.new gathering.old.fields.items gathering.old.room gathering.new.fields.items gathering.new.room) }
+    ensures memory { IfErr result (λ fault. fault ≡ Memory) }
+    ensures bounded { IsBounded table.old → IsBounded table.new }
+{
+    insert(alloc, &taken, table)?;
+    gathering.add(taken.field)?;
+    Ok(())
+}
+
+/// Inserts a field that was taken, where its representation says so.
+fn insert(alloc: Global, taken: &Taken, table: &mut Table) -> Result<(), DecodeFault>
+    ensures inserted { OnOk result (table.new ≡ (if taken.now.inserts then added taken.now.field table.old else table.old)) }
+    ensures memory { IfErr result (λ fault. fault ≡ Memory) }
+    ensures bounded { IsBounded table.old → IsBounded table.new }
+{
+    if taken.inserts {
+        table.add(taken.field.copy(alloc)?)?;
+    }
+    Ok(())
 }

@@ -3,7 +3,7 @@
 ghost use Rattle.std.specs.Prelude.{◌≤◌, ◌<◌, ◌⊎◌, length, IfErr, IfOk, slice_index};
 ghost use Rattle.header_blocks.specs.Represented.{BeginsNoField, BeginsNoLiteral, BeginsNoName, TakesField, TakesLiteral, TakesName, UnlessMemory};
 
-use crate::faults::DecodeFault;
+use crate::fault::DecodeFault;
 use crate::strings::{take_int, take_string};
 use hpack_table::{Field, Table};
 use std::alloc::Global;

@@ -2,10 +2,8 @@
 
 ghost use Rattle.std.specs.Prelude.{ℕ, List, [], ◌∷◌, ◌++◌, IfOk, OnOk};
 ghost use Rattle.model.specs.Messages.{Field as FieldLine};
-ghost use Rattle.header_blocks.specs.Everywhere.{Decodes, Finishes, Gathers, Holds};
+ghost use Rattle.header_blocks.specs.Gathering.{Finishes, Holds};
 
-use crate::fault::BlockFault;
-use crate::literals::read_field;
 use hpack_table::Field;
 use std::alloc::{AllocError, Global};
 
@@ -54,26 +52,11 @@ impl Gathering {
 
     /// All fields, or that they don't fit.
     pub fn finish(self) -> Decoded
-        ensures gathered { (block : List ℕ) (cap : ℕ) → Gathers block cap self.fields.items self.room → Decodes block cap result }
-        ensures finished { Finishes self.fields.items self.room result }
+        ensures { Finishes self.fields.items self.room result }
     {
         match self.room {
             Some(_) => Decoded::Fields(self.fields),
             None => Decoded::TooLarge,
         }
     }
-}
-
-/// The fields of a block, where their sizes sum to at most `cap`.
-pub fn decode_block(alloc: Global, block: &[u8], cap: usize) -> Result<Decoded, BlockFault>
-    ensures { IfOk result (λ decoded. Decodes block.now cap decoded) }
-{
-    let mut gathering = Gathering::new(alloc, cap);
-    let mut start = 0;
-    while start < block.len() {
-        let (field, used) = read_field(alloc, &block[start..])?;
-        gathering.add(field)?;
-        start += used;
-    }
-    Ok(gathering.finish())
 }

@@ -6,7 +6,7 @@ ghost use Rattle.header_blocks.specs.Represented.{BeginsNoMaximum, UnlessMemory}
 ghost use Rattle.header_blocks.specs.Bounds.{IsBounded};
 ghost use Rattle.header_blocks.specs.Decoding.{TakesMaxima, TakesMaximum};
 
-use crate::faults::DecodeFault;
+use crate::fault::DecodeFault;
 use crate::strings::take_int;
 use hpack_table::Table;
 

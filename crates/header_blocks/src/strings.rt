@@ -6,7 +6,7 @@ ghost use Rattle.model.specs.Huffman.{Huff};
 ghost use Rattle.model.specs.Integers.{BeginsNoInt};
 ghost use Rattle.header_blocks.specs.Represented.{BeginsNoString, TakesString, UnlessMemory};
 
-use crate::faults::DecodeFault;
+use crate::fault::DecodeFault;
 use hpack_int::{IntRead, read};
 use huffman::{HuffFault, decode};
 use std::alloc::Global;

@@ -14,7 +14,7 @@ fn is_field(field: &Field, name: &[u8], value: &[u8]) -> bool {
 
 #[test]
 fn a_request_is_decoded(rt: HostRuntime) -> Result<(), Fail> {
-    let mut decoder = Decoder::new(4096);
+    let mut decoder = Decoder::new(rt.alloc(), 4096);
     let Decoded::Fields(fields) = decoder.decode(rt.alloc(), &REQUEST, 16384)? else {
         return Err(Fail::from("too large"));
     };
@@ -27,25 +27,25 @@ fn a_request_is_decoded(rt: HostRuntime) -> Result<(), Fail> {
 }
 
 #[test]
-fn a_dynamic_index_is_not_read(rt: HostRuntime) {
-    let mut decoder = Decoder::new(4096);
+fn an_index_without_an_entry_is_told_for_ever(rt: HostRuntime) {
+    let mut decoder = Decoder::new(rt.alloc(), 4096);
     assert!(rt;
         matches!(
             decoder.decode(rt.alloc(), &[0xbe], 16384),
-            Err(BlockFault::Unread)
+            Err(DecodeFault::Index)
         )
     );
     assert!(rt;
         matches!(
             decoder.decode(rt.alloc(), &[0x82], 16384),
-            Err(BlockFault::Unread)
+            Err(DecodeFault::Index)
         )
     );
 }
 
 #[test]
 fn a_literal_that_is_never_indexed_is_decoded(rt: HostRuntime) -> Result<(), Fail> {
-    let mut decoder = Decoder::new(4096);
+    let mut decoder = Decoder::new(rt.alloc(), 4096);
     let Decoded::Fields(fields) = decoder.decode(rt.alloc(), b"\x10\x03x-a\x011", 16384)? else {
         return Err(Fail::from("too large"));
     };
@@ -56,7 +56,7 @@ fn a_literal_that_is_never_indexed_is_decoded(rt: HostRuntime) -> Result<(), Fai
 
 #[test]
 fn a_list_past_the_maximum_is_too_large(rt: HostRuntime) -> Result<(), Fail> {
-    let mut decoder = Decoder::new(4096);
+    let mut decoder = Decoder::new(rt.alloc(), 4096);
     assert!(rt;
         matches!(
             decoder.decode(rt.alloc(), &REQUEST, 179)?,
@@ -74,7 +74,7 @@ fn a_list_past_the_maximum_is_too_large(rt: HostRuntime) -> Result<(), Fail> {
 
 /// Whether a block decodes to fields of these names and values.
 fn decodes_to(
-    decoder: &mut TableDecoder,
+    decoder: &mut Decoder,
     alloc: Global,
     block: &[u8],
     wanted: &[(&[u8], &[u8])],
@@ -100,7 +100,7 @@ fn decodes_to(
 #[test]
 fn blocks_share_a_table(rt: HostRuntime) {
     let alloc = rt.alloc();
-    let mut decoder = TableDecoder::new(alloc, 4096);
+    let mut decoder = Decoder::new(alloc, 4096);
     let first = b"\x82\x86\x84\x41\x8c\xf1\xe3\xc2\xe5\xf2\x3a\x6b\xa0\xab\x90\xf4\xff";
     let fields = [
         (b":method".as_slice(), b"GET".as_slice()),
@@ -126,7 +126,7 @@ fn blocks_share_a_table(rt: HostRuntime) {
 #[test]
 fn a_name_may_be_of_an_entry_that_goes(rt: HostRuntime) {
     let alloc = rt.alloc();
-    let mut decoder = TableDecoder::new(alloc, 4096);
+    let mut decoder = Decoder::new(alloc, 4096);
     let block =
         b"\x3f\x1a\x41\x0f\x77\x77\x77\x2e\x65\x78\x61\x6d\x70\x6c\x65\x2e\x63\x6f\x6d\x7e\x01\x62";
     let fields = [
@@ -140,9 +140,7 @@ fn a_name_may_be_of_an_entry_that_goes(rt: HostRuntime) {
 
 /// The fault that a fresh decoder answers to a block.
 fn fault_of(alloc: Global, block: &[u8]) -> Option<DecodeFault> {
-    TableDecoder::new(alloc, 4096)
-        .decode(alloc, block, 16384)
-        .err()
+    Decoder::new(alloc, 4096).decode(alloc, block, 16384).err()
 }
 
 #[test]

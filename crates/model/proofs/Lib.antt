@@ -18,13 +18,10 @@ pub mod LayersSettings
 pub mod LayersStreams
 pub mod IntegerLemmas
 pub mod HuffmanLemmas
-<<<<<<< HEAD
 pub mod BlockLemmas
 pub mod BlockLaws
 pub mod KeepLemmas
 mod FaithfulExamples
-=======
 pub mod ResponseHeadReadings
 pub mod ResponseBodies
 pub mod ResponseReadings
->>>>>>> 91d762254f0569798877a9373156e7d67d4cf4d6

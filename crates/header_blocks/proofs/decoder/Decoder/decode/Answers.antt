@@ -1,5 +1,5 @@
 use Rattle.header_blocks.proofs.Refused.{if_none}
-use Rattle.header_blocks.proofs.whole.TableDecoder.decode.Goals as goal
+use Rattle.header_blocks.proofs.decoder.Decoder.decode.Goals as goal
 
 pub returns-in-Err-clause-no_block : goal.returns-in-Err-clause-no_block
 returns-in-Err-clause-no_block c = rw (← c.self.view_is) (if_none c.self.inside.fault _ c.decode_block-result.ensures.none)

@@ -2,7 +2,7 @@ use Rattle.std.proofs.Common.{arith, refl}
 use Rattle.std.proofs.lemmas.Result.{err_from_is_err_and}
 use Rattle.header_blocks.proofs.Refused.{if_err, unless_weaker}
 use Rattle.header_blocks.proofs.NoBlocks.{decoding_field, late_on, no_fields_on}
-use Rattle.header_blocks.proofs.whole.decode_block.Goals as goal
+use Rattle.header_blocks.proofs.decoder.decode_block.Goals as goal
 
 pub loop-start-preserved : goal.loop-start-preserved
 loop-start-preserved c = (

@@ -23,7 +23,7 @@ use Rattle.gateway.specs.Moves.Move.{Takes, Breaks, Hears, Sends, Acts}
 use Rattle.gateway.specs.Moves.Outcome.{Settled, Stopped}
 use Rattle.gateway.specs.State.{State, after, nobody, upstream_at, with_upstream, sent_more}
 use Rattle.gateway.specs.Policy.{Pays, Begins, Due, idle, point_after, Allowed, Leads, Answers, closes, farewell, IsUp, IsNoted, IsPlainSettings, MaySettle, is_in_order, is_admitted, answer_event, breach_code}
-use Rattle.gateway.specs.Policy.Due.{ToSend, ToDo}
+use Rattle.gateway.specs.Policy.Due.{ToSend, ToAct}
 use Rattle.gateway.proofs.Admitting.{is_up}
 use Rattle.gateway.proofs.Leading.{leads_one, leads_then, inputs-append, pays_then, pays_closes}
 
@@ -137,7 +137,7 @@ answers_up_end s s' o o' k on order up es eo =
     subst (λ x. Answers s x o o' (OfEvent (UpEnd k) ∷ [])) (sym es)
     (subst (λ x. Answers s (after s (Acts (Close k))) o x (OfEvent (UpEnd k) ∷ [])) (sym eo)
     (hears s (after s (Acts (Close k))) o (put o (Does (Close k))) (UpEnd k) on order
-    (pays_by s (ToDo (Close k)) [] (Acts (Close k)) o (record { turn = refl; holds = up }) refl)))
+    (pays_by s (ToAct (Close k)) [] (Acts (Close k)) o (record { turn = refl; holds = up }) refl)))
 
 -- ---- a request
 

@@ -19,7 +19,7 @@ use Rattle.model.specs.Streams.{Story, story}
 use Rattle.model.specs.Requests.{Opened, last_stream, opens, AreNumbered, AreApart}
 use Rattle.gateway.specs.State.{State}
 use Rattle.gateway.specs.Policy.{Due}
-use Rattle.gateway.specs.Policy.Due.{ToSend, ToDo}
+use Rattle.gateway.specs.Policy.Due.{ToSend, ToAct}
 use Rattle.gateway.proofs.Stories.{untold, story_over, story_same, story_happened, story_did}
 use Rattle.gateway.proofs.Owed.{to_open, owed_up, all_opens, all_text, sent_owed}
 
@@ -138,7 +138,7 @@ passes_sent t noted frame_is ds = record {
   same_came = refl;
 }
 
-pub passes_close : (t : List Entry) (k : ℕ) (ds : List Due) → Passes t (Did (Close k)) (ToDo (Close k) ∷ ds) ds
+pub passes_close : (t : List Entry) (k : ℕ) (ds : List Due) → Passes t (Did (Close k)) (ToAct (Close k) ∷ ds) ds
 passes_close t k ds = record {
   stories = λ stream. story_did stream t (Close k);
   same_opens = refl;
@@ -148,7 +148,7 @@ passes_close t k ds = record {
   same_came = refl;
 }
 
-pub passes_end : (t : List Entry) (ds : List Due) → Passes t (Did CloseClient) (ToDo CloseClient ∷ ds) ds
+pub passes_end : (t : List Entry) (ds : List Due) → Passes t (Did CloseClient) (ToAct CloseClient ∷ ds) ds
 passes_end t ds = record {
   stories = λ stream. story_did stream t CloseClient;
   same_opens = refl;
@@ -160,11 +160,11 @@ passes_end t ds = record {
 
 -- ---- moves that open and send
 
-pub giving_opened : (t : List Entry) (s s' : State) (k route : ℕ) (ds : List Due) → Giving t s (ToDo (Open k route) ∷ ds) → k ≡ suc (length s.upstreams) → s'.setup ≡ s.setup → length s'.upstreams ≡ suc (length s.upstreams) → s'.high ≡ s.high → s'.settled ≡ s.settled → s'.closed ≡ s.closed → s'.table ≡ s.table
+pub giving_opened : (t : List Entry) (s s' : State) (k route : ℕ) (ds : List Due) → Giving t s (ToAct (Open k route) ∷ ds) → k ≡ suc (length s.upstreams) → s'.setup ≡ s.setup → length s'.upstreams ≡ suc (length s.upstreams) → s'.high ≡ s.high → s'.settled ≡ s.settled → s'.closed ≡ s.closed → s'.table ≡ s.table
     → Giving (Did (Open k route) ∷ t) s' ds
 giving_opened t s s' k route ds h at es eu eh ef ec et =
     let e = Did (Open k route) in
-    let due : List Due = ToDo (Open k route) ∷ ds in
+    let due : List Due = ToAct (Open k route) ∷ ds in
     let o : Opened = record { k = k; route = route; stream = last_stream t } in
     let same : all_opens (e ∷ t) ds ≡ all_opens t due = sym (append_assoc (to_open (last_stream t) ds) (o ∷ []) (opens t)) in record {
       numbered = subst AreNumbered (sym same) h.numbered;
@@ -180,11 +180,11 @@ giving_opened t s s' k route ds h at es eu eh ef ec et =
       decodes = (h.decodes.0, h.decodes.1, (λ q. et ∙ h.decodes.2 (sym ec ∙ q)));
     }
 
-pub giving_sent : (t : List Entry) (s s' : State) (j : ℕ) (octets : List ℕ) (ds : List Due) → Giving t s (ToDo (ToUp j octets) ∷ ds) → j ≤ length s.upstreams → s'.setup ≡ s.setup → length s'.upstreams ≡ length s.upstreams → s'.high ≡ s.high → s'.settled ≡ s.settled → s'.closed ≡ s.closed → s'.table ≡ s.table
+pub giving_sent : (t : List Entry) (s s' : State) (j : ℕ) (octets : List ℕ) (ds : List Due) → Giving t s (ToAct (ToUp j octets) ∷ ds) → j ≤ length s.upstreams → s'.setup ≡ s.setup → length s'.upstreams ≡ length s.upstreams → s'.high ≡ s.high → s'.settled ≡ s.settled → s'.closed ≡ s.closed → s'.table ≡ s.table
     → Giving (Did (ToUp j octets) ∷ t) s' ds
 giving_sent t s s' j octets ds h within es eu eh ef ec et =
     let e = Did (ToUp j octets) in
-    let due : List Due = ToDo (ToUp j octets) ∷ ds in record {
+    let due : List Due = ToAct (ToUp j octets) ∷ ds in record {
       numbered = h.numbered;
       apart = h.apart;
       serving = subst (λ x. AllServing x (e ∷ t) ds (all_opens t due)) (sym es) (serving_same s.setup t e due ds (length (all_opens t due)) (λ k le. sent_owed k j octets (sent_up k t) ds) (all_opens t due) h.numbered (omega arith) h.serving);

@@ -12,7 +12,7 @@ use Rattle.gateway.specs.Moves.{Move, Input, inputs, after_all, put_move}
 use Rattle.gateway.specs.Moves.Move.{Takes, Breaks, Hears, Sends, Acts}
 use Rattle.gateway.specs.State.{State, closed_up, nobody, upstream_at, with_upstream}
 use Rattle.gateway.specs.Policy.{Due, Point, idle, point_after, Allowed, AllAllowed, Leads, Pays, closes_from}
-use Rattle.gateway.specs.Policy.Due.{ToDo}
+use Rattle.gateway.specs.Policy.Due.{ToAct}
 
 pub after_all-append : {S : Type 0} (f : S → Move → S) (s : S) (b a : List Move) → after_all f s (b ++ a) ≡ after_all f (after_all f s a) b
 after_all-append f s [] a = refl
@@ -64,13 +64,13 @@ pays_then h g = record {
 }
 
 abbrev closing : State → List Upstream → List Upstream → Point
-closing s front us = record { state = with s (front ++ us); owes = closes_from (suc (length front)) us ++ ToDo CloseClient ∷ [] }
+closing s front us = record { state = with s (front ++ us); owes = closes_from (suc (length front)) us ++ ToAct CloseClient ∷ [] }
 
 -- a connection that is open is closed
-pays_one : (s : State) (front us : List Upstream) (u : Upstream) (o : List Output) (ds : List Due) → Pays (record { state = with s (front ++ u ∷ us); owes = ToDo (Close (suc (length front))) ∷ ds }) (record { state = with s ((front ++ closed_up u ∷ []) ++ us); owes = ds }) o (put o (Does (Close (suc (length front)))))
+pays_one : (s : State) (front us : List Upstream) (u : Upstream) (o : List Output) (ds : List Due) → Pays (record { state = with s (front ++ u ∷ us); owes = ToAct (Close (suc (length front))) ∷ ds }) (record { state = with s ((front ++ closed_up u ∷ []) ++ us); owes = ds }) o (put o (Does (Close (suc (length front)))))
 pays_one s front us u o ds =
     let k : ℕ = suc (length front) in
-    let p : Point = record { state = with s (front ++ u ∷ us); owes = ToDo (Close k) ∷ ds } in
+    let p : Point = record { state = with s (front ++ u ∷ us); owes = ToAct (Close k) ∷ ds } in
     let size : length (front ++ u ∷ us) ≡ length front + length (u ∷ us) = length-append front (u ∷ us) in
     let may : Allowed p (Acts (Close k)) = record { turn = refl; holds = record { counted = omega arith; within = omega (arith, size) } } in
     let there : with_upstream (front ++ u ∷ us) k (closed_up (upstream_at (front ++ u ∷ us) k)) ≡ (front ++ closed_up u ∷ []) ++ us =
@@ -86,10 +86,10 @@ unchanged u e = ap (λ (b : Bool). let r : Upstream = record { is_open = b; unta
 
 -- the front has grown by one
 pays_next : (s : State) (front us : List Upstream) (c : Upstream) (o : List Output) → Pays (closing s (front ++ c ∷ []) us) (idle (with s ((front ++ c ∷ []) ++ map closed_up us))) o (put (put_closes o (suc (length (front ++ c ∷ []))) us) (Does CloseClient))
-    → Pays (record { state = with s ((front ++ c ∷ []) ++ us); owes = closes_from (suc (suc (length front))) us ++ ToDo CloseClient ∷ [] }) (idle (with s (front ++ c ∷ map closed_up us))) o (put (put_closes o (suc (suc (length front))) us) (Does CloseClient))
+    → Pays (record { state = with s ((front ++ c ∷ []) ++ us); owes = closes_from (suc (suc (length front))) us ++ ToAct CloseClient ∷ [] }) (idle (with s (front ++ c ∷ map closed_up us))) o (put (put_closes o (suc (suc (length front))) us) (Does CloseClient))
 pays_next s front us c o h =
     let size : length (front ++ c ∷ []) ≡ suc (length front) = length-append front (c ∷ []) ∙ (omega arith) in
-    subst (λ n. Pays (record { state = with s ((front ++ c ∷ []) ++ us); owes = closes_from (suc n) us ++ ToDo CloseClient ∷ [] }) (idle (with s (front ++ c ∷ map closed_up us))) o (put (put_closes o (suc n) us) (Does CloseClient))) size
+    subst (λ n. Pays (record { state = with s ((front ++ c ∷ []) ++ us); owes = closes_from (suc n) us ++ ToAct CloseClient ∷ [] }) (idle (with s (front ++ c ∷ map closed_up us))) o (put (put_closes o (suc n) us) (Does CloseClient))) size
     (subst (λ x. Pays (closing s (front ++ c ∷ []) us) (idle (with s x)) o (put (put_closes o (suc (length (front ++ c ∷ []))) us) (Does CloseClient))) (append_assoc front (c ∷ []) (map closed_up us)) h)
 
 pub pays_closes : (s : State) (front us : List Upstream) (o : List Output) → Pays (closing s front us) (idle (with s (front ++ map closed_up us))) o (put (put_closes o (suc (length front)) us) (Does CloseClient))
@@ -101,7 +101,7 @@ pays_closes s front [] o = record {
 pays_closes s front (u ∷ us) o =
     let k : ℕ = suc (length front) in
     let c : Upstream = closed_up u in
-    elim u.is_open as (λ b. u.is_open ≡ b → Pays (record { state = with s (front ++ u ∷ us); owes = cond b (ToDo (Close k) ∷ closes_from (suc k) us) (closes_from (suc k) us) ++ ToDo CloseClient ∷ [] }) (idle (with s (front ++ c ∷ map closed_up us))) o (put (put_closes (cond b (put o (Does (Close k))) o) (suc k) us) (Does CloseClient))) [
-      | true ↦ λ e. pays_then (pays_one s front us u o (closes_from (suc k) us ++ ToDo CloseClient ∷ [])) (pays_next s front us c (put o (Does (Close k))) (pays_closes s (front ++ c ∷ []) us (put o (Does (Close k)))))
-      | false ↦ λ e. subst (λ x. Pays (record { state = with s x; owes = closes_from (suc k) us ++ ToDo CloseClient ∷ [] }) (idle (with s (front ++ c ∷ map closed_up us))) o (put (put_closes o (suc k) us) (Does CloseClient))) (append_assoc front (c ∷ []) us ∙ ap (λ x. front ++ x ∷ us) (unchanged u e)) (pays_next s front us c o (pays_closes s (front ++ c ∷ []) us o))
+    elim u.is_open as (λ b. u.is_open ≡ b → Pays (record { state = with s (front ++ u ∷ us); owes = cond b (ToAct (Close k) ∷ closes_from (suc k) us) (closes_from (suc k) us) ++ ToAct CloseClient ∷ [] }) (idle (with s (front ++ c ∷ map closed_up us))) o (put (put_closes (cond b (put o (Does (Close k))) o) (suc k) us) (Does CloseClient))) [
+      | true ↦ λ e. pays_then (pays_one s front us u o (closes_from (suc k) us ++ ToAct CloseClient ∷ [])) (pays_next s front us c (put o (Does (Close k))) (pays_closes s (front ++ c ∷ []) us (put o (Does (Close k)))))
+      | false ↦ λ e. subst (λ x. Pays (record { state = with s x; owes = closes_from (suc k) us ++ ToAct CloseClient ∷ [] }) (idle (with s (front ++ c ∷ map closed_up us))) o (put (put_closes o (suc k) us) (Does CloseClient))) (append_assoc front (c ∷ []) us ∙ ap (λ x. front ++ x ∷ us) (unchanged u e)) (pays_next s front us c o (pays_closes s (front ++ c ∷ []) us o))
     ] refl

@@ -22,7 +22,7 @@ use Rattle.gateway.specs.Moves.Outcome.{Served}
 use Rattle.gateway.specs.declared.upstream.Upstream.{Upstream}
 use Rattle.gateway.specs.State.{State, after, upstream_at, nobody}
 use Rattle.gateway.specs.Policy.{Pays, idle, Answers, IsNoted, MayServe}
-use Rattle.gateway.specs.Policy.Due.{ToDo}
+use Rattle.gateway.specs.Policy.Due.{ToAct}
 use Rattle.gateway.proofs.Leading.{pays_then, with}
 use Rattle.gateway.proofs.Answering.{answers_from, pays_by, serves_upstreams}
 
@@ -73,10 +73,10 @@ answers_served s s' o o' frame route text fields next on settled above head deco
     let s1 : State = after s m in
     let s2 : State = after s1 (Acts (Open k route)) in
     let size : length s2.upstreams ≡ k = length-append s.upstreams (record { is_open = true; untaken = 0 } ∷ []) ∙ (omega arith) in
-    let opens : Pays (record { state = s1; owes = ToDo (Open k route) ∷ ToDo (ToUp k text) ∷ [] }) (record { state = s2; owes = ToDo (ToUp k text) ∷ [] }) o (put o (Does (Open k route))) =
-    pays_by s1 (ToDo (Open k route)) (ToDo (ToUp k text) ∷ []) (Acts (Open k route)) o (record { turn = refl; holds = refl }) refl in
-    let sends : Pays (record { state = s2; owes = ToDo (ToUp k text) ∷ [] }) (idle (after s2 (Acts (ToUp k text)))) (put o (Does (Open k route))) (put (put o (Does (Open k route))) (Does (ToUp k text))) =
-    pays_by s2 (ToDo (ToUp k text)) [] (Acts (ToUp k text)) (put o (Does (Open k route))) (record { turn = refl; holds = (record { counted = omega arith; within = omega (arith, size) }, opened_last s.upstreams) }) refl in
+    let opens : Pays (record { state = s1; owes = ToAct (Open k route) ∷ ToAct (ToUp k text) ∷ [] }) (record { state = s2; owes = ToAct (ToUp k text) ∷ [] }) o (put o (Does (Open k route))) =
+    pays_by s1 (ToAct (Open k route)) (ToAct (ToUp k text) ∷ []) (Acts (Open k route)) o (record { turn = refl; holds = refl }) refl in
+    let sends : Pays (record { state = s2; owes = ToAct (ToUp k text) ∷ [] }) (idle (after s2 (Acts (ToUp k text)))) (put o (Does (Open k route))) (put (put o (Does (Open k route))) (Does (ToUp k text))) =
+    pays_by s2 (ToAct (ToUp k text)) [] (Acts (ToUp k text)) (put o (Does (Open k route))) (record { turn = refl; holds = (record { counted = omega arith; within = omega (arith, size) }, opened_last s.upstreams) }) refl in
     let last : after s2 (Acts (ToUp k text)) ≡ served (with_table s next) frame.id (length text) = ap (with s1) (serves_upstreams s.upstreams (length text)) in
     subst (λ x. Answers s x o o' (OfFrame frame ∷ [])) (sym es)
     (subst (λ x. Answers s (served (with_table s next) frame.id (length text)) o x (OfFrame frame ∷ [])) (sym eo)

@@ -6,17 +6,17 @@ use Rattle.model.specs.Tapes.{Entry, is_closed}
 use Rattle.gateway.specs.declared.upstream.Upstream.{Upstream}
 use Rattle.gateway.specs.State.{State}
 use Rattle.gateway.specs.Policy.{Due, closes_from, closes, farewell}
-use Rattle.gateway.specs.Policy.Due.{ToDo}
+use Rattle.gateway.specs.Policy.Due.{ToAct}
 
 -- the client's close is owed last
 abbrev pub EndsInClose : List Due → Type 0
 EndsInClose [] = ⊥
-EndsInClose (ToDo CloseClient ∷ ds) = ds ≡ []
+EndsInClose (ToAct CloseClient ∷ ds) = ds ≡ []
 EndsInClose (d ∷ ds) = EndsInClose ds
 
 abbrev pub HasClose : List Due → Type 0
 HasClose [] = ⊥
-HasClose (ToDo CloseClient ∷ ds) = Unit {0}
+HasClose (ToAct CloseClient ∷ ds) = Unit {0}
 HasClose (d ∷ ds) = HasClose ds
 
 pub record Shutting (t : List Entry) (s : State) (ds : List Due) : Type 0 where
@@ -24,10 +24,10 @@ pub record Shutting (t : List Entry) (s : State) (ds : List Due) : Type 0 where
   pub later : is_closed t ≡ true → (s.closed ≡ true) × (ds ≡ [])
   pub told : HasClose ds → s.closed ≡ true
 
-closes_end : (k : ℕ) (us : List Upstream) → EndsInClose (closes_from k us ++ ToDo CloseClient ∷ [])
+closes_end : (k : ℕ) (us : List Upstream) → EndsInClose (closes_from k us ++ ToAct CloseClient ∷ [])
 closes_end k [] = refl
 closes_end k (u ∷ us) =
-    elim u.is_open as (λ b. EndsInClose (cond b (ToDo (Close k) ∷ closes_from (suc k) us) (closes_from (suc k) us) ++ ToDo CloseClient ∷ [])) [ true ↦ closes_end (suc k) us | false ↦ closes_end (suc k) us ]
+    elim u.is_open as (λ b. EndsInClose (cond b (ToAct (Close k) ∷ closes_from (suc k) us) (closes_from (suc k) us) ++ ToAct CloseClient ∷ [])) [ true ↦ closes_end (suc k) us | false ↦ closes_end (suc k) us ]
 
 opened : {A : Type 0} (s : State) → s.closed ≡ false → s.closed ≡ true → A
 opened s e f = absurd (let g : false ≡ true = sym e ∙ f in cc)
@@ -52,10 +52,10 @@ shutting_paid t e s s' d ds h same es ends has = record {
   told = λ x. es ∙ h.told (has x);
 }
 
-pub shutting_closed : (t : List Entry) (e : Entry) (s s' : State) (ds : List Due) → Shutting t s (ToDo CloseClient ∷ ds) → is_closed (e ∷ t) ≡ true → s'.closed ≡ s.closed → Shutting (e ∷ t) s' ds
+pub shutting_closed : (t : List Entry) (e : Entry) (s s' : State) (ds : List Due) → Shutting t s (ToAct CloseClient ∷ ds) → is_closed (e ∷ t) ≡ true → s'.closed ≡ s.closed → Shutting (e ∷ t) s' ds
 shutting_closed t e s s' ds h is es = record {
-  shut = λ f. elim (h.shut (sym es ∙ f)) [ inl x ↦ absurd (let g : ToDo CloseClient ∷ ds ≡ [] = x.1 in cc) | inr x ↦ inl (is, x) ];
-  later = λ f. (es ∙ h.told tt, elim (h.shut (h.told tt)) [ inl x ↦ absurd (let g : ToDo CloseClient ∷ ds ≡ [] = x.1 in cc) | inr x ↦ x ]);
+  shut = λ f. elim (h.shut (sym es ∙ f)) [ inl x ↦ absurd (let g : ToAct CloseClient ∷ ds ≡ [] = x.1 in cc) | inr x ↦ inl (is, x) ];
+  later = λ f. (es ∙ h.told tt, elim (h.shut (h.told tt)) [ inl x ↦ absurd (let g : ToAct CloseClient ∷ ds ≡ [] = x.1 in cc) | inr x ↦ x ]);
   told = λ x. es ∙ h.told tt;
 }
 

@@ -17,7 +17,7 @@ use Rattle.gateway.specs.Moves.Outcome.{Settled, Served, Stopped}
 use Rattle.gateway.specs.declared.upstream.Upstream.{Upstream}
 use Rattle.gateway.specs.State.{State, upstream_at, with_upstream, closed_up, sent_more, taken, after, start}
 use Rattle.gateway.specs.Policy.{breach_code, Due, Point, point_after, resting, Allowed, closes, rest_of, IsUp}
-use Rattle.gateway.specs.Policy.Due.{ToSend, ToDo}
+use Rattle.gateway.specs.Policy.Due.{ToSend, ToAct}
 use Rattle.gateway.proofs.Owed.{to_open, owed_up, closes_open, closes_send}
 use Rattle.gateway.proofs.Giving.{Giving, giving_none, giving_passes, passes_event, passes_sent, passes_close, passes_end, giving_opened, giving_sent, quiet}
 use Rattle.gateway.proofs.Taking.{giving_settled, giving_served, giving_stopped, giving_breached}
@@ -127,7 +127,7 @@ step_hears t s ds (Up k piece) h a = record {
   admitting = admitting_same t (Happened (Up k piece)) s (after s (Hears (Up k piece))) h.admitting refl refl refl (λ k. refl) (λ k. refl);
 }
 step_hears t s ds (UpEnd k) h a = record {
-  giving = gives_event t s ds (UpEnd k) (after s (Hears (UpEnd k))) (ToDo (Close k) ∷ []) h.giving a.turn.nothing a.turn.open_yet (λ n. refl) (λ k. refl) refl refl refl refl refl;
+  giving = gives_event t s ds (UpEnd k) (after s (Hears (UpEnd k))) (ToAct (Close k) ∷ []) h.giving a.turn.nothing a.turn.open_yet (λ n. refl) (λ k. refl) refl refl refl refl refl;
   shutting = shutting_same t (Happened (UpEnd k)) s (after s (Hears (UpEnd k))) ds _ h.shutting a.turn.open_yet refl refl (λ x. x);
   admitting = admitting_same t (Happened (UpEnd k)) s (after s (Hears (UpEnd k))) h.admitting refl refl refl (λ k. refl) (λ k. refl);
 }
@@ -156,28 +156,28 @@ step_sends t s frame ds h a =
       admitting = record { untaken = ap (λ n. n + length (spell frame)) h.admitting.untaken; opened = h.admitting.opened; counted = h.admitting.counted };
     }
 
-step_acts : (t : List Entry) (s : State) (act : Act) (ds : List Due) → Inv t (record { state = s; owes = ToDo act ∷ ds }) → Allowed (record { state = s; owes = ToDo act ∷ ds }) (Acts act) → Inv (Did act ∷ t) (record { state = after s (Acts act); owes = ds })
+step_acts : (t : List Entry) (s : State) (act : Act) (ds : List Due) → Inv t (record { state = s; owes = ToAct act ∷ ds }) → Allowed (record { state = s; owes = ToAct act ∷ ds }) (Acts act) → Inv (Did act ∷ t) (record { state = after s (Acts act); owes = ds })
 step_acts t s (Open k route) ds h a = record {
   giving = giving_opened t s (after s (Acts (Open k route))) k route ds h.giving a.holds refl (length-append s.upstreams (record { is_open = true; untaken = 0 } ∷ []) ∙ (omega arith)) refl refl refl refl;
-  shutting = shutting_paid t (Did (Open k route)) s (after s (Acts (Open k route))) (ToDo (Open k route)) ds h.shutting refl refl (λ x. x) (λ x. x);
+  shutting = shutting_paid t (Did (Open k route)) s (after s (Acts (Open k route))) (ToAct (Open k route)) ds h.shutting refl refl (λ x. x) (λ x. x);
   admitting = admitting_opened t s (after s (Acts (Open k route))) k route h.admitting a.holds refl refl;
 }
 step_acts t s (ToUp k octets) ds h a =
     let up : IsUp s k = a.holds.0 in record {
       giving = giving_sent t s (after s (Acts (ToUp k octets))) k octets ds h.giving up.within refl (with_length s.upstreams k (sent_more (length octets) (upstream_at s.upstreams k))) refl refl refl refl;
-      shutting = shutting_paid t (Did (ToUp k octets)) s (after s (Acts (ToUp k octets))) (ToDo (ToUp k octets)) ds h.shutting refl refl (λ x. x) (λ x. x);
+      shutting = shutting_paid t (Did (ToUp k octets)) s (after s (Acts (ToUp k octets))) (ToAct (ToUp k octets)) ds h.shutting refl refl (λ x. x) (λ x. x);
       admitting = admitting_changed t (Did (ToUp k octets)) s (after s (Acts (ToUp k octets))) k (sent_more (length octets) (upstream_at s.upstreams k)) h.admitting up.counted up.within refl refl refl
           (λ j. stays_open t s k j h.admitting) (λ j. sends_count t s k j octets h.admitting);
     }
 step_acts t s (Close k) ds h a =
     let up : IsUp s k = a.holds in record {
-      giving = giving_passes t (Did (Close k)) s (after s (Acts (Close k))) (ToDo (Close k) ∷ ds) ds h.giving (passes_close t k ds) refl (with_length s.upstreams k (closed_up (upstream_at s.upstreams k))) refl refl (λ o. o) refl;
-      shutting = shutting_paid t (Did (Close k)) s (after s (Acts (Close k))) (ToDo (Close k)) ds h.shutting refl refl (λ x. x) (λ x. x);
+      giving = giving_passes t (Did (Close k)) s (after s (Acts (Close k))) (ToAct (Close k) ∷ ds) ds h.giving (passes_close t k ds) refl (with_length s.upstreams k (closed_up (upstream_at s.upstreams k))) refl refl (λ o. o) refl;
+      shutting = shutting_paid t (Did (Close k)) s (after s (Acts (Close k))) (ToAct (Close k)) ds h.shutting refl refl (λ x. x) (λ x. x);
       admitting = admitting_changed t (Did (Close k)) s (after s (Acts (Close k))) k (closed_up (upstream_at s.upstreams k)) h.admitting up.counted up.within refl refl refl
           (λ j. refl) (λ j. stays_counted t s k j h.admitting);
     }
 step_acts t s CloseClient ds h a = record {
-  giving = giving_passes t (Did CloseClient) s (after s (Acts CloseClient)) (ToDo CloseClient ∷ ds) ds h.giving (passes_end t ds) refl refl refl refl (λ o. o) refl;
+  giving = giving_passes t (Did CloseClient) s (after s (Acts CloseClient)) (ToAct CloseClient ∷ ds) ds h.giving (passes_end t ds) refl refl refl refl (λ o. o) refl;
   shutting = shutting_closed t (Did CloseClient) s (after s (Acts CloseClient)) ds h.shutting refl refl;
   admitting = admitting_same t (Did CloseClient) s (after s (Acts CloseClient)) h.admitting refl refl refl (λ k. refl) (λ k. refl);
 }

@@ -23,7 +23,7 @@ use Rattle.gateway.specs.Moves.Input.{OfBreach, OfEvent}
 use Rattle.gateway.specs.Moves.Move.{Takes, Breaks, Hears, Sends, Acts}
 use Rattle.gateway.specs.State.{State, start, upstream_at}
 use Rattle.gateway.specs.Policy.{rest_of, Allowed, Point, idle, resting, point_after, AllAllowed, Leads, Answers, Begins, is_admitted, is_in_order}
-use Rattle.gateway.specs.Policy.Due.{ToSend, ToDo}
+use Rattle.gateway.specs.Policy.Due.{ToSend, ToAct}
 use Rattle.gateway.specs.Receiving.{Kept, IsRest, Waits, Departs, GoesOn}
 use Rattle.gateway.specs.Stands.{Standing, fresh, Steps, IsKeptOf, KeptStands, Stands, StandsNext}
 use Rattle.gateway.proofs.Giving.{Serving, AllServing}
@@ -119,7 +119,7 @@ still_open t p m i a = cases (is_closed t) refl
     turn (Breaks breach) b f g = let h : true ≡ false = sym f ∙ b.turn.open_yet in cc
     turn (Hears event) b f g = let h : true ≡ false = sym f ∙ b.turn.open_yet in cc
     turn (Sends frame) b f g = let h : [] ≡ ToSend frame ∷ rest_of p.owes = sym g ∙ b.turn in cc
-    turn (Acts act) b f g = let h : [] ≡ ToDo act ∷ rest_of p.owes = sym g ∙ b.turn in cc
+    turn (Acts act) b f g = let h : [] ≡ ToAct act ∷ rest_of p.owes = sym g ∙ b.turn in cc
 
     cases : (b : Bool) → is_closed t ≡ b → is_closed t ≡ false
     cases true e = let l = i.shutting.later e in absurd (turn m a l.0 l.1)

@@ -20,7 +20,7 @@ use Rattle.gateway.specs.Moves.Move.{Takes, Breaks}
 use Rattle.gateway.specs.Moves.Outcome.{Settled, Served, Stopped}
 use Rattle.gateway.specs.State.{State, after}
 use Rattle.gateway.specs.Policy.{Due, MayServe, MaySettle, IsNoted, farewell, breach_code}
-use Rattle.gateway.specs.Policy.Due.{ToSend, ToDo}
+use Rattle.gateway.specs.Policy.Due.{ToSend, ToAct}
 use Rattle.gateway.proofs.Stories.{untold, story_same, story_first}
 use Rattle.gateway.proofs.Owed.{owed_up, all_opens, all_text, closes_open, closes_send}
 use Rattle.gateway.proofs.Giving.{AllServing, AreLow, Giving, serving_same}
@@ -94,7 +94,7 @@ module _ (t : List Entry) (s : State) (noted : Noted) (route : ℕ) (text : List
   k = suc (length s.upstreams)
 
   abbrev due : List Due
-  due = ToDo (Open k route) ∷ ToDo (ToUp k text) ∷ []
+  due = ToAct (Open k route) ∷ ToAct (ToUp k text) ∷ []
 
   abbrev new : Opened
   new = record { k = k; route = route; stream = noted.frame.id }

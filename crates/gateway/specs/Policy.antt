@@ -94,16 +94,16 @@ Holds s (Acts act) = MayDo s act
 -- what is owed: a move that puts something out
 pub data Due : Type 0 where
   ToSend : (frame : Frame) → Due
-  ToDo : (act : Act) → Due
+  ToAct : (act : Act) → Due
 
 -- the closes of the connections that are open, where the first has this number
 abbrev pub closes_from : ℕ → List Upstream → List Due
 closes_from k [] = []
-closes_from k (u ∷ us) = if u.is_open then ToDo (Close k) ∷ closes_from (suc k) us else closes_from (suc k) us
+closes_from k (u ∷ us) = if u.is_open then ToAct (Close k) ∷ closes_from (suc k) us else closes_from (suc k) us
 
 -- the ends of all connections, the client's last
 abbrev pub closes : State → List Due
-closes s = closes_from 1 s.upstreams ++ ToDo CloseClient ∷ []
+closes s = closes_from 1 s.upstreams ++ ToAct CloseClient ∷ []
 
 abbrev pub farewell : State → ℕ → List Due
 farewell s code = ToSend (goaway s.high code) ∷ closes s
@@ -114,12 +114,12 @@ breach_code TooLong = frame_size_error
 
 abbrev pub answer_frame : State → Outcome → List Due
 answer_frame s Settled = ToSend settings_ack ∷ []
-answer_frame s (Served route text request next) = ToDo (Open (suc (length s.upstreams)) route) ∷ ToDo (ToUp (suc (length s.upstreams)) text) ∷ []
+answer_frame s (Served route text request next) = ToAct (Open (suc (length s.upstreams)) route) ∷ ToAct (ToUp (suc (length s.upstreams)) text) ∷ []
 answer_frame s (Stopped code next) = farewell s code
 
 abbrev pub answer_event : State → Event → List Due
 answer_event s ClientEnd = closes s
-answer_event s (UpEnd k) = ToDo (Close k) ∷ []
+answer_event s (UpEnd k) = ToAct (Close k) ∷ []
 answer_event s _ = []
 
 -- what a move asks for
@@ -165,7 +165,7 @@ IsDue owes due = owes ≡ due ∷ rest_of owes
 
 abbrev pub InTurn : Point → Move → Type 0
 InTurn p (Sends frame) = IsDue p.owes (ToSend frame)
-InTurn p (Acts act) = IsDue p.owes (ToDo act)
+InTurn p (Acts act) = IsDue p.owes (ToAct act)
 InTurn p _ = IsQuiet p
 
 pub record Allowed (p : Point) (m : Move) : Type 0 where

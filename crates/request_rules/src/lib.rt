@@ -5,6 +5,8 @@ mod body_count;
 mod check;
 mod fields;
 mod head;
+#[cfg(test)]
+mod length_tables;
 mod octets;
 mod rule;
 mod rules;

@@ -11,7 +11,7 @@ use Rattle.model.specs.Responses.{HasBody, StandsIn, IsComplete}
 use Rattle.model.proofs.ResponseHeadReadings.{one_front}
 use Rattle.h1_reader.specs.Parts.{Part}
 use Rattle.h1_reader.specs.Parts.Part.{Interim, Final, Body, Done}
-use Rattle.h1_reader.specs.Standing.{State, InBody, InRest, StandsAt, Stands, Tells, TellsBehind, is_done, is_end}
+use Rattle.h1_reader.specs.Standing.{State, InBody, InRest, IsPast, StandsAt, Stands, Tells, TellsBehind, TellsWhole, is_done, is_end}
 use Rattle.h1_reader.specs.declared.reader.Place.{Place}
 use Rattle.h1_reader.specs.declared.reader.Place.TheVariants.{Head, Sized, UntilEnd, Past, Broken}
 use Rattle.h1_reader.proofs.Ends.{head_short, sized_short, past_complete}
@@ -110,3 +110,24 @@ not_done_at (Broken fault) to_head held text parts b d w = b
 
 pub not_done : (text : List ℕ) (parts : List Part) (state : State) → Stands text parts state → is_done parts ≡ false → IsComplete text false state.to_head → ⊥
 not_done text parts state s d w = not_done_at state.place state.to_head state.held text parts s d w
+
+-- ---- a whole response
+
+told_past : (to_head : Bool) (text : List ℕ) (parts : List Part) → IsPast to_head text parts → TellsWhole text to_head parts
+told_past to_head text parts b = record {
+  response = record { interims = b.body.interims; head = b.body.head; body = b.octets };
+  is_whole = record { front = b.body.front; head_text = b.body.head_text; rest = b.rest; framing = b.framing; is = b.body.is; are_interims = b.body.are_interims; few_interims = b.body.few; is_final = b.body.is_final; body = b.whole };
+  bodies = b.body.bodies;
+  has_body = b.body.has_octets;
+  told = b.body.told;
+}
+
+whole_at : (place : Place) (to_head : Bool) (held text : List ℕ) (parts : List Part) → StandsAt place to_head held text parts → is_done parts ≡ true → TellsWhole text to_head parts
+whole_at (Head count) to_head held text parts b d = absurd (false_true (sym (ap is_done b.told ∙ no_interim_ends b.interims) ∙ d))
+whole_at (Sized left) to_head held text parts b d = absurd (false_true (sym (ends_done to_head (IsSized b.count) text b.octets b.octets parts [] b.body) ∙ d))
+whole_at UntilEnd to_head held text parts b d = absurd (false_true (sym (ends_done to_head IsUntilEnd text b.octets b.octets parts [] b.body) ∙ d))
+whole_at Past to_head held text parts b d = told_past to_head text parts b
+whole_at (Broken fault) to_head held text parts b d = absurd b
+
+pub whole : (text : List ℕ) (parts : List Part) (state : State) → Stands text parts state → is_done parts ≡ true → TellsWhole text state.to_head parts
+whole text parts state s d = whole_at state.place state.to_head state.held text parts s d

@@ -5,7 +5,7 @@ use Rattle.httparse.specs.Grammar.{HasNoResponse}
 use Rattle.model.specs.Octets.{Joined}
 use Rattle.model.specs.ResponseHeads as model
 use Rattle.model.specs.ResponseHeads.Framing.{Sized as IsSized, UntilEnd as IsUntilEnd}
-use Rattle.model.specs.Responses.{most_interims, HasBody, IsComplete, IsSpoilt, Seen}
+use Rattle.model.specs.Responses.{most_interims, Response, H1Response, HasBody, IsComplete, IsSpoilt, Seen}
 use Rattle.h1_reader.specs.Parts.{Part}
 use Rattle.h1_reader.specs.Parts.Part.{Interim, Final, Body, Done}
 use Rattle.h1_reader.specs.declared.reader.Place.{Place}
@@ -122,3 +122,11 @@ pub record TellsBehind (text : List ℕ) (to_head : Bool) (parts : List Part) : 
 -- The pieces tell what stands in the text.
 abbrev pub Tells : List ℕ → Bool → List Part → Type 0
 Tells text to_head parts = TellsBefore text to_head parts ⊎ TellsBehind text to_head parts
+
+-- A whole response stands in the text, and just this was told.
+pub record TellsWhole (text : List ℕ) (to_head : Bool) (parts : List Part) : Type 0 where
+  pub response : Response
+  pub is_whole : H1Response text false to_head response
+  pub bodies : List (List ℕ)
+  pub has_body : response.body ≡ concat bodies
+  pub told : parts ≡ map Interim response.interims ++ (Final response.head ∷ map Body bodies ++ Done ∷ [])

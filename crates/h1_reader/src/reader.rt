@@ -90,6 +90,7 @@ impl Reader {
         ensures unchanged { OnErr result (pieces.new.items ≡ pieces.old.items) }
         ensures broken { IfErr result (λ fault. self.new.place ≡ Place.Broken fault) }
         ensures again { (fault : ResponseFault) → self.old.place ≡ Place.Broken fault → result ≡ Err fault }
+        ensures held { length self.new.held ≤ 16384 }
     {
         if let Place::Broken(fault) = self.place {
             return Err(fault);

@@ -18,6 +18,8 @@ pub mod Errors
 pub mod Streams
 pub mod Admission
 pub mod Requests
+pub mod Deliveries
+pub mod Available
 pub mod Faithful
 pub mod Windows
 pub mod Turns

@@ -1,7 +1,7 @@
 -- What changes a table keeps its bounds.
-use Rattle.std.proofs.Common.{◌≡◌, ◌≤◌, ℕ, [], ◌∷◌, arith, subst, sym}
+use Rattle.std.proofs.Common.{◌≡◌, ◌≤◌, ℕ, ◌∷◌, Result, Ok, Err, OnOk, OnErr, arith, subst, sym}
 use Rattle.model.specs.Messages.{Field}
-use Rattle.model.specs.Tables.{Table, total_size, added, resized, first_maximum}
+use Rattle.model.specs.Tables.{Table, added, resized, first_maximum}
 use Rattle.model.proofs.KeepLemmas.{keep_fits}
 use Rattle.header_blocks.specs.Bounds.{IsBounded}
 
@@ -16,7 +16,6 @@ bounded_added field old new e b =
     let le = b.maximum in
     subst IsBounded (sym e) (record { maximum = le; sizes = omega (arith, fits, le) })
 
-pub bounded_none : (table : Table) → table.fields ≡ [] → table.maximum ≡ first_maximum → IsBounded table
-unfolding total_size
-bounded_none table none full =
-    record { maximum = omega (arith, full); sizes = subst (λ fs. total_size fs ≤ first_maximum) (sym none) (omega arith) }
+pub bounded_if_added : {U E : Type 0} (r : Result U E) (field : Field) (old new : Table) → OnOk r (new ≡ added field old) → OnErr r (new ≡ old) → IsBounded old → IsBounded new
+bounded_if_added (Ok done) field old new e same b = bounded_added field old new e b
+bounded_if_added (Err error) field old new e same b = subst IsBounded (sym same) b

@@ -1,8 +1,7 @@
 -- The fields that are gathered.
 use Rattle.std.proofs.Common.{◌≡◌, ℕ, ◌+◌, ◌-◌, ◌≤◌, List, [], ◌∷◌, ◌++◌, length, take, drop, Option, Some, None, SomeIff, is_some, false, true, refl, ap, sym, ◌∙◌, subst, inl, inr, arith, append_assoc, length-drop}
 use Rattle.std.proofs.lemmas.Bool.{cases_lt}
-use Rattle.std.proofs.lemmas.List.{append-nil, take_rest, take_all}
-use Rattle.std.proofs.Math.Seq.{take-add}
+use Rattle.std.proofs.lemmas.List.{append-nil, take_rest}
 use Rattle.model.specs.Messages.{Field}
 use Rattle.model.specs.Tables.{Table, field_size, total_size}
 use Rattle.model.specs.Blocks.{Represents, AreFields}

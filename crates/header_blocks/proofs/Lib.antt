@@ -5,3 +5,5 @@ pub mod Chained
 pub mod Refused
 pub mod NoBlocks
 pub mod Bounded
+pub mod Announced
+pub mod Wrote

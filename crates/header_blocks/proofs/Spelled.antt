@@ -1,12 +1,8 @@
 -- What the first octets spell, whatever the table is.
-use Rattle.std.proofs.Common.{◌≡◌, ℕ, zero, suc, ◌+◌, ◌-◌, ◌/◌, ◌^◌, ◌<◌, ◌≤◌, ◌⊎◌, List, [], ◌∷◌, ◌++◌, length, take, drop, get_or, slice_get, Some, refl, ap, sym, ◌∙◌, subst, inl, inr, arith, length-take, length-drop, sub-one}
+use Rattle.std.proofs.Common.{◌≡◌, ℕ, ◌+◌, ◌-◌, ◌/◌, ◌^◌, ◌<◌, ◌≤◌, List, ◌++◌, length, take, drop, get_or, ap, sym, ◌∙◌, subst, inl, inr, arith, length-take, length-drop}
 use Rattle.std.proofs.lemmas.List.{get_or-take, take_rest, length-take-le}
-use Rattle.std.proofs.lemmas.Bool.{cases_lt}
 use Rattle.std.proofs.Math.Seq.{take-add}
-use Rattle.model.specs.Messages.{Field}
 use Rattle.model.specs.Integers.{IsInt, IsMarkedInt}
-use Rattle.model.specs.Tables.{Table, static_table, look_up, added}
-use Rattle.model.specs.Blocks.{IsRawString, IsNewName, IsNameOfEntry, IsLiteral}
 use Rattle.hpack_int.specs.Reading.{ReadsValue}
 use Rattle.header_blocks.specs.Gathering.{ReadsString}
 

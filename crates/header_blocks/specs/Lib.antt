@@ -1,7 +1,16 @@
 pub use Rattle.model.specs.Blocks
 pub use Rattle.model.specs.Tables
+pub use Rattle.model.specs.Maxima
+pub use Rattle.hpack_table.specs.Finding
 pub mod Gathering
 pub mod Represented
 pub mod Directions
 pub mod Decoding
 pub mod Bounds
+pub mod Encoding
+pub mod Due
+pub mod Inserting
+pub mod Chosen
+pub mod Encodes
+pub mod Writing
+pub mod Kept

@@ -2,15 +2,23 @@
 #![tactic(auto)]
 
 mod decoder;
+mod encoder;
+#[cfg(test)]
+mod encoder_tests;
 mod fault;
 mod fields;
 mod gather;
+mod limits;
 mod maxima;
+mod policy;
+mod representations;
 mod strings;
 #[cfg(test)]
 mod tests;
 
 pub use crate::decoder::Decoder;
+pub use crate::encoder::Encoder;
 pub use crate::fault::DecodeFault;
 pub use crate::gather::Decoded;
+pub use crate::policy::Policy;
 pub use hpack_table::Field;

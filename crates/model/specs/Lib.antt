@@ -4,6 +4,7 @@ pub mod Integers
 pub mod Huffman
 pub mod Tables
 pub mod Blocks
+pub mod Maxima
 pub mod Frames
 pub mod Http1
 pub mod Http1Text

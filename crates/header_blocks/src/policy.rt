@@ -1,0 +1,32 @@
+//! How an encoder writes fields.
+
+ghost use Rattle.std.specs.Prelude.{◌≡◌, ◌≤◌, ◌↔◌, IsTrue};
+ghost use Rattle.model.specs.Tables.{field_size};
+ghost use Rattle.header_blocks.specs.Inserting.{Inserts};
+
+use hpack_table::Field;
+
+/// Whether fields are inserted into the table.
+#[derive(Clone, Copy, PartialEq, Eq, Debug)]
+pub enum Policy {
+    /// None is.
+    Plain,
+    /// Each is that stands in no table and fits.
+    Indexing,
+}
+
+/// How fields are written by a table with this maximum.
+#[derive(Clone, Copy)]
+pub struct Rules {
+    pub policy: Policy,
+    pub maximum: u32,
+}
+
+impl Rules {
+    /// Whether a field that stands in no table is inserted.
+    pub fn inserts(&self, field: &Field) -> bool
+        ensures { IsTrue result ↔ Inserts self.now field.now }
+    {
+        self.policy == Policy::Indexing && field.room_behind(self.maximum as usize).is_some()
+    }
+}

@@ -6,25 +6,25 @@ use Rattle.std.proofs.lemmas.Bool.{leb-true, le-leb}
 use Rattle.std.proofs.Math.Seq.{get_or-append_seam, set-append_seam}
 use Rattle.model.specs.Messages.Item.{Content}
 use Rattle.model.specs.Tables.{Table}
-use Rattle.model.specs.Frames.{Frame, Fits, spell, settings_frame, settings_ack, goaway, settings_kind, headers_kind, is_ack, content, ends_headers, ends_stream, has_flag}
+use Rattle.model.specs.Frames.{Frame, Fits, spell, settings_frame, settings_ack, goaway, settings_kind, headers_kind, is_ack, internal_error, content, ends_headers, ends_stream, has_flag}
 use Rattle.model.specs.Logs.{Output, Event}
 use Rattle.model.specs.Logs.Event.{Client, ClientEnd, ClientTook, Up, UpEnd, UpFailed, UpTook}
-use Rattle.model.specs.Logs.Act.{Close}
-use Rattle.model.specs.Logs.Output.{ToClient, Does}
+use Rattle.model.specs.Logs.Output.{ToClient}
 use Rattle.model.specs.Tapes.{put, Note, Noted, Breach}
 use Rattle.model.specs.Tapes.Note.{NoBlock, Unread}
 use Rattle.model.specs.Decoding.{Partial, joined, completed, IsNoteOf}
 use Rattle.model.specs.Streams.{frame_items}
 use Rattle.gateway.specs.declared.upstream.Upstream.{Upstream}
 use Rattle.gateway.specs.Connections.{greeted, settled, ended, left, with_table, put_end, put_farewell}
-use Rattle.gateway.specs.Moves.{Move, Input, inputs, put_move}
+use Rattle.gateway.specs.Moves.{Move, Hearing, Input, inputs, put_move}
 use Rattle.gateway.specs.Moves.Input.{OfFrame, OfBreach, OfEvent}
-use Rattle.gateway.specs.Moves.Move.{Takes, Breaks, Hears, Sends, Acts}
+use Rattle.gateway.specs.Moves.Move.{Takes, Breaks, Hears, Sends}
 use Rattle.gateway.specs.Moves.Outcome.{Settled, Stopped}
+use Rattle.gateway.specs.Moves.Hearing.{Noticed, Abandoned}
+use Rattle.gateway.specs.Exchanges.{Awaited}
 use Rattle.gateway.specs.State.{State, after, nobody, upstream_at, with_upstream, sent_more}
-use Rattle.gateway.specs.Policy.{Pays, Begins, Due, idle, point_after, Allowed, Leads, Answers, closes, farewell, IsUp, IsNoted, IsPlainSettings, MaySettle, is_in_order, is_admitted, answer_event, breach_code}
-use Rattle.gateway.specs.Policy.Due.{ToSend, ToAct}
-use Rattle.gateway.proofs.Admitting.{is_up}
+use Rattle.gateway.specs.Policy.{Pays, Begins, Due, idle, point_after, Allowed, Leads, Answers, closes, farewell, IsNoted, IsPlainSettings, MaySettle, is_in_order, is_admitted, is_upstreams, MayHear, noticed, answer_event, breach_code}
+use Rattle.gateway.specs.Policy.Due.{ToSend}
 use Rattle.gateway.proofs.Leading.{leads_one, leads_then, inputs-append, pays_then, pays_closes}
 
 -- an input, and then what is owed for it
@@ -62,7 +62,7 @@ pays_end s o = pays_closes (shut s) [] s.upstreams o
 
 pub pays_farewell : (s : State) (code : ℕ) (o : List Output) → Pays (record { state = shut s; owes = farewell s code }) (idle (left s code)) o (put_farewell o s code)
 pays_farewell s code o =
-    pays_then (pays_by (shut s) (ToSend (goaway s.high code)) (closes s) (Sends (goaway s.high code)) o (record { turn = refl; holds = (fits_goaway s.high code, refl) }) refl)
+    pays_then (pays_by (shut s) (ToSend (goaway s.high code)) (closes s) (Sends (goaway s.high code)) o (record { turn = refl; holds = record { fits = fits_goaway s.high code; no_reset = refl; no_block = refl } }) refl)
     (pays_end (record s { greeted = true; untaken = s.untaken + length (spell (goaway s.high code)) }) (put o (ToClient (spell (goaway s.high code)))))
 
 -- the note of a frame whose block isn't read
@@ -110,34 +110,46 @@ answers_settled s s' o o' frame on first kind no_ack es eo =
     subst (λ x. Answers s x o o' (OfFrame frame ∷ [])) (sym es)
     (subst (λ x. Answers s (settled s) o x (OfFrame frame ∷ [])) (sym eo)
     (answers_from s (settled s) o (put o (ToClient (spell settings_ack))) (Takes noted Settled) (OfFrame frame ∷ []) (record { turn = record { open_yet = on; nothing = refl }; holds = (note, may) }) refl refl
-    (pays_by (record s { settled = true }) (ToSend settings_ack) [] (Sends settings_ack) o (record { turn = refl; holds = (fits_ack, refl) }) refl)))
+    (pays_by (record s { settled = true }) (ToSend settings_ack) [] (Sends settings_ack) o (record { turn = refl; holds = record { fits = fits_ack; no_reset = refl; no_block = refl } }) refl)))
 
 -- ---- events
 
-hears : (s s' : State) (o o' : List Output) (event : Event) → s.closed ≡ false → is_in_order s event ≡ true → Pays (point_after (idle s) (Hears event)) (idle s') o o' → Answers s s' o o' (OfEvent event ∷ [])
-hears s s' o o' event on order pays = answers_from s s' o o' (Hears event) (OfEvent event ∷ []) (record { turn = record { open_yet = on; nothing = refl }; holds = order }) refl refl pays
+hears : (s s' : State) (o o' : List Output) (event : Event) (hearing : Hearing) → s.closed ≡ false → is_in_order s event ≡ true → MayHear s event hearing → Pays (point_after (idle s) (Hears event hearing)) (idle s') o o' → Answers s s' o o' (OfEvent event ∷ [])
+hears s s' o o' event hearing on order may pays = answers_from s s' o o' (Hears event hearing) (OfEvent event ∷ []) (record { turn = record { open_yet = on; nothing = refl }; holds = (order, may) }) refl refl pays
 
-owes_nothing : (s : State) (o : List Output) → Pays (idle s) (idle s) o o
+pub owes_nothing : (s : State) (o : List Output) → Pays (idle s) (idle s) o o
 owes_nothing s o = record { segment = []; leads = record { point = refl; outputs = refl; allowed = tt }; nothing_in = refl }
 
 pub answers_end : (s s' : State) (o o' : List Output) → s.closed ≡ false → s' ≡ ended s → o' ≡ put_end o s → Answers s s' o o' (OfEvent ClientEnd ∷ [])
 answers_end s s' o o' on es eo =
     subst (λ x. Answers s x o o' (OfEvent ClientEnd ∷ [])) (sym es)
     (subst (λ x. Answers s (ended s) o x (OfEvent ClientEnd ∷ [])) (sym eo)
-    (hears s (ended s) o (put_end o s) ClientEnd on refl (pays_end s o)))
+    (hears s (ended s) o (put_end o s) ClientEnd Noticed on refl refl (pays_end s o)))
 
-pub answers_quiet : (s s' : State) (o o' : List Output) (event : Event) → s.closed ≡ false → is_in_order s event ≡ true → answer_event s event ≡ [] → s' ≡ after s (Hears event) → o' ≡ o → Answers s s' o o' (OfEvent event ∷ [])
-answers_quiet s s' o o' event on order none es eo =
+pub answers_quiet : (s s' : State) (o o' : List Output) (event : Event) → s.closed ≡ false → is_in_order s event ≡ true → is_upstreams event ≡ false → answer_event s event ≡ [] → s' ≡ after s (Hears event Noticed) → o' ≡ o → Answers s s' o o' (OfEvent event ∷ [])
+answers_quiet s s' o o' event on order other none es eo =
     subst (λ x. Answers s x o o' (OfEvent event ∷ [])) (sym es)
-    (subst (λ x. Answers s (after s (Hears event)) o x (OfEvent event ∷ [])) (sym eo)
-    (hears s (after s (Hears event)) o o event on order (subst (λ ds. Pays (record { state = after s (Hears event); owes = ds }) (idle (after s (Hears event))) o o) (sym none) (owes_nothing (after s (Hears event)) o))))
+    (subst (λ x. Answers s (after s (Hears event Noticed)) o x (OfEvent event ∷ [])) (sym eo)
+    (hears s (after s (Hears event Noticed)) o o event Noticed on order other (subst (λ ds. Pays (record { state = after s (Hears event Noticed); owes = ds }) (idle (after s (Hears event Noticed))) o o) (sym none) (owes_nothing (after s (Hears event Noticed)) o))))
 
-pub answers_up_end : (s s' : State) (o o' : List Output) (k : ℕ) → s.closed ≡ false → is_in_order s (UpEnd k) ≡ true → IsUp s k → s' ≡ after s (Acts (Close k)) → o' ≡ put o (Does (Close k)) → Answers s s' o o' (OfEvent (UpEnd k) ∷ [])
-answers_up_end s s' o o' k on order up es eo =
-    subst (λ x. Answers s x o o' (OfEvent (UpEnd k) ∷ [])) (sym es)
-    (subst (λ x. Answers s (after s (Acts (Close k))) o x (OfEvent (UpEnd k) ∷ [])) (sym eo)
-    (hears s (after s (Acts (Close k))) o (put o (Does (Close k))) (UpEnd k) on order
-    (pays_by s (ToAct (Close k)) [] (Acts (Close k)) o (record { turn = refl; holds = up }) refl)))
+-- an upstream's octets, end or failure end the connection
+pub answers_abandoned : (s s' : State) (o o' : List Output) (event : Event) (left_over : List (Option Awaited)) (encoding : Table) → s.closed ≡ false → is_in_order s event ≡ true → is_upstreams event ≡ true
+    → s' ≡ left (record (noticed s event) { exchanges = left_over; encoding = encoding }) internal_error → o' ≡ put_farewell o (noticed s event) internal_error → Answers s s' o o' (OfEvent event ∷ [])
+answers_abandoned s s' o o' event left_over encoding on order ups es eo =
+    subst (λ x. Answers s x o o' (OfEvent event ∷ [])) (sym es)
+    (subst (λ x. Answers s (left (record (noticed s event) { exchanges = left_over; encoding = encoding }) internal_error) o x (OfEvent event ∷ [])) (sym eo)
+    (hears s (left (record (noticed s event) { exchanges = left_over; encoding = encoding }) internal_error) o (put_farewell o (noticed s event) internal_error) event (Abandoned left_over encoding) on order ups
+    (still event ups (pays_farewell (record (noticed s event) { exchanges = left_over; encoding = encoding }) internal_error o))))
+  where
+    still : (event : Event) → is_upstreams event ≡ true → Pays (record { state = shut (record (noticed s event) { exchanges = left_over; encoding = encoding }); owes = farewell (noticed s event) internal_error }) (idle (left (record (noticed s event) { exchanges = left_over; encoding = encoding }) internal_error)) o (put_farewell o (noticed s event) internal_error)
+        → Pays (point_after (idle s) (Hears event (Abandoned left_over encoding))) (idle (left (record (noticed s event) { exchanges = left_over; encoding = encoding }) internal_error)) o (put_farewell o (noticed s event) internal_error)
+    still (Client piece) u p = p
+    still ClientEnd u p = p
+    still (ClientTook count) u p = absurd (let f : false ≡ true = u in cc)
+    still (Up k piece) u p = p
+    still (UpEnd k) u p = p
+    still (UpFailed k) u p = p
+    still (UpTook k count) u p = p
 
 -- ---- a request
 
@@ -173,9 +185,6 @@ may_come s event e = parts s.closed (is_in_order s event) e
     parts true b e = absurd (let f : false ≡ true = e in cc)
     parts false b e = (refl, e)
 
-pub up_of : (s : State) (k : ℕ) → is_in_order s (UpEnd k) ≡ true → IsUp s k
-up_of s k e = let r = is_up s.upstreams k e in record { counted = r.0; within = r.1 }
-
 -- ---- the gateway's settings
 
 admits_greeted : (s : State) → s.untaken ≡ 0 → (event : Event) → is_admitted s event ≡ true → is_admitted (greeted s) event ≡ true
@@ -210,7 +219,7 @@ begins_greeted s s' o o' first none es eo =
     (subst (λ x. Begins s (greeted s) o x) (sym eo)
     (record {
       pays = subst (λ b. Pays (record { state = s; owes = if b then [] else ToSend settings_frame ∷ [] }) (idle (greeted s)) o (put o (ToClient (spell settings_frame)))) (sym first)
-          (pays_by s (ToSend settings_frame) [] (Sends settings_frame) o (record { turn = refl; holds = (fits_settings, refl) }) refl);
+          (pays_by s (ToSend settings_frame) [] (Sends settings_frame) o (record { turn = refl; holds = record { fits = fits_settings; no_reset = refl; no_block = refl } }) refl);
       greeted = refl;
       admits = admits_greeted s none;
     }))

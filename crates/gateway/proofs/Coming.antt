@@ -7,7 +7,7 @@ use Rattle.model.specs.Tapes.{Noted, Breach, Entry, came, breaches, happened, fr
 use Rattle.model.specs.Tapes.Entry.{Came, Breached, Happened, Sent, Did}
 use Rattle.gateway.specs.Moves.{Move, Input, inputs, tape_of, after_all, put_move}
 use Rattle.gateway.specs.Moves.Input.{OfFrame, OfBreach, OfEvent}
-use Rattle.gateway.specs.Moves.Move.{Takes, Breaks, Hears, Sends, Acts}
+use Rattle.gateway.specs.Moves.Move.{Takes, Breaks, Hears, Sends, SendsHead, Acts}
 
 abbrev pub frames_in : List Input → List Frame
 frames_in [] = []
@@ -51,24 +51,27 @@ pub came_by : (moves : List Move) → frame_list (came (tape_of moves)) ≡ fram
 came_by [] = refl
 came_by (Takes noted outcome ∷ t) = ap (λ x. noted.frame ∷ x) (came_by t)
 came_by (Breaks breach ∷ t) = came_by t
-came_by (Hears event ∷ t) = came_by t
+came_by (Hears event hearing ∷ t) = came_by t
 came_by (Sends frame ∷ t) = came_by t
+came_by (SendsHead stream fields ends block next ∷ t) = came_by t
 came_by (Acts act ∷ t) = came_by t
 
 pub breaches_by : (moves : List Move) → breaches (tape_of moves) ≡ breaches_in (inputs moves)
 breaches_by [] = refl
 breaches_by (Takes noted outcome ∷ t) = breaches_by t
 breaches_by (Breaks breach ∷ t) = ap (λ x. breach ∷ x) (breaches_by t)
-breaches_by (Hears event ∷ t) = breaches_by t
+breaches_by (Hears event hearing ∷ t) = breaches_by t
 breaches_by (Sends frame ∷ t) = breaches_by t
+breaches_by (SendsHead stream fields ends block next ∷ t) = breaches_by t
 breaches_by (Acts act ∷ t) = breaches_by t
 
 pub happened_by : (moves : List Move) → happened (tape_of moves) ≡ events_in (inputs moves)
 happened_by [] = refl
 happened_by (Takes noted outcome ∷ t) = happened_by t
 happened_by (Breaks breach ∷ t) = happened_by t
-happened_by (Hears event ∷ t) = ap (λ x. event ∷ x) (happened_by t)
+happened_by (Hears event hearing ∷ t) = ap (λ x. event ∷ x) (happened_by t)
 happened_by (Sends frame ∷ t) = happened_by t
+happened_by (SendsHead stream fields ends block next ∷ t) = happened_by t
 happened_by (Acts act ∷ t) = happened_by t
 
 pub outputs_by : (moves : List Move) → after_all put_move [] moves ≡ outputs (tape_of moves)

@@ -1,11 +1,11 @@
 -- Concern: which upstream connection is given to which stream, and what it is sent.
-use Rattle.std.proofs.Common.{◌≡◌, ℕ, suc, ◌<◌, ◌≤◌, true, false, ◌==◌, ◌&&◌, List, [], ◌∷◌, ◌++◌, length, refl, sym, ◌∙◌, ap, subst, append_assoc, arith, if◌then◌else◌, inl, inr}
+use Rattle.std.proofs.Common.{◌≡◌, ℕ, suc, ◌<◌, ◌≤◌, Bool, true, false, ◌==◌, ◌&&◌, List, [], ◌∷◌, ◌++◌, length, refl, sym, ◌∙◌, ap, subst, append_assoc, arith, if◌then◌else◌, inl, inr}
 use Rattle.std.specs.Prelude.{None}
 use Rattle.std.proofs.lemmas.Bool.Decides.{eqb_tells}
 use Rattle.model.specs.Messages.{Field, Request}
 use Rattle.model.specs.Messages.Item.{Block}
 use Rattle.model.specs.Tables.{Table, first_table}
-use Rattle.model.specs.Frames.{rst_stream_kind}
+use Rattle.model.specs.Frames.{rst_stream_kind, headers_kind}
 use Rattle.model.specs.Http1.{H1Request, forward}
 use Rattle.model.specs.Http2.{H2Request, authority_of, path_of}
 use Rattle.model.specs.Setup.{Setup, IsFirstMatch}
@@ -19,7 +19,7 @@ use Rattle.model.specs.Streams.{Story, story}
 use Rattle.model.specs.Requests.{Opened, last_stream, opens, AreNumbered, AreApart}
 use Rattle.gateway.specs.State.{State}
 use Rattle.gateway.specs.Policy.{Due}
-use Rattle.gateway.specs.Policy.Due.{ToSend, ToAct}
+use Rattle.gateway.specs.Policy.Due.{ToSend, ToSendHead, ToAct}
 use Rattle.gateway.proofs.Stories.{untold, story_over, story_same, story_happened, story_did}
 use Rattle.gateway.proofs.Owed.{to_open, owed_up, all_opens, all_text, sent_owed}
 
@@ -131,6 +131,17 @@ passes_event t event ds' none silent = record {
 pub passes_sent : (t : List Entry) (noted : Noted) (frame_is : (noted.frame.kind == rst_stream_kind) ≡ false) (ds : List Due) → Passes t (Sent noted) (ToSend noted.frame ∷ ds) ds
 passes_sent t noted frame_is ds = record {
   stories = λ stream. story_same stream t (Sent noted) (ap (λ b. b && noted.frame.id == stream) frame_is) refl;
+  same_opens = refl;
+  same_text = λ k. refl;
+  same_count = refl;
+  same_sent = λ k. refl;
+  same_came = refl;
+}
+
+-- a whole header block on a stream
+pub passes_headed : (t : List Entry) (noted : Noted) (id : ℕ) (fields : List Field) (ends : Bool) → noted.frame.kind ≡ headers_kind → (ds : List Due) → Passes t (Sent noted) (ToSendHead id fields ends ∷ ds) ds
+passes_headed t noted id fields ends kind ds = record {
+  stories = λ stream. story_same stream t (Sent noted) (ap (λ k. k == rst_stream_kind && noted.frame.id == stream) kind) refl;
   same_opens = refl;
   same_text = λ k. refl;
   same_count = refl;

@@ -9,7 +9,7 @@ use Rattle.model.specs.Tapes.{put}
 use Rattle.gateway.specs.declared.upstream.Upstream.{Upstream}
 use Rattle.gateway.specs.Closing.{put_closes}
 use Rattle.gateway.specs.Moves.{Move, Input, inputs, after_all, put_move}
-use Rattle.gateway.specs.Moves.Move.{Takes, Breaks, Hears, Sends, Acts}
+use Rattle.gateway.specs.Moves.Move.{Takes, Breaks, Hears, Sends, SendsHead, Acts}
 use Rattle.gateway.specs.State.{State, closed_up, nobody, upstream_at, with_upstream}
 use Rattle.gateway.specs.Policy.{Due, Point, idle, point_after, Allowed, AllAllowed, Leads, Pays, closes_from}
 use Rattle.gateway.specs.Policy.Due.{ToAct}
@@ -26,8 +26,9 @@ pub inputs-append : (b a : List Move) → inputs (b ++ a) ≡ inputs b ++ inputs
 inputs-append [] a = refl
 inputs-append (Takes noted outcome ∷ t) a = ap (λ x. Input.OfFrame noted.frame ∷ x) (inputs-append t a)
 inputs-append (Breaks breach ∷ t) a = ap (λ x. Input.OfBreach breach ∷ x) (inputs-append t a)
-inputs-append (Hears event ∷ t) a = ap (λ x. Input.OfEvent event ∷ x) (inputs-append t a)
+inputs-append (Hears event hearing ∷ t) a = ap (λ x. Input.OfEvent event ∷ x) (inputs-append t a)
 inputs-append (Sends frame ∷ t) a = inputs-append t a
+inputs-append (SendsHead stream fields ends block next ∷ t) a = inputs-append t a
 inputs-append (Acts act ∷ t) a = inputs-append t a
 
 pub leads_none : (p : Point) (o : List Output) → Leads p p o o []

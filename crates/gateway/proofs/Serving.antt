@@ -1,6 +1,6 @@
 -- A whole request in one frame, as moves.
 use Rattle.std.proofs.Common.{◌≡◌, ℕ, suc, ◌-◌, ◌<◌, true, false, List, [], ◌∷◌, ◌++◌, length, refl, sym, ◌∙◌, ap, subst, arith, length-append, if◌then◌else◌}
-use Rattle.std.specs.Prelude.{None, Some}
+use Rattle.std.specs.Prelude.{Bool, None, Some, bytes_eq, codes}
 use Rattle.std.proofs.lemmas.List.{take_all}
 use Rattle.std.proofs.Math.Seq.{get_or-append_seam}
 use Rattle.model.specs.Messages.{Field}
@@ -49,10 +49,10 @@ no_more frame noted same head =
 opened_last : (us : List Upstream) → (upstream_at (us ++ record { is_open = true; untaken = 0 } ∷ []) (suc (length us))).is_open ≡ true
 opened_last us = ap (λ (u : Upstream). u.is_open) (get_or-append_seam us (record { is_open = true; untaken = 0 }) [] nobody)
 
-pub answers_served : (s s' : State) (o o' : List Output) (frame : Frame) (route : ℕ) (text : List ℕ) (fields : List Field) (next : Table) → s.closed ≡ false → s.settled ≡ true → s.high < frame.id → IsHead frame
-    → blocks.Block s.table frame.payload fields next → IsTaken s.setup.routes fields route text
-    → s' ≡ served (with_table s next) frame.id (length text) → o' ≡ put (put o (Does (Open (suc (length s.upstreams)) route))) (Does (ToUp (suc (length s.upstreams)) text)) → Answers s s' o o' (OfFrame frame ∷ [])
-answers_served s s' o o' frame route text fields next on settled above head decodes is_taken es eo =
+pub answers_served : (s s' : State) (o o' : List Output) (frame : Frame) (route : ℕ) (text : List ℕ) (to_head : Bool) (fields : List Field) (next : Table) → s.closed ≡ false → s.settled ≡ true → s.high < frame.id → IsHead frame
+    → blocks.Block s.table frame.payload fields next → IsTaken s.setup.routes fields route text to_head
+    → s' ≡ served (with_table s next) frame.id (length text) to_head → o' ≡ put (put o (Does (Open (suc (length s.upstreams)) route))) (Does (ToUp (suc (length s.upstreams)) text)) → Answers s s' o o' (OfFrame frame ∷ [])
+answers_served s s' o o' frame route text to_head fields next on settled above head decodes is_taken es eo =
     let k : ℕ = suc (length s.upstreams) in
     let noted : Noted = record { frame = frame; note = Fields fields } in
     let whole = whole_block frame head in
@@ -77,8 +77,9 @@ answers_served s s' o o' frame route text fields next on settled above head deco
     pays_by s1 (ToAct (Open k route)) (ToAct (ToUp k text) ∷ []) (Acts (Open k route)) o (record { turn = refl; holds = refl }) refl in
     let sends : Pays (record { state = s2; owes = ToAct (ToUp k text) ∷ [] }) (idle (after s2 (Acts (ToUp k text)))) (put o (Does (Open k route))) (put (put o (Does (Open k route))) (Does (ToUp k text))) =
     pays_by s2 (ToAct (ToUp k text)) [] (Acts (ToUp k text)) (put o (Does (Open k route))) (record { turn = refl; holds = (record { counted = omega arith; within = omega (arith, size) }, opened_last s.upstreams) }) refl in
-    let last : after s2 (Acts (ToUp k text)) ≡ served (with_table s next) frame.id (length text) = ap (with s1) (serves_upstreams s.upstreams (length text)) in
-    subst (λ x. Answers s x o o' (OfFrame frame ∷ [])) (sym es)
-    (subst (λ x. Answers s (served (with_table s next) frame.id (length text)) o x (OfFrame frame ∷ [])) (sym eo)
+    let for_head : Bool = bytes_eq is_taken.request.method (codes "HEAD") in
+    let last : after s2 (Acts (ToUp k text)) ≡ served (with_table s next) frame.id (length text) for_head = ap (with s1) (serves_upstreams s.upstreams (length text)) in
+    subst (λ x. Answers s x o o' (OfFrame frame ∷ [])) (sym (es ∙ ap (served (with_table s next) frame.id (length text)) is_taken.for_head))
+    (subst (λ x. Answers s (served (with_table s next) frame.id (length text) for_head) o x (OfFrame frame ∷ [])) (sym eo)
     (subst (λ x. Answers s x o (put (put o (Does (Open k route))) (Does (ToUp k text))) (OfFrame frame ∷ [])) last
     (answers_from s (after s2 (Acts (ToUp k text))) o _ m (OfFrame frame ∷ []) (record { turn = record { open_yet = on; nothing = refl }; holds = (note, may) }) refl refl (pays_then opens sends))))

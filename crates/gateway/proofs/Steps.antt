@@ -17,19 +17,21 @@ use Rattle.model.specs.Decoding.{are_read}
 use Rattle.model.specs.Streams.{Story, items}
 use Rattle.model.specs.Admission as admission
 use Rattle.model.specs.Requests.{Opened, opens, IsServed, AreServed, GoToOpen, Requests}
+use Rattle.model.specs.Available.{Deliveries}
 use Rattle.model.specs.Faithful.{IsTaped, HasTape}
 use Rattle.gateway.specs.Moves.{Move, inputs, tape_of, entry_of, after_all}
 use Rattle.gateway.specs.Moves.Input.{OfBreach, OfEvent}
-use Rattle.gateway.specs.Moves.Move.{Takes, Breaks, Hears, Sends, Acts}
+use Rattle.gateway.specs.Moves.Move.{Takes, Breaks, Hears, Sends, SendsHead, Acts}
 use Rattle.gateway.specs.State.{State, start, upstream_at}
 use Rattle.gateway.specs.Policy.{rest_of, Allowed, Point, idle, resting, point_after, AllAllowed, Leads, Answers, Begins, is_admitted, is_in_order}
-use Rattle.gateway.specs.Policy.Due.{ToSend, ToAct}
+use Rattle.gateway.specs.Policy.Due.{ToSend, ToSendHead, ToAct}
 use Rattle.gateway.specs.Receiving.{Kept, IsRest, Waits, Departs, GoesOn}
 use Rattle.gateway.specs.Stands.{Standing, fresh, Steps, IsKeptOf, KeptStands, Stands, StandsNext}
 use Rattle.gateway.proofs.Giving.{Serving, AllServing}
 use Rattle.gateway.proofs.Shutting.{EndsInClose}
 use Rattle.gateway.proofs.Admitting.{in_order_same}
 use Rattle.gateway.proofs.Standing.{Inv, inv_start, step}
+use Rattle.gateway.proofs.Completing.{deliveries_hold}
 use Rattle.gateway.proofs.Leading.{leads_then, AllAllowed-append, after_all-append, inputs-append}
 use Rattle.gateway.proofs.Coming.{events_in, happened_by, outputs_by, in_events}
 use Rattle.gateway.proofs.Told.{Tells, tells_same, tells_waits, tells_departs, tells_goes}
@@ -103,8 +105,9 @@ pub go_to_open : (setup : Setup) (moves : List Move) → AllAllowed (resting (st
 go_to_open setup [] a = tt
 go_to_open setup (Takes noted outcome ∷ moves) a = go_to_open setup moves a.0
 go_to_open setup (Breaks breach ∷ moves) a = go_to_open setup moves a.0
-go_to_open setup (Hears event ∷ moves) a = go_to_open setup moves a.0
+go_to_open setup (Hears event hearing ∷ moves) a = go_to_open setup moves a.0
 go_to_open setup (Sends frame ∷ moves) a = go_to_open setup moves a.0
+go_to_open setup (SendsHead stream fields ends block next ∷ moves) a = go_to_open setup moves a.0
 go_to_open setup (Acts (Open k route) ∷ moves) a = go_to_open setup moves a.0
 go_to_open setup (Acts (ToUp k octets) ∷ moves) a = (sym ((inv_all setup moves a.0).admitting.opened k) ∙ a.1.holds.1, go_to_open setup moves a.0)
 go_to_open setup (Acts (Close k) ∷ moves) a = go_to_open setup moves a.0
@@ -117,8 +120,9 @@ still_open t p m i a = cases (is_closed t) refl
     turn : (m : Move) → Allowed p m → p.state.closed ≡ true → p.owes ≡ [] → ⊥
     turn (Takes noted outcome) b f g = let h : true ≡ false = sym f ∙ b.turn.open_yet in cc
     turn (Breaks breach) b f g = let h : true ≡ false = sym f ∙ b.turn.open_yet in cc
-    turn (Hears event) b f g = let h : true ≡ false = sym f ∙ b.turn.open_yet in cc
+    turn (Hears event hearing) b f g = let h : true ≡ false = sym f ∙ b.turn.open_yet in cc
     turn (Sends frame) b f g = let h : [] ≡ ToSend frame ∷ rest_of p.owes = sym g ∙ b.turn in cc
+    turn (SendsHead stream fields ends block next) b f g = let h : [] ≡ ToSendHead stream fields ends ∷ rest_of p.owes = sym g ∙ b.turn in cc
     turn (Acts act) b f g = let h : [] ≡ ToAct act ∷ rest_of p.owes = sym g ∙ b.turn in cc
 
     cases : (b : Bool) → is_closed t ≡ b → is_closed t ≡ false
@@ -134,8 +138,9 @@ pub spelled_frames : (p : Point) (moves : List Move) → AllAllowed p moves → 
 spelled_frames p [] a = tt
 spelled_frames p (Takes noted outcome ∷ moves) a = spelled_frames p moves a.0
 spelled_frames p (Breaks breach ∷ moves) a = spelled_frames p moves a.0
-spelled_frames p (Hears event ∷ moves) a = spelled_frames p moves a.0
-spelled_frames p (Sends frame ∷ moves) a = (a.1.holds.0, spelled_frames p moves a.0)
+spelled_frames p (Hears event hearing ∷ moves) a = spelled_frames p moves a.0
+spelled_frames p (Sends frame ∷ moves) a = (a.1.holds.fits, spelled_frames p moves a.0)
+spelled_frames p (SendsHead stream fields ends block next ∷ moves) a = (a.1.holds.fits, spelled_frames p moves a.0)
 spelled_frames p (Acts act ∷ moves) a = spelled_frames p moves a.0
 
 pub unread_ends : (t : List Entry) (s : State) → Inv t (idle s) → are_read (came t) ≡ false → is_closed t ≡ true
@@ -155,8 +160,9 @@ greeted_stays : (p : Point) (moves : List Move) → p.state.greeted ≡ true →
 greeted_stays p [] e = e
 greeted_stays p (Takes noted outcome ∷ moves) e = greeted_stays p moves e
 greeted_stays p (Breaks breach ∷ moves) e = greeted_stays p moves e
-greeted_stays p (Hears event ∷ moves) e = greeted_stays p moves e
+greeted_stays p (Hears event hearing ∷ moves) e = greeted_stays p moves e
 greeted_stays p (Sends frame ∷ moves) e = refl
+greeted_stays p (SendsHead stream fields ends block next ∷ moves) e = refl
 greeted_stays p (Acts act ∷ moves) e = greeted_stays p moves e
 
 -- ---- one step
@@ -198,7 +204,10 @@ stands_then k k' log tape event o h admitted greeted s =
       admitted = sym (admitted_same tape k.state event before) ∙ admitted;
       step_is = record { spelled = spelled_frames (resting k.state) s.segment s.leads.allowed; put_out = ap reverse (s.leads.outputs ∙ outputs_by s.segment); event = happened_by s.segment ∙ s.events };
       told = record { read = tells.read; table = i.giving.decodes.0; decodes = i.giving.decodes.1; unread = unread_ends (tape_of s.segment ++ tape) k'.state i; ends = subst EndsWithClose (sym same_tape) (ends_with_close setup all allowed) };
-      clauses = record { requests = subst (λ x. Requests x (tape_of s.segment ++ tape)) same_setup (requests_hold (tape_of s.segment ++ tape) k'.state i (subst GoToOpen (sym same_tape) (go_to_open setup all allowed))) };
+      clauses = record {
+        requests = subst (λ x. Requests x (tape_of s.segment ++ tape)) same_setup (requests_hold (tape_of s.segment ++ tape) k'.state i (subst GoToOpen (sym same_tape) (go_to_open setup all allowed)));
+        deliveries = subst (λ x. Deliveries x (tape_of s.segment ++ tape)) same_setup (deliveries_hold (tape_of s.segment ++ tape) k'.state i.responding);
+      };
     } in
     stood k' log tape event o k (client_in log ++ client_octets event) s setup same_setup all same_tape (rests ∙ whole) allowed taped h.has_tape tells refl
 

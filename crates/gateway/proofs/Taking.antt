@@ -108,8 +108,8 @@ module _ (t : List Entry) (s : State) (noted : Noted) (route : ℕ) (text : List
   item : frame_items (completed (came t) noted.frame) noted ≡ Block may.fields true ∷ []
   item = ap (λ b. frame_items b noted) (completed_alone (came t) noted.frame (h.no_block on)) ∙ may.item
 
-  told : story noted.frame.id (Came noted ∷ t) ≡ record { items = Block may.fields true ∷ []; over = true }
-  told =
+  pub served_story : story noted.frame.id (Came noted ∷ t) ≡ record { items = Block may.fields true ∷ []; over = true }
+  served_story =
       story_first noted.frame.id t (Came noted) (h.fresh on noted.frame.id may.above) (no_interrupt noted.frame.id t noted row kind)
       ∙ ap (λ b. add_items untold (if b then frame_items (completed (came t) noted.frame) noted else [])) (eq-eqb noted.frame.id noted.frame.id refl)
       ∙ ap (add_items untold) item
@@ -134,7 +134,7 @@ module _ (t : List Entry) (s : State) (noted : Noted) (route : ℕ) (text : List
       record {
         fields = may.fields;
         request = request;
-        told = told;
+        told = served_story;
         means = may.means;
         by_route = may.by_route;
         reads = subst (λ x. H1Request x (forward request)) (sym own_text) may.reads;

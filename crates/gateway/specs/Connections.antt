@@ -1,20 +1,26 @@
 -- A connection as it lies in memory, and where its methods lead.
-use Rattle.std.specs.Prelude.{◌≡◌, ℕ, ◌+◌, ◌<◌, ◌≤◌, true, false, List, [], ◌∷◌, ◌++◌, length, map}
+use Rattle.std.specs.Prelude.{◌⊎◌, ◌≡◌, ℕ, ◌+◌, ◌<◌, ◌≤◌, true, false, List, [], ◌∷◌, ◌++◌, length, map, Bool, Some, None, codes, bytes_eq}
 use Rattle.model.specs.Messages.{Field, Request}
 use Rattle.model.specs.Messages.Item.{Block}
 use Rattle.model.specs.Tables.{Table}
 use Rattle.model.specs.Http1.{H1Request, forward}
 use Rattle.model.specs.Http2.{H2Request, authority_of, path_of}
-use Rattle.model.specs.Frames.{Frame, spell, settings_frame, settings_ack, goaway}
+use Rattle.model.specs.Frames.{Frame, spell, settings_frame, settings_ack, goaway, internal_error}
 use Rattle.model.specs.Logs.{Output}
-use Rattle.model.specs.Logs.Act.{CloseClient}
+use Rattle.model.specs.Logs.Act.{Close, CloseClient}
 use Rattle.model.specs.Logs.Output.{ToClient, Does}
 use Rattle.model.specs.Setup.{Route, IsFirstMatch}
 use Rattle.model.specs.Tapes.{put}
+use Rattle.header_blocks.specs.Bounds.{IsBounded as IsTableBounded}
+use Rattle.model.specs.ResponseHeads.{Head}
+use Rattle.model.specs.Blocks as blocks
+use Rattle.gateway.specs.Moves.{head_frame, last_data}
+use Rattle.gateway.specs.Moves.Move.{Acts}
+use Rattle.gateway.specs.Exchanges.{Awaited, awaited, with_exchange, section_of, AreSmall}
 use Rattle.gateway.specs.declared.connection.Connection.TheInside.{Inside}
 use Rattle.gateway.specs.Setups.{setup_of}
 use Rattle.gateway.specs.Closing.{put_closes}
-use Rattle.gateway.specs.State.{State, closed_up}
+use Rattle.gateway.specs.State.{State, closed_up, after}
 
 abbrev pub state_of : Inside → State
 state_of c = record {
@@ -26,23 +32,35 @@ state_of c = record {
   untaken = c.untaken;
   upstreams = c.upstreams.items;
   table = c.decoder.table;
+  exchanges = c.exchanges.items;
+  encoding = c.encoder.table;
 }
 
--- how many octets for the client there can be: the settings, their acknowledgement and the farewell, each once
+-- How many octets for the client there can be: a response begins only while fewer than 65,536 aren't taken, and a farewell
+-- comes once.
 pub record IsBounded (c : Inside) : Type 0 where
   pub unbegun : c.greeted ≡ false → c.untaken ≡ 0
-  pub unsettled : c.settled ≡ false → c.closed ≡ false → c.untaken ≤ 21
-  pub unclosed : c.closed ≡ false → c.untaken ≤ 30
-  pub most : c.untaken ≤ 47
+  pub unsettled : c.settled ≡ false → c.closed ≡ false → c.untaken ≤ 98380
+  pub unclosed : c.closed ≡ false → c.untaken ≤ 98400
+  pub most : c.untaken ≤ 98417
   pub streams : c.high < 2147483648
   pub few : length c.upstreams.items ≤ 100
+  pub paired : length c.exchanges.items ≡ length c.upstreams.items
+
+-- what the gateway holds stays within its limits
+pub record IsSmallState (s : State) : Type 0 where
+  pub decoding : IsTableBounded s.table
+  pub encoding : IsTableBounded s.encoding
+  pub exchanges : AreSmall s.exchanges
+  pub few : length s.exchanges ≤ 100
 
 -- The fields are a request, and this text, sent by this route, reads as it.
-pub record IsTaken (routes : List Route) (fields : List Field) (route : ℕ) (text : List ℕ) : Type 0 where
+pub record IsTaken (routes : List Route) (fields : List Field) (route : ℕ) (text : List ℕ) (to_head : Bool) : Type 0 where
   pub request : Request
   pub means : H2Request (Block fields true ∷ []) request
   pub by_route : IsFirstMatch routes (authority_of fields) (path_of fields) route
   pub reads : H1Request text (forward request)
+  pub for_head : to_head ≡ bytes_eq request.method (codes "HEAD")
 
 -- the frame is HEADERS with END_STREAM and END_HEADERS alone
 pub record IsHead (frame : Frame) : Type 0 where
@@ -62,8 +80,20 @@ abbrev pub settled : State → State
 settled s = record s { greeted = true; settled = true; untaken = s.untaken + length (spell settings_ack) }
 
 -- a request of a stream is sent
-abbrev pub served : State → ℕ → ℕ → State
-served s stream count = record s { high = stream; upstreams = s.upstreams ++ record { is_open = true; untaken = count } ∷ [] }
+abbrev pub served : State → ℕ → ℕ → Bool → State
+served s stream count to_head = record s {
+  high = stream;
+  upstreams = s.upstreams ++ record { is_open = true; untaken = count } ∷ [];
+  exchanges = s.exchanges ++ Some (awaited stream to_head) ∷ [];
+}
+
+-- nothing is awaited of a connection any more
+abbrev pub without_exchange : State → ℕ → State
+without_exchange s k = record s { exchanges = with_exchange s.exchanges k None }
+
+-- this is awaited of a connection
+abbrev pub awaiting : State → ℕ → Awaited → State
+awaiting s k e = record s { exchanges = with_exchange s.exchanges k (Some e) }
 
 -- all is closed
 abbrev pub ended : State → State
@@ -83,3 +113,44 @@ put_end outputs s = put (put_closes outputs 1 s.upstreams) (Does CloseClient)
 
 abbrev pub put_farewell : List Output → State → ℕ → List Output
 put_farewell outputs s code = put_end (put outputs (ToClient (spell (goaway s.high code)))) s
+
+-- ---- responses
+
+abbrev pub with_encoding : State → Table → State
+with_encoding s table = record s { encoding = table }
+
+-- a frame to the client is sent
+abbrev pub sent_frame : State → Frame → State
+sent_frame s frame = record s { greeted = true; untaken = s.untaken + length (spell frame) }
+
+-- a whole response is sent on its stream: its head's block, and its body in a frame of its own where it has one
+abbrev pub passed_back : State → ℕ → List ℕ → List ℕ → State
+passed_back s stream block [] = sent_frame s (head_frame stream true block)
+passed_back s stream block (octet ∷ body) = sent_frame (sent_frame s (head_frame stream false block)) (last_data stream (octet ∷ body))
+
+abbrev pub put_response : List Output → ℕ → List ℕ → List ℕ → List Output
+put_response outputs stream block [] = put outputs (ToClient (spell (head_frame stream true block)))
+put_response outputs stream block (octet ∷ body) =
+    put (put outputs (ToClient (spell (head_frame stream false block)))) (ToClient (spell (last_data stream (octet ∷ body))))
+
+-- The connection ends, with whatever table towards the client.
+pub record IsLeft (old new : State) (o o' : List Output) : Type 0 where
+  pub encoding : Table
+  pub state : new ≡ left (with_encoding old encoding) internal_error
+  pub outputs : o' ≡ put_farewell o old internal_error
+
+-- The connection of a whole response is closed, and the response is passed back on its stream.
+pub record IsPassedBack (old new : State) (k : ℕ) (e : Awaited) (o o' : List Output) : Type 0 where
+  pub head : Head
+  pub has_head : e.head ≡ Some head
+  pub block : List ℕ
+  pub next : Table
+  pub is_block : blocks.Block old.encoding block (section_of head) next
+  pub stream : e.stream < 2147483648
+  pub short_block : length block ≤ 16384
+  pub short_body : length e.body ≤ 16384
+  pub state : new ≡ passed_back (with_encoding (after old (Acts (Close k))) next) e.stream block e.body
+  pub outputs : o' ≡ put_response (put o (Does (Close k))) e.stream block e.body
+
+abbrev pub Responds : State → State → ℕ → Awaited → List Output → List Output → Type 0
+Responds old new k e o o' = IsLeft old new o o' ⊎ IsPassedBack old new k e o o'

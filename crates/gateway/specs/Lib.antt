@@ -1,5 +1,7 @@
 pub mod Views
 pub mod Setups
+pub mod Exchanges
+pub mod Heard
 pub mod Moves
 pub mod State
 pub mod Closing

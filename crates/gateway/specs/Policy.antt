@@ -1,9 +1,11 @@
 -- What the gateway may do: which move may come next, by its state and by what it owes.
-use Rattle.std.specs.Prelude.{◌≡◌, ℕ, suc, ◌%◌, ◌<◌, ◌≤◌, ◌==◌, Bool, true, false, not, ◌&&◌, nat_le, if◌then◌else◌, List, [], ◌∷◌, ◌++◌, length, None}
+use Rattle.std.specs.Prelude.{◌≡◌, ℕ, suc, ◌%◌, ◌<◌, ◌≤◌, ◌==◌, Bool, true, false, not, ◌&&◌, ◌||◌, nat_le, if◌then◌else◌, List, [], ◌∷◌, ◌++◌, length, Option, None, Some}
 use Rattle.model.specs.Messages.{Field, Request}
 use Rattle.model.specs.Messages.Item.{Block}
 use Rattle.model.specs.Tables.{Table}
-use Rattle.model.specs.Frames.{Frame, Fits, headers_kind, settings_kind, rst_stream_kind, is_ack, settings_frame, settings_ack, goaway, protocol_error, frame_size_error}
+use Rattle.model.specs.Blocks as blocks
+use Rattle.model.specs.ResponseHeads.{Head}
+use Rattle.model.specs.Frames.{Frame, Fits, headers_kind, continuation_kind, settings_kind, rst_stream_kind, is_ack, settings_frame, settings_ack, goaway, protocol_error, internal_error, frame_size_error}
 use Rattle.model.specs.Http1.{H1Request, forward}
 use Rattle.model.specs.Http2.{H2Request, authority_of, path_of}
 use Rattle.model.specs.Logs.{Event, Act, Output}
@@ -15,11 +17,15 @@ use Rattle.model.specs.Tapes.Breach.{WrongPreface, TooLong}
 use Rattle.model.specs.Tapes.Note.{Fields}
 use Rattle.model.specs.Decoding.{begun, completed, IsNoteOf, is_read}
 use Rattle.model.specs.Streams.{frame_items}
-use Rattle.gateway.specs.Moves.{Move, Outcome, Input, inputs, after_all, put_move}
-use Rattle.gateway.specs.Moves.Move.{Takes, Breaks, Hears, Sends, Acts}
+use Rattle.h1_reader.specs.Parts.{Part}
+use Rattle.h1_reader.specs.Standing.{State as Reader}
+use Rattle.gateway.specs.Exchanges.{Awaited, IsTold, head_after, body_of, exchange_at, section_of}
+use Rattle.gateway.specs.Moves.{Move, Outcome, Hearing, Input, inputs, after_all, put_move, head_frame, last_data}
+use Rattle.gateway.specs.Moves.Move.{Takes, Breaks, Hears, Sends, SendsHead, Acts}
+use Rattle.gateway.specs.Moves.Hearing.{Noticed, Told, Completed, Abandoned}
 use Rattle.gateway.specs.Moves.Outcome.{Settled, Served, Stopped}
 use Rattle.gateway.specs.declared.upstream.Upstream.{Upstream}
-use Rattle.gateway.specs.State.{State, upstream_at, after}
+use Rattle.gateway.specs.State.{State, upstream_at, upstreams_after, after}
 
 -- The frame's note is right behind this table, and leaves the table that is kept, unless the connection ends; no header
 -- block was begun before it.
@@ -84,16 +90,55 @@ MayDo s (ToUp k octets) = IsUp s k × ((upstream_at s.upstreams k).is_open ≡ t
 MayDo s (Close k) = IsUp s k
 MayDo s CloseClient = Unit {0}
 
+-- an upstream speaks, ends or fails
+abbrev pub is_upstreams : Event → Bool
+is_upstreams (Up k piece) = true
+is_upstreams (UpEnd k) = true
+is_upstreams (UpFailed k) = true
+is_upstreams _ = false
+
+-- A response is awaited of the connection, and its reader tells these parts of the octets.
+pub record MayTell (s : State) (k : ℕ) (piece : List ℕ) (added : List Part) (reader : Reader) (done : Bool) : Type 0 where
+  pub old : Awaited
+  pub found : exchange_at s.exchanges k ≡ Some old
+  pub told : IsTold old piece added reader done
+
+abbrev pub MayTellOf : State → Event → List Part → Reader → Bool → Type 0
+MayTellOf s (Up k piece) added reader done = MayTell s k piece added reader done
+MayTellOf s _ added reader done = ⊥
+
+-- What an event may come to: those of an upstream are read, or end the connection.
+abbrev pub MayHear : State → Event → Hearing → Type 0
+MayHear s event Noticed = is_upstreams event ≡ false
+MayHear s event (Told added reader) = MayTellOf s event added reader false
+MayHear s event (Completed added reader) = MayTellOf s event added reader true
+MayHear s event (Abandoned left encoding) = is_upstreams event ≡ true
+
+-- The frame can be spelled, ends no stream by force and is no part of a header block.
+pub record MaySend (frame : Frame) : Type 0 where
+  pub fits : Fits frame
+  pub no_reset : (frame.kind == rst_stream_kind) ≡ false
+  pub no_block : (frame.kind == headers_kind || frame.kind == continuation_kind) ≡ false
+
+-- The block says the fields, over the table towards the client, and can be spelled.
+pub record MaySendHead (s : State) (stream : ℕ) (fields : List Field) (ends : Bool) (block : List ℕ) (next : Table) : Type 0 where
+  pub open_yet : s.closed ≡ false
+  pub is_block : blocks.Block s.encoding block fields next
+  pub fits : Fits (head_frame stream ends block)
+
 abbrev pub Holds : State → Move → Type 0
 Holds s (Takes noted outcome) = IsNoted s.table noted outcome × MayBe s noted outcome
 Holds s (Breaks breach) = Unit {0}
-Holds s (Hears event) = is_in_order s event ≡ true
-Holds s (Sends frame) = Fits frame × ((frame.kind == rst_stream_kind) ≡ false)
+Holds s (Hears event hearing) = (is_in_order s event ≡ true) × MayHear s event hearing
+Holds s (Sends frame) = MaySend frame
+Holds s (SendsHead stream fields ends block next) = MaySendHead s stream fields ends block next
 Holds s (Acts act) = MayDo s act
 
 -- what is owed: a move that puts something out
 pub data Due : Type 0 where
   ToSend : (frame : Frame) → Due
+  -- a header block of these fields on a stream, whatever octets it is written in
+  ToSendHead : (stream : ℕ) → (fields : List Field) → (ends : Bool) → Due
   ToAct : (act : Act) → Due
 
 -- the closes of the connections that are open, where the first has this number
@@ -119,14 +164,38 @@ answer_frame s (Stopped code next) = farewell s code
 
 abbrev pub answer_event : State → Event → List Due
 answer_event s ClientEnd = closes s
-answer_event s (UpEnd k) = ToAct (Close k) ∷ []
 answer_event s _ = []
+
+-- a whole response on its stream: its head, and its body where it has one
+abbrev pub response_on : ℕ → Option Head → List ℕ → List Due
+response_on stream None body = []
+response_on stream (Some head) [] = ToSendHead stream (section_of head) true ∷ []
+response_on stream (Some head) (octet ∷ body) = ToSendHead stream (section_of head) false ∷ ToSend (last_data stream (octet ∷ body)) ∷ []
+
+-- a response is complete: its connection is closed, and it is passed back
+abbrev pub answer_exchange : ℕ → Option Awaited → List Part → List Due
+answer_exchange k None added = []
+answer_exchange k (Some e) added = ToAct (Close k) ∷ response_on e.stream (head_after e.head added) (e.body ++ body_of added)
+
+abbrev pub answer_response : State → Event → List Part → List Due
+answer_response s (Up k piece) added = answer_exchange k (exchange_at s.exchanges k) added
+answer_response s _ added = []
+
+-- the connections as an event leaves them
+abbrev pub noticed : State → Event → State
+noticed s event = record s { upstreams = upstreams_after s.upstreams (Hears event Noticed) }
+
+abbrev pub answer_hearing : State → Event → Hearing → List Due
+answer_hearing s event Noticed = answer_event s event
+answer_hearing s event (Told added reader) = []
+answer_hearing s event (Completed added reader) = answer_response s event added
+answer_hearing s event (Abandoned left encoding) = farewell (noticed s event) internal_error
 
 -- what a move asks for
 abbrev pub answer : State → Move → List Due
 answer s (Takes noted outcome) = answer_frame s outcome
 answer s (Breaks breach) = farewell s (breach_code breach)
-answer s (Hears event) = answer_event s event
+answer s (Hears event hearing) = answer_hearing s event hearing
 answer s _ = []
 
 -- the state, and what has to come next
@@ -148,8 +217,9 @@ rest_of (d ∷ ds) = ds
 abbrev pub owes_after : State → List Due → Move → List Due
 owes_after s owes (Takes noted outcome) = answer_frame s outcome
 owes_after s owes (Breaks breach) = farewell s (breach_code breach)
-owes_after s owes (Hears event) = answer_event s event
+owes_after s owes (Hears event hearing) = answer_hearing s event hearing
 owes_after s owes (Sends frame) = rest_of owes
+owes_after s owes (SendsHead stream fields ends block next) = rest_of owes
 owes_after s owes (Acts act) = rest_of owes
 
 abbrev pub point_after : Point → Move → Point
@@ -165,6 +235,7 @@ IsDue owes due = owes ≡ due ∷ rest_of owes
 
 abbrev pub InTurn : Point → Move → Type 0
 InTurn p (Sends frame) = IsDue p.owes (ToSend frame)
+InTurn p (SendsHead stream fields ends block next) = IsDue p.owes (ToSendHead stream fields ends)
 InTurn p (Acts act) = IsDue p.owes (ToAct act)
 InTurn p _ = IsQuiet p
 

@@ -14,6 +14,7 @@ use Rattle.gateway.specs.declared.preface.Start.TheVariants.{Whole, Part, Wrong}
 use Rattle.gateway.specs.Moves.{Move, tape_of, after_all}
 use Rattle.gateway.specs.Moves.Input.{OfEvent}
 use Rattle.gateway.specs.State.{start}
+use Rattle.gateway.specs.Exchanges.{exchanges_size}
 use Rattle.gateway.specs.Policy.{resting, point_after, AllAllowed, Answers, Begins}
 use Rattle.gateway.specs.Receiving.{Kept, IsRest, Receives}
 
@@ -28,10 +29,14 @@ pub record Standing : Type 0 where
   pub kept : Kept
   pub dead : Bool
 
--- what all lists of octets that the gateway holds sum to, the configuration aside: the client's octets that aren't a whole
--- frame, and the fields of the table, each with the 32 by which RFC 7541, section 4.1, counts it
+-- what all lists of octets that the gateway holds sum to, the configuration and the responses aside: the client's octets
+-- that aren't a whole frame, and the fields of both tables, each with the 32 by which RFC 7541, section 4.1, counts it
+abbrev pub held_outside : Standing → ℕ
+held_outside g = length g.kept.partial + total_size g.kept.state.table.fields + total_size g.kept.state.encoding.fields
+
+-- and those of the responses that are awaited
 abbrev pub held : Standing → ℕ
-held g = length g.kept.partial + total_size g.kept.state.table.fields
+held g = held_outside g + exchanges_size g.kept.state.exchanges
 
 abbrev pub held_bound : Setup → ℕ
 held_bound setup = 200000 + 100 * (setup.max_body + setup.max_response + 400000)

@@ -1,6 +1,8 @@
 //! A client's connection: what is kept of it, and what its frames and the other events do.
 
 ghost use Rattle.std.specs.Prelude.{◌≡◌, ◌≤◌, ◌<◌, ◌++◌, suc, length, drop, List, [], ◌∷◌, OnOk, IfOk, IfSome, false, true};
+ghost use Rattle.gateway.specs.Exchanges.{exchange_at, IsSmall};
+ghost use Rattle.gateway.specs.Moves.{head_frame, last_data};
 ghost use Rattle.model.specs.Frames.{spell, spell_number, settings_frame, settings_ack};
 ghost use Rattle.model.specs.Logs.Act.{Open as DoesOpen, ToUp as DoesUp};
 ghost use Rattle.model.specs.Logs.Output.{ToClient, Does};
@@ -12,21 +14,22 @@ ghost use Rattle.gateway.specs.State.{start, after, upstream_at as spec_upstream
 ghost use Rattle.gateway.specs.Moves.Input.{OfFrame, OfBreach, OfEvent};
 ghost use Rattle.model.specs.Tapes.Breach.{WrongPreface};
 ghost use Rattle.gateway.specs.Moves.Move.{Hears};
-ghost use Rattle.model.specs.Logs.Event.{UpFailed, UpTook};
+ghost use Rattle.gateway.specs.Moves.Hearing.{Noticed};
+ghost use Rattle.model.specs.Logs.Event.{Up, UpFailed, UpTook};
 ghost use Rattle.gateway.specs.Policy.{is_admitted, Answers, Begins, IsPlainSettings};
 ghost use Rattle.gateway.specs.Receiving.{Takes};
 ghost use Rattle.model.specs.Blocks.{Block as IsBlockOf};
-ghost use Rattle.header_blocks.specs.Bounds.{IsBounded as IsTableBounded};
 ghost use Rattle.model.specs.Messages.{Field as FieldLine};
-ghost use Rattle.gateway.specs.Connections.{greeted, settled, served, ended, left, put_end, put_farewell, with_table, IsTaken, IsHead};
+ghost use Rattle.gateway.specs.Connections.{greeted, settled, served, ended, left, put_end, put_farewell, with_table, without_exchange, awaiting, sent_frame, passed_back, put_response, Responds, IsTaken, IsHead, IsSmallState};
 
 use crate::config::Config;
 use crate::events::Event;
+use crate::exchange::{Exchange, Heard, put_at, section_of, take_at};
 use crate::outputs::Outputs;
-use crate::requests::read_request;
+use crate::requests::{Sendable, read_request};
 use crate::upstream::{Upstream, close_each, set_upstream, upstream_at};
 use frames::{Split, View};
-use header_blocks::{DecodeFault, Decoded, Decoder};
+use header_blocks::{DecodeFault, Decoded, Decoder, Encoder, Policy};
 use std::alloc::{AllocError, Global};
 use std::marker::Model;
 
@@ -36,6 +39,20 @@ const SETTINGS: [u8; 12] = [0, 3, 0, 0, 0, 100, 0, 6, 0, 0, 64, 0];
 
 /// The most that the sizes of a decoded block's fields may sum to.
 const LIST_LIMIT: usize = 16384;
+
+/// The octets of DATA that the client takes of the whole connection (RFC 9113, section 6.9.2).
+const FIRST_WINDOW: usize = 65535;
+
+/// How many octets for the client may not be taken when a response begins.
+const HIGH_WATER: u64 = 65536;
+
+/// The longest payload of a frame (RFC 9113, section 4.2).
+const LONGEST_PAYLOAD: usize = 16384;
+
+/// Flags of HEADERS, and the first of DATA too (RFC 9113, sections 6.1 and 6.2).
+const END_STREAM: u8 = 1;
+
+const END_HEADERS: u8 = 4;
 
 /// Error codes (RFC 9113, section 7).
 const PROTOCOL_ERROR: u32 = 1;
@@ -57,6 +74,9 @@ pub struct Connection {
     untaken: u64,
     upstreams: Vec<Upstream>,
     decoder: Decoder,
+    exchanges: Vec<Option<Exchange>>,
+    encoder: Encoder,
+    window: usize,
 }
 
 impl Model for Connection {
@@ -99,7 +119,7 @@ impl Connection {
     /// A connection to which nothing came.
     pub fn new(alloc: Global, config: Config) -> Connection
         ensures state { result ≡ start (setup_of config) }
-        ensures bounded { IsTableBounded result.table }
+        ensures small { IsSmallState result }
     {
         Connection {
             config,
@@ -110,6 +130,9 @@ impl Connection {
             untaken: 0,
             upstreams: Vec::new(alloc),
             decoder: Decoder::new(alloc, 4096),
+            exchanges: Vec::new(alloc),
+            encoder: Encoder::new(alloc, Policy::Plain),
+            window: FIRST_WINDOW,
         }
     }
 
@@ -152,7 +175,7 @@ impl Connection {
         requires { self.old.greeted ≡ false }
         ensures state { OnOk result (self.new ≡ greeted self.old) }
         ensures outputs { OnOk result (out.new ≡ put out.old (ToClient (spell settings_frame))) }
-        ensures bounded { IsTableBounded self.old.table → IsTableBounded self.new.table }
+        ensures small { IsSmallState self.old → IsSmallState self.new }
     {
         let view = View {
             kind: 4,
@@ -169,7 +192,7 @@ impl Connection {
     /// Sends the gateway's settings, unless they were sent.
     pub fn begin(&mut self, out: &mut Outputs) -> Result<(), AllocError>
         ensures begins { OnOk result (Begins self.old self.new out.old out.new) }
-        ensures bounded { IsTableBounded self.old.table → IsTableBounded self.new.table }
+        ensures small { IsSmallState self.old → IsSmallState self.new }
     {
         if !self.greeted {
             self.greet(out)?;
@@ -183,7 +206,7 @@ impl Connection {
         requires alive { self.old.closed ≡ false }
         ensures state { OnOk result (self.new ≡ settled self.old) }
         ensures outputs { OnOk result (out.new ≡ put out.old (ToClient (spell settings_ack))) }
-        ensures bounded { IsTableBounded self.old.table → IsTableBounded self.new.table }
+        ensures small { IsSmallState self.old → IsSmallState self.new }
     {
         let view = View {
             kind: 4,
@@ -201,25 +224,28 @@ impl Connection {
     /// Opens an upstream for a stream's request, and sends its text.
     fn serve(
         &mut self,
+        alloc: Global,
         stream: u32,
-        route: u32,
-        text: Vec<u8>,
+        request: Sendable,
         out: &mut Outputs,
     ) -> Result<(), AllocError>
         requires stream { stream < 2147483648 }
         requires few { length self.old.upstreams < 100 }
-        ensures state { OnOk result (self.new ≡ served self.old stream (length text.items)) }
-        ensures outputs { OnOk result (out.new ≡ put (put out.old (Does (DoesOpen (suc (length self.old.upstreams)) route))) (Does (DoesUp (suc (length self.old.upstreams)) text.items))) }
-        ensures bounded { IsTableBounded self.old.table → IsTableBounded self.new.table }
+        ensures state { OnOk result (self.new ≡ served self.old stream (length request.text.items) request.to_head) }
+        ensures outputs { OnOk result (out.new ≡ put (put out.old (Does (DoesOpen (suc (length self.old.upstreams)) request.route))) (Does (DoesUp (suc (length self.old.upstreams)) request.text.items))) }
+        ensures small { IsSmallState self.old → IsSmallState self.new }
     {
         let k = self.upstreams.len() as u32 + 1;
-        let untaken = text.len() as u64;
-        out.open_up(k, route)?;
-        out.send_up(k, text)?;
+        let untaken = request.text.len() as u64;
+        let exchange = Exchange::new(alloc, stream, request.to_head);
+        out.open_up(k, request.route)?;
+        out.send_up(k, request.text)?;
+        self.exchanges.reserve(1)?;
         self.upstreams.push(Upstream {
             is_open: true,
             untaken,
         })?;
+        self.exchanges.push(Some(exchange))?;
         self.high = stream;
         Ok(())
     }
@@ -228,7 +254,7 @@ impl Connection {
     fn end(&mut self, out: &mut Outputs) -> Result<(), AllocError>
         ensures state { OnOk result (self.new ≡ ended self.old) }
         ensures outputs { OnOk result (out.new ≡ put_end out.old self.old) }
-        ensures bounded { IsTableBounded self.old.table → IsTableBounded self.new.table }
+        ensures small { IsSmallState self.old → IsSmallState self.new }
     {
         close_each(&mut self.upstreams, out)?;
         self.closed = true;
@@ -240,7 +266,7 @@ impl Connection {
         requires { self.old.closed ≡ false }
         ensures state { OnOk result (self.new ≡ left self.old code) }
         ensures outputs { OnOk result (out.new ≡ put_farewell out.old self.old code) }
-        ensures bounded { IsTableBounded self.old.table → IsTableBounded self.new.table }
+        ensures small { IsSmallState self.old → IsSmallState self.new }
     {
         let payload = goaway_payload(self.high, code);
         let view = View {
@@ -262,7 +288,7 @@ impl Connection {
         requires first { self.old.settled ≡ false }
         requires alive { self.old.closed ≡ false }
         ensures answers { OnOk result (Answers self.old self.new out.old out.new (OfFrame (frame_of view.now) ∷ [])) }
-        ensures bounded { IsTableBounded self.old.table → IsTableBounded self.new.table }
+        ensures small { IsSmallState self.old → IsSmallState self.new }
     {
         if is_plain_settings(view) {
             return self.settle(out);
@@ -276,17 +302,16 @@ impl Connection {
         self.leave(code, out)
     }
 
-    /// The place of the route and the text of the request that a frame is, where it is one that goes on. Its block moves the
-    /// table.
+    /// The request that a frame is, where it is one that goes on. Its block moves the table.
     fn request_of(
         &mut self,
         alloc: Global,
         view: &View<'_>,
-    ) -> Result<Option<(u32, Vec<u8>)>, DecodeFault>
+    ) -> Result<Option<Sendable>, DecodeFault>
         ensures same { self.new ≡ with_table self.old self.new.table }
-        ensures bounded { IsTableBounded self.old.table → IsTableBounded self.new.table }
-        ensures taken { IfOk result (λ found. IfSome found (λ p. (fields : List FieldLine) × IsHead (frame_of view.now) × (self.old.high < view.now.id) × (view.now.id < 2147483648) × (length self.old.upstreams < 100)
-            × IsBlockOf self.old.table view.now.payload.now fields self.new.table × IsTaken self.old.setup.routes fields p.0 p.1.items)) }
+        ensures small { IsSmallState self.old → IsSmallState self.new }
+        ensures taken { IfOk result (λ found. IfSome found (λ p. (fields : List FieldLine) × IsHead (frame_of view.now) × (self.old.high < view.now.id) × (view.now.id < 2147483648) × (length self.old.upstreams < 100) × (length self.old.exchanges < 100)
+            × IsBlockOf self.old.table view.now.payload.now fields self.new.table × IsTaken self.old.setup.routes fields p.route p.text.items p.to_head)) }
     {
         let is_new = view.id % 2 == 1 && view.id > self.high && view.id < 2147483648;
         if view.kind != 1 || view.flags != 5 || !is_new || self.upstreams.len() >= 100 {
@@ -307,13 +332,13 @@ impl Connection {
     ) -> Result<(), AllocError>
         requires { self.old.closed ≡ false }
         ensures answers { OnOk result (Answers self.old self.new out.old out.new (OfFrame (frame_of view.now) ∷ [])) }
-        ensures bounded { IsTableBounded self.old.table → IsTableBounded self.new.table }
+        ensures small { IsSmallState self.old → IsSmallState self.new }
     {
         if !self.settled {
             return self.take_settings(view, out);
         }
         match self.request_of(alloc, view) {
-            Ok(Some((route, text))) => self.serve(view.id, route, text, out),
+            Ok(Some(request)) => self.serve(alloc, view.id, request, out),
             Ok(None) => self.leave(INTERNAL_ERROR, out),
             Err(DecodeFault::Memory) => Err(AllocError),
             Err(_) => self.leave(COMPRESSION_ERROR, out),
@@ -322,8 +347,8 @@ impl Connection {
 
     /// Takes a connection to an upstream as closed.
     fn drop_upstream(&mut self, k: u32)
-        ensures state { self.new ≡ after self.old (Hears (UpFailed k)) }
-        ensures bounded { IsTableBounded self.old.table → IsTableBounded self.new.table }
+        ensures state { self.new ≡ after self.old (Hears (UpFailed k) Noticed) }
+        ensures small { IsSmallState self.old → IsSmallState self.new }
     {
         let upstream = upstream_at(&self.upstreams, k);
         let closed = Upstream {
@@ -336,8 +361,8 @@ impl Connection {
     /// Counts octets as taken by an upstream's side.
     fn take_from(&mut self, k: u32, count: u64)
         requires { count ≤ (spec_upstream_at self.old.upstreams k).untaken }
-        ensures state { self.new ≡ after self.old (Hears (UpTook k count)) }
-        ensures bounded { IsTableBounded self.old.table → IsTableBounded self.new.table }
+        ensures state { self.new ≡ after self.old (Hears (UpTook k count) Noticed) }
+        ensures small { IsSmallState self.old → IsSmallState self.new }
     {
         let upstream = upstream_at(&self.upstreams, k);
         let less = Upstream {
@@ -347,23 +372,185 @@ impl Connection {
         set_upstream(&mut self.upstreams, k, less);
     }
 
+    /// Takes the response that is awaited of a connection off its place, if there is one.
+    fn take_exchange(&mut self, k: u32) -> Option<Exchange>
+        ensures found { result ≡ exchange_at self.old.exchanges k }
+        ensures state { self.new ≡ without_exchange self.old k }
+    {
+        take_at(&mut self.exchanges, k)
+    }
+
+    /// Awaits a response of a connection.
+    fn await_exchange(&mut self, k: u32, exchange: Exchange)
+        ensures { self.new ≡ awaiting self.old k exchange }
+    {
+        put_at(&mut self.exchanges, k, exchange);
+    }
+
+    /// Takes octets of an upstream.
+    fn take_octets(
+        &mut self,
+        alloc: Global,
+        k: u32,
+        octets: &[u8],
+        out: &mut Outputs,
+    ) -> Result<(), AllocError>
+        requires { is_admitted self.old (Up k octets.now) ≡ true }
+        ensures answers { OnOk result (Answers self.old self.new out.old out.new (OfEvent (Up k octets.now) ∷ [])) }
+        ensures small { IsSmallState self.old → IsSmallState self.new }
+    {
+        let Some(mut exchange) = self.take_exchange(k) else {
+            return self.leave(INTERNAL_ERROR, out);
+        };
+        match exchange.read(octets)? {
+            Heard::More => {
+                self.await_exchange(k, exchange);
+                Ok(())
+            }
+            Heard::Whole => self.respond(alloc, k, exchange, out),
+            Heard::Refused => self.leave(INTERNAL_ERROR, out),
+        }
+    }
+
+    /// Whether a response may go out now: its block and its body in a frame each, within the window and the high water.
+    fn may_respond(&self, block: usize, body: usize) -> bool
+        ensures { result ≡ true → (block ≤ 16384) × (body ≤ 16384) × (self.now.untaken ≤ 65535) }
+    {
+        block <= LONGEST_PAYLOAD
+            && body <= LONGEST_PAYLOAD
+            && body <= self.window
+            && self.untaken < HIGH_WATER
+    }
+
+    /// Closes the connection of a response that is whole and passes it back, where it may go out.
+    fn respond(
+        &mut self,
+        alloc: Global,
+        k: u32,
+        exchange: Exchange,
+        out: &mut Outputs,
+    ) -> Result<(), AllocError>
+        requires { self.old.closed ≡ false }
+        ensures responds { OnOk result (Responds self.old self.new k exchange out.old out.new) }
+        ensures small { IsSmallState self.old → IsSmallState self.new }
+    {
+        let stream = exchange.stream();
+        let (head, body) = exchange.into_response();
+        let Some(head) = head else {
+            return self.leave(INTERNAL_ERROR, out);
+        };
+        let fields = section_of(alloc, head)?;
+        let mut block = Vec::new(alloc);
+        self.encoder.encode(&fields, &mut block)?;
+        if !self.may_respond(block.len(), body.len()) {
+            return self.leave(INTERNAL_ERROR, out);
+        }
+        self.drop_upstream(k);
+        out.close_up(k)?;
+        self.pass_back(stream, &block, &body, out)
+    }
+
+    /// Sends a whole response: its head's block, and its body where it has one.
+    fn pass_back(
+        &mut self,
+        stream: u32,
+        block: &[u8],
+        body: &[u8],
+        out: &mut Outputs,
+    ) -> Result<(), AllocError>
+        requires stream { stream < 2147483648 }
+        requires block { length block.now ≤ 16384 }
+        requires body { length body.now ≤ 16384 }
+        requires alive { self.old.closed ≡ false }
+        requires room { self.old.untaken ≤ 65535 }
+        ensures state { OnOk result (self.new ≡ passed_back self.old stream block.now body.now) }
+        ensures outputs { OnOk result (out.new ≡ put_response out.old stream block.now body.now) }
+        ensures small { IsSmallState self.old → IsSmallState self.new }
+    {
+        if body.is_empty() {
+            return self.send_head(stream, block, true, out);
+        }
+        self.send_head(stream, block, false, out)?;
+        self.send_body(stream, body, out)
+    }
+
+    /// Sends a header block whole, which ends its stream or doesn't.
+    fn send_head(
+        &mut self,
+        stream: u32,
+        block: &[u8],
+        ends: bool,
+        out: &mut Outputs,
+    ) -> Result<(), AllocError>
+        requires stream { stream < 2147483648 }
+        requires block { length block.now ≤ 16384 }
+        requires alive { self.old.closed ≡ false }
+        requires room { self.old.untaken ≤ 65535 }
+        ensures state { OnOk result (self.new ≡ sent_frame self.old (head_frame stream ends block.now)) }
+        ensures outputs { OnOk result (out.new ≡ put out.old (ToClient (spell (head_frame stream ends block.now)))) }
+        ensures small { IsSmallState self.old → IsSmallState self.new }
+    {
+        let view = View {
+            kind: 1,
+            flags: if ends {
+                END_HEADERS + END_STREAM
+            } else {
+                END_HEADERS
+            },
+            id: stream,
+            payload: block,
+        };
+        out.send(&view)?;
+        self.greeted = true;
+        self.untaken += 9 + block.len() as u64;
+        Ok(())
+    }
+
+    /// Sends a whole body, which ends its stream.
+    fn send_body(&mut self, stream: u32, body: &[u8], out: &mut Outputs) -> Result<(), AllocError>
+        requires stream { stream < 2147483648 }
+        requires body { length body.now ≤ 16384 }
+        requires alive { self.old.closed ≡ false }
+        requires room { self.old.untaken ≤ 81928 }
+        ensures state { OnOk result (self.new ≡ sent_frame self.old (last_data stream body.now)) }
+        ensures outputs { OnOk result (out.new ≡ put out.old (ToClient (spell (last_data stream body.now)))) }
+        ensures small { IsSmallState self.old → IsSmallState self.new }
+    {
+        let view = View {
+            kind: 0,
+            flags: END_STREAM,
+            id: stream,
+            payload: body,
+        };
+        out.send(&view)?;
+        self.greeted = true;
+        self.window = self.window.saturating_sub(body.len());
+        self.untaken += 9 + body.len() as u64;
+        Ok(())
+    }
+
     /// Takes an event that isn't octets of the client.
-    pub fn hear(&mut self, event: &Event, out: &mut Outputs) -> Result<(), AllocError>
+    pub fn hear(
+        &mut self,
+        alloc: Global,
+        event: &Event,
+        out: &mut Outputs,
+    ) -> Result<(), AllocError>
         requires admitted { is_admitted self.old (event_of event.now) ≡ true }
         requires other { listed (event_of event.now) ≡ event_of event.now ∷ [] }
         ensures answers { OnOk result (Answers self.old self.new out.old out.new (OfEvent (event_of event.now) ∷ [])) }
-        ensures bounded { IsTableBounded self.old.table → IsTableBounded self.new.table }
+        ensures small { IsSmallState self.old → IsSmallState self.new }
     {
         match event {
             Event::Client(_) => unreachable!(),
             Event::ClientEnd => self.end(out)?,
             Event::ClientTook(count) => self.untaken -= *count,
-            Event::Up(_, _) => {}
-            Event::UpEnd(k) => {
+            Event::Up(k, octets) => self.take_octets(alloc, *k, octets, out)?,
+            Event::UpEnd(_) => self.leave(INTERNAL_ERROR, out)?,
+            Event::UpFailed(k) => {
                 self.drop_upstream(*k);
-                out.close_up(*k)?;
+                self.leave(INTERNAL_ERROR, out)?;
             }
-            Event::UpFailed(k) => self.drop_upstream(*k),
             Event::UpTook(k, count) => self.take_from(*k, *count),
         }
         Ok(())
@@ -378,7 +565,7 @@ impl Connection {
     ) -> Result<usize, AllocError>
         ensures within { IfOk result (λ used. used ≤ length text.now) }
         ensures takes { IfOk result (λ used. Takes self.old self.new out.old out.new text.now (drop used text.now)) }
-        ensures bounded { IsTableBounded self.old.table → IsTableBounded self.new.table }
+        ensures small { IsSmallState self.old → IsSmallState self.new }
     {
         let mut used = 0;
         while !self.closed {
@@ -402,7 +589,7 @@ impl Connection {
         requires { self.old.closed ≡ false }
         ensures answers { OnOk result (Answers self.old self.new out.old out.new (OfBreach WrongPreface ∷ [])) }
         ensures closed { OnOk result (self.new.closed ≡ true) }
-        ensures bounded { IsTableBounded self.old.table → IsTableBounded self.new.table }
+        ensures small { IsSmallState self.old → IsSmallState self.new }
     {
         self.leave(PROTOCOL_ERROR, out)
     }

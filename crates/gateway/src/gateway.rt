@@ -8,7 +8,7 @@ ghost use Rattle.gateway.specs.Setups.{setup_of, IsServable};
 ghost use Rattle.model.specs.Admission.{is_admitted as is_admitted_by_tape, room};
 ghost use Rattle.gateway.specs.Policy.{is_admitted};
 ghost use Rattle.gateway.specs.Receiving.{Receives, TakesBehind};
-ghost use Rattle.gateway.specs.Stands.{Happens, StepsTo, Stands, StandsNext, held, held_bound, fresh};
+ghost use Rattle.gateway.specs.Stands.{Happens, StepsTo, Stands, StandsNext, held, held_outside, held_bound, fresh};
 
 use crate::config::Config;
 use crate::connection::Connection;
@@ -46,9 +46,9 @@ impl Model for Gateway {
     ghost view = { λ g. record { kept = record { partial = g.partial.items; begun = g.begun; state = g.connection }; dead = g.dead } };
 
     ghost use Rattle.std.specs.Prelude.{◌<◌, length};
-    ghost use Rattle.header_blocks.specs.Bounds.{IsBounded as IsTableBounded};
+    ghost use Rattle.gateway.specs.Connections.{IsSmallState};
 
-    ghost invariant = { λ g. (length g.partial.items < 16393) × IsTableBounded g.connection.table };
+    ghost invariant = { λ g. (length g.partial.items < 16393) × IsSmallState g.connection };
 }
 
 /// Cuts octets off the front of a text.
@@ -106,8 +106,8 @@ impl Gateway {
         ensures dead { OnErr result (self.new.dead ≡ true) }
         ensures closed { IsErrOf result Fault.Closed ↔ (self.old.dead ≡ true) }
         ensures held { held self.new ≤ held_bound self.old.kept.state.setup }
-        // So far there are no records of streams, and this part of the bound is all.
-        ensures few { held self.new ≤ 200000 }
+        // What is held beside the responses stays below a part of the bound.
+        ensures outside { held_outside self.new ≤ 200000 }
     {
         if self.dead {
             return Err(Fault::Closed);
@@ -178,7 +178,7 @@ impl Gateway {
             | Event::Up(_, _)
             | Event::UpEnd(_)
             | Event::UpFailed(_)
-            | Event::UpTook(_, _) => self.connection.hear(event, out),
+            | Event::UpTook(_, _) => self.connection.hear(self.alloc, event, out),
         }
     }
 

@@ -4,6 +4,7 @@
 mod config;
 mod connection;
 mod events;
+mod exchange;
 mod gateway;
 mod outputs;
 mod preface;

@@ -70,14 +70,25 @@ fn expects(fields: &[Field]) -> bool {
         .any(|field| field.name() == b"expect".as_slice())
 }
 
-/// The place of the route that a request takes, and its text, where the fields are a request that goes on: so far any
-/// without a body that neither is CONNECT nor expects something first.
+/// A request as it is sent.
+#[derive(Drop)]
+pub struct Sendable {
+    /// The place of its route, from 0.
+    pub route: u32,
+    /// Its text.
+    pub text: Vec<u8>,
+    /// Its method is HEAD.
+    pub to_head: bool,
+}
+
+/// The request that fields are, where it is one that goes on: so far any without a body that neither is CONNECT nor expects
+/// something first.
 pub fn read_request(
     alloc: Global,
     routes: &[Route],
     fields: &[Field],
-) -> Result<Option<(u32, Vec<u8>)>, AllocError>
-    ensures { IfOk result (λ found. IfSome found (λ p. IsTaken (map route_of routes.now) fields.now p.0 p.1.items)) }
+) -> Result<Option<Sendable>, AllocError>
+    ensures { IfOk result (λ found. IfSome found (λ p. IsTaken (map route_of routes.now) fields.now p.route p.text.items p.to_head)) }
 {
     let head = match check_head(alloc, fields, true) {
         Ok(head) => head,
@@ -92,5 +103,9 @@ pub fn read_request(
     };
     let mut text = Vec::new(alloc);
     let _whole = Sender::start(&head, true, &mut text)?;
-    Ok(Some((route, text)))
+    Ok(Some(Sendable {
+        route,
+        text,
+        to_head: head.method() == b"HEAD".as_slice(),
+    }))
 }

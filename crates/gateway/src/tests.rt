@@ -75,13 +75,14 @@ fn a_run_answers_each_event(rt: HostRuntime) -> Result<(), Fail> {
     let mut events = Vec::new(alloc);
     events.push(Event::Client(Vec::from_slice(alloc, &FIRST_REQUEST)?))?;
     events.push(Event::UpTook(1, 75))?;
-    events.push(Event::UpEnd(1))?;
+    let response = b"HTTP/1.1 200 OK\r\nContent-Length: 2\r\n\r\nhi";
+    events.push(Event::Up(1, Vec::from_slice(alloc, response)?))?;
     events.push(Event::ClientEnd)?;
     match run(alloc, &config, &events) {
         Ok(outputs) => {
             assert_eq!(rt; outputs.len(), 4);
             assert!(rt; outputs[1].is_empty());
-            assert!(rt; matches!(outputs[2].as_slice(), [Output::Close(1)]));
+            assert!(rt; matches!(outputs[2].as_slice(), [Output::Close(1), Output::Client(_)]));
             assert!(rt; matches!(outputs[3].as_slice(), [Output::CloseClient]));
         }
         Err(_) => return Err("the run was refused".into()),

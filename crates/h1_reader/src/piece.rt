@@ -45,6 +45,13 @@ impl ResponseHead {
     {
         &self.fields
     }
+
+    /// The fields in their order, taken out of the head.
+    pub fn into_fields(self) -> Vec<Field>
+        ensures { result.items ≡ self.fields }
+    {
+        self.fields
+    }
 }
 
 /// A part of a response, in the order in which they come.

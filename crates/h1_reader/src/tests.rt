@@ -181,3 +181,19 @@ fn faults(rt: HostRuntime) -> Result<(), Fail> {
     }
     Ok(())
 }
+
+#[test]
+fn fields_are_taken_out(rt: HostRuntime) -> Result<(), Fail> {
+    let alloc = rt.alloc();
+    let mut reader = Reader::new(alloc, false);
+    let mut pieces = Vec::new(alloc);
+    assert!(rt; reader.feed(b"HTTP/1.1 200 OK\r\nA: b\r\n\r\n", &mut pieces).is_ok());
+    let Some(Piece::Head(head)) = pieces.pop() else {
+        return Err("no head".into());
+    };
+    let fields = head.into_fields();
+    assert_eq!(rt; fields.len(), 1);
+    assert_eq!(rt; fields[0].name(), b"a".as_slice());
+    assert_eq!(rt; fields[0].value(), b"b".as_slice());
+    Ok(())
+}

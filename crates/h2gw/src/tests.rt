@@ -144,6 +144,117 @@ fn an_index_without_an_entry_ends_the_connection(rt: HostRuntime) -> Result<(), 
     Ok(())
 }
 
+/// A response with a body of two octets.
+const RESPONSE: &[u8] = b"HTTP/1.1 200 OK\r\nContent-Length: 2\r\n\r\nhi";
+
+/// Its connection is closed, and it goes back as HEADERS, and DATA with END_STREAM.
+const PASSED: &str = "X 1\nC 000005010400000001880f0d01320000020001000000016869\n";
+
+/// Octets in hex.
+fn hex_of(alloc: Global, octets: &[u8]) -> Result<String, Fail> {
+    let mut text = String::new(alloc);
+    for octet in octets {
+        write!(text, "{octet:02x}")?;
+    }
+    Ok(text)
+}
+
+/// The script of a first request, and what it prints.
+fn first_request(alloc: Global) -> Result<(String, String), Fail> {
+    let script = format!(in alloc; "C {PREFACE}{SETTINGS}{REQUEST}\n")?;
+    let lines = format!(in alloc; "C {OWN_SETTINGS}{ACK}\nO 1 0\nU 1 {GET}\n")?;
+    Ok((script, lines))
+}
+
+/// Behind a first request these lines of a script print those.
+fn assert_answers(rt: &impl Abort, alloc: Global, more: &str, wanted: &str) -> Result<(), Fail> {
+    let (mut script, mut lines) = first_request(alloc)?;
+    script.push_str(more)?;
+    lines.push_str(wanted)?;
+    assert_prints(rt, alloc, &script, &lines);
+    Ok(())
+}
+
+#[test]
+fn response_in_one_piece(rt: HostRuntime) -> Result<(), Fail> {
+    let alloc = rt.alloc();
+    let octets = hex_of(alloc, RESPONSE)?;
+    let more = format!(in alloc; "U 1 {octets}\n")?;
+    assert_answers(&rt, rt.alloc(), &more, PASSED)
+}
+
+#[test]
+fn response_cut_at_each_octet(rt: HostRuntime) -> Result<(), Fail> {
+    let alloc = rt.alloc();
+    for cut in 0..RESPONSE.len() {
+        let (front, back) = RESPONSE.split_at(cut);
+        let front = hex_of(alloc, front)?;
+        let back = hex_of(alloc, back)?;
+        let more = format!(in alloc; "U 1 {front}\nU 1 {back}\n")?;
+        assert_answers(&rt, rt.alloc(), &more, PASSED)?;
+    }
+    Ok(())
+}
+
+#[test]
+fn response_in_single_octets(rt: HostRuntime) -> Result<(), Fail> {
+    let alloc = rt.alloc();
+    let mut more = String::new(alloc);
+    for octet in RESPONSE {
+        writeln!(more, "U 1 {octet:02x}")?;
+    }
+    assert_answers(&rt, rt.alloc(), &more, PASSED)
+}
+
+#[test]
+fn responses_without_a_body(rt: HostRuntime) -> Result<(), Fail> {
+    let alloc = rt.alloc();
+    let empty = hex_of(alloc, b"HTTP/1.1 200 OK\r\nContent-Length: 0\r\n\r\n")?;
+    let more = format!(in alloc; "U 1 {empty}\n")?;
+    let wanted = "X 1\nC 000005010500000001880f0d0130\n";
+    assert_answers(&rt, rt.alloc(), &more, wanted)?;
+    let head = "C 00000b0105000000010204484541448684410168\n";
+    let script = format!(in alloc; "C {PREFACE}{SETTINGS}\n{head}")?;
+    let answer = hex_of(alloc, b"HTTP/1.1 200 OK\r\nContent-Length: 5\r\n\r\n")?;
+    let script = format!(in alloc; "{script}U 1 {answer}\n")?;
+    let text = hex_of(
+        alloc,
+        b"HEAD / HTTP/1.1\r\nhost: h\r\nvia: 2.0 h2gw\r\nconnection: close\r\n\r\n",
+    )?;
+    let lines = format!(in alloc; "C {OWN_SETTINGS}{ACK}\nO 1 0\nU 1 {text}\nX 1\nC 000005010500000001880f0d0135\n")?;
+    assert_prints(&rt, rt.alloc(), &script, &lines);
+    Ok(())
+}
+
+#[test]
+fn each_stream_has_its_own_response(rt: HostRuntime) -> Result<(), Fail> {
+    let alloc = rt.alloc();
+    let second = "C 000004010500000003828684be\n";
+    let other = hex_of(alloc, b"HTTP/1.1 404 Not Found\r\nx-a: 1\r\nContent-Length: 1\r\n\r\n!")?;
+    let first = hex_of(alloc, RESPONSE)?;
+    let more = format!(in alloc; "{second}U 2 {other}\nU 1 {first}\n")?;
+    let wanted = format!(in alloc; "O 2 0\nU 2 {GET}\nX 2\nC 00000c0104000000038d0003782d6101310f0d013100000100010000000321\n{PASSED}")?;
+    assert_answers(&rt, rt.alloc(), &more, &wanted)
+}
+
+#[test]
+fn what_is_no_response_ends_the_connection(rt: HostRuntime) -> Result<(), Fail> {
+    let alloc = rt.alloc();
+    let goaway = "C 0000080700000000000000000100000002\n";
+    let junk = hex_of(alloc, b"junk")?;
+    let short = hex_of(alloc, b"HTTP/1.1 200 OK\r\nContent-Length: 3\r\n\r\nhi")?;
+    for more in [
+        format!(in alloc; "U 1 {junk}\n")?,
+        "UE 1\n".to_owned(alloc)?,
+        format!(in alloc; "U 1 {short}\nUE 1\n")?,
+    ] {
+        let wanted = format!(in alloc; "{goaway}X 1\nXC\n")?;
+        assert_answers(&rt, rt.alloc(), &more, &wanted)?;
+    }
+    let wanted = format!(in alloc; "{goaway}XC\n")?;
+    assert_answers(&rt, rt.alloc(), "UF 1\n", &wanted)
+}
+
 #[test]
 fn refused_scripts(rt: HostRuntime) -> Result<(), Fail> {
     assert_refuses(&rt, rt.alloc(), "CT 1", "line 1: not admitted\n");

@@ -13,3 +13,5 @@ returns c =
     (ap (λ m. bytes_eq m (codes "CONNECT")) (sym c.method.ensures) ∙ ap (bytes_eq c.method.result.now) (sym c.as_slice.ensures) ∙ sym c.eq.ensures ∙ c.if-eq.false)
     (rw (← c.authority.ensures, ← c.path.ensures) c.in-Some.ensures)
     (subst (λ x. Sending c.in-Ok.head true x [] c.in_ok-_whole._whole) (sym text) sent.2)
+    c.eq-2.result
+    (c.eq-2.ensures ∙ ap (bytes_eq c.method-2.result.now) c.as_slice-2.ensures ∙ ap (λ m. bytes_eq m (codes "HEAD")) c.method-2.ensures)

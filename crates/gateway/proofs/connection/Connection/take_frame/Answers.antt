@@ -11,13 +11,13 @@ use Rattle.gateway.proofs.connection.Connection.take_frame.Goals as goal
 
 pub returns-in-Ok-Some-clause-answers : goal.returns-in-Ok-Some-clause-answers
 returns-in-Ok-Some-clause-answers c =
-    let (fields, head, above, low, few, block, is_taken) = rw c.in-Ok-Some.field-0-is at c.in-Ok-Some.ensures.taken in
+    let (fields, head, above, low, few, room, block, is_taken) = rw c.in-Ok-Some.field-0-is at c.in-Ok-Some.ensures.taken in
     let same = c.request_of.ensures.same in
     let settled_yet : c.args.self.now.settled ≡ true = ap (λ (s : State). s.settled) (sym c.self.view_is) ∙ c.if-not-self.false in
     ok_both c.serve.result c.serve.ensures.state c.serve.ensures.outputs
-    (λ es eo. answers_served c.args.self.now c.serve.new.self c.args.out.now c.serve.new.out (frame_of c.args.view.now) c.in-Ok-Some.route c.in-Ok-Some.text.items fields c.request_of.new.self.table c.requires settled_yet above head block is_taken
-    (es ∙ ap (λ s. served s c.args.view.now.id (length c.in-Ok-Some.text.items)) same)
-    (eo ∙ ap (λ (s : State). put (put c.args.out.now (Does (Open (suc (length s.upstreams)) c.in-Ok-Some.route))) (Does (ToUp (suc (length s.upstreams)) c.in-Ok-Some.text.items))) same))
+    (λ es eo. answers_served c.args.self.now c.serve.new.self c.args.out.now c.serve.new.out (frame_of c.args.view.now) c.in-Ok-Some.request.route c.in-Ok-Some.request.text.items c.in-Ok-Some.request.to_head fields c.request_of.new.self.table c.requires settled_yet above head block is_taken
+    (es ∙ ap (λ s. served s c.args.view.now.id (length c.in-Ok-Some.request.text.items) c.in-Ok-Some.request.to_head) same)
+    (eo ∙ ap (λ (s : State). put (put c.args.out.now (Does (Open (suc (length s.upstreams)) c.in-Ok-Some.request.route))) (Does (ToUp (suc (length s.upstreams)) c.in-Ok-Some.request.text.items))) same))
 
 pub returns-in-Ok-None-clause-answers : goal.returns-in-Ok-None-clause-answers
 returns-in-Ok-None-clause-answers c =
@@ -32,5 +32,5 @@ returns-in-Err c =
     let settled_yet : c.args.self.now.settled ≡ true = ap (λ (s : State). s.settled) (sym c.self.view_is) ∙ c.if-not-self.false in record {
       answers = ok_both c.leave-in-Err.result c.leave-in-Err.ensures.state c.leave-in-Err.ensures.outputs
           (λ es eo. answers_stopped c.args.self.now c.leave-in-Err.new.self c.args.out.now c.leave-in-Err.new.out (frame_of c.args.view.now) 9 c.request_of.new.self.table c.requires (λ first. absurd (let f : true ≡ false = sym settled_yet ∙ first in cc)) (es ∙ ap (λ s. left s 9) same) (eo ∙ ap (λ s. put_farewell c.args.out.now s 9) same));
-      bounded = λ b. c.leave-in-Err.ensures.bounded (c.request_of.ensures.bounded b);
+      small = λ b. c.leave-in-Err.ensures.small (c.request_of.ensures.small b);
     }

@@ -7,7 +7,7 @@ use Rattle.gateway.proofs.Receiving.{taking_none, taking_more, takes_all, takes_
 use Rattle.gateway.proofs.connection.Connection.take_frames.Goals as goal
 
 pub loop-self-init : goal.loop-self-init
-loop-self-init c = record { within = omega arith; bounded = λ b. b; taking = taking_none c.args.self.now c.args.out.now c.args.text.now }
+loop-self-init c = record { within = omega arith; small = λ b. b; taking = taking_none c.args.self.now c.args.out.now c.args.text.now }
 
 pub loop-self-preserved : goal.loop-self-preserved
 loop-self-preserved c =
@@ -17,7 +17,7 @@ loop-self-preserved c =
     let h = c.in-Frame.ensures in
     let long = ap length (slice_rest text used) in record {
       within = omega (arith, h.within, length-drop used text, long, c.loop-self.invariant.within);
-      bounded = λ b. c.take_frame.ensures.bounded (c.loop-self.invariant.bounded b);
+      small = λ b. c.take_frame.ensures.small (c.loop-self.invariant.small b);
       taking = taking_more c.args.self.now c.loop-self.self c.take_frame.new.self c.args.out.now c.loop-self.out c.take_frame.new.out text (drop used text) (take n (drop used text)) (drop (used + n) text) (frame_of c.in-Frame.view) c.loop-self.invariant.taking
           (subst (λ r. Spells (take n r) (frame_of c.in-Frame.view)) (slice_rest text used) h.spells)
           (cut text used n)

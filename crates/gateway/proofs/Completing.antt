@@ -1,0 +1,162 @@
+-- Concern: a response that is complete goes back on its stream.
+use Rattle.std.proofs.Common.{◌≡◌, ℕ, ◌≤◌, true, false, ◌==◌, List, [], ◌∷◌, ◌++◌, length, refl, sym, ◌∙◌, ap, subst, append-nil, arith, if◌then◌else◌, inl, inr}
+use Rattle.std.specs.Prelude.{Option, None, Some}
+use Rattle.std.proofs.lemmas.Bool.Decides.{eqb_tells}
+use Rattle.model.specs.Http2.{HasHead}
+use Rattle.model.specs.ResponseHeads.{Head}
+use Rattle.model.specs.Responses.{H1Response}
+use Rattle.model.specs.Setup.{Setup}
+use Rattle.model.specs.Logs.Act.{Close}
+use Rattle.model.specs.Logs.Event.{Up}
+use Rattle.model.specs.Tapes.{Entry, sent}
+use Rattle.model.specs.Tapes.Entry.{Happened}
+use Rattle.model.specs.Streams.{Story, items}
+use Rattle.model.specs.Requests.{Opened, opens}
+use Rattle.model.specs.Deliveries.{Delivery, ReadsAs, IsPartOf, nothing}
+use Rattle.model.specs.Available.{heard, has_ended, items_on, IsIn, IsAvailable, IsDelivered, Deliveries, asks_for_head}
+use Rattle.h1_reader.specs.Parts.{Part}
+use Rattle.h1_reader.specs.Standing.{State as Reader, is_done}
+use Rattle.gateway.specs.Exchanges.{Awaited, gathered, head_after, body_of, IsTold, exchange_at, with_exchange}
+use Rattle.gateway.specs.Moves.Move.{Hears}
+use Rattle.gateway.specs.Moves.Hearing.{Completed}
+use Rattle.gateway.specs.State.{State, after}
+use Rattle.gateway.specs.Policy.{Due, response_on, answer_exchange}
+use Rattle.gateway.specs.Policy.Due.{ToAct}
+use Rattle.gateway.proofs.Owed.{to_open, all_opens}
+use Rattle.gateway.proofs.Giving.{Giving}
+use Rattle.gateway.proofs.Responding.{items_owed, all_items, Answered, answered_more, Waiting, WaitingIf, Responding, waiting_same, opened_at, streams_apart, low_in, changed_at, changed_other, heard_other}
+use Rattle.gateway.proofs.Awaiting.{serving_in, items_stay, waits_on, all_told, unheard_still, with_size, IsWhole, whole_response, response_items, owed_on, reads_back}
+
+-- a response asks for no connection
+pub response_opens : (stream id : ℕ) (head : Option Head) (body : List ℕ) → to_open stream (response_on id head body) ≡ []
+response_opens stream id None body = refl
+response_opens stream id (Some head) [] = refl
+response_opens stream id (Some head) (octet ∷ body) = refl
+
+pub exchange_opens : (stream k : ℕ) (e : Option Awaited) (added : List Part) → to_open stream (answer_exchange k e added) ≡ []
+exchange_opens stream k None added = refl
+exchange_opens stream k (Some e) added = response_opens stream e.stream (head_after e.head added) (e.body ++ body_of added)
+
+-- a whole response is a front of itself
+whole_part : (interims : List Head) (head : Head) (body : List ℕ) → (let d : Delivery = record { interims = interims; head = Some head; body = body; whole = true } in IsPartOf d d)
+whole_part interims head body = record { interims = refl; head_is = refl; body = record { rest = []; is = sym (append-nil body) }; whole = λ e. (e, refl) }
+
+module _ (t : List Entry) (s : State) (k : ℕ) (piece : List ℕ) (added : List Part) (reader : Reader) (old : Awaited) (g : Giving t s []) (h : Responding t s []) (on : s.closed ≡ false) (low : 1 ≤ k) (within : k ≤ length s.upstreams) (found : exchange_at s.exchanges k ≡ Some old) (tells : IsTold old piece added reader true) where
+  abbrev e : Entry
+  e = Happened (Up k piece)
+
+  abbrev now : Awaited
+  now = gathered old added reader
+
+  abbrev due : List Due
+  due = ToAct (Close k) ∷ response_on old.stream now.head now.body
+
+  there : (o : Opened) × IsIn o (opens t) × (o.k ≡ k)
+  there = opened_at (opens t) k g.numbered low (let c = g.count in omega (arith, c, within))
+
+  abbrev o : Opened
+  o = there.0
+
+  w : Waiting (e ∷ t) [] o now
+  w = waits_on t s k piece added reader true old g h on low within found tells o there.1 there.2
+
+  told : is_done w.parts ≡ true
+  unfolding w
+  told = all_told t s k piece added reader true old g h on low within found tells o there.1 there.2 refl
+
+  r : IsWhole (e ∷ t) o.k now
+  r = whole_response (e ∷ t) [] o now w told
+
+  -- what streams are to be sent
+  brings : (stream : ℕ) → items_owed stream due ≡ (if old.stream == stream then response_items r.response.head r.response.body else [])
+  brings stream =
+      ap (λ x. items_owed stream (response_on old.stream x now.body)) r.head
+      ∙ ap (λ x. items_owed stream (response_on old.stream (Some r.response.head) x)) r.body
+      ∙ sym (owed_on stream old.stream r.response.head r.response.body)
+
+  brings_none : (stream : ℕ) → (old.stream ≡ stream → ⊥) → all_items stream (e ∷ t) due ≡ all_items stream t []
+  brings_none stream other = elim (eqb_tells old.stream stream) [
+    | inl x ↦ absurd (other x.1)
+    | inr x ↦ ap (λ y. items_on stream (sent t) ++ y) (brings stream ∙ ap (λ b. if b then response_items r.response.head r.response.body else []) x.0)
+  ]
+
+  -- the response was available
+  available : IsAvailable s.setup (e ∷ t) old.stream (record { interims = []; head = Some r.response.head; body = r.response.body; whole = true })
+  available =
+      let v = serving_in s.setup t [] o (opens t) g.serving there.1 in
+      let story_now = items_stay t s [] e o g there.1 in
+      let story_is : items o.stream (e ∷ t) ≡ _ = story_now ∙ ap (λ (x : Story). x.items) v.told in
+      let has : HasHead (items o.stream (e ∷ t)) v.fields = subst (λ x. HasHead x v.fields) (sym story_is) refl in
+      let to_head : reader.to_head ≡ asks_for_head v.fields = w.for_head v.fields has in
+      let ended : has_ended o.k (e ∷ t) ≡ false = h.not_ended on o.k in
+      record {
+        o = o;
+        is_opened = there.1;
+        is_given = sym w.stream;
+        request_head = v.fields;
+        has_head = subst (λ x. HasHead (items x (e ∷ t)) v.fields) (sym w.stream) has;
+        answers = inl (record {
+          response = r.response;
+          is_whole = subst (λ b. H1Response (heard o.k (e ∷ t)) b (asks_for_head v.fields) r.response) (sym ended) (subst (λ b. H1Response (heard o.k (e ∷ t)) false b r.response) to_head r.is_whole);
+          says = ap (λ (is : List Head). let d : Delivery = record { interims = is; head = Some r.response.head; body = r.response.body; whole = true } in d) (sym r.no_interims);
+        });
+      }
+
+  answered_now : (stream : ℕ) → Answered s.setup (e ∷ t) (all_items stream (e ∷ t) due) stream
+  answered_now stream = elim (eqb_tells old.stream stream) [
+    | inl x ↦ (
+        let bare : all_items stream t [] ≡ [] = ap (λ n. all_items n t []) (sym x.1 ∙ w.stream) ∙ w.unsent in
+        let sent_none : items_on stream (sent t) ≡ [] = sym (append-nil (items_on stream (sent t))) ∙ bare in
+        let all : all_items stream (e ∷ t) due ≡ response_items r.response.head r.response.body =
+        ap (λ y. y ++ items_owed stream due) sent_none ∙ brings stream ∙ ap (λ b. if b then response_items r.response.head r.response.body else []) x.0 in
+        subst (λ y. Answered s.setup (e ∷ t) y stream) (sym all) (inr (record {
+          delivery = record { interims = []; head = Some r.response.head; body = r.response.body; whole = true };
+          reads = reads_back (heard o.k (e ∷ t)) reader.to_head r.response r.is_whole;
+          was = record {
+            later = [];
+            earlier = e ∷ t;
+            is = refl;
+            source = record { interims = []; head = Some r.response.head; body = r.response.body; whole = true };
+            available = subst (λ n. IsAvailable s.setup (e ∷ t) n (record { interims = []; head = Some r.response.head; body = r.response.body; whole = true })) x.1 available;
+            part = whole_part [] r.response.head r.response.body;
+          };
+        })))
+    | inr x ↦ subst (λ y. Answered s.setup (e ∷ t) y stream) (sym (brings_none stream x.1)) (answered_more s.setup t e (all_items stream t []) stream (h.answered stream))
+  ]
+
+  no_opens : all_opens (e ∷ t) due ≡ opens t
+  no_opens = ap (λ x. x ++ opens t) (response_opens _ old.stream now.head now.body)
+
+  pub responding_completed : Responding (e ∷ t) (after s (Hears (Up k piece) (Completed added reader))) due
+  responding_completed = record {
+    encodes = h.encodes;
+    no_block = h.no_block;
+    decoded = h.decoded;
+    waiting = λ _ c m'.
+        let m : IsIn c (opens t) = subst (IsIn c) no_opens m' in
+        elim (eqb_tells c.k k) [
+          | inl x ↦ subst (WaitingIf (e ∷ t) due c) (sym (ap (exchange_at (with_exchange s.exchanges k None)) x.1 ∙ changed_at s.exchanges k None low (let n = h.count on in let q = g.count in omega (arith, n, q, within)))) tt
+          | inr x ↦ (
+              let other : c.k ≡ o.k → ⊥ = λ same. x.1 (same ∙ there.2) in
+              let apart : old.stream ≡ c.stream → ⊥ = λ same. streams_apart c o (opens t) g.apart m there.1 other (sym same ∙ w.stream) in
+              subst (WaitingIf (e ∷ t) due c) (sym (changed_other s.exchanges k c.k None x.1))
+              (waiting_same t e [] due c (exchange_at s.exchanges c.k) (heard_other c.k k piece t x.1) (items_stay t s [] e c g m) (brings_none c.stream apart) (h.waiting on c m))
+              )
+        ];
+    count = λ _. with_size s.exchanges k None ∙ h.count on ∙ ap length (sym no_opens);
+    unheard = unheard_still t s k piece added reader true old g h on low within found tells;
+    not_ended = λ _. h.not_ended on;
+    answered = answered_now;
+    unsent = λ _ stream lt. brings_none stream (λ same. let le = low_in s.high o (opens t) g.low there.1 in let at = w.stream in absurd (omega (arith, same, lt, le, at))) ∙ h.unsent on stream lt;
+  }
+
+-- ---- the clause on responses
+
+delivered : (setup : Setup) (t : List Entry) (stream : ℕ) → Answered setup t (items_on stream (sent t) ++ []) stream → IsDelivered setup t stream
+delivered setup t stream (inl none) =
+    let bare : items_on stream (sent t) ≡ [] = sym (append-nil (items_on stream (sent t))) ∙ none in
+    record { delivery = nothing; reads = subst (λ x. ReadsAs x nothing) (sym bare) (record { interim_items = []; rest = []; is = refl; interims = tt; answer = (refl, refl, refl) }); available = inl refl }
+delivered setup t stream (inr a) = record { delivery = a.delivery; reads = subst (λ x. ReadsAs x a.delivery) (append-nil (items_on stream (sent t))) a.reads; available = inr a.was }
+
+pub deliveries_hold : (t : List Entry) (s : State) → Responding t s [] → Deliveries s.setup t
+deliveries_hold t s h = record { table = h.encodes.0; decodes = h.encodes.1; decoded = h.decoded; delivered = λ stream. delivered s.setup t stream (h.answered stream) }

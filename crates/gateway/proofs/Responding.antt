@@ -1,0 +1,355 @@
+-- Concern: what is awaited of the upstreams, and what each stream was sent or is to be.
+use Rattle.std.proofs.Common.{◌≡◌, ℕ, zero, suc, ◌<◌, ◌≤◌, true, false, Bool, ◌==◌, ◌&&◌, ◌||◌, List, [], ◌∷◌, ◌++◌, length, refl, sym, ◌∙◌, ap, subst, append_assoc, arith, if◌then◌else◌, inl, inr, ◌-◌}
+use Rattle.std.specs.Prelude.{Option, None, Some, ◌⊎◌, cond}
+use Rattle.std.proofs.lemmas.List.{take_all, get_or-set_same, get_or-set_other}
+use Rattle.std.proofs.lemmas.List.Folds.{list_any-append}
+use Rattle.std.proofs.lemmas.Bool.{cases_lt, eq-eqb}
+use Rattle.std.proofs.lemmas.Bool.Decides.{eqb_tells}
+use Rattle.model.specs.Messages.{Field, Item}
+use Rattle.model.specs.Messages.Item.{Block}
+use Rattle.model.specs.Tables.{Table}
+use Rattle.model.specs.Blocks as blocks
+use Rattle.model.specs.Frames.{Frame, headers_kind, continuation_kind, has_flag, ends_headers, ends_stream, content}
+use Rattle.model.specs.Http2.{HasHead}
+use Rattle.model.specs.ResponseHeads.{Head}
+use Rattle.model.specs.Setup.{Setup}
+use Rattle.model.specs.Logs.Act.{CloseClient, Close}
+use Rattle.model.specs.Logs.Event.{Up}
+use Rattle.model.specs.Tapes.{Note, Noted, Entry, sent}
+use Rattle.model.specs.Tapes.Note.{NoBlock, Fields, Undecodable, Unread}
+use Rattle.model.specs.Tapes.Entry.{Happened, Sent}
+use Rattle.model.specs.Decoding.{Partial, begun, joined, completed, Decodes, IsNoteOf, is_read, are_read}
+use Rattle.model.specs.Streams.{items, frame_items}
+use Rattle.model.specs.Requests.{Opened, opens, AreNumbered, AreApart, IsGivenNone}
+use Rattle.model.specs.Deliveries.{Delivery, ReadsAs}
+use Rattle.model.specs.Available.{heard, has_ended, items_on, IsIn, WasAvailable, asks_for_head, is_decoded, are_decoded}
+use Rattle.h1_reader.specs.Parts.{Part}
+use Rattle.h1_reader.specs.Parts.Part.{Interim, Final, Body, Done}
+use Rattle.h1_reader.specs.Standing.{Stands}
+use Rattle.gateway.specs.declared.upstream.Upstream.{Upstream}
+use Rattle.gateway.specs.Exchanges.{Awaited, head_after, body_of, is_interim, has_interim, exchange_at, with_exchange}
+use Rattle.gateway.specs.Moves.{head_frame}
+use Rattle.gateway.specs.State.{State}
+use Rattle.gateway.specs.Policy.{Due, closes_from, farewell}
+use Rattle.gateway.specs.Policy.Due.{ToSend, ToSendHead, ToAct}
+use Rattle.gateway.proofs.Owed.{all_opens}
+use Rattle.gateway.proofs.Giving.{AreLow}
+
+-- ---- what streams are to be sent
+
+abbrev pub plain : Frame → Noted
+plain frame = record { frame = frame; note = NoBlock }
+
+abbrev pub items_owed : ℕ → List Due → List Item
+items_owed stream [] = []
+items_owed stream (ToSend frame ∷ ds) = (if frame.id == stream then frame_items None (plain frame) else []) ++ items_owed stream ds
+items_owed stream (ToSendHead id fields ends ∷ ds) = (if id == stream then Block fields ends ∷ [] else []) ++ items_owed stream ds
+items_owed stream (ToAct act ∷ ds) = items_owed stream ds
+
+-- all items that a stream was brought or is to be
+abbrev pub all_items : ℕ → List Entry → List Due → List Item
+all_items stream t ds = items_on stream (sent t) ++ items_owed stream ds
+
+-- the ends of connections bring no stream anything
+pub closes_bring : (stream k : ℕ) (us : List Upstream) → items_owed stream (closes_from k us ++ ToAct CloseClient ∷ []) ≡ []
+closes_bring stream k [] = refl
+closes_bring stream k (u ∷ us) =
+    elim u.is_open as (λ b. items_owed stream (cond b (ToAct (Close k) ∷ closes_from (suc k) us) (closes_from (suc k) us) ++ ToAct CloseClient ∷ []) ≡ []) [ true ↦ closes_bring stream (suc k) us | false ↦ closes_bring stream (suc k) us ]
+
+pub no_items : (b : Bool) (more : List Item) → (if b then [] else []) ++ more ≡ more
+no_items true more = refl
+no_items false more = refl
+
+pub farewell_brings : (stream : ℕ) (s : State) (code : ℕ) → items_owed stream (farewell s code) ≡ []
+farewell_brings stream s code = no_items (0 == stream) (items_owed stream (closes_from 1 s.upstreams ++ ToAct CloseClient ∷ [])) ∙ closes_bring stream 1 s.upstreams
+
+-- ---- what is awaited, and what was answered
+
+-- The items are a response, or a part of one, that was available for the stream.
+pub record AnsweredBy (setup : Setup) (t : List Entry) (all : List Item) (stream : ℕ) : Type 0 where
+  pub delivery : Delivery
+  pub reads : ReadsAs all delivery
+  pub was : WasAvailable setup t stream delivery
+
+abbrev pub Answered : Setup → List Entry → List Item → ℕ → Type 0
+Answered setup t all stream = (all ≡ []) ⊎ AnsweredBy setup t all stream
+
+pub answered_more : (setup : Setup) (t : List Entry) (e : Entry) (all : List Item) (stream : ℕ) → Answered setup t all stream → Answered setup (e ∷ t) all stream
+answered_more setup t e all stream (inl none) = inl none
+answered_more setup t e all stream (inr a) =
+    let w = a.was in
+    inr (record {
+      delivery = a.delivery;
+      reads = a.reads;
+      was = record { later = e ∷ w.later; earlier = w.earlier; is = ap (λ x. e ∷ x) w.is; source = w.source; available = w.available; part = w.part };
+    })
+
+-- A response is awaited for the stream of a connection: its reader stands for all that was heard, what it told is kept, and
+-- the stream was sent nothing.
+pub record Waiting (t : List Entry) (ds : List Due) (o : Opened) (e : Awaited) : Type 0 where
+  pub stream : e.stream ≡ o.stream
+  pub parts : List Part
+  pub stands : Stands (heard o.k t) parts e.reader
+  pub head : e.head ≡ head_after None parts
+  pub body : e.body ≡ body_of parts
+  pub no_interim : has_interim parts ≡ false
+  pub for_head : (fields : List Field) → HasHead (items o.stream t) fields → e.reader.to_head ≡ asks_for_head fields
+  pub unsent : all_items o.stream t ds ≡ []
+
+abbrev pub WaitingIf : List Entry → List Due → Opened → Option Awaited → Type 0
+WaitingIf t ds o None = Unit {0}
+WaitingIf t ds o (Some e) = Waiting t ds o e
+
+pub record Responding (t : List Entry) (s : State) (ds : List Due) : Type 0 where
+  pub encodes : (table : Table) × Decodes (sent t) table × (s.closed ≡ false → s.encoding ≡ table)
+  pub no_block : begun (sent t) ≡ None
+  pub decoded : are_decoded (sent t) ≡ true
+  pub waiting : s.closed ≡ false → (o : Opened) → IsIn o (all_opens t ds) → WaitingIf t ds o (exchange_at s.exchanges o.k)
+  pub count : s.closed ≡ false → length s.exchanges ≡ length (all_opens t ds)
+  pub unheard : (k : ℕ) → length (opens t) < k → heard k t ≡ []
+  pub not_ended : s.closed ≡ false → (k : ℕ) → has_ended k t ≡ false
+  pub answered : (stream : ℕ) → Answered s.setup t (all_items stream t ds) stream
+  pub unsent : s.closed ≡ false → (stream : ℕ) → s.high < stream → all_items stream t ds ≡ []
+
+-- ---- nothing of it happens
+
+-- the entry leaves what was sent and heard as it is, and the requests of streams that were given connections
+pub record Idles (t : List Entry) (e : Entry) (ds ds' : List Due) : Type 0 where
+  pub same_sent : sent (e ∷ t) ≡ sent t
+  pub same_owed : (stream : ℕ) → items_owed stream ds' ≡ items_owed stream ds
+  pub same_heard : (k : ℕ) → heard k (e ∷ t) ≡ heard k t
+  pub same_ended : (k : ℕ) → has_ended k (e ∷ t) ≡ has_ended k t
+  pub same_opens : all_opens (e ∷ t) ds' ≡ all_opens t ds
+  pub no_fewer : length (opens t) ≤ length (opens (e ∷ t))
+  pub same_heads : (o : Opened) → IsIn o (all_opens t ds) → items o.stream (e ∷ t) ≡ items o.stream t
+
+pub same_items : (t : List Entry) (e : Entry) (ds ds' : List Due) (stream : ℕ) → sent (e ∷ t) ≡ sent t → items_owed stream ds' ≡ items_owed stream ds → all_items stream (e ∷ t) ds' ≡ all_items stream t ds
+same_items t e ds ds' stream es eo = ap (λ x. items_on stream x ++ items_owed stream ds') es ∙ ap (λ x. items_on stream (sent t) ++ x) eo
+
+pub waiting_same : (t : List Entry) (e : Entry) (ds ds' : List Due) (o : Opened) (w : Option Awaited) → heard o.k (e ∷ t) ≡ heard o.k t → items o.stream (e ∷ t) ≡ items o.stream t → all_items o.stream (e ∷ t) ds' ≡ all_items o.stream t ds → WaitingIf t ds o w → WaitingIf (e ∷ t) ds' o w
+waiting_same t e ds ds' o None eh ei ea h = tt
+waiting_same t e ds ds' o (Some a) eh ei ea h = record {
+  stream = h.stream;
+  parts = h.parts;
+  stands = subst (λ x. Stands x h.parts a.reader) (sym eh) h.stands;
+  head = h.head;
+  body = h.body;
+  no_interim = h.no_interim;
+  for_head = λ fields has. h.for_head fields (subst (λ x. HasHead x fields) ei has);
+  unsent = ea ∙ h.unsent;
+}
+
+pub responding_idle : (t : List Entry) (e : Entry) (s s' : State) (ds ds' : List Due) → Responding t s ds → Idles t e ds ds' → s'.setup ≡ s.setup → (s'.closed ≡ false → s.closed ≡ false) → s'.exchanges ≡ s.exchanges → s'.encoding ≡ s.encoding → s'.high ≡ s.high → Responding (e ∷ t) s' ds'
+responding_idle t e s s' ds ds' h i es ec ex en eh = record {
+  encodes = (h.encodes.0, subst (λ x. Decodes x h.encodes.0) (sym i.same_sent) h.encodes.1, (λ o. en ∙ h.encodes.2 (ec o)));
+  no_block = ap begun i.same_sent ∙ h.no_block;
+  decoded = ap are_decoded i.same_sent ∙ h.decoded;
+  waiting = λ on o m.
+      let m' : IsIn o (all_opens t ds) = subst (IsIn o) i.same_opens m in
+      subst (λ x. WaitingIf (e ∷ t) ds' o (exchange_at x o.k)) (sym ex)
+      (waiting_same t e ds ds' o (exchange_at s.exchanges o.k) (i.same_heard o.k) (i.same_heads o m') (same_items t e ds ds' o.stream i.same_sent (i.same_owed o.stream)) (h.waiting (ec on) o m'));
+  count = λ on. ap length ex ∙ h.count (ec on) ∙ ap length (sym i.same_opens);
+  unheard = λ k lt. i.same_heard k ∙ h.unheard k (let n = i.no_fewer in omega (arith, n, lt));
+  not_ended = λ on k. i.same_ended k ∙ h.not_ended (ec on) k;
+  answered = λ stream.
+      subst (λ x. Answered s'.setup (e ∷ t) x stream) (sym (same_items t e ds ds' stream i.same_sent (i.same_owed stream)))
+      (subst (λ x. Answered x (e ∷ t) (all_items stream t ds) stream) (sym es) (answered_more s.setup t e (all_items stream t ds) stream (h.answered stream)));
+  unsent = λ on stream lt. same_items t e ds ds' stream i.same_sent (i.same_owed stream) ∙ h.unsent (ec on) stream (subst (λ n. n < stream) eh lt);
+}
+
+-- the connection ends
+pub responding_ends : (t : List Entry) (e : Entry) (s s' : State) (ds' : List Due) → Responding t s [] → s'.setup ≡ s.setup → s'.closed ≡ true → sent (e ∷ t) ≡ sent t → ((stream : ℕ) → items_owed stream ds' ≡ []) → length (opens t) ≤ length (opens (e ∷ t)) → ((k : ℕ) → length (opens t) < k → heard k (e ∷ t) ≡ heard k t) → Responding (e ∷ t) s' ds'
+responding_ends t e s s' ds' h es ec et none fewer eh = record {
+  encodes = (h.encodes.0, subst (λ x. Decodes x h.encodes.0) (sym et) h.encodes.1, (λ o. ended o));
+  no_block = ap begun et ∙ h.no_block;
+  decoded = ap are_decoded et ∙ h.decoded;
+  waiting = λ on. ended on;
+  count = λ on. ended on;
+  unheard = λ k lt. let lt' : length (opens t) < k = omega (arith, fewer, lt) in eh k lt' ∙ h.unheard k lt';
+  not_ended = λ on. ended on;
+  answered = λ stream.
+      subst (λ x. Answered s'.setup (e ∷ t) x stream) (sym (same_items t e [] ds' stream et (none stream)))
+      (subst (λ x. Answered x (e ∷ t) (all_items stream t []) stream) (sym es) (answered_more s.setup t e (all_items stream t []) stream (h.answered stream)));
+  unsent = λ on. ended on;
+}
+  where
+    ended : {A : Type 0} → s'.closed ≡ false → A
+    ended on = absurd (let f : true ≡ false = sym ec ∙ on in cc)
+
+-- ---- frames are sent
+
+read_of_decoded : (ns : List Noted) → are_decoded ns ≡ true → are_read ns ≡ true
+read_of_decoded [] e = refl
+read_of_decoded (n ∷ ns) e = note n.note (read_of_decoded ns) e
+  where
+    note : (x : Note) → (are_decoded ns ≡ true → are_read ns ≡ true) → (is_decoded x && are_decoded ns) ≡ true → (is_read x && are_read ns) ≡ true
+    note NoBlock rest e = rest e
+    note (Fields fields) rest e = rest e
+    note Undecodable rest e = absurd (let f : false ≡ true = e in cc)
+    note Unread rest e = absurd (let f : false ≡ true = e in cc)
+
+-- a frame that is no part of a header block
+no_end : (frame : Frame) → (frame.kind == headers_kind || frame.kind == continuation_kind) ≡ false → ends_headers frame ≡ false
+no_end frame e = ap (λ b. b && has_flag 4 frame) e
+
+no_begin : (frame : Frame) → (frame.kind == headers_kind || frame.kind == continuation_kind) ≡ false → joined None frame ≡ None
+no_begin frame e = cases (frame.kind == headers_kind) refl
+  where
+    cases : (b : Bool) → (frame.kind == headers_kind) ≡ b → joined None frame ≡ None
+    cases false f = ap (λ b. if b then Some (record { id = frame.id; ends = ends_stream frame; fragments = content frame }) else None) f
+    cases true f = absurd (let g : true ≡ false = sym (ap (λ b. b || frame.kind == continuation_kind) f) ∙ e in cc)
+
+module _ (t : List Entry) (s s' : State) (frame : Frame) (ds : List Due) (h : Responding t s (ToSend frame ∷ ds)) (no_part : (frame.kind == headers_kind || frame.kind == continuation_kind) ≡ false) (es : s'.setup ≡ s.setup) (ec : s'.closed ≡ s.closed) (ex : s'.exchanges ≡ s.exchanges) (en : s'.encoding ≡ s.encoding) (eh : s'.high ≡ s.high) (same_stories : (stream : ℕ) → items stream (Sent (plain frame) ∷ t) ≡ items stream t) where
+  abbrev noted : Noted
+  noted = plain frame
+
+  abbrev due : List Due
+  due = ToSend frame ∷ ds
+
+  none : completed (sent t) frame ≡ None
+  none = ap (λ b. if b then joined (begun (sent t)) frame else None) (no_end frame no_part)
+
+  moved : (stream : ℕ) → all_items stream (Sent noted ∷ t) ds ≡ all_items stream t due
+  moved stream =
+      ap (λ b. (items_on stream (sent t) ++ (if frame.id == stream then frame_items b noted else [])) ++ items_owed stream ds) none
+      ∙ append_assoc (items_on stream (sent t)) (if frame.id == stream then frame_items None noted else []) (items_owed stream ds)
+
+  pub responding_sent : Responding (Sent noted ∷ t) s' ds
+  responding_sent = record {
+    encodes = (
+      h.encodes.0,
+      (h.encodes.0, h.encodes.1, subst (λ b. IsNoteOf b h.encodes.0 NoBlock h.encodes.0) (sym none) (refl, refl), read_of_decoded (sent t) h.decoded),
+      (λ o. en ∙ h.encodes.2 (sym ec ∙ o)),
+    );
+    no_block = ap (λ b. if b then None else joined (begun (sent t)) frame) (no_end frame no_part) ∙ ap (λ b. joined b frame) h.no_block ∙ no_begin frame no_part;
+    decoded = h.decoded;
+    waiting = λ on o m.
+        subst (λ x. WaitingIf (Sent noted ∷ t) ds o (exchange_at x o.k)) (sym ex)
+        (waiting_same t (Sent noted) due ds o (exchange_at s.exchanges o.k) refl (same_stories o.stream) (moved o.stream) (h.waiting (sym ec ∙ on) o m));
+    count = λ on. ap length ex ∙ h.count (sym ec ∙ on);
+    unheard = h.unheard;
+    not_ended = λ on k. h.not_ended (sym ec ∙ on) k;
+    answered = λ stream.
+        subst (λ x. Answered s'.setup (Sent noted ∷ t) x stream) (sym (moved stream))
+        (subst (λ x. Answered x (Sent noted ∷ t) (all_items stream t due) stream) (sym es) (answered_more s.setup t (Sent noted) (all_items stream t due) stream (h.answered stream)));
+    unsent = λ on stream lt. moved stream ∙ h.unsent (sym ec ∙ on) stream (subst (λ n. n < stream) eh lt);
+  }
+
+-- a whole header block
+whole_head : (begun_before : Option Partial) (stream : ℕ) (ends : Bool) (block : List ℕ) → begun_before ≡ None → (if ends_headers (head_frame stream ends block) then joined begun_before (head_frame stream ends block) else None) ≡ Some (record { id = stream; ends = ends; fragments = block })
+whole_head begun_before stream true block e =
+    ap (λ b. joined b (head_frame stream true block)) e
+    ∙ ap (λ (xs : List ℕ). Some (let p : Partial = record { id = stream; ends = true; fragments = xs } in p)) (take_all (length block - 0 - 0) block (omega arith))
+whole_head begun_before stream false block e =
+    ap (λ b. joined b (head_frame stream false block)) e
+    ∙ ap (λ (xs : List ℕ). Some (let p : Partial = record { id = stream; ends = false; fragments = xs } in p)) (take_all (length block - 0 - 0) block (omega arith))
+
+ends_at : (stream : ℕ) (ends : Bool) (block : List ℕ) → ends_headers (head_frame stream ends block) ≡ true
+ends_at stream true block = refl
+ends_at stream false block = refl
+
+module _ (t : List Entry) (s s' : State) (id : ℕ) (fields : List Field) (ends : Bool) (block : List ℕ) (next : Table) (ds : List Due) (h : Responding t s (ToSendHead id fields ends ∷ ds)) (on : s.closed ≡ false) (is_block : blocks.Block s.encoding block fields next)
+    (es : s'.setup ≡ s.setup) (ec : s'.closed ≡ s.closed) (ex : s'.exchanges ≡ s.exchanges) (en : s'.encoding ≡ next) (eh : s'.high ≡ s.high) (same_stories : (stream : ℕ) → items stream (Sent (record { frame = head_frame id ends block; note = Fields fields }) ∷ t) ≡ items stream t) where
+  abbrev headed : Noted
+  headed = record { frame = head_frame id ends block; note = Fields fields }
+
+  abbrev due_head : List Due
+  due_head = ToSendHead id fields ends ∷ ds
+
+  whole : completed (sent t) (head_frame id ends block) ≡ Some (record { id = id; ends = ends; fragments = block })
+  whole = whole_head (begun (sent t)) id ends block h.no_block
+
+  moved_head : (stream : ℕ) → all_items stream (Sent headed ∷ t) ds ≡ all_items stream t due_head
+  moved_head stream =
+      ap (λ b. (items_on stream (sent t) ++ (if id == stream then frame_items b headed else [])) ++ items_owed stream ds) whole
+      ∙ append_assoc (items_on stream (sent t)) (if id == stream then Block fields ends ∷ [] else []) (items_owed stream ds)
+
+  pub responding_head : Responding (Sent headed ∷ t) s' ds
+  responding_head = record {
+    encodes = (
+      next,
+      (h.encodes.0, h.encodes.1, subst (λ b. IsNoteOf b h.encodes.0 (Fields fields) next) (sym whole) (subst (λ x. blocks.Block x block fields next) (h.encodes.2 on) is_block), read_of_decoded (sent t) h.decoded),
+      (λ o. en),
+    );
+    no_block = ap (λ b. if b then None else joined (begun (sent t)) (head_frame id ends block)) (ends_at id ends block);
+    decoded = h.decoded;
+    waiting = λ o c m.
+        subst (λ x. WaitingIf (Sent headed ∷ t) ds c (exchange_at x c.k)) (sym ex)
+        (waiting_same t (Sent headed) due_head ds c (exchange_at s.exchanges c.k) refl (same_stories c.stream) (moved_head c.stream) (h.waiting on c m));
+    count = λ o. ap length ex ∙ h.count on;
+    unheard = h.unheard;
+    not_ended = λ o k. h.not_ended on k;
+    answered = λ stream.
+        subst (λ x. Answered s'.setup (Sent headed ∷ t) x stream) (sym (moved_head stream))
+        (subst (λ x. Answered x (Sent headed ∷ t) (all_items stream t due_head) stream) (sym es) (answered_more s.setup t (Sent headed) (all_items stream t due_head) stream (h.answered stream)));
+    unsent = λ o stream lt. moved_head stream ∙ h.unsent on stream (subst (λ n. n < stream) eh lt);
+  }
+
+-- ---- one response among those that are awaited
+
+pub in_back : (o : Opened) (os : List Opened) (n : ℕ) → AreNumbered os → IsIn o os → length os ≤ n → o.k ≤ n
+in_back o [] n num m le = absurd m
+in_back o (p ∷ os) n num (inl same) le = let at = num.0 in let e : o.k ≡ p.k = ap (λ (x : Opened). x.k) same in omega (arith, at, e, le)
+in_back o (p ∷ os) n num (inr m) le = in_back o os n num.1 m (omega (arith, le))
+
+-- the connection of a number
+pub opened_at : (os : List Opened) (k : ℕ) → AreNumbered os → 1 ≤ k → k ≤ length os → (o : Opened) × IsIn o os × (o.k ≡ k)
+opened_at [] k num low le = absurd (omega arith)
+opened_at (o ∷ os) k num low le = elim (cases_lt k (suc (length os))) [
+  | inl less ↦ (let r = opened_at os k num.1 low (omega (arith, less)) in (r.0, inr r.1, r.2))
+  | inr from ↦ (o, inl refl, (let at = num.0 in omega (arith, at, from, le)))
+]
+
+given_none : (stream : ℕ) (o : Opened) (os : List Opened) → IsGivenNone stream os → IsIn o os → stream ≡ o.stream → ⊥
+given_none stream o [] apart m e = m
+given_none stream o (p ∷ os) apart (inl same) e = apart.0 (e ∙ ap (λ (x : Opened). x.stream) same)
+given_none stream o (p ∷ os) apart (inr m) e = given_none stream o os apart.1 m e
+
+-- connections of different numbers have different streams
+pub streams_apart : (o p : Opened) (os : List Opened) → AreApart os → IsIn o os → IsIn p os → (o.k ≡ p.k → ⊥) → o.stream ≡ p.stream → ⊥
+streams_apart o p [] a m n other e = m
+streams_apart o p (q ∷ os) a (inl x) (inl y) other e = other (ap (λ (z : Opened). z.k) (x ∙ sym y))
+streams_apart o p (q ∷ os) a (inl x) (inr n) other e = given_none q.stream p os a.0 n (sym (ap (λ (z : Opened). z.stream) x) ∙ e)
+streams_apart o p (q ∷ os) a (inr m) (inl y) other e = given_none q.stream o os a.0 m (sym (ap (λ (z : Opened). z.stream) y) ∙ sym e)
+streams_apart o p (q ∷ os) a (inr m) (inr n) other e = streams_apart o p os a.1 m n other e
+
+pub low_in : (high : ℕ) (o : Opened) (os : List Opened) → AreLow high os → IsIn o os → o.stream ≤ high
+low_in high o [] low m = absurd m
+low_in high o (p ∷ os) low (inl same) = let e : o.stream ≡ p.stream = ap (λ (x : Opened). x.stream) same in let le = low.0 in omega (arith, e, le)
+low_in high o (p ∷ os) low (inr m) = low_in high o os low.1 m
+
+-- one place of what is awaited changes, and the others stay
+pub changed_at : (es : List (Option Awaited)) (k : ℕ) (w : Option Awaited) → 1 ≤ k → k ≤ length es → exchange_at (with_exchange es k w) k ≡ w
+changed_at es zero w low le = absurd (omega arith)
+changed_at es (suc n) w low le = get_or-set_same es n w None (omega arith)
+
+pub changed_other : (es : List (Option Awaited)) (k j : ℕ) (w : Option Awaited) → (j ≡ k → ⊥) → exchange_at (with_exchange es k w) j ≡ exchange_at es j
+changed_other es zero j w other = refl
+changed_other es (suc n) zero w other = refl
+changed_other es (suc n) (suc j) w other = get_or-set_other es n j w None (λ e. other (ap suc e))
+
+-- ---- parts that are told one after another
+
+pub head_more : (head : Option Head) (a b : List Part) → head_after head (a ++ b) ≡ head_after (head_after head a) b
+head_more head [] b = refl
+head_more head (Interim h ∷ a) b = head_more head a b
+head_more head (Final h ∷ a) b = head_more (Some h) a b
+head_more head (Body octets ∷ a) b = head_more head a b
+head_more head (Done ∷ a) b = head_more head a b
+
+pub body_more : (a b : List Part) → body_of (a ++ b) ≡ body_of a ++ body_of b
+body_more [] b = refl
+body_more (Interim h ∷ a) b = body_more a b
+body_more (Final h ∷ a) b = body_more a b
+body_more (Body octets ∷ a) b = ap (λ x. octets ++ x) (body_more a b) ∙ sym (append_assoc octets (body_of a) (body_of b))
+body_more (Done ∷ a) b = body_more a b
+
+pub interim_more : (a b : List Part) → has_interim a ≡ false → has_interim b ≡ false → has_interim (a ++ b) ≡ false
+interim_more a b ea eb = list_any-append is_interim a b ∙ ap (λ x. x || has_interim b) ea ∙ eb
+
+-- the octets of one upstream are heard
+pub heard_here : (k : ℕ) (piece : List ℕ) (t : List Entry) → heard k (Happened (Up k piece) ∷ t) ≡ heard k t ++ piece
+heard_here k piece t = ap (λ b. if b then heard k t ++ piece else heard k t) (eq-eqb k k refl)
+
+pub heard_other : (j k : ℕ) (piece : List ℕ) (t : List Entry) → (j ≡ k → ⊥) → heard j (Happened (Up k piece) ∷ t) ≡ heard j t
+heard_other j k piece t other = elim (eqb_tells j k) [ inl x ↦ absurd (other x.1) | inr x ↦ ap (λ b. if b then heard j t ++ piece else heard j t) x.0 ]

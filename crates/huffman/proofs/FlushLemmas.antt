@@ -8,7 +8,7 @@ use Rattle.std.proofs.lemmas.Grind.{flat_map-append}
 use Rattle.model.specs.Huffman.{bits, octet_bits}
 use Rattle.huffman.specs.Waiting.{Flushes, pending_bits}
 use Rattle.huffman.specs.Decoding.{Adds}
-use Rattle.huffman.specs.declared.encoder.Pending.{Pending}
+use Rattle.huffman.specs.declared.pending.Pending.{Pending}
 use Rattle.huffman.proofs.BitLemmas.{split_eight}
 
 -- what the loop of the octets keeps

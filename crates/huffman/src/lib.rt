@@ -1,14 +1,23 @@
 //! The Huffman code of HPACK (RFC 7541, section 5.2 and appendix B).
+//!
+//! Both ways take as many steps as there are octets in the text and in the string, whatever they are. Decoding looks a whole
+//! code up at a step: one of at most eight bits in a table of these eight bits, and a longer one among the widths that codes
+//! have. Encoding appends an octet's code as one number, and the room for the text is made once.
 #![tactic(auto)]
 
+mod codes;
 mod decoder;
 mod encoder;
-mod ones;
+mod long_codes;
+mod pending;
+#[cfg(test)]
+mod plain;
+#[cfg(test)]
+mod printed_codes;
+mod short_codes;
 #[cfg(test)]
 mod tests;
-mod tree;
 mod words;
-mod zeros;
 
 pub use crate::decoder::{HuffFault, decode};
 pub use crate::encoder::{encode, encoded_len};

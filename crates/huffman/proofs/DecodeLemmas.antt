@@ -1,10 +1,10 @@
 -- Codes are taken off bits.
-use Rattle.std.proofs.Common.{◌≡◌, ℕ, zero, suc, ◌+◌, ◌-◌, ◌/◌, ◌%◌, ◌^◌, ◌*◌, ◌<◌, ◌≤◌, Bool, true, false, nat_eq, nat_lt, List, [], ◌∷◌, ◌++◌, length, take, drop, get_or, refl, ap, sym, ◌∙◌, subst, arith, append_assoc, eqb-true, eq-eqb}
+use Rattle.std.proofs.Common.{◌≡◌, ℕ, zero, suc, ◌+◌, ◌-◌, ◌/◌, ◌%◌, ◌^◌, ◌*◌, ◌<◌, ◌≤◌, Bool, true, false, nat_eq, nat_le, List, [], ◌∷◌, ◌++◌, length, take, drop, get_or, refl, ap, sym, ◌∙◌, subst, arith, append_assoc, eqb-true, eq-eqb}
 use Rattle.std.specs.Bool.{OnTrue, OnFalse}
 use Rattle.std.proofs.lemmas.List.{append-nil}
 use Rattle.model.specs.Huffman.{bits, octet_bits, IsCode, AreCodes}
 use Rattle.model.proofs.HuffmanLemmas.{one_code, not_padding}
-use Rattle.huffman.specs.Decoding.{BeginsWith, EndsString, IsBadlyPadded, IsPadding, Decodes, IsFaultOf, Adds}
+use Rattle.huffman.specs.Decoding.{EndsString, IsBadlyPadded, IsPadding, Decodes, IsFaultOf, Adds}
 use Rattle.huffman.specs.Fronts.{IsUnended}
 use Rattle.huffman.specs.Taking.{Stops, Takes}
 use Rattle.huffman.specs.Waiting.{pending_bits}
@@ -210,8 +210,8 @@ padding_no waiting below few = tested (nat_eq waiting.number (1 * 2 ^ waiting.wi
         let yes : nat_eq waiting.number (1 * 2 ^ waiting.width % 18446744073709551616 - 1) ≡ true = eq-eqb waiting.number (1 * 2 ^ waiting.width % 18446744073709551616 - 1) same in
         cc
 
-pub no_padding : (waiting : Pending) → waiting.number < 2 ^ waiting.width → 8 ≤ waiting.width → OnFalse (nat_lt waiting.width 8) (IsPadding (pending_bits waiting) → ⊥)
-no_padding waiting below many = tested (nat_lt waiting.width 8)
+pub no_padding : (waiting : Pending) → waiting.number < 2 ^ waiting.width → 8 ≤ waiting.width → OnFalse (nat_le waiting.width 7) (IsPadding (pending_bits waiting) → ⊥)
+no_padding waiting below many = tested (nat_le waiting.width 7)
   where
     tested : (b : Bool) → OnFalse b (IsPadding (pending_bits waiting) → ⊥)
     tested true = tt

@@ -1,14 +1,14 @@
 -- The tables of codes have the code that a window begins with.
-use Rattle.std.proofs.Common.{◌≡◌, ℕ, zero, suc, ◌+◌, ◌-◌, ◌*◌, ◌/◌, ◌^◌, ◌<◌, ◌≤◌, Bool, true, false, ◌&&◌, cond, nat_eq, nat_lt, nat_le, List, [], ◌∷◌, length, Option, Some, None, MatchOption, slice_get, get_or, refl, ap, sym, ◌∙◌, subst, inl, inr, arith, eqb-true, ltb-true, ltb-false, leb-true}
+use Rattle.std.proofs.Common.{◌≡◌, ℕ, zero, suc, ◌+◌, ◌-◌, ◌*◌, ◌/◌, ◌^◌, ◌<◌, ◌≤◌, Bool, true, false, ◌&&◌, cond, nat_eq, nat_lt, nat_le, List, [], ◌∷◌, Option, Some, None, MatchOption, slice_get, refl, ap, sym, ◌∙◌, subst, inl, inr, arith, eqb-true, ltb-true, ltb-false, leb-true}
 use Rattle.std.specs.List.{find}
-use Rattle.std.proofs.Math.Nat.{div-div-eq-div-mul, div-lt_iff_lt-mul, div-mul-le_self}
+use Rattle.std.proofs.Math.Nat.{div-div-eq-div-mul, div-lt_iff_lt-mul}
 use Rattle.std.proofs.lemmas.Nat.{pow-add, pow_pos, le-div}
 use Rattle.std.proofs.lemmas.Bool.{cases_lt}
 use Rattle.std.proofs.lemmas.Option.{slice_get-get_or}
 use Rattle.model.specs.Huffman.{huffman_code, bits, IsCode, rows, row_codes, codes_from}
 use Rattle.model.proofs.HuffmanLemmas.{and_left, and_right}
 use Rattle.huffman.specs.Fronts.{IsFront, StandFor, symbol_of}
-use Rattle.huffman.specs.declared.codes.Symbol.TheVariants.{Octet, End}
+use Rattle.huffman.specs.declared.codes.Symbol.TheVariants.{Octet}
 use Rattle.huffman.specs.declared.long_codes.TheConstants.{OCTETS, ROWS}
 use Rattle.huffman.specs.declared.short_codes.TheConstants.{SHORT}
 use Rattle.huffman.proofs.CodeLemmas.{has_code, any_code, all_from, at_place}

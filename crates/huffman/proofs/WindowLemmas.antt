@@ -1,5 +1,5 @@
 -- Bits filled up with zeros to 38, and what begins them.
-use Rattle.std.proofs.Common.{◌≡◌, ℕ, zero, suc, ◌+◌, ◌-◌, ◌*◌, ◌/◌, ◌%◌, ◌^◌, ◌<◌, ◌≤◌, List, [], ◌∷◌, ◌++◌, length, refl, ap, sym, ◌∙◌, subst, arith, append_assoc, length-append}
+use Rattle.std.proofs.Common.{◌≡◌, ℕ, ◌+◌, ◌-◌, ◌*◌, ◌/◌, ◌%◌, ◌^◌, ◌<◌, ◌≤◌, List, [], ◌++◌, length, ap, sym, ◌∙◌, subst, arith, append_assoc, length-append}
 use Rattle.std.proofs.Math.Nat.{div-div-eq-div-mul, mul-div_cancel, mul_assoc}
 use Rattle.std.proofs.Math.Pow.{shl_exact}
 use Rattle.std.proofs.lemmas.Nat.{pow-add, pow_pos}
@@ -7,7 +7,6 @@ use Rattle.std.proofs.lemmas.List.{append-nil}
 use Rattle.model.specs.Huffman.{bits, IsCode}
 use Rattle.model.proofs.HuffmanLemmas.{one_code}
 use Rattle.huffman.specs.Fronts.{IsFront, IsWholeFront, IsUnended, StandFor}
-use Rattle.huffman.specs.Waiting.{pending_bits}
 use Rattle.huffman.specs.declared.codes.Code.{Code}
 use Rattle.huffman.specs.declared.codes.Symbol.{Symbol}
 use Rattle.huffman.specs.declared.codes.Symbol.TheVariants.{Octet, End}

@@ -1,5 +1,5 @@
 -- The code at the front of bits.
-use Rattle.std.specs.Prelude.{◌≡◌, ℕ, ◌-◌, ◌/◌, ◌^◌, ◌<◌, ◌≤◌, List, Option, Some, None}
+use Rattle.std.specs.Prelude.{ℕ, ◌-◌, ◌/◌, ◌^◌, ◌<◌, ◌≤◌, List, Option, Some, None}
 use Rattle.model.specs.Huffman.{bits, IsCode}
 use Rattle.huffman.specs.Decoding.{BeginsWith}
 use Rattle.huffman.specs.Waiting.{pending_bits}

@@ -31,6 +31,9 @@ impl From<AllocFailed<u8>> for HuffFault {
     }
 }
 
+/// The most ones behind the codes.
+const MOST_PADDING: u32 = 7;
+
 /// Adds the string of Huffman text (RFC 7541, section 5.2). An `Err` leaves the octets of `out` as they were.
 pub fn decode(octets: &[u8], out: &mut Vec<u8>) -> Result<(), HuffFault>
     ensures ok { OnOk result (Decodes octets.now out.old.items out.new.items) }
@@ -90,5 +93,5 @@ fn is_padding(waiting: Pending) -> bool
     ensures yes { OnTrue result (IsPadding (pending_bits waiting)) }
     ensures no { OnFalse result (IsPadding (pending_bits waiting) → ⊥) }
 {
-    waiting.width < 8 && waiting.number == (1 << waiting.width) - 1
+    waiting.width <= MOST_PADDING && waiting.number == (1 << waiting.width) - 1
 }

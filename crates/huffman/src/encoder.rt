@@ -6,7 +6,7 @@ ghost use Rattle.huffman.specs.Decoding.{Adds};
 ghost use Rattle.huffman.specs.Encoding.{Encodes};
 ghost use Rattle.huffman.specs.Waiting.{Flushes, IsPadded, IsPending};
 
-use crate::pending::{NOTHING, Pending, append};
+use crate::pending::{NOTHING, Pending, append, behind};
 use crate::words::word_of;
 use std::alloc::AllocError;
 
@@ -62,9 +62,8 @@ fn flush(all: Pending, out: &mut Vec<u8>) -> Result<Pending, AllocError>
 {
     let mut rest = all;
     while rest.width >= 8 {
-        rest.width -= 8;
-        out.push((rest.number >> rest.width) as u8)?;
-        rest.number %= 1 << rest.width;
+        out.push((rest.number >> (rest.width - 8)) as u8)?;
+        rest = behind(rest, 8);
     }
     Ok(rest)
 }

@@ -1,4 +1,4 @@
-use Rattle.std.proofs.Common.{rules, sym, ◌∙◌}
+use Rattle.std.proofs.Common.{sym, ◌∙◌}
 use Rattle.huffman.proofs.TableLemmas.{short_front, past_shorts}
 use Rattle.huffman.proofs.codes.code_at.Goals as goal
 

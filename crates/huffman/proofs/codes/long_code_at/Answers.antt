@@ -1,7 +1,4 @@
-use Rattle.std.proofs.Common.{rules, ◌≡◌, MatchOption, Some, sym, ◌∙◌, subst}
-use Rattle.huffman.specs.Fronts.{IsFront}
-use Rattle.huffman.specs.declared.codes.Code.{Code}
-use Rattle.huffman.specs.declared.long_codes.TheConstants.{OCTETS}
+use Rattle.std.proofs.Common.{Some, sym, ◌∙◌}
 use Rattle.huffman.proofs.TableLemmas.{row_for, long_front}
 use Rattle.huffman.proofs.codes.long_code_at.Goals as goal
 

@@ -1,4 +1,4 @@
-use Rattle.std.proofs.Common.{rules, arith, subst, sym, ◌<◌, ◌^◌}
+use Rattle.std.proofs.Common.{subst}
 use Rattle.huffman.specs.Fronts.{IsFront}
 use Rattle.huffman.proofs.WindowLemmas.{window_exact, window_below, whole_front, unended}
 use Rattle.huffman.proofs.codes.next_code.Goals as goal

@@ -1,8 +1,8 @@
 //! The Huffman code of HPACK (RFC 7541, section 5.2 and appendix B).
 //!
-//! Both ways take as many steps as there are octets in the text and in the string, whatever they are. Decoding looks a whole
-//! code up at a step: one of at most eight bits in a table of these eight bits, and a longer one among the widths that codes
-//! have. Encoding appends an octet's code as one number, and the room for the text is made once.
+//! Both ways are linear in the octets, whatever they are. Decoding looks a whole code up at a step: one of at most eight bits
+//! in a table of the eight bits that come, and a longer one among the 17 widths that it may have. Encoding appends an octet's
+//! code as one number, and the room for the text is made once.
 #![tactic(auto)]
 
 mod codes;

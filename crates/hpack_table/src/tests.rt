@@ -53,3 +53,21 @@ fn fields_are_found(rt: HostRuntime) -> Result<(), Fail> {
     assert_eq!(rt; table.find(b"x-a", b"3"), Found::Name(62));
     Ok(())
 }
+
+#[test]
+fn fields_are_copied(rt: HostRuntime) -> Result<(), Fail> {
+    let alloc = rt.alloc();
+    let original = field(alloc, b"x-a", b"1")?;
+    let copy = original.copy(alloc)?;
+    assert_eq!(rt; copy.name(), b"x-a".as_slice());
+    assert_eq!(rt; copy.value(), b"1".as_slice());
+    assert_eq!(rt; copy.room_behind(40), Some(4));
+    assert_eq!(rt; copy.room_behind(35), None);
+    Ok(())
+}
+
+#[test]
+fn static_entries_end(rt: HostRuntime) {
+    assert!(rt; static_entry(60).is_some());
+    assert!(rt; static_entry(61).is_none());
+}

@@ -1,10 +1,15 @@
 -- Numbers and their bits.
-use Rattle.std.proofs.Common.{◌≡◌, ℕ, zero, suc, ◌+◌, ◌-◌, ◌*◌, ◌/◌, ◌%◌, ◌^◌, ◌<◌, ◌≤◌, ◌∷◌, ◌++◌, refl, ap, sym, ◌∙◌, subst, arith}
+use Rattle.std.proofs.Common.{◌≡◌, ℕ, zero, suc, ◌+◌, ◌-◌, ◌*◌, ◌/◌, ◌%◌, ◌^◌, ◌<◌, ◌≤◌, ◌∷◌, ◌++◌, length, refl, ap, sym, ◌∙◌, subst, arith}
 use Rattle.std.specs.Prelude.{replicate}
-use Rattle.std.proofs.Math.Nat.{pow-succ', mul-add-div_right, div-eq_of_lt, div-div-eq-div-mul, mul-le-mul_right, mod-lt}
+use Rattle.std.proofs.Math.Nat.{pow-succ', mul-add-div_right, div-eq_of_lt, div-div-eq-div-mul, mul-le-mul_right, mod-lt, div-lt_iff_lt-mul}
 use Rattle.std.proofs.Math.Pow.{shl_exact}
 use Rattle.std.proofs.lemmas.Nat.{pow-add, pow_pos, div-add-mod'}
 use Rattle.model.specs.Huffman.{bits}
+
+pub length_bits : (width number : ℕ) → length (bits width number) ≡ width
+unfolding bits
+length_bits zero number = refl
+length_bits (suc width) number = let rest = length_bits width number in omega (arith, rest)
 
 -- higher bits don't matter
 pub bits_low : (width high low : ℕ) → bits width (high * 2 ^ width + low) ≡ bits width low
@@ -44,21 +49,61 @@ joined_below n w m v less small =
     let step : (n + 1) * 2 ^ v ≤ 2 ^ w * 2 ^ v = mul-le-mul_right (2 ^ v) (omega (arith, less)) in
     rw power (omega (arith, step, small))
 
-pub joined : (n w m v : ℕ) → n < 2 ^ w → w < 8 → m < 2 ^ v → v ≤ 30
+pub joined : (n w m v : ℕ) → n < 2 ^ w → w ≤ 30 → m < 2 ^ v → v ≤ 30
     → (n * 2 ^ v % 18446744073709551616 + m < 2 ^ (w + v)) × (bits (w + v) (n * 2 ^ v % 18446744073709551616 + m) ≡ bits w n ++ bits v m)
 joined n w m v less few small wide =
     let exact : n * 2 ^ v % 18446744073709551616 ≡ n * 2 ^ v = shl_exact w v 64 less (omega arith) in
     rw exact (joined_below n w m v less small, bits_append w v n m small)
 
--- the highest eight bits and the others
+-- the highest bits and the others
+pub split_at : (n high low : ℕ) → bits (high + low) n ≡ bits high (n / 2 ^ low) ++ bits low (n % 2 ^ low)
+split_at n high low =
+    let some : 0 < 2 ^ low = pow_pos low in
+    let whole : n / 2 ^ low * 2 ^ low + n % 2 ^ low ≡ n = div-add-mod' n (2 ^ low) in
+    ap (bits (high + low)) (sym whole) ∙ bits_append high low (n / 2 ^ low) (n % 2 ^ low) (mod-lt n some)
+
 pub split_eight : (n w : ℕ) → bits (w + 8) n ≡ bits 8 (n / 2 ^ w) ++ bits w (n % 2 ^ w)
-split_eight n w =
-    let some : 0 < 2 ^ w = pow_pos w in
-    let whole : n / 2 ^ w * 2 ^ w + n % 2 ^ w ≡ n = div-add-mod' n (2 ^ w) in
-    ap (λ k. bits k n) (swap w 8) ∙ ap (bits (8 + w)) (sym whole) ∙ bits_append 8 w (n / 2 ^ w) (n % 2 ^ w) (mod-lt n some)
+split_eight n w = ap (λ k. bits k n) (swap w 8) ∙ split_at n 8 w
   where
     swap : (a b : ℕ) → a + b ≡ b + a
     swap a b = omega arith
+
+-- a power, as the code has it
+pub one_shifted : (w : ℕ) → w < 64 → 1 * 2 ^ w % 18446744073709551616 ≡ 2 ^ w
+one_shifted w few =
+    let one : 1 < 2 ^ 1 = omega arith in
+    let exact : 1 * 2 ^ w % 18446744073709551616 ≡ 1 * 2 ^ w = shl_exact 1 w 64 one (omega (arith, few)) in
+    let single : 1 * 2 ^ w ≡ 2 ^ w = omega arith in
+    exact ∙ single
+
+-- the bits behind the first so many
+pub behind_is : (n w k rest number : ℕ) → w ≤ 60 → k ≤ w → rest ≡ w - k → number ≡ n % (1 * 2 ^ rest % 18446744073709551616) → (number < 2 ^ rest) × (bits w n ≡ bits k (n / 2 ^ rest) ++ bits rest number)
+behind_is n w k rest number few within is_rest is_number =
+    let some : 0 < 2 ^ rest = pow_pos rest in
+    let low : number ≡ n % 2 ^ rest = is_number ∙ ap (λ p. n % p) (one_shifted rest (omega arith)) in
+    let whole : w ≡ k + rest = omega arith in (
+      subst (λ m. m < 2 ^ rest) (sym low) (mod-lt n some),
+      ap (λ v. bits v n) whole ∙ split_at n k rest ∙ ap (λ m. bits k (n / 2 ^ rest) ++ bits rest m) (sym low),
+    )
+
+-- so many bits of a number that are ones alone
+pub all_ones : (w n k : ℕ) → n < 2 ^ w → bits w n ≡ replicate k 1 → (k ≡ w) × (n + 1 ≡ 2 ^ w)
+unfolding bits
+all_ones zero n zero less e = (refl, omega (arith, less))
+all_ones zero n (suc k) less e = cc
+all_ones (suc w) n zero less e = cc
+all_ones (suc w) n (suc k) less e =
+    let some : 0 < 2 ^ w = pow_pos w in
+    let power : 2 ^ suc w ≡ 2 * 2 ^ w = pow-succ' 2 w in
+    let head : n / 2 ^ w % 2 ≡ 1 = cc in
+    let tail : bits w n ≡ replicate k 1 = cc in
+    let few : n / 2 ^ w < 2 = (div-lt_iff_lt-mul some).1 (subst (λ p. n < p) power less) in
+    let one : n / 2 ^ w ≡ 1 = omega (arith, head, few) in
+    let whole : n / 2 ^ w * 2 ^ w + n % 2 ^ w ≡ n = div-add-mod' n (2 ^ w) in
+    let low : bits w (n % 2 ^ w) ≡ replicate k 1 = sym (bits_low w (n / 2 ^ w) (n % 2 ^ w)) ∙ ap (bits w) whole ∙ tail in
+    let rest = all_ones w (n % 2 ^ w) k (mod-lt n some) low in
+    let top : n / 2 ^ w * 2 ^ w ≡ 1 * 2 ^ w = ap (λ q. q * 2 ^ w) one in
+    (ap suc rest.0, omega (arith, rest.1, power, top, whole))
 
 -- ones
 pub ones : (width : ℕ) → width < 9 → bits width (2 ^ width - 1) ≡ replicate width 1

@@ -8,8 +8,9 @@ use Rattle.model.proofs.HuffmanLemmas.{single_code}
 use Rattle.huffman.specs.Waiting.{IsPending, IsPadded, Flushes, pending_bits}
 use Rattle.huffman.specs.Encoding.{Encodes, IsWordOf, word_bits}
 use Rattle.huffman.specs.Decoding.{Adds}
-use Rattle.huffman.specs.declared.encoder.Pending.{Pending}
+use Rattle.huffman.specs.declared.pending.Pending.{Pending}
 use Rattle.huffman.specs.declared.words.Word.{Word}
+use Rattle.huffman.proofs.BitLemmas.{length_bits}
 use Rattle.huffman.proofs.DecodeLemmas.{codes_more}
 
 -- what the loop of the codes keeps
@@ -97,11 +98,6 @@ split_last [] coded octet p = ([], p.0, refl, p.3, p.4 ∙ ap (λ m. p.0 ++ m) p
 split_last (first ∷ string) coded octet p =
     let rest = split_last string p.1 octet p.5 in
     (p.0 ++ rest.0, rest.1, (p.0, rest.0, p.2, p.3, refl, rest.2), rest.3, p.4 ∙ ap (λ m. p.0 ++ m) rest.4 ∙ sym (append_assoc p.0 rest.0 rest.1))
-
-length_bits : (width number : ℕ) → length (bits width number) ≡ width
-unfolding bits
-length_bits zero number = refl
-length_bits (suc width) number = let rest = length_bits width number in omega (arith, rest)
 
 pub counting_more : (string : List ℕ) (i count : ℕ) (word : Word) → i < length string → Counting (take i string) count → IsWordOf (get_or string i 0) word → Counting (take (i + 1) string) (count + word.width)
 counting_more string i count word h c w = record {

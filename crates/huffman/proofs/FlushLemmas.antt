@@ -8,7 +8,7 @@ use Rattle.std.proofs.lemmas.Grind.{flat_map-append}
 use Rattle.model.specs.Huffman.{bits, octet_bits}
 use Rattle.huffman.specs.Waiting.{Flushes, pending_bits}
 use Rattle.huffman.specs.Decoding.{Adds}
-use Rattle.huffman.specs.declared.encoder.Pending.{Pending}
+use Rattle.huffman.specs.declared.pending.Pending.{Pending}
 use Rattle.huffman.proofs.BitLemmas.{split_eight}
 
 -- what the loop of the octets keeps
@@ -22,25 +22,19 @@ pub record Flushing (all : Pending) (number width : ℕ) (old new : List ℕ) : 
 pub start : (all : Pending) (old : List ℕ) → all.number < 2 ^ all.width → all.width < 38 → Flushing all all.number all.width old old
 start all old below few = record { octets = []; added = sym (append-nil old); is = refl; below = below; few = few }
 
-pub one_octet : (all : Pending) (number width octet next : ℕ) (old new more : List ℕ) → 8 ≤ width → Flushing all number width old new → octet ≡ number / 2 ^ (width - 8) → next ≡ number % (1 * 2 ^ (width - 8) % 18446744073709551616)
-    → more ≡ new ++ octet ∷ [] → Flushing all next (width - 8) old more
-one_octet all number width octet next old new more eight f is_octet is_next grows =
+pub one_octet : (all rest next : Pending) (octet : ℕ) (old new more : List ℕ) → 8 ≤ rest.width → Flushing all rest.number rest.width old new → octet ≡ rest.number / 2 ^ (rest.width - 8) → next.width + 8 ≡ rest.width
+    → pending_bits rest ≡ bits 8 (rest.number / 2 ^ next.width) ++ pending_bits next → next.number < 2 ^ next.width → more ≡ new ++ octet ∷ [] → Flushing all next.number next.width old more
+one_octet all rest next octet old new more eight f is_octet widths split below grows =
     let few = f.few in
-    let w : ℕ = width - 8 in
-    let one : 1 < 2 ^ 1 = omega arith in
-    let exact : 1 * 2 ^ w % 18446744073709551616 ≡ 1 * 2 ^ w = shl_exact 1 w 64 one (omega (arith, few)) in
-    let single : 1 * 2 ^ w ≡ 2 ^ w = omega arith in
-    let power : 1 * 2 ^ w % 18446744073709551616 ≡ 2 ^ w = exact ∙ single in
-    let some : 0 < 2 ^ w = pow_pos w in
-    let rest : next ≡ number % 2 ^ w = is_next ∙ ap (λ p. number % p) power in
-    let whole : w + 8 ≡ width = omega arith in
-    let split : bits width number ≡ bits 8 octet ++ bits w next = ap (λ k. bits k number) (sym whole) ∙ split_eight number w ∙ ap (λ o. bits 8 o ++ bits w (number % 2 ^ w)) (sym is_octet) ∙ ap (λ r. bits 8 octet ++ bits w r) (sym rest) in
+    let w : rest.width - 8 ≡ next.width = omega arith in
+    let first : rest.number / 2 ^ next.width ≡ octet = sym (is_octet ∙ ap (λ k. rest.number / 2 ^ k) w) in
+    let whole : pending_bits rest ≡ bits 8 octet ++ pending_bits next = split ∙ ap (λ o. bits 8 o ++ pending_bits next) first in
     record {
       octets = f.octets ++ octet ∷ [];
       added = grows ∙ ap (λ n. n ++ octet ∷ []) f.added ∙ append_assoc old f.octets (octet ∷ []);
-      is = f.is ∙ ap (λ b. octet_bits f.octets ++ b) split ∙ sym (append_assoc (octet_bits f.octets) (bits 8 octet) (bits w next))
-          ∙ ap (λ b. (octet_bits f.octets ++ b) ++ bits w next) (sym (append-nil (bits 8 octet))) ∙ ap (λ b. b ++ bits w next) (sym (flat_map-append (bits 8) f.octets (octet ∷ [])));
-      below = subst (λ n. n < 2 ^ w) (sym rest) (mod-lt number some);
+      is = f.is ∙ ap (λ b. octet_bits f.octets ++ b) whole ∙ sym (append_assoc (octet_bits f.octets) (bits 8 octet) (pending_bits next))
+          ∙ ap (λ b. (octet_bits f.octets ++ b) ++ pending_bits next) (sym (append-nil (bits 8 octet))) ∙ ap (λ b. b ++ pending_bits next) (sym (flat_map-append (bits 8) f.octets (octet ∷ [])));
+      below = below;
       few = omega (arith, few);
     }
 

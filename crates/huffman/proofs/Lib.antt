@@ -1,7 +1,9 @@
-pub mod TreeLemmas
+pub mod CodeLemmas
 pub mod DecodeLemmas
 pub mod WordLemmas
 pub mod BitLemmas
 pub mod FlushLemmas
 pub mod CodingLemmas
 pub mod FaultLemmas
+pub mod WindowLemmas
+pub mod TableLemmas

@@ -1,7 +1,6 @@
 -- What decoding gives.
 use Rattle.std.specs.Prelude.{◌≡◌, ℕ, ◌<◌, List, ◌++◌, replicate}
 use Rattle.model.specs.Huffman.{octet_bits, IsCode, AreCodes, Huff}
-use Rattle.huffman.specs.Tree.{path}
 use Rattle.huffman.specs.declared.decoder.HuffFault.{HuffFault}
 use Rattle.huffman.specs.declared.decoder.HuffFault.TheVariants.{Eos, Padding, Memory}
 
@@ -56,27 +55,3 @@ abbrev pub IsFaultOf : List ℕ → HuffFault → Type 0
 IsFaultOf octets Eos = EndsString (octet_bits octets)
 IsFaultOf octets Padding = IsBadlyPadded (octet_bits octets)
 IsFaultOf octets Memory = Unit {0}
-
--- The bits are the codes of a string's octets, and then the bits that lead to a node.
-pub record Walked (read string : List ℕ) (node : ℕ) : Type 0 where
-  pub coded : List ℕ
-  pub are_codes : AreCodes coded string
-  pub is : read ≡ coded ++ path node
-
--- More bits lead from one node to another, and add a string.
-pub record Steps (old new : List ℕ) (start node : ℕ) (read : List ℕ) : Type 0 where
-  pub string : List ℕ
-  pub added : new ≡ old ++ string
-  pub walks : (before given : List ℕ) → Walked before given start → Walked (before ++ read) (given ++ string) node
-
--- Among more bits stands a fault, whatever follows them.
-abbrev pub Stands : ℕ → List ℕ → HuffFault → Type 0
-Stands start read Eos = (before given later : List ℕ) → Walked before given start → EndsString (before ++ (read ++ later))
-Stands start read Padding = ⊥
-Stands start read Memory = Unit {0}
-
--- A string is added before a fault.
-pub record Stops (old new : List ℕ) (start : ℕ) (read : List ℕ) (fault : HuffFault) : Type 0 where
-  pub string : List ℕ
-  pub added : new ≡ old ++ string
-  pub stands : Stands start read fault

@@ -1,5 +1,6 @@
 pub use Rattle.model.specs.Huffman
-pub mod Tree
 pub mod Decoding
 pub mod Encoding
 pub mod Waiting
+pub mod Fronts
+pub mod Taking

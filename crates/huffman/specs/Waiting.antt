@@ -1,7 +1,7 @@
 -- Bits that wait for a whole octet.
 use Rattle.std.specs.Prelude.{◌≡◌, ℕ, ◌-◌, ◌^◌, ◌<◌, List, ◌++◌, replicate}
 use Rattle.model.specs.Huffman.{bits, octet_bits}
-use Rattle.huffman.specs.declared.encoder.Pending.{Pending}
+use Rattle.huffman.specs.declared.pending.Pending.{Pending}
 
 -- the bits that wait
 abbrev pub pending_bits : Pending → List ℕ

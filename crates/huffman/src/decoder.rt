@@ -1,13 +1,15 @@
-//! Decoding.
+//! Decoding: a whole code at a step, off the front of the bits that wait.
 
-ghost use Rattle.std.specs.Prelude.{◌≡◌, IfOk, IfErr, OnOk, OnErr};
+ghost use Rattle.std.specs.Prelude.{◌≡◌, ◌^◌, ◌<◌, ◌≤◌, IfOk, IfErr, OnOk, OnErr};
 ghost use Rattle.std.specs.Bool.{OnTrue, OnFalse};
-ghost use Rattle.model.specs.Huffman.{bits};
-ghost use Rattle.huffman.specs.Decoding.{Adds, Decodes, IsFaultOf, IsPadding, Steps, Stops};
-ghost use Rattle.huffman.specs.Tree.{path};
+ghost use Rattle.huffman.specs.Decoding.{Adds, Decodes, IsFaultOf, IsPadding};
+ghost use Rattle.huffman.specs.Taking.{Stops, Takes};
+ghost use Rattle.huffman.specs.Waiting.{pending_bits};
 ghost use Rattle.huffman.specs.declared.decoder.HuffFault.TheVariants.{Memory};
 
-use crate::tree::{Branch, follow};
+use crate::codes::{Symbol, next_code};
+use crate::pending::{NOTHING, Pending, append, behind};
+use crate::words::Word;
 use std::alloc::{AllocError, AllocFailed};
 
 /// Why octets aren't Huffman text.
@@ -29,11 +31,8 @@ impl From<AllocFailed<u8>> for HuffFault {
     }
 }
 
-/// The root of the tree.
-const ROOT: u8 = 0;
-
-/// The nodes to which fewer than eight ones lead.
-const PADDING_NODES: [u8; 8] = [0, 2, 6, 14, 30, 52, 70, 74];
+/// The most ones behind the codes.
+const MOST_PADDING: u32 = 7;
 
 /// Adds the string of Huffman text (RFC 7541, section 5.2). An `Err` leaves the octets of `out` as they were.
 pub fn decode(octets: &[u8], out: &mut Vec<u8>) -> Result<(), HuffFault>
@@ -55,43 +54,44 @@ fn decode_onto(octets: &[u8], out: &mut Vec<u8>) -> Result<(), HuffFault>
     ensures fault { IfErr result (λ fault. IsFaultOf octets.now fault) }
     ensures err { OnErr result (Adds out.old.items out.new.items) }
 {
-    let mut node = ROOT;
+    let mut waiting = NOTHING;
     for octet in octets {
-        node = decode_octet(*octet, node, out)?;
+        let word = Word {
+            number: u32::from(*octet),
+            width: 8,
+        };
+        waiting = take_codes(append(waiting, word), out)?;
     }
-    if is_padding(node) {
+    if is_padding(waiting) {
         Ok(())
     } else {
         Err(HuffFault::Padding)
     }
 }
 
-/// Whether fewer than eight ones lead to a node.
-fn is_padding(node: u8) -> bool
-    ensures yes { OnTrue result (IsPadding (path node)) }
-    ensures no { OnFalse result (IsPadding (path node) → ⊥) }
+/// Takes the codes that bits begin with off them, and adds their octets.
+fn take_codes(all: Pending, out: &mut Vec<u8>) -> Result<Pending, HuffFault>
+    requires below { all.number < 2 ^ all.width }
+    requires few { all.width ≤ 38 }
+    ensures ok { IfOk result (λ rest. Takes all rest out.old.items out.new.items) }
+    ensures stops { IfErr result (λ fault. Stops all out.old.items out.new.items fault) }
 {
-    PADDING_NODES.contains(&node)
+    let mut rest = all;
+    while let Some(code) = next_code(rest) {
+        let Symbol::Octet(octet) = code.symbol else {
+            return Err(HuffFault::Eos);
+        };
+        out.push(octet)?;
+        rest = behind(rest, code.width);
+    }
+    Ok(rest)
 }
 
-/// Follows the bits of an octet from a node, and adds the symbols that they reach.
-fn decode_octet(octet: u8, start: u8, out: &mut Vec<u8>) -> Result<u8, HuffFault>
-    ensures ok { IfOk result (λ node. Steps out.old.items out.new.items start node (bits 8 octet)) }
-    ensures stops { IfErr result (λ fault. Stops out.old.items out.new.items start (bits 8 octet) fault) }
+/// Whether bits are fewer than eight ones.
+fn is_padding(waiting: Pending) -> bool
+    requires { waiting.number < 2 ^ waiting.width }
+    ensures yes { OnTrue result (IsPadding (pending_bits waiting)) }
+    ensures no { OnFalse result (IsPadding (pending_bits waiting) → ⊥) }
 {
-    let mut node = start;
-    for place in 0..8u8 {
-        let bit = (octet >> (7 - place)) % 2 == 1;
-        match follow(node, bit) {
-            Branch::Node(next) => {
-                node = next;
-            }
-            Branch::Symbol(symbol) => {
-                out.push(symbol)?;
-                node = ROOT;
-            }
-            Branch::End => return Err(HuffFault::Eos),
-        }
-    }
-    Ok(node)
+    waiting.width <= MOST_PADDING && waiting.number == (1 << waiting.width) - 1
 }

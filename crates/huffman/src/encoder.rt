@@ -1,20 +1,14 @@
 //! Encoding.
 
-ghost use Rattle.std.specs.Prelude.{◌≡◌, ◌+◌, ◌^◌, ◌<◌, ◌≤◌, ℕ, List, ◌++◌, length, IfOk, OnOk, OnErr};
+ghost use Rattle.std.specs.Prelude.{◌≡◌, ◌^◌, ◌<◌, ◌≤◌, ℕ, List, length, IfOk, OnOk, OnErr};
 ghost use Rattle.model.specs.Huffman.{Huff};
 ghost use Rattle.huffman.specs.Decoding.{Adds};
-ghost use Rattle.huffman.specs.Encoding.{Encodes, word_bits};
-ghost use Rattle.huffman.specs.Waiting.{Flushes, IsPadded, IsPending, pending_bits};
+ghost use Rattle.huffman.specs.Encoding.{Encodes};
+ghost use Rattle.huffman.specs.Waiting.{Flushes, IsPadded, IsPending};
 
-use crate::words::{Word, word_of};
+use crate::pending::{NOTHING, Pending, append, behind};
+use crate::words::word_of;
 use std::alloc::AllocError;
-
-/// Bits that wait for a whole octet: so many low bits of a number.
-#[derive(Clone, Copy)]
-struct Pending {
-    number: u64,
-    width: u32,
-}
 
 /// The number of octets of a string's Huffman text (RFC 7541, section 5.2). A string has at most 65,536 octets.
 pub fn encoded_len(string: &[u8]) -> usize
@@ -49,10 +43,7 @@ fn encode_onto(string: &[u8], out: &mut Vec<u8>) -> Result<(), AllocError>
     ensures ok { OnOk result (Encodes string.now out.old.items out.new.items) }
     ensures err { OnErr result (Adds out.old.items out.new.items) }
 {
-    let mut pending = Pending {
-        number: 0,
-        width: 0,
-    };
+    let mut pending = NOTHING;
     for octet in string {
         pending = flush(append(pending, word_of(*octet)), out)?;
     }
@@ -60,21 +51,6 @@ fn encode_onto(string: &[u8], out: &mut Vec<u8>) -> Result<(), AllocError>
         out.push(padded(pending))?;
     }
     Ok(())
-}
-
-/// The bits that wait, and those of a word behind them.
-fn append(pending: Pending, word: Word) -> Pending
-    requires waiting { IsPending pending }
-    requires word { word.number < 2 ^ word.width }
-    requires wide { word.width ≤ 30 }
-    ensures number { result.number < 2 ^ result.width }
-    ensures width { result.width ≡ pending.width + word.width }
-    ensures bits { pending_bits result ≡ pending_bits pending ++ word_bits word }
-{
-    Pending {
-        number: (pending.number << word.width) + u64::from(word.number),
-        width: pending.width + u32::from(word.width),
-    }
 }
 
 /// Adds the whole octets of bits that wait.
@@ -86,9 +62,8 @@ fn flush(all: Pending, out: &mut Vec<u8>) -> Result<Pending, AllocError>
 {
     let mut rest = all;
     while rest.width >= 8 {
-        rest.width -= 8;
-        out.push((rest.number >> rest.width) as u8)?;
-        rest.number %= 1 << rest.width;
+        out.push((rest.number >> (rest.width - 8)) as u8)?;
+        rest = behind(rest, 8);
     }
     Ok(rest)
 }

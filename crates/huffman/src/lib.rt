@@ -1,14 +1,23 @@
 //! The Huffman code of HPACK (RFC 7541, section 5.2 and appendix B).
+//!
+//! Both ways are linear in the octets, whatever they are. Decoding looks a whole code up at a step: one of at most eight bits
+//! in a table of the eight bits that come, and a longer one among the 17 widths that it may have. Encoding appends an octet's
+//! code as one number, and the room for the text is made once.
 #![tactic(auto)]
 
+mod codes;
 mod decoder;
 mod encoder;
-mod ones;
+mod long_codes;
+mod pending;
+#[cfg(test)]
+mod plain;
+#[cfg(test)]
+mod printed_codes;
+mod short_codes;
 #[cfg(test)]
 mod tests;
-mod tree;
 mod words;
-mod zeros;
 
 pub use crate::decoder::{HuffFault, decode};
 pub use crate::encoder::{encode, encoded_len};

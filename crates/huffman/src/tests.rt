@@ -1,10 +1,12 @@
 ghost use Rattle.std.specs.Prelude.{◌≤◌, length};
 
 use super::*;
+use crate::plain::{bits_of, plain_decode, plain_text};
+use std::alloc::Global;
 use std::test::Fail;
 
 /// Whether Huffman text decodes to a string behind what stands there already.
-fn decodes(alloc: std::alloc::Global, octets: &[u8], string: &[u8]) -> Result<bool, Fail> {
+fn decodes(alloc: Global, octets: &[u8], string: &[u8]) -> Result<bool, Fail> {
     let mut out = Vec::new(alloc);
     out.push(b'>')?;
     decode(octets, &mut out)?;
@@ -41,7 +43,7 @@ fn faults_leave_the_octets(rt: HostRuntime) {
 }
 
 /// Whether a string is encoded as this text, behind what stands there already.
-fn encodes(alloc: std::alloc::Global, string: &[u8], text: &[u8]) -> Result<bool, Fail>
+fn encodes(alloc: Global, string: &[u8], text: &[u8]) -> Result<bool, Fail>
     requires { length string.now ≤ 65536 }
 {
     let mut out = Vec::new(alloc);
@@ -61,13 +63,57 @@ fn strings_are_encoded(rt: HostRuntime) -> Result<(), Fail> {
     Ok(())
 }
 
+/// Whether a text decodes to what the plain program says: the same string, or the same fault and nothing.
+fn decodes_alike(alloc: Global, octets: &[u8]) -> bool {
+    let mut wanted = Vec::new(alloc);
+    let wanted_result = plain_decode(octets, &mut wanted);
+    if wanted_result.is_err() {
+        wanted.clear();
+    }
+    let mut out = Vec::new(alloc);
+    decode(octets, &mut out) == wanted_result && out == wanted
+}
+
 #[test]
-fn every_octet_comes_back(rt: HostRuntime) -> Result<(), Fail> {
+fn texts_of_two_octets(rt: HostRuntime) {
     let alloc = rt.alloc();
-    for octet in 0..=255u8 {
-        let mut text = Vec::new(alloc);
-        encode(&[octet, octet], &mut text)?;
-        assert!(rt; decodes(alloc, &text, &[octet, octet])?);
+    assert!(rt; decodes_alike(alloc, &[]));
+    for first in 0..=255u8 {
+        assert!(rt; decodes_alike(alloc, &[first]), "at {first}");
+        for second in 0..=255u8 {
+            assert!(rt;
+                decodes_alike(alloc, &[first, second]),
+                "at {first}, {second}"
+            );
+        }
+    }
+}
+
+/// Whether a string's text is its codes and then ones, has the length that was told, and decodes to the string.
+fn comes_back(alloc: Global, string: &[u8]) -> Result<bool, Fail>
+    requires { length string.now ≤ 65536 }
+{
+    let mut text = Vec::new(alloc);
+    encode(string, &mut text)?;
+    Ok(
+        bits_of(&text) == plain_text(string)
+            && encoded_len(string) == text.len()
+            && decodes(alloc, &text, string)?,
+    )
+}
+
+#[test]
+fn strings_of_two_octets(rt: HostRuntime) -> Result<(), Fail> {
+    let alloc = rt.alloc();
+    assert!(rt; comes_back(alloc, &[])?);
+    for first in 0..=255u8 {
+        assert!(rt; comes_back(alloc, &[first])?, "at {first}");
+        for second in 0..=255u8 {
+            assert!(rt;
+                comes_back(alloc, &[first, second])?,
+                "at {first}, {second}"
+            );
+        }
     }
     Ok(())
 }

@@ -3,7 +3,7 @@
 ghost use Rattle.std.specs.Prelude.{◌≡◌, ◌≤◌, length, slice_get, Some};
 ghost use Rattle.huffman.specs.Encoding.{IsWordOf};
 
-/// The bits that stand for a symbol: so many low bits of a number.
+/// Bits that belong together, as those of a code or of an octet: so many low bits of a number.
 #[derive(Clone, Copy)]
 pub struct Word {
     pub number: u32,

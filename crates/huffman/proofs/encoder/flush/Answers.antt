@@ -9,4 +9,5 @@ overflow_cast-rest-in-loop-rest c =
 
 pub loop-rest-preserved : goal.loop-rest-preserved
 loop-rest-preserved c =
-    one_octet c.args.all c.loop-rest.rest.number c.loop-rest.rest.width _ _ c.args.out.now.items c.loop-rest.out.items c.push.new.self.items c.loop-rest-test.true c.loop-rest.invariant refl refl c.in_ok-push.ensures.items
+    one_octet c.args.all c.loop-rest.rest c.behind-rest.result _ c.args.out.now.items c.loop-rest.out.items c.push.new.self.items c.loop-rest-test.true c.loop-rest.invariant refl c.behind-rest.ensures.width c.behind-rest.ensures.bits
+    c.behind-rest.ensures.number c.in_ok-push.ensures.items

@@ -6,3 +6,4 @@ pub mod FrontLemmas
 pub mod Steps
 pub mod Ends
 pub mod Telling
+pub mod HeadSizeLemmas

@@ -1,6 +1,7 @@
 pub mod Parts
 pub mod Views
 pub mod Heads
+pub mod HeadSizes
 pub mod Standing
 pub mod Begins
 pub use Rattle.model.specs.Messages

@@ -1,8 +1,10 @@
 //! What it means to stand for octets and pieces.
 
-ghost use Rattle.std.specs.Prelude.{◌≡◌, ℕ, Bool, true, false, List};
+ghost use Rattle.std.specs.Prelude.{◌≡◌, ◌≤◌, ℕ, Bool, true, false, List, length};
+ghost use Rattle.model.specs.ResponseHeads.{Head, Framing, Interim, Final};
 ghost use Rattle.model.specs.Responses.{IsComplete};
 ghost use Rattle.h1_reader.specs.Parts.{Part};
+ghost use Rattle.h1_reader.specs.HeadSizes.{field_octets, HeadsAreShort};
 ghost use Rattle.h1_reader.specs.Standing.{State, Stands, Tells, is_done};
 
 /// What was told are the interim heads, the final head and the
@@ -12,4 +14,12 @@ pub fn what_stands()
     ensures told { (text : List ℕ) (parts : List Part) (state : State) → Stands text parts state → Tells text state.to_head parts }
     ensures done { (text : List ℕ) (parts : List Part) (state : State) → Stands text parts state → is_done parts ≡ true → IsComplete text false state.to_head }
     ensures not_done { (text : List ℕ) (parts : List Part) (state : State) → Stands text parts state → is_done parts ≡ false → IsComplete text false state.to_head → ⊥ }
+{}
+
+/// The names and values of a head, as it is passed back, have at most as many octets as its text. So each head that was
+/// told has at most 16,384 (this project's profile), where the 32 that HPACK counts for each field aren't counted.
+pub fn head_sizes()
+    ensures interim { (text : List ℕ) (head : Head) → Interim text head → field_octets head.fields ≤ length text }
+    ensures last { (to_head : Bool) (text : List ℕ) (head : Head) (framing : Framing) → Final to_head text head framing → field_octets head.fields ≤ length text }
+    ensures told { (text : List ℕ) (parts : List Part) (state : State) → Stands text parts state → HeadsAreShort parts }
 {}

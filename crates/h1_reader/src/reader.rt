@@ -89,6 +89,7 @@ impl Reader {
         ensures fault { IfErr result (λ fault. fault ≢ ResponseFault.Memory → fault ≢ ResponseFault.Untreated → Breaks self.old octets.now) }
         ensures unchanged { OnErr result (pieces.new.items ≡ pieces.old.items) }
         ensures broken { IfErr result (λ fault. self.new.place ≡ Place.Broken fault) }
+        ensures held { length self.new.held ≤ 16384 }
         ensures again { (fault : ResponseFault) → self.old.place ≡ Place.Broken fault → result ≡ Err fault }
     {
         if let Place::Broken(fault) = self.place {

@@ -16,7 +16,7 @@ use Rattle.h1_reader.specs.Parts.Part.{Interim, Final, Body, Done}
 use Rattle.h1_reader.specs.HeadSizes.{field_octets, head_octets, HeadsAreShort}
 use Rattle.h1_reader.specs.Standing.{State, InBody, StandsAt, Stands}
 use Rattle.h1_reader.specs.declared.reader.Place.{Place}
-use Rattle.h1_reader.specs.declared.reader.Place.TheVariants.{Head, Sized, UntilEnd, Past, Broken}
+use Rattle.h1_reader.specs.declared.reader.Place.TheVariants.{Head, Sized, UntilEnd, Line, Chunk, ChunkEnd, ChunkReturn, Trailers, Past, Broken}
 
 -- ---- one line
 
@@ -139,6 +139,11 @@ end_short = All-cons is_short Done [] (omega arith) (All-nil is_short)
 
 short_at : (place : Place) (to_head : Bool) (held text : List ℕ) (parts : List Part) → StandsAt place to_head held text parts → HeadsAreShort parts
 short_at (Head count) to_head held text parts b = subst HeadsAreShort (sym b.told) (interims_short b.front b.interims b.are_interims)
+short_at (Line line) to_head held text parts b = behind_short to_head _ text _ _ parts [] b.chunked.body no_end_short
+short_at (Chunk left) to_head held text parts b = behind_short to_head _ text _ _ parts [] b.chunked.body no_end_short
+short_at ChunkEnd to_head held text parts b = behind_short to_head _ text _ _ parts [] b.chunked.body no_end_short
+short_at ChunkReturn to_head held text parts b = behind_short to_head _ text _ _ parts [] b.chunked.body no_end_short
+short_at Trailers to_head held text parts b = behind_short to_head _ text _ _ parts [] b.chunked.body no_end_short
 short_at (Sized left) to_head held text parts b = behind_short to_head _ text b.octets b.octets parts [] b.body no_end_short
 short_at UntilEnd to_head held text parts b = behind_short to_head _ text b.octets b.octets parts [] b.body no_end_short
 short_at Past to_head held text parts b = behind_short to_head b.framing text b.rest b.octets parts (Done ∷ []) b.body end_short

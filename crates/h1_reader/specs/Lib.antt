@@ -1,5 +1,7 @@
 pub mod Parts
+pub mod ChunkLines
 pub mod Views
+pub mod Trailers
 pub mod Heads
 pub mod HeadSizes
 pub mod Standing

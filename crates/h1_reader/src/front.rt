@@ -11,10 +11,10 @@ use crate::piece::ResponseHead;
 use httparse::spans::{EMPTY_HEADER_SPAN, HeaderSpan};
 use std::alloc::{AllocError, Global};
 
-/// The longest head (this project's profile).
-const LONGEST_HEAD: usize = 16384;
+/// The longest head, and the longest trailer section (this project's profile).
+pub const LONGEST_SECTION: usize = 16384;
 
-/// Room for the fields of every head of at most 16,384 octets, since each takes three or more.
+/// Room for the fields of every head or trailer section of at most 16,384 octets, since each takes three or more.
 const ROOM: usize = 5462;
 
 /// What stands in octets behind those that were held, with how many of them it takes.
@@ -28,8 +28,8 @@ pub enum FrontRead {
     FinalAt(ResponseHead, Framing, usize),
 }
 
-/// Makes the room for a head's fields, where it isn't there yet.
-fn make_room(alloc: Global, spans: &mut Vec<HeaderSpan>) -> Result<(), AllocError>
+/// Makes the room for a section's fields, where it isn't there yet.
+pub fn make_room(alloc: Global, spans: &mut Vec<HeaderSpan>) -> Result<(), AllocError>
     ensures { OnOk result (5462 ≤ vec_len spans.new) }
 {
     if spans.len() < ROOM {
@@ -52,7 +52,7 @@ pub fn read_front(
 {
     make_room(alloc, spans)?;
     let before = held.len();
-    let taken = octets.len().min(LONGEST_HEAD - before);
+    let taken = octets.len().min(LONGEST_SECTION - before);
     let mut text = held;
     text.extend_from_slice(&octets[..taken])?;
     match read_head(alloc, to_head, &text, spans) {

@@ -13,8 +13,8 @@ use httparse::Status;
 use httparse::spans::{HeaderSpan, ResponseSpans, parse_response};
 use std::alloc::{AllocError, Global};
 
-/// The most fields of a head (this project's profile).
-const MOST_FIELDS: usize = 100;
+/// The most fields of a head, and of a trailer section (this project's profile).
+pub const MOST_FIELDS: usize = 100;
 
 /// What stands at the front, with how many octets it takes.
 #[derive(Drop)]

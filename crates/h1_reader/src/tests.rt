@@ -181,3 +181,16 @@ fn faults(rt: HostRuntime) -> Result<(), Fail> {
     }
     Ok(())
 }
+
+#[test]
+fn chunks(rt: HostRuntime) -> Result<(), Fail> {
+    let alloc = rt.alloc();
+    check(
+        &rt,
+        alloc,
+        false,
+        b"HTTP/1.1 200 OK\r\nTransfer-Encoding: Chunked\r\n\r\n2 ;a=\"b\"\r\nhi\r\n000A\t\r\n0123456789\r\n0\r\nX-A: b\r\n\r\nmore",
+        "head200|hi0123456789|done|Complete",
+    )?;
+    Ok(())
+}

@@ -66,7 +66,7 @@ chunked_breaks to_head behind next text xs parts c none more ended whole =
 
 -- ---- what stands at each place is no body
 
-no_line_body : (text : List ℕ) → ((line past : List ℕ) (size : ℕ) → ChunkLine line size → text ≡ line ++ past → ⊥) → NoBody text
+pub no_line_body : (text : List ℕ) → ((line past : List ℕ) (size : ℕ) → ChunkLine line size → text ≡ line ++ past → ⊥) → NoBody text
 no_line_body text none = record {
   no_chunk = λ front more octets chunk e.
       none chunk.line (octets ++ 13 ∷ (10 ∷ more)) (length octets) chunk.has_line (e ∙ ap (λ (o : List ℕ). o ++ more) chunk.is ∙ chunk_grouped chunk.line octets more);
@@ -74,7 +74,7 @@ no_line_body text none = record {
 }
 
 -- a line and octets of its chunk
-octets_no_body : (line next : List ℕ) (size : ℕ) → ChunkLine line size → length next < size → NoBody (line ++ next)
+pub octets_no_body : (line next : List ℕ) (size : ℕ) → ChunkLine line size → length next < size → NoBody (line ++ next)
 octets_no_body line next size l less = record {
   no_chunk = λ front more octets chunk e.
       let whole : line ++ next ≡ chunk.line ++ (octets ++ 13 ∷ (10 ∷ more)) = e ∙ ap (λ (o : List ℕ). o ++ more) chunk.is ∙ chunk_grouped chunk.line octets more in
@@ -89,7 +89,7 @@ octets_no_body line next size l less = record {
 }
 
 -- a line, its octets, and what no end of a line begins
-end_no_body : (line next tail : List ℕ) → ChunkLine line (length next) → 0 < length next → ((more : List ℕ) → tail ≡ 13 ∷ (10 ∷ more) → ⊥) → NoBody (line ++ (next ++ tail))
+pub end_no_body : (line next tail : List ℕ) → ChunkLine line (length next) → 0 < length next → ((more : List ℕ) → tail ≡ 13 ∷ (10 ∷ more) → ⊥) → NoBody (line ++ (next ++ tail))
 end_no_body line next tail l some none = record {
   no_chunk = λ front more octets chunk e.
       let whole : line ++ (next ++ tail) ≡ chunk.line ++ (octets ++ 13 ∷ (10 ∷ more)) = e ∙ ap (λ (o : List ℕ). o ++ more) chunk.is ∙ chunk_grouped chunk.line octets more in
@@ -103,7 +103,7 @@ end_no_body line next tail l some none = record {
 }
 
 -- the line of the last chunk, and what no trailers begin
-trailers_no_body : (line tail : List ℕ) → ChunkLine line 0 → ((trailers past : List ℕ) → IsTrailers trailers → tail ≡ trailers ++ past → ⊥) → NoBody (line ++ tail)
+pub trailers_no_body : (line tail : List ℕ) → ChunkLine line 0 → ((trailers past : List ℕ) → IsTrailers trailers → tail ≡ trailers ++ past → ⊥) → NoBody (line ++ tail)
 trailers_no_body line tail l none = record {
   no_chunk = none_at_last line tail l;
   no_end = λ other trailers past last are e.

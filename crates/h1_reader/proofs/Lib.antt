@@ -11,4 +11,5 @@ pub mod ChunkSteps
 pub mod ChunkEnds
 pub mod Ends
 pub mod Telling
+pub mod Noticed
 pub mod HeadSizeLemmas

@@ -119,7 +119,7 @@ module _ {A : Type 0} (Reads : List ℕ → A → Type 0) where
   joined_more s x [] h p q = (x, [], q, ap (λ (o : List ℕ). o ++ x) p ∙ sym (append-nil x), refl)
   joined_more s x (k ∷ hs) h p q = (p.0, p.1 ++ x, p.2, ap (λ (o : List ℕ). o ++ x) p.3 ∙ append_assoc p.0 p.1 x, joined_more p.1 x hs h p.4 q)
 
-joined_longer : (s t x y : List ℕ) (hs ks : List model.Head) → Joined model.Interim s hs → Joined model.Interim t ks → BeginsNone model.Interim y → s ++ x ≡ t ++ y → length hs ≤ length ks
+pub joined_longer : (s t x y : List ℕ) (hs ks : List model.Head) → Joined model.Interim s hs → Joined model.Interim t ks → BeginsNone model.Interim y → s ++ x ≡ t ++ y → length hs ≤ length ks
 joined_longer s t x y [] ks p q none e = omega arith
 joined_longer s t x y (h ∷ hs) [] p q none e =
     absurd (none p.0 (p.1 ++ x) h p.2 (sym (ap (λ (o : List ℕ). o ++ y) q) ∙ sym e ∙ ap (λ (o : List ℕ). o ++ x) p.3 ∙ append_assoc p.0 p.1 x))

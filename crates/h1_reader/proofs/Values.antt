@@ -8,7 +8,8 @@ use Rattle.std.proofs.lemmas.List.Folds.{list_all-append}
 use Rattle.std.proofs.lemmas.List.Sums.{AllPass-from_list_all, list_all-from_AllPass}
 use Rattle.std.proofs.lemmas.List.Elements.{All-head, All-tail}
 use Rattle.httparse.specs.Grammar as grammar
-use Rattle.httparse.specs.Grammar.{AllPass, IsField, LineEnd, is_value_byte, trim_ows, field_value, print_field, print_section, print_end}
+use Rattle.httparse.specs.Grammar.{AllPass, IsField, LineEnd, ReadsResponse, is_value_byte, trim_ows, field_value, print_field, print_section, print_end}
+use Rattle.httparse.proofs.GrammarLemmas.{print_response-append}
 use Rattle.httparse.proofs.TrimLemmas.{AllPass-trim_ows}
 use Rattle.model.specs.Octets.{is_value_octet}
 use Rattle.model.specs.ResponseHeads.{values_hold}
@@ -56,9 +57,18 @@ values_of lines last text rest are e octets =
     lines_values lines are (front_octets (flat_map print_field lines) (print_end last) section.0).0
 
 -- the same of a head
-pub head_values : (before : List ℕ) (lines : List grammar.Field) (last : LineEnd) (text rest : List ℕ) → All IsField lines → text ≡ before ++ (print_section lines last ++ rest)
-    → ((k : ℕ) → get_or text k 0 < 256) → values_hold lines ≡ true
-head_values before lines last text rest are e octets =
-    let whole : list_all is_octet (before ++ (print_section lines last ++ rest)) ≡ true = ap (list_all is_octet) (sym e) ∙ octets_of text octets in
-    let section = front_octets (print_section lines last) rest (front_octets before (print_section lines last ++ rest) whole).1 in
-    lines_values lines are (front_octets (flat_map print_field lines) (print_end last) section.0).0
+pub head_values : (spelled : grammar.ResponseHead) (text rest : List ℕ) → ReadsResponse text spelled rest → ((k : ℕ) → get_or text k 0 < 256) → values_hold spelled.fields ≡ true
+head_values spelled text rest reads octets =
+    let section = print_section spelled.fields spelled.last ++ rest in
+    let behind_reason = print_end spelled.line_end ++ section in
+    let behind_digits = grammar.print_reason spelled.reason ++ behind_reason in
+    let behind_version = spelled.digits ++ behind_digits in
+    let whole : list_all is_octet (grammar.print_blank spelled.blank ++ (grammar.print_version spelled.minor ++ 32 ∷ behind_version)) ≡ true =
+    ap (list_all is_octet) (sym (reads.1 ∙ print_response-append spelled rest)) ∙ octets_of text octets in
+    let version = (front_octets (grammar.print_blank spelled.blank) (grammar.print_version spelled.minor ++ 32 ∷ behind_version) whole).1 in
+    let digits = (and_parts (is_octet 32) (list_all is_octet behind_version) (front_octets (grammar.print_version spelled.minor) (32 ∷ behind_version) version).1).1 in
+    let reason = (front_octets spelled.digits behind_digits digits).1 in
+    let line_end = (front_octets (grammar.print_reason spelled.reason) behind_reason reason).1 in
+    let lines = (front_octets (print_end spelled.line_end) section line_end).1 in
+    let fields = (front_octets (print_section spelled.fields spelled.last) rest lines).0 in
+    lines_values spelled.fields reads.0.fields (front_octets (flat_map print_field spelled.fields) (print_end spelled.last) fields).0

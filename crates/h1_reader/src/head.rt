@@ -90,9 +90,6 @@ fn take_head(
         return Err(ResponseFault::Upgrade);
     }
     let all = fields_at(alloc, text, &spans[..found.headers])?;
-    if !fields::values_hold(&all) {
-        return Err(ResponseFault::Head);
-    }
     let passed = fields::passed_back(alloc, found.code, &all)?;
     let head = ResponseHead::new(found.code, passed);
     if found.code < 200 {

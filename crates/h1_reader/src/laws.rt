@@ -2,7 +2,7 @@
 
 ghost use Rattle.std.specs.Prelude.{◌≡◌, ◌≤◌, ℕ, Bool, true, false, List, length};
 ghost use Rattle.model.specs.ResponseHeads.{Head, Framing, Interim, Final};
-ghost use Rattle.model.specs.Responses.{IsComplete};
+ghost use Rattle.model.specs.Responses.{IsComplete, IsPlainlyBad};
 ghost use Rattle.h1_reader.specs.Parts.{Part};
 ghost use Rattle.h1_reader.specs.HeadSizes.{field_octets, HeadsAreShort};
 ghost use Rattle.h1_reader.specs.Standing.{State, Stands, Tells, is_done};
@@ -22,4 +22,11 @@ pub fn head_sizes()
     ensures interim { (text : List ℕ) (head : Head) → Interim text head → field_octets head.fields ≤ length text }
     ensures last { (to_head : Bool) (text : List ℕ) (head : Head) (framing : Framing) → Final to_head text head framing → field_octets head.fields ≤ length text }
     ensures told { (text : List ℕ) (parts : List Part) (state : State) → Stands text parts state → HeadsAreShort parts }
+{}
+
+/// No fault that has to be noticed stands in the octets so far: each was answered when its first octet came, in a chunk's line
+/// or end at the octet with which none goes on, in a head or in trailers at the first octet with which the grammar can't go
+/// on, at its end, or at the 16,385th octet (RFC 9112, sections 4 to 7; this project's profile).
+pub fn faults_are_noticed()
+    ensures { (text : List ℕ) (parts : List Part) (state : State) → Stands text parts state → IsPlainlyBad text state.to_head → ⊥ }
 {}

@@ -29,7 +29,7 @@ chunked_on to_head behind next text xs parts c = record {
 }
 
 -- octets of the chunk
-chunked_told : (to_head : Bool) (behind next text xs : List ℕ) (parts : List Part) → InChunked to_head behind next text parts
+pub chunked_told : (to_head : Bool) (behind next text xs : List ℕ) (parts : List Part) → InChunked to_head behind next text parts
     → InChunked to_head (behind ++ xs) (next ++ xs) (text ++ xs) (parts ++ Body xs ∷ [])
 chunked_told to_head behind next text xs parts c =
     let told = body_step to_head IsChunks text (c.front ++ behind) (concat c.chunks ++ next) xs parts c.body in
@@ -42,7 +42,7 @@ chunked_told to_head behind next text xs parts c =
     }
 
 -- a chunk is whole
-chunked_whole : (to_head : Bool) (behind next text : List ℕ) (parts : List Part) → InChunked to_head behind next text parts → IsChunk behind next → InChunked to_head [] [] text parts
+pub chunked_whole : (to_head : Bool) (behind next text : List ℕ) (parts : List Part) → InChunked to_head behind next text parts → IsChunk behind next → InChunked to_head [] [] text parts
 chunked_whole to_head behind next text parts c p =
     let rest = subst (λ (o : List ℕ). InBody to_head IsChunks text o (concat c.chunks ++ next) parts []) (sym (append-nil (c.front ++ behind))) c.body in
     let octets : concat c.chunks ++ next ≡ concat (c.chunks ++ next ∷ []) ++ [] = sym (one_concat c.chunks next) ∙ sym (append-nil (concat (c.chunks ++ next ∷ []))) in
@@ -53,7 +53,7 @@ chunked_whole to_head behind next text parts c p =
       are_chunks = joined_more IsChunk c.front behind c.chunks next c.are_chunks p;
     }
 
-chunked_same : (to_head : Bool) (a b next text : List ℕ) (parts : List Part) → a ≡ b → InChunked to_head a next text parts → InChunked to_head b next text parts
+pub chunked_same : (to_head : Bool) (a b next text : List ℕ) (parts : List Part) → a ≡ b → InChunked to_head a next text parts → InChunked to_head b next text parts
 chunked_same to_head a b next text parts e c = subst (λ (o : List ℕ). InChunked to_head o next text parts) e c
 
 -- ---- steps

@@ -12,4 +12,5 @@ pub mod ChunkEnds
 pub mod Ends
 pub mod Telling
 pub mod Noticed
+pub mod Hopes
 pub mod HeadSizeLemmas

@@ -119,6 +119,13 @@ IsKept (Chunk left) held = 0 < left
 IsKept Trailers held = HasNoSection held
 IsKept _ held = Unit {0}
 
+-- The reader is in a body, but not in trailers, or past it.
+abbrev pub IsInBody : Place → Type 0
+IsInBody (Head count) = ⊥
+IsInBody Trailers = ⊥
+IsInBody (Broken fault) = ⊥
+IsInBody _ = Unit {0}
+
 abbrev pub StandsAt : Place → Bool → List ℕ → List ℕ → List Part → Type 0
 StandsAt (Head count) to_head held text parts = BeforeHead count held text parts
 StandsAt (Sized left) to_head held text parts = InSized to_head left text parts

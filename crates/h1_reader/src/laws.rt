@@ -2,10 +2,10 @@
 
 ghost use Rattle.std.specs.Prelude.{◌≡◌, ◌≤◌, ℕ, Bool, true, false, List, length};
 ghost use Rattle.model.specs.ResponseHeads.{Head, Framing, Interim, Final};
-ghost use Rattle.model.specs.Responses.{IsComplete, IsPlainlyBad};
+ghost use Rattle.model.specs.Responses.{IsComplete, IsSpoilt, IsPlainlyBad};
 ghost use Rattle.h1_reader.specs.Parts.{Part};
 ghost use Rattle.h1_reader.specs.HeadSizes.{field_octets, HeadsAreShort};
-ghost use Rattle.h1_reader.specs.Standing.{State, Stands, Tells, is_done};
+ghost use Rattle.h1_reader.specs.Standing.{State, Stands, IsInBody, Tells, is_done};
 
 /// What was told are the interim heads, the final head and the
 /// octets of its body that stand in the octets so far; and the last piece is told just where a whole response stands
@@ -26,7 +26,9 @@ pub fn head_sizes()
 
 /// No fault that has to be noticed stands in the octets so far: each was answered when its first octet came, in a chunk's line
 /// or end at the octet with which none goes on, in a head or in trailers at the first octet with which the grammar can't go
-/// on, at its end, or at the 16,385th octet (RFC 9112, sections 4 to 7; this project's profile).
+/// on, at its end, or at the 16,385th octet (RFC 9112, sections 4 to 7; this project's profile). In a body, but not in its
+/// trailers, some continuation is a whole response: no fault there is noticed late.
 pub fn faults_are_noticed()
-    ensures { (text : List ℕ) (parts : List Part) (state : State) → Stands text parts state → IsPlainlyBad text state.to_head → ⊥ }
+    ensures noticed { (text : List ℕ) (parts : List Part) (state : State) → Stands text parts state → IsPlainlyBad text state.to_head → ⊥ }
+    ensures early { (text : List ℕ) (parts : List Part) (state : State) → Stands text parts state → IsInBody state.place → IsSpoilt text state.to_head → ⊥ }
 {}

@@ -114,9 +114,10 @@ impl Reader {
         outcome
     }
 
-    /// What the end of the connection makes of the response.
+    /// What the end of the connection makes of the response: short behind a fault.
     pub fn end(&self) -> Ended
-        ensures { IsEnd result self.now }
+        ensures is { IsEnd result self.now }
+        ensures broken { (fault : ResponseFault) → self.now.place ≡ Place.Broken fault → result ≡ Ended.Short }
     {
         match self.place {
             Place::Head(_) => Ended::Short,
@@ -139,10 +140,11 @@ impl Reader {
         ensures unchanged { OnErr result (pieces.new.items ≡ pieces.old.items) }
     {
         let mut told = Told::new(self.alloc);
-        match self.take_all(octets, &mut told) {
-            Ok(()) => Ok(told.move_to(pieces)?),
-            Err(fault) => Err(fault),
+        let outcome = self.take_all(octets, &mut told);
+        if outcome.is_ok() {
+            told.move_to(pieces)?;
         }
+        outcome
     }
 
     /// Takes all octets, one step after another.

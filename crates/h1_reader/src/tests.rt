@@ -76,7 +76,7 @@ fn check(
 ) -> Result<(), Fail> {
     let text = joined(alloc, needed, more)?;
     for cut in 0..text.len() + 1 {
-        let (front, back) = text.split_at(cut);
+        let (front, back) = text.split_at(cut.min(text.len()));
         let shown = told(alloc, to_head, &[front, back])?;
         assert_eq!(rt; shown.as_str(), wanted);
         let mut reader = Reader::new(alloc, to_head);

@@ -36,7 +36,7 @@ fn repeated(
 fn fault_of(rt: &impl Abort, alloc: Global, text: &[u8]) -> Result<Option<ResponseFault>, Fail> {
     let mut whole = Reader::new(alloc, false);
     let fault = whole.feed(text, &mut Vec::new(alloc)).err();
-    let (front, last) = text.split_at(text.len() - 1);
+    let (front, last) = text.split_at(text.len().saturating_sub(1));
     let mut cut = Reader::new(alloc, false);
     let mut last_fault = cut.feed(front, &mut Vec::new(alloc)).err();
     if last_fault.is_none() {
@@ -54,7 +54,7 @@ fn long_heads(rt: HostRuntime) -> Result<(), Fail> {
     let alloc = rt.alloc();
     let front = b"HTTP/1.1 200 OK\r\nA: ".as_slice();
     let back = b"\r\n\r\n".as_slice();
-    let room = 16384 - front.len() - back.len();
+    let room = 16360;
     for (count, end, fault) in [
         (room, back, None),
         (room + 1, back, Some(ResponseFault::TooLong)),
@@ -169,10 +169,10 @@ fn a_long_chunk(rt: HostRuntime) -> Result<(), Fail> {
     for part in text.chunks(999) {
         assert_eq!(&rt; reader.feed(part, &mut pieces), Ok(()));
     }
-    let mut count = 0;
+    let mut count: usize = 0;
     for piece in &pieces {
         if let Piece::Body(octets) = piece {
-            count += octets.len() % 1000;
+            count = count.wrapping_add(octets.len());
         }
     }
     assert_eq!(&rt; count, 70000);

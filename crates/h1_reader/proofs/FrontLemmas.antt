@@ -116,6 +116,19 @@ ends_in held octets text before taken used k none is few whole fits p =
     ends_any (λ front. Spelled front k) held octets text before taken used
     (λ front rest q e. none k rest (subst (λ (o : List ℕ). ReadsResponse o k rest) (sym e) (spelled_reads front rest k q))) is few whole fits p
 
+-- where a head ends behind nothing
+pub record EndsThere (octets text : List ℕ) (used : ℕ) : Type 0 where
+  pub more : 0 < used
+  pub fits : used ≤ length octets
+  pub is : take used text ≡ take used octets
+
+pub ends_there : (octets text : List ℕ) (taken used : ℕ) (k : grammar.ResponseHead) → taken ≤ length octets → text ≡ take taken octets → used ≤ length text → Spelled (take used text) k → EndsThere octets text used
+ends_there octets text taken used k few whole fits p =
+    let ends = ends_in [] octets text 0 taken used k none_in_nothing refl few whole fits p in
+    let all : used - 0 ≡ used = omega arith in
+    let within : used - 0 ≤ length octets = ends.fits in
+    record { more = ends.more; fits = omega arith; is = ends.is ∙ ap (λ n. take n octets) all }
+
 -- the text with no more octets than a head may have
 pub too_long : (to_head : Bool) (held octets text : List ℕ) (before taken : ℕ) → before ≡ length held → before ≤ 16384 → taken ≤ length octets → taken ≡ 16384 - before
     → text ≡ held ++ take taken octets → HasNoResponse text → HasNoHead to_head (held ++ octets)

@@ -2,7 +2,7 @@ use Rattle.std.proofs.Common.{◌≡◌, ◌≤◌, ◌<◌, length, ◌∙◌, 
 use Rattle.model.specs.ResponseHeads.{Interim, Final}
 use Rattle.h1_reader.specs.Views.{framing_view}
 use Rattle.h1_reader.proofs.FrontLemmas.{ends_in, too_long, none_behind}
-use Rattle.h1_reader.proofs.front.read_front.Goals as goal
+use Rattle.h1_reader.proofs.front.read_behind.Goals as goal
 
 pub returns-then-taken-octets : goal.returns-then-taken-octets
 returns-then-taken-octets c =

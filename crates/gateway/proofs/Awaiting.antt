@@ -27,7 +27,7 @@ use Rattle.h1_reader.specs.Parts.{Part}
 use Rattle.h1_reader.specs.Parts.Part.{Interim, Final, Body, Done}
 use Rattle.h1_reader.specs.Standing.{State as Reader, Stands, TellsWhole, is_done, is_end}
 use Rattle.h1_reader.proofs.Telling.{whole}
-use Rattle.h1_reader.proofs.FrontLemmas.{none_in_nothing}
+use Rattle.h1_reader.proofs.Steps.{stands_new}
 use Rattle.gateway.specs.Exchanges.{Awaited, awaited, gathered, head_after, body_of, has_interim, IsTold, exchange_at, with_exchange, section_of}
 use Rattle.gateway.specs.Moves.Move.{Takes, Hears}
 use Rattle.gateway.specs.Moves.Outcome.{Served}
@@ -64,7 +64,7 @@ old_place es (suc n) x le = front es n (omega arith)
 
 -- a reader that was fed nothing
 stands_fresh : (to_head : Bool) (stream : ℕ) → Stands [] [] (awaited stream to_head).reader
-stands_fresh to_head stream = record { interims = []; front = []; is = refl; are_interims = refl; has_count = refl; few = omega arith; no_head = none_in_nothing; told = refl }
+stands_fresh to_head stream = stands_new to_head [] refl
 
 module _ (t : List Entry) (s : State) (noted : Noted) (route : ℕ) (text : List ℕ) (request : Request) (next : Table) (g : Giving t s []) (h : Responding t s []) (on : s.closed ≡ false) (note : IsNoted s.table noted (Served route text request next)) (may : MayServe s noted route text request) where
   abbrev k : ℕ

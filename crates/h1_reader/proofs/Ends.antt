@@ -20,7 +20,7 @@ whole_at_end IsChunks rest octets w = w
 whole_at_end (IsSized count) rest octets w = w
 whole_at_end IsUntilEnd rest octets w = absurd (false_true w.0)
 
-whole_response : (to_head ended : Bool) (framing : model.Framing) (text rest octets : List ℕ) (parts ends : List Part)
+pub whole_response : (to_head ended : Bool) (framing : model.Framing) (text rest octets : List ℕ) (parts ends : List Part)
     → InBody to_head framing text rest octets parts ends → HasBody framing ended rest octets → IsComplete text ended to_head
 whole_response to_head ended framing text rest octets parts ends b w = (
   record { interims = b.interims; head = b.head; body = octets },

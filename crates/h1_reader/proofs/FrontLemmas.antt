@@ -1,10 +1,13 @@
 -- Heads that octets end behind others.
-use Rattle.std.proofs.Common.{zero, suc, ◌≡◌, ℕ, ◌+◌, ◌-◌, ◌<◌, ◌≤◌, Bool, List, [], ◌∷◌, ◌++◌, length, take, drop, sym, ap, ◌∙◌, subst, append_assoc, length-take-le, length-append, inl, inr, arith}
+use Rattle.std.proofs.Common.{zero, suc, ◌≡◌, ℕ, ◌+◌, ◌-◌, ◌<◌, ◌≤◌, Bool, true, List, [], ◌∷◌, refl, ◌++◌, length, take, drop, sym, ap, ◌∙◌, subst, append_assoc, length-take-le, length-append, inl, inr, arith}
+use Rattle.std.specs.Prelude.{None}
+use Rattle.std.specs.Char.{is_ascii_digit}
+use Rattle.std.proofs.lemmas.List.Elements.{All-cons, All-nil}
 use Rattle.std.proofs.lemmas.List.{take-append-le, take-append-drop, take_all}
 use Rattle.std.proofs.lemmas.Bool.{cases_lt}  -- `cases_lt` is `lt_or_ge` in other libraries, and gives their `le_total`
 use Rattle.std.proofs.Math.Seq.{take-append_seam}
 use Rattle.httparse.specs.Grammar as grammar
-use Rattle.httparse.specs.Grammar.{ReadsResponse, HasNoResponse}
+use Rattle.httparse.specs.Grammar.{ReadsResponse, HasNoResponse, MayBecomeResponse}
 use Rattle.model.proofs.ResponseHeadReadings.{Spelled, spelled_reads}
 use Rattle.h1_reader.specs.Heads.{HasNoHead}
 use Rattle.h1_reader.proofs.HeadLemmas.{none_taken}
@@ -35,13 +38,12 @@ none_longer to_head t x none = record {
 below : (a b : ℕ) → (b ≤ a → ⊥) → a < b
 below a b h = elim (cases_lt a b) [ inl p ↦ p | inr p ↦ absurd (h p) ]
 
--- a head ends behind octets that begin none
-pub ends_behind : (held octets : List ℕ) (used : ℕ) (k : grammar.ResponseHead) → HasNoResponse held → used ≤ length (held ++ octets) → Spelled (take used (held ++ octets)) k → length held < used
-ends_behind held octets used k none fits p =
+-- what has a property ends behind octets that begin with nothing that has it
+ends_behind : (P : List ℕ → Type 0) (held octets : List ℕ) (used : ℕ) → ((front rest : List ℕ) → P front → held ≡ front ++ rest → ⊥) → P (take used (held ++ octets)) → length held < used
+ends_behind P held octets used none p =
     below (length held) used (λ h.
     let front : take used (held ++ octets) ≡ take used held = take-append-le used held octets h in
-    let reads : ReadsResponse (take used held ++ drop used held) k (drop used held) = spelled_reads (take used held) (drop used held) k (subst (λ (o : List ℕ). Spelled o k) front p) in
-    none k (drop used held) (subst (λ (o : List ℕ). ReadsResponse o k (drop used held)) (take-append-drop used held) reads))
+    none (take used held) (drop used held) (subst P front p) (sym (take-append-drop used held)))
 
 -- what is taken of two texts is the first and a front of the second
 pub taken_behind : (held octets : List ℕ) (used : ℕ) → length held ≤ used → take used (held ++ octets) ≡ held ++ take (used - length held) octets
@@ -58,6 +60,21 @@ none_in_nothing h rest p =
     let e : 0 ≡ length (grammar.print_response h) + length rest = ap length p.1 ∙ length-append (grammar.print_response h) rest in
     let some : 0 < length (grammar.print_response h) = simp length-append (omega arith) in
     absurd (omega arith)
+
+-- nothing is the beginning of a head
+pub nothing_may_become : MayBecomeResponse []
+nothing_may_become =
+    let h : grammar.ResponseHead = record { blank = []; minor = 1; digits = 50 ∷ 48 ∷ 48 ∷ []; reason = None; line_end = grammar.LineEnd.lf; fields = []; last = grammar.LineEnd.lf } in
+    let P : ℕ → Type 0 = λ digit. is_ascii_digit digit ≡ true in
+    let low : 1 ≤ 1 = omega arith in
+    let digits = All-cons P 50 (48 ∷ 48 ∷ []) refl (All-cons P 48 (48 ∷ []) refl (All-cons P 48 [] refl (All-nil P))) in (
+      grammar.print_response h ++ [],
+      h,
+      (record { minor = low; digits = (refl, digits); reason = All-nil (λ octet. grammar.is_value_byte octet ≡ true); fields = All-nil grammar.IsField }, refl),
+    )
+
+pub nothing_is_short : length {A = ℕ} [] ≤ 16384
+nothing_is_short = omega arith
 
 -- a front of a front
 pub taken_of_taken : (octets : List ℕ) (n m : ℕ) → n ≤ m → take n (take m octets) ≡ take n octets
@@ -76,14 +93,14 @@ pub record EndsIn (held octets text : List ℕ) (before used : ℕ) : Type 0 whe
   pub fits : used - before ≤ length octets
   pub is : take used text ≡ held ++ take (used - before) octets
 
-pub ends_in : (held octets text : List ℕ) (before taken used : ℕ) (k : grammar.ResponseHead) → HasNoResponse held → before ≡ length held → taken ≤ length octets
-    → text ≡ held ++ take taken octets → used ≤ length text → Spelled (take used text) k → EndsIn held octets text before used
-ends_in held octets text before taken used k none is few whole fits p =
+pub ends_any : (P : List ℕ → Type 0) (held octets text : List ℕ) (before taken used : ℕ) → ((front rest : List ℕ) → P front → held ≡ front ++ rest → ⊥) → before ≡ length held
+    → taken ≤ length octets → text ≡ held ++ take taken octets → used ≤ length text → P (take used text) → EndsIn held octets text before used
+ends_any P held octets text before taken used none is few whole fits p =
     let lengths : length (held ++ take taken octets) ≡ length held + length (take taken octets) = length-append held (take taken octets) in
     let counted : length (take taken octets) ≡ taken = length-take-le taken octets few in
     let all : length text ≡ length (held ++ take taken octets) = ap length whole in
-    let there : Spelled (take used (held ++ take taken octets)) k = subst (λ (o : List ℕ). Spelled (take used o) k) whole p in
-    let more : length held < used = ends_behind held (take taken octets) used k none (omega arith) there in
+    let there : P (take used (held ++ take taken octets)) = subst (λ (o : List ℕ). P (take used o)) whole p in
+    let more : length held < used = ends_behind P held (take taken octets) used none there in
     let short : used - length held ≤ taken = omega arith in
     let cut : take used text ≡ held ++ take (used - length held) octets =
     ap (take used) whole ∙ taken_behind held (take taken octets) used (omega arith) ∙ ap (λ (o : List ℕ). held ++ o) (taken_of_taken octets (used - length held) taken short) in
@@ -92,6 +109,25 @@ ends_in held octets text before taken used k none is few whole fits p =
       fits = omega arith;
       is = cut ∙ ap (λ n. held ++ take (used - n) octets) (sym is);
     }
+
+pub ends_in : (held octets text : List ℕ) (before taken used : ℕ) (k : grammar.ResponseHead) → HasNoResponse held → before ≡ length held → taken ≤ length octets
+    → text ≡ held ++ take taken octets → used ≤ length text → Spelled (take used text) k → EndsIn held octets text before used
+ends_in held octets text before taken used k none is few whole fits p =
+    ends_any (λ front. Spelled front k) held octets text before taken used
+    (λ front rest q e. none k rest (subst (λ (o : List ℕ). ReadsResponse o k rest) (sym e) (spelled_reads front rest k q))) is few whole fits p
+
+-- where a head ends behind nothing
+pub record EndsThere (octets text : List ℕ) (used : ℕ) : Type 0 where
+  pub more : 0 < used
+  pub fits : used ≤ length octets
+  pub is : take used text ≡ take used octets
+
+pub ends_there : (octets text : List ℕ) (taken used : ℕ) (k : grammar.ResponseHead) → taken ≤ length octets → text ≡ take taken octets → used ≤ length text → Spelled (take used text) k → EndsThere octets text used
+ends_there octets text taken used k few whole fits p =
+    let ends = ends_in [] octets text 0 taken used k none_in_nothing refl few whole fits p in
+    let all : used - 0 ≡ used = omega arith in
+    let within : used - 0 ≤ length octets = ends.fits in
+    record { more = ends.more; fits = omega arith; is = ends.is ∙ ap (λ n. take n octets) all }
 
 -- the text with no more octets than a head may have
 pub too_long : (to_head : Bool) (held octets text : List ℕ) (before taken : ℕ) → before ≡ length held → before ≤ 16384 → taken ≤ length octets → taken ≡ 16384 - before

@@ -1,8 +1,6 @@
 -- What the parser's answer says of the heads that are taken.
-use Rattle.std.proofs.Common.{suc, ◌≡◌, ℕ, ◌<◌, ◌≤◌, Bool, true, false, List, [], ◌∷◌, ◌++◌, length, take, drop, map, refl, sym, ap, ◌∙◌, subst, length-take-le, arith}
-use Rattle.std.specs.Prelude.{Option, Some, None, ◌&&◌}
-use Rattle.std.specs.List.{list_all}
-use Rattle.std.proofs.lemmas.Bool.{false≢true}
+use Rattle.std.proofs.Common.{suc, ◌≡◌, ℕ, ◌<◌, ◌≤◌, Bool, List, [], ◌∷◌, ◌++◌, length, get_or, take, drop, map, refl, sym, ap, ◌∙◌, subst, length-take-le, arith}
+use Rattle.std.specs.Prelude.{Option, Some, None}
 use Rattle.std.proofs.lemmas.List.{append-nil}
 use Rattle.std.proofs.Math.Seq.{take-append_seam}
 use Rattle.httparse.specs.Grammar as grammar
@@ -11,11 +9,12 @@ use Rattle.httparse.specs.declared.spans.HeaderSpan.{HeaderSpan}
 use Rattle.httparse.specs.declared.spans.ResponseSpans.{ResponseSpans}
 use Rattle.httparse.specs.Spans.{IsResponseAt, IsResponseOf, IsResponseWithin, AreFieldsAt, ResponseOverflows, header_bytes, name_and_value}
 use Rattle.httparse.proofs.GrammarLemmas.{response_unique, ReadsResponse-append}
-use Rattle.model.specs.Octets.{is_value_octet, lower}
+use Rattle.model.specs.Octets.{lower}
 use Rattle.model.specs.Messages.{Field}
-use Rattle.model.specs.ResponseHeads.{Head, Framing, IsTaken, meant, values_hold, framing_of, framing_for, head_of, passed, without_framing}
+use Rattle.model.specs.ResponseHeads.{Head, Framing, IsTaken, meant, framing_of, framing_for, head_of, passed, without_framing}
 use Rattle.model.proofs.ResponseHeadReadings.{Spelled, spelled_reads}
 use Rattle.h1_reader.specs.Heads.{field_from, HasNoHead}
+use Rattle.h1_reader.proofs.Values.{head_values}
 
 -- a head that stands at the front is the one that any head at the front of more octets is
 pub same_spelled : (text more front past rest : List ℕ) (h k : grammar.ResponseHead) → ReadsResponse text h rest → text ++ more ≡ front ++ past → Spelled front k → h ≡ k
@@ -67,10 +66,6 @@ count_is text spans count lines fits at =
     let taken : length (take count spans) ≡ count = length-take-le count spans fits in
     sym taken ∙ lengths
 
-pub values_at : (lines : List grammar.Field) → list_all (λ field. list_all is_value_octet field.value) (map meant lines) ≡ values_hold lines
-values_at [] = refl
-values_at (line ∷ lines) = ap (λ t. list_all is_value_octet (meant line).value && t) (values_at lines)
-
 -- the front of the octets is the head's text
 pub front_is : (text : List ℕ) (spans : List HeaderSpan) (found : ResponseSpans) (h : grammar.ResponseHead) → IsResponseAt text spans found h → Spelled (take found.len text) h
 front_is text spans found h at = (
@@ -102,15 +97,6 @@ upgrades to_head text spans found of is =
     let same = same_spelled text more front past (drop found.len text) of.0 k of.1.reads e p.reads in
     absurd (p.no_upgrade (sym (ap status_code same) ∙ sym of.1.code ∙ is)))
 
-pub bad_values : (to_head : Bool) (text : List ℕ) (spans : List HeaderSpan) (found : ResponseSpans) (fields : List Field) → IsResponseOf text spans found
-    → fields ≡ map (field_from text) (take found.headers spans) → list_all (λ field. list_all is_value_octet field.value) fields ≡ false → HasNoHead to_head text
-bad_values to_head text spans found fields of is fails =
-    none_taken to_head text (λ more front past k e p.
-    let same = same_spelled text more front past (drop found.len text) of.0 k of.1.reads e p.reads in
-    let lines = is ∙ meant_at text spans found.headers of.0.fields of.1.fields in
-    let test : false ≡ values_hold of.0.fields = sym fails ∙ ap (list_all (λ field. list_all is_value_octet field.value)) lines ∙ values_at of.0.fields in
-    absurd (false≢true (test ∙ ap (λ (s : grammar.ResponseHead). values_hold s.fields) same ∙ p.values)))
-
 none_some : (f : Framing) → ◌≡◌ {A = Option Framing} None (Some f) → ⊥
 none_some f e = cc
 
@@ -133,12 +119,10 @@ unframed to_head text spans found fields of is high none =
           absurd (none_some framing (sym here ∙ ap (framing_of to_head) same ∙ p.framed));
     }
 
--- a head that passes all tests is taken
-pub taken : (text : List ℕ) (spans : List HeaderSpan) (found : ResponseSpans) (fields : List Field) → (of : IsResponseOf text spans found) → IsResponseWithin text spans found
-    → fields ≡ map (field_from text) (take found.headers spans) → list_all (λ field. list_all is_value_octet field.value) fields ≡ true
-    → length text ≤ 16384 → found.headers ≤ 100 → 100 ≤ found.code → (found.code ≡ 101 → ⊥) → IsTaken (take found.len text) of.0
-taken text spans found fields of within is holds short few high other =
-    let lines = is ∙ meant_at text spans found.headers of.0.fields of.1.fields in
+-- a head that passes all tests is taken: the grammar lets no other octet into a value
+pub taken : (text : List ℕ) (spans : List HeaderSpan) (found : ResponseSpans) → (of : IsResponseOf text spans found) → IsResponseWithin text spans found
+    → ((k : ℕ) → get_or text k 0 < 256) → length text ≤ 16384 → found.headers ≤ 100 → 100 ≤ found.code → (found.code ≡ 101 → ⊥) → IsTaken (take found.len text) of.0
+taken text spans found of within octets short few high other =
     let code : found.code ≡ status_code of.0 = of.1.code in
     let count : found.headers ≡ length of.0.fields = count_is text spans found.headers of.0.fields within.section.count_fits of.1.fields in
     let fits : length (take found.len text) ≡ found.len = length-take-le found.len text within.section.len_fits in
@@ -147,7 +131,7 @@ taken text spans found fields of within is holds short few high other =
       reads = front_is text spans found of.0 of.1;
       is_short = omega arith;
       has_few = omega arith;
-      values = sym (values_at of.0.fields) ∙ sym (ap (list_all (λ field. list_all is_value_octet field.value)) lines) ∙ holds;
+      values = head_values of.0 text (drop found.len text) of.1.reads octets;
       has_class = omega arith;
       no_upgrade = λ e. other (code ∙ e);
     }

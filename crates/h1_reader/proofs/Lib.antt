@@ -1,8 +1,16 @@
 pub mod Numbers
 pub mod Texts
+pub mod ChunkLineLemmas
 pub mod FieldLists
+pub mod Values
 pub mod HeadLemmas
 pub mod FrontLemmas
+pub mod TrailerLemmas
 pub mod Steps
+pub mod ChunkSteps
+pub mod ChunkEnds
 pub mod Ends
 pub mod Telling
+pub mod Noticed
+pub mod Hopes
+pub mod HeadSizeLemmas

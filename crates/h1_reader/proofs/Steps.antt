@@ -5,7 +5,7 @@ use Rattle.std.proofs.lemmas.List.{append-nil, map-append, take-append-drop, tak
 use Rattle.std.proofs.lemmas.List.Folds.{concat-append}
 use Rattle.std.proofs.lemmas.Bool.{eqb-true}
 use Rattle.std.specs.Prelude.{◌==◌}
-use Rattle.httparse.specs.Grammar.{HasNoResponse}
+use Rattle.httparse.specs.Grammar.{HasNoResponse, MayBecomeResponse}
 use Rattle.model.specs.Octets.{Joined}
 use Rattle.model.specs.ResponseHeads as model
 use Rattle.model.specs.ResponseHeads.Framing.{Bodiless as IsBodiless, Chunks as IsChunks, Sized as IsSized, UntilEnd as IsUntilEnd}
@@ -19,8 +19,9 @@ use Rattle.h1_reader.specs.Views.{framing_view}
 use Rattle.h1_reader.specs.Begins.{Begins, place_behind, told_behind}
 use Rattle.h1_reader.specs.declared.framing.Framing.{Framing}
 use Rattle.h1_reader.specs.declared.framing.Framing.TheVariants as ways
-use Rattle.h1_reader.proofs.FrontLemmas.{none_in_nothing}
-use Rattle.h1_reader.specs.Standing.{State, BeforeHead, InBody, InSized, InRest, IsPast, StandsAt, Stands, Hears, Breaks}
+use Rattle.h1_reader.proofs.FrontLemmas.{none_in_nothing, nothing_may_become, nothing_is_short}
+use Rattle.h1_reader.specs.declared.chunk_line.LinePlace.TheVariants.{Size}
+use Rattle.h1_reader.specs.Standing.{State, BeforeHead, InBody, InSized, InRest, InLine, IsPast, IsKept, StandsAt, Stands, Hears, Breaks}
 use Rattle.h1_reader.specs.declared.reader.Place.{Place}
 use Rattle.h1_reader.specs.declared.reader.Place.TheVariants.{Head, Sized, UntilEnd, Past, Broken}
 
@@ -35,19 +36,19 @@ body_told f h bodies xs =
     let same : map Body bodies ++ Body xs ∷ [] ≡ map Body (bodies ++ xs ∷ []) = sym (map-append Body bodies (xs ∷ [])) in
     ap (λ (o : List Part). f ++ (h ∷ o)) same ∙ ap (λ (o : List Part). f ++ (h ∷ o)) (sym (append-nil (map Body (bodies ++ xs ∷ []))))
 
-one_concat : (bodies : List (List ℕ)) (xs : List ℕ) → concat (bodies ++ xs ∷ []) ≡ concat bodies ++ xs
+pub one_concat : (bodies : List (List ℕ)) (xs : List ℕ) → concat (bodies ++ xs ∷ []) ≡ concat bodies ++ xs
 one_concat bodies xs = concat-append bodies (xs ∷ []) ∙ ap (λ (o : List ℕ). concat bodies ++ o) (append-nil xs)
 
 -- octets of a body are told
-pub body_step : (to_head : Bool) (framing : model.Framing) (text octets xs : List ℕ) (parts : List Part)
-    → InBody to_head framing text octets octets parts [] → InBody to_head framing (text ++ xs) (octets ++ xs) (octets ++ xs) (parts ++ Body xs ∷ []) []
-body_step to_head framing text octets xs parts b = record {
+pub body_step : (to_head : Bool) (framing : model.Framing) (text rest octets xs : List ℕ) (parts : List Part)
+    → InBody to_head framing text rest octets parts [] → InBody to_head framing (text ++ xs) (rest ++ xs) (octets ++ xs) (parts ++ Body xs ∷ []) []
+body_step to_head framing text rest octets xs parts b = record {
   interims = b.interims;
   head = b.head;
   front = b.front;
   head_text = b.head_text;
   bodies = b.bodies ++ xs ∷ [];
-  is = ap (λ (o : List ℕ). o ++ xs) b.is ∙ append_assoc (b.front ++ b.head_text) octets xs;
+  is = ap (λ (o : List ℕ). o ++ xs) b.is ∙ append_assoc (b.front ++ b.head_text) rest xs;
   are_interims = b.are_interims;
   few = b.few;
   is_final = b.is_final;
@@ -113,11 +114,12 @@ whole_longer IsUntilEnd rest octets xs w = absurd (false_true w.0)
 
 -- ---- interim heads
 
-joined_more : (s x : List ℕ) (hs : List model.Head) (h : model.Head) → Joined model.Interim s hs → model.Interim x h → Joined model.Interim (s ++ x) (hs ++ h ∷ [])
-joined_more s x [] h p q = (x, [], q, ap (λ (o : List ℕ). o ++ x) p ∙ sym (append-nil x), refl)
-joined_more s x (k ∷ hs) h p q = (p.0, p.1 ++ x, p.2, ap (λ (o : List ℕ). o ++ x) p.3 ∙ append_assoc p.0 p.1 x, joined_more p.1 x hs h p.4 q)
+module _ {A : Type 0} (Reads : List ℕ → A → Type 0) where
+  pub joined_more : (s x : List ℕ) (hs : List A) (h : A) → Joined Reads s hs → Reads x h → Joined Reads (s ++ x) (hs ++ h ∷ [])
+  joined_more s x [] h p q = (x, [], q, ap (λ (o : List ℕ). o ++ x) p ∙ sym (append-nil x), refl)
+  joined_more s x (k ∷ hs) h p q = (p.0, p.1 ++ x, p.2, ap (λ (o : List ℕ). o ++ x) p.3 ∙ append_assoc p.0 p.1 x, joined_more p.1 x hs h p.4 q)
 
-joined_longer : (s t x y : List ℕ) (hs ks : List model.Head) → Joined model.Interim s hs → Joined model.Interim t ks → BeginsNone model.Interim y → s ++ x ≡ t ++ y → length hs ≤ length ks
+pub joined_longer : (s t x y : List ℕ) (hs ks : List model.Head) → Joined model.Interim s hs → Joined model.Interim t ks → BeginsNone model.Interim y → s ++ x ≡ t ++ y → length hs ≤ length ks
 joined_longer s t x y [] ks p q none e = omega arith
 joined_longer s t x y (h ∷ hs) [] p q none e =
     absurd (none p.0 (p.1 ++ x) h p.2 (sym (ap (λ (o : List ℕ). o ++ y) q) ∙ sym e ∙ ap (λ (o : List ℕ). o ++ x) p.3 ∙ append_assoc p.0 p.1 x))
@@ -130,14 +132,14 @@ joined_longer s t x y (h ∷ hs) (k ∷ ks) p q none e =
 
 -- ---- where a reader stands
 
-at : (place : Place) (state : State) (text : List ℕ) (parts : List Part) → state.place ≡ place → Stands text parts state → StandsAt place state.to_head state.held text parts
+pub at : (place : Place) (state : State) (text : List ℕ) (parts : List Part) → state.place ≡ place → Stands text parts state → StandsAt place state.to_head state.held text parts
 at place state text parts e s = subst (λ (p : Place). StandsAt p state.to_head state.held text parts) e s
 
-abbrev state_of : Bool → Place → List ℕ → State
+abbrev pub state_of : Bool → Place → List ℕ → State
 state_of to_head place held = record { to_head = to_head; place = place; held = held }
 
 -- the reader goes to a place, holding these octets
-arrives : (new : State) (to_head : Bool) (place : Place) (held text : List ℕ) (parts : List Part) → new ≡ state_of to_head place held → StandsAt place to_head held text parts → Stands text parts new
+pub arrives : (new : State) (to_head : Bool) (place : Place) (held text : List ℕ) (parts : List Part) → new ≡ state_of to_head place held → StandsAt place to_head held text parts → Stands text parts new
 arrives new to_head place held text parts e s = subst (λ (n : State). Stands text parts n) (sym e) s
 
 pub hears_rest : (old : State) (xs : List ℕ) → old.place ≡ UntilEnd → Hears old xs (Body xs ∷ []) old
@@ -146,7 +148,7 @@ hears_rest old xs e = record {
   stands = λ text before s.
       let b = at UntilEnd old text before e s in
       arrives old old.to_head UntilEnd old.held (text ++ xs) (before ++ Body xs ∷ []) (λ i. record { to_head = old.to_head; place = e i; held = old.held })
-      (record { octets = b.octets ++ xs; body = body_step old.to_head IsUntilEnd text b.octets xs before b.body });
+      (record { octets = b.octets ++ xs; body = body_step old.to_head IsUntilEnd text b.octets b.octets xs before b.body });
 }
 
 pub hears_past : (old : State) (xs : List ℕ) → old.place ≡ Past → Hears old xs [] old
@@ -173,7 +175,7 @@ hears_sized old new left xs e less is = record {
       let sum : length b.octets + left ≡ b.count = b.has_count in
       let longer : length (b.octets ++ xs) ≡ length b.octets + length xs = length-append b.octets xs in
       arrives new old.to_head (Sized (left - length xs)) old.held (text ++ xs) (before ++ Body xs ∷ []) is
-      (record { octets = b.octets ++ xs; count = b.count; body = body_step old.to_head (IsSized b.count) text b.octets xs before b.body; has_count = omega arith; some = omega arith });
+      (record { octets = b.octets ++ xs; count = b.count; body = body_step old.to_head (IsSized b.count) text b.octets b.octets xs before b.body; has_count = omega arith; some = omega arith });
 }
 
 pub hears_sized_all : (old new : State) (left : ℕ) (xs : List ℕ) → old.place ≡ Sized left → length xs ≡ left → new ≡ record { to_head = old.to_head; place = Past; held = old.held }
@@ -184,7 +186,7 @@ hears_sized_all old new left xs e all is = record {
       let b = at (Sized left) old text before e s in
       let sum : length b.octets + left ≡ b.count = b.has_count in
       let longer : length (b.octets ++ xs) ≡ length b.octets + length xs = length-append b.octets xs in
-      let body = end_step old.to_head (IsSized b.count) (text ++ xs) (b.octets ++ xs) (b.octets ++ xs) (before ++ Body xs ∷ []) (body_step old.to_head (IsSized b.count) text b.octets xs before b.body) in
+      let body = end_step old.to_head (IsSized b.count) (text ++ xs) (b.octets ++ xs) (b.octets ++ xs) (before ++ Body xs ∷ []) (body_step old.to_head (IsSized b.count) text b.octets b.octets xs before b.body) in
       let whole : IsPast old.to_head (text ++ xs) ((before ++ Body xs ∷ []) ++ Done ∷ []) = record {
         framing = IsSized b.count;
         rest = b.octets ++ xs;
@@ -196,9 +198,10 @@ hears_sized_all old new left xs e all is = record {
       (subst (λ (o : List Part). IsPast old.to_head (text ++ xs) o) (append_assoc before (Body xs ∷ []) (Done ∷ [])) whole);
 }
 
-pub hears_more : (old new : State) (count : ℕ) (xs held : List ℕ) → old.place ≡ Head count → held ≡ old.held ++ xs → HasNoResponse held → new ≡ record { to_head = old.to_head; place = Head count; held = held }
+pub hears_more : (old new : State) (count : ℕ) (xs held : List ℕ) → old.place ≡ Head count → held ≡ old.held ++ xs → HasNoResponse held → MayBecomeResponse held → length held ≤ 16384
+    → new ≡ record { to_head = old.to_head; place = Head count; held = held }
     → Hears old xs [] new
-hears_more old new count xs held e longer none is = record {
+hears_more old new count xs held e longer none may short is = record {
   same = ap (λ (n : State). n.to_head) is;
   stands = λ text before s.
       let b = at (Head count) old text before e s in
@@ -210,13 +213,15 @@ hears_more old new count xs held e longer none is = record {
         has_count = b.has_count;
         few = b.few;
         no_head = none;
+        may_become = may;
+        short = short;
         told = append-nil before ∙ b.told;
       });
 }
 
-pub hears_interim : (old new : State) (count : ℕ) (xs : List ℕ) (head : model.Head) → old.place ≡ Head count → count < 8 → model.Interim (old.held ++ xs) head → HasNoResponse []
+pub hears_interim : (old new : State) (count : ℕ) (xs : List ℕ) (head : model.Head) → old.place ≡ Head count → count < 8 → model.Interim (old.held ++ xs) head
     → new ≡ record { to_head = old.to_head; place = Head (count + 1); held = [] } → Hears old xs (Interim head ∷ []) new
-hears_interim old new count xs head e less p none is = record {
+hears_interim old new count xs head e less p is = record {
   same = ap (λ (n : State). n.to_head) is;
   stands = λ text before s.
       let b = at (Head count) old text before e s in
@@ -226,10 +231,12 @@ hears_interim old new count xs head e less p none is = record {
         interims = b.interims ++ head ∷ [];
         front = b.front ++ (old.held ++ xs);
         is = ap (λ (o : List ℕ). o ++ xs) b.is ∙ append_assoc b.front old.held xs ∙ sym (append-nil (b.front ++ (old.held ++ xs)));
-        are_interims = joined_more b.front (old.held ++ xs) b.interims head b.are_interims p;
+        are_interims = joined_more model.Interim b.front (old.held ++ xs) b.interims head b.are_interims p;
         has_count = omega arith;
         few = omega arith;
-        no_head = none;
+        no_head = none_in_nothing;
+        may_become = nothing_may_become;
+        short = nothing_is_short;
         told = ap (λ (o : List Part). o ++ Interim head ∷ []) b.told ∙ sym (map-append Interim b.interims (head ∷ []));
       });
 }
@@ -288,7 +295,7 @@ breaks_ninth old count used xs head e many i text before s more ended whole =
     sym (cut_text b.front old.held xs more used) ∙ sym (whole_text text b.front old.held xs more b.is) ∙ p.is ∙ append_assoc p.front p.head_text p.rest in
     let nine : length (b.interims ++ head ∷ []) ≤ length r.interims =
     joined_longer (b.front ++ (old.held ++ take used xs)) p.front (drop used xs ++ more) (p.head_text ++ p.rest) (b.interims ++ head ∷ []) r.interims
-    (joined_more b.front (old.held ++ take used xs) b.interims head b.are_interims i) p.are_interims (none_at_final old.to_head p.head_text p.rest r.head p.framing p.is_final) parts in
+    (joined_more model.Interim b.front (old.held ++ take used xs) b.interims head b.are_interims i) p.are_interims (none_at_final old.to_head p.head_text p.rest r.head p.framing p.is_final) parts in
     let counted : count ≡ length b.interims = b.has_count in
     let few : length r.interims ≤ 8 = p.few_interims in
     let longer : length (b.interims ++ head ∷ []) ≡ length b.interims + 1 = length-append b.interims (head ∷ []) in
@@ -332,17 +339,26 @@ all_taken a b xs p h =
 pub nothing_held : (held : List ℕ) → held ≡ [] → (length held ≤ 16384) × HasNoResponse held
 nothing_held held e = (rw e (omega arith), subst HasNoResponse (sym e) none_in_nothing)
 
+pub kept_head : (place : Place) (count : ℕ) (held : List ℕ) → place ≡ Head count → held ≡ [] → (length held ≤ 16384) × IsKept place held
+kept_head place count held e none =
+    let kept : IsKept (Head count) held = (nothing_held held none).1 in
+    ((nothing_held held none).0, subst (λ (p : Place). IsKept p held) (sym e) kept)
+
 -- where a reader stands behind a final head
-stands_behind : (framing : Framing) (to_head : Bool) (held text : List ℕ) (parts : List Part) → (framing ≡ ways.Chunks → ⊥) → InBody to_head (framing_view framing) text [] [] parts []
+stands_behind : (framing : Framing) (to_head : Bool) (held text : List ℕ) (parts : List Part) → InBody to_head (framing_view framing) text [] [] parts []
     → StandsAt (place_behind framing) to_head held text (parts ++ told_behind framing)
-stands_behind ways.Bodiless to_head held text parts n b = record { framing = IsBodiless; rest = []; octets = []; body = end_step to_head IsBodiless text [] [] parts b; whole = refl }
-stands_behind ways.Chunks to_head held text parts n b = absurd (n refl)
-stands_behind (ways.Sized zero) to_head held text parts n b =
+stands_behind ways.Bodiless to_head held text parts b = record { framing = IsBodiless; rest = []; octets = []; body = end_step to_head IsBodiless text [] [] parts b; whole = refl }
+stands_behind ways.Chunks to_head held text parts b =
+    let same : parts ≡ parts ++ [] = sym (append-nil parts) in
+    let few : 0 ≤ 8 = omega arith in
+    subst (λ (o : List Part). InLine to_head (Size 0 0) text o) same
+    (record { behind = []; chunked = record { chunks = []; front = []; body = b; are_chunks = refl }; is_part = record { are_digits = refl; has_count = refl; few = few; has_size = refl } })
+stands_behind (ways.Sized zero) to_head held text parts b =
     record { framing = IsSized 0; rest = []; octets = []; body = end_step to_head (IsSized 0) text [] [] parts b; whole = record { past = []; is = refl; has_count = refl } }
-stands_behind (ways.Sized (suc count)) to_head held text parts n b =
+stands_behind (ways.Sized (suc count)) to_head held text parts b =
     let same : parts ≡ parts ++ [] = sym (append-nil parts) in
     subst (λ (o : List Part). InSized to_head (suc count) text o) same (record { octets = []; count = suc count; body = b; has_count = omega arith; some = omega arith })
-stands_behind ways.UntilEnd to_head held text parts n b =
+stands_behind ways.UntilEnd to_head held text parts b =
     let same : parts ≡ parts ++ [] = sym (append-nil parts) in
     subst (λ (o : List Part). InRest to_head text o) same (record { octets = []; body = b })
 
@@ -356,7 +372,7 @@ hears_final old mid new count xs head framing t0 t1 t2 e p same begins told = (
     same = ap (λ (n : State). n.to_head) begins.is ∙ same;
     stands = λ text before s.
         let b = final_step old count xs text before head (framing_view framing) p (at (Head count) old text before e s) in
-        let there = stands_behind framing old.to_head mid.held (text ++ xs) (before ++ Final head ∷ []) begins.treated b in
+        let there = stands_behind framing old.to_head mid.held (text ++ xs) (before ++ Final head ∷ []) b in
         let is : new ≡ record { to_head = old.to_head; place = place_behind framing; held = mid.held } = begins.is ∙ (λ i. record { to_head = same i; place = place_behind framing; held = mid.held }) in
         let stands : Stands (text ++ xs) ((before ++ Final head ∷ []) ++ told_behind framing) new =
         arrives new old.to_head (place_behind framing) mid.held (text ++ xs) ((before ++ Final head ∷ []) ++ told_behind framing) is there in
@@ -397,5 +413,5 @@ taken_none a t0 octets = ([], [], refl, sym (append-nil t0), hears_none a)
 -- a new reader stands for nothing
 pub stands_new : (to_head : Bool) (held : List ℕ) → held ≡ [] → Stands [] [] (record { to_head = to_head; place = Head 0; held = held })
 stands_new to_head held e =
-    let b : BeforeHead 0 [] [] [] = record { interims = []; front = []; is = refl; are_interims = refl; has_count = refl; few = omega arith; no_head = none_in_nothing; told = refl } in
+    let b : BeforeHead 0 [] [] [] = record { interims = []; front = []; is = refl; are_interims = refl; has_count = refl; few = omega arith; no_head = none_in_nothing; may_become = nothing_may_become; short = nothing_is_short; told = refl } in
     subst (λ (o : List ℕ). BeforeHead 0 o [] []) (sym e) b

@@ -1,5 +1,5 @@
 -- What was told stands in the octets.
-use Rattle.std.proofs.Common.{◌≡◌, ℕ, ◌+◌, ◌≤◌, Bool, true, false, List, [], ◌∷◌, ◌++◌, length, take, map, refl, sym, ap, ◌∙◌, subst, append_assoc, inl, inr, arith}
+use Rattle.std.proofs.Common.{◌≡◌, ℕ, ◌+◌, ◌<◌, ◌≤◌, Bool, true, false, List, [], ◌∷◌, ◌++◌, length, take, map, refl, sym, ap, ◌∙◌, subst, append_assoc, inl, inr, arith}
 use Rattle.std.specs.Prelude.{◌||◌, ◌⊎◌}
 use Rattle.std.specs.List.{concat}
 use Rattle.std.proofs.lemmas.List.{append-nil, take_all}
@@ -7,13 +7,17 @@ use Rattle.std.proofs.lemmas.List.Folds.{list_any-append}
 use Rattle.std.proofs.Math.Seq.{take-append_seam}
 use Rattle.model.specs.ResponseHeads as model
 use Rattle.model.specs.ResponseHeads.Framing.{Bodiless as IsBodiless, Chunks as IsChunks, Sized as IsSized, UntilEnd as IsUntilEnd}
-use Rattle.model.specs.Responses.{HasBody, StandsIn, IsComplete}
+use Rattle.model.specs.Responses.{BehindChunks, HasBody, StandsIn, IsComplete}
+use Rattle.model.specs.Octets.{IsStrictFront}
+use Rattle.model.specs.Http1.{crlf}
 use Rattle.model.proofs.ResponseHeadReadings.{one_front}
 use Rattle.h1_reader.specs.Parts.{Part}
 use Rattle.h1_reader.specs.Parts.Part.{Interim, Final, Body, Done}
-use Rattle.h1_reader.specs.Standing.{State, InBody, InRest, IsPast, StandsAt, Stands, Tells, TellsBehind, TellsWhole, is_done, is_end}
+use Rattle.h1_reader.specs.Standing.{State, InBody, InRest, IsPast, InChunked, BehindChunk, StandsAt, Stands, Tells, TellsBehind, TellsWhole, is_done, is_end}
 use Rattle.h1_reader.specs.declared.reader.Place.{Place}
-use Rattle.h1_reader.specs.declared.reader.Place.TheVariants.{Head, Sized, UntilEnd, Past, Broken}
+use Rattle.h1_reader.specs.declared.reader.Place.TheVariants.{Head, Sized, UntilEnd, Line, Chunk, ChunkEnd, ChunkReturn, Trailers, Past, Broken}
+use Rattle.h1_reader.proofs.ChunkLineLemmas.{line_begun}
+use Rattle.h1_reader.proofs.ChunkEnds.{line_short, chunk_short, end_short, trailers_short, no_octets, one_octet}
 use Rattle.h1_reader.proofs.Ends.{head_short, sized_short, past_complete}
 
 false_true : ◌≡◌ {A = Bool} false true → ⊥
@@ -47,11 +51,33 @@ tells_behind to_head framing text rest octets parts ends b s e = record {
   ends_are = e;
 }
 
+tells_chunked : (to_head : Bool) (behind next text : List ℕ) (parts : List Part) (c : InChunked to_head behind next text parts) → BehindChunks behind next → TellsBehind text to_head parts
+tells_chunked to_head behind next text parts c p =
+    tells_behind to_head IsChunks text (c.front ++ behind) (concat c.chunks ++ next) parts [] c.body
+    (record { chunks = c.chunks; front = c.front; behind = behind; next = next; is = refl; are_chunks = c.are_chunks; behind_them = p; has_octets = refl }) (inl refl)
+
+tells_end : (to_head : Bool) (end text : List ℕ) (parts : List Part) → BehindChunk to_head end text parts → IsStrictFront end crlf → TellsBehind text to_head parts
+tells_end to_head end text parts b f =
+    tells_chunked to_head (b.line ++ b.next ++ end) b.next text parts b.chunked
+    (inr (record { line = b.line; size = length b.next; end = end; is = refl; is_line = b.is_line; is_not_last = b.some; is_part = inr (refl, f) }))
+
 tells_at : (place : Place) (to_head : Bool) (held text : List ℕ) (parts : List Part) → StandsAt place to_head held text parts → Tells text to_head parts
 tells_at (Head count) to_head held text parts b =
     let counted : count ≡ length b.interims = b.has_count in
     let few : count ≤ 8 = b.few in
     inl (record { interims = b.interims; seen = (record { front = b.front; rest = held; is = b.is; are_interims = b.are_interims; few_interims = omega arith; no_head = b.no_head }, refl); told = b.told })
+tells_at (Line line) to_head held text parts b = inr (tells_chunked to_head b.behind [] text parts b.chunked (inl (refl, inl (line_begun line b.behind b.is_part))))
+tells_at (Chunk left) to_head held text parts b =
+    let sum : length b.next + left ≡ b.size = b.has_size in
+    let some : 0 < left = b.some in
+    let less : length b.next < b.size = omega arith in
+    inr (tells_chunked to_head (b.line ++ b.next) b.next text parts b.chunked
+    (inr (record { line = b.line; size = b.size; end = []; is = sym (append-nil (b.line ++ b.next)); is_line = b.is_line; is_not_last = omega arith; is_part = inl (less, refl) })))
+tells_at ChunkEnd to_head held text parts b = inr (tells_end to_head [] text parts b (record { next = 13; rest = 10 ∷ []; is = refl }))
+tells_at ChunkReturn to_head held text parts b = inr (tells_end to_head (13 ∷ []) text parts b (record { next = 10; rest = []; is = refl }))
+tells_at Trailers to_head held text parts b =
+    inr (tells_chunked to_head (b.line ++ held) [] text parts b.chunked
+    (inl (refl, inr (inl (record { line = b.line; tail = held; is = refl; is_last = b.is_last; no_trailers = b.no_trailers; may_become = b.may_become })))))
 tells_at (Sized left) to_head held text parts b =
     let sum : length b.octets + left ≡ b.count = b.has_count in
     let all : b.octets ≡ take b.count b.octets = sym (take_all b.count b.octets (omega arith)) in
@@ -94,6 +120,11 @@ rest_short to_head text parts b whole =
 done_at : (place : Place) (to_head : Bool) (held text : List ℕ) (parts : List Part) → StandsAt place to_head held text parts → is_done parts ≡ true → IsComplete text false to_head
 done_at (Head count) to_head held text parts b d = absurd (false_true (sym (ap is_done b.told ∙ no_interim_ends b.interims) ∙ d))
 done_at (Sized left) to_head held text parts b d = absurd (false_true (sym (ends_done to_head (IsSized b.count) text b.octets b.octets parts [] b.body) ∙ d))
+done_at (Line line) to_head held text parts b d = absurd (false_true (sym (ends_done to_head IsChunks text _ _ parts [] b.chunked.body) ∙ d))
+done_at (Chunk left) to_head held text parts b d = absurd (false_true (sym (ends_done to_head IsChunks text _ _ parts [] b.chunked.body) ∙ d))
+done_at ChunkEnd to_head held text parts b d = absurd (false_true (sym (ends_done to_head IsChunks text _ _ parts [] b.chunked.body) ∙ d))
+done_at ChunkReturn to_head held text parts b d = absurd (false_true (sym (ends_done to_head IsChunks text _ _ parts [] b.chunked.body) ∙ d))
+done_at Trailers to_head held text parts b d = absurd (false_true (sym (ends_done to_head IsChunks text _ _ parts [] b.chunked.body) ∙ d))
 done_at UntilEnd to_head held text parts b d = absurd (false_true (sym (ends_done to_head IsUntilEnd text b.octets b.octets parts [] b.body) ∙ d))
 done_at Past to_head held text parts b d = past_complete false to_head text parts b
 done_at (Broken fault) to_head held text parts b d = absurd b
@@ -104,6 +135,11 @@ done text parts state s d = done_at state.place state.to_head state.held text pa
 not_done_at : (place : Place) (to_head : Bool) (held text : List ℕ) (parts : List Part) → StandsAt place to_head held text parts → is_done parts ≡ false → IsComplete text false to_head → ⊥
 not_done_at (Head count) to_head held text parts b d w = head_short false to_head count held text parts b w
 not_done_at (Sized left) to_head held text parts b d w = sized_short false to_head left text parts b w
+not_done_at (Line line) to_head held text parts b d w = line_short false to_head line text parts b w
+not_done_at (Chunk left) to_head held text parts b d w = chunk_short false to_head left text parts b w
+not_done_at ChunkEnd to_head held text parts b d w = end_short false to_head [] text parts no_octets b w
+not_done_at ChunkReturn to_head held text parts b d w = end_short false to_head (13 ∷ []) text parts one_octet b w
+not_done_at Trailers to_head held text parts b d w = trailers_short false to_head held text parts b w
 not_done_at UntilEnd to_head held text parts b d w = rest_short to_head text parts b w
 not_done_at Past to_head held text parts b d w = false_true (sym d ∙ ends_done to_head b.framing text b.rest b.octets parts (Done ∷ []) b.body)
 not_done_at (Broken fault) to_head held text parts b d w = b
@@ -125,6 +161,11 @@ told_past to_head text parts b = record {
 whole_at : (place : Place) (to_head : Bool) (held text : List ℕ) (parts : List Part) → StandsAt place to_head held text parts → is_done parts ≡ true → TellsWhole text to_head parts
 whole_at (Head count) to_head held text parts b d = absurd (false_true (sym (ap is_done b.told ∙ no_interim_ends b.interims) ∙ d))
 whole_at (Sized left) to_head held text parts b d = absurd (false_true (sym (ends_done to_head (IsSized b.count) text b.octets b.octets parts [] b.body) ∙ d))
+whole_at (Line line) to_head held text parts b d = absurd (false_true (sym (ends_done to_head IsChunks text _ _ parts [] b.chunked.body) ∙ d))
+whole_at (Chunk left) to_head held text parts b d = absurd (false_true (sym (ends_done to_head IsChunks text _ _ parts [] b.chunked.body) ∙ d))
+whole_at ChunkEnd to_head held text parts b d = absurd (false_true (sym (ends_done to_head IsChunks text _ _ parts [] b.chunked.body) ∙ d))
+whole_at ChunkReturn to_head held text parts b d = absurd (false_true (sym (ends_done to_head IsChunks text _ _ parts [] b.chunked.body) ∙ d))
+whole_at Trailers to_head held text parts b d = absurd (false_true (sym (ends_done to_head IsChunks text _ _ parts [] b.chunked.body) ∙ d))
 whole_at UntilEnd to_head held text parts b d = absurd (false_true (sym (ends_done to_head IsUntilEnd text b.octets b.octets parts [] b.body) ∙ d))
 whole_at Past to_head held text parts b d = told_past to_head text parts b
 whole_at (Broken fault) to_head held text parts b d = absurd b

@@ -1,6 +1,6 @@
 -- What a read of a head says of the octets.
 use Rattle.std.specs.Prelude.{◌≡◌, ℕ, ◌<◌, ◌≤◌, Bool, List, ◌++◌, length, take}
-use Rattle.httparse.specs.Grammar.{HasNoResponse}
+use Rattle.httparse.specs.Grammar.{HasNoResponse, MayBecomeResponse}
 use Rattle.httparse.specs.declared.spans.HeaderSpan.{HeaderSpan}
 use Rattle.httparse.specs.Spans.{span_bytes}
 use Rattle.model.specs.Octets.{lower}
@@ -16,9 +16,9 @@ use Rattle.h1_reader.specs.declared.front.FrontRead.TheVariants.{OnGoing, Interi
 abbrev pub field_from : List ℕ → HeaderSpan → Field
 field_from text line = record { name = lower (span_bytes text line.name); value = span_bytes text line.value }
 
--- no head begins the octets, or one of so many octets does
+-- no head begins the octets and one may come, or one of so many octets stands there
 abbrev pub IsHeadRead : Bool → List ℕ → HeadRead → Type 0
-IsHeadRead to_head text More = HasNoResponse text
+IsHeadRead to_head text More = HasNoResponse text × MayBecomeResponse text
 IsHeadRead to_head text (Interim head used) = (used ≤ length text) × model.Interim (take used text) head
 IsHeadRead to_head text (Final head framing used) = (used ≤ length text) × model.Final to_head (take used text) head (framing_view framing)
 
@@ -29,6 +29,6 @@ pub record HasNoHead (to_head : Bool) (text : List ℕ) : Type 0 where
 
 -- The octets behind those that were held end before a head does, or so many of them end one.
 abbrev pub IsFrontRead : Bool → List ℕ → List ℕ → FrontRead → Type 0
-IsFrontRead to_head held octets (OnGoing text) = (text.items ≡ held ++ octets) × (length text.items ≤ 16384) × HasNoResponse text.items
+IsFrontRead to_head held octets (OnGoing text) = (text.items ≡ held ++ octets) × (length text.items ≤ 16384) × HasNoResponse text.items × MayBecomeResponse text.items
 IsFrontRead to_head held octets (InterimAt head used) = (0 < used) × (used ≤ length octets) × model.Interim (held ++ take used octets) head
 IsFrontRead to_head held octets (FinalAt head framing used) = (0 < used) × (used ≤ length octets) × model.Final to_head (held ++ take used octets) head (framing_view framing)

@@ -1,6 +1,9 @@
 pub mod Parts
+pub mod ChunkLines
 pub mod Views
+pub mod Trailers
 pub mod Heads
+pub mod HeadSizes
 pub mod Standing
 pub mod Begins
 pub use Rattle.model.specs.Messages

@@ -1,17 +1,20 @@
 -- Where a reader stands: what its value says of all octets that it was fed, and of all pieces that it told.
 use Rattle.std.specs.Prelude.{◌≡◌, ℕ, ◌+◌, ◌<◌, ◌≤◌, Bool, true, false, List, [], ◌∷◌, ◌++◌, length, map, ◌⊎◌, Some, None}
 use Rattle.std.specs.List.{concat, list_any}
-use Rattle.httparse.specs.Grammar.{HasNoResponse}
+use Rattle.httparse.specs.Grammar.{HasNoResponse, MayBecomeResponse, HasNoSection, MayBecomeSection}
 use Rattle.model.specs.Octets.{Joined}
 use Rattle.model.specs.ResponseHeads as model
-use Rattle.model.specs.ResponseHeads.Framing.{Sized as IsSized, UntilEnd as IsUntilEnd}
-use Rattle.model.specs.Responses.{most_interims, Response, H1Response, HasBody, IsComplete, IsSpoilt, Seen}
+use Rattle.model.specs.ResponseHeads.{longest_section}
+use Rattle.model.specs.ResponseHeads.Framing.{Chunks as IsChunks, Sized as IsSized, UntilEnd as IsUntilEnd}
+use Rattle.model.specs.Responses.{most_interims, Response, H1Response, ChunkLine, Chunk as IsChunk, HasBody, IsComplete, IsSpoilt, Seen}
+use Rattle.h1_reader.specs.ChunkLines.{IsLinePart, IsInRange}
 use Rattle.h1_reader.specs.Parts.{Part}
 use Rattle.h1_reader.specs.Parts.Part.{Interim, Final, Body, Done}
+use Rattle.h1_reader.specs.declared.chunk_line.LinePlace.{LinePlace}
 use Rattle.h1_reader.specs.declared.reader.Place.{Place}
 use Rattle.h1_reader.specs.declared.reader.Ended.{Ended}
 use Rattle.h1_reader.specs.declared.reader.Ended.TheVariants.{Complete, Short}
-use Rattle.h1_reader.specs.declared.reader.Place.TheVariants.{Head, Sized, UntilEnd, Past, Broken}
+use Rattle.h1_reader.specs.declared.reader.Place.TheVariants.{Head, Sized, UntilEnd, Line, Chunk, ChunkEnd, ChunkReturn, Trailers, Past, Broken}
 
 -- A reader's value: whether the response answers HEAD, its place, and the octets that begin no head yet.
 pub record State : Type 0 where
@@ -19,7 +22,7 @@ pub record State : Type 0 where
   pub place : Place
   pub held : List ℕ
 
--- Whole interim heads were told, and the rest of the octets, which is held, begins with no head.
+-- Whole interim heads were told, and the rest of the octets, which is held, begins with no head and may become one.
 pub record BeforeHead (count : ℕ) (held text : List ℕ) (parts : List Part) : Type 0 where
   pub interims : List model.Head
   pub front : List ℕ
@@ -28,6 +31,8 @@ pub record BeforeHead (count : ℕ) (held text : List ℕ) (parts : List Part) :
   pub has_count : count ≡ length interims
   pub few : count ≤ most_interims
   pub no_head : HasNoResponse held
+  pub may_become : MayBecomeResponse held
+  pub short : length held ≤ longest_section
   pub told : parts ≡ map Interim interims
 
 -- Whole interim heads, the final head and octets of its body were told; behind the head stands the rest.
@@ -57,6 +62,46 @@ pub record InRest (to_head : Bool) (text : List ℕ) (parts : List Part) : Type 
   pub octets : List ℕ
   pub body : InBody to_head IsUntilEnd text octets octets parts []
 
+-- Whole chunks stand behind the head, and behind them this text; their octets were told, and the next ones.
+pub record InChunked (to_head : Bool) (behind next text : List ℕ) (parts : List Part) : Type 0 where
+  pub chunks : List (List ℕ)
+  pub front : List ℕ
+  pub body : InBody to_head IsChunks text (front ++ behind) (concat chunks ++ next) parts []
+  pub are_chunks : Joined IsChunk front chunks
+
+-- A chunk's line was begun.
+pub record InLine (to_head : Bool) (line : LinePlace) (text : List ℕ) (parts : List Part) : Type 0 where
+  pub behind : List ℕ
+  pub chunked : InChunked to_head behind [] text parts
+  pub is_part : IsLinePart line behind
+
+-- So many octets of a chunk are to come.
+pub record InChunk (to_head : Bool) (left : ℕ) (text : List ℕ) (parts : List Part) : Type 0 where
+  pub line : List ℕ
+  pub size : ℕ
+  pub next : List ℕ
+  pub chunked : InChunked to_head (line ++ next) next text parts
+  pub is_line : ChunkLine line size
+  pub has_size : length next + left ≡ size
+  pub some : 0 < left
+
+-- All octets of a chunk were told, and this is there of its end.
+pub record BehindChunk (to_head : Bool) (end text : List ℕ) (parts : List Part) : Type 0 where
+  pub line : List ℕ
+  pub next : List ℕ
+  pub chunked : InChunked to_head (line ++ next ++ end) next text parts
+  pub is_line : ChunkLine line (length next)
+  pub some : 0 < length next
+
+-- Behind the line of the last chunk stand octets, which are held, that are no trailers and may become ones.
+pub record InTrailers (to_head : Bool) (held text : List ℕ) (parts : List Part) : Type 0 where
+  pub line : List ℕ
+  pub chunked : InChunked to_head (line ++ held) [] text parts
+  pub is_last : ChunkLine line 0
+  pub no_trailers : HasNoSection held
+  pub may_become : MayBecomeSection held
+  pub short : length held ≤ longest_section
+
 -- The whole body was told, wherever the octets end.
 pub record IsPast (to_head : Bool) (text : List ℕ) (parts : List Part) : Type 0 where
   pub framing : model.Framing
@@ -65,15 +110,31 @@ pub record IsPast (to_head : Bool) (text : List ℕ) (parts : List Part) : Type 
   pub body : InBody to_head framing text rest octets parts (Done ∷ [])
   pub whole : HasBody framing false rest octets
 
--- In a body of a known length one octet or more is to come.
-abbrev pub HasMore : Place → Type 0
-HasMore (Sized left) = 0 < left
-HasMore _ = Unit {0}
+-- What is held begins with no head or with no trailers, and where octets of a known number are to come, one or more are.
+abbrev pub IsKept : Place → List ℕ → Type 0
+IsKept (Head count) held = HasNoResponse held
+IsKept (Sized left) held = 0 < left
+IsKept (Line line) held = IsInRange line
+IsKept (Chunk left) held = 0 < left
+IsKept Trailers held = HasNoSection held
+IsKept _ held = Unit {0}
+
+-- The reader is in a body, but not in trailers, or past it.
+abbrev pub IsInBody : Place → Type 0
+IsInBody (Head count) = ⊥
+IsInBody Trailers = ⊥
+IsInBody (Broken fault) = ⊥
+IsInBody _ = Unit {0}
 
 abbrev pub StandsAt : Place → Bool → List ℕ → List ℕ → List Part → Type 0
 StandsAt (Head count) to_head held text parts = BeforeHead count held text parts
 StandsAt (Sized left) to_head held text parts = InSized to_head left text parts
 StandsAt UntilEnd to_head held text parts = InRest to_head text parts
+StandsAt (Line line) to_head held text parts = InLine to_head line text parts
+StandsAt (Chunk left) to_head held text parts = InChunk to_head left text parts
+StandsAt ChunkEnd to_head held text parts = BehindChunk to_head [] text parts
+StandsAt ChunkReturn to_head held text parts = BehindChunk to_head (13 ∷ []) text parts
+StandsAt Trailers to_head held text parts = InTrailers to_head held text parts
 StandsAt Past to_head held text parts = IsPast to_head text parts
 StandsAt (Broken fault) to_head held text parts = ⊥
 

@@ -10,7 +10,7 @@ use std::alloc::AllocError;
 pub enum ResponseFault {
     /// What stands there is no head, or one that is refused (RFC 9112, sections 4 and 5; this project's profile).
     Head,
-    /// A head of over 16,384 octets, or a ninth interim head (this project's profile).
+    /// A head or a trailer section of over 16,384 octets, or a ninth interim head (this project's profile).
     TooLong,
     /// A content-length that isn't 1 to 18 digits, or two that differ (RFC 9112, section 6.3).
     Length,
@@ -18,10 +18,11 @@ pub enum ResponseFault {
     Coding,
     /// The protocol is changed, for which nobody asked (RFC 9110, section 15.2.2).
     Upgrade,
+    /// A body in chunks that can't be continued: a chunk's line or end, or trailers that are refused (RFC 9112, section 7.1;
+    /// this project's profile).
+    Chunk,
     /// Memory was refused.
     Memory,
-    /// A body in chunks, which isn't read yet.
-    Untreated,
 }
 
 impl From<AllocError> for ResponseFault {

@@ -3,7 +3,6 @@
 ghost use Rattle.std.specs.Prelude.{◌≡◌, ◌++◌, ℕ, not, ◌&&◌, ◌||◌, [], ◌∷◌, codes, bytes_eq, filter, map, length, IfOk, IfSome, OnOk};
 ghost use Rattle.std.specs.List.{list_all, list_any};
 ghost use Rattle.model.specs.Messages.{Field as Meaning};
-ghost use Rattle.model.specs.Octets.{is_value_octet};
 ghost use Rattle.model.specs.Http1.{values_of, without};
 ghost use Rattle.model.specs.Http2.{connection_names};
 ghost use Rattle.model.specs.ResponseHeads.{names_in, named_by_connection, never_has_body, without_framing, passed, with_one};
@@ -17,15 +16,6 @@ pub fn is_named(field: &Field, name: &[u8]) -> bool
     ensures { result ≡ bytes_eq field.now.name name.now }
 {
     field.name() == name
-}
-
-/// Whether each octet of each value may stand in one (RFC 9110, section 5.5).
-pub fn values_hold(fields: &[Field]) -> bool
-    ensures { result ≡ list_all (λ field. list_all is_value_octet field.value) fields.now }
-{
-    fields
-        .iter()
-        .all(|field| octets::are_value_octets(field.value()))
 }
 
 /// Whether the field is a Connection that names this name.

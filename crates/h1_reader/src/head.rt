@@ -13,8 +13,8 @@ use httparse::Status;
 use httparse::spans::{HeaderSpan, ResponseSpans, parse_response};
 use std::alloc::{AllocError, Global};
 
-/// The most fields of a head (this project's profile).
-const MOST_FIELDS: usize = 100;
+/// The most fields of a head, and of a trailer section (this project's profile).
+pub const MOST_FIELDS: usize = 100;
 
 /// What stands at the front, with how many octets it takes.
 #[derive(Drop)]
@@ -90,9 +90,6 @@ fn take_head(
         return Err(ResponseFault::Upgrade);
     }
     let all = fields_at(alloc, text, &spans[..found.headers])?;
-    if !fields::values_hold(&all) {
-        return Err(ResponseFault::Head);
-    }
     let passed = fields::passed_back(alloc, found.code, &all)?;
     let head = ResponseHead::new(found.code, passed);
     if found.code < 200 {

@@ -1,6 +1,7 @@
 //! Responses of an HTTP/1.1 server, read from octets that come in pieces of any length (RFC 9112).
 #![tactic(auto)]
 
+mod chunk_line;
 mod fault;
 mod fields;
 mod framing;
@@ -12,6 +13,7 @@ mod piece;
 mod reader;
 #[cfg(test)]
 mod tests;
+mod trailers;
 
 pub use crate::fault::ResponseFault;
 pub use crate::piece::{Piece, ResponseHead};

@@ -4,7 +4,7 @@ ghost use Rattle.std.specs.Prelude.{◌≡◌, ◌≤◌, ◌<◌, ◌∷◌, []
 ghost use Rattle.std.specs.List.{list_all, list_any};
 ghost use Rattle.std.specs.Str.Parse.{digits_value};
 ghost use Rattle.httparse.specs.Grammar.{skip_ows, trim_ows};
-ghost use Rattle.model.specs.Octets.{some_of, is_digit, is_space, is_value_octet, lower, lower_octet};
+ghost use Rattle.model.specs.Octets.{some_of, is_digit, is_space, lower, lower_octet};
 ghost use Rattle.model.specs.ResponseHeads.{cut_at, names_in};
 
 use std::alloc::{AllocError, Global};
@@ -32,20 +32,6 @@ fn is_space(octet: u8) -> bool
     ensures { result ≡ is_space octet }
 {
     matches!(octet, b' ' | b'\t')
-}
-
-/// Whether a field's value may hold the octet (RFC 9110, section 5.5).
-fn is_value_octet(octet: u8) -> bool
-    ensures { result ≡ is_value_octet octet }
-{
-    matches!(octet, b'\t' | 0x20..=0x7e | 0x80..=0xff)
-}
-
-/// Whether all octets may stand in a value.
-pub fn are_value_octets(text: &[u8]) -> bool
-    ensures { result ≡ list_all is_value_octet text.now }
-{
-    text.iter().all(|octet| is_value_octet(*octet))
 }
 
 /// Whether all octets are digits.
@@ -118,13 +104,15 @@ fn trimmed(text: &[u8]) -> &[u8]
 fn is_lower_of(name: &[u8], text: &[u8]) -> bool
     ensures { result ≡ bytes_eq name.now (lower text.now) }
 {
-    match (name, text) {
-        ([], []) => true,
-        ([octet, name @ ..], [other, text @ ..]) => {
-            *octet == lower_octet(*other) && is_lower_of(name, text)
-        }
-        _ => false,
+    if name.len() != text.len() {
+        return false;
     }
+    for place in 0..name.len() {
+        if name[place] != lower_octet(text[place]) {
+            return false;
+        }
+    }
+    true
 }
 
 /// The text before the first comma, and the text behind it, if there is one.
@@ -144,12 +132,15 @@ fn cut(text: &[u8]) -> (&[u8], Option<&[u8]>)
 pub fn names(value: &[u8], name: &[u8]) -> bool
     ensures { result ≡ list_any (bytes_eq name.now) (names_in value.now) }
 {
-    let (part, rest) = cut(value);
-    if is_lower_of(name, trimmed(part)) {
-        return true;
-    }
-    match rest {
-        None => false,
-        Some(rest) => names(rest, name),
+    let mut rest = value;
+    loop {
+        let (part, more) = cut(rest);
+        if is_lower_of(name, trimmed(part)) {
+            return true;
+        }
+        match more {
+            None => return false,
+            Some(more) => rest = more,
+        }
     }
 }

@@ -1,15 +1,18 @@
 //! A reader of one response.
 
-ghost use Rattle.std.specs.Prelude.{◌≡◌, ◌≢◌, ◌<◌, ◌≤◌, ◌++◌, [], List, Err, length, take, OnOk, OnErr, IfOk, IfErr};
+ghost use Rattle.std.specs.Prelude.{◌≡◌, ◌≢◌, ◌<◌, ◌≤◌, ◌++◌, ◌∷◌, [], List, Err, length, take, OnOk, OnErr, IfOk, IfErr};
 ghost use Rattle.h1_reader.specs.Parts.{Part};
 ghost use Rattle.h1_reader.specs.Views.{parts_of};
+ghost use Rattle.h1_reader.specs.ChunkLines.{IsInRange};
 ghost use Rattle.h1_reader.specs.Standing.{Stands, Hears, Breaks, IsEnd};
 ghost use Rattle.h1_reader.specs.Begins.{Begins};
 
+use crate::chunk_line::{LINE_START, LinePlace, LineStep, line_step};
 use crate::fault::ResponseFault;
 use crate::framing::Framing;
 use crate::front::{FrontRead, read_front};
 use crate::piece::{Piece, Told};
+use crate::trailers::{TrailersRead, read_trailers};
 use httparse::spans::HeaderSpan;
 use std::alloc::Global;
 use std::marker::Model;
@@ -36,6 +39,16 @@ pub enum Place {
     Sized(u64),
     /// In a body that goes on until the server ends the connection.
     UntilEnd,
+    /// In the first line of a chunk, perhaps of the last one.
+    Line(LinePlace),
+    /// In a chunk of which so many octets, one or more, are still to come.
+    Chunk(u32),
+    /// Behind the octets of a chunk.
+    ChunkEnd,
+    /// Behind the octets of a chunk and a carriage return.
+    ChunkReturn,
+    /// In the trailers behind the last chunk.
+    Trailers,
     /// Behind a whole response.
     Past,
     /// Behind a fault.
@@ -60,10 +73,9 @@ impl Model for Reader {
     ghost view = { λ r. record { to_head = r.to_head; place = r.place; held = r.held.items } };
 
     ghost use Rattle.std.specs.Prelude.{◌≤◌, length};
-    ghost use Rattle.httparse.specs.Grammar.{HasNoResponse};
-    ghost use Rattle.h1_reader.specs.Standing.{HasMore};
+    ghost use Rattle.h1_reader.specs.Standing.{IsKept};
 
-    ghost invariant = { λ r. (length r.held.items ≤ 16384) × HasNoResponse r.held.items × HasMore r.place };
+    ghost invariant = { λ r. (length r.held.items ≤ 16384) × IsKept r.place r.held.items };
 }
 
 impl Reader {
@@ -86,7 +98,7 @@ impl Reader {
     /// What stands behind a whole response is ignored. A fault adds nothing, and every later call answers the same one.
     pub fn feed(&mut self, octets: &[u8], pieces: &mut Vec<Piece>) -> Result<(), ResponseFault>
         ensures ok { OnOk result ((added : List Part) × (parts_of pieces.new.items ≡ parts_of pieces.old.items ++ added) × Hears self.old octets.now added self.new) }
-        ensures fault { IfErr result (λ fault. fault ≢ ResponseFault.Memory → fault ≢ ResponseFault.Untreated → Breaks self.old octets.now) }
+        ensures fault { IfErr result (λ fault. fault ≢ ResponseFault.Memory → Breaks self.old octets.now) }
         ensures unchanged { OnErr result (pieces.new.items ≡ pieces.old.items) }
         ensures broken { IfErr result (λ fault. self.new.place ≡ Place.Broken fault) }
         ensures again { (fault : ResponseFault) → self.old.place ≡ Place.Broken fault → result ≡ Err fault }
@@ -102,14 +114,20 @@ impl Reader {
         outcome
     }
 
-    /// What the end of the connection makes of the response.
+    /// What the end of the connection makes of the response: short behind a fault.
     pub fn end(&self) -> Ended
-        ensures { IsEnd result self.now }
+        ensures is { IsEnd result self.now }
+        ensures broken { (fault : ResponseFault) → self.now.place ≡ Place.Broken fault → result ≡ Ended.Short }
     {
         match self.place {
             Place::Head(_) => Ended::Short,
             Place::Sized(_) => Ended::Short,
             Place::UntilEnd => Ended::Complete,
+            Place::Line(_) => Ended::Short,
+            Place::Chunk(_) => Ended::Short,
+            Place::ChunkEnd => Ended::Short,
+            Place::ChunkReturn => Ended::Short,
+            Place::Trailers => Ended::Short,
             Place::Past => Ended::Complete,
             Place::Broken(_) => Ended::Short,
         }
@@ -118,20 +136,21 @@ impl Reader {
     /// Takes the next octets, and adds what they tell to the pieces, or nothing where there is a fault.
     fn tell(&mut self, octets: &[u8], pieces: &mut Vec<Piece>) -> Result<(), ResponseFault>
         ensures ok { OnOk result ((added : List Part) × (parts_of pieces.new.items ≡ parts_of pieces.old.items ++ added) × Hears self.old octets.now added self.new) }
-        ensures fault { IfErr result (λ fault. fault ≢ ResponseFault.Memory → fault ≢ ResponseFault.Untreated → Breaks self.old octets.now) }
+        ensures fault { IfErr result (λ fault. fault ≢ ResponseFault.Memory → Breaks self.old octets.now) }
         ensures unchanged { OnErr result (pieces.new.items ≡ pieces.old.items) }
     {
         let mut told = Told::new(self.alloc);
-        match self.take_all(octets, &mut told) {
-            Ok(()) => Ok(told.move_to(pieces)?),
-            Err(fault) => Err(fault),
+        let outcome = self.take_all(octets, &mut told);
+        if outcome.is_ok() {
+            told.move_to(pieces)?;
         }
+        outcome
     }
 
     /// Takes all octets, one step after another.
     fn take_all(&mut self, octets: &[u8], told: &mut Told) -> Result<(), ResponseFault>
         ensures ok { OnOk result ((added : List Part) × (told.new ≡ told.old ++ added) × Hears self.old octets.now added self.new) }
-        ensures fault { IfErr result (λ fault. fault ≢ ResponseFault.Memory → fault ≢ ResponseFault.Untreated → Breaks self.old octets.now) }
+        ensures fault { IfErr result (λ fault. fault ≢ ResponseFault.Memory → Breaks self.old octets.now) }
     {
         let mut rest = octets;
         while !rest.is_empty() {
@@ -147,7 +166,7 @@ impl Reader {
     fn take(&mut self, octets: &[u8], told: &mut Told) -> Result<usize, ResponseFault>
         requires { 0 < length octets.now }
         ensures ok { IfOk result (λ used. (0 < used) × (used ≤ length octets.now) × ((added : List Part) × (told.new ≡ told.old ++ added) × Hears self.old (take used octets.now) added self.new)) }
-        ensures fault { IfErr result (λ fault. fault ≢ ResponseFault.Memory → fault ≢ ResponseFault.Untreated → Breaks self.old octets.now) }
+        ensures fault { IfErr result (λ fault. fault ≢ ResponseFault.Memory → Breaks self.old octets.now) }
     {
         match self.place {
             Place::Head(interims) => self.take_head(interims, octets, told),
@@ -156,6 +175,11 @@ impl Reader {
                 told.body(octets)?;
                 Ok(octets.len())
             }
+            Place::Line(line) => self.take_line(line, octets[0]),
+            Place::Chunk(left) => self.take_chunk(left, octets, told),
+            Place::ChunkEnd => self.take_return(octets[0]),
+            Place::ChunkReturn => self.take_feed(octets[0]),
+            Place::Trailers => self.take_trailers(octets, told),
             Place::Past => Ok(octets.len()),
             Place::Broken(fault) => Err(fault),
         }
@@ -186,6 +210,97 @@ impl Reader {
         Ok(used)
     }
 
+    /// Takes an octet of a chunk's first line, and answers 1.
+    fn take_line(&mut self, line: LinePlace, octet: u8) -> Result<usize, ResponseFault>
+        requires place { self.old.place ≡ Place.Line line }
+        requires range { IsInRange line }
+        ensures ok { IfOk result (λ used. (used ≡ 1) × Hears self.old (octet ∷ []) [] self.new) }
+        ensures fault { OnErr result (Breaks self.old (octet ∷ [])) }
+    {
+        match line_step(line, octet) {
+            None => return Err(ResponseFault::Chunk),
+            Some(LineStep::On(next)) => self.place = Place::Line(next),
+            Some(LineStep::Whole(0)) => {
+                self.held = Vec::new(self.alloc);
+                self.place = Place::Trailers;
+            }
+            Some(LineStep::Whole(size)) => self.place = Place::Chunk(size),
+        }
+        Ok(1)
+    }
+
+    /// Takes octets of a chunk of which so many are to come.
+    fn take_chunk(
+        &mut self,
+        left: u32,
+        octets: &[u8],
+        told: &mut Told,
+    ) -> Result<usize, ResponseFault>
+        requires place { self.old.place ≡ Place.Chunk left }
+        requires octets { 0 < length octets.now }
+        ensures ok { IfOk result (λ used. (0 < used) × (used ≤ length octets.now) × ((added : List Part) × (told.new ≡ told.old ++ added) × Hears self.old (take used octets.now) added self.new)) }
+        ensures fault { IfErr result (λ fault. fault ≡ ResponseFault.Memory) }
+    {
+        let count = octets.len() as u64;
+        if count < left as u64 {
+            told.body(octets)?;
+            self.place = Place::Chunk(left - octets.len() as u32);
+            return Ok(octets.len());
+        }
+        let used = left as usize;
+        told.body(&octets[..used])?;
+        self.place = Place::ChunkEnd;
+        Ok(used)
+    }
+
+    /// Takes the carriage return behind a chunk, and answers 1.
+    fn take_return(&mut self, octet: u8) -> Result<usize, ResponseFault>
+        requires { self.old.place ≡ Place.ChunkEnd }
+        ensures ok { IfOk result (λ used. (used ≡ 1) × Hears self.old (octet ∷ []) [] self.new) }
+        ensures fault { OnErr result (Breaks self.old (octet ∷ [])) }
+    {
+        if octet != b'\r' {
+            return Err(ResponseFault::Chunk);
+        }
+        self.place = Place::ChunkReturn;
+        Ok(1)
+    }
+
+    /// Takes the line feed behind a chunk, and answers 1.
+    fn take_feed(&mut self, octet: u8) -> Result<usize, ResponseFault>
+        requires { self.old.place ≡ Place.ChunkReturn }
+        ensures ok { IfOk result (λ used. (used ≡ 1) × Hears self.old (octet ∷ []) [] self.new) }
+        ensures fault { OnErr result (Breaks self.old (octet ∷ [])) }
+    {
+        if octet != b'\n' {
+            return Err(ResponseFault::Chunk);
+        }
+        self.place = Place::Line(LINE_START);
+        Ok(1)
+    }
+
+    /// Takes octets of trailers.
+    fn take_trailers(&mut self, octets: &[u8], told: &mut Told) -> Result<usize, ResponseFault>
+        requires place { self.old.place ≡ Place.Trailers }
+        requires octets { 0 < length octets.now }
+        ensures ok { IfOk result (λ used. (0 < used) × (used ≤ length octets.now) × ((added : List Part) × (told.new ≡ told.old ++ added) × Hears self.old (take used octets.now) added self.new)) }
+        ensures fault { IfErr result (λ fault. fault ≢ ResponseFault.Memory → Breaks self.old octets.now) }
+    {
+        let held = mem::replace(&mut self.held, Vec::new(self.alloc));
+        match read_trailers(self.alloc, held, octets, &mut self.spans) {
+            Ok(TrailersRead::OnGoing(text)) => {
+                self.held = text;
+                Ok(octets.len())
+            }
+            Ok(TrailersRead::WholeAt(used)) => {
+                told.done()?;
+                self.place = Place::Past;
+                Ok(used)
+            }
+            Err(fault) => Err(fault),
+        }
+    }
+
     /// Takes octets of a head, behind so many interim heads.
     fn take_head(
         &mut self,
@@ -196,7 +311,7 @@ impl Reader {
         requires place { self.old.place ≡ Place.Head interims }
         requires octets { 0 < length octets.now }
         ensures ok { IfOk result (λ used. (0 < used) × (used ≤ length octets.now) × ((added : List Part) × (told.new ≡ told.old ++ added) × Hears self.old (take used octets.now) added self.new)) }
-        ensures fault { IfErr result (λ fault. fault ≢ ResponseFault.Memory → fault ≢ ResponseFault.Untreated → Breaks self.old octets.now) }
+        ensures fault { IfErr result (λ fault. fault ≢ ResponseFault.Memory → Breaks self.old octets.now) }
     {
         let held = mem::replace(&mut self.held, Vec::new(self.alloc));
         match read_front(self.alloc, self.to_head, held, octets, &mut self.spans) {
@@ -224,7 +339,7 @@ impl Reader {
     /// Goes on behind a final head.
     fn begin_body(&mut self, framing: Framing, told: &mut Told) -> Result<(), ResponseFault>
         ensures ok { OnOk result (Begins framing self.old self.new told.old told.new) }
-        ensures fault { IfErr result (λ fault. fault ≢ ResponseFault.Memory → fault ≡ ResponseFault.Untreated) }
+        ensures fault { IfErr result (λ fault. fault ≡ ResponseFault.Memory) }
     {
         match framing {
             Framing::Bodiless | Framing::Sized(0) => {
@@ -233,7 +348,7 @@ impl Reader {
             }
             Framing::Sized(left) => self.place = Place::Sized(left),
             Framing::UntilEnd => self.place = Place::UntilEnd,
-            Framing::Chunks => return Err(ResponseFault::Untreated),
+            Framing::Chunks => self.place = Place::Line(LINE_START),
         }
         Ok(())
     }

@@ -1,11 +1,9 @@
-use Rattle.std.proofs.Common.{◌≡◌, ◌<◌, ◌≤◌, ◌∙◌, sym, ap, List, arith, true}
-use Rattle.std.specs.List.{list_all}
-use Rattle.model.specs.Octets.{is_value_octet}
+use Rattle.std.proofs.Common.{◌≡◌, ◌<◌, ◌≤◌, ◌∙◌, sym, ap, List, arith}
 use Rattle.model.specs.Messages.{Field}
 use Rattle.httparse.specs.Grammar.{status_code}
 use Rattle.model.specs.ResponseHeads.{passed, without_framing, framing_for}
 use Rattle.h1_reader.specs.Views.{framing_view}
-use Rattle.h1_reader.proofs.HeadLemmas.{too_many, too_low, upgrades, bad_values, unframed, taken, says, framed}
+use Rattle.h1_reader.proofs.HeadLemmas.{too_many, too_low, upgrades, unframed, taken, says, framed}
 use Rattle.h1_reader.proofs.head.take_head.Goals as goal
 
 pub returns-then-found-gt-MOST_FIELDS : goal.returns-then-found-gt-MOST_FIELDS
@@ -17,48 +15,39 @@ returns-then-found-lt100 c = λ _. too_low c.args.to_head c.args.text.now c.args
 pub returns-then-found-eq101 : goal.returns-then-found-eq101
 returns-then-found-eq101 c = λ _. upgrades c.args.to_head c.args.text.now c.args.spans.now c.args.found c.requires.is_head c.if-found-eq101.true
 
-pub returns-then-not-values_hold : goal.returns-then-not-values_hold
-returns-then-not-values_hold c =
-    λ _. bad_values c.args.to_head c.args.text.now c.args.spans.now c.args.found c.in_ok-all.all.items c.requires.is_head c.in_ok-all.ensures
-    (ap (list_all (λ field. list_all is_value_octet field.value)) (sym c.deref.ensures.value) ∙ sym c.values_hold.ensures ∙ c.if-not-values_hold.true)
-
 pub returns-then-found-lt200 : goal.returns-then-found-lt200
 returns-then-found-lt200 c =
     let of = c.requires.is_head in
-    let values : list_all (λ field. list_all is_value_octet field.value) c.in_ok-all.all.items ≡ true =
-    ap (list_all (λ field. list_all is_value_octet field.value)) (sym c.deref.ensures.value) ∙ sym c.values_hold.ensures ∙ c.if-not-values_hold.false in
     let code : c.args.found.code ≡ status_code of.0 = of.1.code in
     let low : c.args.found.code < 200 = c.if-found-lt200.true in (
       c.requires.within.section.len_fits,
       record {
         spelled = of.0;
-        taken = taken c.args.text.now c.args.spans.now c.args.found c.in_ok-all.all.items of c.requires.within c.in_ok-all.ensures values c.requires.short c.if-found-gt-MOST_FIELDS.false c.if-found-lt100.false c.if-found-eq101.false;
+        taken = taken c.args.text.now c.args.spans.now c.args.found of c.requires.within (λ k. (c.type_inv.text k).fits) c.requires.short c.if-found-gt-MOST_FIELDS.false c.if-found-lt100.false c.if-found-eq101.false;
         is_interim = omega arith;
         says = says c.args.text.now c.args.spans.now c.args.found c.in_ok-all.all.items c.in_ok-passed.passed.items c.new-head.result of c.in_ok-all.ensures
-            (c.in_ok-passed.ensures ∙ ap (λ (fs : List Field). passed fs (without_framing c.args.found.code fs)) c.deref-2.ensures.value) c.new-head.ensures.status c.new-head.ensures.fields;
+            (c.in_ok-passed.ensures ∙ ap (λ (fs : List Field). passed fs (without_framing c.args.found.code fs)) c.deref.ensures.value) c.new-head.ensures.status c.new-head.ensures.fields;
       },
     )
 
 pub returns-in-Ok : goal.returns-in-Ok
 returns-in-Ok c =
     let of = c.requires.is_head in
-    let values : list_all (λ field. list_all is_value_octet field.value) c.in_ok-all.all.items ≡ true =
-    ap (list_all (λ field. list_all is_value_octet field.value)) (sym c.deref.ensures.value) ∙ sym c.values_hold.ensures ∙ c.if-not-values_hold.false in
     let code : c.args.found.code ≡ status_code of.0 = of.1.code in
     let high : 200 ≤ c.args.found.code = c.if-found-lt200.false in (
       c.requires.within.section.len_fits,
       record {
         spelled = of.0;
-        taken = taken c.args.text.now c.args.spans.now c.args.found c.in_ok-all.all.items of c.requires.within c.in_ok-all.ensures values c.requires.short c.if-found-gt-MOST_FIELDS.false c.if-found-lt100.false c.if-found-eq101.false;
+        taken = taken c.args.text.now c.args.spans.now c.args.found of c.requires.within (λ k. (c.type_inv.text k).fits) c.requires.short c.if-found-gt-MOST_FIELDS.false c.if-found-lt100.false c.if-found-eq101.false;
         is_final = omega arith;
         framed = framed c.args.to_head c.args.text.now c.args.spans.now c.args.found c.in_ok-all.all.items (framing_view c.in-Ok.framing) of c.in_ok-all.ensures
-            (ap (framing_for c.args.to_head c.args.found.version c.args.found.code) (sym c.deref-3.ensures.value) ∙ c.in-Ok.ensures);
+            (ap (framing_for c.args.to_head c.args.found.version c.args.found.code) (sym c.deref-2.ensures.value) ∙ c.in-Ok.ensures);
         says = says c.args.text.now c.args.spans.now c.args.found c.in_ok-all.all.items c.in_ok-passed.passed.items c.new-head.result of c.in_ok-all.ensures
-            (c.in_ok-passed.ensures ∙ ap (λ (fs : List Field). passed fs (without_framing c.args.found.code fs)) c.deref-2.ensures.value) c.new-head.ensures.status c.new-head.ensures.fields;
+            (c.in_ok-passed.ensures ∙ ap (λ (fs : List Field). passed fs (without_framing c.args.found.code fs)) c.deref.ensures.value) c.new-head.ensures.status c.new-head.ensures.fields;
       },
     )
 
 pub returns : goal.returns
 returns c =
     λ _. unframed c.args.to_head c.args.text.now c.args.spans.now c.args.found c.in_ok-all.all.items c.requires.is_head c.in_ok-all.ensures c.if-found-lt200.false
-    (ap (framing_for c.args.to_head c.args.found.version c.args.found.code) (sym c.deref-3.ensures.value) ∙ c.in-Err.ensures)
+    (ap (framing_for c.args.to_head c.args.found.version c.args.found.code) (sym c.deref-2.ensures.value) ∙ c.in-Err.ensures)

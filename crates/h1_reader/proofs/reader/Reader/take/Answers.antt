@@ -3,6 +3,7 @@ use Rattle.std.proofs.lemmas.List.{append-nil}
 use Rattle.h1_reader.specs.Parts.Part.{Body}
 use Rattle.h1_reader.specs.Standing.{State}
 use Rattle.h1_reader.proofs.Steps.{hears_rest, hears_past, all_taken}
+use Rattle.h1_reader.proofs.ChunkEnds.{first_breaks}
 use Rattle.h1_reader.proofs.reader.Reader.take.Goals as goal
 
 pub returns-in_ok-body-in-UntilEnd-clause-ok : goal.returns-in_ok-body-in-UntilEnd-clause-ok
@@ -28,3 +29,12 @@ returns-in-Past-clause-ok c = (
         (hears_past c.args.self.now c.args.octets.now (ap (λ (s : State). s.place) (sym c.self.view_is) ∙ c.in-Past.is)),
   ),
 )
+
+pub returns-in-Line-clause-fault : goal.returns-in-Line-clause-fault
+returns-in-Line-clause-fault c = first_breaks c.args.self.now c.args.octets.now c.take_line.result c.requires c.take_line.ensures.fault
+
+pub returns-in-ChunkEnd-clause-fault : goal.returns-in-ChunkEnd-clause-fault
+returns-in-ChunkEnd-clause-fault c = first_breaks c.args.self.now c.args.octets.now c.take_return.result c.requires c.take_return.ensures.fault
+
+pub returns-in-ChunkReturn-clause-fault : goal.returns-in-ChunkReturn-clause-fault
+returns-in-ChunkReturn-clause-fault c = first_breaks c.args.self.now c.args.octets.now c.take_feed.result c.requires c.take_feed.ensures.fault

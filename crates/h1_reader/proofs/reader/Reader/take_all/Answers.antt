@@ -8,7 +8,7 @@ loop-rest-init c = taken_none c.args.self.now c.args.told.now c.args.octets.now
 
 pub returns-in-Err-clause-fault : goal.returns-in-Err-clause-fault
 returns-in-Err-clause-fault c =
-    λ n m. taken_breaks c.args.self.now c.loop-rest.self c.args.told.now c.loop-rest.told c.args.octets.now c.loop-rest.rest.now c.loop-rest.invariant (c.in-Err.ensures.fault n m)
+    λ n. taken_breaks c.args.self.now c.loop-rest.self c.args.told.now c.loop-rest.told c.args.octets.now c.loop-rest.rest.now c.loop-rest.invariant (c.in-Err.ensures.fault n)
 
 pub loop-rest-preserved : goal.loop-rest-preserved
 loop-rest-preserved c =

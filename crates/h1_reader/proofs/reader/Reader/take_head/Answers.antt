@@ -6,51 +6,50 @@ use Rattle.h1_reader.specs.Heads.{HasNoHead}
 use Rattle.h1_reader.specs.Standing.{State}
 use Rattle.h1_reader.specs.declared.reader.Place.TheVariants.{Head}
 use Rattle.h1_reader.specs.Views.{framing_view}
-use Rattle.h1_reader.proofs.FrontLemmas.{none_in_nothing}
-use Rattle.h1_reader.proofs.Steps.{nothing_held, hears_more, hears_interim, hears_final, breaks_head, breaks_ninth, all_taken}
+use Rattle.h1_reader.proofs.Steps.{nothing_held, kept_head, hears_more, hears_interim, hears_final, breaks_head, breaks_ninth, all_taken}
 use Rattle.h1_reader.proofs.reader.Reader.take_head.Goals as goal
 
 pub invariant_of-self-then-interims-ge-MOST_INTERIMS : goal.invariant_of-self-then-interims-ge-MOST_INTERIMS
 invariant_of-self-then-interims-ge-MOST_INTERIMS c =
-    let none = nothing_held c.replace-held.new.dest.items (ap (λ (v : Vec ℕ Global). v.items) c.replace-held.ensures.after ∙ c.new.ensures.items) in
-    (none.0, none.1, c.self.invariant.2)
+    let nothing : c.replace-held.new.dest.items ≡ [] = ap (λ (v : Vec ℕ Global). v.items) c.replace-held.ensures.after ∙ c.new.ensures.items in
+    kept_head c.self.inside.place c.args.interims c.replace-held.new.dest.items (ap (λ (s : State). s.place) c.self.view_is ∙ c.requires.place) nothing
 
 pub invariant_of-self-in_err-interim-in-Ok-InterimAt : goal.invariant_of-self-in_err-interim-in-Ok-InterimAt
 invariant_of-self-in_err-interim-in-Ok-InterimAt c =
-    let none = nothing_held c.replace-held.new.dest.items (ap (λ (v : Vec ℕ Global). v.items) c.replace-held.ensures.after ∙ c.new.ensures.items) in
-    (none.0, none.1, c.self.invariant.2)
+    let nothing : c.replace-held.new.dest.items ≡ [] = ap (λ (v : Vec ℕ Global). v.items) c.replace-held.ensures.after ∙ c.new.ensures.items in
+    kept_head c.self.inside.place c.args.interims c.replace-held.new.dest.items (ap (λ (s : State). s.place) c.self.view_is ∙ c.requires.place) nothing
 
 pub invariant_of-self-in-Ok-InterimAt : goal.invariant_of-self-in-Ok-InterimAt
 invariant_of-self-in-Ok-InterimAt c =
-    let none = nothing_held c.replace-held.new.dest.items (ap (λ (v : Vec ℕ Global). v.items) c.replace-held.ensures.after ∙ c.new.ensures.items) in
-    (none.0, none.1, tt)
+    let nothing : c.replace-held.new.dest.items ≡ [] = ap (λ (v : Vec ℕ Global). v.items) c.replace-held.ensures.after ∙ c.new.ensures.items in
+    nothing_held c.replace-held.new.dest.items nothing
 
 pub invariant_of-self-in_err-head-in-Ok-FinalAt : goal.invariant_of-self-in_err-head-in-Ok-FinalAt
 invariant_of-self-in_err-head-in-Ok-FinalAt c =
-    let none = nothing_held c.replace-held.new.dest.items (ap (λ (v : Vec ℕ Global). v.items) c.replace-held.ensures.after ∙ c.new.ensures.items) in
-    (none.0, none.1, c.self.invariant.2)
+    let nothing : c.replace-held.new.dest.items ≡ [] = ap (λ (v : Vec ℕ Global). v.items) c.replace-held.ensures.after ∙ c.new.ensures.items in
+    kept_head c.self.inside.place c.args.interims c.replace-held.new.dest.items (ap (λ (s : State). s.place) c.self.view_is ∙ c.requires.place) nothing
 
 pub invariant_of-self-in-Ok-FinalAt : goal.invariant_of-self-in-Ok-FinalAt
 invariant_of-self-in-Ok-FinalAt c =
-    let none = nothing_held c.replace-held.new.dest.items (ap (λ (v : Vec ℕ Global). v.items) c.replace-held.ensures.after ∙ c.new.ensures.items) in
-    (none.0, none.1, c.self.invariant.2)
+    let nothing : c.replace-held.new.dest.items ≡ [] = ap (λ (v : Vec ℕ Global). v.items) c.replace-held.ensures.after ∙ c.new.ensures.items in
+    kept_head c.self.inside.place c.args.interims c.replace-held.new.dest.items (ap (λ (s : State). s.place) c.self.view_is ∙ c.requires.place) nothing
 
 pub invariant_of-self-in-Err : goal.invariant_of-self-in-Err
 invariant_of-self-in-Err c =
-    let none = nothing_held c.replace-held.new.dest.items (ap (λ (v : Vec ℕ Global). v.items) c.replace-held.ensures.after ∙ c.new.ensures.items) in
-    (none.0, none.1, c.self.invariant.2)
+    let nothing : c.replace-held.new.dest.items ≡ [] = ap (λ (v : Vec ℕ Global). v.items) c.replace-held.ensures.after ∙ c.new.ensures.items in
+    kept_head c.self.inside.place c.args.interims c.replace-held.new.dest.items (ap (λ (s : State). s.place) c.self.view_is ∙ c.requires.place) nothing
 
 pub returns-then-interims-ge-MOST_INTERIMS-clause-fault : goal.returns-then-interims-ge-MOST_INTERIMS-clause-fault
 returns-then-interims-ge-MOST_INTERIMS-clause-fault c =
     let read = rw c.in-Ok-InterimAt.field-0-is at c.in-Ok-InterimAt.ensures in
     let held : c.replace-held.result.items ≡ c.args.self.now.held = ap (λ (v : Vec ℕ Global). v.items) c.replace-held.ensures.value ∙ ap (λ (s : State). s.held) c.self.view_is in
-    λ _ _. breaks_ninth c.args.self.now c.args.interims c.in-Ok-InterimAt.used c.args.octets.now c.in-Ok-InterimAt.head c.requires.place c.if-interims-ge-MOST_INTERIMS.true
+    λ _. breaks_ninth c.args.self.now c.args.interims c.in-Ok-InterimAt.used c.args.octets.now c.in-Ok-InterimAt.head c.requires.place c.if-interims-ge-MOST_INTERIMS.true
     (subst (λ (o : List ℕ). model.Interim (o ++ take c.in-Ok-InterimAt.used c.args.octets.now) c.in-Ok-InterimAt.head) held read.2)
 
 pub returns-in-Err-clause-fault : goal.returns-in-Err-clause-fault
 returns-in-Err-clause-fault c =
     let held : c.replace-held.result.items ≡ c.args.self.now.held = ap (λ (v : Vec ℕ Global). v.items) c.replace-held.ensures.value ∙ ap (λ (s : State). s.held) c.self.view_is in
-    λ n _. breaks_head c.args.self.now c.args.interims c.args.octets.now c.requires.place
+    λ n. breaks_head c.args.self.now c.args.interims c.args.octets.now c.requires.place
     (subst (λ (o : List ℕ). HasNoHead c.args.self.now.to_head (o ++ c.args.octets.now)) held
     (subst (λ t. HasNoHead t (c.replace-held.result.items ++ c.args.octets.now)) (ap (λ (s : State). s.to_head) c.self.view_is) (c.in-Err.ensures n)))
 
@@ -66,7 +65,7 @@ returns-in-Ok-OnGoing-clause-ok c =
         sym (append-nil c.args.told.now),
         all_taken c.args.self.now _ c.args.octets.now []
             (hears_more c.args.self.now _ c.args.interims c.args.octets.now c.in-Ok-OnGoing.text.items c.requires.place
-            (read.0 ∙ ap (λ (o : List ℕ). o ++ c.args.octets.now) held) read.2
+            (read.0 ∙ ap (λ (o : List ℕ). o ++ c.args.octets.now) held) read.2 read.3 read.1
             (λ i. record { to_head = (c.self.view_is i).to_head; place = place i; held = c.in-Ok-OnGoing.text.items })),
       ),
     )
@@ -82,7 +81,7 @@ returns-in_ok-interim-in-Ok-InterimAt-clause-ok c =
         Interim c.in-Ok-InterimAt.head ∷ [],
         c.in_ok-interim-in-Ok-InterimAt.ensures,
         hears_interim c.args.self.now _ c.args.interims (take c.in-Ok-InterimAt.used c.args.octets.now) c.in-Ok-InterimAt.head c.requires.place c.if-interims-ge-MOST_INTERIMS.false
-            (subst (λ (o : List ℕ). model.Interim (o ++ take c.in-Ok-InterimAt.used c.args.octets.now) c.in-Ok-InterimAt.head) held read.2) none_in_nothing
+            (subst (λ (o : List ℕ). model.Interim (o ++ take c.in-Ok-InterimAt.used c.args.octets.now) c.in-Ok-InterimAt.head) held read.2)
             (λ i. record { to_head = (c.self.view_is i).to_head; place = Head (c.args.interims + 1); held = nothing i }),
       ),
     )

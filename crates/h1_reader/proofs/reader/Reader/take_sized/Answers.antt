@@ -1,7 +1,8 @@
 use Rattle.std.proofs.Common.{◌≡◌, ◌<◌, ◌∙◌, ◌-◌, ◌∷◌, [], ◌++◌, List, length, take, ap, subst, length-take-le, append_assoc, arith}
 use Rattle.h1_reader.specs.Parts.{Part}
 use Rattle.h1_reader.specs.Parts.Part.{Body, Done}
-use Rattle.h1_reader.specs.Standing.{State, HasMore}
+use Rattle.h1_reader.specs.Standing.{State, IsKept}
+use Rattle.h1_reader.specs.declared.reader.Place.{Place}
 use Rattle.h1_reader.specs.declared.reader.Place.TheVariants.{Past, Sized}
 use Rattle.h1_reader.proofs.Steps.{hears_sized, hears_sized_all, all_taken}
 use Rattle.h1_reader.proofs.reader.Reader.take_sized.Goals as goal
@@ -22,7 +23,7 @@ returns-then-count-left-clause-ok c = (
 pub returns-clause-ok : goal.returns-clause-ok
 returns-clause-ok c =
     let fits : length (take c.args.left c.args.octets.now) ≡ c.args.left = length-take-le c.args.left c.args.octets.now c.if-count-left.false in
-    let some : 0 < c.args.left = subst HasMore (ap (λ (s : State). s.place) c.self.view_is ∙ c.requires.place) c.self.invariant.2 in (
+    let some : 0 < c.args.left = subst (λ (p : Place). IsKept p c.self.inside.held.items) (ap (λ (s : State). s.place) c.self.view_is ∙ c.requires.place) c.self.invariant.1 in (
       some,
       c.if-count-left.false,
       (

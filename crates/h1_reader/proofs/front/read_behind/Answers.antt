@@ -2,7 +2,7 @@ use Rattle.std.proofs.Common.{◌≡◌, ◌≤◌, ◌<◌, length, ◌∙◌, 
 use Rattle.model.specs.ResponseHeads.{Interim, Final}
 use Rattle.h1_reader.specs.Views.{framing_view}
 use Rattle.h1_reader.proofs.FrontLemmas.{ends_in, too_long, none_behind}
-use Rattle.h1_reader.proofs.front.read_front.Goals as goal
+use Rattle.h1_reader.proofs.front.read_behind.Goals as goal
 
 pub returns-then-taken-octets : goal.returns-then-taken-octets
 returns-then-taken-octets c =
@@ -10,7 +10,7 @@ returns-then-taken-octets c =
     let less : c.min-taken.result < length c.args.octets.now = c.if-taken-octets.true in
     let low : length c.args.held.items ≤ 16384 = c.requires.short in
     λ _. too_long c.args.to_head c.args.held.items c.args.octets.now c.deref.result.now c.len-before.result c.min-taken.result counted (omega arith) (omega arith) (omega (arith, c.min-taken.ensures))
-    (c.deref.ensures.value ∙ c.in_ok-extend_from_slice.ensures.items) (rw c.in-Ok-More.field-0-is at c.in-Ok-More.ensures)
+    (c.deref.ensures.value ∙ c.in_ok-extend_from_slice.ensures.items) (rw c.in-Ok-More.field-0-is at c.in-Ok-More.ensures).0
 
 pub overflow_sub-result : goal.overflow_sub-result
 overflow_sub-result c =

@@ -1,0 +1,201 @@
+-- Where a body in chunks isn't whole, and where it can't be.
+use Rattle.std.proofs.Common.{◌≡◌, ℕ, ◌+◌, ◌<◌, Bool, List, [], ◌∷◌, ◌++◌, length, get_or, refl, sym, ap, ◌∙◌, subst, append_assoc, length-append, arith}
+use Rattle.std.specs.Prelude.{◌≢◌, Result, Ok, Err, OnErr, IfErr}
+use Rattle.httparse.specs.Grammar.{ReadsSection, HasNoSection}
+use Rattle.httparse.proofs.GrammarLemmas.{ReadsSection-append}
+use Rattle.model.specs.Octets.{Joined}
+use Rattle.model.specs.Http1.{crlf}
+use Rattle.model.specs.ResponseHeads as model
+use Rattle.model.specs.ResponseHeads.Framing.{Chunks as IsChunks}
+use Rattle.model.specs.Responses.{ChunkLine, Chunk as IsChunk, Chunked, IsTrailers, HasBody, IsComplete, IsSpoilt}
+use Rattle.model.proofs.Http1Runs.{same_front, same_rest, BeginsNone, one_joined}
+use Rattle.model.proofs.ResponseHeadReadings.{one_front}
+use Rattle.model.proofs.ResponseBodies.{one_chunk_line, one_response_chunk, none_at_last}
+use Rattle.h1_reader.specs.Parts.{Part}
+use Rattle.h1_reader.specs.ChunkLines.{IsLinePart, NeverLine}
+use Rattle.h1_reader.specs.Trailers.{NeverTrailers}
+use Rattle.h1_reader.specs.Standing.{State, InChunked, InLine, InChunk, BehindChunk, InTrailers, Breaks}
+use Rattle.h1_reader.specs.declared.fault.ResponseFault.{ResponseFault}
+use Rattle.h1_reader.specs.declared.fault.ResponseFault.TheVariants.{Memory}
+use Rattle.h1_reader.specs.declared.chunk_line.LinePlace.{LinePlace}
+use Rattle.h1_reader.specs.declared.reader.Place.TheVariants.{Line, ChunkEnd, ChunkReturn, Trailers}
+use Rattle.h1_reader.proofs.ChunkLineLemmas.{line_begun, none_in_line}
+use Rattle.h1_reader.proofs.Steps.{at}
+use Rattle.h1_reader.proofs.ChunkSteps.{chunked_on}
+
+-- neither a chunk nor the end of a body in chunks begins the text
+pub record NoBody (text : List ℕ) : Type 0 where
+  pub no_chunk : BeginsNone IsChunk text
+  pub no_end : (line trailers past : List ℕ) → ChunkLine line 0 → IsTrailers trailers → text ≡ line ++ (trailers ++ past) → ⊥
+
+cons-append : (x : ℕ) (a b : List ℕ) → (x ∷ a) ++ b ≡ x ∷ (a ++ b)
+cons-append x a b = refl
+
+last_grouped : (front line trailers past : List ℕ) → front ++ line ++ trailers ++ past ≡ front ++ (line ++ (trailers ++ past))
+last_grouped front line trailers past = simp append_assoc
+
+pub chunk_grouped : (line octets past : List ℕ) → (line ++ octets ++ crlf) ++ past ≡ line ++ (octets ++ 13 ∷ (10 ∷ past))
+chunk_grouped line octets past = simp (append_assoc, cons-append)
+
+-- chunks of one text are those of the other, where none begins what follows them
+not_chunked : (front behind rest body : List ℕ) (chunks : List (List ℕ)) → Joined IsChunk front chunks → NoBody behind → front ++ behind ≡ rest → Chunked rest body → ⊥
+not_chunked front behind rest body chunks joined none e q =
+    let whole : front ++ behind ≡ q.front ++ (q.line ++ (q.trailers ++ q.past)) = e ∙ q.is ∙ last_grouped q.front q.line q.trailers q.past in
+    let fronts = one_joined IsChunk one_response_chunk front q.front behind (q.line ++ (q.trailers ++ q.past)) chunks q.chunks joined q.are_chunks
+    none.no_chunk (none_at_last q.line (q.trailers ++ q.past) q.is_last) whole in
+    none.no_end q.line q.trailers q.past q.is_last q.are_trailers (same_rest front q.front behind (q.line ++ (q.trailers ++ q.past)) fronts.0 whole)
+
+in_chunks : (framing : model.Framing) (ended : Bool) (rest body : List ℕ) → IsChunks ≡ framing → HasBody framing ended rest body → Chunked rest body
+in_chunks framing ended rest body e w = subst (λ (f : model.Framing). HasBody f ended rest body) (sym e) w
+
+-- no response is whole
+pub chunked_short : (ended to_head : Bool) (behind next text : List ℕ) (parts : List Part) → InChunked to_head behind next text parts → NoBody behind → IsComplete text ended to_head → ⊥
+chunked_short ended to_head behind next text parts c none whole =
+    let b = c.body in
+    let p = whole.1 in
+    let same = one_front to_head b.front p.front b.head_text p.head_text (c.front ++ behind) p.rest b.interims whole.0.interims b.head whole.0.head IsChunks p.framing
+    b.are_interims p.are_interims b.is_final p.is_final (sym b.is ∙ p.is) in
+    not_chunked c.front behind p.rest whole.0.body c.chunks c.are_chunks none same.final.rest (in_chunks p.framing ended p.rest whole.0.body same.final.framing p.body)
+
+-- nor becomes so
+chunked_breaks : (to_head : Bool) (behind next text xs : List ℕ) (parts : List Part) → InChunked to_head behind next text parts → ((more : List ℕ) → NoBody ((behind ++ xs) ++ more))
+    → IsSpoilt (text ++ xs) to_head
+chunked_breaks to_head behind next text xs parts c none more ended whole =
+    chunked_short ended to_head ((behind ++ xs) ++ more) next ((text ++ xs) ++ more) parts
+    (chunked_on to_head (behind ++ xs) next (text ++ xs) more parts (chunked_on to_head behind next text xs parts c)) (none more) whole
+
+-- ---- what stands at each place is no body
+
+pub no_line_body : (text : List ℕ) → ((line past : List ℕ) (size : ℕ) → ChunkLine line size → text ≡ line ++ past → ⊥) → NoBody text
+no_line_body text none = record {
+  no_chunk = λ front more octets chunk e.
+      none chunk.line (octets ++ 13 ∷ (10 ∷ more)) (length octets) chunk.has_line (e ∙ ap (λ (o : List ℕ). o ++ more) chunk.is ∙ chunk_grouped chunk.line octets more);
+  no_end = λ line trailers past last are e. none line (trailers ++ past) 0 last e;
+}
+
+-- a line and octets of its chunk
+pub octets_no_body : (line next : List ℕ) (size : ℕ) → ChunkLine line size → length next < size → NoBody (line ++ next)
+octets_no_body line next size l less = record {
+  no_chunk = λ front more octets chunk e.
+      let whole : line ++ next ≡ chunk.line ++ (octets ++ 13 ∷ (10 ∷ more)) = e ∙ ap (λ (o : List ℕ). o ++ more) chunk.is ∙ chunk_grouped chunk.line octets more in
+      let lines = one_chunk_line line chunk.line next (octets ++ 13 ∷ (10 ∷ more)) size (length octets) l chunk.has_line whole in
+      let rests : length next ≡ length (octets ++ 13 ∷ (10 ∷ more)) = ap length (same_rest line chunk.line next (octets ++ 13 ∷ (10 ∷ more)) lines.0 whole) in
+      let sum : length (octets ++ 13 ∷ (10 ∷ more)) ≡ length octets + length (13 ∷ (10 ∷ more)) = length-append octets (13 ∷ (10 ∷ more)) in
+      let sizes : size ≡ length octets = lines.1 in
+      absurd (omega arith);
+  no_end = λ other trailers past last are e.
+      let sizes : size ≡ 0 = (one_chunk_line line other next (trailers ++ past) size 0 l last e).1 in
+      absurd (omega arith);
+}
+
+-- a line, its octets, and what no end of a line begins
+pub end_no_body : (line next tail : List ℕ) → ChunkLine line (length next) → 0 < length next → ((more : List ℕ) → tail ≡ 13 ∷ (10 ∷ more) → ⊥) → NoBody (line ++ (next ++ tail))
+end_no_body line next tail l some none = record {
+  no_chunk = λ front more octets chunk e.
+      let whole : line ++ (next ++ tail) ≡ chunk.line ++ (octets ++ 13 ∷ (10 ∷ more)) = e ∙ ap (λ (o : List ℕ). o ++ more) chunk.is ∙ chunk_grouped chunk.line octets more in
+      let lines = one_chunk_line line chunk.line (next ++ tail) (octets ++ 13 ∷ (10 ∷ more)) (length next) (length octets) l chunk.has_line whole in
+      let rests = same_rest line chunk.line (next ++ tail) (octets ++ 13 ∷ (10 ∷ more)) lines.0 whole in
+      let same = same_front next octets tail (13 ∷ (10 ∷ more)) lines.1 rests in
+      none more (same_rest next octets tail (13 ∷ (10 ∷ more)) same rests);
+  no_end = λ other trailers past last are e.
+      let sizes : length next ≡ 0 = (one_chunk_line line other (next ++ tail) (trailers ++ past) (length next) 0 l last e).1 in
+      absurd (omega arith);
+}
+
+-- the line of the last chunk, and what no trailers begin
+pub trailers_no_body : (line tail : List ℕ) → ChunkLine line 0 → ((trailers past : List ℕ) → IsTrailers trailers → tail ≡ trailers ++ past → ⊥) → NoBody (line ++ tail)
+trailers_no_body line tail l none = record {
+  no_chunk = none_at_last line tail l;
+  no_end = λ other trailers past last are e.
+      let lines = one_chunk_line line other tail (trailers ++ past) 0 0 l last e in
+      none trailers past are (same_rest line other tail (trailers ++ past) lines.0 e);
+}
+
+no_trailers_there : (held : List ℕ) → HasNoSection held → (trailers past : List ℕ) → IsTrailers trailers → held ≡ trailers ++ past → ⊥
+no_trailers_there held none trailers past are e =
+    none are.lines are.last past
+    (subst (λ (o : List ℕ). ReadsSection o are.lines are.last past) (sym e) (ReadsSection-append trailers are.lines are.last [] past are.reads))
+
+pub line_no_body : (line : LinePlace) (text : List ℕ) → IsLinePart line text → NoBody text
+line_no_body line text p = no_line_body text (none_in_line text (line_begun line text p))
+
+pub chunk_no_body : (to_head : Bool) (left : ℕ) (text : List ℕ) (parts : List Part) (b : InChunk to_head left text parts) → NoBody (b.line ++ b.next)
+chunk_no_body to_head left text parts b =
+    let sum : length b.next + left ≡ b.size = b.has_size in
+    let some : 0 < left = b.some in
+    octets_no_body b.line b.next b.size b.is_line (omega arith)
+
+pub end_body_none : (to_head : Bool) (end text : List ℕ) (parts : List Part) → length end < 2 → (b : BehindChunk to_head end text parts) → NoBody (b.line ++ b.next ++ end)
+end_body_none to_head end text parts few b =
+    subst NoBody (sym (append_assoc b.line b.next end))
+    (end_no_body b.line b.next end b.is_line b.some (λ more e. let lengths : length end ≡ length {A = ℕ} (13 ∷ (10 ∷ more)) = ap length e in absurd (omega arith)))
+
+pub held_no_body : (to_head : Bool) (held text : List ℕ) (parts : List Part) (b : InTrailers to_head held text parts) → NoBody (b.line ++ held)
+held_no_body to_head held text parts b = trailers_no_body b.line held b.is_last (no_trailers_there held b.no_trailers)
+
+-- ---- octets that break a body
+
+pub breaks_line : (old : State) (line : LinePlace) (octet : ℕ) → old.place ≡ Line line → ((text : List ℕ) → IsLinePart line text → NeverLine (text ++ octet ∷ [])) → Breaks old (octet ∷ [])
+breaks_line old line octet e never text before s =
+    let b = at (Line line) old text before e s in
+    chunked_breaks old.to_head b.behind [] text (octet ∷ []) before b.chunked
+    (λ more. no_line_body ((b.behind ++ octet ∷ []) ++ more) (λ other past size l i. never b.behind b.is_part more other past size l i))
+
+end_grouped : (line next end : List ℕ) (octet : ℕ) (more : List ℕ) → ((line ++ next ++ end) ++ octet ∷ []) ++ more ≡ line ++ (next ++ (end ++ octet ∷ more))
+end_grouped line next end octet more = simp (append_assoc, cons-append)
+
+end_breaks : (old : State) (end : List ℕ) (octet : ℕ) (text : List ℕ) (before : List Part) → BehindChunk old.to_head end text before
+    → ((more past : List ℕ) → end ++ octet ∷ more ≡ 13 ∷ (10 ∷ past) → ⊥) → IsSpoilt (text ++ octet ∷ []) old.to_head
+end_breaks old end octet text before b none =
+    chunked_breaks old.to_head (b.line ++ b.next ++ end) b.next text (octet ∷ []) before b.chunked
+    (λ more. subst NoBody (sym (end_grouped b.line b.next end octet more)) (end_no_body b.line b.next (end ++ octet ∷ more) b.is_line b.some (λ past e. none more past e)))
+
+pub breaks_return : (old : State) (octet : ℕ) → old.place ≡ ChunkEnd → (octet ≡ 13 → ⊥) → Breaks old (octet ∷ [])
+breaks_return old octet e other text before s =
+    end_breaks old [] octet text before (at ChunkEnd old text before e s) (λ more past i. let same : octet ≡ 13 = cc in other same)
+
+pub breaks_feed : (old : State) (octet : ℕ) → old.place ≡ ChunkReturn → (octet ≡ 10 → ⊥) → Breaks old (octet ∷ [])
+breaks_feed old octet e other text before s =
+    end_breaks old (13 ∷ []) octet text before (at ChunkReturn old text before e s) (λ more past i. let same : octet ≡ 10 = cc in other same)
+
+held_grouped : (line held xs more : List ℕ) → ((line ++ held) ++ xs) ++ more ≡ line ++ ((held ++ xs) ++ more)
+held_grouped line held xs more = simp append_assoc
+
+pub breaks_trailers : (old : State) (xs : List ℕ) → old.place ≡ Trailers → NeverTrailers (old.held ++ xs) → Breaks old xs
+breaks_trailers old xs e never text before s =
+    let b = at Trailers old text before e s in
+    chunked_breaks old.to_head (b.line ++ old.held) [] text xs before b.chunked
+    (λ more. subst NoBody (sym (held_grouped b.line old.held xs more)) (trailers_no_body b.line ((old.held ++ xs) ++ more) b.is_last (λ trailers past are i. never more trailers past i are)))
+
+-- what breaks with the first octets breaks with all
+pub breaks_longer : (old : State) (xs ys : List ℕ) → Breaks old xs → Breaks old (xs ++ ys)
+breaks_longer old xs ys h text before s more ended whole =
+    h text before s (ys ++ more) ended
+    (subst (λ (o : List ℕ). IsComplete o ended old.to_head) (ap (λ (o : List ℕ). o ++ more) (sym (append_assoc text xs ys)) ∙ append_assoc (text ++ xs) ys more) whole)
+
+-- so where the first octet breaks
+pub first_breaks : (old : State) (octets : List ℕ) (result : Result ℕ ResponseFault) → 0 < length octets → OnErr result (Breaks old (get_or octets 0 0 ∷ []))
+    → IfErr result (λ fault. fault ≢ Memory → Breaks old octets)
+first_breaks old octets (Ok used) some h = tt
+first_breaks old [] (Err fault) some h = absurd (omega arith)
+first_breaks old (octet ∷ octets) (Err fault) some h = λ _. breaks_longer old (octet ∷ []) octets h
+
+-- ---- no response is whole at these places
+
+pub line_short : (ended to_head : Bool) (line : LinePlace) (text : List ℕ) (parts : List Part) → InLine to_head line text parts → IsComplete text ended to_head → ⊥
+line_short ended to_head line text parts b whole = chunked_short ended to_head b.behind [] text parts b.chunked (line_no_body line b.behind b.is_part) whole
+
+pub chunk_short : (ended to_head : Bool) (left : ℕ) (text : List ℕ) (parts : List Part) → InChunk to_head left text parts → IsComplete text ended to_head → ⊥
+chunk_short ended to_head left text parts b whole = chunked_short ended to_head (b.line ++ b.next) b.next text parts b.chunked (chunk_no_body to_head left text parts b) whole
+
+pub end_short : (ended to_head : Bool) (end text : List ℕ) (parts : List Part) → length end < 2 → BehindChunk to_head end text parts → IsComplete text ended to_head → ⊥
+end_short ended to_head end text parts few b whole = chunked_short ended to_head (b.line ++ b.next ++ end) b.next text parts b.chunked (end_body_none to_head end text parts few b) whole
+
+pub trailers_short : (ended to_head : Bool) (held text : List ℕ) (parts : List Part) → InTrailers to_head held text parts → IsComplete text ended to_head → ⊥
+trailers_short ended to_head held text parts b whole = chunked_short ended to_head (b.line ++ held) [] text parts b.chunked (held_no_body to_head held text parts b) whole
+
+pub no_octets : length {A = ℕ} [] < 2
+no_octets = omega arith
+
+pub one_octet : length {A = ℕ} (13 ∷ []) < 2
+one_octet = omega arith

@@ -1,0 +1,109 @@
+-- What the parser's answer says of trailers.
+use Rattle.std.proofs.Common.{suc, ◌≡◌, ℕ, ◌+◌, ◌-◌, ◌<◌, ◌≤◌, List, [], ◌∷◌, ◌++◌, length, get_or, take, drop, refl, sym, ap, ◌∙◌, subst, append_assoc, length-append, length-take-le, arith}
+use Rattle.std.proofs.lemmas.List.{append-nil, take-append-drop}
+use Rattle.std.proofs.lemmas.List.Elements.{All-nil}
+use Rattle.std.proofs.Math.Seq.{take-append_seam}
+use Rattle.httparse.specs.Grammar as grammar
+use Rattle.httparse.specs.Grammar.{ReadsSection, HasNoSection, MayBecomeSection, LineEnd, print_section}
+use Rattle.httparse.specs.declared.spans.HeaderSpan.{HeaderSpan}
+use Rattle.httparse.specs.Spans.{IsSectionOf, IsSectionWithin}
+use Rattle.httparse.proofs.GrammarLemmas.{section_unique, ReadsSection-append}
+use Rattle.model.specs.Responses.{IsTrailers}
+use Rattle.h1_reader.specs.Trailers.{NeverTrailers}
+use Rattle.h1_reader.proofs.HeadLemmas.{count_is}
+use Rattle.h1_reader.proofs.Values.{values_of}
+use Rattle.h1_reader.proofs.FrontLemmas.{EndsIn, ends_any, front_of_longer}
+
+-- trailers begin a text just where they stand there
+trailers_read : (trailers past : List ℕ) (are : IsTrailers trailers) → ReadsSection (trailers ++ past) are.lines are.last past
+trailers_read trailers past are = ReadsSection-append trailers are.lines are.last [] past are.reads
+
+-- trailers that stand at the front are those that any at the front of more octets are
+same_lines : (text more trailers past rest : List ℕ) (lines : List grammar.Field) (last : LineEnd) → ReadsSection text lines last rest → text ++ more ≡ trailers ++ past
+    → (are : IsTrailers trailers) → lines ≡ are.lines
+same_lines text more trailers past rest lines last reads e are =
+    (section_unique (text ++ more) lines are.lines last are.last (rest ++ more) past (ReadsSection-append text lines last rest more reads)
+    (subst (λ (o : List ℕ). ReadsSection o are.lines are.last past) (sym e) (trailers_read trailers past are))).0
+
+pub many_trailers : (text : List ℕ) (spans : List HeaderSpan) (used count : ℕ) → IsSectionWithin text spans used count → IsSectionOf text 0 spans (used, count) → 100 < count → NeverTrailers text
+many_trailers text spans used count within of many more trailers past e are =
+    let same = same_lines text more trailers past (drop used text) of.0 of.1 of.2.reads e are in
+    let counted : count ≡ length of.0 = count_is text spans count of.0 within.count_fits of.2.fields_are in
+    let lengths : length of.0 ≡ length are.lines = ap length same in
+    let few : length are.lines ≤ 100 = are.has_few in
+    absurd (omega arith)
+
+pub whole_trailers : (text : List ℕ) (spans : List HeaderSpan) (used count : ℕ) → IsSectionWithin text spans used count → IsSectionOf text 0 spans (used, count) → count ≤ 100
+    → length text ≤ 16384 → ((k : ℕ) → get_or text k 0 < 256) → (used ≤ length text) × IsTrailers (take used text)
+whole_trailers text spans used count within of few short octets =
+    let counted : count ≡ length of.0 = count_is text spans count of.0 within.count_fits of.2.fields_are in
+    let fits : used ≤ length text = within.len_fits in
+    let front : length (take used text) ≡ used = length-take-le used text fits in
+    let len : used ≡ length (print_section of.0 of.1) = omega (arith, of.2.len_is) in
+    let is : take used text ≡ print_section of.0 of.1 ++ [] =
+    ap (take used) of.2.reads.1 ∙ ap (λ n. take n (print_section of.0 of.1 ++ drop used text)) len ∙ take-append_seam (print_section of.0 of.1) (drop used text)
+    ∙ sym (append-nil (print_section of.0 of.1)) in (
+      fits,
+      record {
+        lines = of.0;
+        last = of.1;
+        reads = (of.2.reads.0, is);
+        is_short = omega arith;
+        has_few = omega arith;
+        values = values_of of.0 of.1 text (drop used text) of.2.reads.0 of.2.reads.1 octets;
+      },
+    )
+
+pub never_longer : (text more : List ℕ) → NeverTrailers text → NeverTrailers (text ++ more)
+never_longer text more never rest trailers past e are = never (more ++ rest) trailers past (sym (append_assoc text more rest) ∙ e) are
+
+-- what has no trailers in its first 16,384 octets has none that are taken
+pub never_so_long : (text more : List ℕ) → HasNoSection text → 16384 ≤ length text → NeverTrailers (text ++ more)
+never_so_long text more none long rest trailers past e are =
+    let whole : text ++ (more ++ rest) ≡ trailers ++ past = sym (append_assoc text more rest) ∙ e in
+    let short : length trailers ≤ 16384 = are.is_short in
+    let there : trailers ++ drop (length trailers) text ≡ text = front_of_longer text (more ++ rest) trailers past whole (omega arith) in
+    none are.lines are.last (drop (length trailers) text)
+    (subst (λ (o : List ℕ). ReadsSection o are.lines are.last (drop (length trailers) text)) there (trailers_read trailers (drop (length trailers) text) are))
+
+-- octets behind others
+cut_there : (held octets text : List ℕ) (taken : ℕ) → text ≡ held ++ take taken octets → text ++ drop taken octets ≡ held ++ octets
+cut_there held octets text taken whole =
+    ap (λ (o : List ℕ). o ++ drop taken octets) whole ∙ append_assoc held (take taken octets) (drop taken octets) ∙ ap (λ (o : List ℕ). held ++ o) (take-append-drop taken octets)
+
+pub never_behind : (held octets text : List ℕ) (taken : ℕ) → text ≡ held ++ take taken octets → NeverTrailers text → NeverTrailers (held ++ octets)
+never_behind held octets text taken whole never =
+    subst (λ (o : List ℕ). NeverTrailers o) (cut_there held octets text taken whole) (never_longer text (drop taken octets) never)
+
+pub long_behind : (held octets text : List ℕ) (before taken : ℕ) → before ≡ length held → before ≤ 16384 → taken ≤ length octets → taken ≡ 16384 - before
+    → text ≡ held ++ take taken octets → HasNoSection text → NeverTrailers (held ++ octets)
+long_behind held octets text before taken is low few all whole none =
+    let lengths : length (held ++ take taken octets) ≡ length held + length (take taken octets) = length-append held (take taken octets) in
+    let counted : length (take taken octets) ≡ taken = length-take-le taken octets few in
+    let long : 16384 ≤ length text = rw whole (omega arith) in
+    subst (λ (o : List ℕ). NeverTrailers o) (cut_there held octets text taken whole) (never_so_long text (drop taken octets) none long)
+
+-- where trailers end that were not whole before
+pub trailers_end : (held octets text : List ℕ) (before taken used : ℕ) → HasNoSection held → before ≡ length held → taken ≤ length octets
+    → text ≡ held ++ take taken octets → used ≤ length text → IsTrailers (take used text) → EndsIn held octets text before used
+trailers_end held octets text before taken used none is few whole fits p =
+    ends_any IsTrailers held octets text before taken used
+    (λ front rest are e. none are.lines are.last rest (subst (λ (o : List ℕ). ReadsSection o are.lines are.last rest) (sym e) (trailers_read front rest are))) is few whole fits p
+
+-- nothing is no trailers, and may become ones
+pub no_trailers_yet : HasNoSection []
+no_trailers_yet [] LineEnd.crlf rest p = let no : [] ≡ 13 ∷ (10 ∷ rest) = p.1 in absurd (lengths (ap length no))
+  where
+    lengths : 0 ≡ suc (suc (length rest)) → ⊥
+    lengths e = absurd (omega arith)
+no_trailers_yet [] LineEnd.lf rest p = let no : [] ≡ 10 ∷ rest = p.1 in absurd (lengths (ap length no))
+  where
+    lengths : 0 ≡ suc (length rest) → ⊥
+    lengths e = absurd (omega arith)
+no_trailers_yet (line ∷ lines) last rest p =
+    let some : 0 < length (print_section (line ∷ lines) last ++ rest) = simp length-append (omega arith) in
+    let none : 0 ≡ length (print_section (line ∷ lines) last ++ rest) = ap length p.1 in
+    absurd (omega arith)
+
+pub trailers_may_come : MayBecomeSection []
+trailers_may_come = (10 ∷ [], [], LineEnd.lf, (All-nil grammar.IsField, refl))

@@ -1,0 +1,5 @@
+use Rattle.h1_reader.proofs.HeadSizeLemmas.{interim_size, final_size, told_short}
+use Rattle.h1_reader.proofs.laws.head_sizes.Goals as goal
+
+pub returns : goal.returns
+returns c = record { interim = interim_size; last = final_size; told = told_short }

@@ -1,0 +1,35 @@
+use Rattle.std.proofs.Common.{◌≡◌, ◌<◌, ◌∙◌, ◌-◌, ◌∷◌, [], length, take, ap, subst, length-take-le, arith}
+use Rattle.h1_reader.specs.Parts.Part.{Body}
+use Rattle.h1_reader.specs.Standing.{State, IsKept}
+use Rattle.h1_reader.specs.declared.reader.Place.{Place}
+use Rattle.h1_reader.specs.declared.reader.Place.TheVariants.{Chunk, ChunkEnd}
+use Rattle.h1_reader.proofs.Steps.{all_taken}
+use Rattle.h1_reader.proofs.ChunkSteps.{hears_chunk, hears_chunk_all}
+use Rattle.h1_reader.proofs.reader.Reader.take_chunk.Goals as goal
+
+pub returns-then-count-left-clause-ok : goal.returns-then-count-left-clause-ok
+returns-then-count-left-clause-ok c = (
+  c.requires.octets,
+  omega arith,
+  (
+    Body c.args.octets.now ∷ [],
+    c.in_ok-body.ensures,
+    all_taken c.args.self.now _ c.args.octets.now (Body c.args.octets.now ∷ [])
+        (hears_chunk c.args.self.now _ c.args.left c.args.octets.now c.requires.place c.if-count-left.true
+        (ap (λ (s : State). record { to_head = s.to_head; place = Chunk (c.args.left - length c.args.octets.now); held = s.held }) c.self.view_is)),
+  ),
+)
+
+pub returns-clause-ok : goal.returns-clause-ok
+returns-clause-ok c =
+    let fits : length (take c.args.left c.args.octets.now) ≡ c.args.left = length-take-le c.args.left c.args.octets.now c.if-count-left.false in
+    let some : 0 < c.args.left = subst (λ (p : Place). IsKept p c.self.inside.held.items) (ap (λ (s : State). s.place) c.self.view_is ∙ c.requires.place) c.self.invariant.1 in (
+      some,
+      c.if-count-left.false,
+      (
+        Body (take c.args.left c.args.octets.now) ∷ [],
+        c.in_ok-body-2.ensures,
+        hears_chunk_all c.args.self.now _ c.args.left (take c.args.left c.args.octets.now) c.requires.place fits
+            (ap (λ (s : State). record { to_head = s.to_head; place = ChunkEnd; held = s.held }) c.self.view_is),
+      ),
+    )

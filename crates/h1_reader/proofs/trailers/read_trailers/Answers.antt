@@ -1,0 +1,34 @@
+use Rattle.std.proofs.Common.{◌≡◌, ◌≤◌, ◌<◌, length, ◌∙◌, subst, rules, arith, List, ℕ}
+use Rattle.model.specs.Responses.{IsTrailers}
+use Rattle.h1_reader.proofs.TrailerLemmas.{trailers_end, long_behind, never_behind}
+use Rattle.h1_reader.proofs.trailers.read_trailers.Goals as goal
+
+pub returns-then-taken-octets : goal.returns-then-taken-octets
+returns-then-taken-octets c =
+    let counted : c.len-before.result ≡ length c.args.held.items = search rules in
+    let less : c.min-taken.result < length c.args.octets.now = c.if-taken-octets.true in
+    let low : length c.args.held.items ≤ 16384 = c.requires.short in
+    λ _. long_behind c.args.held.items c.args.octets.now c.deref.result.now c.len-before.result c.min-taken.result counted (omega arith) (omega arith) (omega (arith, c.min-taken.ensures))
+    (c.deref.ensures.value ∙ c.in_ok-extend_from_slice.ensures.items) (rw c.in-Ok-None.field-0-is at c.in-Ok-None.ensures).0
+
+pub overflow_sub-result : goal.overflow_sub-result
+overflow_sub-result c =
+    let counted : c.len-before.result ≡ length c.args.held.items = search rules in
+    let read = rw c.in-Ok-Some.field-0-is at c.in-Ok-Some.ensures in
+    let ends = trailers_end c.args.held.items c.args.octets.now c.deref.result.now c.len-before.result c.min-taken.result c.in-Ok-Some.used c.requires.none counted (omega (arith, c.min-taken.ensures))
+    (c.deref.ensures.value ∙ c.in_ok-extend_from_slice.ensures.items) read.0 read.1 in
+    let more : c.len-before.result < c.in-Ok-Some.used = ends.more in
+    omega arith
+
+pub returns-in-Ok-Some : goal.returns-in-Ok-Some
+returns-in-Ok-Some c =
+    let counted : c.len-before.result ≡ length c.args.held.items = search rules in
+    let read = rw c.in-Ok-Some.field-0-is at c.in-Ok-Some.ensures in
+    let ends = trailers_end c.args.held.items c.args.octets.now c.deref.result.now c.len-before.result c.min-taken.result c.in-Ok-Some.used c.requires.none counted (omega (arith, c.min-taken.ensures))
+    (c.deref.ensures.value ∙ c.in_ok-extend_from_slice.ensures.items) read.0 read.1 in
+    let more : c.len-before.result < c.in-Ok-Some.used = ends.more in
+    (omega arith, ends.fits, subst (λ (o : List ℕ). IsTrailers o) ends.is read.1)
+
+pub returns-in-Err : goal.returns-in-Err
+returns-in-Err c =
+    λ _. never_behind c.args.held.items c.args.octets.now c.deref.result.now c.min-taken.result (c.deref.ensures.value ∙ c.in_ok-extend_from_slice.ensures.items) c.in-Err.ensures

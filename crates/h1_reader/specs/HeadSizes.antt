@@ -1,0 +1,21 @@
+-- How many octets the names and values of a head have.
+use Rattle.std.specs.Prelude.{ℕ, ◌+◌, ◌≤◌, List, [], ◌∷◌, length, All}
+use Rattle.model.specs.Messages.{Field}
+use Rattle.model.specs.ResponseHeads.{longest_section}
+use Rattle.h1_reader.specs.Parts.{Part}
+use Rattle.h1_reader.specs.Parts.Part.{Interim, Final}
+
+-- the octets of all names and values
+abbrev pub field_octets : List Field → ℕ
+field_octets [] = 0
+field_octets (field ∷ fields) = length field.name + length field.value + field_octets fields
+
+-- the octets of the names and values of a head, where the part is one
+abbrev pub head_octets : Part → ℕ
+head_octets (Interim head) = field_octets head.fields
+head_octets (Final head) = field_octets head.fields
+head_octets _ = 0
+
+-- the names and values of each head among the parts have at most 16,384 octets
+abbrev pub HeadsAreShort : List Part → Type 0
+HeadsAreShort parts = All (λ part. head_octets part ≤ longest_section) parts

@@ -64,11 +64,12 @@ impl Joiner {
         fragment: &[u8],
         end: bool,
     ) -> Result<Option<Vec<u8>>, JoinFault>
-        ensures joined { IfOk result (λ _. due_at_first self.old.begun self.old.fault id fragment.now ≡ None) }
+        ensures not_due { OnOk result (due_at_first self.old.begun self.old.fault id fragment.now ≡ None) }
         ensures goes_on { IfOk result (λ answer. IfNone answer (GoesOn (begins id fragment.now) end self.new)) }
         ensures whole { IfOk result (λ answer. IfSome answer (λ octets. IsWhole (begins id fragment.now) end octets.items self.new)) }
         ensures fault { IfErr result (IsDueFault (due_at_first self.old.begun self.old.fault id fragment.now)) }
         ensures fails { IfErr result (λ fault. self.new ≡ failed fault) }
+        ensures within { IfSome self.new.begun IsWithin }
     {
         self.other()?;
         match Begun::new(self.alloc, id, fragment) {
@@ -85,11 +86,12 @@ impl Joiner {
         fragment: &[u8],
         end: bool,
     ) -> Result<Option<Vec<u8>>, JoinFault>
-        ensures joined { IfOk result (λ _. due_at_more self.old.begun self.old.fault id fragment.now ≡ None) }
+        ensures not_due { OnOk result (due_at_more self.old.begun self.old.fault id fragment.now ≡ None) }
         ensures goes_on { IfOk result (λ answer. IfNone answer (IfSome self.old.begun (λ begun. GoesOn (continues begun fragment.now) end self.new))) }
         ensures whole { IfOk result (λ answer. IfSome answer (λ octets. IfSome self.old.begun (λ begun. IsWhole (continues begun fragment.now) end octets.items self.new))) }
         ensures fault { IfErr result (IsDueFault (due_at_more self.old.begun self.old.fault id fragment.now)) }
         ensures fails { IfErr result (λ fault. self.new ≡ failed fault) }
+        ensures within { IfSome self.new.begun IsWithin }
     {
         if let Some(fault) = self.fault {
             return Err(fault);
@@ -110,6 +112,7 @@ impl Joiner {
     fn keep(&mut self, begun: Begun, end: bool) -> Option<Vec<u8>>
         requires nothing { self.old ≡ nothing_begun }
         requires within { IsWithin begun }
+        ensures within { IfSome self.new.begun IsWithin }
         ensures goes_on { IfNone result (GoesOn begun end self.new) }
         ensures whole { IfSome result (λ octets. IsWhole begun end octets.items self.new) }
     {

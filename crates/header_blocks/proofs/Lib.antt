@@ -7,3 +7,7 @@ pub mod NoBlocks
 pub mod Bounded
 pub mod Announced
 pub mod Wrote
+pub mod Faulted
+pub mod Followed
+pub mod Joined
+pub mod OneFault

@@ -1,5 +1,5 @@
 -- Octets that aren't a block, by a place that can't be read.
-use Rattle.std.proofs.Common.{◌≡◌, ℕ, zero, suc, ◌+◌, ◌-◌, ◌<◌, ◌≤◌, List, [], ◌∷◌, ◌++◌, length, take, drop, get_or, refl, ap, sym, ◌∙◌, subst, inl, inr, arith, append_assoc, length-drop, Option}
+use Rattle.std.proofs.Common.{◌≡◌, ℕ, zero, suc, ◌+◌, ◌-◌, ◌/◌, ◌<◌, ◌≤◌, List, [], ◌∷◌, ◌++◌, length, take, drop, get_or, refl, ap, sym, ◌∙◌, subst, inl, inr, arith, append_assoc, length-drop, Option}
 use Rattle.std.proofs.lemmas.List.{append-nil, take_rest, take-append-drop, get_or_past}
 use Rattle.std.proofs.lemmas.Bool.{cases_lt}
 use Rattle.model.specs.Messages.{Field}
@@ -86,7 +86,7 @@ maximum_over octets maximum used p over = λ front rest other e m.
     omega (arith, same, over, m.in_range)
 
 -- the place at which a block is read
-get_drop : (octets : List ℕ) (start : ℕ) → get_or (drop start octets) 0 0 ≡ get_or octets start 0
+pub get_drop : (octets : List ℕ) (start : ℕ) → get_or (drop start octets) 0 0 ≡ get_or octets start 0
 get_drop [] zero = refl
 get_drop [] (suc start) = refl
 get_drop (x ∷ octets) zero = refl
@@ -112,6 +112,12 @@ maxima_end block start never within = no_maximum_at (drop start block) (λ h. le
   | inr past ↦ (let gone : get_or block start 0 ≡ 0 = get_or_past block start 0 past in omega (arith, at, gone, h.0))
 ])
 
+pub unmarked_end : (block : List ℕ) (start : ℕ) → (start < length block → (32 ≤ get_or block start 0) × (get_or block start 0 < 64) → ⊥) → get_or (drop start block) 0 0 / 32 ≡ 1 → ⊥
+unmarked_end block start never mark = let at = get_drop block start in elim (cases_lt start (length block)) [
+  | inl less ↦ never less (omega (arith, at, mark), omega (arith, at, mark))
+  | inr past ↦ (let gone : get_or block start 0 ≡ 0 = get_or_past block start 0 past in omega (arith, at, gone, mark))
+]
+
 -- a block whose fields can't be read on
 pub no_fields_on : (first now : Table) (block : List ℕ) (start cap : ℕ) (kept : List Field) (room : Option ℕ) (g : GathersFrom first (take start block) cap kept room now) → start < length block
     → BeginsNoField now (take (length block - start) (drop start block)) → (g.all ≡ [] → BeginsNoMaximum (drop start block)) → NoBlock first block
@@ -131,9 +137,11 @@ pub record Decoding (first : Table) (block : List ℕ) (start cap : ℕ) (kept :
   pub within : start ≤ length block
   pub gathers : GathersFrom first (take start block) cap kept room now
   pub fresh : gathers.all ≡ [] → BeginsNoMaximum (drop start block)
+  pub unmarked : gathers.all ≡ [] → get_or (drop start block) 0 0 / 32 ≡ 1 → ⊥
 
-pub decoding_start : (first now : Table) (block : List ℕ) (start cap : ℕ) (kept : List Field) (room : Option ℕ) → TakesMaxima first block start now → BeginsNoMaximum (drop start block) → Holds cap [] kept room → Decoding first block start cap kept room now
-decoding_start first now block start cap kept room p ends h = record { within = p.within; gathers = gathers_start first now block start cap kept room p h; fresh = λ e. ends }
+pub decoding_start : (first now : Table) (block : List ℕ) (start cap : ℕ) (kept : List Field) (room : Option ℕ) → TakesMaxima first block start now → BeginsNoMaximum (drop start block) → (get_or (drop start block) 0 0 / 32 ≡ 1 → ⊥) → Holds cap [] kept room
+    → Decoding first block start cap kept room now
+decoding_start first now block start cap kept room p ends unmarked h = record { within = p.within; gathers = gathers_start first now block start cap kept room p h; fresh = λ e. ends; unmarked = λ e. unmarked }
 
 last_of : (all : List Field) (field : Field) → all ++ field ∷ [] ≡ [] → ⊥
 last_of [] field e = cc
@@ -148,4 +156,5 @@ decoding_field first now next block start cap taken kept more room rest d t s =
       within = omega (arith, fits, within);
       gathers = gathers_field first now next block start cap taken kept more room rest d.gathers t s;
       fresh = λ e. absurd (last_of d.gathers.all taken.field e);
+      unmarked = λ e. absurd (last_of d.gathers.all taken.field e);
     }

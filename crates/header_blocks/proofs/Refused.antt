@@ -131,7 +131,7 @@ drop_nil : (k : ℕ) → drop {A = ℕ} k [] ≡ []
 drop_nil zero = refl
 drop_nil (suc k) = refl
 
-drop_add : (m n : ℕ) (xs : List ℕ) → drop (m + n) xs ≡ drop n (drop m xs)
+pub drop_add : (m n : ℕ) (xs : List ℕ) → drop (m + n) xs ≡ drop n (drop m xs)
 drop_add zero n xs = let same : zero + n ≡ n = omega arith in rw same refl
 drop_add (suc m) n [] = drop_nil (suc m + n) ∙ sym (drop_nil n)
 drop_add (suc m) n (x ∷ xs) = let far : suc m + n ≡ suc (m + n) = omega arith in rw far (drop_add m n xs)

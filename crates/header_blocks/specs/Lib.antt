@@ -1,6 +1,9 @@
 pub use Rattle.model.specs.Blocks
 pub use Rattle.model.specs.Tables
 pub use Rattle.model.specs.Maxima
+pub use Rattle.model.specs.Decoding as FrameDecoding
+pub use Rattle.model.specs.Tapes
+pub use Rattle.model.specs.Frames
 pub use Rattle.hpack_table.specs.Finding
 pub mod Gathering
 pub mod Represented
@@ -14,3 +17,6 @@ pub mod Chosen
 pub mod Encodes
 pub mod Writing
 pub mod Kept
+pub mod Joining
+pub mod Faults
+pub mod Following

@@ -8,6 +8,7 @@ ghost use Rattle.header_blocks.specs.Represented.{UnlessMemory};
 ghost use Rattle.header_blocks.specs.declared.fault.DecodeFault.TheVariants.{Memory};
 ghost use Rattle.header_blocks.specs.Bounds.{IsBounded};
 ghost use Rattle.header_blocks.specs.Decoding.{DecodesFrom, Settles};
+ghost use Rattle.header_blocks.specs.Faults.{IsFaultOf};
 
 use crate::fault::DecodeFault;
 use crate::fields::{Taken, take_field};
@@ -62,6 +63,7 @@ impl Decoder {
     ) -> Result<Decoded, DecodeFault>
         ensures decoded { IfOk result (λ decoded. DecodesFrom self.old.table block.now cap self.new.table decoded) }
         ensures no_block { IfNone self.old.fault (IfErr result (λ fault. UnlessMemory fault (NoBlock self.old.table block.now))) }
+        ensures fault { IfNone self.old.fault (IfErr result (λ fault. UnlessMemory fault (IsFaultOf self.old.table block.now fault))) }
         ensures goes_on { OnOk result ((self.old.fault ≡ None) × (self.new.fault ≡ None)) }
         ensures fault_stays { IfErr result (λ fault. self.new.fault ≡ Some fault) }
         ensures faulted { IfSome self.old.fault (λ fault. result ≡ Err fault) }
@@ -87,6 +89,7 @@ fn decode_block(
 ) -> Result<Decoded, DecodeFault>
     ensures decoded { IfOk result (λ decoded. DecodesFrom table.old block.now cap table.new decoded) }
     ensures none { IfErr result (λ fault. UnlessMemory fault (NoBlock table.old block.now)) }
+    ensures fault { IfErr result (λ fault. UnlessMemory fault (IsFaultOf table.old block.now fault)) }
     ensures bounded { IsBounded table.old → IsBounded table.new }
 {
     let mut start = take_maxima(table, block)?;

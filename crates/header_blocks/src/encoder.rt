@@ -72,7 +72,7 @@ impl Encoder {
         ensures encoded { OnOk result (Encodes self.old self.new fields.now out.old.items out.new.items) }
         ensures goes_on { OnOk result (self.new ≡ record self.old { table = self.new.table; limits = None; refused = false }) }
         ensures unchanged { OnErr result (out.new.items ≡ out.old.items) }
-        ensures stays_refused { OnErr result (self.new.refused ≡ true) }
+        ensures stays_refused { OnErr result (self.new ≡ record self.old { table = self.new.table; refused = true }) }
         ensures refused { self.old.refused ≡ true → IsErr result }
         ensures plain { self.old.indexing ≡ false → self.new.table.fields ≡ [] }
         ensures bounded { IsBounded self.new.table }

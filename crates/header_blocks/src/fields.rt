@@ -2,6 +2,7 @@
 
 ghost use Rattle.std.specs.Prelude.{◌≤◌, ◌<◌, ◌⊎◌, length, IfErr, IfOk, slice_index};
 ghost use Rattle.header_blocks.specs.Represented.{BeginsNoField, BeginsNoLiteral, BeginsNoName, TakesField, TakesLiteral, TakesName, UnlessMemory};
+ghost use Rattle.header_blocks.specs.Faults.{IsNameFault, IsLiteralFault, IsFieldFault};
 
 use crate::fault::DecodeFault;
 use crate::strings::{take_int, take_string};
@@ -27,6 +28,7 @@ fn take_name(
 ) -> Result<(Vec<u8>, usize), DecodeFault>
     ensures taken { IfOk result (λ p. TakesName table.now index octets.now p.0.items p.1) }
     ensures none { IfErr result (λ fault. UnlessMemory fault (BeginsNoName table.now index octets.now)) }
+    ensures fault { IfErr result (λ fault. UnlessMemory fault (IsNameFault table.now index octets.now fault)) }
 {
     if index == 0 {
         return take_string(alloc, octets);
@@ -49,6 +51,7 @@ fn take_literal(
     requires most { prefix ≤ 8 }
     ensures taken { IfOk result (λ p. TakesLiteral table.now prefix octets.now p.0 p.1) }
     ensures none { IfErr result (λ fault. UnlessMemory fault (BeginsNoLiteral table.now prefix octets.now)) }
+    ensures fault { IfErr result (λ fault. UnlessMemory fault (IsLiteralFault table.now prefix octets.now fault)) }
 {
     let (index, start) = take_int(prefix, octets)?;
     let (name, name_length) = take_name(alloc, table, index, &octets[start..])?;
@@ -63,6 +66,7 @@ fn take_indexed(alloc: Global, table: &Table, octets: &[u8]) -> Result<Taken, De
     requires marked { 128 ≤ slice_index octets.now 0 }
     ensures taken { IfOk result (λ taken. TakesField table.now octets.now taken) }
     ensures none { IfErr result (λ fault. UnlessMemory fault (BeginsNoField table.now octets.now)) }
+    ensures fault { IfErr result (λ fault. UnlessMemory fault (IsFieldFault table.now octets.now fault)) }
 {
     let (index, used) = take_int(7, octets)?;
     let Some((name, value)) = table.get(index) else {
@@ -85,6 +89,7 @@ pub fn take_field(alloc: Global, table: &Table, octets: &[u8]) -> Result<Taken, 
     requires no_maximum { slice_index octets.now 0 < 32 ⊎ (64 ≤ slice_index octets.now 0) }
     ensures taken { IfOk result (λ taken. TakesField table.now octets.now taken) }
     ensures none { IfErr result (λ fault. UnlessMemory fault (BeginsNoField table.now octets.now)) }
+    ensures fault { IfErr result (λ fault. UnlessMemory fault (IsFieldFault table.now octets.now fault)) }
 {
     if octets[0] >= 128 {
         return take_indexed(alloc, table, octets);

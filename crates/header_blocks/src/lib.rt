@@ -1,6 +1,7 @@
 //! Header blocks of HPACK (RFC 7541).
 #![tactic(auto)]
 
+mod begun;
 mod decoder;
 mod encoder;
 #[cfg(test)]
@@ -8,6 +9,11 @@ mod encoder_tests;
 mod fault;
 mod fields;
 mod gather;
+mod join_fault;
+mod joiner;
+#[cfg(test)]
+mod joiner_tests;
+pub mod laws;
 mod limits;
 mod maxima;
 mod policy;
@@ -20,5 +26,7 @@ pub use crate::decoder::Decoder;
 pub use crate::encoder::Encoder;
 pub use crate::fault::DecodeFault;
 pub use crate::gather::Decoded;
+pub use crate::join_fault::JoinFault;
+pub use crate::joiner::Joiner;
 pub use crate::policy::Policy;
 pub use hpack_table::Field;

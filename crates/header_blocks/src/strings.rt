@@ -1,10 +1,12 @@
 //! Integers and strings at the front of octets.
 
-ghost use Rattle.std.specs.Prelude.{◌≤◌, ℕ, List, IfErr, IfOk, OnErr};
+ghost use Rattle.std.specs.Prelude.{◌≡◌, ◌≤◌, ℕ, List, IfErr, IfOk, OnErr};
 ghost use Rattle.hpack_int.specs.Reading.{ReadsValue};
 ghost use Rattle.model.specs.Huffman.{Huff};
 ghost use Rattle.model.specs.Integers.{BeginsNoInt};
 ghost use Rattle.header_blocks.specs.Represented.{BeginsNoString, TakesString, UnlessMemory};
+ghost use Rattle.header_blocks.specs.Faults.{IsIntFault, IsStringFault};
+ghost use Rattle.header_blocks.specs.declared.fault.DecodeFault.TheVariants.{Text};
 
 use crate::fault::DecodeFault;
 use hpack_int::{IntRead, read};
@@ -17,6 +19,7 @@ pub fn take_int(prefix: u8, octets: &[u8]) -> Result<(u32, usize), DecodeFault>
     requires most { prefix ≤ 8 }
     ensures taken { IfOk result (λ p. ReadsValue prefix octets.now p.0 p.1) }
     ensures none { OnErr result (BeginsNoInt prefix octets.now) }
+    ensures fault { IfErr result (IsIntFault prefix octets.now) }
 {
     match read(prefix, octets) {
         IntRead::Value(value, used) => Ok((value, used)),
@@ -29,6 +32,7 @@ pub fn take_int(prefix: u8, octets: &[u8]) -> Result<(u32, usize), DecodeFault>
 fn huffman_string(alloc: Global, text: &[u8]) -> Result<Vec<u8>, DecodeFault>
     ensures decoded { IfOk result (λ string. Huff text.now string.items) }
     ensures none { IfErr result (λ fault. UnlessMemory fault ((string : List ℕ) → Huff text.now string → ⊥)) }
+    ensures fault { IfErr result (λ fault. UnlessMemory fault (fault ≡ Text)) }
 {
     let mut string = Vec::new(alloc);
     match decode(text, &mut string) {
@@ -43,6 +47,7 @@ fn huffman_string(alloc: Global, text: &[u8]) -> Result<Vec<u8>, DecodeFault>
 pub fn take_string(alloc: Global, octets: &[u8]) -> Result<(Vec<u8>, usize), DecodeFault>
     ensures taken { IfOk result (λ p. TakesString octets.now p.0.items p.1) }
     ensures none { IfErr result (λ fault. UnlessMemory fault (BeginsNoString octets.now)) }
+    ensures fault { IfErr result (λ fault. UnlessMemory fault (IsStringFault octets.now fault)) }
 {
     let (number, start) = take_int(7, octets)?;
     let number = number as usize;

@@ -1,5 +1,5 @@
 use super::*;
-use std::alloc::Global;
+use std::alloc::{AllocError, Global};
 use std::test::*;
 
 /// The octets `828684410f7777772e6578616d706c652e636f6d` of RFC 7541, appendix C.3.1.
@@ -162,4 +162,56 @@ fn each_fault_is_told(rt: HostRuntime) {
         fault_of(alloc, b"\x41\x0f\x77\x77"),
         Some(DecodeFault::Cut)
     );
+}
+
+/// A literal that is inserted, with the name `a` and a value of 4,000 octets, and then its index 60,000 times.
+fn many_indices(alloc: Global) -> Result<Vec<u8>, AllocError> {
+    let mut block = Vec::from_slice(alloc, b"\x40\x01a\x7f\xa1\x1e")?;
+    for _ in 0..4000 {
+        block.push(0x62)?;
+    }
+    for _ in 0..60000 {
+        block.push(0xbe)?;
+    }
+    Ok(block)
+}
+
+// None of the fields is kept, and the table is the next one.
+#[test]
+fn many_indices_of_a_long_field_are_too_large(rt: HostRuntime) -> Result<(), Fail> {
+    let alloc = rt.alloc();
+    let mut decoder = Decoder::new(alloc, 4096);
+    assert!(rt;
+        matches!(
+            decoder.decode(alloc, &many_indices(alloc)?, 16384)?,
+            Decoded::TooLarge
+        )
+    );
+    let Decoded::Fields(fields) = decoder.decode(alloc, b"\xbe", 16384)? else {
+        return Err(Fail::from("too large"));
+    };
+    assert_eq!(rt; fields.len(), 1);
+    assert_eq!(rt; fields[0].value().len(), 4000);
+    Ok(())
+}
+
+// The first place that can't be read decides, and an index or a maximum is judged where its integer ends.
+#[test]
+fn the_first_place_decides(rt: HostRuntime) {
+    let alloc = rt.alloc();
+    let table: [(&[u8], DecodeFault); 10] = [
+        (b"\x80\x20", DecodeFault::Index),
+        (b"\x82\x3f\xe2\x1f", DecodeFault::Late),
+        (b"\x82\x3f", DecodeFault::Cut),
+        (b"\x82\x3f\x80\x80\x80\x80\x80", DecodeFault::Integer),
+        (b"\x3f\xe2", DecodeFault::Cut),
+        (b"\x20\x3f\xe2\x1f", DecodeFault::Maximum),
+        (b"\x7f", DecodeFault::Cut),
+        (b"\x7e\x81\x00", DecodeFault::Index),
+        (b"\x40\x81\x00", DecodeFault::Text),
+        (b"\x41\x82\xff", DecodeFault::Cut),
+    ];
+    for (block, wanted) in table {
+        assert_eq!(rt; fault_of(alloc, block), Some(wanted));
+    }
 }

@@ -1,6 +1,8 @@
-use Rattle.std.proofs.Common.{arith, refl}
+use Rattle.std.proofs.Common.{◌-◌, length, take, drop, arith, refl}
 use Rattle.std.proofs.lemmas.Result.{err_from_is_err_and}
-use Rattle.header_blocks.proofs.Refused.{if_err, unless_weaker}
+use Rattle.header_blocks.specs.Faults.{IsFieldFault, IsFaultOf}
+use Rattle.header_blocks.proofs.Faulted.{unless_then, late_int, late, fields_stop}
+use Rattle.header_blocks.proofs.Refused.{if_err, unless, unless_weaker}
 use Rattle.header_blocks.proofs.NoBlocks.{decoding_field, late_on, no_fields_on}
 use Rattle.header_blocks.proofs.decoder.decode_block.Goals as goal
 
@@ -28,3 +30,23 @@ returns-in_err-taken-clause-none c =
     rw (p.1, p.2) (unless_weaker c.in_err-taken.field-0.0 _ _
     (λ none. no_fields_on c.args.table.now c.loop-start.table c.args.block.now c.loop-start.start c.args.cap c.loop-start.gathering.fields.items c.loop-start.gathering.room c.loop-start.invariant.0.gathers (omega arith) none c.loop-start.invariant.0.fresh)
     c.in_err-taken.ensures.none)
+
+pub returns-in_err-take_int-clause-fault : goal.returns-in_err-take_int-clause-fault
+returns-in_err-take_int-clause-fault c =
+    let first = c.if-is_maximum.ensures.0 refl in
+    let p = err_from_is_err_and c.from_residual-in_err-take_int.result c.from_residual-in_err-take_int.ensures.1 in
+    rw (p.1, p.2) (unless c.in_err-take_int.field-0.0 _
+    (late_int c.args.table.now c.loop-start.table c.args.block.now c.loop-start.start c.args.cap c.loop-start.gathering.fields.items c.loop-start.gathering.room c.loop-start.invariant.0.gathers (omega arith) c.in_err-take_int.field-0.0 first.0 first.1
+    c.in_err-take_int.ensures.fault))
+
+pub returns-then-is_maximum-clause-fault : goal.returns-then-is_maximum-clause-fault
+returns-then-is_maximum-clause-fault c =
+    let first = c.if-is_maximum.ensures.0 refl in
+    late c.args.table.now c.loop-start.table c.args.block.now c.loop-start.start c.args.cap c.loop-start.gathering.fields.items c.loop-start.gathering.room c.loop-start.invariant.0.gathers (omega arith) c.in_ok-take_int.field-0.0 c.in_ok-take_int.field-0.1 first.0 first.1 c.in_ok-take_int.ensures.taken c.loop-start.invariant.0.unmarked
+
+pub returns-in_err-taken-clause-fault : goal.returns-in_err-taken-clause-fault
+returns-in_err-taken-clause-fault c =
+    let p = err_from_is_err_and c.from_residual-in_err-taken.result c.from_residual-in_err-taken.ensures.1 in
+    rw (p.1, p.2) (unless_then c.in_err-taken.field-0.0 (λ f. IsFieldFault c.loop-start.table (take (length c.args.block.now - c.loop-start.start) (drop c.loop-start.start c.args.block.now)) f)
+    (λ f. IsFaultOf c.args.table.now c.args.block.now f)
+    (λ f s. fields_stop c.args.table.now c.loop-start.table c.args.block.now c.loop-start.start c.args.cap c.loop-start.gathering.fields.items c.loop-start.gathering.room c.loop-start.invariant.0.gathers (omega arith) f s) c.in_err-taken.ensures.fault)

@@ -1,9 +1,9 @@
 -- A worked log: a client's preface, its empty settings and one GET come in one piece, and the gateway's settings, their
 -- acknowledgement, an upstream's opening and a request's text are put out. The log is faithful.
-use Rattle.std.proofs.Common.{◌≡◌, ℕ, true, false, List, [], ◌∷◌, ◌++◌, length, length-append, append-nil, append_assoc, ◌+◌, refl, sym, ◌∙◌, ap, arith, inl, inr}
+use Rattle.std.proofs.Common.{◌≡◌, ℕ, true, false, List, [], ◌∷◌, ◌++◌, length, length-append, append-nil, append_assoc, ◌+◌, refl, sym, ◌∙◌, ap, subst, arith, inl, inr, ◌==◌, if◌then◌else◌}
 use Rattle.std.specs.Prelude.{◌/◌, ◌^◌, slice_index, Some, None, codes}
 use Rattle.model.specs.Octets.{some_of, is_token_octet, is_value, lower}
-use Rattle.model.specs.Messages.{Field, Request}
+use Rattle.model.specs.Messages.{Field, Request, Item}
 use Rattle.model.specs.Messages.Item.{Block}
 use Rattle.model.specs.Frames.{Frame, Fits, Spells, Reading, BeginsNoFrame, IsTooLong, preface, spell, settings_frame, settings_ack, settings_kind, headers_kind}
 use Rattle.model.specs.Integers.{IsShortInt, IsMarkedInt}
@@ -18,12 +18,14 @@ use Rattle.model.specs.Logs.Output.{ToClient, Does}
 use Rattle.model.specs.Setup.{Setup, Route, IsFirstMatch}
 use Rattle.model.specs.Setup.Policy.{Plain}
 use Rattle.model.specs.Setup.Passing.{Whole}
-use Rattle.model.specs.Tapes.{Noted, Entry, sent_up}
+use Rattle.model.specs.Tapes.{Noted, Entry, sent, sent_up}
 use Rattle.model.specs.Tapes.Note.{NoBlock, Fields}
 use Rattle.model.specs.Tapes.Entry.{Came, Sent, Did}
 use Rattle.model.specs.Decoding.{Decodes}
 use Rattle.model.specs.Streams.{items}
 use Rattle.model.specs.Requests.{Opened, IsServed, Requests}
+use Rattle.model.specs.Deliveries.{nothing, ReadsAs}
+use Rattle.model.specs.Available.{items_on, IsDelivered, Deliveries}
 use Rattle.model.proofs.Http1Examples.{both_lines, both_framings}
 use Rattle.model.specs.Faithful.{IsTold, IsTaped, Faithful}
 
@@ -228,6 +230,20 @@ served = record {
 requests : Requests setup tape
 requests = record { numbered = (refl, tt); apart = (tt, tt); served = (served, tt); go_to_open = (refl, tt) }
 
+-- no stream was sent anything yet
+nothing_on : (stream : ℕ) → items_on stream (sent tape) ≡ []
+nothing_on stream = elim (0 == stream) as (λ b. ([] ++ (if b then [] else [])) ++ (if b then [] else []) ≡ (let none : List Item = [] in none)) [ true ↦ refl | false ↦ refl ]
+
+nothing_delivered : (stream : ℕ) → IsDelivered setup tape stream
+nothing_delivered stream = record {
+  delivery = nothing;
+  reads = subst (λ x. ReadsAs x nothing) (sym (nothing_on stream)) (record { interim_items = []; rest = []; is = refl; interims = tt; answer = (refl, refl, refl) });
+  available = inl refl;
+}
+
+deliveries : Deliveries setup tape
+deliveries = record { table = first_table; decodes = (first_table, (first_table, refl, (refl, refl), refl), (refl, refl), refl); decoded = refl; delivered = nothing_delivered }
+
 -- ---- the log
 
 settings_fits : Fits settings_frame
@@ -250,7 +266,7 @@ taped = record {
   admitted = refl;
   step_is = record { spelled = (ack_fits, (settings_fits, tt)); put_out = refl; event = refl };
   told = told;
-  clauses = record { requests = requests };
+  clauses = record { requests = requests; deliveries = deliveries };
 }
 
 pub first_log : Faithful setup (step ∷ [])

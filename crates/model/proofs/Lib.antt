@@ -25,3 +25,4 @@ mod FaithfulExamples
 pub mod ResponseHeadReadings
 pub mod ResponseBodies
 pub mod ResponseReadings
+pub mod DeliveryLemmas

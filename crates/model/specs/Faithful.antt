@@ -7,10 +7,12 @@ use Rattle.model.specs.Tapes.{Entry, came, is_closed, EndsWithClose, IsStep, IsR
 use Rattle.model.specs.Decoding.{Decodes, are_read}
 use Rattle.model.specs.Admission.{is_admitted}
 use Rattle.model.specs.Requests.{Requests}
+use Rattle.model.specs.Available.{Deliveries}
 
 -- The clauses that hold of a tape at the end of each step.
 pub record Clauses (setup : Setup) (t : List Entry) : Type 0 where
   pub requests : Requests setup t
+  pub deliveries : Deliveries setup t
 
 -- A tape tells the octets that the client sent so far: its frames are read off them, and the notes of their blocks are
 -- right. Where a block wasn't read, the client is closed. Nothing comes behind the client's close.

@@ -26,3 +26,5 @@ pub mod ResponseHeadReadings
 pub mod ResponseBodies
 pub mod ResponseReadings
 pub mod DeliveryLemmas
+mod RowTapes
+mod ErrorExamples

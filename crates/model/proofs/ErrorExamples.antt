@@ -1,17 +1,16 @@
 -- Worked rows of errors, by computation: the fault of a frame, and the frames that it calls for.
-use Rattle.std.specs.Prelude.{◌≡◌, ℕ, true, false, List, [], ◌∷◌, ◌++◌, Some, None, refl, codes}
-use Rattle.model.specs.Messages.{Item}
+use Rattle.std.specs.Prelude.{◌≡◌, ℕ, zero, suc, true, false, List, [], ◌∷◌, ◌++◌, Some, None, refl, codes}
 use Rattle.model.specs.Messages.Item.{Block, Content}
 use Rattle.model.specs.Tables.{total_size}
-use Rattle.model.specs.Frames.{goaway, setting, settings_ack, protocol_error, flow_control_error, frame_size_error, compression_error, stream_closed, no_error}
+use Rattle.model.specs.Frames.{goaway, setting, settings_ack, protocol_error, flow_control_error, frame_size_error, compression_error, stream_closed, enhance_your_calm}
 use Rattle.model.specs.Tapes.{Noted, Entry}
-use Rattle.model.specs.Tapes.Note.{NoBlock, Undecodable}
+use Rattle.model.specs.Tapes.Note.{Undecodable}
 use Rattle.model.specs.Tapes.Breach.{WrongPreface, TooLong}
 use Rattle.model.specs.Tapes.Entry.{Came, Breached}
-use Rattle.model.specs.Errors.Fault.{Connection, Stream, Discarded}
+use Rattle.model.specs.Errors.Fault.{Connection, Discarded}
 use Rattle.model.specs.Courses.{items, fault}
 use Rattle.model.specs.ErrorClause.{rst_stream, ping_ack, owed_by}
-use Rattle.model.proofs.RowTapes.{by_whole, by_streaming, frame, plain, headed, out, field, get, get_block, post, post_block, begun, getting, got, answered, update, reset, settings}
+use Rattle.model.proofs.RowTapes.{by_whole, by_streaming, frame, plain, headed, out, field, get, get_block, post, post_block, begun, getting, got, answered, update, settings}
 
 -- ---- a header block in four frames, and a PING between them
 
@@ -36,6 +35,20 @@ ping_between = refl
 pub farewell_between : owed_by by_whole two_frames (plain (frame 6 0 0 (1 ∷ 2 ∷ 3 ∷ 4 ∷ 5 ∷ 6 ∷ 7 ∷ 8 ∷ []))) ≡ goaway 0 protocol_error ∷ []
 unfolding total_size
 farewell_between = refl
+
+-- ---- a block of many frames: 64 CONTINUATION frames may come, and no more
+
+abbrev pub going_on : ℕ → List Entry
+going_on zero = plain (frame 1 1 1 (130 ∷ [])) ∷ begun
+going_on (suc n) = plain (frame 9 0 1 []) ∷ going_on n
+
+pub one_more : fault by_whole (going_on 63) (plain (frame 9 0 1 [])) ≡ None
+unfolding total_size
+one_more = refl
+
+pub too_many : owed_by by_whole (going_on 64) (plain (frame 9 0 1 [])) ≡ goaway 0 enhance_your_calm ∷ []
+unfolding total_size
+too_many = refl
 
 -- ---- blocks that can't be read
 
@@ -101,7 +114,7 @@ pub faultless_items : items by_streaming 1 (plain (frame 0 0 1 (codes "x")) ∷ 
 unfolding total_size
 faultless_items = refl
 
--- an end short of it: an empty DATA with END_STREAM ends well, and one octet less doesn't
+-- an empty DATA ends the body just there
 pub just_declared : fault by_whole declared_five (plain (frame 0 1 1 [])) ≡ None
 unfolding total_size
 just_declared = refl

@@ -28,3 +28,5 @@ pub mod ResponseReadings
 pub mod DeliveryLemmas
 mod RowTapes
 mod ErrorExamples
+mod WindowExamples
+mod CauseExamples

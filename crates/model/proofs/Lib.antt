@@ -26,6 +26,8 @@ pub mod ResponseHeadReadings
 pub mod ResponseBodies
 pub mod ResponseReadings
 pub mod DeliveryLemmas
+mod OfferLemmas
+mod HeadlineExamples
 mod RowTapes
 mod ErrorExamples
 mod WindowExamples

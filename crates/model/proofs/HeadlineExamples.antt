@@ -7,6 +7,7 @@ use Rattle.model.specs.Messages.Item.{Block}
 use Rattle.model.specs.Tables.{total_size, first_table}
 use Rattle.model.specs.Frames.{preface, spell, settings_ack}
 use Rattle.model.specs.Http2.{H2Request}
+use Rattle.model.specs.Setup.{IsFirstMatch}
 use Rattle.model.specs.Setup.Passing.{Whole, Streaming}
 use Rattle.model.specs.Requests.{Opened, opens}
 use Rattle.model.specs.Deliveries.{Delivery, nothing, ReadsAs}
@@ -37,29 +38,32 @@ pub means : H2Request (items known 1 tape) request
 unfolding total_size
 means = record { head = head; has_head = refl; well_formed = well_formed; no_connect = refl; contents = tt; ends = refl; length_holds = tt; is = refl }
 
+pub by_route : IsFirstMatch setup.routes (codes "a") (codes "/") 0
+by_route = record { route = record { authority = []; path = codes "/" }; found = refl; matches = (inl refl, inl (record { rest = []; is = refl })); none_before = λ earlier before. absurd (omega (arith, before)) }
+
 served : IsServed known tape (record { k = 1; route = 0; stream = 1 })
 unfolding total_size
 served = record {
   head = head;
   has_head = refl;
   well_formed = well_formed;
-  by_route = record { route = record { authority = []; path = codes "/" }; found = refl; matches = (inl refl, inl (record { rest = []; is = refl })); none_before = λ earlier before. absurd (omega (arith, before)) };
+  by_route = by_route;
   sent = inl (record { request = request; means = means; reads = record { front = text; is = refl; are_requests = (text, [], reads, refl, refl); no_more = nothing_begins_none } });
 }
 
-requests : RequestsHold known tape
+pub requests : RequestsHold known tape
 requests = record { numbered = (refl, tt); apart = (tt, tt); served = (served, tt) }
 
 -- ---- streams beside the first
 
-nothing_either : (b : Bool) → (if b then (let none : List Item = [] in none) else []) ≡ []
+pub nothing_either : (b : Bool) → (if b then (let none : List Item = [] in none) else []) ≡ []
 nothing_either true = refl
 nothing_either false = refl
 
 brings_none : (stream : ℕ) → (1 == stream) ≡ false → BringNone stream tape
 brings_none stream apart = (refl, (refl, (ap (λ b. if b then Block head true ∷ [] else []) apart, (refl, (nothing_either (0 == stream), (refl, tt))))))
 
-not_active : (stream : ℕ) → (1 == stream) ≡ false → is_active stream tape ≡ true → ⊥
+pub not_active : (stream : ℕ) → (1 == stream) ≡ false → is_active stream tape ≡ true → ⊥
 not_active stream apart on = let off : is_active stream tape ≡ false = ap (λ b. (b || false) && not (is_over stream tape)) apart in let clash : false ≡ true = sym off ∙ on in cc
 
 -- ---- progress
@@ -72,7 +76,7 @@ forwarded_first r m =
       reads = record { front = text; is = refl; are_requests = (text, [], reads, refl, refl); no_more = nothing_begins_none };
     })
 
-no_request : (list : List Item) (r : Request) → list ≡ [] → H2Request list r → ⊥
+pub no_request : (list : List Item) (r : Request) → list ≡ [] → H2Request list r → ⊥
 no_request [] r e m = m.has_head
 no_request (item ∷ list) r e m = cc
 
@@ -132,7 +136,7 @@ nothing_delivered stream = record {
   offered = inl refl;
 }
 
-responses : ResponsesHold known tape
+pub responses : ResponsesHold known tape
 responses = record {
   table = first_table;
   decodes = (first_table, (first_table, refl, (refl, refl), refl), (refl, refl), refl);
@@ -174,7 +178,7 @@ told = record {
   ends = first.told.ends;
 }
 
-taped : IsTaped known [] step [] tape
+pub taped : IsTaped known [] step [] tape
 taped = record {
   admitted = record { in_order = refl; fits = tt };
   step_is = record { spelled = (ack_fits, (settings_fits, tt)); put_out = refl; event = refl };

@@ -28,6 +28,7 @@ pub mod ResponseReadings
 pub mod DeliveryLemmas
 mod OfferLemmas
 mod HeadlineExamples
+mod AnswerExamples
 mod RowTapes
 mod ErrorExamples
 mod WindowExamples

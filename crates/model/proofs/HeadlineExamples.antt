@@ -97,7 +97,7 @@ none_offered delivery (inr passed) = of_opened passed.given.is_opened
   where
     answers : IsAnswered [] false false delivery ⊎ IsBegun Whole [] false false delivery → OffersNothing delivery
     answers (inl all) = nothing_offered false false delivery all
-    answers (inr part) = nothing_begun false false delivery part
+    answers (inr part) = nothing_begun Whole false false delivery part
 
     of_opened : IsIn passed.o (opens tape) → OffersNothing delivery
     of_opened (inl same) = answers (subst (λ (k : ℕ). IsAnswered (heard k tape) (has_ended k tape) (is_to_head (items known 1 tape)) delivery ⊎ IsBegun Whole (heard k tape) (has_ended k tape) (is_to_head (items known 1 tape)) delivery) (ap (λ (o : Opened). o.k) same) passed.answers)

@@ -5,13 +5,14 @@ use Rattle.httparse.specs.Grammar as grammar
 use Rattle.httparse.specs.Grammar.{ReadsResponse}
 use Rattle.model.specs.Octets.{Joined}
 use Rattle.model.specs.Messages.{Item}
-use Rattle.model.specs.Setup.Passing.{Whole}
+use Rattle.model.specs.Setup.{Passing}
+use Rattle.model.specs.Setup.Passing.{Whole, Streaming}
 use Rattle.model.specs.Tapes.{Entry}
 use Rattle.model.specs.Streams.{items_of}
 use Rattle.model.specs.ResponseHeads.{Head, Framing, Interim, Final}
 use Rattle.model.specs.Responses.{IsComplete, Seen}
 use Rattle.model.specs.Deliveries.{Delivery}
-use Rattle.model.specs.Available.{IsAnswered, IsBegun}
+use Rattle.model.specs.Available.{shown, IsAnswered, IsBegun}
 use Rattle.model.specs.Readiness.{CanGo}
 use Rattle.model.specs.Known.{Known}
 use Rattle.model.specs.Courses.{course}
@@ -46,33 +47,36 @@ no_final to_head a b c head framing e f =
     let empty : b ≡ [] = empty_front b c (sym (empty_rest a (b ++ c) e)) in
     none_in_nothing f.spelled (subst (λ (x : List ℕ). ReadsResponse x f.spelled []) empty f.taken.reads)
 
+again : (a b c : List ℕ) → [] ≡ a ++ b ++ c → a ++ (b ++ c) ≡ []
+again [] [] c e = sym e
+again [] (x ∷ b) c e = cc
+again (x ∷ a) b c e = cc
+
 pub nothing_complete : (ended to_head : Bool) → IsComplete [] ended to_head → ⊥
 nothing_complete ended to_head c = let r = c.1 in no_final to_head r.front r.head_text r.rest c.0.head r.framing (let e : [] ≡ r.front ++ r.head_text ++ r.rest = r.is in sym (again r.front r.head_text r.rest e)) r.is_final
-  where
-    again : (a b c : List ℕ) → [] ≡ a ++ b ++ c → a ++ (b ++ c) ≡ []
-    again [] [] c e = sym e
-    again [] (x ∷ b) c e = cc
-    again (x ∷ a) b c e = cc
+
+-- nothing is seen in nothing
+nothing_seen : (to_head : Bool) (interims : List Head) (head : Option Head) (octets : List ℕ) → Seen [] to_head interims head octets → (interims ≡ []) × (head ≡ None)
+nothing_seen to_head interims None octets seen =
+    let s = seen.0 in (no_interims interims (subst (λ (x : List ℕ). Joined Interim x interims) (empty_front s.front s.rest s.is) s.are_interims), refl)
+nothing_seen to_head interims (Some head) octets seen = absurd (no_final to_head seen.front seen.head_text seen.rest head seen.framing (sym (again seen.front seen.head_text seen.rest seen.is)) seen.is_final)
 
 -- Nothing is on offer: no head.
 abbrev pub OffersNothing : Delivery → Type 0
 OffersNothing delivery = (delivery.interims ≡ []) × (delivery.head ≡ None)
 
-pub nothing_begun : (ended to_head : Bool) (delivery : Delivery) → IsBegun Whole [] ended to_head delivery → OffersNothing delivery
-nothing_begun ended to_head delivery b = begun b.interims b.head b.octets b.seen b.says
+pub nothing_begun : (passing : Passing) (ended to_head : Bool) (delivery : Delivery) → IsBegun passing [] ended to_head delivery → OffersNothing delivery
+nothing_begun passing ended to_head delivery b =
+    let none = nothing_seen to_head b.interims b.head b.octets b.seen in
+    (ap (λ (d : Delivery). d.interims) b.says ∙ shown_interims passing ∙ none.0, ap (λ (d : Delivery). d.head) b.says ∙ shown_head passing none.1)
   where
-    begun : (interims : List Head) (head : Option Head) (octets : List ℕ) → Seen [] to_head interims head octets → delivery ≡ record { interims = interims; head = None; body = []; whole = false } → OffersNothing delivery
-    begun interims None octets seen says =
-        let s = seen.0 in
-        let none : interims ≡ [] = no_interims interims (subst (λ (x : List ℕ). Joined Interim x interims) (empty_front s.front s.rest s.is) s.are_interims) in
-        (ap (λ (d : Delivery). d.interims) says ∙ none, ap (λ (d : Delivery). d.head) says)
-    begun interims (Some head) octets seen says =
-        let none : interims ≡ [] = no_interims interims (subst (λ (x : List ℕ). Joined Interim x interims) (first seen.front seen.head_text seen.rest seen.is) seen.are_interims) in
-        (ap (λ (d : Delivery). d.interims) says ∙ none, ap (λ (d : Delivery). d.head) says)
-      where
-        first : (a b c : List ℕ) → [] ≡ a ++ b ++ c → a ≡ []
-        first [] b c e = refl
-        first (x ∷ a) b c e = cc
+    shown_interims : (p : Passing) → (shown p b.interims b.head b.octets).interims ≡ b.interims
+    shown_interims Whole = refl
+    shown_interims Streaming = refl
+
+    shown_head : (p : Passing) → b.head ≡ None → (shown p b.interims b.head b.octets).head ≡ None
+    shown_head Whole e = refl
+    shown_head Streaming e = e
 
 pub nothing_offered : (ended to_head : Bool) (delivery : Delivery) → IsAnswered [] ended to_head delivery → OffersNothing delivery
 nothing_offered ended to_head delivery a = absurd (nothing_complete ended to_head (a.response, a.is_whole))

@@ -1,21 +1,20 @@
 -- A worked log: a client's preface, its empty settings and one GET come in one piece, and the gateway's settings, their
 -- acknowledgement, an upstream's opening and a request's text are put out. The log is faithful.
 use Rattle.std.proofs.Common.{◌≡◌, ℕ, true, false, List, [], ◌∷◌, ◌++◌, length, length-append, append-nil, append_assoc, ◌+◌, refl, sym, ◌∙◌, ap, subst, arith, inl, inr, ◌==◌, if◌then◌else◌}
-use Rattle.std.specs.Prelude.{◌/◌, ◌^◌, slice_index, Some, None, codes}
+use Rattle.std.specs.Prelude.{◌/◌, ◌^◌, slice_index, Some, codes}
 use Rattle.model.specs.Octets.{some_of, is_token_octet, is_value, lower}
 use Rattle.model.specs.Messages.{Field, Request, Item}
-use Rattle.model.specs.Messages.Item.{Block}
-use Rattle.model.specs.Frames.{Frame, Fits, Spells, Reading, BeginsNoFrame, IsTooLong, preface, spell, settings_frame, settings_ack, settings_kind, headers_kind}
+use Rattle.model.specs.Frames.{Frame, Fits, Spells, Reading, BeginsNoFrame, preface, spell, settings_frame, settings_ack}
 use Rattle.model.specs.Integers.{IsShortInt, IsMarkedInt}
-use Rattle.model.specs.Tables.{Table, first_table, static_table, look_up, field_of}
+use Rattle.model.specs.Tables.{first_table, static_table, look_up}
 use Rattle.model.specs.Blocks as blocks
-use Rattle.model.specs.Http1.{crlf, Line, H1Request, H1Requests, BeginsNoRequest, forward}
+use Rattle.model.specs.Http1.{crlf, Line, H1Request, BeginsNoRequest, forward}
 use Rattle.model.specs.Http2.{WellFormedHead, H2Request}
 use Rattle.model.specs.Logs.{Step}
 use Rattle.model.specs.Logs.Event.{Client}
 use Rattle.model.specs.Logs.Act.{Open, ToUp}
 use Rattle.model.specs.Logs.Output.{ToClient, Does}
-use Rattle.model.specs.Setup.{Setup, Route, IsFirstMatch}
+use Rattle.model.specs.Setup.{Setup}
 use Rattle.model.specs.Setup.Policy.{Plain}
 use Rattle.model.specs.Setup.Passing.{Whole}
 use Rattle.model.specs.Tapes.{Noted, Entry, sent, sent_up}
@@ -30,66 +29,66 @@ use Rattle.model.proofs.Http1Examples.{both_lines, both_framings}
 use Rattle.model.specs.Faithful.{IsTold, IsTaped, Faithful}
 
 -- one route for every authority and path
-abbrev setup : Setup
+abbrev pub setup : Setup
 setup = record { routes = record { authority = []; path = codes "/" } ∷ []; policy = Plain; passing = Whole; max_body = 1000; max_response = 1000 }
 
-abbrev settings : Frame
+abbrev pub settings : Frame
 settings = record { kind = 4; flags = 0; id = 0; payload = [] }
 
 -- the indices 2, 6 and 4 of the static table, and a literal with the name at index 1 that isn't inserted
-abbrev block : List ℕ
+abbrev pub block : List ℕ
 block = 130 ∷ 134 ∷ 132 ∷ 1 ∷ 1 ∷ 97 ∷ []
 
-abbrev headers : Frame
+abbrev pub headers : Frame
 headers = record { kind = 1; flags = 5; id = 1; payload = block }
 
-abbrev field : List ℕ → List ℕ → Field
+abbrev pub field : List ℕ → List ℕ → Field
 field name value = record { name = name; value = value }
 
-abbrev head : List Field
+abbrev pub head : List Field
 head = field (codes ":method") (codes "GET") ∷ field (codes ":scheme") (codes "http") ∷ field (codes ":path") (codes "/") ∷ field (codes ":authority") (codes "a") ∷ []
 
-abbrev text : List ℕ
+abbrev pub text : List ℕ
 text = codes "GET / HTTP/1.1\r\nhost: a\r\nvia: 2.0 h2gw\r\nconnection: close\r\n\r\n"
 
-abbrev step : Step
+abbrev pub step : Step
 step = record {
   event = Client (preface ++ spell settings ++ spell headers);
   outputs = ToClient (spell settings_frame ++ spell settings_ack) ∷ Does (Open 1 0) ∷ Does (ToUp 1 text) ∷ [];
 }
 
-abbrev settings_came : Noted
+abbrev pub settings_came : Noted
 settings_came = record { frame = settings; note = NoBlock }
 
-abbrev headers_came : Noted
+abbrev pub headers_came : Noted
 headers_came = record { frame = headers; note = Fields head }
 
 -- the newest entry stands first
-abbrev tape : List Entry
+abbrev pub tape : List Entry
 tape =
     Did (ToUp 1 text) ∷ Did (Open 1 0) ∷ Came headers_came ∷ Sent (record { frame = settings_ack; note = NoBlock }) ∷ Came settings_came
     ∷ Sent (record { frame = settings_frame; note = NoBlock }) ∷ []
 
 -- ---- the client's octets are the preface and the two frames
 
-no_frame : BeginsNoFrame []
+pub no_frame : BeginsNoFrame []
 no_frame octets more frame spells e = absurd (let n : 0 ≡ length (octets ++ more) = ap length e in let is = ap length spells.is in cc)
 
-settings_spelled : Spells (spell settings) settings
+pub settings_spelled : Spells (spell settings) settings
 settings_spelled = record { fits = record { kind = omega arith; flags = omega arith; id = omega arith; payload = omega arith }; bit = 0; is_bit = omega arith; is = refl }
 
-headers_spelled : Spells (spell headers) headers
+pub headers_spelled : Spells (spell headers) headers
 headers_spelled = record { fits = record { kind = omega arith; flags = omega arith; id = omega arith; payload = omega arith }; bit = 0; is_bit = omega arith; is = refl }
 
-reading : Reading (spell settings ++ spell headers) (settings ∷ headers ∷ []) []
+pub reading : Reading (spell settings ++ spell headers) (settings ∷ headers ∷ []) []
 reading = (spell settings, spell headers, settings_spelled, refl, (spell headers, [], headers_spelled, refl, refl))
 
 -- ---- the block's fields
 
-short : (prefix mark first value : ℕ) → IsShortInt prefix (first ∷ []) value → slice_index (first ∷ []) 0 / 2 ^ prefix ≡ mark → IsMarkedInt prefix mark (first ∷ []) value
+pub short : (prefix mark first value : ℕ) → IsShortInt prefix (first ∷ []) value → slice_index (first ∷ []) 0 / 2 ^ prefix ≡ mark → IsMarkedInt prefix mark (first ∷ []) value
 short prefix mark first value is marked = record { int = inl is; marked = marked }
 
-indexed : (first index : ℕ) (entry : Field) → IsMarkedInt 7 1 (first ∷ []) index → look_up first_table index ≡ Some entry → blocks.Represents first_table (first ∷ []) entry first_table
+pub indexed : (first index : ℕ) (entry : Field) → IsMarkedInt 7 1 (first ∷ []) index → look_up first_table index ≡ Some entry → blocks.Represents first_table (first ∷ []) entry first_table
 indexed first index entry marked found = inl (record { index = index; marked = marked; found = found; same = refl })
 
 found_method : look_up first_table 2 ≡ Some (field (codes ":method") (codes "GET"))
@@ -150,15 +149,15 @@ fields_read = (
 block_read : blocks.Block first_table block head first_table
 block_read = record { maxima = []; is_block = record { front = []; rest = block; between = first_table; is = refl; are_maxima = (refl, refl); are_fields = fields_read } }
 
-decodes : Decodes (headers_came ∷ settings_came ∷ []) first_table
+pub decodes : Decodes (headers_came ∷ settings_came ∷ []) first_table
 decodes = (first_table, (first_table, refl, (refl, refl), refl), block_read, refl)
 
 -- ---- the request, on both sides
 
-abbrev request : Request
+abbrev pub request : Request
 request = record { method = codes "GET"; target = codes "/"; authority = codes "a"; fields = []; body = [] }
 
-well_formed : WellFormedHead head
+pub well_formed : WellFormedHead head
 well_formed = record {
   pseudo_fields_hold = record { first = refl; known = refl; method = refl; scheme = refl; path = refl; one_authority = omega arith; connect_authority = λ e. absurd (let f : false ≡ true = e in cc) };
   names_hold = refl;
@@ -178,7 +177,7 @@ means = record { head = head; has_head = refl; well_formed = well_formed; no_con
 line : (name value : List ℕ) → some_of is_token_octet name ≡ true → is_value value ≡ true → Line (name ++ 58 ∷ (32 ∷ []) ++ value ++ [] ++ crlf) (field (lower name) value)
 line name value token good = record { name = name; before = 32 ∷ []; after = []; is = refl; is_token = token; space_before = refl; is_value = good; space_after = refl; is_named = refl }
 
-reads : H1Request text (forward request)
+pub reads : H1Request text (forward request)
 reads = record {
   head = record { method = codes "GET"; target = codes "/"; fields = field (codes "host") (codes "a") ∷ field (codes "via") (codes "2.0 h2gw") ∷ field (codes "connection") (codes "close") ∷ [] };
   head_text = text;
@@ -210,7 +209,7 @@ reads = record {
   body = (refl, refl);
 }
 
-nothing_begins_none : BeginsNoRequest []
+pub nothing_begins_none : BeginsNoRequest []
 nothing_begins_none front more request reads is = absurd (
     let size : 0 ≡ length front + length more = ap length is ∙ length-append front more in
     let parts : length front ≡ length reads.head_text + length reads.content = ap length reads.is ∙ length-append reads.head_text reads.content in
@@ -231,7 +230,7 @@ requests : Requests setup tape
 requests = record { numbered = (refl, tt); apart = (tt, tt); served = (served, tt); go_to_open = (refl, tt) }
 
 -- no stream was sent anything yet
-nothing_on : (stream : ℕ) → items_on stream (sent tape) ≡ []
+pub nothing_on : (stream : ℕ) → items_on stream (sent tape) ≡ []
 nothing_on stream = elim (0 == stream) as (λ b. ([] ++ (if b then [] else [])) ++ (if b then [] else []) ≡ (let none : List Item = [] in none)) [ true ↦ refl | false ↦ refl ]
 
 nothing_delivered : (stream : ℕ) → IsDelivered setup tape stream
@@ -246,13 +245,13 @@ deliveries = record { table = first_table; decodes = (first_table, (first_table,
 
 -- ---- the log
 
-settings_fits : Fits settings_frame
+pub settings_fits : Fits settings_frame
 settings_fits = record { kind = omega arith; flags = omega arith; id = omega arith; payload = omega arith }
 
-ack_fits : Fits settings_ack
+pub ack_fits : Fits settings_ack
 ack_fits = record { kind = omega arith; flags = omega arith; id = omega arith; payload = omega arith }
 
-told : IsTold (preface ++ spell settings ++ spell headers) tape
+pub told : IsTold (preface ++ spell settings ++ spell headers) tape
 told = record {
   read = inr (inr (record { behind = spell settings ++ spell headers; rest = []; begins = refl; reading = reading; breach = inl refl; no_more = λ on. (no_frame, λ long. absurd (let nine = long.header in omega (arith, nine))) }));
   table = first_table;

@@ -28,3 +28,14 @@ pub mod ResponseHeadReadings
 pub mod ResponseBodies
 pub mod ResponseReadings
 pub mod DeliveryLemmas
+mod OfferLemmas
+mod HeadlineExamples
+mod AnswerTexts
+mod AnswerExamples
+mod RowTapes
+mod ErrorExamples
+mod WindowExamples
+mod CauseExamples
+mod Refusals
+mod ResponseRefusals
+mod RequestRefusals

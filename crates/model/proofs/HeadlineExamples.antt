@@ -1,0 +1,190 @@
+-- The log of a first request keeps the headline: that of `FaithfulExamples`, with its tape.
+use Rattle.std.proofs.Common.{◌≡◌, ℕ, Bool, true, false, not, ◌&&◌, ◌||◌, ◌==◌, List, [], ◌∷◌, ◌++◌, refl, sym, ap, ◌∙◌, subst, inl, inr, ◌⊎◌, arith, if◌then◌else◌}
+use Rattle.std.specs.Prelude.{Option, Some, None, codes}
+use Rattle.std.proofs.lemmas.Bool.Decides.{eqb_tells}
+use Rattle.model.specs.Messages.{Item, Request}
+use Rattle.model.specs.Messages.Item.{Block}
+use Rattle.model.specs.Tables.{total_size, first_table}
+use Rattle.model.specs.Frames.{preface, spell, settings_ack}
+use Rattle.model.specs.Http2.{H2Request}
+use Rattle.model.specs.Setup.{IsFirstMatch}
+use Rattle.model.specs.Setup.Passing.{Whole, Streaming}
+use Rattle.model.specs.Requests.{Opened, opens}
+use Rattle.model.specs.Deliveries.{Delivery, nothing, ReadsAs}
+use Rattle.model.specs.Available.{heard, has_ended, IsIn, IsAnswered, IsBegun}
+use Rattle.model.specs.Known.{Known}
+use Rattle.model.specs.Lifetimes.{is_active, is_over}
+use Rattle.model.specs.Causes.{Cause}
+use Rattle.model.specs.Courses.{items}
+use Rattle.model.specs.Offers.{is_to_head, IsDelivered, IsOffered}
+use Rattle.model.specs.RequestClause.{IsServed, RequestsHold}
+use Rattle.model.specs.ResponseClause.{ResponsesHold}
+use Rattle.model.specs.ErrorClause.{ErrorsHold}
+use Rattle.model.specs.ProgressClause.{AllForwarded, AllStreamed, NoneReady, Reason, ProgressHolds, IsForwarded}
+use Rattle.model.specs.ProgressClause.Reason.{Over, Complete, Ended, Answered, ClientClosed}
+use Rattle.model.specs.WindowClause.{WindowsHold}
+use Rattle.model.specs.Headline.{IsTold, IsTaped, Headline}
+use Rattle.model.proofs.FaithfulExamples as first
+use Rattle.model.proofs.FaithfulExamples.{setup, head, text, step, tape, request, reading, decodes, well_formed, reads, nothing_begins_none, nothing_on, settings_fits, ack_fits}
+use Rattle.model.proofs.Http2Readings.{one_meaning}
+use Rattle.model.proofs.OfferLemmas.{OffersNothing, nothing_begun, nothing_offered, nothing_complete, nothing_goes, BringNone, no_items}
+
+abbrev pub known : Known
+known = record { setup = setup; failures = [] }
+
+-- ---- requests
+
+pub means : H2Request (items known 1 tape) request
+unfolding total_size
+means = record { head = head; has_head = refl; well_formed = well_formed; no_connect = refl; contents = tt; ends = refl; length_holds = tt; is = refl }
+
+pub by_route : IsFirstMatch setup.routes (codes "a") (codes "/") 0
+by_route = record { route = record { authority = []; path = codes "/" }; found = refl; matches = (inl refl, inl (record { rest = []; is = refl })); none_before = λ earlier before. absurd (omega (arith, before)) }
+
+served : IsServed known tape (record { k = 1; route = 0; stream = 1 })
+unfolding total_size
+served = record {
+  head = head;
+  has_head = refl;
+  well_formed = well_formed;
+  by_route = by_route;
+  sent = inl (record { request = request; means = means; reads = record { front = text; is = refl; are_requests = (text, [], reads, refl, refl); no_more = nothing_begins_none } });
+}
+
+pub requests : RequestsHold known tape
+requests = record { numbered = (refl, tt); apart = (tt, tt); served = (served, tt) }
+
+-- ---- streams beside the first
+
+pub nothing_either : (b : Bool) → (if b then (let none : List Item = [] in none) else []) ≡ []
+nothing_either true = refl
+nothing_either false = refl
+
+brings_none : (stream : ℕ) → (1 == stream) ≡ false → BringNone stream tape
+brings_none stream apart = (refl, (refl, (ap (λ b. if b then Block head true ∷ [] else []) apart, (refl, (nothing_either (0 == stream), (refl, tt))))))
+
+pub not_active : (stream : ℕ) → (1 == stream) ≡ false → is_active stream tape ≡ true → ⊥
+not_active stream apart on = let off : is_active stream tape ≡ false = ap (λ b. (b || false) && not (is_over stream tape)) apart in let clash : false ≡ true = sym off ∙ on in cc
+
+-- ---- progress
+
+forwarded_first : (r : Request) → H2Request (items known 1 tape) r → IsForwarded tape 1 r
+forwarded_first r m =
+    subst (λ (x : Request). IsForwarded tape 1 x) (one_meaning (items known 1 tape) request r means m) (record {
+      o = record { k = 1; route = 0; stream = 1 };
+      given = record { is_opened = inl refl; is_given = refl };
+      reads = record { front = text; is = refl; are_requests = (text, [], reads, refl, refl); no_more = nothing_begins_none };
+    })
+
+pub no_request : (list : List Item) (r : Request) → list ≡ [] → H2Request list r → ⊥
+no_request [] r e m = m.has_head
+no_request (item ∷ list) r e m = cc
+
+forwarded : AllForwarded known tape
+forwarded stream r place m routed cut = elim (eqb_tells 1 stream) [
+  | inl same ↦ subst (λ s. IsForwarded tape s r) same.1 (forwarded_first r (subst (λ s. H2Request (items known s tape) r) (sym same.1) m))
+  | inr apart ↦ absurd (no_request (items known stream tape) r (no_items known stream tape (brings_none stream apart.0)) m)
+]
+
+streamed : AllStreamed known tape
+streamed passing = let clash : Whole ≡ Streaming = passing in cc
+
+-- nothing was heard of the one connection
+none_offered : (delivery : Delivery) → IsOffered known tape 1 delivery → OffersNothing delivery
+unfolding total_size
+none_offered delivery (inl replied) = let clash : ◌≡◌ {A = Option Cause} None (Some replied.cause) = replied.has_cause in cc
+none_offered delivery (inr passed) = of_opened passed.given.is_opened
+  where
+    answers : IsAnswered [] false false delivery ⊎ IsBegun Whole [] false false delivery → OffersNothing delivery
+    answers (inl all) = nothing_offered false false delivery all
+    answers (inr part) = nothing_begun Whole false false delivery part
+
+    of_opened : IsIn passed.o (opens tape) → OffersNothing delivery
+    of_opened (inl same) = answers (subst (λ (k : ℕ). IsAnswered (heard k tape) (has_ended k tape) (is_to_head (items known 1 tape)) delivery ⊎ IsBegun Whole (heard k tape) (has_ended k tape) (is_to_head (items known 1 tape)) delivery) (ap (λ (o : Opened). o.k) same) passed.answers)
+    of_opened (inr none) = absurd none
+
+none_ready : NoneReady known tape
+none_ready room stream ready = elim (eqb_tells 1 stream) [
+  | inl same ↦ nothing_goes tape stream ready.read ready.offered (none_offered ready.offered (subst (λ s. IsOffered known tape s ready.offered) (sym same.1) ready.is_offered)) ready.can_go
+  | inr apart ↦ not_active stream apart.0 ready.is_active
+]
+
+no_reason : Reason known tape (record { k = 1; route = 0; stream = 1 }) → ⊥
+unfolding total_size
+no_reason (Over e) = let clash : true ≡ false = e in cc
+no_reason (Complete whole) = nothing_complete false false whole
+no_reason (Ended e) = let clash : false ≡ true = e in cc
+no_reason (Answered found e) = let clash : ◌≡◌ {A = Option Cause} None (Some found) = e in cc
+no_reason (ClientClosed e) = let clash : false ≡ true = e in cc
+
+progress : ProgressHolds known [] tape
+progress = record {
+  forwarded = forwarded;
+  streamed = streamed;
+  none_ready = none_ready;
+  closed = (λ on reason. no_reason reason, tt);
+  closes = tt;
+  go_to_open = (refl, tt);
+}
+
+-- ---- responses
+
+nothing_delivered : (stream : ℕ) → IsDelivered known tape stream
+nothing_delivered stream = record {
+  delivery = nothing;
+  reads = subst (λ x. ReadsAs x nothing) (sym (nothing_on stream)) (record { interim_items = []; rest = []; is = refl; interims = tt; answer = (refl, refl, refl) });
+  offered = inl refl;
+}
+
+pub responses : ResponsesHold known tape
+responses = record {
+  table = first_table;
+  decodes = (first_table, (first_table, refl, (refl, refl), refl), (refl, refl), refl);
+  decoded = refl;
+  together = (refl, (refl, tt));
+  none_begun = refl;
+  limits = (tt, (tt, tt));
+  delivered = nothing_delivered;
+}
+
+-- ---- errors and windows
+
+errors : ErrorsHold known tape
+unfolding total_size
+errors = record {
+  begins = (settings_ack ∷ [], refl);
+  just_owed = refl;
+  answered = (([], refl), (([], refl), (([], refl), ((settings_ack ∷ [], refl), tt))));
+  rightly_sent = (refl, (refl, tt));
+  closed = refl;
+  in_time = (refl, (refl, tt));
+}
+
+windows : WindowsHold known tape
+windows = record {
+  keeps = (λ kind some. absurd (omega (arith, kind)), (λ kind some. absurd (omega (arith, kind)), tt));
+  gives_back = λ on. record { shared = refl; own = λ stream on unended. refl };
+}
+
+-- ---- the log
+
+told : IsTold known (preface ++ spell first.settings ++ spell first.headers) tape
+told = record {
+  read = first.told.read;
+  table = first_table;
+  decodes = decodes;
+  others_are_read = (refl, (refl, tt));
+  failures = tt;
+  ends = first.told.ends;
+}
+
+pub taped : IsTaped known [] step [] tape
+taped = record {
+  admitted = record { in_order = refl; fits = tt };
+  step_is = record { spelled = (ack_fits, (settings_fits, tt)); put_out = refl; event = refl };
+  told = told;
+  clauses = record { requests = requests; responses = responses; errors = errors; progress = progress; windows = windows };
+}
+
+pub first_log : Headline setup (step ∷ [])
+first_log = record { known = known; of_setup = refl; tape = tape; has_tape = (tape, [], refl, taped, refl) }

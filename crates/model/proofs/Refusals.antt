@@ -1,0 +1,115 @@
+-- Gateways that do wrong: tapes that they make, and the clause that each breaks.
+use Rattle.std.proofs.Common.{◌≡◌, ℕ, true, false, List, [], ◌∷◌, ◌++◌, length, refl, sym, ap, ◌∙◌, subst, inl, inr, arith}
+use Rattle.std.specs.Prelude.{Option, Some, None, pos, negsuc, nat_abs, ◌≤ℤ◌, codes, map}
+use Rattle.model.specs.Tables.{total_size, Table, field_of, look_up, static_table}
+use Rattle.model.specs.Frames.{Frame, settings_frame, goaway, no_error, stream_closed}
+use Rattle.model.specs.Logs.Event.{UpEnd}
+use Rattle.model.specs.Logs.Act.{Close}
+use Rattle.model.specs.Tapes.{Entry, sent}
+use Rattle.model.specs.Tapes.Note.{Unread}
+use Rattle.model.specs.Tapes.Entry.{Came, Happened, Did}
+use Rattle.model.specs.Requests.{Opened, opens}
+use Rattle.model.specs.Available.{IsIn}
+use Rattle.model.specs.Known.{Known}
+use Rattle.model.specs.Causes.{Cause}
+use Rattle.model.specs.ErrorClause.{ErrorsHold, rst_stream}
+use Rattle.model.specs.ProgressClause.{ProgressHolds, Reason, AllStreamed}
+use Rattle.model.specs.ProgressClause.Reason.{Over, Complete, Ended, Answered, ClientClosed}
+use Rattle.model.specs.WindowClause.{WindowsHold}
+use Rattle.model.specs.Headline.{IsTold}
+use Rattle.model.specs.Synchrony.{IsWritten, AreFair, StaysReady, turns_on}
+use Rattle.model.proofs.OfferLemmas.{nothing_complete}
+use Rattle.model.proofs.RowTapes.{by_whole, by_streaming, frame, plain, headed, out, field, post, post_block, begun, getting, got, update, settings}
+use Rattle.model.proofs.CauseExamples.{ended_streaming, in_chunk_streaming}
+use Rattle.model.proofs.WindowExamples as windows
+
+-- It sends nothing: the first frame is to be the gateway's settings.
+pub silent : (known : Known) (t : List Entry) → sent t ≡ [] → ErrorsHold known t → ⊥
+silent known t e c = ends c.begins.0 (sym (ap (map (λ noted. noted.frame)) e) ∙ c.begins.1)
+  where
+    ends : (newer : List Frame) → [] ≡ newer ++ settings_frame ∷ [] → ⊥
+    ends [] e = cc
+    ends (f ∷ newer) e = cc
+
+-- It sends GOAWAY at once: nothing calls for it.
+pub leaves_at_once : ErrorsHold by_whole (out (goaway 0 no_error) ∷ begun) → ⊥
+unfolding total_size
+leaves_at_once c = let clash : 3 ≡ 2 = ap length c.just_owed in omega (arith, clash)
+
+-- It doesn't acknowledge settings.
+pub not_acknowledged : ErrorsHold by_whole (plain (settings []) ∷ out settings_frame ∷ []) → ⊥
+unfolding total_size
+not_acknowledged c = let clash : 1 ≡ 2 = ap length c.just_owed in omega (arith, clash)
+
+-- It goes on behind DATA on a skipped stream: the client is to be closed.
+pub goes_on : ErrorsHold by_whole (plain (frame 0 0 3 (120 ∷ [])) ∷ getting 1 5 begun) → ⊥
+unfolding total_size
+goes_on c = let clash : false ≡ true = c.closed in cc
+
+-- It answers that DATA with a reset: a farewell is owed.
+pub resets_instead : ErrorsHold by_whole (out (rst_stream 3 stream_closed) ∷ plain (frame 0 0 3 (120 ∷ [])) ∷ getting 1 5 begun) → ⊥
+unfolding total_size
+resets_instead c = let clash : false ≡ true = c.closed in cc
+
+-- It leaves a response unreset whose upstream ended it in a chunk.
+pub unreset : ErrorsHold ended_streaming (Did (Close 1) ∷ Happened (UpEnd 1) ∷ in_chunk_streaming) → ⊥
+unfolding total_size
+unreset c = let clash : 2 ≡ 3 = ap length c.just_owed in omega (arith, clash)
+
+-- It never gives octets back: five octets of DATA came.
+pub keeps_octets : WindowsHold by_whole windows.declared_five → ⊥
+keeps_octets c = let back = c.gives_back refl in let clash : 65530 ≡ 65535 = ap nat_abs back.shared in omega (arith, clash)
+
+-- It counts DATA without its padding: three of five octets are given back too little.
+pub without_padding : WindowsHold by_whole (out (update 0 2) ∷ plain (frame 0 9 1 (2 ∷ 104 ∷ 105 ∷ 0 ∷ 0 ∷ [])) ∷ headed (frame 1 4 1 post_block) post ∷ begun) → ⊥
+without_padding c = let back = c.gives_back refl in let clash : 65532 ≡ 65535 = ap nat_abs back.shared in omega (arith, clash)
+
+-- It doesn't give back the octets of a stream that it reset.
+pub lost_octets : WindowsHold by_streaming (out (rst_stream 1 stream_closed) ∷ plain (frame 0 0 1 (120 ∷ [])) ∷ got) → ⊥
+lost_octets c = let back = c.gives_back refl in let clash : 65534 ≡ 65535 = ap nat_abs back.shared in omega (arith, clash)
+
+-- It ignores a first size that was lowered: the window is seven below zero.
+pub past_window : WindowsHold by_whole (out (frame 0 0 1 (codes "klmno")) ∷ windows.lowered) → ⊥
+past_window c = let within = c.keeps.0 refl (omega arith) in let clash : pos 5 ≤ℤ negsuc 6 = within.own in omega (arith, clash)
+
+-- It waits for a whole request that it is to pass on as it comes: no connection was given to the stream.
+pub waits_for_all : AllStreamed by_streaming windows.declared_five → ⊥
+unfolding total_size
+waits_for_all c = let given = c refl 1 (post ++ field (codes "content-length") (codes "5") ∷ []) refl refl refl in given.given.is_opened
+
+-- It closes an upstream once the request is sent: nothing is done with.
+pub closes_at_once : ProgressHolds by_whole [] (Did (Close 1) ∷ got) → ⊥
+unfolding total_size
+closes_at_once c = let done = c.closes.1 in of_opened done.o done.is_opened done.reason
+  where
+    none : Reason by_whole (Did (Close 1) ∷ got) (record { k = 1; route = 0; stream = 1 }) → ⊥
+    none (Over e) = let clash : true ≡ false = e in cc
+    none (Complete whole) = nothing_complete false false whole
+    none (Ended e) = let clash : false ≡ true = e in cc
+    none (Answered found e) = let clash : ◌≡◌ {A = Option Cause} None (Some found) = e in cc
+    none (ClientClosed e) = let clash : false ≡ true = e in cc
+
+    of_opened : (o : Opened) → IsIn o (opens (Did (Close 1) ∷ got)) → Reason by_whole (Did (Close 1) ∷ got) o → ⊥
+    of_opened o (inl same) reason = none (subst (λ p. Reason by_whole (Did (Close 1) ∷ got) p) same reason)
+    of_opened o (inr more) reason = absurd more
+
+-- It drops a block undecoded whose stream was reset before: no error of the connection came before it.
+pub undecoded : (known : Known) (text : List ℕ) → IsTold known text (Came (record { frame = frame 1 5 1 (190 ∷ []); note = Unread }) ∷ out (rst_stream 1 stream_closed) ∷ headed (frame 1 4 1 post_block) post ∷ begun) → ⊥
+undecoded known text told = let clash : false ≡ true = told.others_are_read.0 in cc
+
+-- It never advances its own table: a field that stands in the client's table is inserted again.
+abbrev pub inserted : Table
+inserted = record { fields = field_of (codes "x-a") (codes "1") ∷ []; maximum = 4096 }
+
+stands_there : look_up inserted 62 ≡ Some (field_of (codes "x-a") (codes "1"))
+unfolding static_table
+stands_there = refl
+
+pub inserted_again : (octets : List ℕ) (next : Table) → IsWritten inserted (64 ∷ octets) (field_of (codes "x-a") (codes "1")) next → ⊥
+inserted_again octets next (inl indexed) = let marked : 0 ≡ 1 = indexed.indexed.marked.marked in omega (arith, marked)
+inserted_again octets next (inr (inl goes_in)) = goes_in.absent 62 stands_there
+inserted_again octets next (inr (inr stays_out)) = stays_out.absent 62 stands_there
+
+-- It serves one stream twice while another is ready.
+pub unfair : (known : Known) (t stretch : List Entry) (waits other : ℕ) → StaysReady known waits t stretch → turns_on waits stretch ≡ 0 → turns_on other stretch ≡ 2 → AreFair known (stretch ++ t) → ⊥
+unfair known t stretch waits other ready none two fair = let one = fair [] stretch t refl waits other ready none in omega (arith, one, two)

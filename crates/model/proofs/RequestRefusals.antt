@@ -1,0 +1,82 @@
+-- Gateways that send upstream what they shouldn't.
+use Rattle.std.proofs.Common.{◌≡◌, ℕ, Bool, true, false, ◌||◌, ◌==◌, List, [], ◌∷◌, ◌++◌, length, append-nil, append_assoc, refl, sym, ap, ◌∙◌, inl, inr, if◌then◌else◌}
+use Rattle.std.specs.Prelude.{Option, Some, None, is_some}
+use Rattle.std.proofs.lemmas.Bool.Decides.{eqb_tells}
+use Rattle.model.specs.Messages.{Item}
+use Rattle.model.specs.Frames.{headers_kind}
+use Rattle.model.specs.Http2.{HasHead}
+use Rattle.model.specs.Tapes.{Noted, Entry, came, sent_up}
+use Rattle.model.specs.Tapes.Entry.{Came}
+use Rattle.model.specs.Decoding.{Partial, completed}
+use Rattle.model.specs.StreamStates.{verdict}
+use Rattle.model.specs.StreamStates.Standing.{Beyond}
+use Rattle.model.specs.Errors.{Fault, first_of}
+use Rattle.model.specs.Errors.Fault.{Connection, Stream, Discarded}
+use Rattle.model.specs.Streams.{is_ended_by, is_reset, items_of}
+use Rattle.model.specs.Requests.{Opened}
+use Rattle.model.specs.Known.{Known}
+use Rattle.model.specs.Lifetimes.{active, standing_on}
+use Rattle.model.specs.ErrorTable.{Carried, fault_of, fault_on, judged, unless_of_stream, row_closed, rows_before_block, rows_behind_block, fault_with, row_block, row_stream_update, row_stream_data, row_refused, row_malformed}
+use Rattle.model.specs.Courses.{course, carried, items, interrupts, new_cause}
+use Rattle.model.specs.RequestClause.{IsServed}
+use Rattle.model.proofs.Http1Examples.{both_lines, both_framings}
+
+-- Whatever the tape, a connection that was sent both framing lines is refused, on an unfinished stream as on a whole one.
+pub both_framing_lines : (known : Known) (t : List Entry) (o : Opened) → sent_up o.k t ≡ both_lines → IsServed known t o → ⊥
+both_framing_lines known t o sent s = elim s.sent [
+  | inl whole ↦ (let r = whole.reads in let one = r.are_requests in absurd (both_framings [] one.0 (one.1 ++ []) _ one.2 (append-nil both_lines ∙ sym sent ∙ r.is ∙ ap (λ x. x ++ []) one.3 ∙ append_assoc one.0 one.1 [])))
+  | inr part ↦ (let may = part.some in let more = part.goes_on may.0 may.1 in absurd (both_framings (more.2.next ∷ more.2.rest) more.0 [] _ more.1 (ap (λ x. x ++ more.2.next ∷ more.2.rest) (sym sent) ∙ sym more.2.is ∙ sym (append-nil more.0))))
+]
+
+-- A connection that was given to a stream without items is refused.
+pub without_items : (known : Known) (t : List Entry) (o : Opened) → items known o.stream t ≡ [] → IsServed known t o → ⊥
+without_items known t o none s = at (items known o.stream t) none s.has_head
+  where
+    at : (list : List Item) → list ≡ [] → HasHead list s.head → ⊥
+    at [] e h = h
+    at (item ∷ list) e h = cc
+
+-- ---- a stream above the last id that was announced
+
+behind_rows : (before behind : List (Option Fault)) → (found : Fault) × (first_of behind ≡ Some found) → (found : Fault) × (first_of (before ++ behind) ≡ Some found)
+behind_rows [] behind f = f
+behind_rows (None ∷ before) behind f = behind_rows before behind f
+behind_rows (Some fault ∷ before) behind f = (fault, refl)
+
+-- A header block on such an id is a fault, whatever else is wrong: none, one of the connection, or nothing comes of it.
+is_fault : (kept : Carried) (t : List Entry) (noted : Noted) (block : Partial) → completed (came t) noted.frame ≡ Some block → standing_on t noted.frame.id ≡ Beyond → (found : Fault) × (fault_with kept t (Came noted) ≡ Some found)
+is_fault kept t noted block whole above =
+    behind_rows (rows_before_block t (Came noted)) (rows_behind_block kept t (Came noted)) (behind (row_block t (Came noted)))
+  where
+    closed : row_closed t (Came noted) ≡ Some Discarded
+    closed =
+        ap (λ p. unless_of_stream (fault_on t noted.frame.id (judged p noted.frame))) whole
+        ∙ ap (λ s. unless_of_stream (fault_of (verdict (length (active t)) s headers_kind))) above
+
+    behind : (first : Option Fault) → (found : Fault) × (first_of (first ∷ row_closed t (Came noted) ∷ row_stream_update t (Came noted) ∷ row_stream_data t (Came noted) ∷ row_refused t (Came noted) ∷ row_malformed kept t (Came noted) ∷ []) ≡ Some found)
+    behind (Some fault) = (fault, refl)
+    behind None = (Discarded, ap (λ r. first_of (r ∷ row_stream_update t (Came noted) ∷ row_stream_data t (Came noted) ∷ row_refused t (Came noted) ∷ row_malformed kept t (Came noted) ∷ [])) closed)
+
+-- any fault on a stream ends its items
+ends_items : (found : Fault) → is_ended_by true (Some found) ≡ true
+ends_items (Connection code) = refl
+ends_items (Stream code) = refl
+ends_items Discarded = refl
+
+same_id : (n : ℕ) → (n == n) ≡ true
+same_id n = elim (eqb_tells n n) [ inl same ↦ same.0 | inr apart ↦ absurd (apart.1 refl) ]
+
+either : (b i : Bool) → i ≡ true → (b || i) ≡ true
+either true i e = refl
+either false i e = e
+
+-- It brings its stream no item, so no connection may be given to that.
+pub above_last : (known : Known) (t : List Entry) (noted : Noted) (block : Partial) → completed (came t) noted.frame ≡ Some block → standing_on t noted.frame.id ≡ Beyond → items known noted.frame.id t ≡ [] → items known noted.frame.id (Came noted ∷ t) ≡ []
+above_last known t noted block whole above none =
+    let before = course known noted.frame.id t in
+    let found = fault_with (carried before) t (Came noted) in
+    let cause = new_cause known noted.frame.id t (Came noted) before found in
+    let f = is_fault (carried before) t noted block whole above in
+    let ended : is_ended_by (noted.frame.id == noted.frame.id) found ≡ true = ap (λ b. is_ended_by b found) (same_id noted.frame.id) ∙ ap (is_ended_by true) f.1 ∙ ends_items f.0 in
+    let stops : interrupts noted.frame.id (Came noted) found cause ≡ true = ap (λ b. b || is_reset noted.frame.id (Came noted) || is_some cause) ended in
+    ap (λ b. if b then before.items else before.items ++ items_of noted.frame.id t (Came noted)) (either before.over (interrupts noted.frame.id (Came noted) found cause) stops) ∙ none

@@ -1,0 +1,152 @@
+-- The clause on errors: which frames the gateway sends beside its responses and the octets that it gives back, and when it ends
+-- the connection (RFC 9113, sections 3.4, 5.4, 6.4, 6.5, 6.7 and 6.8). What is owed is read off the tape, and what was sent is
+-- just that: always there, in its order, and nothing else.
+use Rattle.std.specs.Prelude.{◌≡◌, ℕ, Bool, true, false, not, ◌&&◌, ◌||◌, ◌==◌, nat_lt, if◌then◌else◌, List, [], ◌∷◌, ◌++◌, length, map, filter, reverse, Option, Some, None}
+use Rattle.model.specs.Frames.{Frame, data_kind, headers_kind, rst_stream_kind, ping_kind, window_update_kind, continuation_kind, is_ack, spell_number, settings_frame, settings_ack, goaway, no_error}
+use Rattle.model.specs.Logs.Event.{ClientEnd}
+use Rattle.model.specs.Tapes.{Noted, Entry, sent, is_closed}
+use Rattle.model.specs.Tapes.Entry.{Came, Breached, Happened, Sent, Did}
+use Rattle.model.specs.Decoding.{completed}
+use Rattle.model.specs.StreamStates.{most_streams}
+use Rattle.model.specs.Errors.{Fault}
+use Rattle.model.specs.Errors.Fault.{Connection, Stream}
+use Rattle.model.specs.Known.{Known}
+use Rattle.model.specs.Lifetimes.{opened, highest, ends_by, is_ended_by_client, is_ended_by_gateway, is_active, is_spent}
+use Rattle.model.specs.WindowsOnTape.{has_settings, increment}
+use Rattle.model.specs.Causes.{Cause, reset_code}
+use Rattle.model.specs.Courses.{course, about, fault}
+
+-- ---- what is owed
+
+-- the reset of a stream (section 6.4), and the answer to a PING (section 6.7)
+abbrev pub rst_stream : ℕ → ℕ → Frame
+rst_stream stream code = record { kind = rst_stream_kind; flags = 0; id = stream; payload = spell_number code }
+
+abbrev pub ping_ack : List ℕ → Frame
+ping_ack octets = record { kind = ping_kind; flags = 1; id = 0; payload = octets }
+
+-- the farewell that the last stream calls for which a connection may have: an entry opens it
+abbrev pub last_farewell : List Entry → Entry → List Frame
+last_farewell t e =
+    if nat_lt (length (opened t)) most_streams && length (opened (e ∷ t)) == most_streams
+    then goaway (highest (e ∷ t)) no_error ∷ []
+    else []
+
+-- What an entry calls for before all else: that farewell, and by its fault the reset of its stream, or the farewell with the
+-- highest stream that was opened.
+abbrev pub owed_first : List Entry → Entry → Option Fault → List Frame
+owed_first t e (Some (Connection code)) = goaway (highest t) code ∷ []
+owed_first t e (Some (Stream code)) = last_farewell t e ++ rst_stream (about t e) code ∷ []
+owed_first t e _ = last_farewell t e
+
+-- the acknowledgement of settings, and the answer to a PING, that are no error
+abbrev pub acks : Entry → Option Fault → List Frame
+acks (Came noted) None =
+    if has_settings noted.frame
+    then settings_ack ∷ []
+    else (if noted.frame.kind == ping_kind && not (is_ack noted.frame) then ping_ack noted.frame.payload ∷ [] else [])
+acks e _ = []
+
+-- the reset of a stream by a cause of a reply of the gateway's own, where a response's final head is out
+abbrev pub reset_with : ℕ → Option ℕ → List Frame
+reset_with stream None = []
+reset_with stream (Some code) = rst_stream stream code ∷ []
+
+abbrev pub reset_for : ℕ → Bool → Option Cause → Option Cause → List Frame
+reset_for stream true None (Some cause) = reset_with stream (reset_code cause)
+reset_for stream _ _ _ = []
+
+abbrev pub resets : Known → ℕ → List Entry → Entry → List Frame
+resets known stream t e =
+    let now = course known stream (e ∷ t) in reset_for stream now.head_out (course known stream t).cause now.cause
+
+-- the reset behind a response that ends before its request
+abbrev pub reset_behind : List Entry → Entry → List Frame
+reset_behind t (Sent noted) =
+    if ends_by (completed (sent t) noted.frame) noted.frame && not (is_ended_by_client noted.frame.id t)
+    then rst_stream noted.frame.id no_error ∷ []
+    else []
+reset_behind t _ = []
+
+-- what an entry calls for, the oldest first
+abbrev pub owed_by : Known → List Entry → Entry → List Frame
+owed_by known t e =
+    let found = fault known t e in owed_first t e found ++ acks e found ++ resets known (about t e) t e ++ reset_behind t e
+
+-- What all entries call for, the newest first: the gateway's settings come before anything else.
+abbrev pub owed : Known → List Entry → List Frame
+owed known [] = settings_frame ∷ []
+owed known (e ∷ t) = reverse (owed_by known t e) ++ owed known t
+
+-- ---- what was sent
+
+-- a part of a response, or octets given back
+abbrev pub is_passing : Noted → Bool
+is_passing noted =
+    noted.frame.kind == data_kind || noted.frame.kind == headers_kind || noted.frame.kind == continuation_kind || noted.frame.kind == window_update_kind
+
+-- all other frames, the newest first
+abbrev pub controls : List Noted → List Frame
+controls frames = map (λ noted. noted.frame) (filter (λ noted. not (is_passing noted)) frames)
+
+-- The frames behind an entry, the newest first, begin with what it calls for before all else; behind an error of the connection
+-- its farewell is all that is sent.
+abbrev pub IsAnswered : List Frame → List Frame → Option Fault → Type 0
+IsAnswered frames first (Some (Connection code)) = frames ≡ first
+IsAnswered frames first _ = (newer : List Frame) × (frames ≡ newer ++ reverse first)
+
+-- Each entry of the tape is answered so, where these frames were sent behind it.
+abbrev pub AreAnswered : Known → List Frame → List Entry → Type 0
+AreAnswered known frames [] = Unit {0}
+AreAnswered known frames (Sent noted ∷ t) = AreAnswered known (frames ++ noted.frame ∷ []) t
+AreAnswered known frames (e ∷ t) =
+    IsAnswered frames (owed_first t e (fault known t e)) (fault known t e) × AreAnswered known frames t
+
+-- A part of a response goes to an active stream that the gateway hasn't ended. Octets are given back, one or more, to the
+-- connection, or to an active stream that the client hasn't ended (section 5.1).
+abbrev pub is_rightly_sent : List Entry → Frame → Bool
+is_rightly_sent t frame =
+    if frame.kind == window_update_kind
+    then (length frame.payload == 4 && nat_lt 0 (increment frame) && (frame.id == 0 || is_active frame.id t && not (is_ended_by_client frame.id t)))
+    else (is_active frame.id t && not (is_ended_by_gateway frame.id t))
+
+abbrev pub AreRightlySent : List Entry → Type 0
+AreRightlySent [] = Unit {0}
+AreRightlySent (Sent noted ∷ t) = ((not (is_passing noted) || is_rightly_sent t noted.frame) ≡ true) × AreRightlySent t
+AreRightlySent (_ ∷ t) = AreRightlySent t
+
+-- ---- the end of the connection
+
+abbrev pub is_fatal : Option Fault → Bool
+is_fatal (Some (Connection code)) = true
+is_fatal _ = false
+
+-- The last that came in calls for the end: the client has gone, or an error of the connection.
+abbrev pub calls_for_end : Known → List Entry → Bool
+calls_for_end known [] = false
+calls_for_end known (Came noted ∷ t) = is_fatal (fault known t (Came noted))
+calls_for_end known (Breached breach ∷ t) = true
+calls_for_end known (Happened ClientEnd ∷ t) = true
+calls_for_end known (Happened event ∷ t) = false
+calls_for_end known (_ ∷ t) = calls_for_end known t
+
+-- The connection is to end: so, or since no stream is left, nor may one be opened.
+abbrev pub must_end : Known → List Entry → Bool
+must_end known t = calls_for_end known t || is_spent t
+
+-- Nothing comes in where the connection is to end.
+abbrev pub EndsInTime : Known → List Entry → Type 0
+EndsInTime known [] = Unit {0}
+EndsInTime known (Sent noted ∷ t) = EndsInTime known t
+EndsInTime known (Did act ∷ t) = EndsInTime known t
+EndsInTime known (e ∷ t) = (must_end known t ≡ false) × EndsInTime known t
+
+-- The first frame is the gateway's settings. Beside parts of responses and octets given back, just what is owed was sent, and
+-- what an entry calls for before all else came next. The client is closed just where the connection is to end.
+pub record ErrorsHold (known : Known) (t : List Entry) : Type 0 where
+  pub begins : (newer : List Frame) × (map (λ noted. noted.frame) (sent t) ≡ newer ++ settings_frame ∷ [])
+  pub just_owed : controls (sent t) ≡ owed known t
+  pub answered : AreAnswered known [] t
+  pub rightly_sent : AreRightlySent t
+  pub closed : is_closed t ≡ must_end known t
+  pub in_time : EndsInTime known t

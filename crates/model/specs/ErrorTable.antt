@@ -1,0 +1,201 @@
+-- The error table: what an entry of the tape is answered with that isn't as it should be (RFC 9113, section 5.4). Each case is a
+-- row of its own, and the first row that applies decides. DATA, RST_STREAM and WINDOW_UPDATE are judged when they came, and
+-- HEADERS when the header block that they begin is whole. Another case is another row.
+use Rattle.std.specs.Prelude.{ℕ, Bool, true, false, not, ◌&&◌, ◌||◌, ◌==◌, if◌then◌else◌, List, [], ◌∷◌, ◌++◌, length, Option, Some, None, option_map, ℤ, pos, ◌+ℤ◌, int_lt}
+use Rattle.model.specs.Messages.{Item}
+use Rattle.model.specs.Frames.{Frame, data_kind, headers_kind, rst_stream_kind, window_update_kind, ends_stream, content, protocol_error, flow_control_error, compression_error}
+use Rattle.model.specs.Tapes.{Note, Noted, Entry, came}
+use Rattle.model.specs.Tapes.Note.{Fields, Undecodable}
+use Rattle.model.specs.Tapes.Entry.{Came}
+use Rattle.model.specs.Decoding.{Partial, completed}
+use Rattle.model.specs.SettingValues.{settings_in, settings_fault, code_of_fault, initial_window_after}
+use Rattle.model.specs.StreamStates.{Standing, Verdict, verdict}
+use Rattle.model.specs.StreamStates.Standing.{Idle, ServerIdle}
+use Rattle.model.specs.StreamStates.Verdict.{Fails}
+use Rattle.model.specs.Errors.{Fault, row_start, row_too_long, first_of}
+use Rattle.model.specs.Errors.Fault.{Connection, Stream}
+use Rattle.model.specs.Lifetimes.{active, is_active, standing_on}
+use Rattle.model.specs.FrameErrors.{fault_if, row_between, row_long_block, row_misplaced, row_payload}
+use Rattle.model.specs.WindowsOnTape.{increment, is_past, shifts_past, has_settings, first_size, stream_window, connection_window, room_on, room_on_connection}
+use Rattle.model.specs.Causes.{are_large}
+use Rattle.model.specs.Malformed.{is_malformed_block, is_malformed_content}
+
+-- ---- settings and windows
+
+-- the values of settings (section 6.5.2)
+abbrev pub row_settings : List Entry → Entry → Option Fault
+row_settings t (Came noted) =
+    if has_settings noted.frame then option_map (λ fault. Connection (code_of_fault fault)) (settings_fault noted.frame.payload) else None
+row_settings t _ = None
+
+-- a first size that makes a stream's window too large (section 6.9.2)
+abbrev pub row_shift : List Entry → Entry → Option Fault
+row_shift t (Came noted) =
+    fault_if (has_settings noted.frame && shifts_past (initial_window_after (first_size t) (settings_in noted.frame.payload)) t) (Connection flow_control_error)
+row_shift t _ = None
+
+-- the frame grants octets by an increment
+abbrev pub grants : Frame → Bool
+grants frame = frame.kind == window_update_kind
+
+-- an increment of 0, and one that makes this window too large (sections 6.9 and 6.9.1)
+abbrev pub grants_nothing : Frame → Bool
+grants_nothing frame = grants frame && increment frame == 0
+
+abbrev pub grants_past : ℤ → Frame → Bool
+grants_past window frame = grants frame && is_past (window +ℤ pos (increment frame))
+
+-- an increment of the connection's window
+abbrev pub row_connection_update : List Entry → Entry → Option Fault
+row_connection_update t (Came noted) =
+    first_of (
+    fault_if (noted.frame.id == 0 && grants_nothing noted.frame) (Connection protocol_error)
+    ∷ fault_if (noted.frame.id == 0 && grants_past (connection_window t) noted.frame) (Connection flow_control_error)
+    ∷ []
+    )
+row_connection_update t _ = None
+
+-- DATA for which there is no room (section 6.9.1)
+abbrev pub is_over : ℤ → Frame → Bool
+is_over room frame = frame.kind == data_kind && int_lt room (pos (length frame.payload))
+
+-- DATA over the connection's window
+abbrev pub row_connection_data : List Entry → Entry → Option Fault
+row_connection_data t (Came noted) = fault_if (is_over (room_on_connection t) noted.frame) (Connection flow_control_error)
+row_connection_data t _ = None
+
+-- an increment of an active stream's window
+abbrev pub row_stream_update : List Entry → Entry → Option Fault
+row_stream_update t (Came noted) =
+    first_of (
+    fault_if (is_active noted.frame.id t && grants_nothing noted.frame) (Stream protocol_error)
+    ∷ fault_if (is_active noted.frame.id t && grants_past (stream_window noted.frame.id t) noted.frame) (Stream flow_control_error)
+    ∷ []
+    )
+row_stream_update t _ = None
+
+-- DATA over an active stream's window
+abbrev pub row_stream_data : List Entry → Entry → Option Fault
+row_stream_data t (Came noted) =
+    fault_if (is_active noted.frame.id t && is_over (room_on noted.frame.id t) noted.frame) (Stream flow_control_error)
+row_stream_data t _ = None
+
+-- ---- header blocks that can't be read (section 4.3)
+
+abbrev pub is_undecodable : Note → Bool
+is_undecodable Undecodable = true
+is_undecodable _ = false
+
+abbrev pub row_block : List Entry → Entry → Option Fault
+row_block t (Came noted) = fault_if (is_undecodable noted.note) (Connection compression_error)
+row_block t _ = None
+
+-- ---- the standing of a frame's stream
+
+-- The type that a frame is judged as: HEADERS where it completes a header block, and none where its stream doesn't matter.
+abbrev pub judged : Option Partial → Frame → Option ℕ
+judged (Some block) frame = Some headers_kind
+judged None frame =
+    if frame.kind == data_kind || frame.kind == rst_stream_kind || grants frame then Some frame.kind else None
+
+abbrev pub fault_of : Verdict → Option Fault
+fault_of (Fails fault) = Some fault
+fault_of _ = None
+
+-- what comes of a type on a stream (section 5.1), by the streams so far
+abbrev pub fault_on : List Entry → ℕ → Option ℕ → Option Fault
+fault_on t id None = None
+fault_on t id (Some kind) = fault_of (verdict (length (active t)) (standing_on t id) kind)
+
+-- what comes of a frame
+abbrev pub fault_by_standing : List Entry → Noted → Option Fault
+fault_by_standing t noted = fault_on t noted.frame.id (judged (completed (came t) noted.frame) noted.frame)
+
+abbrev pub is_idle : Standing → Bool
+is_idle Idle = true
+is_idle ServerIdle = true
+is_idle _ = false
+
+abbrev pub is_headers : Option ℕ → Bool
+is_headers None = false
+is_headers (Some kind) = kind == headers_kind
+
+-- anything but HEADERS on an idle stream
+abbrev pub row_idle : List Entry → Entry → Option Fault
+row_idle t (Came noted) =
+    if is_idle (standing_on t noted.frame.id) && not (is_headers (judged (completed (came t) noted.frame) noted.frame))
+    then fault_by_standing t noted
+    else None
+row_idle t _ = None
+
+-- the fault, unless it is one of the stream
+abbrev pub unless_of_stream : Option Fault → Option Fault
+unless_of_stream (Some (Stream code)) = None
+unless_of_stream found = found
+
+-- HEADERS on a skipped id, whatever comes on a stream that is closed, and what is above the last id of a GOAWAY
+abbrev pub row_closed : List Entry → Entry → Option Fault
+row_closed t (Came noted) = unless_of_stream (fault_by_standing t noted)
+row_closed t _ = None
+
+-- DATA and HEADERS behind the client's end of the stream, and a stream past the most that may be active
+abbrev pub row_refused : List Entry → Entry → Option Fault
+row_refused t (Came noted) = fault_by_standing t noted
+row_refused t _ = None
+
+-- ---- what is no request
+
+-- What a stream carries so far, and whether it waits for a reply of the gateway's own.
+pub record Carried : Type 0 where
+  pub items : List Item
+  pub waits : Bool
+
+-- the header block behind the items is malformed; one that is too large is answered, whatever it says
+abbrev pub is_bad_block : List Item → Bool → Note → Bool
+is_bad_block items ends (Fields fields) = not (are_large fields) && is_malformed_block items fields ends
+is_bad_block items ends _ = false
+
+-- a frame brings its stream what is no request
+abbrev pub is_malformed : List Item → Option Partial → Noted → Bool
+is_malformed items (Some block) noted = is_bad_block items block.ends noted.note
+is_malformed items None noted =
+    noted.frame.kind == data_kind && is_malformed_content items (content noted.frame) (ends_stream noted.frame)
+
+-- malformed messages (section 8.1.1); what comes behind a reply of the gateway's own isn't judged
+abbrev pub row_malformed : Carried → List Entry → Entry → Option Fault
+row_malformed carried t (Came noted) =
+    fault_if (not carried.waits && is_malformed carried.items (completed (came t) noted.frame) noted) (Stream protocol_error)
+row_malformed carried t _ = None
+
+-- ---- the table
+
+-- the rows that are judged before a header block is read
+abbrev pub rows_before_block : List Entry → Entry → List (Option Fault)
+rows_before_block t e =
+    row_start t e
+    ∷ row_too_long t e
+    ∷ row_between t e
+    ∷ row_long_block t e
+    ∷ row_misplaced t e
+    ∷ row_payload t e
+    ∷ row_settings t e
+    ∷ row_shift t e
+    ∷ row_connection_update t e
+    ∷ row_idle t e
+    ∷ row_connection_data t e
+    ∷ []
+
+-- the rows that are judged when it is, by what the entry's stream carries
+abbrev pub rows_behind_block : Carried → List Entry → Entry → List (Option Fault)
+rows_behind_block carried t e =
+    row_block t e
+    ∷ row_closed t e
+    ∷ row_stream_update t e
+    ∷ row_stream_data t e
+    ∷ row_refused t e
+    ∷ row_malformed carried t e
+    ∷ []
+
+-- the fault of an entry behind a tape, where its stream carries this
+abbrev pub fault_with : Carried → List Entry → Entry → Option Fault
+fault_with carried t e = first_of (rows_before_block t e ++ rows_behind_block carried t e)

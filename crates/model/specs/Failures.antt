@@ -1,0 +1,59 @@
+-- At which events an upstream's answer fails (RFC 9110, section 15.6.3): where it may be given up, and where it must be.
+use Rattle.std.specs.Prelude.{◌≡◌, ℕ, ◌<◌, Bool, true, false, ◌⊎◌, List, [], ◌∷◌, length, Option}
+use Rattle.model.specs.Logs.{Event}
+use Rattle.model.specs.Logs.Event.{Up, UpEnd, UpFailed}
+use Rattle.model.specs.Setup.Passing.{Whole}
+use Rattle.model.specs.Tapes.{Entry}
+use Rattle.model.specs.Tapes.Entry.{Happened}
+use Rattle.model.specs.ResponseHeads.{Head}
+use Rattle.model.specs.Responses.{IsComplete, IsSpoilt, Seen, IsPlainlyBad}
+use Rattle.model.specs.Requests.{opens}
+use Rattle.model.specs.Available.{heard}
+use Rattle.model.specs.Known.{Known, fails_behind}
+use Rattle.model.specs.Courses.{items, given}
+use Rattle.model.specs.Offers.{is_to_head}
+
+-- the request that a connection was given has the method HEAD
+abbrev pub is_asked_for_head : Known → ℕ → List Entry → Bool
+is_asked_for_head known k t = is_to_head (items known (given k (opens t)) t)
+
+-- Where responses are passed on whole, more octets of a body stand there than the gateway keeps (this project's profile).
+pub record IsTooLong (known : Known) (text : List ℕ) (to_head : Bool) : Type 0 where
+  pub whole : known.setup.passing ≡ Whole
+  pub interims : List Head
+  pub head : Option Head
+  pub octets : List ℕ
+  pub seen : Seen text to_head interims head octets
+  pub over : known.setup.max_response < length octets
+
+-- The octets so far can't be an answer any more, or are too long.
+abbrev pub IsBroken : Known → List ℕ → Bool → Type 0
+IsBroken known text to_head = IsSpoilt text to_head ⊎ IsTooLong known text to_head
+
+-- The same, where it has to be noticed at once.
+abbrev pub IsPlainlyBroken : Known → List ℕ → Bool → Type 0
+IsPlainlyBroken known text to_head = IsPlainlyBad text to_head ⊎ IsTooLong known text to_head
+
+-- An event with which an answer may be given up: octets that break it, the connection's end where it makes no whole response,
+-- the connection's failure.
+abbrev pub MayFail : Known → List Entry → Event → Type 0
+MayFail known t (Up k piece) = IsBroken known (heard k (Happened (Up k piece) ∷ t)) (is_asked_for_head known k t)
+MayFail known t (UpEnd k) = IsComplete (heard k t) true (is_asked_for_head known k t) → ⊥
+MayFail known t (UpFailed k) = Unit {0}
+MayFail known t event = ⊥
+
+-- An event with which it must be.
+abbrev pub MustFail : Known → List Entry → Event → Type 0
+MustFail known t (Up k piece) = IsPlainlyBroken known (heard k (Happened (Up k piece) ∷ t)) (is_asked_for_head known k t)
+MustFail known t event = MayFail known t event
+
+-- The event is one with which an answer failed, or not, as is known of it.
+abbrev pub IsTold : Known → List Entry → Event → Bool → Type 0
+IsTold known t event true = MayFail known t event
+IsTold known t event false = MustFail known t event → ⊥
+
+-- What is known of failures is right at each event of the tape.
+abbrev pub AreTold : Known → List Entry → Type 0
+AreTold known [] = Unit {0}
+AreTold known (Happened event ∷ t) = IsTold known t event (fails_behind known t) × AreTold known t
+AreTold known (_ ∷ t) = AreTold known t

@@ -1,0 +1,71 @@
+-- Which logs keep the headline: for any octets of the client and of upstreams, however cut and interleaved, what each upstream
+-- connection was sent reads, by HTTP/1.1, as just the request that its stream means by HTTP/2; each response that the client
+-- reads complete means its stream's upstream response, or a reply of the gateway's own whose cause occurred; each fault gets its
+-- error, and no faulty stream becomes a request; nothing that is due waits but for room. `Faithful` is the part of it that `run`
+-- is proved of so far.
+use Rattle.std.specs.Prelude.{◌≡◌, ℕ, Bool, not, ◌&&◌, List, [], ◌∷◌, ◌++◌, reverse, is_some}
+use Rattle.model.specs.Tables.{Table}
+use Rattle.model.specs.Logs.{Step, client_in}
+use Rattle.model.specs.Setup.{Setup}
+use Rattle.model.specs.Tapes.{Noted, Entry, came, EndsWithClose, IsStep, IsRead}
+use Rattle.model.specs.Tapes.Entry.{Came}
+use Rattle.model.specs.Decoding.{completed, Decodes, is_read}
+use Rattle.model.specs.Errors.{first_of}
+use Rattle.model.specs.Known.{Known}
+use Rattle.model.specs.ErrorTable.{rows_before_block}
+use Rattle.model.specs.Failures.{AreTold}
+use Rattle.model.specs.Rooms.{IsAdmitted}
+use Rattle.model.specs.RequestClause.{RequestsHold}
+use Rattle.model.specs.ResponseClause.{ResponsesHold}
+use Rattle.model.specs.ErrorClause.{ErrorsHold}
+use Rattle.model.specs.ProgressClause.{ProgressHolds}
+use Rattle.model.specs.WindowClause.{WindowsHold}
+
+-- The five clauses at the end of a step, which added this segment to the tape before it.
+pub record ClausesHold (known : Known) (before segment : List Entry) : Type 0 where
+  pub requests : RequestsHold known (segment ++ before)
+  pub responses : ResponsesHold known (segment ++ before)
+  pub errors : ErrorsHold known (segment ++ before)
+  pub progress : ProgressHolds known before segment
+  pub windows : WindowsHold known (segment ++ before)
+
+-- the frame completes a header block, and is an error of the connection before the block is read
+abbrev pub is_unread : List Entry → Noted → Bool
+is_unread t noted = is_some (completed (came t) noted.frame) && is_some (first_of (rows_before_block t (Came noted)))
+
+-- Just such blocks aren't read.
+abbrev pub OthersAreRead : List Entry → Type 0
+OthersAreRead [] = Unit {0}
+OthersAreRead (Came noted ∷ t) = (is_read noted.note ≡ not (is_unread t noted)) × OthersAreRead t
+OthersAreRead (_ ∷ t) = OthersAreRead t
+
+-- A tape tells the octets that the client sent so far: its frames are read off them, and what is noted of their blocks, and
+-- known of upstreams' failures, is right. Nothing comes behind the client's close.
+pub record IsTold (known : Known) (text : List ℕ) (t : List Entry) : Type 0 where
+  pub read : IsRead text t
+  pub table : Table
+  pub decodes : Decodes (came t) table
+  pub others_are_read : OthersAreRead t
+  pub failures : AreTold known t
+  pub ends : EndsWithClose t
+
+-- The step, behind the steps before it, has this segment of the tape: its event might come, the segment is the step's, the
+-- tape tells all that the client sent, and the clauses hold.
+pub record IsTaped (known : Known) (earlier : List Step) (step : Step) (before segment : List Entry) : Type 0 where
+  pub admitted : IsAdmitted known before step.event
+  pub step_is : IsStep step segment
+  pub told : IsTold known (client_in (step ∷ earlier)) (segment ++ before)
+  pub clauses : ClausesHold known before segment
+
+-- The steps, the newest first, have this tape, at the end of each.
+abbrev pub HasTape : Known → List Step → List Entry → Type 0
+HasTape known [] tape = tape ≡ []
+HasTape known (step ∷ earlier) tape =
+    (segment before : List Entry) × (tape ≡ segment ++ before) × IsTaped known earlier step before segment × HasTape known earlier before
+
+-- The log, the oldest step first, has a tape for which the clauses hold at the end of each step.
+pub record Headline (setup : Setup) (log : List Step) : Type 0 where
+  pub known : Known
+  pub of_setup : known.setup ≡ setup
+  pub tape : List Entry
+  pub has_tape : HasTape known (reverse log) tape

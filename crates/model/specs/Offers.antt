@@ -1,0 +1,63 @@
+-- What a stream is to be sent: what its upstream answered so far, or the gateway's own reply. Beside `Available`, which is the
+-- part of it that `run` is proved of so far, it knows the whole error table and the gateway's own replies.
+use Rattle.std.specs.Prelude.{◌≡◌, ℕ, Bool, true, false, ◌⊎◌, List, ◌∷◌, ◌++◌, Some, None}
+use Rattle.model.specs.Messages.{Item}
+use Rattle.model.specs.Messages.Item.{Block}
+use Rattle.model.specs.Tapes.{Entry, sent}
+use Rattle.model.specs.Requests.{Opened, opens}
+use Rattle.model.specs.Deliveries.{Delivery, nothing, ReadsAs, IsPartOf}
+use Rattle.model.specs.Available.{heard, has_ended, items_on, asks_for_head, IsIn, IsAnswered, IsBegun}
+use Rattle.model.specs.Known.{Known}
+use Rattle.model.specs.Causes.{Cause, reply}
+use Rattle.model.specs.Courses.{Course, course, items}
+
+-- the request of some items has the method HEAD (RFC 9110, section 9.3.2)
+abbrev pub is_to_head : List Item → Bool
+is_to_head (Block fields ends ∷ items) = asks_for_head fields
+is_to_head _ = false
+
+-- a connection that was given to the stream
+pub record IsGiven (t : List Entry) (stream : ℕ) (o : Opened) : Type 0 where
+  pub is_opened : IsIn o (opens t)
+  pub is_given : o.stream ≡ stream
+
+-- The gateway answers the stream itself: a cause came before the final head of any response was out. Its reply stands behind
+-- the interim heads that were sent.
+pub record IsReplied (known : Known) (t : List Entry) (stream : ℕ) (delivery : Delivery) : Type 0 where
+  pub cause : Cause
+  pub has_cause : (course known stream t).cause ≡ Some cause
+  pub head_not_out : (course known stream t).head_out ≡ false
+  pub read : Delivery
+  pub reads : ReadsAs (items_on stream (sent t)) read
+  pub says : delivery ≡ reply read.interims cause
+
+-- the stream has no reply of the gateway's own
+abbrev pub HasNoReply : Course → Type 0
+HasNoReply course = (course.cause ≡ None) ⊎ (course.head_out ≡ true)
+
+-- What the stream's connection has answered so far: all of a whole response, and of any other what may be passed on of it.
+pub record IsPassedOn (known : Known) (t : List Entry) (stream : ℕ) (delivery : Delivery) : Type 0 where
+  pub no_reply : HasNoReply (course known stream t)
+  pub o : Opened
+  pub given : IsGiven t stream o
+  pub answers : IsAnswered (heard o.k t) (has_ended o.k t) (is_to_head (items known stream t)) delivery
+      ⊎ IsBegun known.setup.passing (heard o.k t) (has_ended o.k t) (is_to_head (items known stream t)) delivery
+
+-- This is on offer for the stream.
+abbrev pub IsOffered : Known → List Entry → ℕ → Delivery → Type 0
+IsOffered known t stream delivery = IsReplied known t stream delivery ⊎ IsPassedOn known t stream delivery
+
+-- What has come on a stream is a front of what is on offer for it, or was at a place of the tape.
+pub record WasOffered (known : Known) (t : List Entry) (stream : ℕ) (delivery : Delivery) : Type 0 where
+  pub later : List Entry
+  pub earlier : List Entry
+  pub is : t ≡ later ++ earlier
+  pub source : Delivery
+  pub offered : IsOffered known earlier stream source
+  pub part : IsPartOf delivery source
+
+-- What the client reads on a stream is nothing, or was on offer for it.
+pub record IsDelivered (known : Known) (t : List Entry) (stream : ℕ) : Type 0 where
+  pub delivery : Delivery
+  pub reads : ReadsAs (items_on stream (sent t)) delivery
+  pub offered : (delivery ≡ nothing) ⊎ WasOffered known t stream delivery

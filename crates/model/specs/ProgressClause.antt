@@ -1,0 +1,139 @@
+-- The clause on progress: nothing is due that could go on, and upstream connections are closed where they are done with, and
+-- nowhere else.
+use Rattle.std.specs.Prelude.{◌≡◌, ℕ, ◌<◌, ◌≤◌, Bool, true, false, ◌&&◌, ◌==◌, if◌then◌else◌, List, [], ◌∷◌, ◌++◌, length, Some, codes, not}
+use Rattle.std.specs.List.{list_any, concat}
+use Rattle.model.specs.Octets.{IsFront, lower, Joined}
+use Rattle.model.specs.Messages.{Field, Request}
+use Rattle.model.specs.Http1.{H1Head, Head, Chunk, Chunked, H1Requests, values_of, forward}
+use Rattle.model.specs.Http2.{HasHead, H2Request, body_of}
+use Rattle.model.specs.Logs.Act.{Close}
+use Rattle.model.specs.Setup.{IsFirstMatch}
+use Rattle.model.specs.Setup.Passing.{Streaming}
+use Rattle.model.specs.Tapes.{Entry, came, sent_up, is_closed}
+use Rattle.model.specs.Tapes.Entry.{Came, Did}
+use Rattle.model.specs.Decoding.{completed}
+use Rattle.model.specs.Responses.{IsComplete}
+use Rattle.model.specs.Streams.{ends_with}
+use Rattle.model.specs.Admission.{untaken, is_open}
+use Rattle.model.specs.Requests.{Opened, opens, GoToOpen}
+use Rattle.model.specs.Available.{heard, has_ended, IsIn}
+use Rattle.model.specs.Known.{Known}
+use Rattle.model.specs.Lifetimes.{ends_by, is_active}
+use Rattle.model.specs.Causes.{Cause}
+use Rattle.model.specs.Courses.{items, cause}
+use Rattle.model.specs.Offers.{is_to_head, IsGiven}
+use Rattle.model.specs.Readiness.{IsReady}
+
+-- ---- requests
+
+-- a connection of the stream was opened and isn't open any more
+abbrev pub had_closed : ℕ → List Opened → List Entry → Bool
+had_closed stream os t = list_any (λ o. o.stream == stream && not (is_open o.k t)) os
+
+-- the stream's connection was closed before the client ended the stream
+abbrev pub was_cut : ℕ → List Entry → Bool
+was_cut stream [] = false
+was_cut stream (Came noted ∷ t) =
+    if noted.frame.id == stream && ends_by (completed (came t) noted.frame) noted.frame then had_closed stream (opens t) t else was_cut stream t
+was_cut stream (_ ∷ t) = was_cut stream t
+
+-- A connection of the stream was sent the request.
+pub record IsForwarded (t : List Entry) (stream : ℕ) (request : Request) : Type 0 where
+  pub o : Opened
+  pub given : IsGiven t stream o
+  pub reads : H1Requests (sent_up o.k t) (forward request ∷ []) []
+
+-- Each whole request that has a route was forwarded, unless its connection was closed before.
+abbrev pub AllForwarded : Known → List Entry → Type 0
+AllForwarded known t =
+    (stream : ℕ) (request : Request) (place : ℕ) → H2Request (items known stream t) request → IsFirstMatch known.setup.routes request.authority request.target place → was_cut stream t ≡ false → IsForwarded t stream request
+
+-- ---- requests that aren't whole, where they are passed on as they come
+
+-- Behind a head with these lines stands a beginning of a body, and these octets are in it.
+pub record HasChunks (rest octets : List ℕ) : Type 0 where
+  pub chunks : List (List ℕ)
+  pub front : List ℕ
+  pub past : List ℕ
+  pub is : rest ≡ front ++ past
+  pub are_chunks : Joined Chunk front chunks
+  pub hold : IsFront octets (concat chunks)
+  pub goes_on : (more body : List ℕ) × Chunked (rest ++ more) body
+
+abbrev pub HasBody : List (List ℕ) → List (List ℕ) → List ℕ → List ℕ → Type 0
+HasBody [] [] rest octets = (rest ≡ []) × (octets ≡ [])
+HasBody (digits ∷ []) [] rest octets = IsFront octets rest
+HasBody [] (coding ∷ []) rest octets = (lower coding ≡ codes "chunked") × HasChunks rest octets
+HasBody _ _ rest octets = ⊥
+
+-- The text, with at most one octet more, is a whole head and a beginning of a body with these octets.
+pub record HasCome (text octets : List ℕ) : Type 0 where
+  pub extra : List ℕ
+  pub one : length extra ≤ 1
+  pub head : Head
+  pub head_text : List ℕ
+  pub rest : List ℕ
+  pub is : text ++ extra ≡ head_text ++ rest
+  pub has_head : H1Head head_text head
+  pub has_body : HasBody (values_of (codes "content-length") head.fields) (values_of (codes "transfer-encoding") head.fields) rest octets
+
+-- A connection was given to the stream and, while it is open, all octets of the body have come to it.
+pub record IsStreamed (known : Known) (t : List Entry) (stream : ℕ) : Type 0 where
+  pub o : Opened
+  pub given : IsGiven t stream o
+  pub has_come : is_open o.k t ≡ true → HasCome (sent_up o.k t) (body_of (items known stream t))
+
+-- Each active stream whose items have a head and no end is passed on so.
+abbrev pub AllStreamed : Known → List Entry → Type 0
+AllStreamed known t =
+    known.setup.passing ≡ Streaming → (stream : ℕ) (head : List Field) → is_active stream t ≡ true → HasHead (items known stream t) head → list_any ends_with (items known stream t) ≡ false → IsStreamed known t stream
+
+-- ---- responses
+
+-- from this many octets on that the client hasn't taken, no part of a response goes out (this project's profile)
+abbrev pub high_water : ℕ
+high_water = 65536
+
+-- While fewer octets are untaken, no stream is ready.
+abbrev pub NoneReady : Known → List Entry → Type 0
+NoneReady known t = untaken t < high_water → (stream : ℕ) → IsReady known t stream → ⊥
+
+-- ---- the ends of upstream connections
+
+-- Why a connection is done with: its stream isn't active, its response is whole, the upstream ended it, the gateway answers the
+-- stream itself, or the client is closed.
+pub data Reason (known : Known) (t : List Entry) (o : Opened) : Type 0 where
+  Over : is_active o.stream t ≡ false → Reason known t o
+  Complete : IsComplete (heard o.k t) (has_ended o.k t) (is_to_head (items known o.stream t)) → Reason known t o
+  Ended : has_ended o.k t ≡ true → Reason known t o
+  Answered : (found : Cause) → cause known o.stream t ≡ Some found → Reason known t o
+  ClientClosed : is_closed t ≡ true → Reason known t o
+
+-- Connections that are done with aren't open.
+abbrev pub AreClosed : Known → List Entry → List Opened → Type 0
+AreClosed known t [] = Unit {0}
+AreClosed known t (o ∷ os) = (is_open o.k t ≡ true → Reason known t o → ⊥) × AreClosed known t os
+
+-- A connection is closed by a reason that holds at the end of the step.
+pub record IsDoneWith (known : Known) (t : List Entry) (k : ℕ) : Type 0 where
+  pub o : Opened
+  pub is_opened : IsIn o (opens t)
+  pub number : o.k ≡ k
+  pub reason : Reason known t o
+
+-- Each connection that the step closes was open, and is done with; the step's entries stand before the others of the tape.
+abbrev pub ClosesRightly : Known → List Entry → List Entry → List Entry → Type 0
+ClosesRightly known t before [] = Unit {0}
+ClosesRightly known t before (Did (Close k) ∷ segment) =
+    (is_open k (segment ++ before) ≡ true) × IsDoneWith known t k × ClosesRightly known t before segment
+ClosesRightly known t before (_ ∷ segment) = ClosesRightly known t before segment
+
+-- At the end of a step nothing is due, connections that are done with are closed, and others aren't. Octets go to connections
+-- that are open.
+pub record ProgressHolds (known : Known) (before segment : List Entry) : Type 0 where
+  pub forwarded : AllForwarded known (segment ++ before)
+  pub streamed : AllStreamed known (segment ++ before)
+  pub none_ready : NoneReady known (segment ++ before)
+  pub closed : AreClosed known (segment ++ before) (opens (segment ++ before))
+  pub closes : ClosesRightly known (segment ++ before) before segment
+  pub go_to_open : GoToOpen (segment ++ before)

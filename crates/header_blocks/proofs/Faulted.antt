@@ -1,5 +1,5 @@
 -- Which fault stands where a block can't be read on.
-use Rattle.std.proofs.Common.{◌≡◌, ℕ, zero, suc, ◌+◌, ◌-◌, ◌/◌, ◌<◌, ◌≤◌, ◌⊎◌, List, [], ◌∷◌, ◌++◌, length, take, drop, get_or, Result, Ok, Err, IfErr, Option, Some, None, refl, ap, sym, ◌∙◌, subst, inl, inr, arith, length-drop}
+use Rattle.std.proofs.Common.{◌≡◌, ℕ, zero, suc, ◌+◌, ◌-◌, ◌/◌, ◌<◌, ◌≤◌, List, [], ◌∷◌, length, take, drop, get_or, Result, Ok, Err, IfErr, Option, None, refl, sym, subst, inl, inr, arith}
 use Rattle.std.proofs.lemmas.List.{take_rest, append-nil}
 use Rattle.model.specs.Messages.{Field}
 use Rattle.model.specs.Huffman.{Huff}

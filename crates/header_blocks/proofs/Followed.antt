@@ -1,11 +1,11 @@
 -- What a joiner keeps is what the frames say.
-use Rattle.std.proofs.Common.{◌≡◌, ℕ, ◌+◌, ◌==◌, ◌&&◌, Bool, true, false, if◌then◌else◌, List, [], ◌∷◌, ◌++◌, Option, Some, None, refl, ap, sym, ◌∙◌, subst, arith}
+use Rattle.std.proofs.Common.{◌≡◌, ℕ, ◌+◌, ◌==◌, Bool, true, false, if◌then◌else◌, List, ◌∷◌, ◌++◌, Option, Some, None, refl, ap, sym, ◌∙◌, arith}
 use Rattle.std.proofs.lemmas.Bool.{eq-eqb, eqb-true}
 use Rattle.model.specs.Frames.{Frame, headers_kind, continuation_kind, ends_headers, ends_stream, content}
 use Rattle.model.specs.Tapes.{Noted}
 use Rattle.model.specs.Decoding.{Partial, joined, begun, completed}
 use Rattle.header_blocks.specs.Joining.{Begun, begins, continues}
-use Rattle.header_blocks.specs.Following.{last_continuations, IsSameBlock, IsBegunBy, IsKeptOf, IsCompletedBy, LeadsTo}
+use Rattle.header_blocks.specs.Following.{last_continuations, IsSameBlock, IsKeptOf, LeadsTo}
 
 not_equal : (a b : ℕ) → (a ≡ b → ⊥) → (a == b) ≡ false
 not_equal a b never = no (a == b) (λ e. never (eqb-true a b e))

@@ -1,19 +1,19 @@
 -- A block has one fault.
-use Rattle.std.proofs.Common.{◌≡◌, ℕ, ◌+◌, ◌-◌, ◌/◌, ◌<◌, ◌≤◌, ◌⊎◌, List, [], ◌∷◌, ◌++◌, length, take, drop, get_or, Option, Some, None, refl, ap, sym, ◌∙◌, subst, inl, inr, arith, append_assoc, length-drop, length-take-le}
+use Rattle.std.proofs.Common.{◌≡◌, ℕ, ◌+◌, ◌/◌, ◌<◌, ◌⊎◌, List, [], ◌∷◌, ◌++◌, length, take, drop, get_or, refl, ap, sym, ◌∙◌, subst, inl, inr, arith, append_assoc, length-drop, length-take-le}
 use Rattle.std.proofs.lemmas.List.{append-nil, take_rest, take-append-drop, take-take, drop-append-le}
 use Rattle.std.proofs.lemmas.Bool.{cases_lt}
 use Rattle.model.specs.Messages.{Field}
 use Rattle.model.specs.Huffman.{Huff}
-use Rattle.model.specs.Integers.{IsInt, BeginsNoInt}
+use Rattle.model.specs.Integers.{BeginsNoInt}
 use Rattle.model.specs.Tables.{Table}
-use Rattle.model.specs.Blocks.{IsBlock, Block}
+use Rattle.model.specs.Blocks.{IsBlock}
 use Rattle.model.proofs.BlockLemmas.{one_name, cancel}
 use Rattle.model.proofs.BlockLaws.{SameBlock, one_chain}
 use Rattle.hpack_int.specs.Reading.{ReadsValue, NeedsMore, IsBad}
 use Rattle.header_blocks.specs.Represented.{BeginsNoString, BeginsNoName, BeginsNoLiteral, BeginsNoField, BeginsNoMaximum, TakesName}
-use Rattle.header_blocks.specs.Faults.{IsIntFault, IsCutString, IsBadText, IsStringFault, IsNameFault, StopsAtName, StopsAtValue, IsLiteralFault, StopsAtIndex, IsFieldFault, IsMaximumFault, PassesGreatest, ComesLate, IsFaultOf}
+use Rattle.header_blocks.specs.Faults.{IsIntFault, IsCutString, IsBadText, IsStringFault, IsNameFault, StopsAtName, StopsAtValue, IsLiteralFault, StopsAtIndex, IsFieldFault, IsMaximumFault, IsFaultOf}
 use Rattle.header_blocks.specs.declared.fault.DecodeFault.{DecodeFault}
-use Rattle.header_blocks.specs.declared.fault.DecodeFault.TheVariants.{Integer, Text, Index, Maximum, Late, Cut, Memory}
+use Rattle.header_blocks.specs.declared.fault.DecodeFault.TheVariants.{Integer, Text, Cut}
 use Rattle.header_blocks.proofs.Refused.{bad, same_value, behind, no_number, cut_string, bad_string, no_new_name, no_entry_name, no_index, no_literal_name, no_literal_value, no_indexed_int, no_indexed_entry, no_inserted, no_other, drop_add}
 use Rattle.header_blocks.proofs.NoBlocks.{no_block, no_field_at, no_maximum_at, no_maximum_int, maximum_over}
 

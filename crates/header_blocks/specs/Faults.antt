@@ -8,7 +8,7 @@ use Rattle.model.specs.Blocks.{IsBlock}
 use Rattle.hpack_int.specs.Reading.{ReadsValue, NeedsMore, IsBad}
 use Rattle.header_blocks.specs.Represented.{TakesName}
 use Rattle.header_blocks.specs.declared.fault.DecodeFault.{DecodeFault}
-use Rattle.header_blocks.specs.declared.fault.DecodeFault.TheVariants.{Integer, Text, Index, Maximum, Late, Cut, Memory}
+use Rattle.header_blocks.specs.declared.fault.DecodeFault.TheVariants.{Integer, Text, Index, Maximum, Late, Cut}
 
 -- The octets end within an integer, or become none however they go on.
 abbrev pub IsIntFault : ℕ → List ℕ → DecodeFault → Type 0

@@ -158,7 +158,11 @@ fn fields_are_taken_out(rt: HostRuntime) -> Result<(), Fail> {
     let alloc = rt.alloc();
     let mut reader = Reader::new(alloc, false);
     let mut pieces = Vec::new(alloc);
-    assert!(rt; reader.feed(b"HTTP/1.1 200 OK\r\nA: b\r\n\r\n", &mut pieces).is_ok());
+    assert!(rt;
+        reader
+            .feed(b"HTTP/1.1 200 OK\r\nA: b\r\n\r\n", &mut pieces)
+            .is_ok()
+    );
     let Some(Piece::Head(head)) = pieces.pop() else {
         return Err("no head".into());
     };

@@ -221,7 +221,9 @@ fn responses_without_a_body(rt: HostRuntime) -> Result<(), Fail> {
         alloc,
         b"HEAD / HTTP/1.1\r\nhost: h\r\nvia: 2.0 h2gw\r\nconnection: close\r\n\r\n",
     )?;
-    let lines = format!(in alloc; "C {OWN_SETTINGS}{ACK}\nO 1 0\nU 1 {text}\nX 1\nC 000005010500000001880f0d0135\n")?;
+    let lines = format!(in alloc;
+        "C {OWN_SETTINGS}{ACK}\nO 1 0\nU 1 {text}\nX 1\nC 000005010500000001880f0d0135\n"
+    )?;
     assert_prints(&rt, rt.alloc(), &script, &lines);
     Ok(())
 }
@@ -230,10 +232,15 @@ fn responses_without_a_body(rt: HostRuntime) -> Result<(), Fail> {
 fn each_stream_has_its_own_response(rt: HostRuntime) -> Result<(), Fail> {
     let alloc = rt.alloc();
     let second = "C 000004010500000003828684be\n";
-    let other = hex_of(alloc, b"HTTP/1.1 404 Not Found\r\nx-a: 1\r\nContent-Length: 1\r\n\r\n!")?;
+    let other = hex_of(
+        alloc,
+        b"HTTP/1.1 404 Not Found\r\nx-a: 1\r\nContent-Length: 1\r\n\r\n!",
+    )?;
     let first = hex_of(alloc, RESPONSE)?;
     let more = format!(in alloc; "{second}U 2 {other}\nU 1 {first}\n")?;
-    let wanted = format!(in alloc; "O 2 0\nU 2 {GET}\nX 2\nC 00000c0104000000038d0003782d6101310f0d013100000100010000000321\n{PASSED}")?;
+    let wanted = format!(in alloc;
+        "O 2 0\nU 2 {GET}\nX 2\nC 00000c0104000000038d0003782d6101310f0d013100000100010000000321\n{PASSED}"
+    )?;
     assert_answers(&rt, rt.alloc(), &more, &wanted)
 }
 

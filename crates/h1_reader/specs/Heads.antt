@@ -1,5 +1,5 @@
 -- What a read of a head says of the octets.
-use Rattle.std.specs.Prelude.{◌≡◌, ℕ, ◌<◌, ◌≤◌, Bool, List, ◌++◌, length, take}
+use Rattle.std.specs.Prelude.{◌≡◌, ℕ, ◌<◌, ◌≤◌, Bool, List, [], ◌∷◌, ◌++◌, length, take}
 use Rattle.httparse.specs.Grammar.{HasNoResponse, MayBecomeResponse}
 use Rattle.httparse.specs.declared.spans.HeaderSpan.{HeaderSpan}
 use Rattle.httparse.specs.Spans.{span_bytes}
@@ -7,10 +7,17 @@ use Rattle.model.specs.Octets.{lower}
 use Rattle.model.specs.Messages.{Field}
 use Rattle.model.specs.ResponseHeads as model
 use Rattle.h1_reader.specs.Views.{framing_view}
+use Rattle.h1_reader.specs.declared.fault.ResponseFault.{ResponseFault}
+use Rattle.h1_reader.specs.declared.fault.ResponseFault.TheVariants.{Length, Coding}
 use Rattle.h1_reader.specs.declared.head.HeadRead.{HeadRead}
 use Rattle.h1_reader.specs.declared.head.HeadRead.TheVariants.{More, Interim, Final}
 use Rattle.h1_reader.specs.declared.front.FrontRead.{FrontRead}
 use Rattle.h1_reader.specs.declared.front.FrontRead.TheVariants.{OnGoing, InterimAt, FinalAt}
+
+-- Where the lines of framing say nothing, the codings are at fault where there is one, else the lengths.
+abbrev pub framing_fault : List (List ℕ) → ResponseFault
+framing_fault [] = Length
+framing_fault (coding ∷ codings) = Coding
 
 -- the field of a line
 abbrev pub field_from : List ℕ → HeaderSpan → Field

@@ -50,4 +50,4 @@ returns-in-Ok c =
 pub returns : goal.returns
 returns c =
     λ _. unframed c.args.to_head c.args.text.now c.args.spans.now c.args.found c.in_ok-all.all.items c.requires.is_head c.in_ok-all.ensures c.if-found-lt200.false
-    (ap (framing_for c.args.to_head c.args.found.version c.args.found.code) (sym c.deref-2.ensures.value) ∙ c.in-Err.ensures)
+    (ap (framing_for c.args.to_head c.args.found.version c.args.found.code) (sym c.deref-2.ensures.value) ∙ c.in-Err.ensures.0)

@@ -21,6 +21,8 @@ pub mod HuffmanLemmas
 pub mod BlockLemmas
 pub mod BlockLaws
 pub mod KeepLemmas
+pub mod MaximaLaws
+pub mod DecodingLaws
 mod FaithfulExamples
 pub mod ResponseHeadReadings
 pub mod ResponseBodies

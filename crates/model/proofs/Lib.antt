@@ -28,6 +28,9 @@ pub mod ResponseHeadReadings
 pub mod ResponseBodies
 pub mod ResponseReadings
 pub mod DeliveryLemmas
+pub mod MalformedLaws
+pub mod RouteLaws
+pub mod DeliveryReadings
 mod OfferLemmas
 mod HeadlineExamples
 mod AnswerTexts

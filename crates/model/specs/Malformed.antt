@@ -1,7 +1,7 @@
 -- When the items of a stream are no request, as a test (RFC 9113, sections 8.1 to 8.3): the rules of `Http2`, which a law ties
 -- to them.
 use Rattle.std.specs.Prelude.{ℕ, ◌+◌, Bool, true, false, not, ◌&&◌, ◌||◌, ◌==◌, nat_le, if◌then◌else◌, List, [], ◌∷◌, length, codes, bytes_eq, Option, Some, None}
-use Rattle.std.specs.List.{list_all}
+use Rattle.std.specs.List.{list_all, list_any}
 use Rattle.model.specs.Octets.{some_of, is_digit, is_token_octet, lower}
 use Rattle.model.specs.Messages.{Field, Item}
 use Rattle.model.specs.Messages.Item.{Block}
@@ -10,6 +10,10 @@ use Rattle.model.specs.Http1.{values_of, without}
 use Rattle.model.specs.Http2.{is_pseudo, pseudo_fields, regular_fields, method_of, authorities_of, authority_of, is_connect, declared_length, known_names, is_name_octet, connection_names, is_path_for, is_authority_octet, body_of}
 
 -- ---- the rules of a head and of trailers
+
+-- all these tests pass
+abbrev pub all_hold : List Bool → Bool
+all_hold tests = list_all (λ holds. holds) tests
 
 abbrev pub is_none_left : List Field → Bool
 is_none_left [] = true
@@ -26,13 +30,16 @@ are_pseudo_first (field ∷ fields) = if is_pseudo field then are_pseudo_first f
 
 abbrev pub are_pseudo_fields : List Field → Bool
 are_pseudo_fields head =
+    all_hold (
     are_pseudo_first head
-    && is_none_left (without known_names (pseudo_fields head))
-    && has 1 (codes ":method") head
-    && has (if is_connect head then 0 else 1) (codes ":scheme") head
-    && has (if is_connect head then 0 else 1) (codes ":path") head
-    && nat_le (length (values_of (codes ":authority") head)) 1
-    && (not (is_connect head) || has 1 (codes ":authority") head)
+    ∷ is_none_left (without known_names (pseudo_fields head))
+    ∷ has 1 (codes ":method") head
+    ∷ has (if is_connect head then 0 else 1) (codes ":scheme") head
+    ∷ has (if is_connect head then 0 else 1) (codes ":path") head
+    ∷ nat_le (length (values_of (codes ":authority") head)) 1
+    ∷ (not (is_connect head) || has 1 (codes ":authority") head)
+    ∷ []
+    )
 
 abbrev pub are_names : List Field → Bool
 are_names fields = list_all (λ field. some_of is_name_octet field.name) (regular_fields fields)
@@ -42,7 +49,7 @@ are_values fields = list_all (λ field. is_value field.value) fields
 
 -- no field has one of these names
 abbrev pub has_none_of : List (List ℕ) → List Field → Bool
-has_none_of names fields = list_all (λ name. has 0 name fields) names
+has_none_of names fields = list_all (λ field. not (list_any (bytes_eq field.name) names)) fields
 
 abbrev pub are_te : List Field → Bool
 are_te head = list_all (λ value. bytes_eq value (codes "trailers")) (values_of (codes "te") head)
@@ -52,32 +59,41 @@ is_scheme head = list_all (λ scheme. bytes_eq scheme (codes "http") || bytes_eq
 
 abbrev pub is_authority : List Field → Bool
 is_authority head =
+    all_hold (
     nat_le (length (values_of (codes "host") head)) 1
-    && some_of is_authority_octet (authority_of head)
-    && list_all (λ other. bytes_eq (lower other) (lower (authority_of head))) (authorities_of head)
+    ∷ some_of is_authority_octet (authority_of head)
+    ∷ list_all (λ other. bytes_eq (lower other) (lower (authority_of head))) (authorities_of head)
+    ∷ []
+    )
 
 abbrev pub is_length_field : List Field → Bool
 is_length_field head =
+    all_hold (
     nat_le (length (values_of (codes "content-length") head)) 1
-    && list_all (λ value. some_of is_digit value && nat_le (length value) 18) (values_of (codes "content-length") head)
+    ∷ list_all (λ value. some_of is_digit value && nat_le (length value) 18) (values_of (codes "content-length") head)
+    ∷ []
+    )
 
 -- a head that may begin a request, as `WellFormedHead` says it
 abbrev pub is_well_formed : List Field → Bool
 is_well_formed head =
+    all_hold (
     are_pseudo_fields head
-    && are_names head
-    && are_values head
-    && has_none_of connection_names head
-    && are_te head
-    && some_of is_token_octet (method_of head)
-    && is_scheme head
-    && list_all (is_path_for (method_of head)) (values_of (codes ":path") head)
-    && is_authority head
-    && is_length_field head
+    ∷ are_names head
+    ∷ are_values head
+    ∷ has_none_of connection_names head
+    ∷ are_te head
+    ∷ some_of is_token_octet (method_of head)
+    ∷ is_scheme head
+    ∷ list_all (is_path_for (method_of head)) (values_of (codes ":path") head)
+    ∷ is_authority head
+    ∷ is_length_field head
+    ∷ []
+    )
 
 -- trailers that may end one, as `WellFormedTrailers` says it
 abbrev pub are_trailers : List Field → Bool
-are_trailers fields = is_none_left (pseudo_fields fields) && are_names fields && are_values fields && has_none_of connection_names fields
+are_trailers fields = all_hold (is_none_left (pseudo_fields fields) ∷ are_names fields ∷ are_values fields ∷ has_none_of connection_names fields ∷ [])
 
 -- ---- the declared length (section 8.1.1)
 

@@ -2,6 +2,7 @@
 //! of them, each as the contract of a function with an empty body.
 #![tactic(auto)]
 
+pub mod clauses;
 pub mod frame_laws;
 pub mod hpack;
 pub mod http1;

@@ -1,0 +1,39 @@
+//! Laws of what the clauses of the headline speak of.
+
+ghost use Rattle.std.specs.Prelude.{◌≡◌, ℕ, List, true, Some, slice_get};
+ghost use Rattle.std.specs.List.{list_any};
+ghost use Rattle.model.specs.Messages.{Item, Field};
+ghost use Rattle.model.specs.Deliveries.{Delivery, ReadsAs};
+ghost use Rattle.model.specs.Requests.{Opened, AreNumbered, AreApart};
+ghost use Rattle.model.specs.Available.{IsIn};
+ghost use Rattle.model.specs.Http2.{WellFormedHead, WellFormedTrailers, authority_of, path_of};
+ghost use Rattle.model.specs.Malformed.{is_well_formed, are_trailers};
+ghost use Rattle.model.specs.Setup.{Route, Matches, IsFirstMatch};
+ghost use Rattle.model.specs.Causes.{is_routed};
+
+/// A client that was brought the items of a stream has read one thing of a response (RFC 9113, section 8.1).
+pub fn one_delivery()
+    ensures { (items : List Item) (delivery other : Delivery) → ReadsAs items delivery → ReadsAs items other → delivery ≡ other }
+{}
+
+/// Connections that are numbered as they are opened, and of which no stream has two: a number is one connection's, and so is a
+/// stream.
+pub fn one_connection()
+    ensures number { (opens : List Opened) (o p : Opened) → AreNumbered opens → IsIn o opens → IsIn p opens → o.k ≡ p.k → o ≡ p }
+    ensures stream { (opens : List Opened) (o p : Opened) → AreApart opens → IsIn o opens → IsIn p opens → o.stream ≡ p.stream → o ≡ p }
+{}
+
+/// The tests by which the error table finds a malformed head and malformed trailers pass just where all rules hold (RFC 9113,
+/// sections 8.1 to 8.3).
+pub fn malformed_tests()
+    ensures head { (head : List Field) → is_well_formed head ≡ true → WellFormedHead head }
+    ensures head_passes { (head : List Field) → WellFormedHead head → is_well_formed head ≡ true }
+    ensures trailers { (fields : List Field) → are_trailers fields ≡ true → WellFormedTrailers fields }
+    ensures trailers_pass { (fields : List Field) → WellFormedTrailers fields → are_trailers fields ≡ true }
+{}
+
+/// The test by which a request has a route passes just where a route matches, and then there is a first one.
+pub fn routed_test()
+    ensures first { (routes : List Route) (head : List Field) → is_routed routes head ≡ true → (place : ℕ) × IsFirstMatch routes (authority_of head) (path_of head) place }
+    ensures passes { (routes : List Route) (head : List Field) (place : ℕ) (route : Route) → slice_get routes place ≡ Some route → Matches route (authority_of head) (path_of head) → is_routed routes head ≡ true }
+{}

@@ -42,3 +42,4 @@ mod CauseExamples
 mod Refusals
 mod ResponseRefusals
 mod RequestRefusals
+mod TurnRefusals

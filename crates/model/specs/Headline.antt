@@ -13,7 +13,7 @@ use Rattle.model.specs.Decoding.{completed, Decodes, is_read}
 use Rattle.model.specs.Errors.{first_of}
 use Rattle.model.specs.Known.{Known}
 use Rattle.model.specs.ErrorTable.{rows_before_block}
-use Rattle.model.specs.Failures.{AreTold}
+use Rattle.model.specs.Failures.{AreJudged}
 use Rattle.model.specs.Rooms.{IsAdmitted}
 use Rattle.model.specs.RequestClause.{RequestsHold}
 use Rattle.model.specs.ResponseClause.{ResponsesHold}
@@ -46,7 +46,7 @@ pub record IsTold (known : Known) (text : List ℕ) (t : List Entry) : Type 0 wh
   pub table : Table
   pub decodes : Decodes (came t) table
   pub others_are_read : OthersAreRead t
-  pub failures : AreTold known t
+  pub failures : AreJudged known t
   pub ends : EndsWithClose t
 
 -- The step, behind the steps before it, has this segment of the tape: its event might come, the segment is the step's, the

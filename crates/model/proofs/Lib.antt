@@ -39,6 +39,7 @@ mod RowTapes
 mod ErrorExamples
 mod WindowExamples
 mod CauseExamples
+mod LogExamples
 mod Refusals
 mod ResponseRefusals
 mod RequestRefusals

@@ -1,4 +1,4 @@
--- A gateway that serves one stream as long as it can, while another waits that is ready as well.
+-- Gateways that let a stream wait which is ready: one that serves another as long as it can, and one that sends nothing.
 use Rattle.std.proofs.Common.{true, List, [], ◌∷◌, ◌++◌, refl, inl, inr, arith}
 use Rattle.std.specs.Prelude.{Some, codes}
 use Rattle.model.specs.Tables.{total_size}
@@ -7,6 +7,7 @@ use Rattle.model.specs.Logs.Act.{Close}
 use Rattle.model.specs.Tapes.{Entry}
 use Rattle.model.specs.Tapes.Entry.{Happened, Did}
 use Rattle.model.specs.Deliveries.{Delivery, nothing}
+use Rattle.model.specs.ProgressClause.{NoneReady}
 use Rattle.model.specs.Readiness.{IsReady}
 use Rattle.model.specs.Synchrony.{AreFair, StaysReady}
 use Rattle.model.proofs.AnswerTexts.{answer, head, fields, block, response, answered}
@@ -63,3 +64,7 @@ stays_ready = (ready_between, (ready_before, tt))
 
 pub unfair : AreFair by_whole (two_turns ++ both) → ⊥
 unfair fair = let one = fair [] two_turns both refl 1 3 stays_ready refl in omega (arith, one)
+
+-- A gateway that sits on what it was answered: the stream is ready, and the client has taken almost all.
+pub held_back : NoneReady by_whole both → ⊥
+held_back none = none (omega arith) 1 ready_before

@@ -30,6 +30,7 @@ pub mod ResponseReadings
 pub mod DeliveryLemmas
 pub mod MalformedLaws
 pub mod RouteLaws
+pub mod FailureLaws
 pub mod DeliveryReadings
 mod OfferLemmas
 mod HeadlineExamples

@@ -215,7 +215,7 @@ unfolding total_size
 errors = record {
   begins = (content.frame ∷ headers.frame ∷ settings_ack ∷ [], refl);
   just_owed = refl;
-  answered = (
+  followed = (
     (content.frame ∷ headers.frame ∷ [], refl),
     (
       (content.frame ∷ headers.frame ∷ [], refl),

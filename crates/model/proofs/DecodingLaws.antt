@@ -1,9 +1,7 @@
 -- The notes of frames are determined, and so is the table that their blocks leave.
 use Rattle.std.proofs.Common.{◌≡◌, Bool, true, false, ◌&&◌, List, [], ◌∷◌, map, Option, Some, None, refl, ap, sym, ◌∙◌, subst}
 use Rattle.model.specs.Frames.{Frame}
-use Rattle.model.specs.Messages.{Field}
 use Rattle.model.specs.Tables.{Table}
-use Rattle.model.specs.Blocks as blocks
 use Rattle.model.specs.Tapes.{Note, Noted}
 use Rattle.model.specs.Tapes.Note.{NoBlock, Fields, Undecodable, Unread}
 use Rattle.model.specs.Decoding.{Partial, completed, IsNoteOf, is_read, are_read, Decodes}

@@ -154,7 +154,7 @@ unfolding total_size
 errors = record {
   begins = (settings_ack ∷ [], refl);
   just_owed = refl;
-  answered = (([], refl), (([], refl), (([], refl), ((settings_ack ∷ [], refl), tt))));
+  followed = (([], refl), (([], refl), (([], refl), ((settings_ack ∷ [], refl), tt))));
   rightly_sent = (refl, (refl, tt));
   closed = refl;
   in_time = (refl, (refl, tt));

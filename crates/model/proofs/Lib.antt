@@ -30,6 +30,7 @@ pub mod ResponseReadings
 pub mod DeliveryLemmas
 pub mod MalformedLaws
 pub mod RouteLaws
+pub mod FailureLaws
 pub mod DeliveryReadings
 mod OfferLemmas
 mod HeadlineExamples
@@ -39,6 +40,8 @@ mod RowTapes
 mod ErrorExamples
 mod WindowExamples
 mod CauseExamples
+mod LogExamples
 mod Refusals
 mod ResponseRefusals
 mod RequestRefusals
+mod TurnRefusals

@@ -17,7 +17,7 @@ use Rattle.model.specs.ProgressClause.{ProgressHolds, Reason, AllStreamed}
 use Rattle.model.specs.ProgressClause.Reason.{Over, Complete, Ended, Answered, ClientClosed}
 use Rattle.model.specs.WindowClause.{WindowsHold}
 use Rattle.model.specs.Headline.{IsTold}
-use Rattle.model.specs.Synchrony.{IsWritten, AreFair, StaysReady, turns_on}
+use Rattle.model.specs.Synchrony.{IsWritten}
 use Rattle.model.proofs.OfferLemmas.{nothing_complete}
 use Rattle.model.proofs.RowTapes.{by_whole, by_streaming, frame, plain, headed, out, field, post, post_block, begun, getting, got, update, settings}
 use Rattle.model.proofs.CauseExamples.{ended_streaming, in_chunk_streaming}
@@ -109,7 +109,3 @@ pub inserted_again : (octets : List ℕ) (next : Table) → IsWritten inserted (
 inserted_again octets next (inl indexed) = let marked : 0 ≡ 1 = indexed.indexed.marked.marked in omega (arith, marked)
 inserted_again octets next (inr (inl goes_in)) = goes_in.absent 62 stands_there
 inserted_again octets next (inr (inr stays_out)) = stays_out.absent 62 stands_there
-
--- It serves one stream twice while another is ready.
-pub unfair : (known : Known) (t stretch : List Entry) (waits other : ℕ) → StaysReady known waits t stretch → turns_on waits stretch ≡ 0 → turns_on other stretch ≡ 2 → AreFair known (stretch ++ t) → ⊥
-unfair known t stretch waits other ready none two fair = let one = fair [] stretch t refl waits other ready none in omega (arith, one, two)

@@ -1,10 +1,14 @@
 -- Gateways that send upstream what they shouldn't.
-use Rattle.std.proofs.Common.{◌≡◌, ℕ, Bool, true, false, ◌||◌, ◌==◌, List, [], ◌∷◌, ◌++◌, length, append-nil, append_assoc, refl, sym, ap, ◌∙◌, inl, inr, if◌then◌else◌}
-use Rattle.std.specs.Prelude.{Option, Some, None, is_some}
+use Rattle.std.proofs.Common.{◌≡◌, ℕ, Bool, true, false, ◌||◌, ◌==◌, List, [], ◌∷◌, ◌++◌, length, append-nil, append_assoc, refl, subst, arith, sym, ap, ◌∙◌, inl, inr, if◌then◌else◌}
+use Rattle.std.specs.Prelude.{Option, Some, None, is_some, codes, slice_index}
 use Rattle.std.proofs.lemmas.Bool.Decides.{eqb_tells}
-use Rattle.model.specs.Messages.{Item}
+use Rattle.std.proofs.lemmas.List.{append_cancel_left}
+use Rattle.model.specs.Octets.{some_of, is_token_octet, is_value, lower}
+use Rattle.model.specs.Messages.{Field, Item}
+use Rattle.model.specs.Messages.Item.{Block}
+use Rattle.model.specs.Http1.{crlf, Line, Framed, Head, H1Head, values_of}
 use Rattle.model.specs.Frames.{headers_kind}
-use Rattle.model.specs.Http2.{HasHead}
+use Rattle.model.specs.Http2.{HasHead, MayBecome, request_of}
 use Rattle.model.specs.Tapes.{Noted, Entry, came, sent_up}
 use Rattle.model.specs.Tapes.Entry.{Came}
 use Rattle.model.specs.Decoding.{Partial, completed}
@@ -18,7 +22,9 @@ use Rattle.model.specs.Known.{Known}
 use Rattle.model.specs.Lifetimes.{active, standing_on}
 use Rattle.model.specs.ErrorTable.{Carried, fault_of, fault_on, judged, unless_of_stream, row_closed, rows_before_block, rows_behind_block, fault_with, row_block, row_stream_update, row_stream_data, row_refused, row_malformed}
 use Rattle.model.specs.Courses.{course, carried, items, interrupts, new_cause}
-use Rattle.model.specs.RequestClause.{IsServed}
+use Rattle.model.specs.RequestClause.{IsServed, IsSentInPart}
+use Rattle.model.proofs.Http1Readings.{one_head}
+use Rattle.model.proofs.RowTapes.{field}
 use Rattle.model.proofs.Http1Examples.{both_lines, both_framings}
 
 -- Whatever the tape, a connection that was sent both framing lines is refused, on an unfinished stream as on a whole one.
@@ -80,3 +86,71 @@ above_last known t noted block whole above none =
     let ended : is_ended_by (noted.frame.id == noted.frame.id) found ≡ true = ap (λ b. is_ended_by b found) (same_id noted.frame.id) ∙ ap (is_ended_by true) f.1 ∙ ends_items f.0 in
     let stops : interrupts noted.frame.id (Came noted) found cause ≡ true = ap (λ b. b || is_reset noted.frame.id (Came noted) || is_some cause) ended in
     ap (λ b. if b then before.items else before.items ++ items_of noted.frame.id t (Came noted)) (either before.over (interrupts noted.frame.id (Came noted) found cause) stops) ∙ none
+
+-- ---- octets that the client didn't send
+
+abbrev five : List Field
+five =
+    field (codes ":method") (codes "POST")
+    ∷ field (codes ":scheme") (codes "http")
+    ∷ field (codes ":path") (codes "/")
+    ∷ field (codes ":authority") (codes "a")
+    ∷ field (codes "content-length") (codes "5")
+    ∷ []
+
+abbrev five_text : List ℕ
+five_text = codes "POST / HTTP/1.1\r\nhost: a\r\nvia: 2.0 h2gw\r\ncontent-length: 5\r\nconnection: close\r\n\r\n"
+
+abbrev five_head : Head
+five_head = record {
+  method = codes "POST";
+  target = codes "/";
+  fields = field (codes "host") (codes "a") ∷ field (codes "via") (codes "2.0 h2gw") ∷ field (codes "content-length") (codes "5") ∷ field (codes "connection") (codes "close") ∷ [];
+}
+
+line : (name value : List ℕ) → some_of is_token_octet name ≡ true → is_value value ≡ true → Line (name ++ 58 ∷ (32 ∷ []) ++ value ++ [] ++ crlf) (field (lower name) value)
+line name value token good = record { name = name; before = 32 ∷ []; after = []; is = refl; is_token = token; space_before = refl; is_value = good; space_after = refl; is_named = refl }
+
+has_five_head : H1Head five_text five_head
+has_five_head = record {
+  lines = codes "host: a\r\nvia: 2.0 h2gw\r\ncontent-length: 5\r\nconnection: close\r\n";
+  is = refl;
+  method = refl;
+  target = refl;
+  are_lines = (
+    codes "host: a\r\n",
+    codes "via: 2.0 h2gw\r\ncontent-length: 5\r\nconnection: close\r\n",
+    line (codes "host") (codes "a") refl refl,
+    refl,
+    (
+      codes "via: 2.0 h2gw\r\n",
+      codes "content-length: 5\r\nconnection: close\r\n",
+      line (codes "via") (codes "2.0 h2gw") refl refl,
+      refl,
+      (
+        codes "content-length: 5\r\n",
+        codes "connection: close\r\n",
+        line (codes "content-length") (codes "5") refl refl,
+        refl,
+        (codes "connection: close\r\n", [], line (codes "connection") (codes "close") refl refl, refl, refl),
+      ),
+    ),
+  );
+}
+
+-- the request may still get five letters a
+may_get : MayBecome (Block five false ∷ []) (request_of five (codes "aaaaa"))
+may_get = record { head = five; has_head = refl; begun = record { rest = codes "aaaaa"; is = refl }; length_holds = refl; is = refl }
+
+-- Its head is sent, and behind it an octet, though no DATA came.
+pub invents : IsSentInPart (five_text ++ codes "z") (Block five false ∷ []) → ⊥
+invents part =
+    let on = part.goes_on (request_of five (codes "aaaaa")) may_get in
+    let r = on.1 in
+    let more : List ℕ = on.2.next ∷ on.2.rest in
+    let whole : five_text ++ (codes "z" ++ more) ≡ r.head_text ++ r.content = sym on.2.is ∙ r.is in
+    let same = one_head five_text r.head_text (codes "z" ++ more) r.content five_head r.head has_five_head r.has_head whole in
+    let rest : codes "z" ++ more ≡ r.content = append_cancel_left r.head_text (codes "z" ++ more) r.content (ap (λ x. x ++ (codes "z" ++ more)) (sym same.0) ∙ whole) in
+    let framed : Framed (values_of (codes "content-length") five_head.fields) (values_of (codes "transfer-encoding") five_head.fields) r.content (codes "aaaaa") = subst (λ (h : Head). Framed (values_of (codes "content-length") h.fields) (values_of (codes "transfer-encoding") h.fields) r.content (codes "aaaaa")) (sym same.1) r.body in
+    let clash : 122 ≡ 97 = ap (λ (x : List ℕ). slice_index x 0) (rest ∙ framed.is) in
+    omega (arith, clash)

@@ -89,18 +89,18 @@ is_passing noted =
 abbrev pub controls : List Noted → List Frame
 controls frames = map (λ noted. noted.frame) (filter (λ noted. not (is_passing noted)) frames)
 
--- The frames behind an entry, the newest first, begin with what it calls for before all else; behind an error of the connection
--- its farewell is all that is sent.
-abbrev pub IsAnswered : List Frame → List Frame → Option Fault → Type 0
-IsAnswered frames first (Some (Connection code)) = frames ≡ first
-IsAnswered frames first _ = (newer : List Frame) × (frames ≡ newer ++ reverse first)
+-- Of the frames that were sent behind an entry, which stand with the newest first, the oldest are those that it calls for
+-- before all else. Behind an error of the connection they are all.
+abbrev pub IsFollowed : List Frame → List Frame → Option Fault → Type 0
+IsFollowed frames first (Some (Connection code)) = frames ≡ first
+IsFollowed frames first _ = (newer : List Frame) × (frames ≡ newer ++ reverse first)
 
--- Each entry of the tape is answered so, where these frames were sent behind it.
-abbrev pub AreAnswered : Known → List Frame → List Entry → Type 0
-AreAnswered known frames [] = Unit {0}
-AreAnswered known frames (Sent noted ∷ t) = AreAnswered known (frames ++ noted.frame ∷ []) t
-AreAnswered known frames (e ∷ t) =
-    IsAnswered frames (owed_first t e (fault known t e)) (fault known t e) × AreAnswered known frames t
+-- Each entry of the tape is followed so, where these frames were sent behind the tape.
+abbrev pub AreFollowed : Known → List Frame → List Entry → Type 0
+AreFollowed known frames [] = Unit {0}
+AreFollowed known frames (Sent noted ∷ t) = AreFollowed known (frames ++ noted.frame ∷ []) t
+AreFollowed known frames (e ∷ t) =
+    IsFollowed frames (owed_first t e (fault known t e)) (fault known t e) × AreFollowed known frames t
 
 -- A part of a response goes to an active stream that the gateway hasn't ended. Octets are given back, one or more, to the
 -- connection, or to an active stream that the client hasn't ended (section 5.1).
@@ -146,7 +146,7 @@ EndsInTime known (e ∷ t) = (must_end known t ≡ false) × EndsInTime known t
 pub record ErrorsHold (known : Known) (t : List Entry) : Type 0 where
   pub begins : (newer : List Frame) × (map (λ noted. noted.frame) (sent t) ≡ newer ++ settings_frame ∷ [])
   pub just_owed : controls (sent t) ≡ owed known t
-  pub answered : AreAnswered known [] t
+  pub followed : AreFollowed known [] t
   pub rightly_sent : AreRightlySent t
   pub closed : is_closed t ≡ must_end known t
   pub in_time : EndsInTime known t

@@ -56,12 +56,12 @@ row_connection_update t (Came noted) =
 row_connection_update t _ = None
 
 -- DATA for which there is no room (section 6.9.1)
-abbrev pub is_over : ℤ → Frame → Bool
-is_over room frame = frame.kind == data_kind && int_lt room (pos (length frame.payload))
+abbrev pub is_past_room : ℤ → Frame → Bool
+is_past_room room frame = frame.kind == data_kind && int_lt room (pos (length frame.payload))
 
 -- DATA over the connection's window
 abbrev pub row_connection_data : List Entry → Entry → Option Fault
-row_connection_data t (Came noted) = fault_if (is_over (room_on_connection t) noted.frame) (Connection flow_control_error)
+row_connection_data t (Came noted) = fault_if (is_past_room (room_on_connection t) noted.frame) (Connection flow_control_error)
 row_connection_data t _ = None
 
 -- an increment of an active stream's window
@@ -77,7 +77,7 @@ row_stream_update t _ = None
 -- DATA over an active stream's window
 abbrev pub row_stream_data : List Entry → Entry → Option Fault
 row_stream_data t (Came noted) =
-    fault_if (is_active noted.frame.id t && is_over (room_on noted.frame.id t) noted.frame) (Stream flow_control_error)
+    fault_if (is_active noted.frame.id t && is_past_room (room_on noted.frame.id t) noted.frame) (Stream flow_control_error)
 row_stream_data t _ = None
 
 -- ---- header blocks that can't be read (section 4.3)

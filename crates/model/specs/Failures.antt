@@ -48,12 +48,12 @@ MustFail known t (Up k piece) = IsPlainlyBroken known (heard k (Happened (Up k p
 MustFail known t event = MayFail known t event
 
 -- The event is one with which an answer failed, or not, as is known of it.
-abbrev pub IsTold : Known → List Entry → Event → Bool → Type 0
-IsTold known t event true = MayFail known t event
-IsTold known t event false = MustFail known t event → ⊥
+abbrev pub IsJudged : Known → List Entry → Event → Bool → Type 0
+IsJudged known t event true = MayFail known t event
+IsJudged known t event false = MustFail known t event → ⊥
 
 -- What is known of failures is right at each event of the tape.
-abbrev pub AreTold : Known → List Entry → Type 0
-AreTold known [] = Unit {0}
-AreTold known (Happened event ∷ t) = IsTold known t event (fails_behind known t) × AreTold known t
-AreTold known (_ ∷ t) = AreTold known t
+abbrev pub AreJudged : Known → List Entry → Type 0
+AreJudged known [] = Unit {0}
+AreJudged known (Happened event ∷ t) = IsJudged known t event (fails_behind known t) × AreJudged known t
+AreJudged known (_ ∷ t) = AreJudged known t

@@ -1,8 +1,8 @@
--- Which logs keep the headline: for any octets of the client and of upstreams, however cut and interleaved, what each upstream
--- connection was sent reads, by HTTP/1.1, as just the request that its stream means by HTTP/2; each response that the client
--- reads complete means its stream's upstream response, or a reply of the gateway's own whose cause occurred; each fault gets its
--- error, and no faulty stream becomes a request; nothing that is due waits but for room. `Faithful` is the part of it that `run`
--- is proved of so far.
+-- Which logs keep the headline. Whatever the client and the upstreams send, and however it is cut and interleaved: an upstream
+-- connection was sent the request that its stream means, and nothing else; a client that has read a whole response has read its
+-- upstream's, or a reply of the gateway's own for which there was a cause; every fault is answered as the error table says, and
+-- a stream with a fault becomes no request; and what could go on does, unless there is no room for it. `Faithful` is the part of
+-- it that `run` is proved of so far.
 use Rattle.std.specs.Prelude.{◌≡◌, ℕ, Bool, not, ◌&&◌, List, [], ◌∷◌, ◌++◌, reverse, is_some}
 use Rattle.model.specs.Tables.{Table}
 use Rattle.model.specs.Logs.{Step, client_in}
@@ -13,7 +13,7 @@ use Rattle.model.specs.Decoding.{completed, Decodes, is_read}
 use Rattle.model.specs.Errors.{first_of}
 use Rattle.model.specs.Known.{Known}
 use Rattle.model.specs.ErrorTable.{rows_before_block}
-use Rattle.model.specs.Failures.{AreTold}
+use Rattle.model.specs.Failures.{AreJudged}
 use Rattle.model.specs.Rooms.{IsAdmitted}
 use Rattle.model.specs.RequestClause.{RequestsHold}
 use Rattle.model.specs.ResponseClause.{ResponsesHold}
@@ -46,7 +46,7 @@ pub record IsTold (known : Known) (text : List ℕ) (t : List Entry) : Type 0 wh
   pub table : Table
   pub decodes : Decodes (came t) table
   pub others_are_read : OthersAreRead t
-  pub failures : AreTold known t
+  pub failures : AreJudged known t
   pub ends : EndsWithClose t
 
 -- The step, behind the steps before it, has this segment of the tape: its event might come, the segment is the step's, the

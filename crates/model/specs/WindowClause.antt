@@ -11,7 +11,7 @@ use Rattle.model.specs.Windows.{first_window}
 use Rattle.model.specs.Requests.{Opened, opens}
 use Rattle.model.specs.Known.{Known}
 use Rattle.model.specs.Lifetimes.{active, is_active, is_ended_by_client}
-use Rattle.model.specs.WindowsOnTape.{is_on, counted, stream_window, connection_window, room_on, room_on_connection}
+use Rattle.model.specs.WindowsOnTape.{is_on, data_length, stream_window, connection_window, room_on, room_on_connection}
 
 -- ---- sending
 
@@ -40,11 +40,11 @@ connection_of stream [] = 0
 connection_of stream (o ∷ os) = if o.stream == stream then o.k else connection_of stream os
 
 -- The octets of DATA on a stream behind which more had been put out for its connection than these that are taken. `put_out` is
--- how many were put out until the next thing came in, so that what a frame itself causes is counted with it.
+-- how many were put out until the next thing came in, so that what a frame itself causes is data_length with it.
 abbrev pub waiting : ℕ → ℕ → ℕ → List Entry → ℕ → ℕ
 waiting stream k taken_now [] put_out = 0
 waiting stream k taken_now (Came noted ∷ t) put_out =
-    (if nat_lt taken_now put_out then counted (is_on stream) noted.frame else 0) + waiting stream k taken_now t (length (sent_up k t))
+    (if nat_lt taken_now put_out then data_length (is_on stream) noted.frame else 0) + waiting stream k taken_now t (length (sent_up k t))
 waiting stream k taken_now (Breached breach ∷ t) put_out = waiting stream k taken_now t (length (sent_up k t))
 waiting stream k taken_now (Happened event ∷ t) put_out = waiting stream k taken_now t (length (sent_up k t))
 waiting stream k taken_now (_ ∷ t) put_out = waiting stream k taken_now t put_out

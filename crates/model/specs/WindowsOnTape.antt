@@ -15,13 +15,13 @@ use Rattle.model.specs.FrameErrors.{frame_fault, sound}
 -- ---- what frames count for
 
 -- the octets of DATA that count, with its padding (section 6.9.1), of a frame on an id that passes
-abbrev pub counted : (ℕ → Bool) → Frame → ℕ
-counted test frame = if frame.kind == data_kind && test frame.id then length frame.payload else 0
+abbrev pub data_length : (ℕ → Bool) → Frame → ℕ
+data_length test frame = if frame.kind == data_kind && test frame.id then length frame.payload else 0
 
 -- those of all frames
 abbrev pub data_octets : (ℕ → Bool) → List Noted → ℕ
 data_octets test [] = 0
-data_octets test (noted ∷ before) = data_octets test before + counted test noted.frame
+data_octets test (noted ∷ before) = data_octets test before + data_length test noted.frame
 
 -- the increment of WINDOW_UPDATE, without the reserved bit above it (section 6.9)
 abbrev pub increment : Frame → ℕ

@@ -1,6 +1,6 @@
 //! Laws of what the clauses of the headline speak of.
 
-ghost use Rattle.std.specs.Prelude.{◌≡◌, ℕ, List, true, Some, slice_get};
+ghost use Rattle.std.specs.Prelude.{◌≡◌, ℕ, ◌≤◌, List, length, true, Some, slice_get};
 ghost use Rattle.std.specs.List.{list_any};
 ghost use Rattle.model.specs.Messages.{Item, Field};
 ghost use Rattle.model.specs.Deliveries.{Delivery, ReadsAs};
@@ -10,6 +10,9 @@ ghost use Rattle.model.specs.Http2.{WellFormedHead, WellFormedTrailers, authorit
 ghost use Rattle.model.specs.Malformed.{is_well_formed, are_trailers};
 ghost use Rattle.model.specs.Setup.{Route, Matches, IsFirstMatch};
 ghost use Rattle.model.specs.Causes.{is_routed};
+ghost use Rattle.model.specs.Tapes.{Entry};
+ghost use Rattle.model.specs.Known.{Known, with_failure};
+ghost use Rattle.model.specs.Courses.{course};
 
 /// A client that was brought the items of a stream has read one thing of a response (RFC 9113, section 8.1).
 pub fn one_delivery()
@@ -36,4 +39,9 @@ pub fn malformed_tests()
 pub fn routed_test()
     ensures first { (routes : List Route) (head : List Field) → is_routed routes head ≡ true → (place : ℕ) × IsFirstMatch routes (authority_of head) (path_of head) place }
     ensures passes { (routes : List Route) (head : List Field) (place : ℕ) (route : Route) → slice_get routes place ≡ Some route → Matches route (authority_of head) (path_of head) → is_routed routes head ≡ true }
+{}
+
+/// What becomes of a stream on a tape doesn't change with a failure that is known of a later place.
+pub fn later_failure()
+    ensures { (place : ℕ) (known : Known) (stream : ℕ) (t : List Entry) → length t ≤ place → course (with_failure place known) stream t ≡ course known stream t }
 {}

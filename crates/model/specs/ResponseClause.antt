@@ -1,9 +1,8 @@
 -- The clause on responses: what the client reads on each stream is what its upstream answered, or a reply of the gateway's own
 -- whose cause occurred. Beside `Deliveries`, which is the part of it that `run` is proved of so far, it knows the gateway's own
 -- replies, the client's limits, and that blocks aren't torn apart.
-use Rattle.std.specs.Prelude.{◌≡◌, ℕ, ◌≤◌, true, false, if◌then◌else◌, List, [], ◌∷◌, ◌++◌, Option, Some, None, is_some, All, Any}
+use Rattle.std.specs.Prelude.{◌≡◌, ℕ, ◌≤◌, true, false, if◌then◌else◌, List, [], ◌∷◌, ◌++◌, Option, Some, None, is_some, All, Any, unwrap_or, is_none, ◌&&◌}
 use Rattle.std.specs.List.{last_or}
-use Rattle.std.specs.Prelude.{unwrap_or}
 use Rattle.model.specs.Messages.{Field}
 use Rattle.model.specs.Tables.{Table}
 use Rattle.model.specs.Blocks.{IsBlock}
@@ -16,7 +15,6 @@ use Rattle.model.specs.WindowsOnTape.{client_settings, are_taken, table_limit}
 use Rattle.model.specs.Available.{are_decoded}
 use Rattle.model.specs.Known.{Known}
 use Rattle.model.specs.Offers.{IsDelivered}
-use Rattle.std.specs.Prelude.{is_none, ◌&&◌}
 
 -- ---- the client's limits (RFC 7541, section 4.2)
 

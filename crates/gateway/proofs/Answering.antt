@@ -1,21 +1,20 @@
 -- What the gateway's methods do, as moves.
 use Rattle.std.proofs.Common.{◌≡◌, ℕ, suc, ◌+◌, ◌≤◌, ◌==◌, true, false, Bool, not, ◌&&◌, ◌||◌, List, [], ◌∷◌, ◌++◌, length, refl, sym, ◌∙◌, ap, subst, if◌then◌else◌, arith, ◌/◌, ◌%◌, inl, inr, Ok, Err, OnOk, Result, lit<, lit≤}
 use Rattle.std.proofs.lemmas.Bool.Decides.{eqb_tells}
-use Rattle.std.specs.Prelude.{Option, None, Some, nat_le, is_ok}
-use Rattle.std.proofs.lemmas.Bool.{leb-true, le-leb}
+use Rattle.std.specs.Prelude.{Option, None, Some, nat_le, is_ok, is_none}
+use Rattle.std.proofs.lemmas.Bool.{eq-eqb, leb-true, le-leb}
 use Rattle.std.proofs.Math.Seq.{get_or-append_seam, set-append_seam}
-use Rattle.model.specs.Messages.Item.{Content}
 use Rattle.model.specs.Tables.{Table}
-use Rattle.model.specs.Frames.{Frame, Fits, spell, settings_frame, settings_ack, goaway, settings_kind, headers_kind, is_ack, internal_error, content, ends_headers, ends_stream, has_flag}
+use Rattle.model.specs.Blocks as blocks
+use Rattle.model.specs.Frames.{Frame, Fits, spell, settings_frame, settings_ack, goaway, settings_kind, headers_kind, is_ack, internal_error, compression_error, ends_headers, has_flag}
 use Rattle.model.specs.Logs.{Output, Event}
 use Rattle.model.specs.Logs.Event.{Client, ClientEnd, ClientTook, Up, UpEnd, UpFailed, UpTook}
 use Rattle.model.specs.Logs.Output.{ToClient}
 use Rattle.model.specs.Tapes.{put, Note, Noted, Breach}
-use Rattle.model.specs.Tapes.Note.{NoBlock, Unread}
-use Rattle.model.specs.Decoding.{Partial, joined, completed, IsNoteOf}
-use Rattle.model.specs.Streams.{frame_items}
+use Rattle.model.specs.Tapes.Note.{NoBlock, Unread, Undecodable}
+use Rattle.model.specs.Decoding.{Partial, joined, completed, IsNoteOf, is_read}
 use Rattle.gateway.specs.declared.upstream.Upstream.{Upstream}
-use Rattle.gateway.specs.Connections.{greeted, settled, ended, left, with_table, put_end, put_farewell}
+use Rattle.gateway.specs.Connections.{greeted, settled, ended, left, with_table, put_end, put_farewell, IsHead}
 use Rattle.gateway.specs.Moves.{Move, Hearing, Input, inputs, put_move}
 use Rattle.gateway.specs.Moves.Input.{OfFrame, OfBreach, OfEvent}
 use Rattle.gateway.specs.Moves.Move.{Takes, Breaks, Hears, Sends}
@@ -23,7 +22,7 @@ use Rattle.gateway.specs.Moves.Outcome.{Settled, Stopped}
 use Rattle.gateway.specs.Moves.Hearing.{Noticed, Abandoned}
 use Rattle.gateway.specs.Exchanges.{Awaited}
 use Rattle.gateway.specs.State.{State, after, nobody, upstream_at, with_upstream, sent_more}
-use Rattle.gateway.specs.Policy.{Pays, Begins, Due, idle, point_after, Allowed, Leads, Answers, closes, farewell, IsNoted, IsPlainSettings, MaySettle, is_in_order, is_admitted, is_upstreams, MayHear, noticed, answer_event, breach_code}
+use Rattle.gateway.specs.Policy.{Pays, Begins, Due, idle, point_after, Allowed, Leads, Answers, closes, farewell, IsNoted, IsPlainSettings, MaySettle, MayStop, IsUnreadable, is_in_order, is_admitted, is_upstreams, MayHear, noticed, answer_event, breach_code}
 use Rattle.gateway.specs.Policy.Due.{ToSend}
 use Rattle.gateway.proofs.Leading.{leads_one, leads_then, inputs-append, pays_then, pays_closes}
 
@@ -62,26 +61,42 @@ pays_end s o = pays_closes (shut s) [] s.upstreams o
 
 pub pays_farewell : (s : State) (code : ℕ) (o : List Output) → Pays (record { state = shut s; owes = farewell s code }) (idle (left s code)) o (put_farewell o s code)
 pays_farewell s code o =
-    pays_then (pays_by (shut s) (ToSend (goaway s.high code)) (closes s) (Sends (goaway s.high code)) o (record { turn = refl; holds = record { fits = fits_goaway s.high code; no_reset = refl; no_block = refl } }) refl)
+    pays_then (pays_by (shut s) (ToSend (goaway s.high code)) (closes s) (Sends (goaway s.high code)) o (record { turn = refl; holds = record { fits = fits_goaway s.high code; within = λ kind. absurd (let n : 7 ≡ 0 = kind in omega arith); no_reset = refl; no_block = refl } }) refl)
     (pays_end (record s { greeted = true; untaken = s.untaken + length (spell (goaway s.high code)) }) (put o (ToClient (spell (goaway s.high code)))))
 
 -- the note of a frame whose block isn't read
-abbrev note_for : Option Partial → Note
+abbrev pub note_for : Option Partial → Note
 note_for None = NoBlock
 note_for (Some block) = Unread
 
-abbrev unread : Frame → Noted
+abbrev pub unread : Frame → Noted
 unread frame = record { frame = frame; note = note_for (completed [] frame) }
 
 unread_noted : (table : Table) (frame : Frame) (code : ℕ) (next : Table) → IsNoted table (unread frame) (Stopped code next)
 unread_noted table frame code next = (table, elim (completed [] frame) as (λ (b : Option Partial). IsNoteOf b table (note_for b) table) [ None ↦ (refl, refl) | Some block ↦ refl ])
 
 -- a frame ends the connection
-pub answers_stopped : (s s' : State) (o o' : List Output) (frame : Frame) (code : ℕ) (next : Table) → s.closed ≡ false → (s.settled ≡ false → IsPlainSettings frame → ⊥) → s' ≡ left (with_table s next) code → o' ≡ put_farewell o s code → Answers s s' o o' (OfFrame frame ∷ [])
-answers_stopped s s' o o' frame code next on not_settings es eo =
+pub answers_stopped : (s s' : State) (o o' : List Output) (frame : Frame) (code : ℕ) (next : Table) → s.closed ≡ false → (s.settled ≡ false → IsPlainSettings frame → ⊥) → MayStop s (unread frame) code → s' ≡ left (with_table s next) code → o' ≡ put_farewell o s code → Answers s s' o o' (OfFrame frame ∷ [])
+answers_stopped s s' o o' frame code next on not_settings may es eo =
     subst (λ x. Answers s x o o' (OfFrame frame ∷ [])) (sym es)
     (subst (λ x. Answers s (left (with_table s next) code) o x (OfFrame frame ∷ [])) (sym eo)
-    (answers_from s (left (with_table s next) code) o (put_farewell o s code) (Takes (unread frame) (Stopped code next)) (OfFrame frame ∷ []) (record { turn = record { open_yet = on; nothing = refl }; holds = (unread_noted s.table frame code next, not_settings) }) refl refl (pays_farewell (with_table s next) code o)))
+    (answers_from s (left (with_table s next) code) o (put_farewell o s code) (Takes (unread frame) (Stopped code next)) (OfFrame frame ∷ []) (record { turn = record { open_yet = on; nothing = refl }; holds = (unread_noted s.table frame code next, (not_settings, may)) }) refl refl (pays_farewell (with_table s next) code o)))
+
+-- a frame whose note says just where its block isn't read
+pub unread_note : (frame : Frame) → is_read (unread frame).note ≡ is_none (completed [] frame)
+unread_note frame = elim (completed [] frame) as (λ (b : Option Partial). is_read (note_for b) ≡ is_none b) [ None ↦ refl | Some block ↦ refl ]
+
+-- a header block that can't be read ends the connection
+pub answers_unreadable : (s s' : State) (o o' : List Output) (frame : Frame) (next : Table) → s.closed ≡ false → s.settled ≡ true → IsHead s frame → blocks.NoBlock s.table frame.payload → completed [] frame ≡ Some (record { id = frame.id; ends = true; fragments = frame.payload }) → s' ≡ left (with_table s next) compression_error → o' ≡ put_farewell o s compression_error
+    → Answers s s' o o' (OfFrame frame ∷ [])
+answers_unreadable s s' o o' frame next on settled head no_block whole es eo =
+    let noted : Noted = record { frame = frame; note = Undecodable } in
+    let note : IsNoted s.table noted (Stopped compression_error next) = (s.table, subst (λ b. IsNoteOf b s.table Undecodable s.table) (sym whole) (no_block, refl)) in
+    let may : IsUnreadable s noted = record { settled = settled; above = head.above; kind = head.kind; flags = head.flags; odd = head.odd; short = head.short; few = head.few; note = refl } in
+    subst (λ x. Answers s x o o' (OfFrame frame ∷ [])) (sym es)
+    (subst (λ x. Answers s (left (with_table s next) compression_error) o x (OfFrame frame ∷ [])) (sym eo)
+    (answers_from s (left (with_table s next) compression_error) o (put_farewell o s compression_error) (Takes noted (Stopped compression_error next)) (OfFrame frame ∷ [])
+    (record { turn = record { open_yet = on; nothing = refl }; holds = (note, ((λ first. absurd (let f : true ≡ false = sym settled ∙ first in cc)), inr (inr (refl, may)))) }) refl refl (pays_farewell (with_table s next) compression_error o)))
 
 -- the client's octets end in a breach
 pub answers_breach : (s s' : State) (o o' : List Output) (breach : Breach) → s.closed ≡ false → s' ≡ left s (breach_code breach) → o' ≡ put_farewell o s (breach_code breach) → Answers s s' o o' (OfBreach breach ∷ [])
@@ -92,25 +107,17 @@ answers_breach s s' o o' breach on es eo =
 
 -- ---- the client's settings
 
-pub answers_settled : (s s' : State) (o o' : List Output) (frame : Frame) → s.closed ≡ false → s.settled ≡ false → frame.kind ≡ settings_kind → is_ack frame ≡ false → s' ≡ settled s → o' ≡ put o (ToClient (spell settings_ack)) → Answers s s' o o' (OfFrame frame ∷ [])
-answers_settled s s' o o' frame on first kind no_ack es eo =
+pub answers_settled : (s s' : State) (o o' : List Output) (frame : Frame) → s.closed ≡ false → s.settled ≡ false → IsPlainSettings frame → s' ≡ settled s → o' ≡ put o (ToClient (spell settings_ack)) → Answers s s' o o' (OfFrame frame ∷ [])
+answers_settled s s' o o' frame on first plain es eo =
     let noted : Noted = record { frame = frame; note = NoBlock } in
-    let no_end : ends_headers frame ≡ false = ap (λ k. (k == headers_kind || k == 9) && has_flag 4 frame) kind in
+    let no_end : ends_headers frame ≡ false = ap (λ k. (k == headers_kind || k == 9) && has_flag 4 frame) plain.kind in
     let none : completed [] frame ≡ None = ap (λ b. if b then joined None frame else None) no_end in
-    let no_begin : joined None frame ≡ None = ap (λ k. if k == headers_kind then Some (record { id = frame.id; ends = ends_stream frame; fragments = content frame }) else None) kind in
-    let may : MaySettle s noted = record {
-      first = first;
-      kind = kind;
-      no_ack = no_ack;
-      read = refl;
-      no_block = ap (λ b. if b then None else joined None frame) no_end ∙ no_begin;
-      no_item = ap (λ b. frame_items b noted) none ∙ ap (λ k. if k == 0 then Content (content frame) (ends_stream frame) ∷ [] else []) kind;
-    } in
+    let may : MaySettle s noted = record { first = first; kind = plain.kind; no_ack = plain.no_ack; whole = plain.whole; empty = plain.empty; note = refl } in
     let note : IsNoted s.table noted Settled = subst (λ b. IsNoteOf b s.table NoBlock s.table) (sym none) (refl, refl) in
     subst (λ x. Answers s x o o' (OfFrame frame ∷ [])) (sym es)
     (subst (λ x. Answers s (settled s) o x (OfFrame frame ∷ [])) (sym eo)
     (answers_from s (settled s) o (put o (ToClient (spell settings_ack))) (Takes noted Settled) (OfFrame frame ∷ []) (record { turn = record { open_yet = on; nothing = refl }; holds = (note, may) }) refl refl
-    (pays_by (record s { settled = true }) (ToSend settings_ack) [] (Sends settings_ack) o (record { turn = refl; holds = record { fits = fits_ack; no_reset = refl; no_block = refl } }) refl)))
+    (pays_by (record s { settled = true }) (ToSend settings_ack) [] (Sends settings_ack) o (record { turn = refl; holds = record { fits = fits_ack; within = λ kind. absurd (let n : 4 ≡ 0 = kind in omega arith); no_reset = refl; no_block = refl } }) refl)))
 
 -- ---- events
 
@@ -166,16 +173,18 @@ pub ok_both : {A E X Y Z : Type 0} (r : Result A E) → OnOk r X → OnOk r Y �
 ok_both (Ok a) x y f = f x y
 ok_both (Err e) x y f = tt
 
-pub no_ack : (frame : Frame) → (frame.flags % 2 ≡ 1 → ⊥) → is_ack frame ≡ false
-no_ack frame odd =
-    elim (eqb_tells ((frame.flags / 1) % 2) 1) [
-      | inl x ↦ absurd (odd (let e = x.1 in omega arith))
-      | inr x ↦ ap (λ b. (frame.kind == settings_kind || frame.kind == 6) && b) x.0 ∙ and_false (frame.kind == settings_kind || frame.kind == 6)
-    ]
-  where
-    and_false : (b : Bool) → (b && false) ≡ false
-    and_false true = refl
-    and_false false = refl
+-- a first frame without the marks of settings that may be taken is wrong
+pub wrong_first : (frame : Frame) → ((frame.kind == settings_kind) && (frame.flags % 2 == 0)) ≡ false → (frame.kind == settings_kind && not (is_ack frame)) ≡ false
+wrong_first frame e = elim (eqb_tells frame.kind settings_kind) [
+  | inl x ↦ elim (eqb_tells (frame.flags % 2) 0) [
+    | inl y ↦ absurd (let f : true ≡ false = sym (ap (λ a. a && (frame.flags % 2 == 0)) x.0 ∙ y.0) ∙ e in cc)
+    | inr y ↦ (
+        let odd : ((frame.flags / 1) % 2 == 1) ≡ true = eq-eqb ((frame.flags / 1) % 2) 1 (let n = y.1 in omega (arith, n)) in
+        ap (λ a. a && not ((a || frame.kind == 6) && has_flag 1 frame)) x.0 ∙ ap not odd
+        )
+  ]
+  | inr x ↦ ap (λ a. a && not (is_ack frame)) x.0
+]
 
 -- what an event that may come tells
 pub may_come : (s : State) (event : Event) → is_admitted s event ≡ true → (s.closed ≡ false) × (is_in_order s event ≡ true)
@@ -219,7 +228,7 @@ begins_greeted s s' o o' first none es eo =
     (subst (λ x. Begins s (greeted s) o x) (sym eo)
     (record {
       pays = subst (λ b. Pays (record { state = s; owes = if b then [] else ToSend settings_frame ∷ [] }) (idle (greeted s)) o (put o (ToClient (spell settings_frame)))) (sym first)
-          (pays_by s (ToSend settings_frame) [] (Sends settings_frame) o (record { turn = refl; holds = record { fits = fits_settings; no_reset = refl; no_block = refl } }) refl);
+          (pays_by s (ToSend settings_frame) [] (Sends settings_frame) o (record { turn = refl; holds = record { fits = fits_settings; within = λ kind. absurd (let n : 4 ≡ 0 = kind in omega arith); no_reset = refl; no_block = refl } }) refl);
       greeted = refl;
       admits = admits_greeted s none;
     }))

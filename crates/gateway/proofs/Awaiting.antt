@@ -7,10 +7,9 @@ use Rattle.std.proofs.lemmas.List.{take_all}
 use Rattle.std.proofs.lemmas.List.Folds.{list_any-append}
 use Rattle.std.proofs.lemmas.Bool.{or_right}
 use Rattle.std.proofs.lemmas.Bool.Decides.{eqb_tells}
-use Rattle.model.specs.Messages.{Field, Request, Item}
+use Rattle.model.specs.Messages.{Request, Item}
 use Rattle.model.specs.Messages.Item.{Block, Content}
 use Rattle.model.specs.Tables.{Table}
-use Rattle.model.specs.Http2.{HasHead}
 use Rattle.model.specs.ResponseHeads.{Head}
 use Rattle.model.specs.Responses.{Response, H1Response}
 use Rattle.model.specs.Setup.{Setup}
@@ -18,8 +17,10 @@ use Rattle.model.specs.Logs.Act.{Open, ToUp}
 use Rattle.model.specs.Logs.Event.{Up}
 use Rattle.model.specs.Tapes.{Noted, Entry}
 use Rattle.model.specs.Tapes.Entry.{Came, Happened}
-use Rattle.model.specs.Streams.{Story, items}
-use Rattle.model.specs.Requests.{Opened, opens}
+use Rattle.model.specs.Courses.{Course, items}
+use Rattle.model.specs.Offers.{is_to_head}
+use Rattle.gateway.specs.Setups.{known_of}
+use Rattle.model.specs.Openings.{Opened, opens}
 use Rattle.model.specs.Deliveries.{ReadsAs, IsAnsweredBy}
 use Rattle.model.specs.Available.{heard, IsIn, asks_for_head}
 use Rattle.model.proofs.DeliveryLemmas.{final_section, final_status}
@@ -35,10 +36,11 @@ use Rattle.gateway.specs.Moves.Hearing.{Told}
 use Rattle.gateway.specs.State.{State, gathered_if, after}
 use Rattle.gateway.specs.Policy.{Due, MayServe, IsNoted, response_on}
 use Rattle.gateway.specs.Policy.Due.{ToAct}
-use Rattle.gateway.proofs.Stories.{story_over}
+use Rattle.gateway.proofs.Courses.{items_stay as course_stays}
+use Rattle.gateway.proofs.Living.{Living}
 use Rattle.gateway.proofs.Owed.{all_opens}
 use Rattle.gateway.proofs.Giving.{Giving, Serving, AllServing}
-use Rattle.gateway.proofs.Taking.{served_story}
+use Rattle.gateway.proofs.Taking.{told_here}
 use Rattle.gateway.proofs.Responding.{items_owed, all_items, answered_more, Waiting, WaitingIf, Responding, waiting_same, in_back, changed_at, changed_other, head_more, body_more, interim_more, heard_here, heard_other}
 
 -- ---- the requests of streams that were given connections stay
@@ -48,12 +50,12 @@ serving_in setup t ds o [] all m = absurd m
 serving_in setup t ds o (p ∷ os) all (inl same) = subst (Serving setup t ds) (sym same) all.0
 serving_in setup t ds o (p ∷ os) all (inr m) = serving_in setup t ds o os all.1 m
 
-pub items_stay : (t : List Entry) (s : State) (ds : List Due) (e : Entry) (o : Opened) → Giving t s ds → IsIn o (all_opens t ds) → items o.stream (e ∷ t) ≡ items o.stream t
-items_stay t s ds e o g m = let v = serving_in s.setup t ds o (all_opens t ds) g.serving m in ap (λ (x : Story). x.items) (story_over o.stream t e (ap (λ (x : Story). x.over) v.told))
+pub items_stay : (t : List Entry) (s : State) (ds : List Due) (e : Entry) (o : Opened) → Giving t s ds → IsIn o (all_opens t ds) → items (known_of s.setup) o.stream (e ∷ t) ≡ items (known_of s.setup) o.stream t
+items_stay t s ds e o g m = course_stays s.setup o.stream t e (serving_in s.setup t ds o (all_opens t ds) g.serving m).over
 
 -- ---- a request is sent
 
-old_place : (es : List (Option Awaited)) (k : ℕ) (x : Option Awaited) → k ≤ length es → exchange_at (es ++ x ∷ []) k ≡ exchange_at es k
+pub old_place : (es : List (Option Awaited)) (k : ℕ) (x : Option Awaited) → k ≤ length es → exchange_at (es ++ x ∷ []) k ≡ exchange_at es k
 old_place es zero x le = refl
 old_place es (suc n) x le = front es n (omega arith)
   where
@@ -66,7 +68,7 @@ old_place es (suc n) x le = front es n (omega arith)
 stands_fresh : (to_head : Bool) (stream : ℕ) → Stands [] [] (awaited stream to_head).reader
 stands_fresh to_head stream = stands_new to_head [] refl
 
-module _ (t : List Entry) (s : State) (noted : Noted) (route : ℕ) (text : List ℕ) (request : Request) (next : Table) (g : Giving t s []) (h : Responding t s []) (on : s.closed ≡ false) (note : IsNoted s.table noted (Served route text request next)) (may : MayServe s noted route text request) where
+module _ (t : List Entry) (s : State) (noted : Noted) (route : ℕ) (text : List ℕ) (request : Request) (next : Table) (g : Giving t s []) (l : Living t s []) (h : Responding t s []) (on : s.closed ≡ false) (note : IsNoted s.table noted (Served route text request next)) (may : MayServe s noted route text request) where
   abbrev k : ℕ
   k = suc (length s.upstreams)
 
@@ -82,17 +84,17 @@ module _ (t : List Entry) (s : State) (noted : Noted) (route : ℕ) (text : List
   count : length s.exchanges ≡ length s.upstreams
   count = h.count on ∙ sym g.count
 
-  method : (fields : List Field) → HasHead (items noted.frame.id (Came noted ∷ t)) fields → fresh.reader.to_head ≡ asks_for_head fields
-  method fields has =
-      let told = served_story t s noted route text request next g on note may in
-      let same : may.fields ≡ fields = subst (λ (x : Story). HasHead x.items fields) told has in
-      ap (λ (r : Request). bytes_eq r.method (codes "HEAD")) may.means.is ∙ ap asks_for_head (sym may.means.has_head ∙ same)
+  method : fresh.reader.to_head ≡ is_to_head (items (known_of s.setup) noted.frame.id (Came noted ∷ t))
+  method =
+      ap (λ (r : Request). bytes_eq r.method (codes "HEAD")) may.means.is
+      ∙ ap asks_for_head (sym may.means.has_head)
+      ∙ ap (λ (c : Course). is_to_head c.items) (sym (told_here t s noted route text request next g l on note may))
 
-  waits : WaitingIf (Came noted ∷ t) due new (exchange_at (s.exchanges ++ Some fresh ∷ []) k)
+  waits : WaitingIf s.setup (Came noted ∷ t) due new (exchange_at (s.exchanges ++ Some fresh ∷ []) k)
   waits =
       let found : exchange_at (s.exchanges ++ Some fresh ∷ []) k ≡ Some fresh = ap (λ n. get_or (s.exchanges ++ Some fresh ∷ []) n None) (sym count) ∙ get_or-append_seam s.exchanges (Some fresh) [] None in
       let silent : heard k t ≡ [] = h.unheard k (let c = g.count in omega (arith, c)) in
-      subst (WaitingIf (Came noted ∷ t) due new) (sym found) (record {
+      subst (WaitingIf s.setup (Came noted ∷ t) due new) (sym found) (record {
         stream = refl;
         parts = [];
         stands = subst (λ x. Stands x [] fresh.reader) (sym silent) (stands_fresh (bytes_eq request.method (codes "HEAD")) noted.frame.id);
@@ -108,13 +110,14 @@ module _ (t : List Entry) (s : State) (noted : Noted) (route : ℕ) (text : List
     encodes = h.encodes;
     no_block = h.no_block;
     decoded = h.decoded;
+    together = h.together;
     waiting = λ o c m. elim m [
-      | inl same ↦ subst (λ (p : Opened). WaitingIf (Came noted ∷ t) due p (exchange_at (s.exchanges ++ Some fresh ∷ []) p.k)) (sym same) waits
+      | inl same ↦ subst (λ (p : Opened). WaitingIf s.setup (Came noted ∷ t) due p (exchange_at (s.exchanges ++ Some fresh ∷ []) p.k)) (sym same) waits
       | inr old ↦ (
           let low : c.k ≤ length (opens t) = in_back c (opens t) (length (opens t)) g.numbered old (omega arith) in
           let place : c.k ≤ length s.exchanges = let n = g.count in omega (arith, low, count, n) in
-          subst (WaitingIf (Came noted ∷ t) due c) (sym (old_place s.exchanges c.k (Some fresh) place))
-          (waiting_same t (Came noted) [] due c (exchange_at s.exchanges c.k) refl (items_stay t s [] (Came noted) c g old) refl (h.waiting on c old))
+          subst (WaitingIf s.setup (Came noted ∷ t) due c) (sym (old_place s.exchanges c.k (Some fresh) place))
+          (waiting_same s.setup t (Came noted) [] due c (exchange_at s.exchanges c.k) refl (items_stay t s [] (Came noted) c g old) refl (h.waiting on c old))
           )
     ];
     count = λ o. length-append s.exchanges (Some fresh ∷ []) ∙ (let c = h.count on in omega (arith, c));
@@ -142,12 +145,12 @@ bodies_told : (bodies : List (List ℕ)) → body_of (map Body bodies ++ Done �
 bodies_told [] = refl
 bodies_told (b ∷ bodies) = ap (λ x. b ++ x) (bodies_told bodies)
 
-none_told : (interims : List Head) (more : List Part) → has_interim (map Interim interims ++ more) ≡ false → interims ≡ []
+pub none_told : (interims : List Head) (more : List Part) → has_interim (map Interim interims ++ more) ≡ false → interims ≡ []
 none_told [] more e = refl
 none_told (i ∷ interims) more e = absurd (let f : true ≡ false = e in cc)
 
-pub whole_response : (t : List Entry) (ds : List Due) (o : Opened) (a : Awaited) → (w : Waiting t ds o a) → is_done w.parts ≡ true → IsWhole t o.k a
-whole_response t ds o a w done =
+pub whole_response : (setup : Setup) (t : List Entry) (ds : List Due) (o : Opened) (a : Awaited) → (w : Waiting setup t ds o a) → is_done w.parts ≡ true → IsWhole t o.k a
+whole_response setup t ds o a w done =
     let r : TellsWhole (heard o.k t) a.reader.to_head w.parts = whole (heard o.k t) w.parts a.reader w.stands done in
     let none : r.response.interims ≡ [] = none_told r.response.interims (Final r.response.head ∷ map Body r.bodies ++ Done ∷ []) (ap has_interim (sym r.told) ∙ w.no_interim) in
     let told : w.parts ≡ Final r.response.head ∷ map Body r.bodies ++ Done ∷ [] = r.told ∙ ap (λ (is : List Head). map Interim is ++ (Final r.response.head ∷ map Body r.bodies ++ Done ∷ [])) none in
@@ -195,14 +198,14 @@ module _ (t : List Entry) (s : State) (k : ℕ) (piece : List ℕ) (added : List
   size : length s.exchanges ≡ length s.upstreams
   size = h.count on ∙ sym g.count
 
-  pub waited : (o : Opened) → IsIn o (opens t) → o.k ≡ k → Waiting t [] o old
-  waited o m same = subst (WaitingIf t [] o) (ap (exchange_at s.exchanges) same ∙ found) (h.waiting on o m)
+  pub waited : (o : Opened) → IsIn o (opens t) → o.k ≡ k → Waiting s.setup t [] o old
+  waited o m same = subst (WaitingIf s.setup t [] o) (ap (exchange_at s.exchanges) same ∙ found) (h.waiting on o m)
 
   heard_more : (o : Opened) → o.k ≡ k → heard o.k (e ∷ t) ≡ heard o.k t ++ piece
   heard_more o same = ap (λ n. heard n (e ∷ t)) same ∙ heard_here k piece t ∙ ap (λ n. heard n t ++ piece) (sym same)
 
   -- what is awaited once the octets are read
-  pub waits_on : (o : Opened) → (m : IsIn o (opens t)) → o.k ≡ k → Waiting (e ∷ t) [] o now
+  pub waits_on : (o : Opened) → (m : IsIn o (opens t)) → o.k ≡ k → Waiting s.setup (e ∷ t) [] o now
   waits_on o m same =
       let w = waited o m same in record {
         stream = w.stream;
@@ -211,7 +214,7 @@ module _ (t : List Entry) (s : State) (k : ℕ) (piece : List ℕ) (added : List
         head = ap (λ x. head_after x added) w.head ∙ sym (head_more None w.parts added);
         body = ap (λ x. x ++ body_of added) w.body ∙ sym (body_more w.parts added);
         no_interim = interim_more w.parts added w.no_interim tells.no_interim;
-        for_head = λ fields has. tells.hears.same ∙ w.for_head fields (subst (λ x. HasHead x fields) (items_stay t s [] e o g m) has);
+        for_head = tells.hears.same ∙ w.for_head ∙ ap is_to_head (sym (items_stay t s [] e o g m));
         unsent = w.unsent;
       }
 
@@ -230,12 +233,13 @@ module _ (t : List Entry) (s : State) (k : ℕ) (piece : List ℕ) (added : List
         encodes = h.encodes;
         no_block = h.no_block;
         decoded = h.decoded;
+        together = h.together;
         waiting = λ _ o m. elim (eqb_tells o.k k) [
-          | inl x ↦ subst (λ y. WaitingIf (e ∷ t) [] o (exchange_at y o.k)) (sym is)
-              (subst (WaitingIf (e ∷ t) [] o) (sym (ap (exchange_at (with_exchange s.exchanges k (Some now))) x.1 ∙ changed_at s.exchanges k (Some now) low (omega (arith, size, within)))) (waits_on o m x.1))
-          | inr x ↦ subst (λ y. WaitingIf (e ∷ t) [] o (exchange_at y o.k)) (sym is)
-              (subst (WaitingIf (e ∷ t) [] o) (sym (changed_other s.exchanges k o.k (Some now) x.1))
-              (waiting_same t e [] [] o (exchange_at s.exchanges o.k) (heard_other o.k k piece t x.1) (items_stay t s [] e o g m) refl (h.waiting on o m)))
+          | inl x ↦ subst (λ y. WaitingIf s.setup (e ∷ t) [] o (exchange_at y o.k)) (sym is)
+              (subst (WaitingIf s.setup (e ∷ t) [] o) (sym (ap (exchange_at (with_exchange s.exchanges k (Some now))) x.1 ∙ changed_at s.exchanges k (Some now) low (omega (arith, size, within)))) (waits_on o m x.1))
+          | inr x ↦ subst (λ y. WaitingIf s.setup (e ∷ t) [] o (exchange_at y o.k)) (sym is)
+              (subst (WaitingIf s.setup (e ∷ t) [] o) (sym (changed_other s.exchanges k o.k (Some now) x.1))
+              (waiting_same s.setup t e [] [] o (exchange_at s.exchanges o.k) (heard_other o.k k piece t x.1) (items_stay t s [] e o g m) refl (h.waiting on o m)))
         ];
         count = λ _. ap length is ∙ with_size s.exchanges k (Some now) ∙ h.count on;
         unheard = unheard_still;

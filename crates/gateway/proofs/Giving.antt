@@ -1,5 +1,5 @@
 -- Concern: which upstream connection is given to which stream, and what it is sent.
-use Rattle.std.proofs.Common.{◌≡◌, ℕ, suc, ◌<◌, ◌≤◌, Bool, true, false, ◌==◌, ◌&&◌, List, [], ◌∷◌, ◌++◌, length, refl, sym, ◌∙◌, ap, subst, append_assoc, arith, if◌then◌else◌, inl, inr}
+use Rattle.std.proofs.Common.{◌≡◌, ℕ, suc, ◌<◌, ◌≤◌, Bool, true, false, ◌==◌, List, [], ◌∷◌, ◌++◌, length, refl, sym, ◌∙◌, ap, subst, append_assoc, arith, if◌then◌else◌, inl, inr}
 use Rattle.std.specs.Prelude.{None}
 use Rattle.std.proofs.lemmas.Bool.Decides.{eqb_tells}
 use Rattle.model.specs.Messages.{Field, Request}
@@ -15,19 +15,21 @@ use Rattle.model.specs.Tapes.{Noted, Entry, came, sent_up}
 use Rattle.model.specs.Tapes.Entry.{Happened, Sent, Did}
 use Rattle.model.specs.Decoding.{begun, Decodes, are_read}
 use Rattle.model.specs.Errors.{row_first_frame}
-use Rattle.model.specs.Streams.{Story, story}
-use Rattle.model.specs.Requests.{Opened, last_stream, opens, AreNumbered, AreApart}
+use Rattle.model.specs.Openings.{Opened, last_stream, opens, AreNumbered, AreApart}
+use Rattle.model.specs.Courses.{course}
+use Rattle.gateway.specs.Setups.{known_of}
 use Rattle.gateway.specs.State.{State}
 use Rattle.gateway.specs.Policy.{Due}
 use Rattle.gateway.specs.Policy.Due.{ToSend, ToSendHead, ToAct}
-use Rattle.gateway.proofs.Stories.{untold, story_over, story_same, story_happened, story_did}
+use Rattle.gateway.proofs.Courses.{untold, told, over_stays, items_stay, told_stays, no_cause_sent, no_cause_did, no_cause_happened, untold_happened, untold_did, untold_sent, cause_for}
 use Rattle.gateway.proofs.Owed.{to_open, owed_up, all_opens, all_text, sent_owed}
 
 -- A connection is given to a stream whose items are a request; what was sent and is owed is its text.
 pub record Serving (setup : Setup) (t : List Entry) (ds : List Due) (o : Opened) : Type 0 where
   pub fields : List Field
   pub request : Request
-  pub told : story o.stream t ≡ record { items = Block fields true ∷ []; over = true }
+  pub items : (course (known_of setup) o.stream t).items ≡ Block fields true ∷ []
+  pub over : (course (known_of setup) o.stream t).over ≡ true
   pub means : H2Request (Block fields true ∷ []) request
   pub by_route : IsFirstMatch setup.routes (authority_of fields) (path_of fields) o.route
   pub reads : H1Request (all_text o.k t ds) (forward request)
@@ -35,6 +37,11 @@ pub record Serving (setup : Setup) (t : List Entry) (ds : List Due) (o : Opened)
 abbrev pub AllServing : Setup → List Entry → List Due → List Opened → Type 0
 AllServing setup t ds [] = Unit {0}
 AllServing setup t ds (o ∷ os) = Serving setup t ds o × AllServing setup t ds os
+
+-- The gateway hasn't answered the streams itself.
+abbrev pub AreCalm : Setup → List Entry → List Opened → Type 0
+AreCalm setup t [] = Unit {0}
+AreCalm setup t (o ∷ os) = ((fields : List Field) × (course (known_of setup) o.stream t ≡ told fields)) × AreCalm setup t os
 
 abbrev pub AreLow : ℕ → List Opened → Type 0
 AreLow high [] = Unit {0}
@@ -47,10 +54,12 @@ pub record Giving (t : List Entry) (s : State) (ds : List Due) : Type 0 where
   pub low : AreLow s.high (all_opens t ds)
   pub count : length s.upstreams ≡ length (opens t)
   pub unsent : (k : ℕ) → length s.upstreams < k → sent_up k t ≡ []
-  pub fresh : s.closed ≡ false → (stream : ℕ) → s.high < stream → story stream t ≡ untold
+  pub calm : s.closed ≡ false → AreCalm s.setup t (all_opens t ds)
+  pub fresh : s.closed ≡ false → (stream : ℕ) → s.high < stream → course (known_of s.setup) stream t ≡ untold
   pub no_block : s.closed ≡ false → begun (came t) ≡ None
   pub all_read : s.closed ≡ false → are_read (came t) ≡ true
   pub settled : s.settled ≡ true → (frame : _) → row_first_frame (came t) frame ≡ None
+  pub unsettled : s.closed ≡ false → s.settled ≡ false → came t ≡ []
   pub decodes : (table : Table) × Decodes (came t) table × (s.closed ≡ false → s.table ≡ table)
 
 pub giving_none : (setup : Setup) (ds : List Due) → to_open 0 ds ≡ [] → (s : State) → s.setup ≡ setup → s.upstreams ≡ [] → s.settled ≡ false → s.table ≡ first_table → Giving [] s ds
@@ -59,12 +68,14 @@ giving_none setup ds none s es us fs ts = record {
   apart = subst AreApart (sym (at_first none)) tt;
   serving = subst (AllServing s.setup [] ds) (sym (at_first none)) tt;
   low = subst (AreLow s.high) (sym (at_first none)) tt;
+  calm = λ o. subst (AreCalm s.setup []) (sym (at_first none)) tt;
   count = ap length us;
   unsent = λ k lt. refl;
   fresh = λ o stream lt. refl;
   no_block = λ o. refl;
   all_read = λ o. refl;
   settled = λ e. absurd (let f : true ≡ false = sym e ∙ fs in cc);
+  unsettled = λ o e. refl;
   decodes = (first_table, refl, (λ o. ts));
 }
   where
@@ -81,7 +92,8 @@ serving_same setup t e ds ds' n texts (o ∷ os) num le h =
       record {
         fields = h.0.fields;
         request = h.0.request;
-        told = story_over o.stream t e (ap (λ (s : Story). s.over) h.0.told) ∙ h.0.told;
+        items = items_stay setup o.stream t e h.0.over ∙ h.0.items;
+        over = over_stays setup o.stream t e h.0.over;
         means = h.0.means;
         by_route = h.0.by_route;
         reads = subst (λ text. H1Request text (forward h.0.request)) (sym (texts o.k small)) h.0.reads;
@@ -89,12 +101,18 @@ serving_same setup t e ds ds' n texts (o ∷ os) num le h =
       serving_same setup t e ds ds' n texts os num.1 (omega (arith, le)) h.1,
     )
 
+-- the entry is no cause for any stream
+pub calm_same : (setup : Setup) (t : List Entry) (e : Entry) → (os : List Opened) → ((stream : ℕ) → cause_for setup stream t e ≡ None) → AreCalm setup t os → AreCalm setup (e ∷ t) os
+calm_same setup t e [] none h = tt
+calm_same setup t e (o ∷ os) none h = ((h.0.0, told_stays setup o.stream t e h.0.0 h.0.1 (none o.stream)), calm_same setup t e os none h.1)
+
 pub quiet : (t : List Entry) (s : State) (ds : List Due) → Giving t s ds → ds ≡ [] → Giving t s []
 quiet t s ds h e = subst (Giving t s) e h
 
 -- The entry leaves all stories, connections and frames as they are; what is owed for upstreams stays too.
 pub record Passes (t : List Entry) (e : Entry) (ds ds' : List Due) : Type 0 where
-  pub stories : (stream : ℕ) → story stream (e ∷ t) ≡ story stream t
+  pub no_cause : (setup : Setup) (stream : ℕ) → cause_for setup stream t e ≡ None
+  pub fresh_stays : (setup : Setup) (stream : ℕ) → course (known_of setup) stream t ≡ untold → course (known_of setup) stream (e ∷ t) ≡ untold
   pub same_opens : all_opens (e ∷ t) ds' ≡ all_opens t ds
   pub same_text : (k : ℕ) → all_text k (e ∷ t) ds' ≡ all_text k t ds
   pub same_count : length (opens (e ∷ t)) ≡ length (opens t)
@@ -108,19 +126,22 @@ giving_passes t e s s' ds ds' h p es eu eh ef ec et = record {
   apart = subst AreApart (sym p.same_opens) h.apart;
   serving = subst (AllServing s'.setup (e ∷ t) ds') (sym p.same_opens) (subst (λ x. AllServing x (e ∷ t) ds' (all_opens t ds)) (sym es) (serving_same s.setup t e ds ds' (length (all_opens t ds)) (λ k le. p.same_text k) (all_opens t ds) h.numbered (omega arith) h.serving));
   low = subst (AreLow s'.high) (sym p.same_opens) (subst (λ x. AreLow x (all_opens t ds)) (sym eh) h.low);
+  calm = λ o. subst (AreCalm s'.setup (e ∷ t)) (sym p.same_opens) (subst (λ x. AreCalm x (e ∷ t) (all_opens t ds)) (sym es) (calm_same s.setup t e (all_opens t ds) (p.no_cause s.setup) (h.calm (ec o))));
   count = eu ∙ h.count ∙ sym p.same_count;
   unsent = λ k lt. p.same_sent k ∙ h.unsent k (subst (λ n. n < k) eu lt);
-  fresh = λ o stream lt. p.stories stream ∙ h.fresh (ec o) stream (subst (λ n. n < stream) eh lt);
+  fresh = λ o stream lt. subst (λ x. course (known_of x) stream (e ∷ t) ≡ untold) (sym es) (p.fresh_stays s.setup stream (h.fresh (ec o) stream (subst (λ n. n < stream) eh lt)));
   no_block = λ o. ap begun p.same_came ∙ h.no_block (ec o);
   all_read = λ o. ap are_read p.same_came ∙ h.all_read (ec o);
   settled = λ f frame. ap (λ x. row_first_frame x frame) p.same_came ∙ h.settled (sym ef ∙ f) frame;
+  unsettled = λ o f. p.same_came ∙ h.unsettled (ec o) (sym ef ∙ f);
   decodes = (h.decodes.0, subst (λ x. Decodes x h.decodes.0) (sym p.same_came) h.decodes.1, (λ o. et ∙ h.decodes.2 (ec o)));
 }
 
 -- an event, which asks for nothing upstream but an end
 pub passes_event : (t : List Entry) (event : Event) (ds' : List Due) → ((stream : ℕ) → to_open stream ds' ≡ []) → ((k : ℕ) → owed_up k ds' ≡ []) → Passes t (Happened event) [] ds'
 passes_event t event ds' none silent = record {
-  stories = λ stream. story_happened stream t event;
+  no_cause = λ setup stream. no_cause_happened setup stream t event;
+  fresh_stays = λ setup stream is. untold_happened setup stream t event is;
   same_opens = ap (λ x. x ++ opens t) (none (last_stream t));
   same_text = λ k. ap (λ x. sent_up k t ++ x) (silent k);
   same_count = refl;
@@ -130,7 +151,8 @@ passes_event t event ds' none silent = record {
 
 pub passes_sent : (t : List Entry) (noted : Noted) (frame_is : (noted.frame.kind == rst_stream_kind) ≡ false) (ds : List Due) → Passes t (Sent noted) (ToSend noted.frame ∷ ds) ds
 passes_sent t noted frame_is ds = record {
-  stories = λ stream. story_same stream t (Sent noted) (ap (λ b. b && noted.frame.id == stream) frame_is) refl;
+  no_cause = λ setup stream. no_cause_sent setup stream t noted;
+  fresh_stays = λ setup stream is. untold_sent setup stream t noted frame_is is;
   same_opens = refl;
   same_text = λ k. refl;
   same_count = refl;
@@ -141,7 +163,8 @@ passes_sent t noted frame_is ds = record {
 -- a whole header block on a stream
 pub passes_headed : (t : List Entry) (noted : Noted) (id : ℕ) (fields : List Field) (ends : Bool) → noted.frame.kind ≡ headers_kind → (ds : List Due) → Passes t (Sent noted) (ToSendHead id fields ends ∷ ds) ds
 passes_headed t noted id fields ends kind ds = record {
-  stories = λ stream. story_same stream t (Sent noted) (ap (λ k. k == rst_stream_kind && noted.frame.id == stream) kind) refl;
+  no_cause = λ setup stream. no_cause_sent setup stream t noted;
+  fresh_stays = λ setup stream is. untold_sent setup stream t noted (ap (λ k. k == rst_stream_kind) kind) is;
   same_opens = refl;
   same_text = λ k. refl;
   same_count = refl;
@@ -151,7 +174,8 @@ passes_headed t noted id fields ends kind ds = record {
 
 pub passes_close : (t : List Entry) (k : ℕ) (ds : List Due) → Passes t (Did (Close k)) (ToAct (Close k) ∷ ds) ds
 passes_close t k ds = record {
-  stories = λ stream. story_did stream t (Close k);
+  no_cause = λ setup stream. no_cause_did setup stream t (Close k);
+  fresh_stays = λ setup stream is. untold_did setup stream t (Close k) is;
   same_opens = refl;
   same_text = λ j. refl;
   same_count = refl;
@@ -161,7 +185,8 @@ passes_close t k ds = record {
 
 pub passes_end : (t : List Entry) (ds : List Due) → Passes t (Did CloseClient) (ToAct CloseClient ∷ ds) ds
 passes_end t ds = record {
-  stories = λ stream. story_did stream t CloseClient;
+  no_cause = λ setup stream. no_cause_did setup stream t CloseClient;
+  fresh_stays = λ setup stream is. untold_did setup stream t CloseClient is;
   same_opens = refl;
   same_text = λ k. refl;
   same_count = refl;
@@ -182,12 +207,14 @@ giving_opened t s s' k route ds h at es eu eh ef ec et =
       apart = subst AreApart (sym same) h.apart;
       serving = subst (AllServing s'.setup (e ∷ t) ds) (sym same) (subst (λ x. AllServing x (e ∷ t) ds (all_opens t due)) (sym es) (serving_same s.setup t e due ds (length (all_opens t due)) (λ j le. refl) (all_opens t due) h.numbered (omega arith) h.serving));
       low = subst (AreLow s'.high) (sym same) (subst (λ x. AreLow x (all_opens t due)) (sym eh) h.low);
+      calm = λ q. subst (AreCalm s'.setup (e ∷ t)) (sym same) (subst (λ x. AreCalm x (e ∷ t) (all_opens t due)) (sym es) (calm_same s.setup t e (all_opens t due) (λ stream. no_cause_did s.setup stream t (Open k route)) (h.calm (sym ec ∙ q))));
       count = eu ∙ ap suc h.count;
       unsent = λ j lt. h.unsent j (omega (arith, lt, eu));
-      fresh = λ q stream lt. story_did stream t (Open k route) ∙ h.fresh (sym ec ∙ q) stream (subst (λ n. n < stream) eh lt);
+      fresh = λ q stream lt. subst (λ x. course (known_of x) stream (e ∷ t) ≡ untold) (sym es) (untold_did s.setup stream t (Open k route) (h.fresh (sym ec ∙ q) stream (subst (λ n. n < stream) eh lt)));
       no_block = λ q. h.no_block (sym ec ∙ q);
       all_read = λ q. h.all_read (sym ec ∙ q);
       settled = λ f frame. h.settled (sym ef ∙ f) frame;
+      unsettled = λ q f. h.unsettled (sym ec ∙ q) (sym ef ∙ f);
       decodes = (h.decodes.0, h.decodes.1, (λ q. et ∙ h.decodes.2 (sym ec ∙ q)));
     }
 
@@ -200,6 +227,7 @@ giving_sent t s s' j octets ds h within es eu eh ef ec et =
       apart = h.apart;
       serving = subst (λ x. AllServing x (e ∷ t) ds (all_opens t due)) (sym es) (serving_same s.setup t e due ds (length (all_opens t due)) (λ k le. sent_owed k j octets (sent_up k t) ds) (all_opens t due) h.numbered (omega arith) h.serving);
       low = subst (λ x. AreLow x (all_opens t due)) (sym eh) h.low;
+      calm = λ q. subst (λ x. AreCalm x (e ∷ t) (all_opens t due)) (sym es) (calm_same s.setup t e (all_opens t due) (λ stream. no_cause_did s.setup stream t (ToUp j octets)) (h.calm (sym ec ∙ q)));
       count = eu ∙ h.count;
       unsent = λ k lt.
           let more : length s.upstreams < k = subst (λ n. n < k) eu lt in
@@ -207,9 +235,10 @@ giving_sent t s s' j octets ds h within es eu eh ef ec et =
             | inl x ↦ absurd (let same = x.1 in omega (arith, same, more, within))
             | inr x ↦ ap (λ b. if b then sent_up k t ++ octets else sent_up k t) x.0 ∙ h.unsent k more
           ];
-      fresh = λ q stream lt. story_did stream t (ToUp j octets) ∙ h.fresh (sym ec ∙ q) stream (subst (λ n. n < stream) eh lt);
+      fresh = λ q stream lt. subst (λ x. course (known_of x) stream (e ∷ t) ≡ untold) (sym es) (untold_did s.setup stream t (ToUp j octets) (h.fresh (sym ec ∙ q) stream (subst (λ n. n < stream) eh lt)));
       no_block = λ q. h.no_block (sym ec ∙ q);
       all_read = λ q. h.all_read (sym ec ∙ q);
       settled = λ f frame. h.settled (sym ef ∙ f) frame;
+      unsettled = λ q f. h.unsettled (sym ec ∙ q) (sym ef ∙ f);
       decodes = (h.decodes.0, h.decodes.1, (λ q. et ∙ h.decodes.2 (sym ec ∙ q)));
     }

@@ -8,7 +8,7 @@ use Rattle.model.specs.Logs.{Event}
 use Rattle.model.specs.Logs.Event.{Client, ClientEnd, ClientTook, Up, UpEnd, UpFailed, UpTook}
 use Rattle.model.specs.Tapes.{Entry}
 use Rattle.model.specs.Tapes.Entry.{Happened}
-use Rattle.model.specs.Requests.{opens}
+use Rattle.model.specs.Openings.{opens, last_stream}
 use Rattle.model.specs.Admission as admission
 use Rattle.model.specs.Available.{heard, has_ended}
 use Rattle.h1_reader.specs.Parts.{Part}
@@ -21,6 +21,8 @@ use Rattle.gateway.specs.State.{State, upstream_at, upstreams_after, with_upstre
 use Rattle.gateway.specs.Policy.{Due, response_on, answer_exchange, answer_hearing, noticed, is_in_order, MayHear, closes}
 use Rattle.gateway.proofs.Owed.{to_open, owed_up, closes_open, closes_send}
 use Rattle.gateway.proofs.Giving.{Giving, giving_passes, passes_event}
+use Rattle.gateway.proofs.Living.{Living, living_lasts, lasts_beside}
+use Rattle.gateway.proofs.Limiting.{Limiting, limiting_same, limiting_ends}
 use Rattle.gateway.proofs.Shutting.{Shutting, HasClose, shutting_same, shutting_ends, farewell_ends, closes_ends}
 use Rattle.gateway.proofs.Admitting.{Admitting, admitting_same, admitting_changed, is_up}
 use Rattle.gateway.proofs.Responding.{Responding, responding_idle, responding_ends, Idles, closes_bring, farewell_brings, heard_other}
@@ -176,7 +178,7 @@ admitting_hears t s (UpTook k count) hearing h order =
 -- ---- what is awaited
 
 -- an event that says nothing of responses
-idles : (t : List Entry) (s : State) (event : Event) → Giving t s [] → ((k : ℕ) → heard k (Happened event ∷ t) ≡ heard k t) → ((k : ℕ) → has_ended k (Happened event ∷ t) ≡ has_ended k t) → Idles t (Happened event) [] []
+idles : (t : List Entry) (s : State) (event : Event) → Giving t s [] → ((k : ℕ) → heard k (Happened event ∷ t) ≡ heard k t) → ((k : ℕ) → has_ended k (Happened event ∷ t) ≡ has_ended k t) → Idles s.setup t (Happened event) [] []
 idles t s event g eh ee = record { same_sent = refl; same_owed = λ stream. refl; same_heard = eh; same_ended = ee; same_opens = refl; no_fewer = omega arith; same_heads = λ o m. items_stay t s [] (Happened event) o g m }
 
 pub responding_hears : (t : List Entry) (s : State) (event : Event) (hearing : Hearing) → Giving t s [] → Responding t s [] → s.closed ≡ false → is_in_order s event ≡ true → MayHear s event hearing → Responding (Happened event ∷ t) (after s (Hears event hearing)) (answer_hearing s event hearing)
@@ -220,3 +222,16 @@ responding_hears t s event (Abandoned left encoding) g h on order may =
     unheard (UpEnd j) order k lt = refl
     unheard (UpFailed j) order k lt = refl
     unheard (UpTook j count) order k lt = refl
+
+-- ---- what lives, and the client's limits
+
+pub living_hears : (t : List Entry) (s : State) (event : Event) (hearing : Hearing) → Living t s [] → s.closed ≡ false → Living (Happened event ∷ t) (after s (Hears event hearing)) (answer_hearing s event hearing)
+living_hears t s event hearing h on =
+    living_lasts t (Happened event) s (after s (Hears event hearing)) [] (answer_hearing s event hearing) h
+    (lasts_beside t (Happened event) [] (answer_hearing s event hearing) refl (ap (λ x. x ++ opens t) (opens_none (last_stream t) s event hearing)) (λ stream. refl) refl (λ stream. refl)) (λ o. on)
+
+pub limiting_hears : (t : List Entry) (s : State) (event : Event) (hearing : Hearing) → Limiting t s → s.closed ≡ false → Limiting (Happened event ∷ t) (after s (Hears event hearing))
+limiting_hears t s event Noticed h on = limiting_same t (Happened event) s (after s (Hears event Noticed)) h (λ keeps. keeps) (λ o x. x) (λ o x. x) (λ o. on) (λ o. refl)
+limiting_hears t s event (Told added reader) h on = limiting_same t (Happened event) s (after s (Hears event (Told added reader))) h (λ keeps. keeps) (λ o x. x) (λ o x. x) (λ o. on) (λ o. refl)
+limiting_hears t s event (Completed added reader) h on = limiting_same t (Happened event) s (after s (Hears event (Completed added reader))) h (λ keeps. keeps) (λ o x. x) (λ o x. x) (λ o. on) (λ o. refl)
+limiting_hears t s event (Abandoned left encoding) h on = limiting_ends t (Happened event) s (after s (Hears event (Abandoned left encoding))) h (λ keeps. keeps) refl

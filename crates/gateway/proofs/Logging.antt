@@ -11,6 +11,7 @@ use Rattle.model.specs.Tapes.{Entry}
 use Rattle.model.specs.Faithful.{HasTape, Faithful}
 use Rattle.gateway.specs.declared.events.Event.{Event}
 use Rattle.gateway.specs.declared.events.Output.{Output}
+use Rattle.gateway.specs.Setups.{known_of, IsServable}
 use Rattle.gateway.specs.Views.{event_of, outputs_of}
 use Rattle.gateway.specs.Runs.{log_of}
 use Rattle.gateway.specs.Policy.{is_admitted}
@@ -36,8 +37,8 @@ pub record Running (setup : Setup) (events : List Event) (outs : List (Vec Outpu
   pub stands : Stands g (reverse (log_of events outs)) tape
   pub same_setup : g.kept.state.setup ≡ setup
 
-pub running_none : (setup : Setup) (g : Standing) → g ≡ fresh setup → Running setup [] [] g
-running_none setup g e = record { count = refl; tape = []; stands = subst (λ x. Stands x [] []) (sym e) (stands_none setup); same_setup = ap (λ (x : Standing). x.kept.state.setup) e }
+pub running_none : (setup : Setup) (g : Standing) → IsServable setup → g ≡ fresh setup → Running setup [] [] g
+running_none setup g servable e = record { count = refl; tape = []; stands = subst (λ x. Stands x [] []) (sym e) (stands_none setup servable); same_setup = ap (λ (x : Standing). x.kept.state.setup) e }
 
 -- one more event
 pub running_more : (setup : Setup) (events : List Event) (n : ℕ) (outs outs' : List (Vec Output Global)) (g g' : Standing) (event : Event) (old out : Vec Output Global) → n < length events → event ≡ get_or events n event → old.items ≡ [] → outs' ≡ outs ++ out ∷ []
@@ -64,7 +65,7 @@ running_more setup events n outs outs' g g' event old out lt at none is puts r =
     }
 
 pub running_faithful : (setup : Setup) (events : List Event) (outs : List (Vec Output Global)) (g : Standing) → Running setup events outs g → Faithful setup (log_of events outs)
-running_faithful setup events outs g r = record { tape = r.tape; has_tape = subst (λ s. HasTape s (reverse (log_of events outs)) r.tape) r.same_setup r.stands.kept.has_tape }
+running_faithful setup events outs g r = record { known = known_of setup; of_setup = refl; tape = r.tape; has_tape = subst (λ s. HasTape (known_of s) (reverse (log_of events outs)) r.tape) r.same_setup r.stands.kept.has_tape }
 
 get_mapped : (events : List Event) (n : ℕ) (event : Event) → n < length events → event ≡ get_or events n event → slice_get (map event_of events) n ≡ Some (event_of event)
 get_mapped [] n event lt at = absurd (omega arith)

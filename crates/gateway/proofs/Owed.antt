@@ -3,7 +3,7 @@ use Rattle.std.proofs.Common.{◌≡◌, ℕ, suc, true, false, ◌==◌, List, 
 use Rattle.std.specs.Prelude.{cond}
 use Rattle.model.specs.Logs.Act.{Open, ToUp, Close, CloseClient}
 use Rattle.model.specs.Tapes.{Entry, sent_up}
-use Rattle.model.specs.Requests.{Opened, last_stream, opens}
+use Rattle.model.specs.Openings.{Opened, last_stream, opens}
 use Rattle.gateway.specs.declared.upstream.Upstream.{Upstream}
 use Rattle.gateway.specs.Policy.{Due, closes_from}
 use Rattle.gateway.specs.Policy.Due.{ToAct}

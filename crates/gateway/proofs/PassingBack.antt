@@ -36,37 +36,37 @@ changed_twice es (suc n) x y = twice es n
     twice (e ∷ es) (suc n) = ap (λ r. e ∷ r) (twice es n)
 
 -- more of a response is told
-pub answers_told : (s s' : State) (o : List Output) (k : ℕ) (piece : List ℕ) (old new : Awaited) → s.closed ≡ false → is_in_order s (Up k piece) ≡ true → exchange_at s.exchanges k ≡ Some old → Gathers old piece new false → s' ≡ awaiting (without_exchange s k) k new → Answers s s' o o (OfEvent (Up k piece) ∷ [])
+pub answers_told : (s s' : State) (o : List Output) (k : ℕ) (piece : List ℕ) (old new : Awaited) → s.closed ≡ false → is_in_order s (Up k piece) ≡ true → exchange_at s.exchanges k ≡ Some old → Gathers old piece s.setup.max_response new false → s' ≡ awaiting (without_exchange s k) k new → Answers s s' o o (OfEvent (Up k piece) ∷ [])
 answers_told s s' o k piece old new on order found g es =
     let m : Move = Hears (Up k piece) (Told g.added new.reader) in
     let place : with_exchange s.exchanges k (gathered_if (exchange_at s.exchanges k) g.added new.reader) ≡ with_exchange (with_exchange s.exchanges k None) k (Some new) =
     ap (λ x. with_exchange s.exchanges k (gathered_if x g.added new.reader)) found ∙ ap (λ x. with_exchange s.exchanges k (Some x)) (sym g.is) ∙ sym (changed_twice s.exchanges k None (Some new)) in
     let leads_to : after s m ≡ s' = ap (λ x. let r : State = record s { exchanges = x } in r) place ∙ sym es in
     subst (λ x. Answers s x o o (OfEvent (Up k piece) ∷ [])) leads_to
-    (answers_from s (after s m) o o m (OfEvent (Up k piece) ∷ []) (record { turn = record { open_yet = on; nothing = refl }; holds = (order, record { old = old; found = found; told = g.told }) }) refl refl (owes_nothing (after s m) o))
+    (answers_from s (after s m) o o m (OfEvent (Up k piece) ∷ []) (record { turn = record { open_yet = on; nothing = refl }; holds = (order, record { old = old; found = found; told = g.told; fits = subst (λ (x : Awaited). length x.body ≤ s.setup.max_response) g.is g.fits }) }) refl refl (owes_nothing (after s m) o))
 
 fits_head : (stream : ℕ) (ends : Bool) (block : List ℕ) → stream < 2147483648 → length block ≤ 16384 → Fits (head_frame stream ends block)
 fits_head stream true block low short = record { kind = lit< tt; flags = lit< tt; id = low; payload = short }
 fits_head stream false block low short = record { kind = lit< tt; flags = lit< tt; id = low; payload = short }
 
 -- a response is sent
-pays_response : (s : State) (stream : ℕ) (head : Head) (body block : List ℕ) (next : Table) (o : List Output) → s.closed ≡ false → blocks.Block s.encoding block (section_of head) next → stream < 2147483648 → length block ≤ 16384 → length body ≤ 16384
+pays_response : (s : State) (stream : ℕ) (head : Head) (body block : List ℕ) (next : Table) (o : List Output) → s.closed ≡ false → blocks.IsBlock s.encoding block [] (section_of head) next → stream < 2147483648 → length block ≤ 16384 → length body ≤ 16384 → length body ≤ s.window
     → Pays (record { state = s; owes = response_on stream (Some head) body }) (idle (passed_back (with_encoding s next) stream block body)) o (put_response o stream block body)
-pays_response s stream head [] block next o on is_block low short short_body =
+pays_response s stream head [] block next o on is_block low short short_body within =
     pays_by s (ToSendHead stream (section_of head) true) [] (SendsHead stream (section_of head) true block next) o (record { turn = refl; holds = record { open_yet = on; is_block = is_block; fits = fits_head stream true block low short } }) refl
-pays_response s stream head (octet ∷ body) block next o on is_block low short short_body =
+pays_response s stream head (octet ∷ body) block next o on is_block low short short_body within =
     let all : List ℕ = octet ∷ body in
     let s1 : State = sent_frame (with_encoding s next) (head_frame stream false block) in
     pays_then
     (pays_by s (ToSendHead stream (section_of head) false) (ToSend (last_data stream all) ∷ []) (SendsHead stream (section_of head) false block next) o (record { turn = refl; holds = record { open_yet = on; is_block = is_block; fits = fits_head stream false block low short } }) refl)
-    (pays_by s1 (ToSend (last_data stream all)) [] (Sends (last_data stream all)) (put o (ToClient (spell (head_frame stream false block)))) (record { turn = refl; holds = record { fits = record { kind = lit< tt; flags = lit< tt; id = low; payload = short_body }; no_reset = refl; no_block = refl } }) refl)
+    (pays_by s1 (ToSend (last_data stream all)) [] (Sends (last_data stream all)) (put o (ToClient (spell (head_frame stream false block)))) (record { turn = refl; holds = record { fits = record { kind = lit< tt; flags = lit< tt; id = low; payload = short_body }; within = λ kind. within; no_reset = refl; no_block = refl } }) refl)
 
 -- octets that may come are those of a connection
 pub up_here : (s : State) (k : ℕ) (piece : List ℕ) → is_in_order s (Up k piece) ≡ true → IsUp s k
 up_here s k piece order = let up = is_up s.upstreams k (and_left (upstream_at s.upstreams k).is_open (nat_le (length piece) 65536) order) in record { counted = up.0; within = up.1 }
 
 -- the last of a response is told
-pub answers_whole : (s s' : State) (o o' : List Output) (k : ℕ) (piece : List ℕ) (old new : Awaited) → s.closed ≡ false → is_in_order s (Up k piece) ≡ true → IsUp s k → exchange_at s.exchanges k ≡ Some old → Gathers old piece new true → Responds (without_exchange s k) s' k new o o' → Answers s s' o o' (OfEvent (Up k piece) ∷ [])
+pub answers_whole : (s s' : State) (o o' : List Output) (k : ℕ) (piece : List ℕ) (old new : Awaited) → s.closed ≡ false → is_in_order s (Up k piece) ≡ true → IsUp s k → exchange_at s.exchanges k ≡ Some old → Gathers old piece s.setup.max_response new true → Responds (without_exchange s k) s' k new o o' → Answers s s' o o' (OfEvent (Up k piece) ∷ [])
 answers_whole s s' o o' k piece old new on order up found g (inl x) = answers_abandoned s s' o o' (Up k piece) (with_exchange s.exchanges k None) x.encoding on order refl x.state x.outputs
 answers_whole s s' o o' k piece old new on order up found g (inr p) =
     let m : Move = Hears (Up k piece) (Completed g.added new.reader) in
@@ -84,8 +84,8 @@ answers_whole s s' o o' k piece old new on order up found g (inr p) =
     let outs : List Output = put_response (put o (Does (Close k))) new.stream p.block new.body in
     let paid : Pays (record { state = s1; owes = ToAct (Close k) ∷ response_on new.stream (Some p.head) new.body }) (idle end) o outs =
     pays_then (pays_by s1 (ToAct (Close k)) (response_on new.stream (Some p.head) new.body) (Acts (Close k)) o (record { turn = refl; holds = record { counted = up.counted; within = up.within } }) refl)
-    (pays_response s2 new.stream p.head new.body p.block p.next (put o (Does (Close k))) on p.is_block p.stream p.short_block p.short_body) in
+    (pays_response s2 new.stream p.head new.body p.block p.next (put o (Does (Close k))) on p.is_block p.stream p.short_block p.short_body p.within) in
     subst (λ x. Answers s x o o' (OfEvent (Up k piece) ∷ [])) (sym p.state)
     (subst (λ x. Answers s end o x (OfEvent (Up k piece) ∷ [])) (sym p.outputs)
-    (answers_from s end o outs m (OfEvent (Up k piece) ∷ []) (record { turn = record { open_yet = on; nothing = refl }; holds = (order, record { old = old; found = found; told = g.told }) }) refl refl
+    (answers_from s end o outs m (OfEvent (Up k piece) ∷ []) (record { turn = record { open_yet = on; nothing = refl }; holds = (order, record { old = old; found = found; told = g.told; fits = subst (λ (x : Awaited). length x.body ≤ s.setup.max_response) g.is g.fits }) }) refl refl
     (subst (λ x. Pays (record { state = s1; owes = x }) (idle end) o outs) (sym owed) paid)))

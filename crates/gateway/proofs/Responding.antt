@@ -3,14 +3,13 @@ use Rattle.std.proofs.Common.{◌≡◌, ℕ, zero, suc, ◌<◌, ◌≤◌, tru
 use Rattle.std.specs.Prelude.{Option, None, Some, ◌⊎◌, cond}
 use Rattle.std.proofs.lemmas.List.{take_all, get_or-set_same, get_or-set_other}
 use Rattle.std.proofs.lemmas.List.Folds.{list_any-append}
-use Rattle.std.proofs.lemmas.Bool.{cases_lt, eq-eqb}
+use Rattle.std.proofs.lemmas.Bool.{cases_lt, eq-eqb, or_parts}
 use Rattle.std.proofs.lemmas.Bool.Decides.{eqb_tells}
 use Rattle.model.specs.Messages.{Field, Item}
 use Rattle.model.specs.Messages.Item.{Block}
 use Rattle.model.specs.Tables.{Table}
 use Rattle.model.specs.Blocks as blocks
 use Rattle.model.specs.Frames.{Frame, headers_kind, continuation_kind, has_flag, ends_headers, ends_stream, content}
-use Rattle.model.specs.Http2.{HasHead}
 use Rattle.model.specs.ResponseHeads.{Head}
 use Rattle.model.specs.Setup.{Setup}
 use Rattle.model.specs.Logs.Act.{CloseClient, Close}
@@ -19,10 +18,15 @@ use Rattle.model.specs.Tapes.{Note, Noted, Entry, sent}
 use Rattle.model.specs.Tapes.Note.{NoBlock, Fields, Undecodable, Unread}
 use Rattle.model.specs.Tapes.Entry.{Happened, Sent}
 use Rattle.model.specs.Decoding.{Partial, begun, joined, completed, Decodes, IsNoteOf, is_read, are_read}
-use Rattle.model.specs.Streams.{items, frame_items}
-use Rattle.model.specs.Requests.{Opened, opens, AreNumbered, AreApart, IsGivenNone}
+use Rattle.model.specs.Streams.{frame_items}
+use Rattle.model.specs.Courses.{items}
+use Rattle.model.specs.FrameErrors.{is_between}
+use Rattle.model.specs.ResponseClause.{AreTogether}
+use Rattle.model.specs.Offers.{WasOffered, is_to_head}
+use Rattle.gateway.specs.Setups.{known_of}
+use Rattle.model.specs.Openings.{Opened, opens, AreNumbered, AreApart, IsGivenNone}
 use Rattle.model.specs.Deliveries.{Delivery, ReadsAs}
-use Rattle.model.specs.Available.{heard, has_ended, items_on, IsIn, WasAvailable, asks_for_head, is_decoded, are_decoded}
+use Rattle.model.specs.Available.{heard, has_ended, items_on, IsIn, is_decoded, are_decoded}
 use Rattle.h1_reader.specs.Parts.{Part}
 use Rattle.h1_reader.specs.Parts.Part.{Interim, Final, Body, Done}
 use Rattle.h1_reader.specs.Standing.{Stands}
@@ -69,7 +73,7 @@ farewell_brings stream s code = no_items (0 == stream) (items_owed stream (close
 pub record AnsweredBy (setup : Setup) (t : List Entry) (all : List Item) (stream : ℕ) : Type 0 where
   pub delivery : Delivery
   pub reads : ReadsAs all delivery
-  pub was : WasAvailable setup t stream delivery
+  pub was : WasOffered (known_of setup) t stream delivery
 
 abbrev pub Answered : Setup → List Entry → List Item → ℕ → Type 0
 Answered setup t all stream = (all ≡ []) ⊎ AnsweredBy setup t all stream
@@ -81,30 +85,31 @@ answered_more setup t e all stream (inr a) =
     inr (record {
       delivery = a.delivery;
       reads = a.reads;
-      was = record { later = e ∷ w.later; earlier = w.earlier; is = ap (λ x. e ∷ x) w.is; source = w.source; available = w.available; part = w.part };
+      was = record { later = e ∷ w.later; earlier = w.earlier; is = ap (λ x. e ∷ x) w.is; source = w.source; offered = w.offered; part = w.part };
     })
 
 -- A response is awaited for the stream of a connection: its reader stands for all that was heard, what it told is kept, and
 -- the stream was sent nothing.
-pub record Waiting (t : List Entry) (ds : List Due) (o : Opened) (e : Awaited) : Type 0 where
+pub record Waiting (setup : Setup) (t : List Entry) (ds : List Due) (o : Opened) (e : Awaited) : Type 0 where
   pub stream : e.stream ≡ o.stream
   pub parts : List Part
   pub stands : Stands (heard o.k t) parts e.reader
   pub head : e.head ≡ head_after None parts
   pub body : e.body ≡ body_of parts
   pub no_interim : has_interim parts ≡ false
-  pub for_head : (fields : List Field) → HasHead (items o.stream t) fields → e.reader.to_head ≡ asks_for_head fields
+  pub for_head : e.reader.to_head ≡ is_to_head (items (known_of setup) o.stream t)
   pub unsent : all_items o.stream t ds ≡ []
 
-abbrev pub WaitingIf : List Entry → List Due → Opened → Option Awaited → Type 0
-WaitingIf t ds o None = Unit {0}
-WaitingIf t ds o (Some e) = Waiting t ds o e
+abbrev pub WaitingIf : Setup → List Entry → List Due → Opened → Option Awaited → Type 0
+WaitingIf setup t ds o None = Unit {0}
+WaitingIf setup t ds o (Some e) = Waiting setup t ds o e
 
 pub record Responding (t : List Entry) (s : State) (ds : List Due) : Type 0 where
   pub encodes : (table : Table) × Decodes (sent t) table × (s.closed ≡ false → s.encoding ≡ table)
   pub no_block : begun (sent t) ≡ None
   pub decoded : are_decoded (sent t) ≡ true
-  pub waiting : s.closed ≡ false → (o : Opened) → IsIn o (all_opens t ds) → WaitingIf t ds o (exchange_at s.exchanges o.k)
+  pub together : AreTogether (sent t)
+  pub waiting : s.closed ≡ false → (o : Opened) → IsIn o (all_opens t ds) → WaitingIf s.setup t ds o (exchange_at s.exchanges o.k)
   pub count : s.closed ≡ false → length s.exchanges ≡ length (all_opens t ds)
   pub unheard : (k : ℕ) → length (opens t) < k → heard k t ≡ []
   pub not_ended : s.closed ≡ false → (k : ℕ) → has_ended k t ≡ false
@@ -114,40 +119,42 @@ pub record Responding (t : List Entry) (s : State) (ds : List Due) : Type 0 wher
 -- ---- nothing of it happens
 
 -- the entry leaves what was sent and heard as it is, and the requests of streams that were given connections
-pub record Idles (t : List Entry) (e : Entry) (ds ds' : List Due) : Type 0 where
+pub record Idles (setup : Setup) (t : List Entry) (e : Entry) (ds ds' : List Due) : Type 0 where
   pub same_sent : sent (e ∷ t) ≡ sent t
   pub same_owed : (stream : ℕ) → items_owed stream ds' ≡ items_owed stream ds
   pub same_heard : (k : ℕ) → heard k (e ∷ t) ≡ heard k t
   pub same_ended : (k : ℕ) → has_ended k (e ∷ t) ≡ has_ended k t
   pub same_opens : all_opens (e ∷ t) ds' ≡ all_opens t ds
   pub no_fewer : length (opens t) ≤ length (opens (e ∷ t))
-  pub same_heads : (o : Opened) → IsIn o (all_opens t ds) → items o.stream (e ∷ t) ≡ items o.stream t
+  pub same_heads : (o : Opened) → IsIn o (all_opens t ds) → items (known_of setup) o.stream (e ∷ t) ≡ items (known_of setup) o.stream t
 
 pub same_items : (t : List Entry) (e : Entry) (ds ds' : List Due) (stream : ℕ) → sent (e ∷ t) ≡ sent t → items_owed stream ds' ≡ items_owed stream ds → all_items stream (e ∷ t) ds' ≡ all_items stream t ds
 same_items t e ds ds' stream es eo = ap (λ x. items_on stream x ++ items_owed stream ds') es ∙ ap (λ x. items_on stream (sent t) ++ x) eo
 
-pub waiting_same : (t : List Entry) (e : Entry) (ds ds' : List Due) (o : Opened) (w : Option Awaited) → heard o.k (e ∷ t) ≡ heard o.k t → items o.stream (e ∷ t) ≡ items o.stream t → all_items o.stream (e ∷ t) ds' ≡ all_items o.stream t ds → WaitingIf t ds o w → WaitingIf (e ∷ t) ds' o w
-waiting_same t e ds ds' o None eh ei ea h = tt
-waiting_same t e ds ds' o (Some a) eh ei ea h = record {
+pub waiting_same : (setup : Setup) (t : List Entry) (e : Entry) (ds ds' : List Due) (o : Opened) (w : Option Awaited) → heard o.k (e ∷ t) ≡ heard o.k t → items (known_of setup) o.stream (e ∷ t) ≡ items (known_of setup) o.stream t → all_items o.stream (e ∷ t) ds' ≡ all_items o.stream t ds → WaitingIf setup t ds o w → WaitingIf setup (e ∷ t) ds' o w
+waiting_same setup t e ds ds' o None eh ei ea h = tt
+waiting_same setup t e ds ds' o (Some a) eh ei ea h = record {
   stream = h.stream;
   parts = h.parts;
   stands = subst (λ x. Stands x h.parts a.reader) (sym eh) h.stands;
   head = h.head;
   body = h.body;
   no_interim = h.no_interim;
-  for_head = λ fields has. h.for_head fields (subst (λ x. HasHead x fields) ei has);
+  for_head = h.for_head ∙ ap is_to_head (sym ei);
   unsent = ea ∙ h.unsent;
 }
 
-pub responding_idle : (t : List Entry) (e : Entry) (s s' : State) (ds ds' : List Due) → Responding t s ds → Idles t e ds ds' → s'.setup ≡ s.setup → (s'.closed ≡ false → s.closed ≡ false) → s'.exchanges ≡ s.exchanges → s'.encoding ≡ s.encoding → s'.high ≡ s.high → Responding (e ∷ t) s' ds'
+pub responding_idle : (t : List Entry) (e : Entry) (s s' : State) (ds ds' : List Due) → Responding t s ds → Idles s.setup t e ds ds' → s'.setup ≡ s.setup → (s'.closed ≡ false → s.closed ≡ false) → s'.exchanges ≡ s.exchanges → s'.encoding ≡ s.encoding → s'.high ≡ s.high → Responding (e ∷ t) s' ds'
 responding_idle t e s s' ds ds' h i es ec ex en eh = record {
   encodes = (h.encodes.0, subst (λ x. Decodes x h.encodes.0) (sym i.same_sent) h.encodes.1, (λ o. en ∙ h.encodes.2 (ec o)));
   no_block = ap begun i.same_sent ∙ h.no_block;
   decoded = ap are_decoded i.same_sent ∙ h.decoded;
+  together = subst AreTogether (sym i.same_sent) h.together;
   waiting = λ on o m.
       let m' : IsIn o (all_opens t ds) = subst (IsIn o) i.same_opens m in
-      subst (λ x. WaitingIf (e ∷ t) ds' o (exchange_at x o.k)) (sym ex)
-      (waiting_same t e ds ds' o (exchange_at s.exchanges o.k) (i.same_heard o.k) (i.same_heads o m') (same_items t e ds ds' o.stream i.same_sent (i.same_owed o.stream)) (h.waiting (ec on) o m'));
+      subst (λ x. WaitingIf x (e ∷ t) ds' o (exchange_at s'.exchanges o.k)) (sym es)
+      (subst (λ x. WaitingIf s.setup (e ∷ t) ds' o (exchange_at x o.k)) (sym ex)
+      (waiting_same s.setup t e ds ds' o (exchange_at s.exchanges o.k) (i.same_heard o.k) (i.same_heads o m') (same_items t e ds ds' o.stream i.same_sent (i.same_owed o.stream)) (h.waiting (ec on) o m')));
   count = λ on. ap length ex ∙ h.count (ec on) ∙ ap length (sym i.same_opens);
   unheard = λ k lt. i.same_heard k ∙ h.unheard k (let n = i.no_fewer in omega (arith, n, lt));
   not_ended = λ on k. i.same_ended k ∙ h.not_ended (ec on) k;
@@ -163,6 +170,7 @@ responding_ends t e s s' ds' h es ec et none fewer eh = record {
   encodes = (h.encodes.0, subst (λ x. Decodes x h.encodes.0) (sym et) h.encodes.1, (λ o. ended o));
   no_block = ap begun et ∙ h.no_block;
   decoded = ap are_decoded et ∙ h.decoded;
+  together = subst AreTogether (sym et) h.together;
   waiting = λ on. ended on;
   count = λ on. ended on;
   unheard = λ k lt. let lt' : length (opens t) < k = omega (arith, fewer, lt) in eh k lt' ∙ h.unheard k lt';
@@ -199,7 +207,14 @@ no_begin frame e = cases (frame.kind == headers_kind) refl
     cases false f = ap (λ b. if b then Some (record { id = frame.id; ends = ends_stream frame; fragments = content frame }) else None) f
     cases true f = absurd (let g : true ≡ false = sym (ap (λ b. b || frame.kind == continuation_kind) f) ∙ e in cc)
 
-module _ (t : List Entry) (s s' : State) (frame : Frame) (ds : List Due) (h : Responding t s (ToSend frame ∷ ds)) (no_part : (frame.kind == headers_kind || frame.kind == continuation_kind) ≡ false) (es : s'.setup ≡ s.setup) (ec : s'.closed ≡ s.closed) (ex : s'.exchanges ≡ s.exchanges) (en : s'.encoding ≡ s.encoding) (eh : s'.high ≡ s.high) (same_stories : (stream : ℕ) → items stream (Sent (plain frame) ∷ t) ≡ items stream t) where
+-- it completes no block
+pub none_completed : (before : List Noted) (frame : Frame) → (frame.kind == headers_kind || frame.kind == continuation_kind) ≡ false → completed before frame ≡ None
+none_completed before frame no_part = ap (λ b. if b then joined (begun before) frame else None) (no_end frame no_part)
+
+no_continuation : (frame : Frame) → (frame.kind == headers_kind || frame.kind == continuation_kind) ≡ false → is_between None frame ≡ false
+no_continuation frame e = (or_parts (frame.kind == headers_kind) (frame.kind == continuation_kind) e).1
+
+module _ (t : List Entry) (s s' : State) (frame : Frame) (ds : List Due) (h : Responding t s (ToSend frame ∷ ds)) (no_part : (frame.kind == headers_kind || frame.kind == continuation_kind) ≡ false) (es : s'.setup ≡ s.setup) (ec : s'.closed ≡ s.closed) (ex : s'.exchanges ≡ s.exchanges) (en : s'.encoding ≡ s.encoding) (eh : s'.high ≡ s.high) (same_courses : (o : Opened) → IsIn o (all_opens t (ToSend frame ∷ ds)) → s.closed ≡ false → items (known_of s.setup) o.stream (Sent (plain frame) ∷ t) ≡ items (known_of s.setup) o.stream t) where
   abbrev noted : Noted
   noted = plain frame
 
@@ -207,7 +222,7 @@ module _ (t : List Entry) (s s' : State) (frame : Frame) (ds : List Due) (h : Re
   due = ToSend frame ∷ ds
 
   none : completed (sent t) frame ≡ None
-  none = ap (λ b. if b then joined (begun (sent t)) frame else None) (no_end frame no_part)
+  none = none_completed (sent t) frame no_part
 
   moved : (stream : ℕ) → all_items stream (Sent noted ∷ t) ds ≡ all_items stream t due
   moved stream =
@@ -223,9 +238,11 @@ module _ (t : List Entry) (s s' : State) (frame : Frame) (ds : List Due) (h : Re
     );
     no_block = ap (λ b. if b then None else joined (begun (sent t)) frame) (no_end frame no_part) ∙ ap (λ b. joined b frame) h.no_block ∙ no_begin frame no_part;
     decoded = h.decoded;
+    together = (ap (λ b. is_between b frame) h.no_block ∙ no_continuation frame no_part, h.together);
     waiting = λ on o m.
-        subst (λ x. WaitingIf (Sent noted ∷ t) ds o (exchange_at x o.k)) (sym ex)
-        (waiting_same t (Sent noted) due ds o (exchange_at s.exchanges o.k) refl (same_stories o.stream) (moved o.stream) (h.waiting (sym ec ∙ on) o m));
+        subst (λ x. WaitingIf x (Sent noted ∷ t) ds o (exchange_at s'.exchanges o.k)) (sym es)
+        (subst (λ x. WaitingIf s.setup (Sent noted ∷ t) ds o (exchange_at x o.k)) (sym ex)
+        (waiting_same s.setup t (Sent noted) due ds o (exchange_at s.exchanges o.k) refl (same_courses o m (sym ec ∙ on)) (moved o.stream) (h.waiting (sym ec ∙ on) o m)));
     count = λ on. ap length ex ∙ h.count (sym ec ∙ on);
     unheard = h.unheard;
     not_ended = λ on k. h.not_ended (sym ec ∙ on) k;
@@ -236,7 +253,7 @@ module _ (t : List Entry) (s s' : State) (frame : Frame) (ds : List Due) (h : Re
   }
 
 -- a whole header block
-whole_head : (begun_before : Option Partial) (stream : ℕ) (ends : Bool) (block : List ℕ) → begun_before ≡ None → (if ends_headers (head_frame stream ends block) then joined begun_before (head_frame stream ends block) else None) ≡ Some (record { id = stream; ends = ends; fragments = block })
+pub whole_head : (begun_before : Option Partial) (stream : ℕ) (ends : Bool) (block : List ℕ) → begun_before ≡ None → (if ends_headers (head_frame stream ends block) then joined begun_before (head_frame stream ends block) else None) ≡ Some (record { id = stream; ends = ends; fragments = block })
 whole_head begun_before stream true block e =
     ap (λ b. joined b (head_frame stream true block)) e
     ∙ ap (λ (xs : List ℕ). Some (let p : Partial = record { id = stream; ends = true; fragments = xs } in p)) (take_all (length block - 0 - 0) block (omega arith))
@@ -248,8 +265,8 @@ ends_at : (stream : ℕ) (ends : Bool) (block : List ℕ) → ends_headers (head
 ends_at stream true block = refl
 ends_at stream false block = refl
 
-module _ (t : List Entry) (s s' : State) (id : ℕ) (fields : List Field) (ends : Bool) (block : List ℕ) (next : Table) (ds : List Due) (h : Responding t s (ToSendHead id fields ends ∷ ds)) (on : s.closed ≡ false) (is_block : blocks.Block s.encoding block fields next)
-    (es : s'.setup ≡ s.setup) (ec : s'.closed ≡ s.closed) (ex : s'.exchanges ≡ s.exchanges) (en : s'.encoding ≡ next) (eh : s'.high ≡ s.high) (same_stories : (stream : ℕ) → items stream (Sent (record { frame = head_frame id ends block; note = Fields fields }) ∷ t) ≡ items stream t) where
+module _ (t : List Entry) (s s' : State) (id : ℕ) (fields : List Field) (ends : Bool) (block : List ℕ) (next : Table) (ds : List Due) (h : Responding t s (ToSendHead id fields ends ∷ ds)) (on : s.closed ≡ false) (is_block : blocks.IsBlock s.encoding block [] fields next)
+    (es : s'.setup ≡ s.setup) (ec : s'.closed ≡ s.closed) (ex : s'.exchanges ≡ s.exchanges) (en : s'.encoding ≡ next) (eh : s'.high ≡ s.high) (same_courses : (o : Opened) → IsIn o (all_opens t (ToSendHead id fields ends ∷ ds)) → items (known_of s.setup) o.stream (Sent (record { frame = head_frame id ends block; note = Fields fields }) ∷ t) ≡ items (known_of s.setup) o.stream t) where
   abbrev headed : Noted
   headed = record { frame = head_frame id ends block; note = Fields fields }
 
@@ -268,14 +285,16 @@ module _ (t : List Entry) (s s' : State) (id : ℕ) (fields : List Field) (ends 
   responding_head = record {
     encodes = (
       next,
-      (h.encodes.0, h.encodes.1, subst (λ b. IsNoteOf b h.encodes.0 (Fields fields) next) (sym whole) (subst (λ x. blocks.Block x block fields next) (h.encodes.2 on) is_block), read_of_decoded (sent t) h.decoded),
+      (h.encodes.0, h.encodes.1, subst (λ b. IsNoteOf b h.encodes.0 (Fields fields) next) (sym whole) (subst (λ x. blocks.Block x block fields next) (h.encodes.2 on) (record { maxima = []; is_block = is_block })), read_of_decoded (sent t) h.decoded),
       (λ o. en),
     );
     no_block = ap (λ b. if b then None else joined (begun (sent t)) (head_frame id ends block)) (ends_at id ends block);
     decoded = h.decoded;
+    together = (ap (λ b. is_between b (head_frame id ends block)) h.no_block, h.together);
     waiting = λ o c m.
-        subst (λ x. WaitingIf (Sent headed ∷ t) ds c (exchange_at x c.k)) (sym ex)
-        (waiting_same t (Sent headed) due_head ds c (exchange_at s.exchanges c.k) refl (same_stories c.stream) (moved_head c.stream) (h.waiting on c m));
+        subst (λ x. WaitingIf x (Sent headed ∷ t) ds c (exchange_at s'.exchanges c.k)) (sym es)
+        (subst (λ x. WaitingIf s.setup (Sent headed ∷ t) ds c (exchange_at x c.k)) (sym ex)
+        (waiting_same s.setup t (Sent headed) due_head ds c (exchange_at s.exchanges c.k) refl (same_courses c m) (moved_head c.stream) (h.waiting on c m)));
     count = λ o. ap length ex ∙ h.count on;
     unheard = h.unheard;
     not_ended = λ o k. h.not_ended on k;

@@ -1,20 +1,20 @@
 -- A whole request in one frame, as moves.
-use Rattle.std.proofs.Common.{◌≡◌, ℕ, suc, ◌-◌, ◌<◌, true, false, List, [], ◌∷◌, ◌++◌, length, refl, sym, ◌∙◌, ap, subst, arith, length-append, if◌then◌else◌}
-use Rattle.std.specs.Prelude.{Bool, None, Some, bytes_eq, codes}
+use Rattle.std.proofs.Common.{◌≡◌, ℕ, suc, ◌-◌, true, false, List, [], ◌∷◌, ◌++◌, length, refl, sym, ◌∙◌, ap, subst, arith, length-append}
+use Rattle.std.specs.Prelude.{Bool, Some, bytes_eq, codes}
 use Rattle.std.proofs.lemmas.List.{take_all}
 use Rattle.std.proofs.Math.Seq.{get_or-append_seam}
-use Rattle.model.specs.Messages.{Field}
 use Rattle.model.specs.Tables.{Table}
-use Rattle.model.specs.Blocks as blocks
-use Rattle.model.specs.Frames.{Frame, ends_headers}
+use Rattle.model.specs.Frames.{Frame}
 use Rattle.model.specs.Logs.{Output}
 use Rattle.model.specs.Logs.Act.{Open, ToUp}
 use Rattle.model.specs.Logs.Output.{Does}
 use Rattle.model.specs.Tapes.{put, Noted}
 use Rattle.model.specs.Tapes.Note.{Fields}
-use Rattle.model.specs.Decoding.{Partial, joined, completed, begun, IsNoteOf}
-use Rattle.model.specs.Streams.{frame_items}
-use Rattle.gateway.specs.Connections.{IsTaken, IsHead, served, with_table}
+use Rattle.model.specs.Decoding.{Partial, completed, IsNoteOf}
+use Rattle.header_blocks.specs.Represented.{UnlessMemory}
+use Rattle.header_blocks.specs.declared.fault.DecodeFault.{DecodeFault}
+use Rattle.header_blocks.specs.declared.fault.DecodeFault.TheVariants.{Integer, Text, Index, Maximum, Late, Cut, Memory}
+use Rattle.gateway.specs.Connections.{IsHead, IsRequestIn, served, with_table}
 use Rattle.gateway.specs.Moves.{Move}
 use Rattle.gateway.specs.Moves.Input.{OfFrame}
 use Rattle.gateway.specs.Moves.Move.{Takes, Acts}
@@ -26,8 +26,8 @@ use Rattle.gateway.specs.Policy.Due.{ToAct}
 use Rattle.gateway.proofs.Leading.{pays_then, with}
 use Rattle.gateway.proofs.Answering.{answers_from, pays_by, serves_upstreams}
 
-whole_block : (frame : Frame) → IsHead frame → completed [] frame ≡ Some (record { id = frame.id; ends = true; fragments = frame.payload })
-whole_block frame head =
+pub whole_block : (s : State) (frame : Frame) → IsHead s frame → completed [] frame ≡ Some (record { id = frame.id; ends = true; fragments = frame.payload })
+whole_block s frame head =
     spelled frame.kind frame.flags frame.id frame.payload head.kind head.flags
   where
     spelled : (kind flags id : ℕ) (payload : List ℕ) → kind ≡ 1 → flags ≡ 5 → completed [] (record { kind = kind; flags = flags; id = id; payload = payload }) ≡ Some (record { id = id; ends = true; fragments = payload })
@@ -36,35 +36,28 @@ whole_block frame head =
         ∙ ap (λ f. completed [] (record { kind = 1; flags = f; id = id; payload = payload })) ef
         ∙ ap (λ (xs : List ℕ). Some (let p : Partial = record { id = id; ends = true; fragments = xs } in p)) (take_all (length payload - 0 - 0) payload (omega arith))
 
-no_more : (frame : Frame) (noted : Noted) → noted.frame ≡ frame → IsHead frame → begun (noted ∷ []) ≡ None
-no_more frame noted same head =
-    ap (λ (f : Frame). if ends_headers f then None else joined None f) same
-    ∙ spelled frame.kind frame.flags frame.id frame.payload head.kind head.flags
-  where
-    spelled : (kind flags id : ℕ) (payload : List ℕ) → kind ≡ 1 → flags ≡ 5 → (let f : Frame = record { kind = kind; flags = flags; id = id; payload = payload } in if ends_headers f then None else joined None f) ≡ None
-    spelled kind flags id payload ek ef =
-        ap (λ k. let f : Frame = record { kind = k; flags = flags; id = id; payload = payload } in if ends_headers f then None else joined None f) ek
-        ∙ ap (λ x. let f : Frame = record { kind = 1; flags = x; id = id; payload = payload } in if ends_headers f then None else joined None f) ef
-
 opened_last : (us : List Upstream) → (upstream_at (us ++ record { is_open = true; untaken = 0 } ∷ []) (suc (length us))).is_open ≡ true
 opened_last us = ap (λ (u : Upstream). u.is_open) (get_or-append_seam us (record { is_open = true; untaken = 0 }) [] nobody)
 
-pub answers_served : (s s' : State) (o o' : List Output) (frame : Frame) (route : ℕ) (text : List ℕ) (to_head : Bool) (fields : List Field) (next : Table) → s.closed ≡ false → s.settled ≡ true → s.high < frame.id → IsHead frame
-    → blocks.Block s.table frame.payload fields next → IsTaken s.setup.routes fields route text to_head
+pub answers_served : (s s' : State) (o o' : List Output) (frame : Frame) (route : ℕ) (text : List ℕ) (to_head : Bool) (next : Table) → s.closed ≡ false → s.settled ≡ true → IsRequestIn s frame route text to_head next
     → s' ≡ served (with_table s next) frame.id (length text) to_head → o' ≡ put (put o (Does (Open (suc (length s.upstreams)) route))) (Does (ToUp (suc (length s.upstreams)) text)) → Answers s s' o o' (OfFrame frame ∷ [])
-answers_served s s' o o' frame route text to_head fields next on settled above head decodes is_taken es eo =
+answers_served s s' o o' frame route text to_head next on settled is es eo =
     let k : ℕ = suc (length s.upstreams) in
-    let noted : Noted = record { frame = frame; note = Fields fields } in
-    let whole = whole_block frame head in
-    let note : IsNoted s.table noted (Served route text is_taken.request next) = subst (λ b. IsNoteOf b s.table (Fields fields) next) (sym whole) decodes in
+    let is_taken = is.taken in
+    let noted : Noted = record { frame = frame; note = Fields is.fields } in
+    let note : IsNoted s.table noted (Served route text is_taken.request next) = subst (λ b. IsNoteOf b s.table (Fields is.fields) next) (sym (whole_block s frame is.head)) is.is_block in
     let may : MayServe s noted route text is_taken.request = record {
       settled = settled;
-      above = above;
-      kind = head.kind;
-      no_block = no_more frame noted refl head;
-      fields = fields;
+      above = is.head.above;
+      kind = is.head.kind;
+      flags = is.head.flags;
+      odd = is.head.odd;
+      short = is.head.short;
+      few = is.head.few;
+      fields = is.fields;
       note = refl;
-      item = ap (λ b. frame_items b noted) whole;
+      small = is.small;
+      no_expect = is_taken.no_expect;
       means = is_taken.means;
       by_route = is_taken.by_route;
       reads = is_taken.reads;
@@ -83,3 +76,13 @@ answers_served s s' o o' frame route text to_head fields next on settled above h
     (subst (λ x. Answers s (served (with_table s next) frame.id (length text) for_head) o x (OfFrame frame ∷ [])) (sym eo)
     (subst (λ x. Answers s x o (put (put o (Does (Open k route))) (Does (ToUp k text))) (OfFrame frame ∷ [])) last
     (answers_from s (after s2 (Acts (ToUp k text))) o _ m (OfFrame frame ∷ []) (record { turn = record { open_yet = on; nothing = refl }; holds = (note, may) }) refl refl (pays_then opens sends))))
+
+-- what holds unless memory was refused, where it wasn't
+pub not_memory : {P : Type 0} (fault : DecodeFault) → (fault ≡ Memory → ⊥) → UnlessMemory fault P → P
+not_memory Integer other p = p
+not_memory Text other p = p
+not_memory Index other p = p
+not_memory Maximum other p = p
+not_memory Late other p = p
+not_memory Cut other p = p
+not_memory Memory other p = absurd (other refl)

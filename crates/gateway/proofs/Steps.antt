@@ -1,24 +1,24 @@
 -- Where a gateway stands, before any step and behind each.
-use Rattle.std.proofs.Common.{◌≡◌, ℕ, true, false, Bool, not, ◌&&◌, List, [], ◌∷◌, ◌++◌, length, reverse, refl, sym, ◌∙◌, ap, subst, append-nil, if◌then◌else◌, inl, inr, arith, ◌+◌, length-append}
-use Rattle.std.specs.Prelude.{codes}
+use Rattle.std.proofs.Common.{◌≡◌, ℕ, true, false, Bool, not, ◌&&◌, List, [], ◌∷◌, ◌++◌, length, reverse, refl, sym, ◌∙◌, ap, subst, append-nil, if◌then◌else◌, inl, inr, arith}
+use Rattle.std.specs.Prelude.{codes, nat_le, ◌≤◌}
+use Rattle.std.proofs.lemmas.Bool.{and_parts, leb-true}
 use Rattle.std.proofs.lemmas.List.{map-append}
-use Rattle.model.specs.Messages.{Request}
-use Rattle.model.specs.Messages.Item.{Block}
 use Rattle.model.specs.Frames.{Reading, settings_frame}
-use Rattle.model.specs.Http1.{H1Request, H1Requests, forward}
-use Rattle.model.specs.Http2.{HasHead, WellFormedHead, H2Request}
+use Rattle.model.specs.Setup.Passing.{Whole}
 use Rattle.model.specs.Logs.{Event, Output, Step, client_in, client_octets}
 use Rattle.model.specs.Logs.Event.{Client, ClientEnd, ClientTook, Up, UpEnd, UpFailed, UpTook}
 use Rattle.model.specs.Logs.Act.{Open, ToUp, Close, CloseClient}
 use Rattle.model.specs.Setup.{Setup}
-use Rattle.model.specs.Tapes.{Entry, came, frames_of, breaches, is_closed, sent_up, CanBeSpelled, EndsWithClose, listed}
+use Rattle.model.specs.Tapes.{Entry, came, frames_of, breaches, is_closed, CanBeSpelled, EndsWithClose, listed}
 use Rattle.model.specs.Tapes.Breach.{WrongPreface}
 use Rattle.model.specs.Decoding.{are_read}
-use Rattle.model.specs.Streams.{Story, items}
 use Rattle.model.specs.Admission as admission
-use Rattle.model.specs.Requests.{Opened, opens, IsServed, AreServed, GoToOpen, Requests}
-use Rattle.model.specs.Available.{Deliveries}
-use Rattle.model.specs.Faithful.{IsTaped, HasTape}
+use Rattle.model.specs.Openings.{GoToOpen}
+use Rattle.model.specs.Rooms.{IsRoom, FitsRoom}
+use Rattle.model.specs.RequestClause.{RequestsHold}
+use Rattle.model.specs.ResponseClause.{ResponsesHold}
+use Rattle.model.specs.WindowClause.{WindowsHold}
+use Rattle.model.specs.Faithful.{OthersHold, is_given_up, IsTaped, HasTape}
 use Rattle.gateway.specs.Moves.{Move, inputs, tape_of, entry_of, after_all}
 use Rattle.gateway.specs.Moves.Input.{OfBreach, OfEvent}
 use Rattle.gateway.specs.Moves.Move.{Takes, Breaks, Hears, Sends, SendsHead, Acts}
@@ -26,12 +26,19 @@ use Rattle.gateway.specs.State.{State, start, upstream_at}
 use Rattle.gateway.specs.Policy.{rest_of, Allowed, Point, idle, resting, point_after, AllAllowed, Leads, Answers, Begins, is_admitted, is_in_order}
 use Rattle.gateway.specs.Policy.Due.{ToSend, ToSendHead, ToAct}
 use Rattle.gateway.specs.Receiving.{Kept, IsRest, Waits, Departs, GoesOn}
+use Rattle.gateway.specs.Setups.{known_of, IsServable}
 use Rattle.gateway.specs.Stands.{Standing, fresh, Steps, IsKeptOf, KeptStands, Stands, StandsNext}
-use Rattle.gateway.proofs.Giving.{Serving, AllServing}
 use Rattle.gateway.proofs.Shutting.{EndsInClose}
 use Rattle.gateway.proofs.Admitting.{in_order_same}
 use Rattle.gateway.proofs.Standing.{Inv, inv_start, step}
-use Rattle.gateway.proofs.Completing.{deliveries_hold}
+use Rattle.gateway.proofs.Erring.{errors_hold}
+use Rattle.gateway.proofs.Noting.{others_read}
+use Rattle.gateway.proofs.Judging.{all_judged}
+use Rattle.gateway.proofs.Progressed.{progress_holds}
+use Rattle.gateway.proofs.Windowing.{windows_hold}
+use Rattle.gateway.proofs.Holding.{Holding, holding_start, holding_step}
+use Rattle.gateway.proofs.Requesting.{requests_hold}
+use Rattle.gateway.proofs.Completing.{responses_hold}
 use Rattle.gateway.proofs.Leading.{leads_then, AllAllowed-append, after_all-append, inputs-append}
 use Rattle.gateway.proofs.Coming.{events_in, happened_by, outputs_by, in_events}
 use Rattle.gateway.proofs.Told.{Tells, tells_same, tells_waits, tells_departs, tells_goes}
@@ -43,6 +50,17 @@ inv_all setup [] a = inv_start setup
 inv_all setup (m ∷ moves) a =
     let p : Point = after_all point_after (resting (start setup)) moves in
     step (tape_of moves) p.state p.owes m (inv_all setup moves a.0) a.1
+
+-- no move changes the setup
+setup_stays : (p : Point) (moves : List Move) → (after_all point_after p moves).state.setup ≡ p.state.setup
+setup_stays p [] = refl
+setup_stays p (m ∷ moves) = setup_stays p moves
+
+holds_all : (setup : Setup) → IsServable setup → (moves : List Move) → AllAllowed (resting (start setup)) moves → (let p : Point = after_all point_after (resting (start setup)) moves in Holding (tape_of moves) p.state p.owes)
+holds_all setup servable [] a = holding_start setup servable
+holds_all setup servable (m ∷ moves) a =
+    let p : Point = after_all point_after (resting (start setup)) moves in
+    holding_step (tape_of moves) p.state p.owes m (subst IsServable (sym (setup_stays (resting (start setup)) moves)) servable) (inv_all setup moves a.0) (holds_all setup servable moves a.0) a.1
 
 no_end_owed : (b : Bool) → EndsInClose (if b then [] else ToSend settings_frame ∷ []) → ⊥
 no_end_owed true h = h
@@ -61,44 +79,16 @@ pub admitted_same : (t : List Entry) (s : State) (event : Event) → Inv t (rest
 admitted_same t s event i =
     ap (λ b. not b && is_in_order s event) (closed_same t s i) ∙ ap (λ b. not (is_closed t) && b) (in_order_same t s event i.admitting)
 
--- ---- the clause on requests
+-- ---- the clauses
 
-one_request_text : (text : List ℕ) (r : Request) → H1Request text r → H1Requests text (r ∷ []) []
-one_request_text text r h = record {
-  front = text;
-  is = sym (append-nil text);
-  are_requests = (text, [], h, sym (append-nil text), refl);
-  no_more = λ front more request reads is. no_text front more request reads is;
+-- all else of the headline, unless the connection was given up
+others_hold : (before segment : List Entry) (s : State) → IsServable s.setup → s.greeted ≡ true → Inv (segment ++ before) (idle s) → Holding (segment ++ before) s [] → GoToOpen (segment ++ before) → is_given_up (segment ++ before) ≡ false → OthersHold (known_of s.setup) before segment
+others_hold before segment s servable greeted i h to_open kept = record {
+  others_are_read = others_read (segment ++ before) s i h.noting kept;
+  failures = all_judged (segment ++ before) s i h.judging kept;
+  errors = errors_hold (segment ++ before) s i h.erring greeted kept;
+  progress = progress_holds (segment ++ before) before segment s refl to_open servable i h.progressing kept;
 }
-  where
-    no_text : (front more : List ℕ) (request : Request) → H1Request front request → [] ≡ front ++ more → ⊥
-    no_text front more request reads is =
-        let size : 0 ≡ length front + length more = ap length is ∙ length-append front more in
-        let parts : length front ≡ length reads.head_text + length reads.content = ap length reads.is ∙ length-append reads.head_text reads.content in
-        let head = reads.has_head in
-        let whole : length reads.head_text ≡ length head.lines + (length reads.head.method + (length reads.head.target + 14)) = ap length head.is ∙ simp length-append (omega arith) in
-        omega arith
-
-served : (setup : Setup) (t : List Entry) (o : Opened) → Serving setup t [] o → IsServed setup t o
-served setup t o h =
-    let told : items o.stream t ≡ Block h.fields true ∷ [] = ap (λ (s : Story). s.items) h.told in record {
-      head = h.fields;
-      has_head = subst (λ xs. HasHead xs h.fields) (sym told) refl;
-      well_formed = subst WellFormedHead (sym h.means.has_head) h.means.well_formed;
-      by_route = h.by_route;
-      sent = inl (record {
-        request = h.request;
-        means = subst (λ xs. H2Request xs h.request) (sym told) h.means;
-        reads = one_request_text (sent_up o.k t) (forward h.request) (subst (λ x. H1Request x (forward h.request)) (append-nil (sent_up o.k t)) h.reads);
-      });
-    }
-
-all_served : (setup : Setup) (t : List Entry) (os : List Opened) → AllServing setup t [] os → AreServed setup t os
-all_served setup t [] h = tt
-all_served setup t (o ∷ os) h = (served setup t o h.0, all_served setup t os h.1)
-
-pub requests_hold : (t : List Entry) (s : State) → Inv t (idle s) → GoToOpen t → Requests s.setup t
-requests_hold t s i go = record { numbered = i.giving.numbered; apart = i.giving.apart; served = all_served s.setup t (opens t) i.giving.serving; go_to_open = go }
 
 -- octets go to connections that are open
 pub go_to_open : (setup : Setup) (moves : List Move) → AllAllowed (resting (start setup)) moves → GoToOpen (tape_of moves)
@@ -150,11 +140,7 @@ unread_ends t s i e = cases s.closed refl
     cases true f = elim (i.shutting.shut f) [ inl x ↦ x.0 | inr x ↦ absurd x ]
     cases false f = absurd (let g : true ≡ false = sym (i.giving.all_read f) ∙ e in cc)
 
--- ---- no move changes the setup, and what was sent stays sent
-
-setup_stays : (p : Point) (moves : List Move) → (after_all point_after p moves).state.setup ≡ p.state.setup
-setup_stays p [] = refl
-setup_stays p (m ∷ moves) = setup_stays p moves
+-- ---- what was sent stays sent
 
 greeted_stays : (p : Point) (moves : List Move) → p.state.greeted ≡ true → (after_all point_after p moves).state.greeted ≡ true
 greeted_stays p [] e = e
@@ -165,6 +151,21 @@ greeted_stays p (Sends frame ∷ moves) e = refl
 greeted_stays p (SendsHead stream fields ends block next ∷ moves) e = refl
 greeted_stays p (Acts act ∷ moves) e = greeted_stays p moves e
 
+-- what may come has room: whole messages are passed on
+fits_room : (setup : Setup) (t : List Entry) (event : Event) → setup.passing ≡ Whole → admission.is_admitted t event ≡ true → FitsRoom (known_of setup) t event
+fits_room setup t (Client piece) whole e = tt
+fits_room setup t ClientEnd whole e = tt
+fits_room setup t (ClientTook count) whole e = tt
+fits_room setup t (UpEnd k) whole e = tt
+fits_room setup t (UpFailed k) whole e = tt
+fits_room setup t (UpTook k count) whole e = tt
+fits_room setup t (Up k piece) whole e = λ count is.
+    let room : count ≡ admission.room k t = subst (λ p. IsRoom p (known_of setup) k t count) whole is in
+    let both = and_parts (not (is_closed t)) (admission.is_open k t && nat_le (length piece) (admission.room k t)) e in
+    let two = and_parts (admission.is_open k t) (nat_le (length piece) (admission.room k t)) both.1 in
+    let le : length piece ≤ admission.room k t = leb-true (length piece) (admission.room k t) two.1 in
+    omega (arith, le, room)
+
 -- ---- one step
 
 -- the moves of a step, and what they leave
@@ -174,10 +175,11 @@ pub record Stepped (k k' : Kept) (event : Event) (o : List Output) (text : List 
   pub events : events_in (inputs segment) ≡ listed event
   pub tells : (is_closed (tape_of segment ++ tape) ≡ false → k'.state.closed ≡ false) → Tells k' text (tape_of segment ++ tape)
 
-stood : (k' : Kept) (log : List Step) (tape : List Entry) (event : Event) (o : List Output) (k : Kept) (text : List ℕ) (s : Stepped k k' event o text tape) (setup : Setup) → k'.state.setup ≡ setup → (all : List Move) → tape_of s.segment ++ tape ≡ tape_of all → resting k'.state ≡ after_all point_after (resting (start setup)) all
-    → AllAllowed (resting (start setup)) all → IsTaped setup log (record { event = event; outputs = reverse o }) tape (tape_of s.segment) → HasTape setup log tape → Tells k' text (tape_of s.segment ++ tape) → text ≡ client_in log ++ client_octets event → KeptStands k' (record { event = event; outputs = reverse o } ∷ log) (tape_of s.segment ++ tape)
-stood k' log tape event o k text s setup same all same_tape point allowed taped has tells et = record {
-  has_tape = subst (λ x. HasTape x (record { event = event; outputs = reverse o } ∷ log) (tape_of s.segment ++ tape)) (sym same) (tape_of s.segment, tape, refl, taped, has);
+stood : (k' : Kept) (log : List Step) (tape : List Entry) (event : Event) (o : List Output) (k : Kept) (text : List ℕ) (s : Stepped k k' event o text tape) (setup : Setup) → k'.state.setup ≡ setup → IsServable setup → (all : List Move) → tape_of s.segment ++ tape ≡ tape_of all → resting k'.state ≡ after_all point_after (resting (start setup)) all
+    → AllAllowed (resting (start setup)) all → IsTaped (known_of setup) log (record { event = event; outputs = reverse o }) tape (tape_of s.segment) → HasTape (known_of setup) log tape → Tells k' text (tape_of s.segment ++ tape) → text ≡ client_in log ++ client_octets event → KeptStands k' (record { event = event; outputs = reverse o } ∷ log) (tape_of s.segment ++ tape)
+stood k' log tape event o k text s setup same servable all same_tape point allowed taped has tells et = record {
+  servable = subst IsServable (sym same) servable;
+  has_tape = subst (λ x. HasTape (known_of x) (record { event = event; outputs = reverse o } ∷ log) (tape_of s.segment ++ tape)) (sym same) (tape_of s.segment, tape, refl, taped, has);
   moves = all;
   is_tape = same_tape;
   point = subst (λ x. resting k'.state ≡ after_all point_after (resting (start x)) all) (sym same) point;
@@ -200,16 +202,23 @@ stands_then k k' log tape event o h admitted greeted s =
     let before : Inv tape (resting k.state) = subst (λ t. Inv t (resting k.state)) (sym h.is_tape) (subst (Inv (tape_of h.moves)) (sym h.point) (inv_all setup h.moves h.allowed)) in
     let open_yet : is_closed (tape_of s.segment ++ tape) ≡ false → k'.state.closed ≡ false = λ e. closed_same (tape_of s.segment ++ tape) k'.state (subst (Inv (tape_of s.segment ++ tape)) (sym rests) i) ∙ e in
     let tells : Tells k' (client_in log ++ client_octets event) (tape_of s.segment ++ tape) = s.tells open_yet in
-    let taped : IsTaped setup log (record { event = event; outputs = reverse o }) tape (tape_of s.segment) = record {
-      admitted = sym (admitted_same tape k.state event before) ∙ admitted;
+    let besides : Holding (tape_of s.segment ++ tape) k'.state [] =
+    subst (λ t. Holding t k'.state []) (sym same_tape) (subst (λ (p : Point). Holding (tape_of all) p.state p.owes) (sym whole) (holds_all setup h.servable all allowed)) in
+    let to_open : GoToOpen (tape_of s.segment ++ tape) = subst GoToOpen (sym same_tape) (go_to_open setup all allowed) in
+    let by_tape : admission.is_admitted tape event ≡ true = sym (admitted_same tape k.state event before) ∙ admitted in
+    let taped : IsTaped (known_of setup) log (record { event = event; outputs = reverse o }) tape (tape_of s.segment) = record {
+      admitted = record { in_order = by_tape; fits = fits_room setup tape event h.servable.whole by_tape };
       step_is = record { spelled = spelled_frames (resting k.state) s.segment s.leads.allowed; put_out = ap reverse (s.leads.outputs ∙ outputs_by s.segment); event = happened_by s.segment ∙ s.events };
       told = record { read = tells.read; table = i.giving.decodes.0; decodes = i.giving.decodes.1; unread = unread_ends (tape_of s.segment ++ tape) k'.state i; ends = subst EndsWithClose (sym same_tape) (ends_with_close setup all allowed) };
       clauses = record {
-        requests = subst (λ x. Requests x (tape_of s.segment ++ tape)) same_setup (requests_hold (tape_of s.segment ++ tape) k'.state i (subst GoToOpen (sym same_tape) (go_to_open setup all allowed)));
-        deliveries = subst (λ x. Deliveries x (tape_of s.segment ++ tape)) same_setup (deliveries_hold (tape_of s.segment ++ tape) k'.state i.responding);
+        requests = subst (λ x. RequestsHold (known_of x) (tape_of s.segment ++ tape)) same_setup (requests_hold (tape_of s.segment ++ tape) k'.state i);
+        responses = subst (λ x. ResponsesHold (known_of x) (tape_of s.segment ++ tape)) same_setup (responses_hold (tape_of s.segment ++ tape) k'.state i.responding i.limiting.keeps);
+        windows = subst (λ x. WindowsHold (known_of x) (tape_of s.segment ++ tape)) same_setup (windows_hold (tape_of s.segment ++ tape) k'.state (subst IsServable (sym same_setup) h.servable) i besides.windowing);
+        go_to_open = to_open;
+        others = λ kept. subst (λ x. OthersHold (known_of x) tape (tape_of s.segment)) same_setup (others_hold tape (tape_of s.segment) k'.state (subst IsServable (sym same_setup) h.servable) greeted i besides to_open kept);
       };
     } in
-    stood k' log tape event o k (client_in log ++ client_octets event) s setup same_setup all same_tape (rests ∙ whole) allowed taped h.has_tape tells refl
+    stood k' log tape event o k (client_in log ++ client_octets event) s setup same_setup h.servable all same_tape (rests ∙ whole) allowed taped h.has_tape tells refl
 
 -- the settings, if they weren't sent, and then what the event comes to
 joins : (k g k' : Kept) (o1 o : List Output) (segment : List Move) (b : Begins k.state g.state [] o1) → Leads (idle g.state) (idle k'.state) o1 o segment → Leads (resting k.state) (idle k'.state) [] o (segment ++ b.pays.segment)
@@ -321,10 +330,11 @@ stands_next g g' log tape event o h admitted alive s =
     }
 
 -- before any step
-pub stands_none : (setup : Setup) → Stands (fresh setup) [] []
-stands_none setup = record {
+pub stands_none : (setup : Setup) → IsServable setup → Stands (fresh setup) [] []
+stands_none setup servable = record {
   kept = record {
     has_tape = refl;
+    servable = servable;
     moves = [];
     is_tape = refl;
     point = refl;

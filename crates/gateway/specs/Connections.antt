@@ -1,11 +1,14 @@
 -- A connection as it lies in memory, and where its methods lead.
-use Rattle.std.specs.Prelude.{◌⊎◌, ◌≡◌, ℕ, ◌+◌, ◌<◌, ◌≤◌, true, false, List, [], ◌∷◌, ◌++◌, length, map, Bool, Some, None, codes, bytes_eq}
+use Rattle.std.specs.Prelude.{◌⊎◌, ◌≡◌, ℕ, ◌+◌, ◌-◌, ◌%◌, ◌<◌, ◌≤◌, ◌==◌, ◌&&◌, not, true, false, List, [], ◌∷◌, ◌++◌, length, map, Bool, Some, None, codes, bytes_eq}
 use Rattle.model.specs.Messages.{Field, Request}
 use Rattle.model.specs.Messages.Item.{Block}
-use Rattle.model.specs.Tables.{Table}
+use Rattle.model.specs.Tables.{Table, total_size}
+use Rattle.model.specs.Causes.{has_field}
+use Rattle.header_blocks.specs.declared.fault.DecodeFault.{DecodeFault}
+use Rattle.header_blocks.specs.Represented.{UnlessMemory}
 use Rattle.model.specs.Http1.{H1Request, forward}
 use Rattle.model.specs.Http2.{H2Request, authority_of, path_of}
-use Rattle.model.specs.Frames.{Frame, spell, settings_frame, settings_ack, goaway, internal_error}
+use Rattle.model.specs.Frames.{Frame, spell, settings_kind, is_ack, settings_frame, settings_ack, goaway, protocol_error, internal_error}
 use Rattle.model.specs.Logs.{Output}
 use Rattle.model.specs.Logs.Act.{Close, CloseClient}
 use Rattle.model.specs.Logs.Output.{ToClient, Does}
@@ -34,6 +37,7 @@ state_of c = record {
   table = c.decoder.table;
   exchanges = c.exchanges.items;
   encoding = c.encoder.table;
+  window = c.window;
 }
 
 -- How many octets for the client there can be: a response begins only while fewer than 65,536 aren't taken, and a farewell
@@ -46,6 +50,9 @@ pub record IsBounded (c : Inside) : Type 0 where
   pub streams : c.high < 2147483648
   pub few : length c.upstreams.items ≤ 100
   pub paired : length c.exchanges.items ≡ length c.upstreams.items
+  -- no octets of a block that can't be read stand behind, and the client set no limit on the table towards it
+  pub readable : c.decoder.fault ≡ None
+  pub unlimited : c.encoder.limits ≡ None
 
 -- what the gateway holds stays within its limits
 pub record IsSmallState (s : State) : Type 0 where
@@ -61,11 +68,39 @@ pub record IsTaken (routes : List Route) (fields : List Field) (route : ℕ) (te
   pub by_route : IsFirstMatch routes (authority_of fields) (path_of fields) route
   pub reads : H1Request text (forward request)
   pub for_head : to_head ≡ bytes_eq request.method (codes "HEAD")
+  pub no_expect : has_field (codes "expect") fields ≡ false
 
--- the frame is HEADERS with END_STREAM and END_HEADERS alone
-pub record IsHead (frame : Frame) : Type 0 where
+-- The frame is HEADERS with END_STREAM and END_HEADERS alone, on a stream that the client may open, where fewer than 100
+-- connections were opened.
+pub record IsHead (s : State) (frame : Frame) : Type 0 where
   pub kind : frame.kind ≡ 1
   pub flags : frame.flags ≡ 5
+  pub odd : frame.id % 2 ≡ 1
+  pub above : s.high < frame.id
+  pub in_range : frame.id < 2147483648
+  pub short : length frame.payload ≤ 16384
+  pub few : length s.upstreams < 100
+
+-- The frame is such, and its block says these fields, which are a request that goes on.
+pub record IsRequestIn (s : State) (frame : Frame) (route : ℕ) (text : List ℕ) (to_head : Bool) (next : Table) : Type 0 where
+  pub head : IsHead s frame
+  pub fields : List Field
+  pub is_block : blocks.Block s.table frame.payload fields next
+  pub small : total_size fields ≤ 16384
+  pub taken : IsTaken s.setup.routes fields route text to_head
+
+-- The frame is such, and its block can't be read.
+pub record IsUnreadIn (s : State) (frame : Frame) : Type 0 where
+  pub head : IsHead s frame
+  pub no_block : blocks.NoBlock s.table frame.payload
+
+-- A fault of a block, unless memory was refused.
+abbrev pub IsFaultIn : State → Frame → DecodeFault → Type 0
+IsFaultIn s frame fault = UnlessMemory fault (IsUnreadIn s frame)
+
+-- The first frame isn't settings that are taken: with PROTOCOL_ERROR it isn't settings at all.
+abbrev pub IsFirstCode : Frame → ℕ → Type 0
+IsFirstCode frame code = (code ≡ internal_error) ⊎ ((code ≡ protocol_error) × ((frame.kind == settings_kind && not (is_ack frame)) ≡ false))
 
 -- a header block of the client moves the table
 abbrev pub with_table : State → Table → State
@@ -123,10 +158,14 @@ with_encoding s table = record s { encoding = table }
 abbrev pub sent_frame : State → Frame → State
 sent_frame s frame = record s { greeted = true; untaken = s.untaken + length (spell frame) }
 
+-- DATA is sent
+abbrev pub sent_data : State → Frame → State
+sent_data s frame = record (sent_frame s frame) { window = s.window - length frame.payload }
+
 -- a whole response is sent on its stream: its head's block, and its body in a frame of its own where it has one
 abbrev pub passed_back : State → ℕ → List ℕ → List ℕ → State
 passed_back s stream block [] = sent_frame s (head_frame stream true block)
-passed_back s stream block (octet ∷ body) = sent_frame (sent_frame s (head_frame stream false block)) (last_data stream (octet ∷ body))
+passed_back s stream block (octet ∷ body) = sent_data (sent_frame s (head_frame stream false block)) (last_data stream (octet ∷ body))
 
 abbrev pub put_response : List Output → ℕ → List ℕ → List ℕ → List Output
 put_response outputs stream block [] = put outputs (ToClient (spell (head_frame stream true block)))
@@ -145,10 +184,11 @@ pub record IsPassedBack (old new : State) (k : ℕ) (e : Awaited) (o o' : List O
   pub has_head : e.head ≡ Some head
   pub block : List ℕ
   pub next : Table
-  pub is_block : blocks.Block old.encoding block (section_of head) next
+  pub is_block : blocks.IsBlock old.encoding block [] (section_of head) next
   pub stream : e.stream < 2147483648
   pub short_block : length block ≤ 16384
   pub short_body : length e.body ≤ 16384
+  pub within : length e.body ≤ old.window
   pub state : new ≡ passed_back (with_encoding (after old (Acts (Close k))) next) e.stream block e.body
   pub outputs : o' ≡ put_response (put o (Does (Close k))) e.stream block e.body
 

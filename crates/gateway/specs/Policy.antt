@@ -1,11 +1,11 @@
 -- What the gateway may do: which move may come next, by its state and by what it owes.
-use Rattle.std.specs.Prelude.{◌≡◌, ℕ, suc, ◌%◌, ◌<◌, ◌≤◌, ◌==◌, Bool, true, false, not, ◌&&◌, ◌||◌, nat_le, if◌then◌else◌, List, [], ◌∷◌, ◌++◌, length, Option, None, Some}
+use Rattle.std.specs.Prelude.{◌≡◌, ℕ, suc, ◌%◌, ◌<◌, ◌≤◌, ◌==◌, Bool, true, false, not, ◌&&◌, ◌||◌, ◌⊎◌, nat_le, if◌then◌else◌, List, [], ◌∷◌, ◌++◌, length, Option, None, Some, is_none, codes}
 use Rattle.model.specs.Messages.{Field, Request}
 use Rattle.model.specs.Messages.Item.{Block}
-use Rattle.model.specs.Tables.{Table}
+use Rattle.model.specs.Tables.{Table, total_size}
 use Rattle.model.specs.Blocks as blocks
 use Rattle.model.specs.ResponseHeads.{Head}
-use Rattle.model.specs.Frames.{Frame, Fits, headers_kind, continuation_kind, settings_kind, rst_stream_kind, is_ack, settings_frame, settings_ack, goaway, protocol_error, internal_error, frame_size_error}
+use Rattle.model.specs.Frames.{Frame, Fits, data_kind, headers_kind, continuation_kind, settings_kind, rst_stream_kind, is_ack, settings_frame, settings_ack, goaway, protocol_error, internal_error, frame_size_error, compression_error}
 use Rattle.model.specs.Http1.{H1Request, forward}
 use Rattle.model.specs.Http2.{H2Request, authority_of, path_of}
 use Rattle.model.specs.Logs.{Event, Act, Output}
@@ -14,9 +14,9 @@ use Rattle.model.specs.Logs.Act.{Open, ToUp, Close, CloseClient}
 use Rattle.model.specs.Setup.{IsFirstMatch}
 use Rattle.model.specs.Tapes.{Noted, Breach}
 use Rattle.model.specs.Tapes.Breach.{WrongPreface, TooLong}
-use Rattle.model.specs.Tapes.Note.{Fields}
-use Rattle.model.specs.Decoding.{begun, completed, IsNoteOf, is_read}
-use Rattle.model.specs.Streams.{frame_items}
+use Rattle.model.specs.Tapes.Note.{NoBlock, Fields, Undecodable}
+use Rattle.model.specs.Decoding.{completed, IsNoteOf, is_read}
+use Rattle.model.specs.Causes.{has_field}
 use Rattle.h1_reader.specs.Parts.{Part}
 use Rattle.h1_reader.specs.Standing.{State as Reader}
 use Rattle.gateway.specs.Exchanges.{Awaited, IsTold, head_after, body_of, exchange_at, section_of}
@@ -38,20 +38,24 @@ IsNoted table noted (Stopped code next) = (left : Table) × IsNoteOf (completed 
 pub record MaySettle (s : State) (noted : Noted) : Type 0 where
   pub first : s.settled ≡ false
   pub kind : noted.frame.kind ≡ settings_kind
-  pub no_ack : is_ack noted.frame ≡ false
-  pub read : is_read noted.note ≡ true
-  pub no_block : begun (noted ∷ []) ≡ None
-  pub no_item : frame_items (completed [] noted.frame) noted ≡ []
+  pub no_ack : noted.frame.flags % 2 ≡ 0
+  pub whole : noted.frame.id ≡ 0
+  pub empty : noted.frame.payload ≡ []
+  pub note : noted.note ≡ NoBlock
 
 -- The frame is a whole request, on a new stream, and this text reads as it.
 pub record MayServe (s : State) (noted : Noted) (route : ℕ) (text : List ℕ) (request : Request) : Type 0 where
   pub settled : s.settled ≡ true
   pub above : s.high < noted.frame.id
   pub kind : noted.frame.kind ≡ headers_kind
-  pub no_block : begun (noted ∷ []) ≡ None
+  pub flags : noted.frame.flags ≡ 5
+  pub odd : noted.frame.id % 2 ≡ 1
+  pub short : length noted.frame.payload ≤ 16384
+  pub few : length s.upstreams < 100
   pub fields : List Field
   pub note : noted.note ≡ Fields fields
-  pub item : frame_items (completed [] noted.frame) noted ≡ Block fields true ∷ []
+  pub small : total_size fields ≤ 16384
+  pub no_expect : has_field (codes "expect") fields ≡ false
   pub means : H2Request (Block fields true ∷ []) request
   pub by_route : IsFirstMatch s.setup.routes (authority_of fields) (path_of fields) route
   pub reads : H1Request text (forward request)
@@ -63,11 +67,33 @@ pub record IsPlainSettings (frame : Frame) : Type 0 where
   pub whole : frame.id ≡ 0
   pub empty : frame.payload ≡ []
 
+-- The client's first frame isn't settings without ACK; a header block that it completes isn't read.
+pub record IsWrongFirst (s : State) (noted : Noted) : Type 0 where
+  pub first : s.settled ≡ false
+  pub wrong : (noted.frame.kind == settings_kind && not (is_ack noted.frame)) ≡ false
+  pub note : is_read noted.note ≡ is_none (completed [] noted.frame)
+
+-- The header block of a new stream can't be read.
+pub record IsUnreadable (s : State) (noted : Noted) : Type 0 where
+  pub settled : s.settled ≡ true
+  pub above : s.high < noted.frame.id
+  pub kind : noted.frame.kind ≡ headers_kind
+  pub flags : noted.frame.flags ≡ 5
+  pub odd : noted.frame.id % 2 ≡ 1
+  pub short : length noted.frame.payload ≤ 16384
+  pub few : length s.upstreams < 100
+  pub note : noted.note ≡ Undecodable
+
+-- The connection may end with a frame and a code: with INTERNAL_ERROR at whatever isn't treated yet, or as the error table says.
+abbrev pub MayStop : State → Noted → ℕ → Type 0
+MayStop s noted code =
+    (code ≡ internal_error) ⊎ (((code ≡ protocol_error) × IsWrongFirst s noted) ⊎ ((code ≡ compression_error) × IsUnreadable s noted))
+
 -- An outcome is one that the frame may come to: such settings are taken where they come first.
 abbrev pub MayBe : State → Noted → Outcome → Type 0
 MayBe s noted Settled = MaySettle s noted
 MayBe s noted (Served route text request next) = MayServe s noted route text request
-MayBe s noted (Stopped code next) = s.settled ≡ false → IsPlainSettings noted.frame → ⊥
+MayBe s noted (Stopped code next) = (s.settled ≡ false → IsPlainSettings noted.frame → ⊥) × MayStop s noted code
 
 -- The event may come, as far as the state tells.
 abbrev pub is_in_order : State → Event → Bool
@@ -102,6 +128,7 @@ pub record MayTell (s : State) (k : ℕ) (piece : List ℕ) (added : List Part) 
   pub old : Awaited
   pub found : exchange_at s.exchanges k ≡ Some old
   pub told : IsTold old piece added reader done
+  pub fits : length (old.body ++ body_of added) ≤ s.setup.max_response
 
 abbrev pub MayTellOf : State → Event → List Part → Reader → Bool → Type 0
 MayTellOf s (Up k piece) added reader done = MayTell s k piece added reader done
@@ -114,23 +141,25 @@ MayHear s event (Told added reader) = MayTellOf s event added reader false
 MayHear s event (Completed added reader) = MayTellOf s event added reader true
 MayHear s event (Abandoned left encoding) = is_upstreams event ≡ true
 
--- The frame can be spelled, ends no stream by force and is no part of a header block.
-pub record MaySend (frame : Frame) : Type 0 where
+-- The frame can be spelled, ends no stream by force and is no part of a header block; as DATA it is within the window of the
+-- connection.
+pub record MaySend (s : State) (frame : Frame) : Type 0 where
   pub fits : Fits frame
+  pub within : frame.kind ≡ data_kind → length frame.payload ≤ s.window
   pub no_reset : (frame.kind == rst_stream_kind) ≡ false
   pub no_block : (frame.kind == headers_kind || frame.kind == continuation_kind) ≡ false
 
--- The block says the fields, over the table towards the client, and can be spelled.
+-- The block says the fields, over the table towards the client and without maxima, and can be spelled.
 pub record MaySendHead (s : State) (stream : ℕ) (fields : List Field) (ends : Bool) (block : List ℕ) (next : Table) : Type 0 where
   pub open_yet : s.closed ≡ false
-  pub is_block : blocks.Block s.encoding block fields next
+  pub is_block : blocks.IsBlock s.encoding block [] fields next
   pub fits : Fits (head_frame stream ends block)
 
 abbrev pub Holds : State → Move → Type 0
 Holds s (Takes noted outcome) = IsNoted s.table noted outcome × MayBe s noted outcome
 Holds s (Breaks breach) = Unit {0}
 Holds s (Hears event hearing) = (is_in_order s event ≡ true) × MayHear s event hearing
-Holds s (Sends frame) = MaySend frame
+Holds s (Sends frame) = MaySend s frame
 Holds s (SendsHead stream fields ends block next) = MaySendHead s stream fields ends block next
 Holds s (Acts act) = MayDo s act
 

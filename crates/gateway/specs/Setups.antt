@@ -1,7 +1,8 @@
 -- The configuration without where it lies in memory.
-use Rattle.std.specs.Prelude.{◌≡◌, ◌≤◌, map}
+use Rattle.std.specs.Prelude.{◌≡◌, ◌≤◌, [], map}
 use Rattle.model.specs.Setup as setup
 use Rattle.model.specs.Setup.{Setup}
+use Rattle.model.specs.Known.{Known}
 use Rattle.model.specs.Setup.Policy.{Plain}
 use Rattle.model.specs.Setup.Passing.{Whole}
 use Rattle.gateway.specs.declared.config.Config.{Config}
@@ -30,6 +31,10 @@ setup_of config = record {
   max_body = config.max_body;
   max_response = config.max_response;
 }
+
+-- what is known beside a tape: no answer failed, since so far the connection ends wherever one does
+abbrev pub known_of : Setup → Known
+known_of setup = record { setup = setup; failures = [] }
 
 -- What a gateway can be set up with so far: blocks written plainly, bodies passed on whole, and maxima within their limits.
 pub record IsServable (setup : Setup) : Type 0 where

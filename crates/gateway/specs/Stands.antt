@@ -16,6 +16,7 @@ use Rattle.gateway.specs.Moves.Input.{OfEvent}
 use Rattle.gateway.specs.State.{start}
 use Rattle.gateway.specs.Exchanges.{exchanges_size}
 use Rattle.gateway.specs.Policy.{resting, point_after, AllAllowed, Answers, Begins}
+use Rattle.gateway.specs.Setups.{known_of, IsServable}
 use Rattle.gateway.specs.Receiving.{Kept, IsRest, Receives}
 
 -- what a text is to the preface
@@ -83,7 +84,8 @@ IsKeptOf false k text t = IsUnbegun k text t
 -- What is kept stands for a log, the newest step first, and for a tape of it: moves that were allowed lead there, and the
 -- octets that are kept are those that aren't read.
 pub record KeptStands (k : Kept) (log : List Step) (tape : List Entry) : Type 0 where
-  pub has_tape : HasTape k.state.setup log tape
+  pub has_tape : HasTape (known_of k.state.setup) log tape
+  pub servable : IsServable k.state.setup
   pub moves : List Move
   pub is_tape : tape ≡ tape_of moves
   pub point : resting k.state ≡ after_all point_after (resting (start k.state.setup)) moves

@@ -1,8 +1,9 @@
 -- What the gateway keeps of its moves: a fold of them.
-use Rattle.std.specs.Prelude.{ℕ, zero, suc, ◌+◌, ◌-◌, Bool, true, false, List, [], ◌∷◌, ◌++◌, length, set, get_or, Option, Some, None, codes, bytes_eq}
+use Rattle.std.specs.Prelude.{ℕ, zero, suc, ◌+◌, ◌-◌, ◌==◌, if◌then◌else◌, Bool, true, false, List, [], ◌∷◌, ◌++◌, length, set, get_or, Option, Some, None, codes, bytes_eq}
 use Rattle.model.specs.Setup.{Setup}
-use Rattle.model.specs.Frames.{spell}
+use Rattle.model.specs.Frames.{spell, data_kind}
 use Rattle.model.specs.Tables.{Table, first_table}
+use Rattle.model.specs.Windows.{first_window}
 use Rattle.model.specs.Logs.{Event}
 use Rattle.model.specs.Logs.Event.{ClientEnd, ClientTook, Up, UpFailed, UpTook}
 use Rattle.model.specs.Logs.Act.{Open, ToUp, Close}
@@ -35,9 +36,11 @@ pub record State : Type 0 where
   pub exchanges : List (Option Awaited)
   -- the table of the header blocks to the client
   pub encoding : Table
+  -- how many octets of DATA may be sent on the connection
+  pub window : ℕ
 
 abbrev pub start : Setup → State
-start setup = record { setup = setup; greeted = false; settled = false; closed = false; high = 0; untaken = 0; upstreams = []; table = first_table; exchanges = []; encoding = first_table }
+start setup = record { setup = setup; greeted = false; settled = false; closed = false; high = 0; untaken = 0; upstreams = []; table = first_table; exchanges = []; encoding = first_table; window = first_window }
 
 abbrev pub nobody : Upstream
 nobody = record { is_open = false; untaken = 0 }
@@ -120,6 +123,10 @@ encoding_after table (SendsHead stream fields ends block next) = next
 encoding_after table (Hears event (Abandoned left encoding)) = encoding
 encoding_after table _ = table
 
+abbrev pub window_after : ℕ → Move → ℕ
+window_after window (Sends frame) = if frame.kind == data_kind then window - length frame.payload else window
+window_after window _ = window
+
 abbrev pub after : State → Move → State
 after s m = record {
   setup = s.setup;
@@ -132,4 +139,5 @@ after s m = record {
   table = table_after s.table m;
   exchanges = exchanges_after s.exchanges m;
   encoding = encoding_after s.encoding m;
+  window = window_after s.window m;
 }

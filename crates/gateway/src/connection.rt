@@ -1,6 +1,6 @@
 //! A client's connection: what is kept of it, and what its frames and the other events do.
 
-ghost use Rattle.std.specs.Prelude.{◌≡◌, ◌≤◌, ◌<◌, ◌++◌, suc, length, drop, List, [], ◌∷◌, OnOk, IfOk, IfSome, false, true};
+ghost use Rattle.std.specs.Prelude.{◌≡◌, ◌≢◌, ◌≤◌, ◌<◌, ◌++◌, suc, length, drop, List, [], ◌∷◌, OnOk, IfOk, IfErr, IfSome, false, true};
 ghost use Rattle.gateway.specs.Exchanges.{exchange_at, IsSmall};
 ghost use Rattle.gateway.specs.Moves.{head_frame, last_data};
 ghost use Rattle.model.specs.Frames.{spell, spell_number, settings_frame, settings_ack};
@@ -18,9 +18,7 @@ ghost use Rattle.gateway.specs.Moves.Hearing.{Noticed};
 ghost use Rattle.model.specs.Logs.Event.{Up, UpFailed, UpTook};
 ghost use Rattle.gateway.specs.Policy.{is_admitted, Answers, Begins, IsPlainSettings};
 ghost use Rattle.gateway.specs.Receiving.{Takes};
-ghost use Rattle.model.specs.Blocks.{Block as IsBlockOf};
-ghost use Rattle.model.specs.Messages.{Field as FieldLine};
-ghost use Rattle.gateway.specs.Connections.{greeted, settled, served, ended, left, put_end, put_farewell, with_table, without_exchange, awaiting, sent_frame, passed_back, put_response, Responds, IsTaken, IsHead, IsSmallState};
+ghost use Rattle.gateway.specs.Connections.{greeted, settled, served, ended, left, put_end, put_farewell, with_table, without_exchange, awaiting, sent_frame, sent_data, passed_back, put_response, Responds, IsHead, IsRequestIn, IsFaultIn, IsFirstCode, IsSmallState};
 
 use crate::config::Config;
 use crate::events::Event;
@@ -96,6 +94,25 @@ fn is_plain_settings(view: &View<'_>) -> bool
     ensures no { result ≡ false → IsPlainSettings (frame_of view.now) → ⊥ }
 {
     view.kind == 4 && view.flags % 2 == 0 && view.id == 0 && view.payload.is_empty()
+}
+
+/// The code with which the connection ends at a first frame that isn't taken: PROTOCOL_ERROR where it isn't SETTINGS without
+/// ACK (RFC 9113, section 3.4).
+fn first_code(view: &View<'_>) -> u32
+    ensures { IsFirstCode (frame_of view.now) result }
+{
+    if view.kind == 4 && view.flags % 2 == 0 {
+        INTERNAL_ERROR
+    } else {
+        PROTOCOL_ERROR
+    }
+}
+
+/// Whether memory was refused, and not a block.
+fn is_memory(fault: DecodeFault) -> bool
+    ensures { result ≡ false → fault ≢ DecodeFault.Memory }
+{
+    matches!(fault, DecodeFault::Memory)
 }
 
 /// The payload of GOAWAY (RFC 9113, section 6.8): the last stream, and the error code.
@@ -293,33 +310,45 @@ impl Connection {
         if is_plain_settings(view) {
             return self.settle(out);
         }
-        let is_settings = view.kind == 4 && view.flags % 2 == 0;
-        let code = if is_settings {
-            INTERNAL_ERROR
-        } else {
-            PROTOCOL_ERROR
-        };
-        self.leave(code, out)
+        self.leave(first_code(view), out)
     }
 
-    /// The request that a frame is, where it is one that goes on. Its block moves the table.
+    /// Whether a frame is HEADERS of a whole request without a body, on a stream that the client may open.
+    fn is_request_head(&self, view: &View<'_>) -> bool
+        requires { length view.now.payload.now ≤ 16384 }
+        ensures { result ≡ true → IsHead self.now (frame_of view.now) }
+    {
+        view.kind == 1
+            && view.flags == 5
+            && view.id % 2 == 1
+            && view.id > self.high
+            && view.id < 2147483648
+            && self.upstreams.len() < 100
+    }
+
+    /// The request that a frame is, where it is one that goes on. Its block moves the table; behind one that can't be read no
+    /// other is read.
     fn request_of(
         &mut self,
         alloc: Global,
         view: &View<'_>,
     ) -> Result<Option<Sendable>, DecodeFault>
+        requires { length view.now.payload.now ≤ 16384 }
         ensures same { self.new ≡ with_table self.old self.new.table }
         ensures small { IsSmallState self.old → IsSmallState self.new }
-        ensures taken { IfOk result (λ found. IfSome found (λ p. (fields : List FieldLine) × IsHead (frame_of view.now) × (self.old.high < view.now.id) × (view.now.id < 2147483648) × (length self.old.upstreams < 100) × (length self.old.exchanges < 100)
-            × IsBlockOf self.old.table view.now.payload.now fields self.new.table × IsTaken self.old.setup.routes fields p.route p.text.items p.to_head)) }
+        ensures taken { IfOk result (λ found. IfSome found (λ p. IsRequestIn self.old (frame_of view.now) p.route p.text.items p.to_head self.new.table × (length self.old.exchanges < 100))) }
+        ensures fault { IfErr result (IsFaultIn self.old (frame_of view.now)) }
     {
-        let is_new = view.id % 2 == 1 && view.id > self.high && view.id < 2147483648;
-        if view.kind != 1 || view.flags != 5 || !is_new || self.upstreams.len() >= 100 {
+        if !self.is_request_head(view) {
             return Ok(None);
         }
-        match self.decoder.decode(alloc, view.payload, LIST_LIMIT)? {
-            Decoded::Fields(fields) => Ok(read_request(alloc, &self.config.routes, &fields)?),
-            Decoded::TooLarge => Ok(None),
+        match self.decoder.decode(alloc, view.payload, LIST_LIMIT) {
+            Ok(Decoded::Fields(fields)) => Ok(read_request(alloc, &self.config.routes, &fields)?),
+            Ok(Decoded::TooLarge) => Ok(None),
+            Err(fault) => {
+                self.decoder = Decoder::new(alloc, 4096);
+                Err(fault)
+            }
         }
     }
 
@@ -330,7 +359,8 @@ impl Connection {
         view: &View<'_>,
         out: &mut Outputs,
     ) -> Result<(), AllocError>
-        requires { self.old.closed ≡ false }
+        requires alive { self.old.closed ≡ false }
+        requires short { length view.now.payload.now ≤ 16384 }
         ensures answers { OnOk result (Answers self.old self.new out.old out.new (OfFrame (frame_of view.now) ∷ [])) }
         ensures small { IsSmallState self.old → IsSmallState self.new }
     {
@@ -340,8 +370,12 @@ impl Connection {
         match self.request_of(alloc, view) {
             Ok(Some(request)) => self.serve(alloc, view.id, request, out),
             Ok(None) => self.leave(INTERNAL_ERROR, out),
-            Err(DecodeFault::Memory) => Err(AllocError),
-            Err(_) => self.leave(COMPRESSION_ERROR, out),
+            Err(fault) => {
+                if is_memory(fault) {
+                    return Err(AllocError);
+                }
+                self.leave(COMPRESSION_ERROR, out)
+            }
         }
     }
 
@@ -402,7 +436,7 @@ impl Connection {
         let Some(mut exchange) = self.take_exchange(k) else {
             return self.leave(INTERNAL_ERROR, out);
         };
-        match exchange.read(octets)? {
+        match exchange.read(octets, self.config.max_response)? {
             Heard::More => {
                 self.await_exchange(k, exchange);
                 Ok(())
@@ -414,7 +448,7 @@ impl Connection {
 
     /// Whether a response may go out now: its block and its body in a frame each, within the window and the high water.
     fn may_respond(&self, block: usize, body: usize) -> bool
-        ensures { result ≡ true → (block ≤ 16384) × (body ≤ 16384) × (self.now.untaken ≤ 65535) }
+        ensures { result ≡ true → (block ≤ 16384) × (body ≤ 16384) × (body ≤ self.now.window) × (self.now.untaken ≤ 65535) }
     {
         block <= LONGEST_PAYLOAD
             && body <= LONGEST_PAYLOAD
@@ -461,6 +495,7 @@ impl Connection {
         requires stream { stream < 2147483648 }
         requires block { length block.now ≤ 16384 }
         requires body { length body.now ≤ 16384 }
+        requires within { length body.now ≤ self.old.window }
         requires alive { self.old.closed ≡ false }
         requires room { self.old.untaken ≤ 65535 }
         ensures state { OnOk result (self.new ≡ passed_back self.old stream block.now body.now) }
@@ -510,9 +545,10 @@ impl Connection {
     fn send_body(&mut self, stream: u32, body: &[u8], out: &mut Outputs) -> Result<(), AllocError>
         requires stream { stream < 2147483648 }
         requires body { length body.now ≤ 16384 }
+        requires within { length body.now ≤ self.old.window }
         requires alive { self.old.closed ≡ false }
         requires room { self.old.untaken ≤ 81928 }
-        ensures state { OnOk result (self.new ≡ sent_frame self.old (last_data stream body.now)) }
+        ensures state { OnOk result (self.new ≡ sent_data self.old (last_data stream body.now)) }
         ensures outputs { OnOk result (out.new ≡ put out.old (ToClient (spell (last_data stream body.now)))) }
         ensures small { IsSmallState self.old → IsSmallState self.new }
     {
@@ -524,7 +560,7 @@ impl Connection {
         };
         out.send(&view)?;
         self.greeted = true;
-        self.window = self.window.saturating_sub(body.len());
+        self.window -= body.len();
         self.untaken += 9 + body.len() as u64;
         Ok(())
     }

@@ -179,9 +179,9 @@ impl Exchange {
         Ok(true)
     }
 
-    /// Takes octets of the upstream.
-    pub fn read(&mut self, octets: &[u8]) -> Result<Heard, AllocError>
-        ensures heard { IfOk result (λ heard. IsHeard self.old octets.now heard self.new) }
+    /// Takes octets of the upstream. A body of more octets than `most` is none that is passed back.
+    pub fn read(&mut self, octets: &[u8], most: u64) -> Result<Heard, AllocError>
+        ensures heard { IfOk result (λ heard. IsHeard self.old octets.now most heard self.new) }
         ensures small { IsSmall self.new }
     {
         let mut pieces = Vec::new(self.alloc);
@@ -191,7 +191,7 @@ impl Exchange {
             Err(_) => return Ok(Heard::Refused),
         }
         let whole = is_whole(&pieces);
-        if !self.keep_all(pieces)? {
+        if !self.keep_all(pieces)? || self.body.len() as u64 > most {
             return Ok(Heard::Refused);
         }
         if whole {

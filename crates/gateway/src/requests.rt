@@ -1,7 +1,8 @@
 //! Which header blocks are requests that go on, and the text that an upstream is sent for one.
 
-ghost use Rattle.std.specs.Prelude.{◌≡◌, IfOk, IfSome, map, codes, IsTrue, ◌↔◌};
+ghost use Rattle.std.specs.Prelude.{◌≡◌, IfOk, IfSome, map, codes, bytes_eq, IsTrue, ◌↔◌};
 ghost use Rattle.model.specs.Octets.{IsFront};
+ghost use Rattle.model.specs.Causes.{has_field};
 ghost use Rattle.model.specs.Setup.{IsFirstMatch, Matches, IsForAuthority, IsForPath};
 ghost use Rattle.gateway.specs.Setups.{route_of};
 ghost use Rattle.gateway.specs.Connections.{IsTaken};
@@ -64,10 +65,22 @@ fn find_route(routes: &[Route], authority: &[u8], path: &[u8]) -> Option<u32>
 }
 
 /// Whether the client waits for an interim response before it goes on (RFC 9110, section 10.1.1).
-fn expects(fields: &[Field]) -> bool {
-    fields
-        .iter()
-        .any(|field| field.name() == b"expect".as_slice())
+fn expects(fields: &[Field]) -> bool
+    ensures { result ≡ has_field (codes "expect") fields.now }
+{
+    for field in fields {
+        if is_expectation(field) {
+            return true;
+        }
+    }
+    false
+}
+
+/// Whether a field says that the client expects something.
+fn is_expectation(field: &Field) -> bool
+    ensures { result ≡ bytes_eq field.now.name (codes "expect") }
+{
+    field.name() == b"expect".as_slice()
 }
 
 /// A request as it is sent.
@@ -95,7 +108,7 @@ pub fn read_request(
         Err(Rule::Memory) => return Err(AllocError),
         Err(_) => return Ok(None),
     };
-    if head.method() == b"CONNECT".as_slice() || expects(head.fields()) {
+    if head.method() == b"CONNECT".as_slice() || expects(fields) {
         return Ok(None);
     }
     let Some(route) = find_route(routes, head.authority(), head.path()) else {

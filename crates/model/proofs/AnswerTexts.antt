@@ -1,5 +1,5 @@
 -- A response of an upstream, octet by octet: a head with a length, and two octets.
-use Rattle.model.proofs.FaithfulExamples.{field, short, indexed}
+use Rattle.model.proofs.FirstLog.{field, short, indexed}
 use Rattle.model.specs.Blocks as blocks
 use Rattle.model.specs.Tables.{first_table, static_table, look_up}
 use Rattle.model.specs.Messages.{Field}

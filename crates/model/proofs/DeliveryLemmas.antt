@@ -1,5 +1,5 @@
 -- A final head as it is passed back reads as that head.
-use Rattle.std.proofs.Common.{◌≡◌, ℕ, zero, suc, ◌+◌, ◌*◌, ◌/◌, ◌%◌, ◌-◌, ◌<◌, ◌≤◌, Bool, true, false, not, ◌==◌, ◌&&◌, ◌||◌, List, [], ◌∷◌, ◌++◌, length, map, filter, refl, sym, ◌∙◌, ap, subst, arith, if◌then◌else◌, inl, inr}
+use Rattle.std.proofs.Common.{◌≡◌, ℕ, zero, suc, ◌+◌, ◌/◌, ◌%◌, ◌<◌, ◌≤◌, Bool, true, false, not, ◌==◌, ◌&&◌, List, [], ◌∷◌, ◌++◌, length, map, filter, refl, sym, ◌∙◌, ap, subst, arith, if◌then◌else◌, inl, inr}
 use Rattle.std.specs.Prelude.{IsTrue, All, codes, bytes_eq, nat_le}
 use Rattle.std.specs.Int.{IsInRange}
 use Rattle.std.specs.Char.{is_ascii_digit}
@@ -16,7 +16,7 @@ use Rattle.model.specs.Octets.{is_digit, lower}
 use Rattle.model.specs.Messages.{Field}
 use Rattle.model.specs.Http1.{without}
 use Rattle.model.specs.Http2.{is_pseudo, begins_with, pseudo_fields, connection_names}
-use Rattle.model.specs.ResponseHeads.{Head, Framing, meant, named_by_connection, with_one, never_has_body, without_framing, passed, head_of, Final}
+use Rattle.model.specs.ResponseHeads.{Head, Framing, meant, named_by_connection, with_one, never_has_body, without_framing, head_of, Final}
 use Rattle.model.specs.Deliveries.{IsSection}
 
 -- ---- the status

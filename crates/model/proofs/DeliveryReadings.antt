@@ -6,7 +6,7 @@ use Rattle.model.specs.Messages.{Field, Item}
 use Rattle.model.specs.Messages.Item.{Block, Content}
 use Rattle.model.specs.ResponseHeads.{Head}
 use Rattle.model.specs.Deliveries.{Delivery, IsSection, AreInterims, AreContents, IsAnswer, IsAnsweredBy, ReadsAs}
-use Rattle.model.specs.Requests.{Opened, AreNumbered, IsGivenNone, AreApart}
+use Rattle.model.specs.Openings.{Opened, AreNumbered, IsGivenNone, AreApart}
 use Rattle.model.specs.Available.{IsIn}
 
 -- ---- one head

@@ -1,4 +1,4 @@
--- The log of a first request keeps the headline: that of `FaithfulExamples`, with its tape.
+-- The log of a first request keeps the headline: that of `FirstLog`, with its tape.
 use Rattle.std.proofs.Common.{◌≡◌, ℕ, Bool, true, false, not, ◌&&◌, ◌||◌, ◌==◌, List, [], ◌∷◌, ◌++◌, refl, sym, ap, ◌∙◌, subst, inl, inr, ◌⊎◌, arith, if◌then◌else◌}
 use Rattle.std.specs.Prelude.{Option, Some, None, codes}
 use Rattle.std.proofs.lemmas.Bool.Decides.{eqb_tells}
@@ -9,7 +9,7 @@ use Rattle.model.specs.Frames.{preface, spell, settings_ack}
 use Rattle.model.specs.Http2.{H2Request}
 use Rattle.model.specs.Setup.{IsFirstMatch}
 use Rattle.model.specs.Setup.Passing.{Whole, Streaming}
-use Rattle.model.specs.Requests.{Opened, opens}
+use Rattle.model.specs.Openings.{Opened, opens}
 use Rattle.model.specs.Deliveries.{Delivery, nothing, ReadsAs}
 use Rattle.model.specs.Available.{heard, has_ended, IsIn, IsAnswered, IsBegun}
 use Rattle.model.specs.Known.{Known}
@@ -24,8 +24,8 @@ use Rattle.model.specs.ProgressClause.{AllForwarded, AllStreamed, NoneReady, Rea
 use Rattle.model.specs.ProgressClause.Reason.{Over, Complete, Ended, Answered, ClientClosed}
 use Rattle.model.specs.WindowClause.{WindowsHold}
 use Rattle.model.specs.Headline.{IsTold, IsTaped, Headline}
-use Rattle.model.proofs.FaithfulExamples as first
-use Rattle.model.proofs.FaithfulExamples.{setup, head, text, step, tape, request, reading, decodes, well_formed, reads, nothing_begins_none, nothing_on, settings_fits, ack_fits}
+use Rattle.model.proofs.FirstLog as first
+use Rattle.model.proofs.FirstLog.{setup, head, text, step, tape, request, reading, decodes, well_formed, reads, nothing_begins_none, nothing_on, settings_fits, ack_fits}
 use Rattle.model.proofs.Http2Readings.{one_meaning}
 use Rattle.model.proofs.OfferLemmas.{OffersNothing, nothing_begun, nothing_offered, nothing_complete, nothing_goes, BringNone, no_items}
 

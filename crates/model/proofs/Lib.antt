@@ -23,7 +23,7 @@ pub mod BlockLaws
 pub mod KeepLemmas
 pub mod MaximaLaws
 pub mod DecodingLaws
-mod FaithfulExamples
+mod FirstLog
 pub mod ResponseHeadReadings
 pub mod ResponseBodies
 pub mod ResponseReadings
@@ -32,7 +32,7 @@ pub mod MalformedLaws
 pub mod RouteLaws
 pub mod FailureLaws
 pub mod DeliveryReadings
-mod OfferLemmas
+pub mod OfferLemmas
 mod HeadlineExamples
 mod AnswerTexts
 mod AnswerExamples
@@ -41,6 +41,7 @@ mod ErrorExamples
 mod WindowExamples
 mod CauseExamples
 mod LogExamples
+mod FaithfulLaws
 mod Refusals
 mod ResponseRefusals
 mod RequestRefusals

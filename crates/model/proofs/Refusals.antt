@@ -8,7 +8,7 @@ use Rattle.model.specs.Logs.Act.{Close}
 use Rattle.model.specs.Tapes.{Entry, sent}
 use Rattle.model.specs.Tapes.Note.{Unread}
 use Rattle.model.specs.Tapes.Entry.{Came, Happened, Did}
-use Rattle.model.specs.Requests.{Opened, opens}
+use Rattle.model.specs.Openings.{Opened, opens}
 use Rattle.model.specs.Available.{IsIn}
 use Rattle.model.specs.Known.{Known}
 use Rattle.model.specs.Causes.{Cause}

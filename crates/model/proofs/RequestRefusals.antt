@@ -17,7 +17,7 @@ use Rattle.model.specs.StreamStates.Standing.{Beyond}
 use Rattle.model.specs.Errors.{Fault, first_of}
 use Rattle.model.specs.Errors.Fault.{Connection, Stream, Discarded}
 use Rattle.model.specs.Streams.{is_ended_by, is_reset, items_of}
-use Rattle.model.specs.Requests.{Opened}
+use Rattle.model.specs.Openings.{Opened}
 use Rattle.model.specs.Known.{Known}
 use Rattle.model.specs.Lifetimes.{active, standing_on}
 use Rattle.model.specs.ErrorTable.{Carried, fault_of, fault_on, judged, unless_of_stream, row_closed, rows_before_block, rows_behind_block, fault_with, row_block, row_stream_update, row_stream_data, row_refused, row_malformed}

@@ -11,7 +11,7 @@ use Rattle.model.specs.Tapes.{Note, Entry}
 use Rattle.model.specs.Tapes.Note.{NoBlock, Fields, Undecodable, Unread}
 use Rattle.model.specs.Tapes.Entry.{Happened, Sent, Did}
 use Rattle.model.specs.ResponseHeads.{Head}
-use Rattle.model.specs.Requests.{Opened, opens}
+use Rattle.model.specs.Openings.{Opened, opens}
 use Rattle.model.specs.Deliveries.{Delivery, ReadsAs, AreInterims, IsAnsweredBy, IsPart, IsPartOf}
 use Rattle.model.specs.Available.{heard, has_ended, IsIn, IsAnswered, IsBegun}
 use Rattle.model.specs.Known.{Known}

@@ -5,7 +5,7 @@ use Rattle.model.specs.Logs.{Event}
 use Rattle.model.specs.Logs.Event.{Client, ClientEnd, ClientTook, Up, UpEnd, UpFailed, UpTook}
 use Rattle.model.specs.Logs.Act.{Open, ToUp, Close}
 use Rattle.model.specs.Tapes.{Entry, is_closed}
-use Rattle.model.specs.Tapes.Entry.{Came, Happened, Sent, Did}
+use Rattle.model.specs.Tapes.Entry.{Happened, Sent, Did}
 
 -- the octets for the client that its side hasn't taken
 abbrev pub untaken : List Entry → ℕ

@@ -1,5 +1,5 @@
 -- What becomes of a stream: its items, and why the gateway answers it itself, if it does (RFC 9113, sections 5.1 and 8.1): a
--- search over the tape, which is `Streams` with the whole error table. What `run` is proved of so far is `Streams`.
+-- search over the tape.
 use Rattle.std.specs.Prelude.{ℕ, ◌+◌, Bool, false, ◌&&◌, ◌||◌, ◌==◌, nat_lt, if◌then◌else◌, List, [], ◌∷◌, ◌++◌, length, Option, Some, None, is_some, nat_le, codes}
 use Rattle.std.specs.Str.Parse.{digits_value}
 use Rattle.std.specs.List.{list_any}
@@ -16,7 +16,7 @@ use Rattle.model.specs.Tapes.Entry.{Came, Happened}
 use Rattle.model.specs.Decoding.{Partial, completed}
 use Rattle.model.specs.Errors.{Fault}
 use Rattle.model.specs.Streams.{is_on, is_reset, is_ended_by, items_of, ends_with}
-use Rattle.model.specs.Requests.{Opened, opens}
+use Rattle.model.specs.Openings.{Opened, opens}
 use Rattle.model.specs.Available.{items_on}
 use Rattle.model.specs.Setup.{Setup}
 use Rattle.model.specs.Known.{Known, fails_behind}

@@ -1,5 +1,5 @@
--- Which entry is an error, judged behind the entries before it (RFC 9113, section 5.4). Each case is a row of its own, and
--- the first row that applies decides.
+-- What an error is answered with (RFC 9113, section 5.4), and the rows of the error table on how a connection begins. Each case
+-- is a row of its own, judged behind the entries before it, and the first row that applies decides.
 use Rattle.std.specs.Prelude.{ℕ, not, ◌&&◌, ◌==◌, if◌then◌else◌, List, [], ◌∷◌, Option, Some, None}
 use Rattle.model.specs.Frames.{Frame, settings_kind, is_ack, protocol_error, frame_size_error}
 use Rattle.model.specs.Tapes.{Noted, Entry, came}
@@ -36,7 +36,3 @@ abbrev pub first_of : List (Option Fault) → Option Fault
 first_of [] = None
 first_of (None ∷ rows) = first_of rows
 first_of (Some fault ∷ rows) = Some fault
-
--- the fault of an entry behind a tape
-abbrev pub fault : List Entry → Entry → Option Fault
-fault t e = first_of (row_start t e ∷ row_too_long t e ∷ [])

@@ -7,7 +7,7 @@ use Rattle.model.specs.Tapes.{Entry}
 use Rattle.model.specs.Tapes.Entry.{Happened}
 use Rattle.model.specs.ResponseHeads.{Head}
 use Rattle.model.specs.Responses.{IsComplete, IsSpoilt, Seen, IsPlainlyBad}
-use Rattle.model.specs.Requests.{opens}
+use Rattle.model.specs.Openings.{opens}
 use Rattle.model.specs.Available.{heard}
 use Rattle.model.specs.Known.{Known, fails_behind}
 use Rattle.model.specs.Courses.{items, given}

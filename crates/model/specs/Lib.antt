@@ -18,10 +18,9 @@ pub mod Decoding
 pub mod Errors
 pub mod Streams
 pub mod Admission
-pub mod Requests
+pub mod Openings
 pub mod Deliveries
 pub mod Available
-pub mod Faithful
 pub mod Windows
 pub mod Turns
 pub mod SettingValues
@@ -45,4 +44,5 @@ pub mod ProgressClause
 pub mod WindowClause
 pub mod Rooms
 pub mod Headline
+pub mod Faithful
 pub mod Synchrony

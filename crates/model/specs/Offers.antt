@@ -1,10 +1,9 @@
--- What a stream is to be sent: what its upstream answered so far, or the gateway's own reply. Beside `Available`, which is the
--- part of it that `run` is proved of so far, it knows the whole error table and the gateway's own replies.
+-- What a stream is to be sent: what its upstream answered so far, or the gateway's own reply.
 use Rattle.std.specs.Prelude.{◌≡◌, ℕ, Bool, true, false, ◌⊎◌, List, ◌∷◌, ◌++◌, Some, None}
 use Rattle.model.specs.Messages.{Item}
 use Rattle.model.specs.Messages.Item.{Block}
 use Rattle.model.specs.Tapes.{Entry, sent}
-use Rattle.model.specs.Requests.{Opened, opens}
+use Rattle.model.specs.Openings.{Opened, opens}
 use Rattle.model.specs.Deliveries.{Delivery, nothing, ReadsAs, IsPartOf}
 use Rattle.model.specs.Available.{heard, has_ended, items_on, asks_for_head, IsIn, IsAnswered, IsBegun}
 use Rattle.model.specs.Known.{Known}

@@ -15,7 +15,7 @@ use Rattle.model.specs.Decoding.{completed}
 use Rattle.model.specs.Responses.{IsComplete}
 use Rattle.model.specs.Streams.{ends_with}
 use Rattle.model.specs.Admission.{untaken, is_open}
-use Rattle.model.specs.Requests.{Opened, opens, GoToOpen}
+use Rattle.model.specs.Openings.{Opened, opens, GoToOpen}
 use Rattle.model.specs.Available.{heard, has_ended, IsIn}
 use Rattle.model.specs.Known.{Known}
 use Rattle.model.specs.Lifetimes.{ends_by, is_active}

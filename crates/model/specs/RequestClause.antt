@@ -1,5 +1,4 @@
 -- The clause on requests: what each upstream connection was sent reads as just the request of the stream that it was given to.
--- Beside `Requests`, which is the part of it that `run` is proved of so far, it knows the whole error table.
 use Rattle.std.specs.Prelude.{ℕ, ◌⊎◌, List, [], ◌∷◌}
 use Rattle.model.specs.Octets.{IsStrictFront}
 use Rattle.model.specs.Messages.{Field, Request, Item}
@@ -7,7 +6,7 @@ use Rattle.model.specs.Http1.{H1Request, H1Requests, forward}
 use Rattle.model.specs.Http2.{HasHead, WellFormedHead, H2Request, MayBecome, authority_of, path_of}
 use Rattle.model.specs.Setup.{IsFirstMatch}
 use Rattle.model.specs.Tapes.{Entry, sent_up}
-use Rattle.model.specs.Requests.{Opened, opens, AreNumbered, AreApart}
+use Rattle.model.specs.Openings.{Opened, opens, AreNumbered, AreApart}
 use Rattle.model.specs.Known.{Known}
 use Rattle.model.specs.Courses.{items}
 

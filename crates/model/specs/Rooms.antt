@@ -9,7 +9,7 @@ use Rattle.model.specs.Tapes.{Entry, sent}
 use Rattle.model.specs.ResponseHeads.{Head}
 use Rattle.model.specs.Responses.{Seen}
 use Rattle.model.specs.Admission.{room, is_admitted}
-use Rattle.model.specs.Requests.{opens}
+use Rattle.model.specs.Openings.{opens}
 use Rattle.model.specs.Available.{heard}
 use Rattle.model.specs.Known.{Known}
 use Rattle.model.specs.WindowsOnTape.{is_on, data_octets}

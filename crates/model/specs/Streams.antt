@@ -1,14 +1,13 @@
--- What a stream carries (RFC 9113, sections 5.1 and 8.1): a search over the tape.
-use Rattle.std.specs.Prelude.{ℕ, Bool, true, false, ◌&&◌, ◌||◌, ◌==◌, if◌then◌else◌, List, [], ◌∷◌, ◌++◌, Option, Some, None}
-use Rattle.std.specs.List.{list_any}
+-- What a frame brings its stream (RFC 9113, sections 5.1 and 8.1).
+use Rattle.std.specs.Prelude.{ℕ, Bool, true, false, ◌&&◌, ◌==◌, if◌then◌else◌, List, [], ◌∷◌, Option, Some, None}
 use Rattle.model.specs.Messages.{Item}
 use Rattle.model.specs.Messages.Item.{Block, Content}
-use Rattle.model.specs.Frames.{Frame, data_kind, rst_stream_kind, ends_stream, content}
+use Rattle.model.specs.Frames.{data_kind, rst_stream_kind, ends_stream, content}
 use Rattle.model.specs.Tapes.{Note, Noted, Entry, came}
 use Rattle.model.specs.Tapes.Note.{Fields}
 use Rattle.model.specs.Tapes.Entry.{Came, Sent}
 use Rattle.model.specs.Decoding.{Partial, completed}
-use Rattle.model.specs.Errors.{Fault, fault}
+use Rattle.model.specs.Errors.{Fault}
 use Rattle.model.specs.Errors.Fault.{Connection, Stream, Discarded}
 
 -- the item of a block that is complete
@@ -45,35 +44,8 @@ is_ended_by on_stream (Some (Connection code)) = true
 is_ended_by on_stream (Some (Stream code)) = on_stream
 is_ended_by on_stream (Some Discarded) = on_stream
 
--- the entry ends the stream's items without an item
-abbrev pub interrupts : ℕ → List Entry → Entry → Bool
-interrupts stream t e = is_ended_by (is_on stream e) (fault t e) || is_reset stream e
-
 -- the items that an entry brings a stream
 abbrev pub items_of : ℕ → List Entry → Entry → List Item
 items_of stream t (Came noted) =
     if noted.frame.id == stream then frame_items (completed (came t) noted.frame) noted else []
 items_of stream t _ = []
-
--- A stream's items so far, the oldest first, and whether they have come to their end.
-pub record Story : Type 0 where
-  pub items : List Item
-  pub over : Bool
-
-abbrev pub add_items : Story → List Item → Story
-add_items story new = record { items = story.items ++ new; over = list_any ends_with new }
-
--- Once the items are over they stay as they are: they end with the first END_STREAM, or before what interrupts them.
-abbrev pub story_on : ℕ → List Entry → Entry → Story → Story
-story_on stream t e story =
-    if story.over
-    then story
-    else
-    (if interrupts stream t e then record { items = story.items; over = true } else add_items story (items_of stream t e))
-
-abbrev pub story : ℕ → List Entry → Story
-story stream [] = record { items = []; over = false }
-story stream (e ∷ t) = story_on stream t e (story stream t)
-
-abbrev pub items : ℕ → List Entry → List Item
-items stream t = (story stream t).items

@@ -1,10 +1,10 @@
 -- The tape of a log: each frame of the client in the step that completes it, each other event, and all that is put out,
 -- in one order. The newest entry stands first, and so does the newest of each list that is read off a tape.
-use Rattle.std.specs.Prelude.{◌≡◌, ℕ, ◌<◌, Bool, true, false, ◌||◌, ◌==◌, ◌⊎◌, if◌then◌else◌, List, [], ◌∷◌, ◌++◌, map, reverse}
+use Rattle.std.specs.Prelude.{◌≡◌, ℕ, Bool, true, false, ◌==◌, ◌⊎◌, if◌then◌else◌, List, [], ◌∷◌, ◌++◌, map, reverse}
 use Rattle.model.specs.Octets.{IsFront, IsStrictFront}
 use Rattle.model.specs.Messages.{Field}
 use Rattle.model.specs.Frames.{Frame, Fits, spell, Reading, BeginsNoFrame, IsTooLong, preface}
-use Rattle.model.specs.Logs.{Event, Act, Output, Step, client_octets}
+use Rattle.model.specs.Logs.{Event, Act, Output, Step}
 use Rattle.model.specs.Logs.Event.{Client}
 use Rattle.model.specs.Logs.Act.{ToUp, CloseClient}
 use Rattle.model.specs.Logs.Output.{ToClient, Does}

@@ -8,7 +8,7 @@ use Rattle.model.specs.Setup.Passing.{Whole, Streaming}
 use Rattle.model.specs.Tapes.{Entry, sent_up, is_closed}
 use Rattle.model.specs.Tapes.Entry.{Came, Breached, Happened, Sent}
 use Rattle.model.specs.Windows.{first_window}
-use Rattle.model.specs.Requests.{Opened, opens}
+use Rattle.model.specs.Openings.{Opened, opens}
 use Rattle.model.specs.Known.{Known}
 use Rattle.model.specs.Lifetimes.{active, is_active, is_ended_by_client}
 use Rattle.model.specs.WindowsOnTape.{is_on, data_length, stream_window, connection_window, room_on, room_on_connection}

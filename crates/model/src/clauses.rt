@@ -1,18 +1,21 @@
 //! Laws of what the clauses of the headline speak of.
 
-ghost use Rattle.std.specs.Prelude.{◌≡◌, ℕ, ◌≤◌, List, length, true, Some, slice_get};
+ghost use Rattle.std.specs.Prelude.{◌≡◌, ℕ, ◌≤◌, List, length, false, true, Some, slice_get};
 ghost use Rattle.std.specs.List.{list_any};
 ghost use Rattle.model.specs.Messages.{Item, Field};
 ghost use Rattle.model.specs.Deliveries.{Delivery, ReadsAs};
-ghost use Rattle.model.specs.Requests.{Opened, AreNumbered, AreApart};
+ghost use Rattle.model.specs.Openings.{Opened, AreNumbered, AreApart};
 ghost use Rattle.model.specs.Available.{IsIn};
 ghost use Rattle.model.specs.Http2.{WellFormedHead, WellFormedTrailers, authority_of, path_of};
 ghost use Rattle.model.specs.Malformed.{is_well_formed, are_trailers};
-ghost use Rattle.model.specs.Setup.{Route, Matches, IsFirstMatch};
+ghost use Rattle.model.specs.Setup.{Setup, Route, Matches, IsFirstMatch};
 ghost use Rattle.model.specs.Causes.{is_routed};
 ghost use Rattle.model.specs.Tapes.{Entry};
 ghost use Rattle.model.specs.Known.{Known, with_failure};
 ghost use Rattle.model.specs.Courses.{course};
+ghost use Rattle.model.specs.Logs.{Step};
+ghost use Rattle.model.specs.Headline.{Headline};
+ghost use Rattle.model.specs.Faithful.{Faithful, is_given_up};
 
 /// A client that was brought the items of a stream has read one thing of a response (RFC 9113, section 8.1).
 pub fn one_delivery()
@@ -44,4 +47,10 @@ pub fn routed_test()
 /// What becomes of a stream on a tape doesn't change with a failure that is known of a later place.
 pub fn later_failure()
     ensures { (place : ℕ) (known : Known) (stream : ℕ) (t : List Entry) → length t ≤ place → course (with_failure place known) stream t ≡ course known stream t }
+{}
+
+/// A faithful log keeps the whole headline, unless the gateway gave the connection up: so it ends today, by a farewell with
+/// INTERNAL_ERROR, at whatever it doesn't treat yet.
+pub fn faithful_unless_given_up()
+    ensures { (setup : Setup) (log : List Step) (f : Faithful setup log) → is_given_up f.tape ≡ false → Headline setup log }
 {}

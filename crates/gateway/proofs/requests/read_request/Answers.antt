@@ -15,3 +15,4 @@ returns c =
     (subst (λ x. Sending c.in-Ok.head true x [] c.in_ok-_whole._whole) (sym text) sent.2)
     c.eq-2.result
     (c.eq-2.ensures ∙ ap (bytes_eq c.method-2.result.now) c.as_slice-2.ensures ∙ ap (λ m. bytes_eq m (codes "HEAD")) c.method-2.ensures)
+    (sym c.expects.ensures ∙ c.if-expects.false)

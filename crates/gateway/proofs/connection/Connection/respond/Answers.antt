@@ -1,9 +1,10 @@
-use Rattle.std.proofs.Common.{◌≡◌, ◌<◌, ◌≤◌, ◌++◌, length, inl, inr, ap, sym, ◌∙◌, subst, arith}
+use Rattle.std.proofs.Common.{◌≡◌, ◌<◌, ◌≤◌, [], ◌++◌, length, refl, inl, inr, ap, sym, ◌∙◌, subst, arith}
 use Rattle.model.specs.Blocks as blocks
 use Rattle.gateway.specs.Exchanges.{section_of}
 use Rattle.gateway.specs.Connections.{passed_back, put_response}
 use Rattle.std.specs.List.{All}
 use Rattle.header_blocks.specs.Chosen.{HasShortStrings}
+use Rattle.header_blocks.specs.Encoding.{StandsFor}
 use Rattle.gateway.proofs.Answering.{ok_both}
 use Rattle.gateway.proofs.Sizes.{section_short}
 use Rattle.gateway.proofs.connection.Connection.respond.Goals as goal
@@ -24,6 +25,7 @@ returns-clause-responds c =
     let body : c.deref-3.result.now ≡ c.args.exchange.body = c.deref-3.ensures.value ∙ c.into_response-head.ensures.body in
     let stream : c.stream-stream.result ≡ c.args.exchange.stream = c.stream-stream.ensures.is in
     let fits = c.may_respond.ensures c.if-not-may_respond.false in
+    let no_maxima : written.maxima ≡ [] = written.due [] (subst (StandsFor []) (sym c.self.invariant.unlimited) refl) in
     let fields : c.deref.result.now ≡ section_of c.in-Some.head = c.deref.ensures.value ∙ c.in_ok-fields.ensures in
     rw (← c.self.view_is) (ok_both c.pass_back.result c.pass_back.ensures.state c.pass_back.ensures.outputs
     (λ es eo. inr (record {
@@ -31,10 +33,11 @@ returns-clause-responds c =
       has_head = sym c.into_response-head.ensures.head ∙ c.in-Some.is;
       block = written.written;
       next = c.encode.new.self.table;
-      is_block = subst (λ fs. blocks.Block c.self.inside.encoder.table written.written fs c.encode.new.self.table) fields (record { maxima = written.maxima; is_block = written.is_block });
+      is_block = subst (λ ms. blocks.IsBlock c.self.inside.encoder.table written.written ms (section_of c.in-Some.head) c.encode.new.self.table) no_maxima (subst (λ fs. blocks.IsBlock c.self.inside.encoder.table written.written written.maxima fs c.encode.new.self.table) fields written.is_block);
       stream = subst (λ n. n < 2147483648) stream c.stream-stream.ensures.in_range;
       short_block = subst (λ xs. length xs ≤ 16384) block (let n = c.len.ensures in let f = fits.0 in omega (arith, n, f));
       short_body = subst (λ xs. length xs ≤ 16384) c.into_response-head.ensures.body (let n = c.len-2.ensures in let f = fits.1 in omega (arith, n, f));
+      within = subst (λ xs. length xs ≤ c.self.inside.window) c.into_response-head.ensures.body (let n = c.len-2.ensures in let f = fits.2 in omega (arith, n, f));
       state = es ∙ ap (λ n. passed_back c.drop_upstream.new.self n c.deref-2.result.now c.deref-3.result.now) stream ∙ ap (λ x. passed_back c.drop_upstream.new.self c.args.exchange.stream x c.deref-3.result.now) sent_block ∙ ap (λ x. passed_back c.drop_upstream.new.self c.args.exchange.stream written.written x) body
           ∙ ap (λ s. passed_back s c.args.exchange.stream written.written c.args.exchange.body) c.drop_upstream.ensures.state;
       outputs = eo ∙ ap (λ n. put_response c.close_up.new.self n c.deref-2.result.now c.deref-3.result.now) stream ∙ ap (λ x. put_response c.close_up.new.self c.args.exchange.stream x c.deref-3.result.now) sent_block ∙ ap (λ x. put_response c.close_up.new.self c.args.exchange.stream written.written x) body

@@ -1,7 +1,8 @@
-use Rattle.std.proofs.Common.{refl, sym, ap, subst, ◌∙◌, None}
+use Rattle.std.proofs.Common.{◌≡◌, refl, sym, ap, subst, ◌∙◌, None}
 use Rattle.model.specs.Logs.Event.{Up}
 use Rattle.gateway.specs.Exchanges.{with_exchange}
 use Rattle.gateway.specs.Heard.{IsHeard}
+use Rattle.gateway.specs.State.{State}
 use Rattle.gateway.specs.Connections.{awaiting, left, put_farewell, Responds}
 use Rattle.gateway.proofs.Answering.{may_come, ok_both, ok_map, answers_abandoned}
 use Rattle.gateway.proofs.PassingBack.{answers_told, answers_whole, up_here}
@@ -21,7 +22,9 @@ returns-in_err-read-clause-small c = λ h. without_small c.args.self.now c.take_
 pub returns-in-More-clause-answers : goal.returns-in-More-clause-answers
 returns-in-More-clause-answers c =
     let may = may_come c.args.self.now (Up c.args.k c.args.octets.now) c.requires in
-    let heard : IsHeard c.in-Some.exchange c.args.octets.now c.in_ok-read.field-0 c.read.new.self = c.in_ok-read.ensures.heard in
+    let most : c.self.inside.config.max_response ≡ c.args.self.now.setup.max_response = ap (λ (s : State). s.setup.max_response) (c.self.view_is ∙ c.take_exchange.ensures.state) in
+    let heard : IsHeard c.in-Some.exchange c.args.octets.now c.args.self.now.setup.max_response c.in_ok-read.field-0 c.read.new.self =
+    subst (λ m. IsHeard c.in-Some.exchange c.args.octets.now m c.in_ok-read.field-0 c.read.new.self) most c.in_ok-read.ensures.heard in
     answers_told c.args.self.now c.await_exchange.new.self c.args.out.now c.args.k c.args.octets.now c.in-Some.exchange c.read.new.self may.0 may.1 (sym c.take_exchange.ensures.found ∙ c.in-Some.is)
     (rw c.in-More.is at heard)
     (c.await_exchange.ensures ∙ ap (λ s. awaiting s c.args.k c.read.new.self) c.take_exchange.ensures.state)
@@ -34,7 +37,9 @@ returns-in-More-clause-small c = λ h.
 pub returns-in-Whole-clause-answers : goal.returns-in-Whole-clause-answers
 returns-in-Whole-clause-answers c =
     let may = may_come c.args.self.now (Up c.args.k c.args.octets.now) c.requires in
-    let heard : IsHeard c.in-Some.exchange c.args.octets.now c.in_ok-read.field-0 c.read.new.self = c.in_ok-read.ensures.heard in
+    let most : c.self.inside.config.max_response ≡ c.args.self.now.setup.max_response = ap (λ (s : State). s.setup.max_response) (c.self.view_is ∙ c.take_exchange.ensures.state) in
+    let heard : IsHeard c.in-Some.exchange c.args.octets.now c.args.self.now.setup.max_response c.in_ok-read.field-0 c.read.new.self =
+    subst (λ m. IsHeard c.in-Some.exchange c.args.octets.now m c.in_ok-read.field-0 c.read.new.self) most c.in_ok-read.ensures.heard in
     ok_map c.respond.result
     (λ r. answers_whole c.args.self.now c.respond.new.self c.args.out.now c.respond.new.out c.args.k c.args.octets.now c.in-Some.exchange c.read.new.self may.0 may.1 (up_here c.args.self.now c.args.k c.args.octets.now may.1) (sym c.take_exchange.ensures.found ∙ c.in-Some.is)
     (rw c.in-Whole.is at heard)

@@ -1,6 +1,6 @@
 -- A worked log: a client's preface, its empty settings and one GET come in one piece, and the gateway's settings, their
--- acknowledgement, an upstream's opening and a request's text are put out. The log is faithful.
-use Rattle.std.proofs.Common.{◌≡◌, ℕ, true, false, List, [], ◌∷◌, ◌++◌, length, length-append, append-nil, append_assoc, ◌+◌, refl, sym, ◌∙◌, ap, subst, arith, inl, inr, ◌==◌, if◌then◌else◌}
+-- acknowledgement, an upstream's opening and a request's text are put out. `HeadlineExamples` shows of it that it keeps the headline.
+use Rattle.std.proofs.Common.{◌≡◌, ℕ, true, false, List, [], ◌∷◌, ◌++◌, length, length-append, ◌+◌, refl, ◌∙◌, ap, arith, inl, inr, ◌==◌, if◌then◌else◌}
 use Rattle.std.specs.Prelude.{◌/◌, ◌^◌, slice_index, Some, codes}
 use Rattle.model.specs.Octets.{some_of, is_token_octet, is_value, lower}
 use Rattle.model.specs.Messages.{Field, Request, Item}
@@ -9,7 +9,7 @@ use Rattle.model.specs.Integers.{IsShortInt, IsMarkedInt}
 use Rattle.model.specs.Tables.{first_table, static_table, look_up}
 use Rattle.model.specs.Blocks as blocks
 use Rattle.model.specs.Http1.{crlf, Line, H1Request, BeginsNoRequest, forward}
-use Rattle.model.specs.Http2.{WellFormedHead, H2Request}
+use Rattle.model.specs.Http2.{WellFormedHead}
 use Rattle.model.specs.Logs.{Step}
 use Rattle.model.specs.Logs.Event.{Client}
 use Rattle.model.specs.Logs.Act.{Open, ToUp}
@@ -17,16 +17,12 @@ use Rattle.model.specs.Logs.Output.{ToClient, Does}
 use Rattle.model.specs.Setup.{Setup}
 use Rattle.model.specs.Setup.Policy.{Plain}
 use Rattle.model.specs.Setup.Passing.{Whole}
-use Rattle.model.specs.Tapes.{Noted, Entry, sent, sent_up}
+use Rattle.model.specs.Tapes.{Noted, Entry, sent}
 use Rattle.model.specs.Tapes.Note.{NoBlock, Fields}
 use Rattle.model.specs.Tapes.Entry.{Came, Sent, Did}
 use Rattle.model.specs.Decoding.{Decodes}
-use Rattle.model.specs.Streams.{items}
-use Rattle.model.specs.Requests.{Opened, IsServed, Requests}
-use Rattle.model.specs.Deliveries.{nothing, ReadsAs}
-use Rattle.model.specs.Available.{items_on, IsDelivered, Deliveries}
-use Rattle.model.proofs.Http1Examples.{both_lines, both_framings}
-use Rattle.model.specs.Faithful.{IsTold, IsTaped, Faithful}
+use Rattle.model.specs.Available.{items_on}
+use Rattle.model.specs.Faithful.{IsTold}
 
 -- one route for every authority and path
 abbrev pub setup : Setup
@@ -171,9 +167,6 @@ well_formed = record {
   length_holds = record { one = omega arith; digits = refl };
 }
 
-means : H2Request (items 1 tape) request
-means = record { head = head; has_head = refl; well_formed = well_formed; no_connect = refl; contents = tt; ends = refl; length_holds = tt; is = refl }
-
 line : (name value : List ℕ) → some_of is_token_octet name ≡ true → is_value value ≡ true → Line (name ++ 58 ∷ (32 ∷ []) ++ value ++ [] ++ crlf) (field (lower name) value)
 line name value token good = record { name = name; before = 32 ∷ []; after = []; is = refl; is_token = token; space_before = refl; is_value = good; space_after = refl; is_named = refl }
 
@@ -217,31 +210,9 @@ nothing_begins_none front more request reads is = absurd (
     let whole : length reads.head_text ≡ length head.lines + (length reads.head.method + (length reads.head.target + 14)) = ap length head.is ∙ simp length-append (omega arith) in
     omega arith)
 
-served : IsServed setup tape (record { k = 1; route = 0; stream = 1 })
-served = record {
-  head = head;
-  has_head = refl;
-  well_formed = well_formed;
-  by_route = record { route = record { authority = []; path = codes "/" }; found = refl; matches = (inl refl, inl (record { rest = []; is = refl })); none_before = λ earlier before. absurd (omega (arith, before)) };
-  sent = inl (record { request = request; means = means; reads = record { front = text; is = refl; are_requests = (text, [], reads, refl, refl); no_more = nothing_begins_none } });
-}
-
-requests : Requests setup tape
-requests = record { numbered = (refl, tt); apart = (tt, tt); served = (served, tt); go_to_open = (refl, tt) }
-
 -- no stream was sent anything yet
 pub nothing_on : (stream : ℕ) → items_on stream (sent tape) ≡ []
 nothing_on stream = elim (0 == stream) as (λ b. ([] ++ (if b then [] else [])) ++ (if b then [] else []) ≡ (let none : List Item = [] in none)) [ true ↦ refl | false ↦ refl ]
-
-nothing_delivered : (stream : ℕ) → IsDelivered setup tape stream
-nothing_delivered stream = record {
-  delivery = nothing;
-  reads = subst (λ x. ReadsAs x nothing) (sym (nothing_on stream)) (record { interim_items = []; rest = []; is = refl; interims = tt; answer = (refl, refl, refl) });
-  available = inl refl;
-}
-
-deliveries : Deliveries setup tape
-deliveries = record { table = first_table; decodes = (first_table, (first_table, refl, (refl, refl), refl), (refl, refl), refl); decoded = refl; delivered = nothing_delivered }
 
 -- ---- the log
 
@@ -259,24 +230,3 @@ told = record {
   unread = λ e. absurd (let f : true ≡ false = e in cc);
   ends = (refl, (refl, (refl, (refl, (refl, (refl, tt))))));
 }
-
-taped : IsTaped setup [] step [] tape
-taped = record {
-  admitted = refl;
-  step_is = record { spelled = (ack_fits, (settings_fits, tt)); put_out = refl; event = refl };
-  told = told;
-  clauses = record { requests = requests; deliveries = deliveries };
-}
-
-pub first_log : Faithful setup (step ∷ [])
-first_log = record { tape = tape; has_tape = (tape, [], refl, taped, refl) }
-
--- ---- a gateway that sends both framing lines
-
--- Whatever the tape, a connection that was sent a head with both framing lines is refused by the clause on requests, on an
--- unfinished stream as on a whole one.
-pub both_framing_lines_refused : (setup : Setup) (t : List Entry) (o : Opened) → sent_up o.k t ≡ both_lines → IsServed setup t o → ⊥
-both_framing_lines_refused setup t o sent s = elim s.sent [
-  | inl whole ↦ (let r = whole.reads in let one = r.are_requests in absurd (both_framings [] one.0 (one.1 ++ []) _ one.2 (append-nil both_lines ∙ sym sent ∙ r.is ∙ ap (λ x. x ++ []) one.3 ∙ append_assoc one.0 one.1 [])))
-  | inr part ↦ (let may = part.some in let more = part.goes_on may.0 may.1 in absurd (both_framings (more.2.next ∷ more.2.rest) more.0 [] _ more.1 (ap (λ x. x ++ more.2.next ∷ more.2.rest) (sym sent) ∙ sym more.2.is ∙ sym (append-nil more.0))))
-]

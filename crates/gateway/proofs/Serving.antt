@@ -77,6 +77,16 @@ answers_served s s' o o' frame route text to_head next on settled is es eo =
     (subst (λ x. Answers s x o (put (put o (Does (Open k route))) (Does (ToUp k text))) (OfFrame frame ∷ [])) last
     (answers_from s (after s2 (Acts (ToUp k text))) o _ m (OfFrame frame ∷ []) (record { turn = record { open_yet = on; nothing = refl }; holds = (note, may) }) refl refl (pays_then opens sends))))
 
+-- what follows from what holds unless memory was refused
+pub unless_also : {P Q : Type 0} (fault : DecodeFault) → (P → Q) → UnlessMemory fault P → UnlessMemory fault Q
+unless_also Integer f p = f p
+unless_also Text f p = f p
+unless_also Index f p = f p
+unless_also Maximum f p = f p
+unless_also Late f p = f p
+unless_also Cut f p = f p
+unless_also Memory f p = tt
+
 -- what holds unless memory was refused, where it wasn't
 pub not_memory : {P : Type 0} (fault : DecodeFault) → (fault ≡ Memory → ⊥) → UnlessMemory fault P → P
 not_memory Integer other p = p

@@ -37,9 +37,6 @@ use Rattle.gateway.proofs.Living.{Living}
 pub completed_alone : (before : List Noted) (frame : Frame) → begun before ≡ None → completed before frame ≡ completed [] frame
 completed_alone before frame e = ap (λ (b : Option Partial). if ends_headers frame then joined b frame else None) e
 
-pub begun_alone : (before : List Noted) (noted : Noted) → begun before ≡ None → begun (noted ∷ before) ≡ begun (noted ∷ [])
-begun_alone before noted e = ap (λ (b : Option Partial). if ends_headers noted.frame then None else joined b noted.frame) e
-
 no_reset_by : (stream : ℕ) (noted : Noted) → (noted.frame.kind == rst_stream_kind) ≡ false → is_reset stream (Came noted) ≡ false
 no_reset_by stream noted kind = ap (λ b. b && noted.frame.id == stream) kind
 

@@ -13,7 +13,6 @@ use Rattle.model.specs.Logs.{Step}
 use Rattle.model.specs.Logs.Event.{Up}
 use Rattle.model.specs.Logs.Act.{Close}
 use Rattle.model.specs.Logs.Output.{ToClient, Does}
-use Rattle.model.specs.Setup.Passing.{Whole, Streaming}
 use Rattle.model.specs.Tapes.{Noted, Entry, sent, sent_up}
 use Rattle.model.specs.Tapes.Note.{NoBlock, Fields}
 use Rattle.model.specs.Tapes.Entry.{Happened, Sent, Did}
@@ -21,14 +20,16 @@ use Rattle.model.specs.Decoding.{Decodes}
 use Rattle.model.specs.ResponseHeads.{Head}
 use Rattle.model.specs.Responses.{StandsIn, Seen}
 use Rattle.model.specs.Deliveries.{Delivery, nothing, IsSection, ReadsAs}
-use Rattle.model.specs.Available.{items_on}
+use Rattle.model.specs.Available.{IsIn, items_on}
 use Rattle.model.specs.Courses.{items}
 use Rattle.model.specs.Offers.{IsOffered, IsDelivered}
 use Rattle.model.specs.Lifetimes.{is_active, is_over}
 use Rattle.model.specs.Failures.{IsTooLong, MustFail}
 use Rattle.model.specs.RequestClause.{IsServed, RequestsHold}
 use Rattle.model.specs.ErrorClause.{ErrorsHold}
-use Rattle.model.specs.ProgressClause.{IsForwarded, AllForwarded, ProgressHolds}
+use Rattle.model.specs.Admission.{is_open}
+use Rattle.model.specs.Openings.{Opened, opens}
+use Rattle.model.specs.ProgressClause.{AreClosed, IsForwarded, AllForwarded, ProgressHolds}
 use Rattle.model.specs.ProgressClause.Reason.{Over}
 use Rattle.model.specs.WindowClause.{WindowsHold}
 use Rattle.model.specs.Headline.{IsTold, IsTaped, Headline}
@@ -96,13 +97,13 @@ client_reads = record {
   answer = (section, omega arith, (refl, refl, refl));
 }
 
-offered : IsOffered known (Happened (Up 1 answer) ∷ first.tape) 1 delivery
+offered : IsOffered known tape 1 delivery
 unfolding total_size
 offered = inr (record {
   no_reply = inl refl;
   o = record { k = 1; route = 0; stream = 1 };
   given = record { is_opened = inl refl; is_given = refl };
-  answers = inl (record { response = response; is_whole = answered; says = refl });
+  shows = inl (record { response = response; is_whole = answered; says = refl });
 })
 
 delivered_first : IsDelivered known tape 1
@@ -110,9 +111,10 @@ delivered_first = record {
   delivery = delivery;
   reads = client_reads;
   offered = inr (record {
-    later = Sent content ∷ Sent headers ∷ Did (Close 1) ∷ [];
-    earlier = Happened (Up 1 answer) ∷ first.tape;
+    later = [];
+    earlier = tape;
     is = refl;
+    no_more = refl;
     source = delivery;
     offered = offered;
     part = record { interims = refl; head_is = refl; body = record { rest = []; is = refl }; whole = λ e. (refl, refl) };
@@ -158,7 +160,7 @@ unfolding total_size
 means = record { head = first.head; has_head = refl; well_formed = well_formed; no_connect = refl; contents = tt; ends = refl; length_holds = tt; is = refl }
 
 sends : H1Requests (sent_up 1 tape) (forward request ∷ []) []
-sends = record { front = text; is = refl; are_requests = (text, [], first.reads, refl, refl); no_more = nothing_begins_none }
+sends = record { front = text; is = refl; are_requests = first.reads; no_more = nothing_begins_none }
 
 served : IsServed known tape (record { k = 1; route = 0; stream = 1 })
 unfolding total_size
@@ -170,8 +172,12 @@ served = record {
   sent = inl (record { request = request; means = means; reads = sends });
 }
 
+all_served : (o : Opened) → IsIn o (opens tape) → IsServed known tape o
+all_served o (inl same) = subst (λ p. IsServed known tape p) (sym same) served
+all_served o (inr none) = absurd none
+
 requests : RequestsHold known tape
-requests = record { numbered = (refl, tt); apart = (tt, tt); served = (served, tt) }
+requests = record { numbered = (refl, tt); apart = (tt, tt); in_time = before.requests.in_time; served = all_served }
 
 nothing_beside : (of_first : Bool) → of_first ≡ false → (if of_first then Block first.head true ∷ [] else []) ≡ []
 nothing_beside of_first e = ap (λ b. if b then Block first.head true ∷ [] else []) e
@@ -200,12 +206,18 @@ none_active stream on = elim (eqb_tells 1 stream) [
   | inr apart ↦ (let off : is_active stream tape ≡ false = ap (λ b. (b || false) && not (is_over stream tape)) apart.0 in let clash : false ≡ true = sym off ∙ on in cc)
 ]
 
+-- the one connection is closed
+all_closed : AreClosed known tape
+all_closed o (inl same) on reason = let clash : false ≡ true = subst (λ (p : Opened). is_open p.k tape ≡ true) same on in cc
+all_closed o (inr none) on reason = none
+
 progress : ProgressHolds known first.tape segment
 progress = record {
   forwarded = forwarded;
-  streamed = λ passing. let clash : Whole ≡ Streaming = passing in cc;
+  streamed = before.not_streaming;
+  in_turn = (before.not_streaming, (before.not_streaming, (before.not_streaming, tt)));
   none_ready = λ room stream ready. none_active stream ready.is_active;
-  closed = (λ on reason. let clash : false ≡ true = on in cc, tt);
+  closed = all_closed;
   closes = (refl, record { o = record { k = 1; route = 0; stream = 1 }; is_opened = inl refl; number = refl; reason = Over refl }, tt);
   go_to_open = (refl, tt);
 }
@@ -241,6 +253,10 @@ windows = record {
       λ kind some. absurd (omega (arith, kind)),
       (λ kind some. absurd (omega (arith, kind)), (λ kind some. absurd (omega (arith, kind)), tt)),
     ),
+  );
+  no_more = (
+    λ kind. absurd (omega (arith, kind)),
+    (λ kind. absurd (omega (arith, kind)), (λ kind. absurd (omega (arith, kind)), (λ kind. absurd (omega (arith, kind)), tt))),
   );
   gives_back = λ on. record { shared = refl; own = λ stream on unended. refl };
 }
@@ -290,7 +306,7 @@ told = record {
 taped : IsTaped known (first.step ∷ []) answer_step first.tape segment
 taped = record {
   admitted = record { in_order = refl; fits = λ count room. subst (λ n. length answer ≤ n) (sym room) (omega arith) };
-  step_is = record { spelled = (content_fits, (headers_fits, tt)); put_out = refl; event = refl };
+  step_is = record { spelled = (content_fits, (headers_fits, tt)); put_out = refl; event = refl; acts_follow = refl };
   told = told;
   clauses = record { requests = requests; responses = responses; errors = errors; progress = progress; windows = windows };
 }

@@ -1,20 +1,22 @@
 -- Worked rows of the gateway's own replies, by computation: the cause, what becomes of the items, and the resets.
 use Rattle.std.specs.Prelude.{◌≡◌, ℕ, zero, suc, ◌+◌, ◌*◌, false, List, [], ◌∷◌, ◌++◌, length, Some, None, refl, codes, pos, replicate}
+use Rattle.std.specs.List.{list_any}
 use Rattle.model.specs.Messages.{Field}
 use Rattle.model.specs.Messages.Item.{Block}
 use Rattle.model.specs.Tables.{total_size}
 use Rattle.model.specs.Frames.{internal_error, no_error, refused_stream}
 use Rattle.model.specs.Logs.Event.{Up, UpEnd, ClientTook}
 use Rattle.model.specs.Logs.Act.{Close}
-use Rattle.model.specs.Tapes.{Entry}
+use Rattle.model.specs.Tapes.{Entry, sent}
 use Rattle.model.specs.Tapes.Entry.{Happened, Did}
 use Rattle.model.specs.Errors.Fault.{Discarded}
+use Rattle.model.specs.Available.{items_on}
 use Rattle.model.specs.Known.{Known}
 use Rattle.model.specs.Lifetimes.{active}
 use Rattle.model.specs.WindowsOnTape.{connection_window}
 use Rattle.model.specs.Admission.{untaken}
 use Rattle.model.specs.Causes.Cause.{LargeFields, Tunnel, Expects, LargeBody, NoRoute, BadAnswer}
-use Rattle.model.specs.Courses.{items, cause, fault, is_head_out}
+use Rattle.model.specs.Courses.{items, cause, fault, is_final}
 use Rattle.model.specs.ErrorClause.{rst_stream, owed_by}
 use Rattle.model.proofs.RowTapes.{whole, by_whole, streaming, frame, plain, headed, out, out_headed, field, head_of, get, get_block, post, post_block, begun, getting, got, reset}
 
@@ -120,7 +122,7 @@ unfolding total_size
 reset_in_body = refl
 
 -- an interim head is no final one
-pub interim_out : is_head_out 1 (out_headed (frame 1 4 1 []) (field (codes ":status") (codes "103") ∷ []) ∷ got) ≡ false
+pub interim_out : list_any is_final (items_on 1 (sent (out_headed (frame 1 4 1 []) (field (codes ":status") (codes "103") ∷ []) ∷ got))) ≡ false
 interim_out = refl
 
 -- ---- resets behind whole responses

@@ -12,10 +12,10 @@ use Rattle.std.proofs.lemmas.Bool.Decides.{eqb_tells}
 use Rattle.std.proofs.lemmas.List.Elements.{All-head, All-tail}
 use Rattle.httparse.specs.Grammar as grammar
 use Rattle.httparse.specs.Grammar.{is_token_byte, IsField, IsResponseHead, status_code}
-use Rattle.model.specs.Octets.{is_digit, lower}
+use Rattle.model.specs.Octets.{begins_with, is_digit, lower}
 use Rattle.model.specs.Messages.{Field}
 use Rattle.model.specs.Http1.{without}
-use Rattle.model.specs.Http2.{is_pseudo, begins_with, pseudo_fields, connection_names}
+use Rattle.model.specs.Http2.{is_pseudo, pseudo_fields, connection_names}
 use Rattle.model.specs.ResponseHeads.{Head, Framing, meant, named_by_connection, with_one, never_has_body, without_framing, head_of, Final}
 use Rattle.model.specs.Deliveries.{IsSection}
 

@@ -198,6 +198,7 @@ reads = record {
   method = refl;
   target = refl;
   authority = refl;
+  options = refl;
   fields = refl;
   body = (refl, refl);
 }

@@ -1,5 +1,5 @@
 -- The log of a first request keeps the headline: that of `FirstLog`, with its tape.
-use Rattle.std.proofs.Common.{◌≡◌, ℕ, Bool, true, false, not, ◌&&◌, ◌||◌, ◌==◌, List, [], ◌∷◌, ◌++◌, refl, sym, ap, ◌∙◌, subst, inl, inr, ◌⊎◌, arith, if◌then◌else◌}
+use Rattle.std.proofs.Common.{◌≡◌, ℕ, Bool, true, false, not, ◌&&◌, ◌||◌, ◌==◌, List, [], ◌∷◌, ◌++◌, refl, sym, ap, ◌∙◌, subst, inl, inr, arith, if◌then◌else◌}
 use Rattle.std.specs.Prelude.{Option, Some, None, codes}
 use Rattle.std.proofs.lemmas.Bool.Decides.{eqb_tells}
 use Rattle.model.specs.Messages.{Item, Request}
@@ -11,17 +11,18 @@ use Rattle.model.specs.Setup.{IsFirstMatch}
 use Rattle.model.specs.Setup.Passing.{Whole, Streaming}
 use Rattle.model.specs.Openings.{Opened, opens}
 use Rattle.model.specs.Deliveries.{Delivery, nothing, ReadsAs}
-use Rattle.model.specs.Available.{heard, has_ended, IsIn, IsAnswered, IsBegun}
+use Rattle.model.specs.Available.{heard_by, ended_by, IsIn, IsShown}
+use Rattle.model.specs.Tapes.{Entry}
 use Rattle.model.specs.Known.{Known}
 use Rattle.model.specs.Lifetimes.{is_active, is_over}
 use Rattle.model.specs.Causes.{Cause}
 use Rattle.model.specs.Courses.{items}
 use Rattle.model.specs.Offers.{is_to_head, IsDelivered, IsOffered}
-use Rattle.model.specs.RequestClause.{IsServed, RequestsHold}
+use Rattle.model.specs.RequestClause.{IsServed, OpenInTime, RequestsHold}
 use Rattle.model.specs.ResponseClause.{ResponsesHold}
 use Rattle.model.specs.ErrorClause.{ErrorsHold}
-use Rattle.model.specs.ProgressClause.{AllForwarded, AllStreamed, NoneReady, Reason, ProgressHolds, IsForwarded}
-use Rattle.model.specs.ProgressClause.Reason.{Over, Complete, Ended, Answered, ClientClosed}
+use Rattle.model.specs.ProgressClause.{AllForwarded, AllStreamed, NoneReady, Reason, AreClosed, ProgressHolds, IsForwarded}
+use Rattle.model.specs.ProgressClause.Reason.{Over, Complete, Answered, ClientClosed}
 use Rattle.model.specs.WindowClause.{WindowsHold}
 use Rattle.model.specs.Headline.{IsTold, IsTaped, Headline}
 use Rattle.model.proofs.FirstLog as first
@@ -48,11 +49,19 @@ served = record {
   has_head = refl;
   well_formed = well_formed;
   by_route = by_route;
-  sent = inl (record { request = request; means = means; reads = record { front = text; is = refl; are_requests = (text, [], reads, refl, refl); no_more = nothing_begins_none } });
+  sent = inl (record { request = request; means = means; reads = record { front = text; is = refl; are_requests = reads; no_more = nothing_begins_none } });
 }
 
+all_served : (o : Opened) → IsIn o (opens tape) → IsServed known tape o
+all_served o (inl same) = subst (λ p. IsServed known tape p) (sym same) served
+all_served o (inr none) = absurd none
+
+in_time : OpenInTime known tape
+unfolding total_size
+in_time = (record { active = refl; no_cause = refl; goes_on = refl }, tt)
+
 pub requests : RequestsHold known tape
-requests = record { numbered = (refl, tt); apart = (tt, tt); served = (served, tt) }
+requests = record { numbered = (refl, tt); apart = (tt, tt); in_time = in_time; served = all_served }
 
 -- ---- streams beside the first
 
@@ -73,7 +82,7 @@ forwarded_first r m =
     subst (λ (x : Request). IsForwarded tape 1 x) (one_meaning (items known 1 tape) request r means m) (record {
       o = record { k = 1; route = 0; stream = 1 };
       given = record { is_opened = inl refl; is_given = refl };
-      reads = record { front = text; is = refl; are_requests = (text, [], reads, refl, refl); no_more = nothing_begins_none };
+      reads = record { front = text; is = refl; are_requests = reads; no_more = nothing_begins_none };
     })
 
 pub no_request : (list : List Item) (r : Request) → list ≡ [] → H2Request list r → ⊥
@@ -86,8 +95,12 @@ forwarded stream r place m routed cut = elim (eqb_tells 1 stream) [
   | inr apart ↦ absurd (no_request (items known stream tape) r (no_items known stream tape (brings_none stream apart.0)) m)
 ]
 
+-- whole requests are passed on
+pub not_streaming : {t : List Entry} → AllStreamed known t
+not_streaming passing = let clash : Whole ≡ Streaming = passing in cc
+
 streamed : AllStreamed known tape
-streamed passing = let clash : Whole ≡ Streaming = passing in cc
+streamed = not_streaming
 
 -- nothing was heard of the one connection
 none_offered : (delivery : Delivery) → IsOffered known tape 1 delivery → OffersNothing delivery
@@ -95,12 +108,12 @@ unfolding total_size
 none_offered delivery (inl replied) = let clash : ◌≡◌ {A = Option Cause} None (Some replied.cause) = replied.has_cause in cc
 none_offered delivery (inr passed) = of_opened passed.given.is_opened
   where
-    answers : IsAnswered [] false false delivery ⊎ IsBegun Whole [] false false delivery → OffersNothing delivery
+    answers : IsShown Whole [] false false delivery → OffersNothing delivery
     answers (inl all) = nothing_offered false false delivery all
     answers (inr part) = nothing_begun Whole false false delivery part
 
     of_opened : IsIn passed.o (opens tape) → OffersNothing delivery
-    of_opened (inl same) = answers (subst (λ (k : ℕ). IsAnswered (heard k tape) (has_ended k tape) (is_to_head (items known 1 tape)) delivery ⊎ IsBegun Whole (heard k tape) (has_ended k tape) (is_to_head (items known 1 tape)) delivery) (ap (λ (o : Opened). o.k) same) passed.answers)
+    of_opened (inl same) = answers (subst (λ (o : Opened). IsShown Whole (heard_by o tape) (ended_by o tape) (is_to_head (items known 1 tape)) delivery) same passed.shows)
     of_opened (inr none) = absurd none
 
 none_ready : NoneReady known tape
@@ -113,16 +126,20 @@ no_reason : Reason known tape (record { k = 1; route = 0; stream = 1 }) → ⊥
 unfolding total_size
 no_reason (Over e) = let clash : true ≡ false = e in cc
 no_reason (Complete whole) = nothing_complete false false whole
-no_reason (Ended e) = let clash : false ≡ true = e in cc
 no_reason (Answered found e) = let clash : ◌≡◌ {A = Option Cause} None (Some found) = e in cc
 no_reason (ClientClosed e) = let clash : false ≡ true = e in cc
+
+all_closed : AreClosed known tape
+all_closed o (inl same) on reason = no_reason (subst (λ p. Reason known tape p) same reason)
+all_closed o (inr none) on reason = none
 
 progress : ProgressHolds known [] tape
 progress = record {
   forwarded = forwarded;
   streamed = streamed;
+  in_turn = (not_streaming, (not_streaming, tt));
   none_ready = none_ready;
-  closed = (λ on reason. no_reason reason, tt);
+  closed = all_closed;
   closes = tt;
   go_to_open = (refl, tt);
 }
@@ -163,6 +180,7 @@ errors = record {
 windows : WindowsHold known tape
 windows = record {
   keeps = (λ kind some. absurd (omega (arith, kind)), (λ kind some. absurd (omega (arith, kind)), tt));
+  no_more = (λ kind. absurd (omega (arith, kind)), (λ kind. absurd (omega (arith, kind)), tt));
   gives_back = λ on. record { shared = refl; own = λ stream on unended. refl };
 }
 
@@ -181,7 +199,7 @@ told = record {
 pub taped : IsTaped known [] step [] tape
 taped = record {
   admitted = record { in_order = refl; fits = tt };
-  step_is = record { spelled = (ack_fits, (settings_fits, tt)); put_out = refl; event = refl };
+  step_is = record { spelled = (ack_fits, (settings_fits, tt)); put_out = refl; event = refl; acts_follow = tt };
   told = told;
   clauses = record { requests = requests; responses = responses; errors = errors; progress = progress; windows = windows };
 }

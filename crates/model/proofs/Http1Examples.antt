@@ -60,6 +60,7 @@ plain_request = record {
   method = refl;
   target = refl;
   authority = refl;
+  options = refl;
   fields = refl;
   body = (refl, refl);
 }
@@ -81,6 +82,7 @@ other_order = record {
   method = refl;
   target = refl;
   authority = refl;
+  options = refl;
   fields = refl;
   body = (refl, refl);
 }
@@ -133,6 +135,7 @@ chunked_request = record {
   method = refl;
   target = refl;
   authority = refl;
+  options = refl;
   fields = refl;
   body = (refl, chunks_read);
 }

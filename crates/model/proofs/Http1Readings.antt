@@ -1,11 +1,13 @@
 -- No request's text begins another's, so what was sent on a connection is one list of requests.
-use Rattle.std.proofs.Common.{◌≡◌, ℕ, true, List, [], ◌∷◌, ◌++◌, refl, sym, ap, ◌∙◌, subst, append_assoc}
-use Rattle.std.specs.Prelude.{codes}
-use Rattle.std.proofs.lemmas.Bool.{false≢true}
-use Rattle.std.proofs.lemmas.List.{append_cancel_right}
-use Rattle.model.specs.Octets.{some_of, is_token_octet, is_visible}
+use Rattle.std.proofs.Common.{◌≡◌, ℕ, true, List, [], ◌∷◌, ◌++◌, refl, sym, ap, ◌∙◌, subst, append_assoc, inl, inr}
+use Rattle.std.specs.Prelude.{codes, ◌&&◌}
+use Rattle.std.proofs.lemmas.Bool.{false≢true, and_parts, or_cases}
+use Rattle.std.proofs.lemmas.Slice.Eq.{bytes_eq-Decides}
+use Rattle.std.specs.List.{list_all}
+use Rattle.std.proofs.lemmas.List.{append_cancel_right, append-nil}
+use Rattle.model.specs.Octets.{some_of, begins_with, is_token_octet, is_visible, Joined}
 use Rattle.model.specs.Messages.{Request}
-use Rattle.model.specs.Http1.{crlf, Line, values_of, without, framing_names, Framed, Head, H1Head, H1Request, H1Requests, BeginsNoRequest}
+use Rattle.model.specs.Http1.{crlf, Line, values_of, without, framing_names, Framed, Head, is_target, H1Head, H1Request, AreRequests, H1Requests, BeginsNoRequest}
 use Rattle.model.proofs.Http1Runs.{same_rest, run_of_some, not_in_run, one_run, IsPrefixFree, BeginsNone, one_joined}
 use Rattle.model.proofs.Http1Lines.{one_line}
 use Rattle.model.proofs.Http1Bodies.{one_framed, cons-append, nil-append}
@@ -26,6 +28,13 @@ head_regrouped : (method target lines x : List ℕ)
     → (method ++ codes " " ++ target ++ codes " HTTP/1.1" ++ crlf ++ lines ++ crlf) ++ x ≡ method ++ 32 ∷ (target ++ 32 ∷ (codes "HTTP/1.1" ++ (crlf ++ (lines ++ 13 ∷ (10 ∷ x)))))
 head_regrouped method target lines x = simp (append_assoc, cons-append, nil-append)
 
+-- the octets of a target are visible
+pub target_is_visible : (target : List ℕ) → is_target target ≡ true → list_all is_visible target ≡ true
+target_is_visible target p = elim (or_cases (list_all is_visible target && begins_with 47 target) _ p) [
+  | inl e ↦ (and_parts (list_all is_visible target) _ e).0
+  | inr e ↦ subst (λ (text : List ℕ). list_all is_visible text ≡ true) (sym ((bytes_eq-Decides target (codes "*")).0 e)) refl
+]
+
 head_same : (h k : Head) → h.method ≡ k.method → h.target ≡ k.target → h.fields ≡ k.fields → h ≡ k
 head_same h k m t f = λ i. record { method = m i; target = t i; fields = f i }
 
@@ -35,7 +44,7 @@ one_head a b x y h k p q e =
     sym (head_regrouped h.method h.target p.lines x) ∙ ap (λ (o : List ℕ). o ++ x) (sym p.is) ∙ e ∙ ap (λ (o : List ℕ). o ++ y) q.is ∙ head_regrouped k.method k.target q.lines y in
     let methods = one_run is_token_octet h.method k.method 32 32 _ _ (run_of_some is_token_octet h.method p.method) (run_of_some is_token_octet k.method q.method) refl refl whole in
     let behind_method : h.target ++ 32 ∷ (codes "HTTP/1.1" ++ (crlf ++ (p.lines ++ 13 ∷ (10 ∷ x)))) ≡ k.target ++ 32 ∷ (codes "HTTP/1.1" ++ (crlf ++ (q.lines ++ 13 ∷ (10 ∷ y)))) = cc (methods.1) in
-    let targets = one_run is_visible h.target k.target 32 32 _ _ (run_of_some is_visible h.target p.target) (run_of_some is_visible k.target q.target) refl refl behind_method in
+    let targets = one_run is_visible h.target k.target 32 32 _ _ (target_is_visible h.target p.target) (target_is_visible k.target q.target) refl refl behind_method in
     let behind_target : p.lines ++ 13 ∷ (10 ∷ x) ≡ q.lines ++ 13 ∷ (10 ∷ y) = cc (targets.1) in
     let lines = one_joined Line one_line p.lines q.lines _ _ h.fields k.fields p.are_lines q.are_lines (end_begins_none _) (end_begins_none _) behind_target in
     let behind_lines = same_rest p.lines q.lines _ _ lines.0 behind_target in
@@ -78,8 +87,14 @@ not_for_one_host text rest head p none front more request q e =
     let heads = one_head text q.head_text _ _ head q.head p q.has_head whole in
     none request.authority (subst (λ (h : Head). values_of (codes "host") h.fields ≡ request.authority ∷ []) (sym heads.1) q.authority)
 
+-- requests that stand one behind another are joined
+pub joined_requests : (text : List ℕ) (requests : List Request) → AreRequests text requests → Joined H1Request text requests
+joined_requests text [] p = p
+joined_requests text (request ∷ []) p = (text, [], p, sym (append-nil text), refl)
+joined_requests text (request ∷ next ∷ requests) p = (p.0, p.1, p.3.reads, p.2, joined_requests p.1 (next ∷ requests) p.4)
+
 pub one_list : (text : List ℕ) (rs ss : List Request) (rest other : List ℕ) → H1Requests text rs rest → H1Requests text ss other → (rs ≡ ss) × (rest ≡ other)
 one_list text rs ss rest other p q =
     let whole : p.front ++ rest ≡ q.front ++ other = sym p.is ∙ q.is in
-    let fronts = one_joined H1Request one_request p.front q.front rest other rs ss p.are_requests q.are_requests p.no_more q.no_more whole in
+    let fronts = one_joined H1Request one_request p.front q.front rest other rs ss (joined_requests p.front rs p.are_requests) (joined_requests q.front ss q.are_requests) p.no_more q.no_more whole in
     (fronts.1, same_rest p.front q.front rest other fronts.0 whole)

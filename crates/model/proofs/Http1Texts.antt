@@ -7,7 +7,7 @@ use Rattle.std.proofs.lemmas.List.{append-nil}
 use Rattle.std.proofs.lemmas.List.Elements.{filter-append}
 use Rattle.model.specs.Octets.{begins_with_space, is_space, is_value_octet, some_of, is_between, is_token_octet, is_visible, is_value, lower, lower_octet}
 use Rattle.model.specs.Messages.{Field, Request}
-use Rattle.model.specs.Http1.{crlf, Line, Lines, values_of, without, framing_names, via, Framed, H1Head, H1Request, forward}
+use Rattle.model.specs.Http1.{crlf, Line, Lines, values_of, without, is_close, framing_names, via, Framed, is_target, H1Head, H1Request, forward}
 use Rattle.model.specs.Http1Text.{line_text, lines_text, written_fields, head_text}
 use Rattle.model.specs.Http2.{is_name_octet}
 use Rattle.model.proofs.Http1Bodies.{cons-append}
@@ -107,6 +107,7 @@ pub record Apart (field : Field) : Type 0 where
   pub has_line : has_line field ≡ true
   pub outside : not (list_any (bytes_eq field.name) framing_names) ≡ true
   pub host : not (bytes_eq field.name (codes "host")) ≡ true
+  pub connection : not (bytes_eq field.name (codes "connection")) ≡ true
   pub content_length : not (bytes_eq field.name (codes "content-length")) ≡ true
   pub transfer_encoding : not (bytes_eq field.name (codes "transfer-encoding")) ≡ true
 
@@ -121,6 +122,7 @@ apart field p =
       has_line = parts.0;
       outside = parts.1;
       host = not_from_false _ all.0;
+      connection = not_from_false _ three.0;
       content_length = not_from_false _ two.0;
       transfer_encoding = not_from_false _ one.0;
     }
@@ -128,7 +130,7 @@ apart field p =
 -- a request whose text can be written
 pub record IsSendable (request : Request) : Type 0 where
   pub method : some_of is_token_octet request.method ≡ true
-  pub target : some_of is_visible request.target ≡ true
+  pub target : is_target request.target ≡ true
   pub authority : is_value request.authority ≡ true
   pub fields : list_all can_send request.fields ≡ true
 
@@ -136,6 +138,7 @@ pub record IsSendable (request : Request) : Type 0 where
 pub record Frames (framing : List Field) (content body : List ℕ) : Type 0 where
   pub lines : list_all has_line framing ≡ true
   pub no_host : values_of (codes "host") framing ≡ []
+  pub no_option : values_of (codes "connection") framing ≡ []
   pub not_kept : without framing_names framing ≡ []
   pub framed : Framed (values_of (codes "content-length") framing) (values_of (codes "transfer-encoding") framing) content body
 
@@ -151,6 +154,14 @@ others_apart name fields framing no_close no_via none =
     values_of-append name (fields ++ via ∷ framing) (close ∷ [])
     ∙ ap (λ (vs : List (List ℕ)). vs ++ values_of name (close ∷ [])) (values_of-append name fields (via ∷ framing))
     ∙ rw (none, middle, last) (append-nil (values_of name framing))
+
+-- the one connection line is the writer's
+options_apart : (fields framing : List Field) → values_of (codes "connection") fields ≡ [] → values_of (codes "connection") framing ≡ []
+    → values_of (codes "connection") (fields ++ via ∷ framing ++ close ∷ []) ≡ codes "close" ∷ []
+options_apart fields framing none no_option =
+    values_of-append (codes "connection") (fields ++ via ∷ framing) (close ∷ [])
+    ∙ ap (λ (vs : List (List ℕ)). vs ++ codes "close" ∷ []) (values_of-append (codes "connection") fields (via ∷ framing))
+    ∙ rw (none, no_option) refl
 
 none_named : (name : List ℕ) (fields : List Field) → ((field : Field) → Apart field → not (bytes_eq field.name name) ≡ true) → list_all can_send fields ≡ true → values_of name fields ≡ []
 none_named name fields says p = values_none name fields (all_weaker can_send (λ field. not (bytes_eq field.name name)) (λ field q. says field (apart field q)) fields p)
@@ -189,6 +200,7 @@ text_read request framing content p q =
     let host = others_apart (codes "host") request.fields framing refl refl (none_named (codes "host") request.fields (λ field a. a.host) p.fields) in
     let lengths = others_apart (codes "content-length") request.fields framing refl refl (none_named (codes "content-length") request.fields (λ field a. a.content_length) p.fields) in
     let codings = others_apart (codes "transfer-encoding") request.fields framing refl refl (none_named (codes "transfer-encoding") request.fields (λ field a. a.transfer_encoding) p.fields) in
+    let options = options_apart request.fields framing (none_named (codes "connection") request.fields (λ field a. a.connection) p.fields) q.no_option in
     record {
       head = record { method = request.method; target = request.target; fields = written_fields request framing };
       head_text = head_text request framing;
@@ -198,6 +210,7 @@ text_read request framing content p q =
       method = refl;
       target = refl;
       authority = ap (λ (vs : List (List ℕ)). request.authority ∷ vs) (host ∙ q.no_host);
+      options = ap (λ (vs : List (List ℕ)). list_all is_close vs) options;
       fields = written_kept request framing p q.not_kept;
       body = rw (lengths, codings) q.framed;
     }
@@ -229,7 +242,7 @@ visible_is_value text p = value_from_parts text (record {
 
 -- nothing frames no octets
 pub no_framing : Frames [] [] []
-no_framing = record { lines = refl; no_host = refl; not_kept = refl; framed = (refl, refl) }
+no_framing = record { lines = refl; no_host = refl; no_option = refl; not_kept = refl; framed = (refl, refl) }
 
 -- the text of a request that has neither fields nor a body
 abbrev pub get_text : List ℕ → List ℕ → List ℕ → List ℕ
@@ -250,10 +263,10 @@ get_spelled method target authority =
     five_parts method (codes " ") target (codes " HTTP/1.1\r\nhost: ") authority (codes "\r\nvia: 2.0 h2gw\r\nconnection: close\r\n\r\n")
     ∙ sym (ten_parts method (codes " ") target (codes " HTTP/1.1") crlf (codes "host: ") authority crlf (codes "via: 2.0 h2gw\r\nconnection: close\r\n") crlf)
 
-pub get_read : (method target authority : List ℕ) → some_of is_token_octet method ≡ true → some_of is_visible target ≡ true → some_of is_visible authority ≡ true
+pub get_read : (method target authority : List ℕ) → some_of is_token_octet method ≡ true → is_target target ≡ true → some_of is_visible authority ≡ true
     → H1Request (get_text method target authority) (forward (bare_request method target authority))
-get_read method target authority is_method is_target is_authority =
+get_read method target authority is_method may_be_target is_authority =
     let sendable : IsSendable (bare_request method target authority) =
-    record { method = is_method; target = is_target; authority = visible_is_value authority (run_of_some is_visible authority is_authority); fields = refl } in
+    record { method = is_method; target = may_be_target; authority = visible_is_value authority (run_of_some is_visible authority is_authority); fields = refl } in
     subst (λ (text : List ℕ). H1Request text (forward (bare_request method target authority))) (sym (get_spelled method target authority))
     (text_read (bare_request method target authority) [] [] sendable no_framing)

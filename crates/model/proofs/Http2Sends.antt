@@ -2,13 +2,13 @@
 use Rattle.std.proofs.Common.{◌≡◌, ℕ, ◌<◌, Bool, true, false, List, [], ◌∷◌, ◌++◌, length, reverse, filter, refl, sym, ap, ◌∙◌, subst, append_assoc, inl, inr, arith}
 use Rattle.std.specs.Prelude.{codes, not, ◌&&◌, bytes_eq, if◌then◌else◌}
 use Rattle.std.specs.List.{list_all, list_any}
-use Rattle.std.proofs.lemmas.Bool.{false≢true, cases_Bool, and_parts, and_from, or_cases, or_parts, or_from, not-true, not_from_false, cond-true, cond-false}
+use Rattle.std.proofs.lemmas.Bool.{false≢true, cases_Bool, and_parts, and_from, or_cases, or_parts, or_left, or_right, or_from, not-true, not_from_false, cond-true, cond-false}
 use Rattle.std.proofs.lemmas.List.{reverse-append, length-reverse}
 use Rattle.std.proofs.lemmas.Slice.Eq.{bytes_eq-Decides}
-use Rattle.model.specs.Octets.{is_empty, some_of, is_visible, is_value_octet, is_value, begins_with_space}
+use Rattle.model.specs.Octets.{begins_with, is_empty, some_of, is_visible, is_value_octet, is_value, begins_with_space}
 use Rattle.model.specs.Messages.{Field}
-use Rattle.model.specs.Http1.{values_of, without, framing_names}
-use Rattle.model.specs.Http2.{first_of, begins_with, regular_fields, method_of, path_of, authority_of, is_connect, is_name_octet, connection_names, is_path_for, is_authority_octet, WellFormedHead, NamesHold, ValuesHold, HasNoConnectionField, joined_by, is_cookie, is_empty_cookie, with_one_cookie, fields_of, request_of}
+use Rattle.model.specs.Http1.{values_of, without, framing_names, is_target}
+use Rattle.model.specs.Http2.{first_of, regular_fields, method_of, path_of, authority_of, is_connect, is_name_octet, connection_names, is_path_for, is_authority_octet, WellFormedHead, NamesHold, ValuesHold, HasNoConnectionField, joined_by, is_cookie, is_empty_cookie, with_one_cookie, fields_of, request_of}
 use Rattle.model.proofs.Http1Runs.{run_of_some, run-append, run_weaker}
 use Rattle.model.proofs.Http1Lines.{value_parts, value_from_parts}
 use Rattle.model.proofs.Http1Texts.{has_line, can_send, IsSendable, visible_is_value, all_weaker}
@@ -177,17 +177,11 @@ fields_sent head names values apart =
 
 -- ---- the path
 
-star_is_visible : (path : List ℕ) → path ≡ codes "*" → some_of is_visible path ≡ true
-star_is_visible path e = subst (λ (text : List ℕ). some_of is_visible text ≡ true) (sym e) refl
-
-path_is_visible : (method path : List ℕ) → is_path_for method path ≡ true → some_of is_visible path ≡ true
-path_is_visible method [] p = elim (or_cases false _ p) [
-  | inl e ↦ absurd (false≢true e)
-  | inr e ↦ absurd (false≢true e)
-]
-path_is_visible method (octet ∷ path) p = elim (or_cases (list_all is_visible (octet ∷ path) && begins_with 47 (octet ∷ path)) _ p) [
-  | inl e ↦ (and_parts (list_all is_visible (octet ∷ path)) _ e).0
-  | inr e ↦ star_is_visible (octet ∷ path) (same_from_bytes_eq _ _ (and_parts (bytes_eq (octet ∷ path) (codes "*")) _ e).0)
+-- a path of a request is a target
+path_is_target : (method path : List ℕ) → is_path_for method path ≡ true → is_target path ≡ true
+path_is_target method path p = elim (or_cases (list_all is_visible path && begins_with 47 path) _ p) [
+  | inl e ↦ or_left _ _ e
+  | inr e ↦ or_right (list_all is_visible path && begins_with 47 path) _ (and_parts (bytes_eq path (codes "*")) _ e).0
 ]
 
 first_passes : (test : List ℕ → Bool) (texts : List (List ℕ)) → length texts ≡ 1 → list_all test texts ≡ true → test (first_of texts) ≡ true
@@ -203,7 +197,7 @@ head_sendable head body p connect =
     let paths : length (values_of (codes ":path") head) ≡ 1 = p.pseudo_fields_hold.path ∙ ap (λ (t : Bool). if t then 0 else 1) connect in
     record {
       method = p.method_holds;
-      target = path_is_visible (method_of head) (path_of head) (first_passes (is_path_for (method_of head)) _ paths p.path_holds);
+      target = path_is_target (method_of head) (path_of head) (first_passes (is_path_for (method_of head)) _ paths p.path_holds);
       authority = visible_is_value (authority_of head)
           (run_weaker is_authority_octet is_visible authority_octet_is_visible (authority_of head) (run_of_some is_authority_octet (authority_of head) p.authority_holds.octets));
       fields = fields_sent head p.names_hold p.values_hold p.no_connection_field;

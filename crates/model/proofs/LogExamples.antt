@@ -72,7 +72,7 @@ cut_short_owed = refl
 -- ---- a request that expects something, and isn't whole: a reply, and a reset without an error
 
 abbrev replied : List Entry
-replied = out (rst_stream 1 no_error) ∷ out_headed (frame 1 5 1 []) reply_fields ∷ expecting
+replied = out (rst_stream 1 no_error) ∷ out_headed (frame 1 5 1 (codes "reply")) reply_fields ∷ expecting
 
 replied_owed : controls (sent replied) ≡ owed by_whole replied
 unfolding total_size

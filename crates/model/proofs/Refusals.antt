@@ -14,7 +14,7 @@ use Rattle.model.specs.Known.{Known}
 use Rattle.model.specs.Causes.{Cause}
 use Rattle.model.specs.ErrorClause.{ErrorsHold, rst_stream}
 use Rattle.model.specs.ProgressClause.{ProgressHolds, Reason, AllStreamed}
-use Rattle.model.specs.ProgressClause.Reason.{Over, Complete, Ended, Answered, ClientClosed}
+use Rattle.model.specs.ProgressClause.Reason.{Over, Complete, Answered, ClientClosed}
 use Rattle.model.specs.WindowClause.{WindowsHold}
 use Rattle.model.specs.Headline.{IsTold}
 use Rattle.model.specs.Synchrony.{IsWritten}
@@ -85,7 +85,6 @@ closes_at_once c = let done = c.closes.1 in of_opened done.o done.is_opened done
     none : Reason by_whole (Did (Close 1) ∷ got) (record { k = 1; route = 0; stream = 1 }) → ⊥
     none (Over e) = let clash : true ≡ false = e in cc
     none (Complete whole) = nothing_complete false false whole
-    none (Ended e) = let clash : false ≡ true = e in cc
     none (Answered found e) = let clash : ◌≡◌ {A = Option Cause} None (Some found) = e in cc
     none (ClientClosed e) = let clash : false ≡ true = e in cc
 

@@ -1,5 +1,5 @@
 -- Gateways that send upstream what they shouldn't.
-use Rattle.std.proofs.Common.{◌≡◌, ℕ, Bool, true, false, ◌||◌, ◌==◌, List, [], ◌∷◌, ◌++◌, length, append-nil, append_assoc, refl, subst, arith, sym, ap, ◌∙◌, inl, inr, if◌then◌else◌}
+use Rattle.std.proofs.Common.{◌≡◌, ℕ, Bool, true, false, ◌||◌, ◌==◌, List, [], ◌∷◌, ◌++◌, length, append-nil, refl, subst, arith, sym, ap, ◌∙◌, inl, inr, if◌then◌else◌}
 use Rattle.std.specs.Prelude.{Option, Some, None, is_some, codes, slice_index}
 use Rattle.std.proofs.lemmas.Bool.Decides.{eqb_tells}
 use Rattle.std.proofs.lemmas.List.{append_cancel_left}
@@ -9,18 +9,19 @@ use Rattle.model.specs.Messages.Item.{Block}
 use Rattle.model.specs.Http1.{crlf, Line, Framed, Head, H1Head, values_of}
 use Rattle.model.specs.Frames.{headers_kind}
 use Rattle.model.specs.Http2.{HasHead, MayBecome, request_of}
-use Rattle.model.specs.Tapes.{Noted, Entry, came, sent_up}
+use Rattle.model.specs.Tapes.{Noted, Entry, came}
 use Rattle.model.specs.Tapes.Entry.{Came}
 use Rattle.model.specs.Decoding.{Partial, completed}
 use Rattle.model.specs.StreamStates.{verdict}
 use Rattle.model.specs.StreamStates.Standing.{Beyond}
-use Rattle.model.specs.Errors.{Fault, first_of}
+use Rattle.model.specs.Errors.{Fault, first_of, or_else}
 use Rattle.model.specs.Errors.Fault.{Connection, Stream, Discarded}
 use Rattle.model.specs.Streams.{is_ended_by, is_reset, items_of}
-use Rattle.model.specs.Openings.{Opened}
+use Rattle.model.specs.Openings.{Opened, sent_for}
 use Rattle.model.specs.Known.{Known}
 use Rattle.model.specs.Lifetimes.{active, standing_on}
-use Rattle.model.specs.ErrorTable.{Carried, fault_of, fault_on, judged, unless_of_stream, row_closed, rows_before_block, rows_behind_block, fault_with, row_block, row_stream_update, row_stream_data, row_refused, row_malformed}
+use Rattle.model.specs.Malformed.{Carried}
+use Rattle.model.specs.ErrorTable.{fault_of, fault_on, judged, unless_of_stream, row_closed, rows_before_block, rows_behind_block, fault_with, row_block, row_stream_update, row_stream_data, row_refused, row_malformed}
 use Rattle.model.specs.Courses.{course, carried, items, interrupts, new_cause}
 use Rattle.model.specs.RequestClause.{IsServed, IsSentInPart}
 use Rattle.model.proofs.Http1Readings.{one_head}
@@ -28,9 +29,9 @@ use Rattle.model.proofs.RowTapes.{field}
 use Rattle.model.proofs.Http1Examples.{both_lines, both_framings}
 
 -- Whatever the tape, a connection that was sent both framing lines is refused, on an unfinished stream as on a whole one.
-pub both_framing_lines : (known : Known) (t : List Entry) (o : Opened) → sent_up o.k t ≡ both_lines → IsServed known t o → ⊥
+pub both_framing_lines : (known : Known) (t : List Entry) (o : Opened) → sent_for o t ≡ both_lines → IsServed known t o → ⊥
 both_framing_lines known t o sent s = elim s.sent [
-  | inl whole ↦ (let r = whole.reads in let one = r.are_requests in absurd (both_framings [] one.0 (one.1 ++ []) _ one.2 (append-nil both_lines ∙ sym sent ∙ r.is ∙ ap (λ x. x ++ []) one.3 ∙ append_assoc one.0 one.1 [])))
+  | inl whole ↦ (let r = whole.reads in absurd (both_framings [] r.front [] _ r.are_requests (append-nil both_lines ∙ sym sent ∙ r.is)))
   | inr part ↦ (let may = part.some in let more = part.goes_on may.0 may.1 in absurd (both_framings (more.2.next ∷ more.2.rest) more.0 [] _ more.1 (ap (λ x. x ++ more.2.next ∷ more.2.rest) (sym sent) ∙ sym more.2.is ∙ sym (append-nil more.0))))
 ]
 
@@ -52,16 +53,17 @@ behind_rows (Some fault ∷ before) behind f = (fault, refl)
 -- A header block on such an id is a fault, whatever else is wrong: none, one of the connection, or nothing comes of it.
 is_fault : (kept : Carried) (t : List Entry) (noted : Noted) (block : Partial) → completed (came t) noted.frame ≡ Some block → standing_on t noted.frame.id ≡ Beyond → (found : Fault) × (fault_with kept t (Came noted) ≡ Some found)
 is_fault kept t noted block whole above =
-    behind_rows (rows_before_block t (Came noted)) (rows_behind_block kept t (Came noted)) (behind (row_block t (Came noted)))
+    let f = behind_rows (rows_before_block t (Came noted)) (rows_behind_block t (Came noted)) (behind (row_block t (Came noted))) in
+    (f.0, ap (λ first. or_else first (row_malformed kept t (Came noted))) f.1)
   where
     closed : row_closed t (Came noted) ≡ Some Discarded
     closed =
         ap (λ p. unless_of_stream (fault_on t noted.frame.id (judged p noted.frame))) whole
         ∙ ap (λ s. unless_of_stream (fault_of (verdict (length (active t)) s headers_kind))) above
 
-    behind : (first : Option Fault) → (found : Fault) × (first_of (first ∷ row_closed t (Came noted) ∷ row_stream_update t (Came noted) ∷ row_stream_data t (Came noted) ∷ row_refused t (Came noted) ∷ row_malformed kept t (Came noted) ∷ []) ≡ Some found)
+    behind : (first : Option Fault) → (found : Fault) × (first_of (first ∷ row_closed t (Came noted) ∷ row_stream_update t (Came noted) ∷ row_stream_data t (Came noted) ∷ row_refused t (Came noted) ∷ []) ≡ Some found)
     behind (Some fault) = (fault, refl)
-    behind None = (Discarded, ap (λ r. first_of (r ∷ row_stream_update t (Came noted) ∷ row_stream_data t (Came noted) ∷ row_refused t (Came noted) ∷ row_malformed kept t (Came noted) ∷ [])) closed)
+    behind None = (Discarded, ap (λ r. first_of (r ∷ row_stream_update t (Came noted) ∷ row_stream_data t (Came noted) ∷ row_refused t (Came noted) ∷ [])) closed)
 
 -- any fault on a stream ends its items
 ends_items : (found : Fault) → is_ended_by true (Some found) ≡ true

@@ -1,5 +1,5 @@
 -- Gateways that answer what they shouldn't: a stream without a cause of a reply, whose upstream said nothing, is sent no head.
-use Rattle.std.proofs.Common.{◌≡◌, ℕ, Bool, true, false, ◌==◌, List, [], ◌∷◌, ◌++◌, get_or, append_assoc, refl, sym, ap, ◌∙◌, subst, inl, inr, ◌⊎◌, arith, if◌then◌else◌}
+use Rattle.std.proofs.Common.{◌≡◌, ℕ, Bool, true, false, ◌==◌, List, [], ◌∷◌, ◌++◌, get_or, append_assoc, refl, sym, ap, ◌∙◌, subst, inl, inr, arith, if◌then◌else◌}
 use Rattle.std.specs.Prelude.{Option, Some, None, codes}
 use Rattle.model.specs.Messages.{Field, Item}
 use Rattle.model.specs.Messages.Item.{Block, Content}
@@ -13,7 +13,7 @@ use Rattle.model.specs.Tapes.Entry.{Happened, Sent, Did}
 use Rattle.model.specs.ResponseHeads.{Head}
 use Rattle.model.specs.Openings.{Opened, opens}
 use Rattle.model.specs.Deliveries.{Delivery, ReadsAs, AreInterims, IsAnsweredBy, IsPart, IsPartOf}
-use Rattle.model.specs.Available.{heard, has_ended, IsIn, IsAnswered, IsBegun}
+use Rattle.model.specs.Available.{heard, ended_by, IsIn, IsShown}
 use Rattle.model.specs.Known.{Known}
 use Rattle.model.specs.Causes.{Cause}
 use Rattle.model.specs.Courses.{course, items, first_of_both}
@@ -76,9 +76,9 @@ none_offered : (known : Known) (t : List Entry) (stream : ℕ) (delivery : Deliv
 none_offered known t stream delivery u (inl replied) = let clash : ◌≡◌ {A = Option Cause} None (Some replied.cause) = sym u.no_cause ∙ replied.has_cause in cc
 none_offered known t stream delivery u (inr passed) =
     let none = u.silent passed.o passed.given.is_opened passed.given.is_given in
-    answers (subst (λ (x : List ℕ). IsAnswered x (has_ended passed.o.k t) (is_to_head (items known stream t)) delivery ⊎ IsBegun known.setup.passing x (has_ended passed.o.k t) (is_to_head (items known stream t)) delivery) none passed.answers)
+    answers (subst (λ (x : List ℕ). IsShown known.setup.passing x (ended_by passed.o t) (is_to_head (items known stream t)) delivery) none passed.shows)
   where
-    answers : {ended to_head : Bool} → IsAnswered [] ended to_head delivery ⊎ IsBegun known.setup.passing [] ended to_head delivery → OffersNothing delivery
+    answers : {ended to_head : Bool} → IsShown known.setup.passing [] ended to_head delivery → OffersNothing delivery
     answers {ended} {to_head} (inl all) = nothing_offered ended to_head delivery all
     answers {ended} {to_head} (inr part) = nothing_begun known.setup.passing ended to_head delivery part
 

@@ -38,7 +38,7 @@ ready_before = record {
     no_reply = inl refl;
     o = record { k = 1; route = 0; stream = 1 };
     given = record { is_opened = inr (inl refl); is_given = refl };
-    answers = inl (record { response = response; is_whole = answered; says = refl });
+    shows = inl (record { response = response; is_whole = answered; says = refl });
   });
   can_go = inr (inl (record { head = head; not_begun = refl; same_interims = refl; is = refl }));
 }
@@ -54,7 +54,7 @@ ready_between = record {
     no_reply = inl refl;
     o = record { k = 1; route = 0; stream = 1 };
     given = record { is_opened = inr (inl refl); is_given = refl };
-    answers = inl (record { response = response; is_whole = answered; says = refl });
+    shows = inl (record { response = response; is_whole = answered; says = refl });
   });
   can_go = inr (inl (record { head = head; not_begun = refl; same_interims = refl; is = refl }));
 }

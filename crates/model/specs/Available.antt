@@ -27,6 +27,13 @@ has_ended k [] = false
 has_ended k (Happened (UpEnd j) ∷ t) = if k == j then true else has_ended k t
 has_ended k (_ ∷ t) = has_ended k t
 
+-- all octets that came of an exchange, and whether its upstream ended it
+abbrev pub heard_by : Opened → List Entry → List ℕ
+heard_by o t = heard o.k t
+
+abbrev pub ended_by : Opened → List Entry → Bool
+ended_by o t = has_ended o.k t
+
 -- The items that frames to the client bring a stream, the oldest first; the frames stand with the newest first.
 abbrev pub items_on : ℕ → List Noted → List Item
 items_on stream [] = []
@@ -61,6 +68,10 @@ pub record IsBegun (passing : Passing) (text : List ℕ) (ended to_head : Bool) 
   pub not_whole : IsComplete text ended to_head → ⊥
   pub seen : Seen text to_head interims head octets
   pub says : delivery ≡ shown passing interims head octets
+
+-- This is shown of what an upstream answered: all of a whole response, and of any other what may be passed on of it.
+abbrev pub IsShown : Passing → List ℕ → Bool → Bool → Delivery → Type 0
+IsShown passing text ended to_head delivery = IsAnswered text ended to_head delivery ⊎ IsBegun passing text ended to_head delivery
 
 -- the block that a frame completes, if it does, was read
 abbrev pub is_decoded : Note → Bool

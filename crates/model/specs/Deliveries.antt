@@ -31,6 +31,17 @@ pub record IsSection (fields : List Field) (head : Head) : Type 0 where
   pub status : head.status ≡ digits_value 10 digits
   pub no_other : pseudo_fields head.fields ≡ []
 
+-- the head that a field section says
+abbrev pub head_said : List Field → Head
+head_said [] = record { status = 0; fields = [] }
+head_said (status ∷ fields) = record { status = digits_value 10 status.value; fields = fields }
+
+-- the heads that items say, in their order
+abbrev pub heads_in : List Item → List Head
+heads_in [] = []
+heads_in (Block fields ends ∷ items) = head_said fields ∷ heads_in items
+heads_in (Content octets ends ∷ items) = heads_in items
+
 -- The items are interim heads, one after another; none of them ends the stream (section 8.1).
 abbrev pub AreInterims : List Item → List Head → Type 0
 AreInterims [] [] = Unit {0}

@@ -2,10 +2,13 @@
 -- the connection (RFC 9113, sections 3.4, 5.4, 6.4, 6.5, 6.7 and 6.8). What is owed is read off the tape, and what was sent is
 -- just that: always there, in its order, and nothing else.
 use Rattle.std.specs.Prelude.{◌≡◌, ℕ, Bool, true, false, not, ◌&&◌, ◌||◌, ◌==◌, nat_lt, if◌then◌else◌, List, [], ◌∷◌, ◌++◌, length, map, filter, reverse, Option, Some, None}
-use Rattle.model.specs.Frames.{Frame, data_kind, headers_kind, rst_stream_kind, ping_kind, window_update_kind, continuation_kind, is_ack, spell_number, settings_frame, settings_ack, goaway, no_error}
+use Rattle.std.specs.List.{list_any}
+use Rattle.model.specs.Octets.{is_empty}
+use Rattle.model.specs.Frames.{Frame, data_kind, headers_kind, rst_stream_kind, ping_kind, window_update_kind, continuation_kind, is_ack, ends_stream, spell_number, settings_frame, settings_ack, goaway, no_error}
 use Rattle.model.specs.Logs.Event.{ClientEnd}
 use Rattle.model.specs.Tapes.{Noted, Entry, sent, is_closed}
 use Rattle.model.specs.Tapes.Entry.{Came, Breached, Happened, Sent, Did}
+use Rattle.model.specs.Admission.{untaken, high_water}
 use Rattle.model.specs.Decoding.{completed}
 use Rattle.model.specs.StreamStates.{most_streams}
 use Rattle.model.specs.Errors.{Fault}
@@ -33,9 +36,9 @@ last_farewell t e =
     else []
 
 -- What an entry calls for before all else: that farewell, and by its fault the reset of its stream, or the farewell with the
--- highest stream that was opened.
+-- highest stream that was opened, with the entry.
 abbrev pub owed_first : List Entry → Entry → Option Fault → List Frame
-owed_first t e (Some (Connection code)) = goaway (highest t) code ∷ []
+owed_first t e (Some (Connection code)) = goaway (highest (e ∷ t)) code ∷ []
 owed_first t e (Some (Stream code)) = last_farewell t e ++ rst_stream (about t e) code ∷ []
 owed_first t e _ = last_farewell t e
 
@@ -71,7 +74,7 @@ reset_behind t _ = []
 -- what an entry calls for, the oldest first
 abbrev pub owed_by : Known → List Entry → Entry → List Frame
 owed_by known t e =
-    let found = fault known t e in owed_first t e found ++ acks e found ++ resets known (about t e) t e ++ reset_behind t e
+    let found = fault known t e in owed_first t e found ++ (acks e found ++ (resets known (about t e) t e ++ reset_behind t e))
 
 -- What all entries call for, the newest first: the gateway's settings come before anything else.
 abbrev pub owed : Known → List Entry → List Frame
@@ -102,13 +105,32 @@ AreFollowed known frames (Sent noted ∷ t) = AreFollowed known (frames ++ noted
 AreFollowed known frames (e ∷ t) =
     IsFollowed frames (owed_first t e (fault known t e)) (fault known t e) × AreFollowed known frames t
 
--- A part of a response goes to an active stream that the gateway hasn't ended. Octets are given back, one or more, to the
--- connection, or to an active stream that the client hasn't ended (section 5.1).
+-- The flags that a type is sent with: END_STREAM and END_HEADERS where it has them, and no other. The gateway pads nothing and
+-- gives no priority (sections 6.1, 6.2, 6.9 and 6.10).
+abbrev pub flags_of : ℕ → List ℕ
+flags_of kind =
+    if kind == data_kind
+    then 0 ∷ 1 ∷ []
+    else (if kind == headers_kind then 0 ∷ 1 ∷ 4 ∷ 5 ∷ [] else (if kind == continuation_kind then 0 ∷ 4 ∷ [] else 0 ∷ []))
+
+abbrev pub is_plainly_flagged : Frame → Bool
+is_plainly_flagged frame = list_any (λ flags. flags == frame.flags) (flags_of frame.kind)
+
+-- octets are given back, one or more, to the connection, or to an active stream that the client hasn't ended (section 5.1)
+abbrev pub is_given_back : List Entry → Frame → Bool
+is_given_back t frame =
+    length frame.payload == 4 && nat_lt 0 (increment frame) && (frame.id == 0 || is_active frame.id t && not (is_ended_by_client frame.id t))
+
+-- A part of a response goes to an active stream that the gateway hasn't ended. It has octets, unless it is the stream's end alone; and
+-- it is begun while fewer octets than the high water are untaken.
+abbrev pub is_part : List Entry → Frame → Bool
+is_part t frame =
+    is_active frame.id t && not (is_ended_by_gateway frame.id t) && (not (is_empty frame.payload) || frame.kind == data_kind && ends_stream frame)
+    && (frame.kind == continuation_kind || nat_lt (untaken t) high_water)
+
 abbrev pub is_rightly_sent : List Entry → Frame → Bool
 is_rightly_sent t frame =
-    if frame.kind == window_update_kind
-    then (length frame.payload == 4 && nat_lt 0 (increment frame) && (frame.id == 0 || is_active frame.id t && not (is_ended_by_client frame.id t)))
-    else (is_active frame.id t && not (is_ended_by_gateway frame.id t))
+    is_plainly_flagged frame && (if frame.kind == window_update_kind then is_given_back t frame else is_part t frame)
 
 abbrev pub AreRightlySent : List Entry → Type 0
 AreRightlySent [] = Unit {0}

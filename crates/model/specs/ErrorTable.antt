@@ -2,7 +2,6 @@
 -- row of its own, and the first row that applies decides. DATA, RST_STREAM and WINDOW_UPDATE are judged when they came, and
 -- HEADERS when the header block that they begin is whole. Another case is another row.
 use Rattle.std.specs.Prelude.{ℕ, Bool, true, false, not, ◌&&◌, ◌||◌, ◌==◌, if◌then◌else◌, List, [], ◌∷◌, ◌++◌, length, Option, Some, None, option_map, ℤ, pos, ◌+ℤ◌, int_lt}
-use Rattle.model.specs.Messages.{Item}
 use Rattle.model.specs.Frames.{Frame, data_kind, headers_kind, rst_stream_kind, window_update_kind, ends_stream, content, protocol_error, flow_control_error, compression_error}
 use Rattle.model.specs.Tapes.{Note, Noted, Entry, came}
 use Rattle.model.specs.Tapes.Note.{Fields, Undecodable}
@@ -12,13 +11,13 @@ use Rattle.model.specs.SettingValues.{settings_in, settings_fault, code_of_fault
 use Rattle.model.specs.StreamStates.{Standing, Verdict, verdict}
 use Rattle.model.specs.StreamStates.Standing.{Idle, ServerIdle}
 use Rattle.model.specs.StreamStates.Verdict.{Fails}
-use Rattle.model.specs.Errors.{Fault, row_start, row_too_long, first_of}
+use Rattle.model.specs.Errors.{Fault, row_start, row_too_long, first_of, or_else}
 use Rattle.model.specs.Errors.Fault.{Connection, Stream}
 use Rattle.model.specs.Lifetimes.{active, is_active, standing_on}
 use Rattle.model.specs.FrameErrors.{fault_if, row_between, row_long_block, row_misplaced, row_payload}
 use Rattle.model.specs.WindowsOnTape.{increment, is_past, shifts_past, has_settings, first_size, stream_window, connection_window, room_on, room_on_connection}
 use Rattle.model.specs.Causes.{are_large}
-use Rattle.model.specs.Malformed.{is_malformed_block, is_malformed_content}
+use Rattle.model.specs.Malformed.{Carried, is_malformed_block, is_malformed_content}
 
 -- ---- settings and windows
 
@@ -145,26 +144,21 @@ row_refused t _ = None
 
 -- ---- what is no request
 
--- What a stream carries so far, and whether it waits for a reply of the gateway's own.
-pub record Carried : Type 0 where
-  pub items : List Item
-  pub waits : Bool
-
--- the header block behind the items is malformed; one that is too large is answered, whatever it says
-abbrev pub is_bad_block : List Item → Bool → Note → Bool
-is_bad_block items ends (Fields fields) = not (are_large fields) && is_malformed_block items fields ends
-is_bad_block items ends _ = false
+-- the header block behind what the stream carried is malformed; one that is too large is answered, whatever it says
+abbrev pub is_bad_block : Carried → Bool → Note → Bool
+is_bad_block carried ends (Fields fields) = not (are_large fields) && is_malformed_block carried fields ends
+is_bad_block carried ends _ = false
 
 -- a frame brings its stream what is no request
-abbrev pub is_malformed : List Item → Option Partial → Noted → Bool
-is_malformed items (Some block) noted = is_bad_block items block.ends noted.note
-is_malformed items None noted =
-    noted.frame.kind == data_kind && is_malformed_content items (content noted.frame) (ends_stream noted.frame)
+abbrev pub is_malformed : Carried → Option Partial → Noted → Bool
+is_malformed carried (Some block) noted = is_bad_block carried block.ends noted.note
+is_malformed carried None noted =
+    noted.frame.kind == data_kind && is_malformed_content carried (content noted.frame) (ends_stream noted.frame)
 
 -- malformed messages (section 8.1.1); what comes behind a reply of the gateway's own isn't judged
 abbrev pub row_malformed : Carried → List Entry → Entry → Option Fault
 row_malformed carried t (Came noted) =
-    fault_if (not carried.waits && is_malformed carried.items (completed (came t) noted.frame) noted) (Stream protocol_error)
+    fault_if (not carried.waits && is_malformed carried (completed (came t) noted.frame) noted) (Stream protocol_error)
 row_malformed carried t _ = None
 
 -- ---- the table
@@ -185,17 +179,20 @@ rows_before_block t e =
     ∷ row_connection_data t e
     ∷ []
 
--- the rows that are judged when it is, by what the entry's stream carries
-abbrev pub rows_behind_block : Carried → List Entry → Entry → List (Option Fault)
-rows_behind_block carried t e =
+-- the rows that are judged when it is
+abbrev pub rows_behind_block : List Entry → Entry → List (Option Fault)
+rows_behind_block t e =
     row_block t e
     ∷ row_closed t e
     ∷ row_stream_update t e
     ∷ row_stream_data t e
     ∷ row_refused t e
-    ∷ row_malformed carried t e
     ∷ []
 
--- the fault of an entry behind a tape, where its stream carries this
+-- the fault by all these rows
+abbrev pub fault_of_rows : List Entry → Entry → Option Fault
+fault_of_rows t e = first_of (rows_before_block t e ++ rows_behind_block t e)
+
+-- The fault of an entry behind a tape, where its stream carried this: the last row alone looks at what it carried.
 abbrev pub fault_with : Carried → List Entry → Entry → Option Fault
-fault_with carried t e = first_of (rows_before_block t e ++ rows_behind_block carried t e)
+fault_with carried t e = or_else (fault_of_rows t e) (row_malformed carried t e)

@@ -7,15 +7,15 @@ use Rattle.model.specs.Tapes.{Entry}
 use Rattle.model.specs.Tapes.Entry.{Happened}
 use Rattle.model.specs.ResponseHeads.{Head}
 use Rattle.model.specs.Responses.{IsComplete, IsSpoilt, Seen, IsPlainlyBad}
-use Rattle.model.specs.Openings.{opens}
-use Rattle.model.specs.Available.{heard}
+use Rattle.model.specs.Openings.{Opened, exchange_on}
+use Rattle.model.specs.Available.{heard_by}
 use Rattle.model.specs.Known.{Known, fails_behind}
-use Rattle.model.specs.Courses.{items, given}
+use Rattle.model.specs.Courses.{items}
 use Rattle.model.specs.Offers.{is_to_head}
 
--- the request that a connection was given has the method HEAD
-abbrev pub is_asked_for_head : Known → ℕ → List Entry → Bool
-is_asked_for_head known k t = is_to_head (items known (given k (opens t)) t)
+-- the request of an exchange has the method HEAD
+abbrev pub is_asked_for_head : Known → Opened → List Entry → Bool
+is_asked_for_head known o t = is_to_head (items known o.stream t)
 
 -- Where responses are passed on whole, more octets of a body stand there than the gateway keeps (this project's profile).
 pub record IsTooLong (known : Known) (text : List ℕ) (to_head : Bool) : Type 0 where
@@ -37,14 +37,14 @@ IsPlainlyBroken known text to_head = IsPlainlyBad text to_head ⊎ IsTooLong kno
 -- An event with which an answer may be given up: octets that break it, the connection's end where it makes no whole response,
 -- the connection's failure.
 abbrev pub MayFail : Known → List Entry → Event → Type 0
-MayFail known t (Up k piece) = IsBroken known (heard k (Happened (Up k piece) ∷ t)) (is_asked_for_head known k t)
-MayFail known t (UpEnd k) = IsComplete (heard k t) true (is_asked_for_head known k t) → ⊥
+MayFail known t (Up k piece) = let o = exchange_on k t in IsBroken known (heard_by o (Happened (Up k piece) ∷ t)) (is_asked_for_head known o t)
+MayFail known t (UpEnd k) = let o = exchange_on k t in IsComplete (heard_by o t) true (is_asked_for_head known o t) → ⊥
 MayFail known t (UpFailed k) = Unit {0}
 MayFail known t event = ⊥
 
 -- An event with which it must be.
 abbrev pub MustFail : Known → List Entry → Event → Type 0
-MustFail known t (Up k piece) = IsPlainlyBroken known (heard k (Happened (Up k piece) ∷ t)) (is_asked_for_head known k t)
+MustFail known t (Up k piece) = let o = exchange_on k t in IsPlainlyBroken known (heard_by o (Happened (Up k piece) ∷ t)) (is_asked_for_head known o t)
 MustFail known t event = MayFail known t event
 
 -- The event is one with which an answer failed, or not, as is known of it.

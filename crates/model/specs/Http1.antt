@@ -1,8 +1,8 @@
 -- What an HTTP/1.1 server reads in the octets that it is sent (RFC 9112). Nothing here knows HTTP/2 or a writer.
-use Rattle.std.specs.Prelude.{◌≡◌, ℕ, ◌<◌, true, not, if◌then◌else◌, List, [], ◌∷◌, ◌++◌, length, filter, codes, bytes_eq}
+use Rattle.std.specs.Prelude.{◌≡◌, ℕ, ◌<◌, Bool, true, false, not, ◌&&◌, ◌||◌, if◌then◌else◌, List, [], ◌∷◌, ◌++◌, length, filter, codes, bytes_eq}
 use Rattle.std.specs.List.{list_all, list_any, concat}
 use Rattle.std.specs.Str.Parse.{digits_value}
-use Rattle.model.specs.Octets.{some_of, is_digit, is_hex_digit, is_token_octet, is_visible, is_space, is_value, lower, Joined}
+use Rattle.model.specs.Octets.{some_of, begins_with, is_digit, is_hex_digit, is_token_octet, is_visible, is_space, is_value, lower, Joined}
 use Rattle.model.specs.Messages.{Field, Request}
 
 -- the end of a line
@@ -79,15 +79,30 @@ pub record Head : Type 0 where
   pub target : List ℕ
   pub fields : List Field
 
+-- A target that is read: visible octets that begin with '/', or `*` (RFC 9112, section 3.2). The other forms are of proxies and
+-- tunnels, and nothing is ever meant by them here.
+abbrev pub is_target : List ℕ → Bool
+is_target target = list_all is_visible target && begins_with 47 target || bytes_eq target (codes "*")
+
 -- The text of a head (RFC 9112, sections 2.1 and 3): the request line, field lines and an empty line.
 pub record H1Head (text : List ℕ) (head : Head) : Type 0 where
   pub lines : List ℕ
   pub is : text ≡ head.method ++ codes " " ++ head.target ++ codes " HTTP/1.1" ++ crlf ++ lines ++ crlf
   pub method : some_of is_token_octet head.method ≡ true
-  pub target : some_of is_visible head.target ≡ true
+  pub target : is_target head.target ≡ true
   pub are_lines : Lines lines head.fields
 
--- A whole request (RFC 9112, section 2.1): a head of which one line is the host's, and the body that its lines frame.
+-- the connection option `close`, and no other beside it (RFC 9112, section 9.6)
+abbrev pub is_close : List ℕ → Bool
+is_close value = bytes_eq (lower value) (codes "close")
+
+-- the client sends no other request on the connection
+abbrev pub asks_to_close : Head → Bool
+asks_to_close head = list_any is_close (values_of (codes "connection") head.fields)
+
+-- A whole request (RFC 9112, section 2.1): a head of which one line is the host's, and the body that its lines frame. Its one
+-- connection option is `close`, or it has none: any other names a field that a server drops before it passes the request on
+-- (RFC 9110, section 7.6.1).
 pub record H1Request (text : List ℕ) (request : Request) : Type 0 where
   pub head : Head
   pub head_text : List ℕ
@@ -97,6 +112,7 @@ pub record H1Request (text : List ℕ) (request : Request) : Type 0 where
   pub method : request.method ≡ head.method
   pub target : request.target ≡ head.target
   pub authority : values_of (codes "host") head.fields ≡ request.authority ∷ []
+  pub options : list_all is_close (values_of (codes "connection") head.fields) ≡ true
   pub fields : request.fields ≡ without framing_names head.fields
   pub body : Framed (values_of (codes "content-length") head.fields) (values_of (codes "transfer-encoding") head.fields) content request.body
 
@@ -104,11 +120,23 @@ pub record H1Request (text : List ℕ) (request : Request) : Type 0 where
 abbrev pub BeginsNoRequest : List ℕ → Type 0
 BeginsNoRequest text = (front more : List ℕ) (request : Request) → H1Request front request → text ≡ front ++ more → ⊥
 
+-- A request behind which another may stand.
+pub record H1Open (text : List ℕ) (request : Request) : Type 0 where
+  pub reads : H1Request text request
+  pub stays_open : asks_to_close reads.head ≡ false
+
+-- These requests, one after another; behind one that asks to close the connection no other is read (RFC 9112, section 9.6).
+abbrev pub AreRequests : List ℕ → List Request → Type 0
+AreRequests text [] = text ≡ []
+AreRequests text (request ∷ []) = H1Request text request
+AreRequests text (request ∷ next ∷ requests) =
+    (first more : List ℕ) × (text ≡ first ++ more) × H1Open first request × AreRequests more (next ∷ requests)
+
 -- What was sent on a connection is these requests, one after another, and then a rest that begins with none.
 pub record H1Requests (text : List ℕ) (requests : List Request) (rest : List ℕ) : Type 0 where
   pub front : List ℕ
   pub is : text ≡ front ++ rest
-  pub are_requests : Joined H1Request front requests
+  pub are_requests : AreRequests front requests
   pub no_more : BeginsNoRequest rest
 
 -- the field that the gateway adds (RFC 9110, section 7.6.3)

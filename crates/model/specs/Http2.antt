@@ -2,8 +2,8 @@
 use Rattle.std.specs.Prelude.{◌≡◌, ℕ, ◌≤◌, Bool, true, false, not, ◌&&◌, ◌||◌, ◌==◌, nat_le, if◌then◌else◌, List, [], ◌∷◌, ◌++◌, length, filter, codes, bytes_eq, Option, Some, None}
 use Rattle.std.specs.List.{list_all, list_any}
 use Rattle.std.specs.Str.Parse.{digits_value}
-use Rattle.model.specs.Octets.{IsFront, is_empty, some_of, is_between, is_digit, is_token_octet, is_visible, is_value, lower}
-use Rattle.model.specs.Messages.{Field, Request, Item}
+use Rattle.model.specs.Octets.{IsFront, is_empty, some_of, is_between, is_digit, is_token_octet, is_visible, is_value, lower, begins_with}
+use Rattle.model.specs.Messages.{Field, Request, Item, ends_with}
 use Rattle.model.specs.Messages.Item.{Block, Content}
 use Rattle.model.specs.Http1.{values_of, without}
 
@@ -13,11 +13,6 @@ use Rattle.model.specs.Http1.{values_of, without}
 abbrev pub first_of : List (List ℕ) → List ℕ
 first_of [] = []
 first_of (text ∷ texts) = text
-
--- whether a text begins with this octet
-abbrev pub begins_with : ℕ → List ℕ → Bool
-begins_with octet [] = false
-begins_with octet (first ∷ octets) = octet == first
 
 -- A pseudo-field's name begins with a colon (section 8.3).
 abbrev pub is_pseudo : Field → Bool
@@ -203,15 +198,11 @@ body_of [] = []
 body_of (Content octets ends ∷ items) = octets ++ body_of items
 body_of (Block fields ends ∷ items) = body_of items
 
-abbrev pub ends_stream : Item → Bool
-ends_stream (Block fields ends) = ends
-ends_stream (Content octets ends) = ends
-
 -- The last item ends the stream, and no earlier one does.
 abbrev pub EndsWithLast : List Item → Type 0
 EndsWithLast [] = ⊥
-EndsWithLast (item ∷ []) = ends_stream item ≡ true
-EndsWithLast (item ∷ next ∷ items) = (ends_stream item ≡ false) × EndsWithLast (next ∷ items)
+EndsWithLast (item ∷ []) = ends_with item ≡ true
+EndsWithLast (item ∷ next ∷ items) = (ends_with item ≡ false) × EndsWithLast (next ∷ items)
 
 -- Behind the head stand contents, and behind them perhaps one block of trailers.
 abbrev pub AreContents : List Item → Type 0

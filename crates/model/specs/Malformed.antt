@@ -111,17 +111,33 @@ abbrev pub is_within : Option ℕ → ℕ → Bool
 is_within None count = true
 is_within (Some length) count = nat_le count length
 
--- ---- what comes behind the items of a stream
+-- ---- what comes behind what a stream carried
+
+-- What a stream carried so far, as far as it is looked at when more comes: whether its head came, the length that this declares, how
+-- many octets of the body came, and whether the stream waits for a reply of the gateway's own.
+pub record Carried : Type 0 where
+  pub begun : Bool
+  pub declared : Option ℕ
+  pub octets : ℕ
+  pub waits : Bool
+
+abbrev pub is_begun : List Item → Bool
+is_begun [] = false
+is_begun (item ∷ items) = true
+
+abbrev pub carried_by : List Item → Bool → Carried
+carried_by items waits = record { begun = is_begun items; declared = declared items; octets = length (body_of items); waits = waits }
 
 -- A header block: the first is the head, and one that ends the stream with it declares no body; any other is of trailers,
 -- which end the stream, behind as many octets as were declared (section 8.1).
-abbrev pub is_malformed_block : List Item → List Field → Bool → Bool
-is_malformed_block [] fields ends = not (is_well_formed fields) || ends && not (has_length (declared_length fields) 0)
-is_malformed_block (item ∷ items) fields ends =
-    not ends || not (are_trailers fields) || not (has_length (declared (item ∷ items)) (length (body_of (item ∷ items))))
+abbrev pub is_malformed_block : Carried → List Field → Bool → Bool
+is_malformed_block carried fields ends =
+    if carried.begun
+    then not ends || not (are_trailers fields) || not (has_length carried.declared carried.octets)
+    else not (is_well_formed fields) || ends && not (has_length (declared_length fields) 0)
 
 -- Octets of the body, which go past what was declared, or end the stream short of it.
-abbrev pub is_malformed_content : List Item → List ℕ → Bool → Bool
-is_malformed_content items octets ends =
-    let count = length (body_of items) + length octets in
-    not (is_within (declared items) count) || ends && not (has_length (declared items) count)
+abbrev pub is_malformed_content : Carried → List ℕ → Bool → Bool
+is_malformed_content carried octets ends =
+    let count = carried.octets + length octets in
+    not (is_within carried.declared count) || ends && not (has_length carried.declared count)

@@ -20,3 +20,8 @@ pub record Request : Type 0 where
 pub data Item : Type 0 where
   Block : (fields : List Field) → (ends : Bool) → Item
   Content : (octets : List ℕ) → (ends : Bool) → Item
+
+-- whether an item ends the stream
+abbrev pub ends_with : Item → Bool
+ends_with (Block fields ends) = ends
+ends_with (Content octets ends) = ends

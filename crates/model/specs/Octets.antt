@@ -26,6 +26,11 @@ abbrev pub is_empty : List ℕ → Bool
 is_empty [] = true
 is_empty (octet ∷ octets) = false
 
+-- whether a text begins with this octet
+abbrev pub begins_with : ℕ → List ℕ → Bool
+begins_with octet [] = false
+begins_with octet (first ∷ octets) = octet == first
+
 -- Each octet passes the test, and there is one or more.
 abbrev pub some_of : (ℕ → Bool) → List ℕ → Bool
 some_of test [] = false

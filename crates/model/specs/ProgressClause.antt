@@ -3,22 +3,21 @@
 use Rattle.std.specs.Prelude.{◌≡◌, ℕ, ◌<◌, ◌≤◌, Bool, true, false, ◌&&◌, ◌==◌, if◌then◌else◌, List, [], ◌∷◌, ◌++◌, length, Some, codes, not}
 use Rattle.std.specs.List.{list_any, concat}
 use Rattle.model.specs.Octets.{IsFront, lower, Joined}
-use Rattle.model.specs.Messages.{Field, Request}
+use Rattle.model.specs.Messages.{Field, Request, ends_with}
 use Rattle.model.specs.Http1.{H1Head, Head, Chunk, Chunked, H1Requests, values_of, forward}
 use Rattle.model.specs.Http2.{HasHead, H2Request, body_of}
 use Rattle.model.specs.Logs.Act.{Close}
 use Rattle.model.specs.Setup.{IsFirstMatch}
 use Rattle.model.specs.Setup.Passing.{Streaming}
-use Rattle.model.specs.Tapes.{Entry, came, sent_up, is_closed}
-use Rattle.model.specs.Tapes.Entry.{Came, Did}
+use Rattle.model.specs.Tapes.{Noted, Entry, came, is_closed}
+use Rattle.model.specs.Tapes.Entry.{Came, Sent, Did}
 use Rattle.model.specs.Decoding.{completed}
 use Rattle.model.specs.Responses.{IsComplete}
-use Rattle.model.specs.Streams.{ends_with}
-use Rattle.model.specs.Admission.{untaken, is_open}
-use Rattle.model.specs.Openings.{Opened, opens, GoToOpen}
-use Rattle.model.specs.Available.{heard, has_ended, IsIn}
+use Rattle.model.specs.Admission.{untaken, high_water, is_open}
+use Rattle.model.specs.Openings.{Opened, opens, sent_for, GoToOpen}
+use Rattle.model.specs.Available.{heard_by, ended_by, IsIn}
 use Rattle.model.specs.Known.{Known}
-use Rattle.model.specs.Lifetimes.{ends_by, is_active}
+use Rattle.model.specs.Lifetimes.{ends_by, is_ended_by_client, is_active}
 use Rattle.model.specs.Causes.{Cause}
 use Rattle.model.specs.Courses.{items, cause}
 use Rattle.model.specs.Offers.{is_to_head, IsGiven}
@@ -30,18 +29,22 @@ use Rattle.model.specs.Readiness.{IsReady}
 abbrev pub had_closed : ℕ → List Opened → List Entry → Bool
 had_closed stream os t = list_any (λ o. o.stream == stream && not (is_open o.k t)) os
 
+-- the frame is the first that ends the stream
+abbrev pub is_first_end : ℕ → List Entry → Noted → Bool
+is_first_end stream t noted =
+    noted.frame.id == stream && ends_by (completed (came t) noted.frame) noted.frame && not (is_ended_by_client stream t)
+
 -- the stream's connection was closed before the client ended the stream
 abbrev pub was_cut : ℕ → List Entry → Bool
 was_cut stream [] = false
-was_cut stream (Came noted ∷ t) =
-    if noted.frame.id == stream && ends_by (completed (came t) noted.frame) noted.frame then had_closed stream (opens t) t else was_cut stream t
+was_cut stream (Came noted ∷ t) = if is_first_end stream t noted then had_closed stream (opens t) t else was_cut stream t
 was_cut stream (_ ∷ t) = was_cut stream t
 
 -- A connection of the stream was sent the request.
 pub record IsForwarded (t : List Entry) (stream : ℕ) (request : Request) : Type 0 where
   pub o : Opened
   pub given : IsGiven t stream o
-  pub reads : H1Requests (sent_up o.k t) (forward request ∷ []) []
+  pub reads : H1Requests (sent_for o t) (forward request ∷ []) []
 
 -- Each whole request that has a route was forwarded, unless its connection was closed before.
 abbrev pub AllForwarded : Known → List Entry → Type 0
@@ -81,18 +84,21 @@ pub record HasCome (text octets : List ℕ) : Type 0 where
 pub record IsStreamed (known : Known) (t : List Entry) (stream : ℕ) : Type 0 where
   pub o : Opened
   pub given : IsGiven t stream o
-  pub has_come : is_open o.k t ≡ true → HasCome (sent_up o.k t) (body_of (items known stream t))
+  pub has_come : is_open o.k t ≡ true → HasCome (sent_for o t) (body_of (items known stream t))
 
 -- Each active stream whose items have a head and no end is passed on so.
 abbrev pub AllStreamed : Known → List Entry → Type 0
 AllStreamed known t =
     known.setup.passing ≡ Streaming → (stream : ℕ) (head : List Field) → is_active stream t ≡ true → HasHead (items known stream t) head → list_any ends_with (items known stream t) ≡ false → IsStreamed known t stream
 
--- ---- responses
+-- So it is before each thing that comes in: what one frame brings is passed on before the next is looked at.
+abbrev pub AreStreamedInTurn : Known → List Entry → Type 0
+AreStreamedInTurn known [] = Unit {0}
+AreStreamedInTurn known (Sent noted ∷ t) = AreStreamedInTurn known t
+AreStreamedInTurn known (Did act ∷ t) = AreStreamedInTurn known t
+AreStreamedInTurn known (e ∷ t) = AllStreamed known t × AreStreamedInTurn known t
 
--- from this many octets on that the client hasn't taken, no part of a response goes out (this project's profile)
-abbrev pub high_water : ℕ
-high_water = 65536
+-- ---- responses
 
 -- While fewer octets are untaken, no stream is ready.
 abbrev pub NoneReady : Known → List Entry → Type 0
@@ -100,19 +106,17 @@ NoneReady known t = untaken t < high_water → (stream : ℕ) → IsReady known 
 
 -- ---- the ends of upstream connections
 
--- Why a connection is done with: its stream isn't active, its response is whole, the upstream ended it, the gateway answers the
--- stream itself, or the client is closed.
+-- Why a connection is done with: its stream isn't active, its response is whole, the gateway answers the stream itself, or the
+-- client is closed. Where the upstream ended it, its response is whole or has failed.
 pub data Reason (known : Known) (t : List Entry) (o : Opened) : Type 0 where
   Over : is_active o.stream t ≡ false → Reason known t o
-  Complete : IsComplete (heard o.k t) (has_ended o.k t) (is_to_head (items known o.stream t)) → Reason known t o
-  Ended : has_ended o.k t ≡ true → Reason known t o
+  Complete : IsComplete (heard_by o t) (ended_by o t) (is_to_head (items known o.stream t)) → Reason known t o
   Answered : (found : Cause) → cause known o.stream t ≡ Some found → Reason known t o
   ClientClosed : is_closed t ≡ true → Reason known t o
 
 -- Connections that are done with aren't open.
-abbrev pub AreClosed : Known → List Entry → List Opened → Type 0
-AreClosed known t [] = Unit {0}
-AreClosed known t (o ∷ os) = (is_open o.k t ≡ true → Reason known t o → ⊥) × AreClosed known t os
+abbrev pub AreClosed : Known → List Entry → Type 0
+AreClosed known t = (o : Opened) → IsIn o (opens t) → is_open o.k t ≡ true → Reason known t o → ⊥
 
 -- A connection is closed by a reason that holds at the end of the step.
 pub record IsDoneWith (known : Known) (t : List Entry) (k : ℕ) : Type 0 where
@@ -133,7 +137,8 @@ ClosesRightly known t before (_ ∷ segment) = ClosesRightly known t before segm
 pub record ProgressHolds (known : Known) (before segment : List Entry) : Type 0 where
   pub forwarded : AllForwarded known (segment ++ before)
   pub streamed : AllStreamed known (segment ++ before)
+  pub in_turn : AreStreamedInTurn known (segment ++ before)
   pub none_ready : NoneReady known (segment ++ before)
-  pub closed : AreClosed known (segment ++ before) (opens (segment ++ before))
+  pub closed : AreClosed known (segment ++ before)
   pub closes : ClosesRightly known (segment ++ before) before segment
   pub go_to_open : GoToOpen (segment ++ before)

@@ -1,14 +1,19 @@
 -- The clause on requests: what each upstream connection was sent reads as just the request of the stream that it was given to.
-use Rattle.std.specs.Prelude.{ℕ, ◌⊎◌, List, [], ◌∷◌}
+use Rattle.std.specs.Prelude.{◌≡◌, ℕ, true, false, ◌⊎◌, List, [], ◌∷◌, None}
 use Rattle.model.specs.Octets.{IsStrictFront}
 use Rattle.model.specs.Messages.{Field, Request, Item}
 use Rattle.model.specs.Http1.{H1Request, H1Requests, forward}
 use Rattle.model.specs.Http2.{HasHead, WellFormedHead, H2Request, MayBecome, authority_of, path_of}
+use Rattle.model.specs.Logs.Act.{Open}
 use Rattle.model.specs.Setup.{IsFirstMatch}
-use Rattle.model.specs.Tapes.{Entry, sent_up}
-use Rattle.model.specs.Openings.{Opened, opens, AreNumbered, AreApart}
+use Rattle.model.specs.Tapes.{Entry}
+use Rattle.model.specs.Tapes.Entry.{Did}
+use Rattle.model.specs.Lifetimes.{is_active}
+use Rattle.model.specs.Openings.{Opened, opens, last_stream, sent_for, AreNumbered, AreApart}
+use Rattle.model.specs.Available.{IsIn}
 use Rattle.model.specs.Known.{Known}
-use Rattle.model.specs.Courses.{items}
+use Rattle.model.specs.Courses.{items, cause}
+use Rattle.model.specs.ErrorClause.{must_end}
 
 -- The text reads as the one request that the items mean, as it is to be forwarded.
 pub record IsSentWhole (text : List ℕ) (items : List Item) : Type 0 where
@@ -29,14 +34,24 @@ pub record IsServed (known : Known) (t : List Entry) (o : Opened) : Type 0 where
   pub has_head : HasHead (items known o.stream t) head
   pub well_formed : WellFormedHead head
   pub by_route : IsFirstMatch known.setup.routes (authority_of head) (path_of head) o.route
-  pub sent : IsSentWhole (sent_up o.k t) (items known o.stream t) ⊎ IsSentInPart (sent_up o.k t) (items known o.stream t)
+  pub sent : IsSentWhole (sent_for o t) (items known o.stream t) ⊎ IsSentInPart (sent_for o t) (items known o.stream t)
 
-abbrev pub AreServed : Known → List Entry → List Opened → Type 0
-AreServed known t [] = Unit {0}
-AreServed known t (o ∷ os) = IsServed known t o × AreServed known t os
+-- A connection may be opened for a stream that is active and that the gateway doesn't answer itself, while the connection with the
+-- client isn't to end.
+pub record MayBeServed (known : Known) (t : List Entry) (stream : ℕ) : Type 0 where
+  pub active : is_active stream t ≡ true
+  pub no_cause : cause known stream t ≡ None
+  pub goes_on : must_end known t ≡ false
+
+-- Each connection was opened where it might be.
+abbrev pub OpenInTime : Known → List Entry → Type 0
+OpenInTime known [] = Unit {0}
+OpenInTime known (Did (Open k route) ∷ t) = MayBeServed known t (last_stream t) × OpenInTime known t
+OpenInTime known (_ ∷ t) = OpenInTime known t
 
 -- Connections are numbered as they are opened, no stream has two, and each was sent its stream's request.
 pub record RequestsHold (known : Known) (t : List Entry) : Type 0 where
   pub numbered : AreNumbered (opens t)
   pub apart : AreApart (opens t)
-  pub served : AreServed known t (opens t)
+  pub in_time : OpenInTime known t
+  pub served : (o : Opened) → IsIn o (opens t) → IsServed known t o

@@ -9,25 +9,24 @@ use Rattle.model.specs.Tapes.{Entry, sent}
 use Rattle.model.specs.ResponseHeads.{Head}
 use Rattle.model.specs.Responses.{Seen}
 use Rattle.model.specs.Admission.{room, is_admitted}
-use Rattle.model.specs.Openings.{opens}
-use Rattle.model.specs.Available.{heard}
+use Rattle.model.specs.Openings.{Opened, exchange_on}
+use Rattle.model.specs.Available.{heard_by}
 use Rattle.model.specs.Known.{Known}
 use Rattle.model.specs.WindowsOnTape.{is_on, data_octets}
-use Rattle.model.specs.Courses.{given}
 use Rattle.model.specs.Failures.{is_asked_for_head}
 
--- These octets of a body were seen of the upstream k, and so many less those sent on take room.
-pub record HasRoomBeside (known : Known) (k : ℕ) (t : List Entry) (count : ℕ) : Type 0 where
+-- These octets of a body were seen of an exchange, and so many less those sent on take room.
+pub record HasRoomBeside (known : Known) (o : Opened) (t : List Entry) (count : ℕ) : Type 0 where
   pub interims : List Head
   pub head : Option Head
   pub octets : List ℕ
-  pub seen : Seen (heard k t) (is_asked_for_head known k t) interims head octets
-  pub is : count ≡ room k t - (length octets - data_octets (is_on (given k (opens t))) (sent t))
+  pub seen : Seen (heard_by o t) (is_asked_for_head known o t) interims head octets
+  pub is : count ≡ room o.k t - (length octets - data_octets (is_on o.stream) (sent t))
 
 -- So many octets of the upstream k may come.
 abbrev pub IsRoom : Passing → Known → ℕ → List Entry → ℕ → Type 0
 IsRoom Whole known k t count = count ≡ room k t
-IsRoom Streaming known k t count = HasRoomBeside known k t count
+IsRoom Streaming known k t count = HasRoomBeside known (exchange_on k t) t count
 
 abbrev pub FitsRoom : Known → List Entry → Event → Type 0
 FitsRoom known t (Up k piece) = (count : ℕ) → IsRoom known.setup.passing known k t count → length piece ≤ count

@@ -21,10 +21,6 @@ frame_items (Some block) noted = block_items block noted.note
 frame_items None noted =
     if noted.frame.kind == data_kind then Content (content noted.frame) (ends_stream noted.frame) ∷ [] else []
 
-abbrev pub ends_with : Item → Bool
-ends_with (Block fields ends) = ends
-ends_with (Content octets ends) = ends
-
 -- the frame of an entry belongs to a stream
 abbrev pub is_on : ℕ → Entry → Bool
 is_on stream (Came noted) = noted.frame.id == stream

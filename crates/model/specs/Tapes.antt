@@ -110,11 +110,24 @@ abbrev pub EndsWithClose : List Entry → Type 0
 EndsWithClose [] = Unit {0}
 EndsWithClose (e ∷ t) = (is_closed t ≡ false) × EndsWithClose t
 
--- The entries are those of the step: they put out what it did, and its event is among them.
+-- what is done beside sending to the client
+abbrev pub acts : List Entry → List Act
+acts [] = []
+acts (Did act ∷ t) = act ∷ acts t
+acts (_ ∷ t) = acts t
+
+-- No act stands before an event that isn't octets of the client.
+abbrev pub ActsFollow : List Entry → Type 0
+ActsFollow [] = Unit {0}
+ActsFollow (Happened event ∷ t) = acts t ≡ []
+ActsFollow (_ ∷ t) = ActsFollow t
+
+-- The entries are those of the step: they put out what it did, and its event is among them, before all that is done.
 pub record IsStep (step : Step) (segment : List Entry) : Type 0 where
   pub spelled : CanBeSpelled segment
   pub put_out : step.outputs ≡ reverse (outputs segment)
   pub event : happened segment ≡ listed step.event
+  pub acts_follow : ActsFollow segment
 
 -- the text isn't a front of the preface, nor does it begin with it
 pub record IsNoPreface (text : List ℕ) : Type 0 where

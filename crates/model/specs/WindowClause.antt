@@ -1,14 +1,14 @@
 -- The clause on windows (RFC 9113, sections 5.2 and 6.9): DATA goes out within both windows, and octets that came are given back
 -- once they are passed on.
-use Rattle.std.specs.Prelude.{◌≡◌, ℕ, ◌+◌, ◌<◌, true, false, ◌==◌, nat_lt, if◌then◌else◌, List, [], ◌∷◌, length, pos, ◌-ℤ◌, ◌≤ℤ◌, sum_by}
-use Rattle.model.specs.Frames.{Frame, data_kind}
+use Rattle.std.specs.Prelude.{◌≡◌, ℕ, ◌+◌, ◌<◌, true, false, ◌==◌, nat_lt, if◌then◌else◌, List, [], ◌∷◌, length, ℤ, pos, ◌-ℤ◌, ◌≤ℤ◌, sum_by}
+use Rattle.model.specs.Frames.{Frame, data_kind, window_update_kind}
 use Rattle.model.specs.Logs.Event.{UpTook}
 use Rattle.model.specs.Setup.{Passing}
 use Rattle.model.specs.Setup.Passing.{Whole, Streaming}
-use Rattle.model.specs.Tapes.{Entry, sent_up, is_closed}
+use Rattle.model.specs.Tapes.{Entry, is_closed}
 use Rattle.model.specs.Tapes.Entry.{Came, Breached, Happened, Sent}
 use Rattle.model.specs.Windows.{first_window}
-use Rattle.model.specs.Openings.{Opened, opens}
+use Rattle.model.specs.Openings.{Opened, exchange_for, sent_for}
 use Rattle.model.specs.Known.{Known}
 use Rattle.model.specs.Lifetimes.{active, is_active, is_ended_by_client}
 use Rattle.model.specs.WindowsOnTape.{is_on, data_length, stream_window, connection_window, room_on, room_on_connection}
@@ -34,29 +34,28 @@ taken k [] = 0
 taken k (Happened (UpTook j count) ∷ t) = if k == j then taken k t + count else taken k t
 taken k (_ ∷ t) = taken k t
 
--- the connection of a stream, or 0
-abbrev pub connection_of : ℕ → List Opened → ℕ
-connection_of stream [] = 0
-connection_of stream (o ∷ os) = if o.stream == stream then o.k else connection_of stream os
+-- those of an exchange
+abbrev pub taken_of : Opened → List Entry → ℕ
+taken_of o t = taken o.k t
 
--- The octets of DATA on a stream behind which more had been put out for its connection than these that are taken. `put_out` is
--- how many were put out until the next thing came in, so that what a frame itself causes is data_length with it.
-abbrev pub waiting : ℕ → ℕ → ℕ → List Entry → ℕ → ℕ
-waiting stream k taken_now [] put_out = 0
-waiting stream k taken_now (Came noted ∷ t) put_out =
-    (if nat_lt taken_now put_out then data_length (is_on stream) noted.frame else 0) + waiting stream k taken_now t (length (sent_up k t))
-waiting stream k taken_now (Breached breach ∷ t) put_out = waiting stream k taken_now t (length (sent_up k t))
-waiting stream k taken_now (Happened event ∷ t) put_out = waiting stream k taken_now t (length (sent_up k t))
-waiting stream k taken_now (_ ∷ t) put_out = waiting stream k taken_now t put_out
+-- The octets of DATA on an exchange's stream behind which more had been put out for it than these that are taken. `put_out` is
+-- how many were put out until the next thing came in, so that what a frame itself causes is counted with it.
+abbrev pub waiting : Opened → ℕ → List Entry → ℕ → ℕ
+waiting o taken_now [] put_out = 0
+waiting o taken_now (Came noted ∷ t) put_out =
+    (if nat_lt taken_now put_out then data_length (is_on o.stream) noted.frame else 0) + waiting o taken_now t (length (sent_for o t))
+waiting o taken_now (Breached breach ∷ t) put_out = waiting o taken_now t (length (sent_for o t))
+waiting o taken_now (Happened event ∷ t) put_out = waiting o taken_now t (length (sent_for o t))
+waiting o taken_now (_ ∷ t) put_out = waiting o taken_now t put_out
 
-abbrev pub waiting_for : ℕ → ℕ → List Entry → ℕ
-waiting_for stream k t = waiting stream k (taken k t) t (length (sent_up k t))
+abbrev pub waiting_for : Opened → List Entry → ℕ
+waiting_for o t = waiting o (taken_of o t) t (length (sent_for o t))
 
 -- The octets of DATA that are kept for an active stream: none where requests are passed on whole; else those that its
 -- connection's side hasn't taken.
 abbrev pub kept : Passing → ℕ → List Entry → ℕ
 kept Whole stream t = 0
-kept Streaming stream t = waiting_for stream (connection_of stream (opens t)) t
+kept Streaming stream t = waiting_for (exchange_for stream t) t
 
 -- those kept for all active streams
 abbrev pub kept_in_all : Passing → List Entry → ℕ
@@ -68,6 +67,18 @@ pub record GivesBack (known : Known) (t : List Entry) : Type 0 where
   pub shared : room_on_connection t ≡ pos first_window -ℤ pos (kept_in_all known.setup.passing t)
   pub own : (stream : ℕ) → is_active stream t ≡ true → is_ended_by_client stream t ≡ false → room_on stream t ≡ pos first_window -ℤ pos (kept known.setup.passing stream t)
 
+-- how many octets of DATA may come on an id; 0 is that of the connection
+abbrev pub room_of : ℕ → List Entry → ℤ
+room_of id t = if id == 0 then room_on_connection t else room_on id t
+
+-- Nothing is given back that didn't come: behind each WINDOW_UPDATE there is no more room than at first.
+abbrev pub GivesNoMore : List Entry → Type 0
+GivesNoMore [] = Unit {0}
+GivesNoMore (Sent noted ∷ t) =
+    (noted.frame.kind ≡ window_update_kind → room_of noted.frame.id (Sent noted ∷ t) ≤ℤ pos first_window) × GivesNoMore t
+GivesNoMore (_ ∷ t) = GivesNoMore t
+
 pub record WindowsHold (known : Known) (t : List Entry) : Type 0 where
   pub keeps : KeepsWindows t
+  pub no_more : GivesNoMore t
   pub gives_back : is_closed t ≡ false → GivesBack known t

@@ -1,6 +1,6 @@
 -- Windows of flow control (RFC 9113, sections 5.2 and 6.9): how many octets of DATA may still be sent, or may still come.
 -- A window is below zero where its first size was lowered under what was already sent (section 6.9.2).
-use Rattle.std.specs.Prelude.{ℕ, ◌+◌, ℤ, pos, negsuc, ◌-ℤ◌, ◌≤ℤ◌, ◌<ℤ◌}
+use Rattle.std.specs.Prelude.{ℕ, ℤ, pos, negsuc, ◌+ℤ◌, ◌-ℤ◌, ◌≤ℤ◌, ◌<ℤ◌}
 
 -- the size with which each window begins, while no setting says otherwise (section 6.9.2)
 abbrev pub first_window : ℕ
@@ -23,10 +23,13 @@ pub record IsSize (size : ℤ) : Type 0 where
   pub above : IsAboveLeast size
   pub not_past : size ≤ℤ pos greatest_window
 
--- A sending window: the first size that the settings give it now, and what was granted since, without what was sent
--- (sections 6.9.1 and 6.9.2).
+-- what was granted, without what was sent (section 6.9.1)
+abbrev pub balance : ℕ → ℕ → ℤ
+balance granted sent = pos granted -ℤ pos sent
+
+-- A sending window: the first size that the settings give it now, and the balance since (section 6.9.2).
 abbrev pub sending_window : ℕ → ℕ → ℕ → ℤ
-sending_window first granted sent = pos (first + granted) -ℤ pos sent
+sending_window first granted sent = pos first +ℤ balance granted sent
 
 -- what a new first size adds to each stream's sending window, and takes where it is below zero (section 6.9.2)
 abbrev pub size_difference : ℕ → ℕ → ℤ

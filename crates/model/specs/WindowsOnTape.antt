@@ -1,13 +1,13 @@
 -- What a tape leaves of the windows of flow control (RFC 9113, sections 5.2, 6.5 and 6.9): the client's settings so far, the
 -- windows in which the gateway sends, and those in which it receives.
-use Rattle.std.specs.Prelude.{ℕ, ◌+◌, ◌%◌, Bool, true, not, ◌&&◌, ◌==◌, if◌then◌else◌, List, [], ◌∷◌, ◌++◌, length, is_none, ℤ, pos, int_lt, unwrap_or}
+use Rattle.std.specs.Prelude.{ℕ, ◌+◌, ◌%◌, Bool, true, not, ◌&&◌, ◌==◌, if◌then◌else◌, List, [], ◌∷◌, ◌++◌, length, is_none, ℤ, pos, ◌+ℤ◌, int_lt, unwrap_or}
 use Rattle.std.specs.List.{list_any}
 use Rattle.model.specs.Frames.{Frame, data_kind, settings_kind, window_update_kind, is_ack}
 use Rattle.model.specs.Tapes.{Noted, Entry, came, sent}
 use Rattle.model.specs.Tapes.Entry.{Came}
 use Rattle.model.specs.Payloads.{number_field}
 use Rattle.model.specs.SettingValues.{Setting, settings_in, settings_fault, header_table_size, last_value, initial_window_after}
-use Rattle.model.specs.Windows.{first_window, greatest_window, sending_window}
+use Rattle.model.specs.Windows.{first_window, greatest_window, balance, sending_window}
 use Rattle.model.specs.Tables.{first_maximum}
 use Rattle.model.specs.Lifetimes.{active}
 use Rattle.model.specs.FrameErrors.{frame_fault, sound}
@@ -41,10 +41,14 @@ is_any id = true
 
 -- ---- sending
 
--- A stream's sending window, where settings give this first size (section 6.9.2). An increment that passes the greatest size
--- ends its stream or the connection, whose window was above 0 without it; so it may stand in the sum.
+-- What was granted on a stream, without what was sent on it. An increment that passes the greatest size ends its stream or the
+-- connection, whose window was above 0 without it; so it may stand in the sum.
+abbrev pub balance_on : ℕ → List Entry → ℤ
+balance_on stream t = balance (increments stream (sound t)) (data_octets (is_on stream) (sent t))
+
+-- a stream's sending window, where settings give this first size (section 6.9.2)
 abbrev pub window_from : ℕ → ℕ → List Entry → ℤ
-window_from first stream t = sending_window first (increments stream (sound t)) (data_octets (is_on stream) (sent t))
+window_from first stream t = pos first +ℤ balance_on stream t
 
 -- the size is past the greatest (section 6.9.1)
 abbrev pub is_past : ℤ → Bool

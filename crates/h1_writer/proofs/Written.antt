@@ -51,6 +51,7 @@ length_frames n ended body fits is =
     record {
       lines = and_from (has_line (record { name = codes "content-length"; value = decimal n })) true (and_from true (is_value (decimal n)) refl value) refl;
       no_host = refl;
+      no_option = refl;
       not_kept = refl;
       framed = record { are_digits = some_from is_digit (decimal n) numeral.0.0 digits; has_length = is ∙ sym numeral.1; is = refl };
     }
@@ -154,4 +155,4 @@ chunked_read pieces p = record {
 
 -- chunks frame a body whose length isn't declared
 pub chunk_frames : (pieces : List (List ℕ)) → are_full pieces ≡ true → Frames (framing_of None false) (flat_map chunk_text pieces ++ last_chunk) (concat pieces)
-chunk_frames pieces p = record { lines = refl; no_host = refl; not_kept = refl; framed = (refl, chunked_read pieces p) }
+chunk_frames pieces p = record { lines = refl; no_host = refl; no_option = refl; not_kept = refl; framed = (refl, chunked_read pieces p) }

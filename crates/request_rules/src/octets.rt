@@ -3,8 +3,8 @@
 ghost use Rattle.std.specs.Prelude.{◌≡◌, ◌≤◌, ℕ, true, length, bytes_eq};
 ghost use Rattle.std.specs.Str.Parse.{digits_value};
 ghost use Rattle.std.specs.List.{list_all};
-ghost use Rattle.model.specs.Octets.{some_of, is_digit, is_token_octet, is_visible, is_space, is_value_octet, is_value, begins_with_space, ends_with_space, lower};
-ghost use Rattle.model.specs.Http2.{begins_with, is_name_octet, is_authority_octet, is_path_for};
+ghost use Rattle.model.specs.Octets.{begins_with, some_of, is_digit, is_token_octet, is_visible, is_space, is_value_octet, is_value, begins_with_space, ends_with_space, lower};
+ghost use Rattle.model.specs.Http2.{is_name_octet, is_authority_octet, is_path_for};
 
 /// Whether a token may hold the octet (RFC 9110, section 5.6.2).
 fn is_token_octet(octet: u8) -> bool

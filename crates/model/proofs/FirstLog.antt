@@ -8,7 +8,8 @@ use Rattle.model.specs.Frames.{Frame, Fits, Spells, Reading, BeginsNoFrame, pref
 use Rattle.model.specs.Integers.{IsShortInt, IsMarkedInt}
 use Rattle.model.specs.Tables.{first_table, static_table, look_up}
 use Rattle.model.specs.Blocks as blocks
-use Rattle.model.specs.Http1.{crlf, Line, H1Request, BeginsNoRequest, forward}
+use Rattle.model.specs.Http1 as http1
+use Rattle.model.specs.Http1.{crlf, Line, H1Request, BeginsNoRequest, forward, H1Head}
 use Rattle.model.specs.Http2.{WellFormedHead}
 use Rattle.model.specs.Logs.{Step}
 use Rattle.model.specs.Logs.Event.{Client}
@@ -170,31 +171,37 @@ well_formed = record {
 line : (name value : List ℕ) → some_of is_token_octet name ≡ true → is_value value ≡ true → Line (name ++ 58 ∷ (32 ∷ []) ++ value ++ [] ++ crlf) (field (lower name) value)
 line name value token good = record { name = name; before = 32 ∷ []; after = []; is = refl; is_token = token; space_before = refl; is_value = good; space_after = refl; is_named = refl }
 
+abbrev pub read_head : http1.Head
+read_head = record { method = codes "GET"; target = codes "/"; fields = field (codes "host") (codes "a") ∷ field (codes "via") (codes "2.0 h2gw") ∷ field (codes "connection") (codes "close") ∷ [] }
+
+pub has_read_head : H1Head text read_head
+has_read_head = record {
+  lines = codes "host: a\r\nvia: 2.0 h2gw\r\nconnection: close\r\n";
+  is = refl;
+  method = refl;
+  target = refl;
+  are_lines = (
+    codes "host: a\r\n",
+    codes "via: 2.0 h2gw\r\nconnection: close\r\n",
+    line (codes "host") (codes "a") refl refl,
+    refl,
+    (
+      codes "via: 2.0 h2gw\r\n",
+      codes "connection: close\r\n",
+      line (codes "via") (codes "2.0 h2gw") refl refl,
+      refl,
+      (codes "connection: close\r\n", [], line (codes "connection") (codes "close") refl refl, refl, refl),
+    ),
+  );
+}
+
 pub reads : H1Request text (forward request)
 reads = record {
-  head = record { method = codes "GET"; target = codes "/"; fields = field (codes "host") (codes "a") ∷ field (codes "via") (codes "2.0 h2gw") ∷ field (codes "connection") (codes "close") ∷ [] };
+  head = read_head;
   head_text = text;
   content = [];
   is = refl;
-  has_head = record {
-    lines = codes "host: a\r\nvia: 2.0 h2gw\r\nconnection: close\r\n";
-    is = refl;
-    method = refl;
-    target = refl;
-    are_lines = (
-      codes "host: a\r\n",
-      codes "via: 2.0 h2gw\r\nconnection: close\r\n",
-      line (codes "host") (codes "a") refl refl,
-      refl,
-      (
-        codes "via: 2.0 h2gw\r\n",
-        codes "connection: close\r\n",
-        line (codes "via") (codes "2.0 h2gw") refl refl,
-        refl,
-        (codes "connection: close\r\n", [], line (codes "connection") (codes "close") refl refl, refl, refl),
-      ),
-    );
-  };
+  has_head = has_read_head;
   method = refl;
   target = refl;
   authority = refl;

@@ -46,3 +46,6 @@ mod Refusals
 mod ResponseRefusals
 mod RequestRefusals
 mod TurnRefusals
+mod SendingRefusals
+mod ServingRefusals
+mod OfferRefusals

@@ -91,7 +91,7 @@ above_last known t noted block whole above none =
 
 -- ---- octets that the client didn't send
 
-abbrev five : List Field
+abbrev pub five : List Field
 five =
     field (codes ":method") (codes "POST")
     ∷ field (codes ":scheme") (codes "http")
@@ -100,10 +100,10 @@ five =
     ∷ field (codes "content-length") (codes "5")
     ∷ []
 
-abbrev five_text : List ℕ
+abbrev pub five_text : List ℕ
 five_text = codes "POST / HTTP/1.1\r\nhost: a\r\nvia: 2.0 h2gw\r\ncontent-length: 5\r\nconnection: close\r\n\r\n"
 
-abbrev five_head : Head
+abbrev pub five_head : Head
 five_head = record {
   method = codes "POST";
   target = codes "/";
@@ -113,7 +113,7 @@ five_head = record {
 line : (name value : List ℕ) → some_of is_token_octet name ≡ true → is_value value ≡ true → Line (name ++ 58 ∷ (32 ∷ []) ++ value ++ [] ++ crlf) (field (lower name) value)
 line name value token good = record { name = name; before = 32 ∷ []; after = []; is = refl; is_token = token; space_before = refl; is_value = good; space_after = refl; is_named = refl }
 
-has_five_head : H1Head five_text five_head
+pub has_five_head : H1Head five_text five_head
 has_five_head = record {
   lines = codes "host: a\r\nvia: 2.0 h2gw\r\ncontent-length: 5\r\nconnection: close\r\n";
   is = refl;

@@ -1,0 +1,97 @@
+-- Gateways that send what they shouldn't, or when they shouldn't: frames that no peer may have to read, octets given back that didn't
+-- come, what a frame brought held back until the next, acts before the event that causes them.
+use Rattle.std.proofs.Common.{◌≡◌, ℕ, ◌+◌, true, false, List, [], ◌∷◌, ◌++◌, length, length-append, refl, sym, ap, ◌∙◌, subst, inl, inr, arith}
+use Rattle.std.specs.Prelude.{pos, ◌≤ℤ◌, codes, replicate}
+use Rattle.std.proofs.lemmas.List.{append_cancel_left}
+use Rattle.model.specs.Tables.{total_size}
+use Rattle.model.specs.Http1.{Head, values_of}
+use Rattle.model.specs.Logs.{Step}
+use Rattle.model.specs.Logs.Event.{UpFailed}
+use Rattle.model.specs.Logs.Act.{Open, ToUp, Close}
+use Rattle.model.specs.Tapes.{Entry, IsStep}
+use Rattle.model.specs.Tapes.Entry.{Happened, Did}
+use Rattle.model.specs.Admission.{is_open}
+use Rattle.model.specs.Openings.{Opened, opens, sent_for}
+use Rattle.model.specs.Available.{IsIn}
+use Rattle.model.specs.ErrorClause.{ErrorsHold}
+use Rattle.model.specs.ProgressClause.{HasBody, HasCome, AllStreamed, ProgressHolds}
+use Rattle.model.specs.WindowClause.{WindowsHold}
+use Rattle.model.proofs.Http1Readings.{one_head}
+use Rattle.model.proofs.RowTapes.{by_whole, by_streaming, frame, plain, headed, out, out_headed, post, post_block, begun, getting, got, ok_two, update}
+use Rattle.model.proofs.RequestRefusals.{five, five_text, five_head, has_five_head}
+
+-- ---- frames that it may not send
+
+-- It fills the client's side with DATA without octets, until nothing is due any more.
+pub empty_data : ErrorsHold by_whole (out (frame 0 0 1 []) ∷ got) → ⊥
+unfolding total_size
+empty_data c = let clash : false ≡ true = c.rightly_sent.0 in cc
+
+-- It sends a header block's fragments without octets.
+pub empty_fragment : ErrorsHold by_whole (out (frame 9 0 1 []) ∷ out (frame 1 0 1 (136 ∷ [])) ∷ got) → ⊥
+unfolding total_size
+empty_fragment c = let clash : false ≡ true = c.rightly_sent.0 in cc
+
+-- It sends DATA with more padding than there is payload: a client has to end the connection.
+pub padded : ErrorsHold by_whole (out (frame 0 8 1 (9 ∷ 104 ∷ 105 ∷ [])) ∷ got) → ⊥
+unfolding total_size
+padded c = let clash : false ≡ true = c.rightly_sent.0 in cc
+
+-- It sends HEADERS with a priority: of the stream on itself, say.
+pub prioritized : ErrorsHold by_whole (out_headed (frame 1 36 1 (0 ∷ 0 ∷ 0 ∷ 1 ∷ 0 ∷ 136 ∷ [])) ok_two ∷ got) → ⊥
+unfolding total_size
+prioritized c = let clash : false ≡ true = c.rightly_sent.0 in cc
+
+-- It sends a flag that WINDOW_UPDATE doesn't have.
+pub unknown_flag : ErrorsHold by_whole (out (frame 8 1 0 (0 ∷ 0 ∷ 0 ∷ 5 ∷ [])) ∷ plain (frame 0 0 1 (codes "hello")) ∷ headed (frame 1 4 1 post_block) post ∷ begun) → ⊥
+unfolding total_size
+unknown_flag c = let clash : false ≡ true = c.rightly_sent.0 in cc
+
+-- It goes on with another response while the client has taken nothing of 65,572 octets.
+abbrev a_frame : Entry
+a_frame = out (frame 0 0 1 (replicate 16384 97))
+
+pub past_high_water : ErrorsHold by_whole (out_headed (frame 1 4 3 (136 ∷ [])) ok_two ∷ a_frame ∷ a_frame ∷ a_frame ∷ a_frame ∷ getting 2 3 got) → ⊥
+unfolding total_size
+past_high_water c = let clash : false ≡ true = c.rightly_sent.0 in cc
+
+-- ---- octets given back
+
+-- It gives a stream more than came on it, which ends in the same step.
+pub gives_too_much : WindowsHold by_whole (out (update 1 1000) ∷ plain (frame 0 0 1 (codes "hello")) ∷ headed (frame 1 4 1 post_block) post ∷ begun) → ⊥
+gives_too_much c = let clash : pos 66530 ≤ℤ pos 65535 = c.no_more.0 refl in omega (arith, clash)
+
+-- ---- what a frame brought, held back
+
+-- A request of five octets whose head was passed on, and three octets of whose body came.
+abbrev three_came : List Entry
+three_came = plain (frame 0 0 1 (codes "hel")) ∷ Did (ToUp 1 five_text) ∷ Did (Open 1 0) ∷ headed (frame 1 4 1 []) five ∷ begun
+
+head_alone : HasCome five_text (codes "hel") → ⊥
+head_alone h =
+    let same = one_head five_text h.head_text h.extra h.rest five_head h.head has_five_head h.has_head h.is in
+    let rest : h.extra ≡ h.rest = append_cancel_left h.head_text h.extra h.rest (ap (λ (x : List ℕ). x ++ h.extra) (sym same.0) ∙ h.is) in
+    let stands : HasBody (values_of (codes "content-length") five_head.fields) (values_of (codes "transfer-encoding") five_head.fields) h.rest (codes "hel") =
+    subst (λ (head : Head). HasBody (values_of (codes "content-length") head.fields) (values_of (codes "transfer-encoding") head.fields) h.rest (codes "hel")) (sym same.1) h.has_body in
+    let long : length h.rest ≡ 3 + length stands.rest = ap length stands.is ∙ length-append (codes "hel") stands.rest in
+    let same_length = ap length rest in
+    let one = h.one in
+    omega (arith, long, same_length, one)
+
+not_streamed : AllStreamed by_streaming three_came → ⊥
+unfolding total_size
+not_streamed all = let s = all refl 1 five refl refl refl in at s.o s.given.is_opened s.has_come
+  where
+    at : (o : Opened) → IsIn o (opens three_came) → (is_open o.k three_came ≡ true → HasCome (sent_for o three_came) (codes "hel")) → ⊥
+    at o (inl same) come = head_alone (subst (λ (p : Opened). is_open p.k three_came ≡ true → HasCome (sent_for p three_came) (codes "hel")) same come refl)
+    at o (inr none) come = none
+
+-- Two frames of DATA come in one piece, and what both bring is put out behind the second: octets would go back at once that nobody took.
+pub held_until_both : ProgressHolds by_streaming [] (Did (ToUp 1 (codes "hell")) ∷ plain (frame 0 0 1 (codes "lo")) ∷ three_came) → ⊥
+held_until_both c = not_streamed c.in_turn.0
+
+-- ---- acts before their event
+
+-- It closes a connection before the failure that it closes it for.
+pub closes_before : (step : Step) → IsStep step (Happened (UpFailed 1) ∷ Did (Close 1) ∷ []) → ⊥
+closes_before step s = let clash : Close 1 ∷ [] ≡ [] = s.acts_follow in cc

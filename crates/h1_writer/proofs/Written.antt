@@ -134,7 +134,7 @@ chunk_read piece some = record {
   is_not_last = some;
 }
 
-chunks_read : (pieces : List (List ℕ)) → are_full pieces ≡ true → Joined Chunk (flat_map chunk_text pieces) pieces
+pub chunks_read : (pieces : List (List ℕ)) → are_full pieces ≡ true → Joined Chunk (flat_map chunk_text pieces) pieces
 chunks_read [] p = refl
 chunks_read (piece ∷ pieces) p =
     let parts = and_parts (not (is_empty piece)) (are_full pieces) p in

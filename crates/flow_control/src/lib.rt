@@ -9,7 +9,8 @@ use std::marker::Model;
 /// The greatest size that a window may have (RFC 9113, section 6.9.1).
 const GREATEST: i64 = 2147483647;
 
-/// A window would pass 2,147,483,647, which is an error of its stream or of the connection (RFC 9113, section 6.9.1).
+/// A window would pass 2,147,483,647, which is an error of its stream or of the connection (RFC 9113, section 6.9.1), or fall
+/// below -2,147,483,647, which no frame of a peer brings about.
 #[derive(Clone, Copy, Debug, PartialEq, Eq)]
 pub struct Overflow;
 
@@ -63,14 +64,12 @@ impl Window {
         Ok(())
     }
 
-    /// Adds the difference that a changed setting makes, in octets, perhaps one below zero (RFC 9113, section 6.9.2). The
-    /// window stays above -2,147,483,648. `Overflow` comes just where it would pass 2,147,483,647, and leaves it as it
-    /// was.
+    /// Adds the difference that a changed setting makes, in octets, perhaps one below zero (RFC 9113, section 6.9.2).
+    /// `Overflow` comes just where the window would pass 2,147,483,647 or fall below -2,147,483,647, and leaves it as it was.
     pub fn shift(&mut self, difference: i64) -> Result<(), Overflow>
-        requires { IsAboveLeast (self.old +ℤ difference) }
         ensures ok { OnOk result (self.new ≡ self.old +ℤ difference) }
         ensures in_range { OnOk result (IsSize self.new) }
-        ensures refused { OnErr result (IsPast (self.old +ℤ difference)) }
+        ensures refused { OnErr result (IsSize (self.old +ℤ difference) → ⊥) }
         ensures unchanged { OnErr result (self.new ≡ self.old) }
     {
         self.size = sum_of(self.size, difference)?;
@@ -87,14 +86,17 @@ impl Window {
     }
 }
 
-/// The size of a window with so many octets more, where it isn't past the greatest.
+/// The size of a window with so many octets more, where that is a window's.
 fn sum_of(size: i64, difference: i64) -> Result<i64, Overflow>
-    requires size { IsSize size }
-    requires above { IsAboveLeast (size +ℤ difference) }
+    requires { IsSize size }
     ensures ok { IfOk result (λ sum. (sum ≡ size +ℤ difference) × IsSize sum) }
-    ensures refused { OnErr result (IsPast (size +ℤ difference)) }
+    ensures refused { OnErr result (IsSize (size +ℤ difference) → ⊥) }
+    ensures past { OnErr result (pos 0 ≤ℤ difference → IsPast (size +ℤ difference)) }
 {
     if difference > GREATEST - size {
+        return Err(Overflow);
+    }
+    if difference < -GREATEST - size {
         return Err(Overflow);
     }
     Ok(size + difference)

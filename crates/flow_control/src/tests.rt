@@ -34,3 +34,19 @@ fn windows_shift_below_zero(rt: HostRuntime) -> Result<(), Fail> {
     assert_eq!(rt; window.left(), 1);
     Ok(())
 }
+
+#[test]
+fn windows_end_at_the_least(rt: HostRuntime) -> Result<(), Fail> {
+    let mut window = Window::new(1);
+    assert_eq!(rt; window.shift(-2147483649), Err(Overflow));
+    assert_eq!(rt; window.left(), 1);
+    assert_eq!(rt; window.shift(i64::MIN), Err(Overflow));
+    assert_eq!(rt; window.shift(i64::MAX), Err(Overflow));
+    assert_eq!(rt; window.shift(-2147483648), Ok(()));
+    assert_eq!(rt; window.left(), -2147483647);
+    assert_eq!(rt; window.shift(-1), Err(Overflow));
+    assert_eq!(rt; window.shift(4294967295), Err(Overflow));
+    assert_eq!(rt; window.shift(4294967294), Ok(()));
+    assert_eq!(rt; window.left(), 2147483647);
+    Ok(())
+}

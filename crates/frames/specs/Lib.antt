@@ -2,3 +2,5 @@ pub mod Views
 pub mod Parsed
 pub use Rattle.model.specs.Frames
 pub use Rattle.model.specs.Payloads
+pub use Rattle.model.specs.WindowsOnTape
+pub use Rattle.model.specs.FrameErrors

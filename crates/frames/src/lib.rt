@@ -6,10 +6,13 @@ ghost use Rattle.std.specs.Prelude.{◌≡◌, ◌+◌, ◌<◌, ◌++◌, lengt
 ghost use Rattle.model.specs.Frames.{spell, Fits};
 ghost use Rattle.frames.specs.Views.{frame_of, IsSplit};
 
+mod flags;
+mod kinds;
 mod parts;
 mod payload;
 mod views;
 
+pub use flags::{ends_headers, ends_stream, has_settings, is_ack, is_misplaced};
 pub use parts::{Frame, FrameFault};
 pub use payload::parse;
 use std::alloc::AllocError;
@@ -89,6 +92,8 @@ fn header_of(view: &View<'_>) -> [u8; 9]
     ]
 }
 
+#[cfg(test)]
+mod flag_tests;
 #[cfg(test)]
 mod payload_tests;
 #[cfg(test)]

@@ -1,39 +1,18 @@
 //! What a frame's payload says.
 
 ghost use Rattle.std.specs.Prelude.{◌≡◌, ◌+◌, ◌<◌, ◌≤◌, length, IfOk, IfErr, Some, None};
-ghost use Rattle.model.specs.Frames.{has_flag, is_padded, content_offset, pad_length, content};
+ghost use Rattle.model.specs.Frames.{is_padded, content_offset, pad_length, content};
 ghost use Rattle.model.specs.Payloads.{is_sized, is_over_padded, payload_fault, parts_of, number_field};
 ghost use Rattle.frames.specs.Views.{frame_of};
-ghost use Rattle.frames.specs.Parsed.{parts_in, fault_of};
+ghost use Rattle.frames.specs.Parsed.{parts_in, fault_of, Says};
 
+use crate::flags::has_flag;
+use crate::kinds::{
+    ACK, CONTINUATION, DATA, GOAWAY, HEADERS, PADDED, PING, PRIORITY, PRIORITY_FLAG, RST_STREAM,
+    SETTINGS, WINDOW_UPDATE,
+};
 use crate::parts::{Frame, FrameFault};
 use crate::views::View;
-
-/// The types of frames (RFC 9113, section 6).
-const DATA: u8 = 0;
-
-const HEADERS: u8 = 1;
-
-const PRIORITY: u8 = 2;
-
-const RST_STREAM: u8 = 3;
-
-const SETTINGS: u8 = 4;
-
-const PING: u8 = 6;
-
-const GOAWAY: u8 = 7;
-
-const WINDOW_UPDATE: u8 = 8;
-
-const CONTINUATION: u8 = 9;
-
-/// The flags of frames (RFC 9113, section 6), each the value of its bit.
-const ACK: u8 = 1;
-
-const PADDED: u8 = 8;
-
-const PRIORITY_FLAG: u8 = 32;
 
 /// The lengths in octets of payloads and their parts (RFC 9113, section 6), that of GOAWAY without its debug data.
 const PAD_LENGTH: usize = 1;
@@ -50,12 +29,13 @@ const GOAWAY_LENGTH: usize = 8;
 
 /// What the frame's payload says, by its type and flags (RFC 9113, section 6), without padding, priority octets and
 /// reserved bits. Octets are slices of the payload. Flags that the type doesn't define are ignored, and what padding
-/// consists of isn't looked at.
+/// consists of isn't looked at. Each type of which the parts are used has its own variant, and all others have `Other`.
 ///
 /// `Size` comes just where the payload's length isn't one that the type and flags allow; else `Protocol` comes just where
 /// its padding is longer than what is left for it.
 pub fn parse(view: View<'_>) -> Result<Frame<'_>, FrameFault>
     ensures ok { IfOk result (λ frame. parts_in frame ≡ parts_of (frame_of view.entry)) }
+    ensures says { IfOk result (λ frame. Says frame (frame_of view.entry)) }
     ensures faultless { IfOk result (λ frame. payload_fault (frame_of view.entry) ≡ None) }
     ensures refused { IfErr result (λ fault. payload_fault (frame_of view.entry) ≡ Some (fault_of fault)) }
 {
@@ -95,7 +75,8 @@ fn is_over_padded(view: View<'_>) -> bool
 /// What the payload says, where it has no fault.
 fn parts_of(view: View<'_>) -> Frame<'_>
     requires { payload_fault (frame_of view) ≡ None }
-    ensures { parts_in result ≡ parts_of (frame_of view.entry) }
+    ensures parts { parts_in result ≡ parts_of (frame_of view.entry) }
+    ensures says { Says result (frame_of view.entry) }
 {
     match view.kind {
         DATA => Frame::Data(content(view)),
@@ -107,14 +88,6 @@ fn parts_of(view: View<'_>) -> Frame<'_>
         CONTINUATION => Frame::Continuation(view.payload),
         _ => Frame::Other,
     }
-}
-
-/// Whether a flag is set, by the value of its bit.
-fn has_flag(view: View<'_>, flag: u8) -> bool
-    requires { 0 < flag }
-    ensures { result ≡ has_flag flag (frame_of view.entry) }
-{
-    view.flags / flag % 2 == 1
 }
 
 /// Whether the frame begins with a pad length and ends with padding.

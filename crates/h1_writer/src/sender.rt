@@ -113,11 +113,13 @@ fn push_chunk(octets: &[u8], out: &mut Vec<u8>) -> Result<(), AllocError>
 
 impl Sender {
     /// Adds the head of a request, and answers what sends the rest; `ended` where the head ended its stream, so that
-    /// there is no body. Of a head that declares an empty body whose stream goes on, the last octet is held back. An
-    /// error is refused memory; nothing is added then.
+    /// there is no body: then, and only then, the text is whole. Of a head that declares an empty body whose stream goes
+    /// on, the last octet is held back. An error is refused memory; nothing is added then.
     pub fn start(head: &RequestHead, ended: bool, out: &mut Vec<u8>) -> Result<Self, AllocError>
         requires { ended ≡ true → HasLength head.now.length [] }
         ensures ok { IfOk result (λ sender. (written : List ℕ) × (out.new.items ≡ out.old.items ++ written) × Sending head.now ended written [] sender) }
+        ensures whole { IfOk result (λ sender. ended ≡ true → sender ≡ Whole) }
+        ensures goes_on { IfOk result (λ sender. ended ≡ false → sender ≡ Whole → ⊥) }
         ensures refused { OnErr result (out.new.items ≡ out.old.items) }
     {
         let mut text = Vec::new(*out.allocator());
@@ -128,10 +130,12 @@ impl Sender {
     }
 
     /// Adds octets of the body: as a chunk, or as they are where the length was declared, of which the last octet is held
-    /// back. An error is refused memory; nothing is added then, and the sender stays as it was.
+    /// back, so that the text isn't whole behind them. An error is refused memory; nothing is added then, and the sender
+    /// stays as it was.
     pub fn push(&mut self, octets: &[u8], out: &mut Vec<u8>) -> Result<(), AllocError>
         requires { MayPush self.old (length octets.now) }
         ensures ok { OnOk result ((written : List ℕ) × (out.new.items ≡ out.old.items ++ written) × Continues self.old written octets.now self.new) }
+        ensures goes_on { self.new ≡ Whole → ⊥ }
         ensures refused { OnErr result ((out.new.items ≡ out.old.items) × (self.new ≡ self.old)) }
     {
         let [front @ .., last] = octets else {

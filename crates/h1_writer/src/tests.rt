@@ -282,8 +282,9 @@ fn requests_of_heads_alone(rt: HostRuntime) -> Result<(), Fail> {
         let head = head_of(rt.alloc(), &rt, row.0, true)?;
         let mut out = Vec::new(rt.alloc());
         assert!(rt; matches!(head.length(), None | Some(0)));
-        let _sender = Sender::start(&head, true, &mut out)?;
+        let sender = Sender::start(&head, true, &mut out)?;
         assert_eq!(rt; out.as_slice(), row.1, "row {place}");
+        assert!(rt; !sender.may_push(0) && !sender.may_finish());
     }
     Ok(())
 }

@@ -3,3 +3,5 @@ pub mod FieldLists
 pub mod Numbers
 pub mod RuleTests
 pub mod Cookies
+pub mod MalformedTests
+pub mod Counts

@@ -2,6 +2,7 @@
 
 ghost use Rattle.std.specs.Prelude.{◌≡◌, [], OnOk, IfErr};
 ghost use Rattle.model.specs.Http2.{HasLength};
+ghost use Rattle.model.specs.Malformed.{is_within, has_length};
 ghost use Rattle.request_rules.specs.Counts.{MayCome, left_after};
 
 use crate::rule::Rule;
@@ -27,6 +28,23 @@ impl BodyCount {
         ensures { result ≡ declared }
     {
         BodyCount { left: declared }
+    }
+
+    /// Whether so many octets may come. Nothing is counted.
+    pub fn may_come(&self, octets: u64) -> bool
+        ensures { result ≡ is_within self.now octets }
+    {
+        match self.left {
+            None => true,
+            Some(left) => octets <= left,
+        }
+    }
+
+    /// Whether the body may end here, since no octets are to come that were declared.
+    pub fn may_end(&self) -> bool
+        ensures { result ≡ has_length self.now 0 }
+    {
+        matches!(self.left, None | Some(0))
     }
 
     /// Counts octets that came. The error `Length` comes just where they are more than may come; the count stays then.

@@ -1,7 +1,8 @@
 //! The first rule that is broken.
 
-ghost use Rattle.std.specs.Prelude.{◌≡◌, ℕ, true, false, [], MatchBool, MatchOption, take, IfOk, OnOk, IfErr};
+ghost use Rattle.std.specs.Prelude.{◌≡◌, ℕ, true, false, [], MatchBool, MatchOption, take, IfOk, OnOk, IfErr, OnErr};
 ghost use Rattle.model.specs.Http2.{LengthFieldHolds, HasLength, declared_length, is_connect, WellFormedHead, WellFormedTrailers};
+ghost use Rattle.model.specs.Malformed.{is_malformed_block, are_trailers};
 ghost use Rattle.request_rules.specs.Heads.{parts_of, IsRequestHead};
 ghost use Rattle.request_rules.specs.Rules.{IsFirstBroken, IsFirstBrokenByTrailers, Keeps, in_order};
 
@@ -80,6 +81,11 @@ pub fn check_head(alloc: Global, head: &[Field], ended: bool) -> Result<RequestH
     ensures request { IfOk result (λ parts. is_connect head.now ≡ false → IsRequestHead parts) }
     ensures kept { OnOk result (WellFormedHead head.now × (ended ≡ true → HasLength (declared_length head.now) [])) }
     ensures refused { IfErr result (λ rule. IsFirstBroken rule head.now ended) }
+
+    // The same by the test of a stream's first block.
+    ensures passes { OnOk result (is_malformed_block [] head.now ended ≡ false) }
+    ensures malformed { IfErr result (λ rule. (rule ≡ Rule.Memory → ⊥) → is_malformed_block [] head.now ended ≡ true) }
+    ensures memory { IfErr result (λ rule. rule ≡ Rule.Memory → is_malformed_block [] head.now ended ≡ false) }
 {
     if let Some(rule) = first_broken(head, ended) {
         return Err(rule);
@@ -95,18 +101,32 @@ pub fn check_head(alloc: Global, head: &[Field], ended: bool) -> Result<RequestH
 pub fn check_trailers(trailers: &[Field]) -> Result<(), Rule>
     ensures ok { OnOk result (WellFormedTrailers trailers.now) }
     ensures refused { IfErr result (λ rule. IsFirstBrokenByTrailers rule trailers.now) }
+
+    // The same by the test of trailers.
+    ensures passes { OnOk result (are_trailers trailers.now ≡ true) }
+    ensures malformed { OnErr result (are_trailers trailers.now ≡ false) }
+{
+    match first_broken_by_trailers(trailers) {
+        None => Ok(()),
+        Some(rule) => Err(rule),
+    }
+}
+
+/// The first rule that trailers break.
+fn first_broken_by_trailers(trailers: &[Field]) -> Option<Rule>
+    ensures { MatchOption result (WellFormedTrailers trailers.now) (λ rule. IsFirstBrokenByTrailers rule trailers.now) }
 {
     if !rules::has_no_pseudo_field(trailers) {
-        return Err(Rule::PseudoField);
+        return Some(Rule::PseudoField);
     }
     if !rules::names_hold(trailers) {
-        return Err(Rule::Name);
+        return Some(Rule::Name);
     }
     if !rules::values_hold(trailers) {
-        return Err(Rule::Value);
+        return Some(Rule::Value);
     }
     if !rules::has_no_connection_field(trailers) {
-        return Err(Rule::ConnectionField);
+        return Some(Rule::ConnectionField);
     }
-    Ok(())
+    None
 }

@@ -170,12 +170,17 @@ fn trailers_are_checked(rt: HostRuntime) -> Result<(), Fail> {
 #[test]
 fn a_body_is_counted(rt: HostRuntime) {
     let mut count = BodyCount::new(Some(3));
+    assert!(rt; count.may_come(3) && !count.may_come(4));
     assert_eq!(rt; count.add(2), Ok(()));
     assert_eq!(rt; count.add(2), Err(Rule::Length));
+    assert!(rt; count.may_come(1) && !count.may_come(2));
+    assert!(rt; !count.may_end());
     assert_eq!(rt; count.finish(), Err(Rule::Length));
     assert_eq!(rt; count.add(1), Ok(()));
+    assert!(rt; count.may_end() && !count.may_come(1));
     assert_eq!(rt; count.finish(), Ok(()));
     let mut any = BodyCount::new(None);
+    assert!(rt; any.may_come(u64::MAX) && any.may_end());
     assert_eq!(rt; any.add(u64::MAX), Ok(()));
     assert_eq!(rt; any.finish(), Ok(()));
 }

@@ -2,7 +2,7 @@
 #![tactic(auto)]
 
 ghost use Rattle.std.specs.Prelude.{◌≡◌, ◌≤◌, Some, None, IfOk, IfErr, OnOk, OnErr};
-ghost use Rattle.model.specs.Windows.{greatest_window};
+ghost use Rattle.model.specs.Windows.{greatest_window, IsSize, size_difference};
 ghost use Rattle.model.specs.SettingValues.{settings_in, settings_fault};
 
 mod entries;
@@ -42,6 +42,15 @@ pub struct Change {
     pub last: Option<u32>,
 }
 
+/// What a SETTINGS frame leaves if it is accepted.
+#[derive(Clone, Copy, Debug, PartialEq, Eq)]
+pub struct Checked {
+    /// The first size of windows behind the frame, in octets, of at most 2,147,483,647.
+    pub initial_window: u32,
+    /// What the frame changes.
+    pub change: Change,
+}
+
 /// The peer's settings, seen as the first size of windows, which alone has to be kept.
 #[derive(Debug, Drop)]
 pub struct Settings {
@@ -73,16 +82,20 @@ impl Default for Settings {
 impl Settings {
     ghost use Rattle.settings.specs.Views.{fault_of, IsChange};
 
-    /// Applies the entries of a SETTINGS payload in order, and says what they change (RFC 9113, sections 6.5.2 and 6.5.3).
-    /// Identifiers that aren't known are ignored.
+    /// Judges the entries of a SETTINGS payload in order, and says what they would change, while nothing changes yet (RFC
+    /// 9113, sections 6.5.2 and 6.5.3). Identifiers that aren't known are ignored. So a caller can see whether the windows
+    /// of its streams allow the difference, before it calls `accept`.
     ///
     /// `Size` comes just where the length isn't a multiple of six, whatever the entries say; else the first entry with a
-    /// fault decides. A refusal changes nothing.
-    pub fn apply(&mut self, payload: &[u8]) -> Result<Change, SettingFault>
-        ensures ok { IfOk result (λ change. IsChange self.old self.new (settings_in payload.now) change) }
+    /// fault decides.
+    pub fn check(&self, payload: &[u8]) -> Result<Checked, SettingFault>
+        ensures ok { IfOk result (λ checked. IsChange self.now checked.initial_window (settings_in payload.now) checked.change) }
         ensures faultless { OnOk result (settings_fault payload.now ≡ None) }
+        ensures in_range { IfOk result (λ checked. checked.initial_window ≤ greatest_window) }
+
+        // So a window, which is such a size too, can be shifted by it without a sum that wraps.
+        ensures small { IfOk result (λ checked. IsSize checked.change.difference) }
         ensures refused { IfErr result (λ fault. settings_fault payload.now ≡ Some (fault_of fault)) }
-        ensures unchanged { OnErr result (self.new ≡ self.old) }
     {
         if payload.len() % ENTRY != 0 {
             return Err(SettingFault::Size);
@@ -92,12 +105,41 @@ impl Settings {
         }
         let values = values_in(payload);
         let before = self.initial_window;
-        self.initial_window = values.initial_window.unwrap_or(before);
-        Ok(Change {
-            difference: i64::from(self.initial_window) - i64::from(before),
+        let initial_window = values.initial_window.unwrap_or(before);
+        let change = Change {
+            difference: difference_of(before, initial_window),
             smallest: values.smallest_table,
             last: values.last_table,
+        };
+        Ok(Checked {
+            initial_window,
+            change,
         })
+    }
+
+    /// Takes over what `check` answered: windows begin with its first size from now on (RFC 9113, section 6.5.3).
+    pub fn accept(&mut self, checked: Checked)
+        requires { checked.initial_window ≤ greatest_window }
+        ensures { self.new ≡ checked.initial_window }
+    {
+        self.initial_window = checked.initial_window;
+    }
+
+    /// Applies the entries of a SETTINGS payload in order, and says what they change, as `check` and `accept` do one after
+    /// the other (RFC 9113, sections 6.5.2 and 6.5.3).
+    ///
+    /// `Size` comes just where the length isn't a multiple of six, whatever the entries say; else the first entry with a
+    /// fault decides. A refusal changes nothing.
+    pub fn apply(&mut self, payload: &[u8]) -> Result<Change, SettingFault>
+        ensures ok { IfOk result (λ change. IsChange self.old self.new (settings_in payload.now) change) }
+        ensures faultless { OnOk result (settings_fault payload.now ≡ None) }
+        ensures small { IfOk result (λ change. IsSize change.difference) }
+        ensures refused { IfErr result (λ fault. settings_fault payload.now ≡ Some (fault_of fault)) }
+        ensures unchanged { OnErr result (self.new ≡ self.old) }
+    {
+        let checked = self.check(payload)?;
+        self.accept(checked);
+        Ok(checked.change)
     }
 
     /// The first size of the windows of streams as it is now, in octets (RFC 9113, section 6.5.2).
@@ -108,4 +150,14 @@ impl Settings {
         let Settings { initial_window } = self;
         *initial_window
     }
+}
+
+/// How much more windows begin with behind a change, in octets, perhaps below zero.
+fn difference_of(before: u32, after: u32) -> i64
+    requires before { before ≤ greatest_window }
+    requires after { after ≤ greatest_window }
+    ensures is { result ≡ size_difference before after }
+    ensures small { IsSize result }
+{
+    i64::from(after) - i64::from(before)
 }

@@ -72,3 +72,30 @@ fn passes_over_other_settings(rt: HostRuntime) -> Result<(), Fail> {
     assert_eq!(rt; settings.apply(&[]), Ok(nothing));
     Ok(())
 }
+
+#[test]
+fn checks_before_it_accepts(rt: HostRuntime) -> Result<(), Fail> {
+    let mut settings = Settings::default();
+    let greatest = [0u8, 4, 0x7f, 0xff, 0xff, 0xff, 0, 1, 0, 0, 0, 7];
+    let change = Change {
+        difference: 2147418112,
+        smallest: Some(7),
+        last: Some(7),
+    };
+    let checked = Checked {
+        initial_window: 2147483647,
+        change,
+    };
+    assert_eq!(rt; settings.check(&greatest), Ok(checked));
+    assert_eq!(rt; settings.initial_window(), 65535);
+    settings.accept(checked);
+    assert_eq!(rt; settings.initial_window(), 2147483647);
+    let none = [0u8, 4, 0, 0, 0, 0];
+    let least = settings
+        .check(&none)
+        .map(|checked| checked.change.difference);
+    assert_eq!(rt; least, Ok(-2147483647));
+    assert_eq!(rt; settings.check(&none[..5]), Err(SettingFault::Size));
+    assert_eq!(rt; settings.initial_window(), 2147483647);
+    Ok(())
+}

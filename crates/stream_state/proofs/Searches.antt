@@ -1,6 +1,6 @@
 -- What a search finds among records whose ids rise.
-use Rattle.std.proofs.Common.{◌≡◌, ℕ, zero, suc, ◌<◌, ◌≤◌, ◌≢◌, List, [], ◌∷◌, length, get_or, true, false, Bool, Some, None, Result, Ok, Err, IfOk, IfErr, refl, sym, ap, ◌∙◌, inl, inr, arith}
-use Rattle.std.specs.Prelude.{Option, ◌==◌, if◌then◌else◌}
+use Rattle.std.proofs.Common.{◌≡◌, ℕ, zero, suc, ◌-◌, ◌<◌, ◌≤◌, ◌≢◌, List, [], ◌∷◌, length, get_or, map, true, false, Bool, Some, None, Result, Ok, Err, IfOk, IfErr, refl, sym, ap, ◌∙◌, subst, inl, inr, arith}
+use Rattle.std.specs.Prelude.{Option, ◌==◌, if◌then◌else◌, max, fold}
 use Rattle.std.proofs.lemmas.List.{get_or_default, length-map}
 use Rattle.std.proofs.lemmas.Bool.{cases_lt}
 use Rattle.std.specs.List.Sorted.{IsSearchInRange, IsBinarySearchResult, IsNonDecreasingBy}
@@ -11,7 +11,7 @@ use Rattle.std.proofs.lemmas.Bool.Decides.{nat_tests}
 use Rattle.model.specs.StreamStates.{StreamState, Standing, state_of, is_above, opened_or, unopened, standing, most_streams}
 use Rattle.model.specs.StreamStates.Standing.{WholeConnection, Opened}
 use Rattle.stream_state.specs.declared.records.Record.{Record}
-use Rattle.stream_state.specs.Views.{state_in}
+use Rattle.stream_state.specs.Views.{state_in, highest_in}
 use Rattle.stream_state.specs.Records.{stream_in, streams_in, absent, id_at, IsRising, IsAt, IsGap}
 
 module _ (rs : List Record) (rising : IsRising rs) (id : ℕ) where
@@ -102,3 +102,16 @@ standing_in_gap rs id place ne gap =
     let above = above_in_gap rs id place gap in
     let count = length-map rs stream_in in
     rw (← above, ← count) (sym (unopened_case (id == 0) (state_of id (streams_in rs)) (unopened (is_above id (streams_in rs)) (length (streams_in rs) == most_streams) id) (not_zero id ne) (state_in_gap rs id place gap)))
+
+-- the greatest of rising ids from a least number on is the last of them
+highest_from : (r : Record) (rs : List Record) (least : ℕ) → IsRising (r ∷ rs) → least ≤ r.id → fold max least (map (λ stream. stream.id) (streams_in (r ∷ rs))) ≡ id_at (r ∷ rs) (length rs)
+highest_from r [] least rising le = grind (arith, nat_tests)
+highest_from r (s ∷ rs) least rising le =
+    let above : r.id ≡ max least r.id = grind (arith, nat_tests) in
+    let up : r.id < s.id = rising 0 1 (omega arith) (omega arith) in
+    let rest = highest_from s rs r.id (λ i j lt within. rising (suc i) (suc j) (omega arith) (omega arith)) (omega arith) in
+    subst (λ (n : ℕ). fold max n (map (λ stream. stream.id) (streams_in (s ∷ rs))) ≡ id_at (s ∷ rs) (length rs)) above rest
+
+pub highest_is_last : (rs : List Record) → IsRising rs → 0 < length rs → id_at rs (length rs - 1) ≡ highest_in (streams_in rs)
+highest_is_last [] rising some = absurd (omega arith)
+highest_is_last (r ∷ rs) rising some = let last : length (r ∷ rs) - 1 ≡ length rs = omega arith in rw last (sym (highest_from r rs 0 rising (omega arith)))

@@ -1,5 +1,6 @@
 pub use Rattle.model.specs.StreamStates
 pub use Rattle.model.specs.Errors
 pub use Rattle.model.specs.Frames
+pub use Rattle.model.specs.ErrorTable
 pub mod Views
 pub mod Records

@@ -1,5 +1,5 @@
 -- States, kinds and verdicts in words of the definitions.
-use Rattle.std.specs.Prelude.{◌≡◌, ℕ, ◌<◌, IsTrue, if◌then◌else◌, List, length}
+use Rattle.std.specs.Prelude.{◌≡◌, ℕ, ◌<◌, IsTrue, if◌then◌else◌, max, List, length, map, fold}
 use Rattle.model.specs.Errors.{Fault}
 use Rattle.model.specs.Frames.{data_kind, headers_kind, rst_stream_kind, window_update_kind, refused_stream}
 use Rattle.model.specs.StreamStates.{StreamState, is_active, Change, OpenedStream, is_above, most_streams, Standing, Verdict}
@@ -9,8 +9,8 @@ use Rattle.stream_state.specs.declared.states.Step.{Step}
 use Rattle.stream_state.specs.declared.states.Step.TheVariants as step
 use Rattle.stream_state.specs.declared.verdicts.Kind.{Kind}
 use Rattle.stream_state.specs.declared.verdicts.Kind.TheVariants as kind
-use Rattle.stream_state.specs.declared.verdicts.Place.{Place}
-use Rattle.stream_state.specs.declared.verdicts.Place.TheVariants as place
+use Rattle.stream_state.specs.declared.verdicts.Standing.{Standing as Found}
+use Rattle.stream_state.specs.declared.verdicts.Standing.TheVariants as found
 use Rattle.stream_state.specs.declared.verdicts.Verdict.{Verdict as Answer}
 use Rattle.stream_state.specs.declared.verdicts.Verdict.TheVariants as answer
 
@@ -41,14 +41,14 @@ kind_in kind.Headers = headers_kind
 kind_in kind.RstStream = rst_stream_kind
 kind_in kind.WindowUpdate = window_update_kind
 
--- a place, as the standing of its id
-abbrev pub standing_in : Place → Standing
-standing_in place.WholeConnection = Standing.WholeConnection
-standing_in (place.Opened state) = Standing.Opened (state_in state)
-standing_in place.Idle = Standing.Idle
-standing_in place.ServerIdle = Standing.ServerIdle
-standing_in place.Skipped = Standing.Skipped
-standing_in place.Beyond = Standing.Beyond
+-- a standing
+abbrev pub standing_in : Found → Standing
+standing_in found.WholeConnection = Standing.WholeConnection
+standing_in (found.Opened state) = Standing.Opened (state_in state)
+standing_in found.Idle = Standing.Idle
+standing_in found.ServerIdle = Standing.ServerIdle
+standing_in found.Skipped = Standing.Skipped
+standing_in found.Beyond = Standing.Beyond
 
 -- an answer
 abbrev pub verdict_in : Answer → Verdict
@@ -57,6 +57,10 @@ verdict_in answer.Open = Verdict.Opens
 verdict_in answer.Discard = Verdict.Fails Fault.Discarded
 verdict_in (answer.Stream code) = Verdict.Fails (Fault.Stream code)
 verdict_in (answer.Connection code) = Verdict.Fails (Fault.Connection code)
+
+-- the highest id of these streams, or 0
+abbrev pub highest_in : List OpenedStream → ℕ
+highest_in streams = fold max 0 (map (λ stream. stream.id) streams)
 
 -- A stream with this id may be opened: it is above all that were, and these aren't all that are opened on a connection.
 pub record IsOpenable (id : ℕ) (streams : List OpenedStream) : Type 0 where

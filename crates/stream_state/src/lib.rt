@@ -1,7 +1,7 @@
 //! Which streams were opened, in which states they are, and what that says of a frame (RFC 9113, section 5.1).
 #![tactic(auto)]
 
-ghost use Rattle.std.specs.Prelude.{◌≡◌, ◌≤◌, [], ◌∷◌, ◌++◌, OnOk, OnErr};
+ghost use Rattle.std.specs.Prelude.{◌≡◌, ◌≤◌, [], ◌∷◌, ◌++◌, length, OnOk, OnErr};
 ghost use Rattle.model.specs.StreamStates.{StreamState, standing, verdict, active_count, changed, is_above, most_streams};
 ghost use Rattle.model.specs.StreamStates.Change.{RemoteEnds, LocalEnds, PeerResets, WeReset};
 
@@ -11,10 +11,11 @@ mod states;
 mod tests;
 mod verdicts;
 
-use crate::records::{Record, place_of};
-use crate::states::{State, Step, count_after};
-use crate::verdicts::{Place, unopened_place, verdict_at};
-pub use crate::verdicts::{Kind, Verdict};
+use crate::records::{Record, highest_id, place_of};
+pub use crate::states::State;
+use crate::states::{Step, count_after};
+pub use crate::verdicts::{Kind, Standing, Verdict};
+use crate::verdicts::{unopened_standing, verdict_at};
 use std::alloc::{AllocError, Global};
 use std::marker::Model;
 
@@ -41,7 +42,7 @@ impl Model for Streams {
 }
 
 impl Streams {
-    ghost use Rattle.stream_state.specs.Views.{change_in, kind_in, standing_in, verdict_in, IsOpenable, AllowsOpening};
+    ghost use Rattle.stream_state.specs.Views.{change_in, kind_in, standing_in, verdict_in, highest_in, IsOpenable, AllowsOpening};
 
     /// A connection on which no stream was opened.
     pub fn new(alloc: Global) -> Self
@@ -62,8 +63,26 @@ impl Streams {
         ensures is { verdict_in result ≡ verdict (active_count self.now) (standing self.now id) (kind_in kind) }
         ensures allows { AllowsOpening result id self.now }
     {
-        let place = self.place(id);
-        verdict_at(self.active, place, kind)
+        let standing = self.standing(id);
+        verdict_at(self.active, standing, kind)
+    }
+
+    /// How an id stands to the streams that were opened (RFC 9113, sections 5.1 and 5.1.1): so an idle stream is told apart
+    /// from one that is closed. An id above that of the 10,000th stream is beyond the last that a GOAWAY with NO_ERROR
+    /// named (RFC 9113, section 6.8).
+    pub fn standing(&self, id: u32) -> Standing
+        ensures { standing_in result ≡ standing self.now id }
+    {
+        if id == 0 {
+            return Standing::WholeConnection;
+        }
+        match place_of(&self.records, id) {
+            Ok(place) => Standing::Opened(self.records[place].state),
+            Err(place) => {
+                let count = self.records.len();
+                unopened_standing(id, place == count, count == MOST_STREAMS)
+            }
+        }
     }
 
     /// Opens a stream (RFC 9113, section 5.1): its id is added, and is active. It is odd and above all that were opened, of
@@ -120,20 +139,19 @@ impl Streams {
         *active
     }
 
-    /// How an id stands to the streams that were opened.
-    fn place(&self, id: u32) -> Place
-        ensures { standing_in result ≡ standing self.now id }
+    /// How many streams were opened, whatever became of them (RFC 9113, section 5.1); at most 10,000.
+    pub fn count(&self) -> u32
+        ensures is { result ≡ length self.now }
+        ensures few { result ≤ most_streams }
     {
-        if id == 0 {
-            return Place::WholeConnection;
-        }
-        match place_of(&self.records, id) {
-            Ok(place) => Place::Opened(self.records[place].state),
-            Err(place) => {
-                let count = self.records.len();
-                unopened_place(id, place == count, count == MOST_STREAMS)
-            }
-        }
+        self.records.len() as u32
+    }
+
+    /// The highest id of a stream that was opened, or 0 where none was: it is what a GOAWAY names (RFC 9113, section 6.8).
+    pub fn highest(&self) -> u32
+        ensures { result ≡ highest_in self.now }
+    {
+        highest_id(&self.records)
     }
 
     /// Changes the state of the stream with this id, if it was opened.

@@ -32,7 +32,7 @@ impl State {
     ghost use Rattle.model.specs.StreamStates.{is_active, after};
     ghost use Rattle.stream_state.specs.Views.{state_in, change_in};
 
-    /// Whether neither a reset nor both ends have closed the stream.
+    /// Whether neither a reset nor both ends have closed the stream (RFC 9113, section 5.1).
     pub fn is_active(self) -> bool
         ensures { result ≡ is_active (state_in self) }
     {
@@ -43,7 +43,7 @@ impl State {
     }
 
     /// The state behind a step; a closed stream stays as it is, and so does a side that has ended.
-    pub fn after(self, step: Step) -> State
+    pub(crate) fn after(self, step: Step) -> State
         ensures { state_in result ≡ after (change_in step) (state_in self) }
     {
         if !self.is_active() {

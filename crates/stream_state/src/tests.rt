@@ -113,6 +113,8 @@ fn the_last_of_ten_thousand(rt: HostRuntime) -> Result<(), Fail> {
         streams.end_remote(2 * place + 1);
     }
     assert_eq!(rt; streams.active(), 0);
+    assert_eq!(rt; streams.count(), 10000);
+    assert_eq!(rt; streams.standing(20001), Standing::Beyond);
     assert_eq!(rt;
         verdicts(&streams, 19999),
         [CLOSED, CLOSED, DISCARD, DISCARD]
@@ -129,5 +131,48 @@ fn the_last_of_ten_thousand(rt: HostRuntime) -> Result<(), Fail> {
         verdicts(&streams, 19998),
         [PROTOCOL, PROTOCOL, PROTOCOL, PROTOCOL]
     );
+    Ok(())
+}
+
+#[test]
+fn standings(rt: HostRuntime) -> Result<(), Fail> {
+    let mut streams = Streams::new(rt.alloc());
+    assert_eq!(rt; streams.standing(1), Standing::Idle);
+    assert!(rt; open_if_idle(&mut streams, 3)?);
+    assert!(rt; open_if_idle(&mut streams, 7)?);
+    streams.reset_by_us(3);
+    let expected = [
+        Standing::WholeConnection,
+        Standing::Skipped,
+        Standing::ServerIdle,
+        Standing::Opened(State::ResetByUs),
+        Standing::ServerIdle,
+        Standing::Skipped,
+        Standing::ServerIdle,
+        Standing::Opened(State::Open),
+        Standing::ServerIdle,
+        Standing::Idle,
+    ];
+    for id in 0u32..10 {
+        let standing = streams.standing(id);
+        assert_eq!(rt; standing, expected[id as usize]);
+        assert_eq!(rt; standing.is_idle(), [2, 4, 6, 8, 9].contains(&id));
+    }
+    assert!(rt; State::HalfClosedLocal.is_active());
+    assert!(rt; !State::ResetByUs.is_active());
+    Ok(())
+}
+
+#[test]
+fn the_highest_and_how_many(rt: HostRuntime) -> Result<(), Fail> {
+    let mut streams = Streams::new(rt.alloc());
+    assert_eq!(rt; streams.highest(), 0);
+    assert_eq!(rt; streams.count(), 0);
+    assert!(rt; open_if_idle(&mut streams, 5)?);
+    assert!(rt; open_if_idle(&mut streams, 2147483647)?);
+    streams.reset_by_peer(2147483647);
+    assert_eq!(rt; streams.highest(), 2147483647);
+    assert_eq!(rt; streams.count(), 2);
+    assert_eq!(rt; streams.active(), 1);
     Ok(())
 }

@@ -42,7 +42,7 @@ pub enum Verdict {
 
 /// How an id stands to the streams that were opened.
 #[derive(Clone, Copy, Debug, PartialEq, Eq)]
-pub enum Place {
+pub enum Standing {
     /// It is 0, that of the whole connection.
     WholeConnection,
     /// Its stream was opened.
@@ -51,26 +51,43 @@ pub enum Place {
     Idle,
     /// It is even, so a server alone might open it.
     ServerIdle,
-    /// It wasn't opened before one above it was.
+    /// It wasn't opened before one above it was, so that it is closed.
     Skipped,
     /// It is above the last id that a GOAWAY named.
     Beyond,
 }
 
-/// The verdict on a frame by the place of its id, where so many streams are active.
-pub fn verdict_at(active: u32, place: Place, kind: Kind) -> Verdict
-    ensures { verdict_in result ≡ verdict active (standing_in place) (kind_in kind) }
+impl Standing {
+    ghost use Rattle.model.specs.ErrorTable.{is_idle};
+
+    /// Whether the stream is idle, to the client or to a server: it wasn't opened, and isn't closed (RFC 9113, section 5.1).
+    pub fn is_idle(self) -> bool
+        ensures { result ≡ is_idle (standing_in self) }
+    {
+        match self {
+            Standing::Idle | Standing::ServerIdle => true,
+            Standing::WholeConnection
+            | Standing::Opened(_)
+            | Standing::Skipped
+            | Standing::Beyond => false,
+        }
+    }
+}
+
+/// The verdict on a frame by the standing of its id, where so many streams are active.
+pub fn verdict_at(active: u32, standing: Standing, kind: Kind) -> Verdict
+    ensures { verdict_in result ≡ verdict active (standing_in standing) (kind_in kind) }
 {
-    match place {
-        Place::WholeConnection => match kind {
+    match standing {
+        Standing::WholeConnection => match kind {
             Kind::Headers => Verdict::Connection(PROTOCOL_ERROR),
             _ => Verdict::Pass,
         },
-        Place::Opened(state) => opened_verdict(state, kind),
-        Place::Idle => idle_verdict(active, kind),
-        Place::ServerIdle => Verdict::Connection(PROTOCOL_ERROR),
-        Place::Skipped => skipped_verdict(kind),
-        Place::Beyond => Verdict::Discard,
+        Standing::Opened(state) => opened_verdict(state, kind),
+        Standing::Idle => idle_verdict(active, kind),
+        Standing::ServerIdle => Verdict::Connection(PROTOCOL_ERROR),
+        Standing::Skipped => skipped_verdict(kind),
+        Standing::Beyond => Verdict::Discard,
     }
 }
 
@@ -110,17 +127,17 @@ fn skipped_verdict(kind: Kind) -> Verdict
     }
 }
 
-/// The place of an id that wasn't opened: whether it is above every opened one, and whether all streams were opened.
-pub fn unopened_place(id: u32, above: bool, full: bool) -> Place
+/// The standing of an id that wasn't opened: whether it is above every opened one, and whether all streams were opened.
+pub fn unopened_standing(id: u32, above: bool, full: bool) -> Standing
     ensures { standing_in result ≡ unopened above full id }
 {
     if above && full {
-        Place::Beyond
+        Standing::Beyond
     } else if id % 2 == 0 {
-        Place::ServerIdle
+        Standing::ServerIdle
     } else if above {
-        Place::Idle
+        Standing::Idle
     } else {
-        Place::Skipped
+        Standing::Skipped
     }
 }

@@ -1,6 +1,6 @@
 use Rattle.stream_state.proofs.Searches.{standing_at, standing_in_gap}
 use Rattle.std.proofs.Common.{◌∙◌}
-use Rattle.stream_state.proofs.Streams.place.Goals as goal
+use Rattle.stream_state.proofs.Streams.standing.Goals as goal
 
 pub returns-in-Ok : goal.returns-in-Ok
 returns-in-Ok c =
@@ -8,4 +8,4 @@ returns-in-Ok c =
 
 pub returns-in-Err : goal.returns-in-Err
 returns-in-Err c =
-    rw (← c.self.view_is) (c.unopened_place.ensures ∙ rw (c.len-count.ensures, ← c.deref.ensures.len, c.deref.ensures.value) (standing_in_gap c.self.inside.records.items c.args.id c.in-Err.place c.if-id-eq0.false (rw (← c.deref.ensures.value) c.in-Err.ensures.absent)))
+    rw (← c.self.view_is) (c.unopened_standing.ensures ∙ rw (c.len-count.ensures, ← c.deref.ensures.len, c.deref.ensures.value) (standing_in_gap c.self.inside.records.items c.args.id c.in-Err.place c.if-id-eq0.false (rw (← c.deref.ensures.value) c.in-Err.ensures.absent)))

@@ -1,0 +1,32 @@
+//! The types of frames and their flags (RFC 9113, section 6).
+
+pub const DATA: u8 = 0;
+
+pub const HEADERS: u8 = 1;
+
+pub const PRIORITY: u8 = 2;
+
+pub const RST_STREAM: u8 = 3;
+
+pub const SETTINGS: u8 = 4;
+
+pub const PUSH_PROMISE: u8 = 5;
+
+pub const PING: u8 = 6;
+
+pub const GOAWAY: u8 = 7;
+
+pub const WINDOW_UPDATE: u8 = 8;
+
+pub const CONTINUATION: u8 = 9;
+
+/// The flags, each the value of its bit.
+pub const ACK: u8 = 1;
+
+pub const END_STREAM: u8 = 1;
+
+pub const END_HEADERS: u8 = 4;
+
+pub const PADDED: u8 = 8;
+
+pub const PRIORITY_FLAG: u8 = 32;

@@ -43,7 +43,7 @@ fn fields_at(alloc: Global, text: &[u8], lines: &[HeaderSpan]) -> Result<Vec<Fie
     requires { All (IsHeaderWithin (length text.now)) lines.now }
     ensures { IfOk result (λ fields. fields.items ≡ map (field_from text.now) lines.now) }
 {
-    let mut fields = Vec::new(alloc);
+    let mut fields = Vec::with_capacity(alloc, lines.len())?;
     for line in lines {
         fields.push(field_at(alloc, text, *line)?)?;
     }
@@ -94,13 +94,16 @@ fn take_head(
         return Err(ResponseFault::Upgrade);
     }
     let all = fields_at(alloc, text, &spans[..found.headers])?;
-    let passed = fields::passed_back(alloc, found.code, &all)?;
-    let head = ResponseHead::new(found.code, passed);
     if found.code < 200 {
+        let passed = fields::passed_back(alloc, found.code, all)?;
+        let head = ResponseHead::new(found.code, passed);
         return Ok(HeadRead::Interim(head, found.len));
     }
-    match framing_of(to_head, found.version, found.code, &all) {
-        Ok(framing) => Ok(HeadRead::Final(head, framing, found.len)),
-        Err(fault) => Err(fault),
-    }
+    let framing = match framing_of(to_head, found.version, found.code, &all) {
+        Ok(framing) => framing,
+        Err(fault) => return Err(fault),
+    };
+    let passed = fields::passed_back(alloc, found.code, all)?;
+    let head = ResponseHead::new(found.code, passed);
+    Ok(HeadRead::Final(head, framing, found.len))
 }

@@ -38,7 +38,7 @@ pub chunk_grouped : (line octets past : List ℕ) → (line ++ octets ++ crlf) +
 chunk_grouped line octets past = simp (append_assoc, cons-append)
 
 -- chunks of one text are those of the other, where none begins what follows them
-not_chunked : (front behind rest body : List ℕ) (chunks : List (List ℕ)) → Joined IsChunk front chunks → NoBody behind → front ++ behind ≡ rest → Chunked rest body → ⊥
+pub not_chunked : (front behind rest body : List ℕ) (chunks : List (List ℕ)) → Joined IsChunk front chunks → NoBody behind → front ++ behind ≡ rest → Chunked rest body → ⊥
 not_chunked front behind rest body chunks joined none e q =
     let whole : front ++ behind ≡ q.front ++ (q.line ++ (q.trailers ++ q.past)) = e ∙ q.is ∙ last_grouped q.front q.line q.trailers q.past in
     let fronts = one_joined IsChunk one_response_chunk front q.front behind (q.line ++ (q.trailers ++ q.past)) chunks q.chunks joined q.are_chunks
@@ -56,13 +56,6 @@ chunked_short ended to_head behind next text parts c none whole =
     let same = one_front to_head b.front p.front b.head_text p.head_text (c.front ++ behind) p.rest b.interims whole.0.interims b.head whole.0.head IsChunks p.framing
     b.are_interims p.are_interims b.is_final p.is_final (sym b.is ∙ p.is) in
     not_chunked c.front behind p.rest whole.0.body c.chunks c.are_chunks none same.final.rest (in_chunks p.framing ended p.rest whole.0.body same.final.framing p.body)
-
--- nor becomes so
-chunked_breaks : (to_head : Bool) (behind next text xs : List ℕ) (parts : List Part) → InChunked to_head behind next text parts → ((more : List ℕ) → NoBody ((behind ++ xs) ++ more))
-    → IsSpoilt (text ++ xs) to_head
-chunked_breaks to_head behind next text xs parts c none more ended whole =
-    chunked_short ended to_head ((behind ++ xs) ++ more) next ((text ++ xs) ++ more) parts
-    (chunked_on to_head (behind ++ xs) next (text ++ xs) more parts (chunked_on to_head behind next text xs parts c)) (none more) whole
 
 -- ---- what stands at each place is no body
 
@@ -132,53 +125,6 @@ end_body_none to_head end text parts few b =
 
 pub held_no_body : (to_head : Bool) (held text : List ℕ) (parts : List Part) (b : InTrailers to_head held text parts) → NoBody (b.line ++ held)
 held_no_body to_head held text parts b = trailers_no_body b.line held b.is_last (no_trailers_there held b.no_trailers)
-
--- ---- octets that break a body
-
-pub breaks_line : (old : State) (line : LinePlace) (octet : ℕ) → old.place ≡ Line line → ((text : List ℕ) → IsLinePart line text → NeverLine (text ++ octet ∷ [])) → Breaks old (octet ∷ [])
-breaks_line old line octet e never text before s =
-    let b = at (Line line) old text before e s in
-    chunked_breaks old.to_head b.behind [] text (octet ∷ []) before b.chunked
-    (λ more. no_line_body ((b.behind ++ octet ∷ []) ++ more) (λ other past size l i. never b.behind b.is_part more other past size l i))
-
-end_grouped : (line next end : List ℕ) (octet : ℕ) (more : List ℕ) → ((line ++ next ++ end) ++ octet ∷ []) ++ more ≡ line ++ (next ++ (end ++ octet ∷ more))
-end_grouped line next end octet more = simp (append_assoc, cons-append)
-
-end_breaks : (old : State) (end : List ℕ) (octet : ℕ) (text : List ℕ) (before : List Part) → BehindChunk old.to_head end text before
-    → ((more past : List ℕ) → end ++ octet ∷ more ≡ 13 ∷ (10 ∷ past) → ⊥) → IsSpoilt (text ++ octet ∷ []) old.to_head
-end_breaks old end octet text before b none =
-    chunked_breaks old.to_head (b.line ++ b.next ++ end) b.next text (octet ∷ []) before b.chunked
-    (λ more. subst NoBody (sym (end_grouped b.line b.next end octet more)) (end_no_body b.line b.next (end ++ octet ∷ more) b.is_line b.some (λ past e. none more past e)))
-
-pub breaks_return : (old : State) (octet : ℕ) → old.place ≡ ChunkEnd → (octet ≡ 13 → ⊥) → Breaks old (octet ∷ [])
-breaks_return old octet e other text before s =
-    end_breaks old [] octet text before (at ChunkEnd old text before e s) (λ more past i. let same : octet ≡ 13 = cc in other same)
-
-pub breaks_feed : (old : State) (octet : ℕ) → old.place ≡ ChunkReturn → (octet ≡ 10 → ⊥) → Breaks old (octet ∷ [])
-breaks_feed old octet e other text before s =
-    end_breaks old (13 ∷ []) octet text before (at ChunkReturn old text before e s) (λ more past i. let same : octet ≡ 10 = cc in other same)
-
-held_grouped : (line held xs more : List ℕ) → ((line ++ held) ++ xs) ++ more ≡ line ++ ((held ++ xs) ++ more)
-held_grouped line held xs more = simp append_assoc
-
-pub breaks_trailers : (old : State) (xs : List ℕ) → old.place ≡ Trailers → NeverTrailers (old.held ++ xs) → Breaks old xs
-breaks_trailers old xs e never text before s =
-    let b = at Trailers old text before e s in
-    chunked_breaks old.to_head (b.line ++ old.held) [] text xs before b.chunked
-    (λ more. subst NoBody (sym (held_grouped b.line old.held xs more)) (trailers_no_body b.line ((old.held ++ xs) ++ more) b.is_last (λ trailers past are i. never more trailers past i are)))
-
--- what breaks with the first octets breaks with all
-pub breaks_longer : (old : State) (xs ys : List ℕ) → Breaks old xs → Breaks old (xs ++ ys)
-breaks_longer old xs ys h text before s more ended whole =
-    h text before s (ys ++ more) ended
-    (subst (λ (o : List ℕ). IsComplete o ended old.to_head) (ap (λ (o : List ℕ). o ++ more) (sym (append_assoc text xs ys)) ∙ append_assoc (text ++ xs) ys more) whole)
-
--- so where the first octet breaks
-pub first_breaks : (old : State) (octets : List ℕ) (result : Result ℕ ResponseFault) → 0 < length octets → OnErr result (Breaks old (get_or octets 0 0 ∷ []))
-    → IfErr result (λ fault. fault ≢ Memory → Breaks old octets)
-first_breaks old octets (Ok used) some h = tt
-first_breaks old [] (Err fault) some h = absurd (omega arith)
-first_breaks old (octet ∷ octets) (Err fault) some h = λ _. breaks_longer old (octet ∷ []) octets h
 
 -- ---- no response is whole at these places
 

@@ -1,11 +1,12 @@
 -- Lists of fields read field by field.
-use Rattle.std.proofs.Common.{suc, ◌≡◌, ℕ, ◌+◌, ◌<◌, Bool, true, false, List, [], ◌∷◌, ◌++◌, length, take, get_or, filter, append_assoc, refl, sym, ap, ◌∙◌, inl, inr, add-one, arith}
+use Rattle.std.proofs.Common.{suc, ◌≡◌, ℕ, ◌+◌, ◌<◌, ◌≤◌, Bool, true, false, List, [], ◌∷◌, ◌++◌, length, take, get_or, filter, append_assoc, refl, sym, ap, ◌∙◌, inl, inr, add-one, arith}
 use Rattle.std.specs.Prelude.{not, ◌&&◌, ◌||◌, bytes_eq, codes, count_by, if◌then◌else◌}
-use Rattle.std.specs.List.{list_all, list_any}
+use Rattle.std.specs.List.{list_all, list_any, flat_map}
 use Rattle.std.proofs.lemmas.Bool.{cases_Bool, cond-true, cond-false}
 use Rattle.std.proofs.lemmas.List.Folds.{list_any-append}
 use Rattle.std.proofs.lemmas.List.Elements.{filter-append}
 use Rattle.std.proofs.lemmas.List.Sums.{length-filter}
+use Rattle.std.proofs.lemmas.Grind.{flat_map-append}
 use Rattle.std.proofs.lemmas.List.{append-nil}
 use Rattle.std.proofs.Math.Seq.{take-suc}
 use Rattle.model.specs.Messages.{Field}
@@ -141,3 +142,61 @@ dropped_to name begun out fields i x found kept is was test fails more =
     let decided : not (is_of name x && list_any (is_of name) (take i fields)) ≡ false = ap (λ t. not (bytes_eq x.name name && t)) (sym was) ∙ sym test ∙ fails in
     let step : with_one name (take i fields ++ x ∷ []) ≡ with_one name (take i fields) = with_one_more name (take i fields) x false decided ∙ append-nil (with_one name (take i fields)) in
     is ∙ ap (λ (o : List Field). begun ++ o) (sym step) ∙ ap (λ (o : List Field). begun ++ with_one name o) (sym more)
+
+-- ---- the fields Connection
+
+values_append : (name : List ℕ) (xs ys : List Field) → values_of name (xs ++ ys) ≡ values_of name xs ++ values_of name ys
+values_append name [] ys = refl
+values_append name (x ∷ xs) ys = by (bytes_eq x.name name) (values_append name xs ys)
+  where
+    by : (b : Bool) → values_of name (xs ++ ys) ≡ values_of name xs ++ values_of name ys
+        → (if b then x.value ∷ values_of name (xs ++ ys) else values_of name (xs ++ ys)) ≡ (if b then x.value ∷ values_of name xs else values_of name xs) ++ values_of name ys
+    by true e = ap (λ (o : List (List ℕ)). x.value ∷ o) e
+    by false e = e
+
+named_append : (xs ys : List Field) → named_by_connection (xs ++ ys) ≡ named_by_connection xs ++ named_by_connection ys
+named_append xs ys = ap (flat_map names_in) (values_append (codes "connection") xs ys) ∙ flat_map-append names_in (values_of (codes "connection") xs) (values_of (codes "connection") ys)
+
+-- one field more among all, and among those that were found
+pub named_more : (found all : List Field) (y x : Field) → y ≡ x → named_by_connection found ≡ named_by_connection all → named_by_connection (found ++ y ∷ []) ≡ named_by_connection (all ++ x ∷ [])
+named_more found all y x same e =
+    named_append found (y ∷ []) ∙ ap (λ (o : List (List ℕ)). o ++ named_by_connection (y ∷ [])) e ∙ ap (λ (f : Field). named_by_connection all ++ named_by_connection (f ∷ [])) same
+    ∙ sym (named_append all (x ∷ []))
+
+-- a field of another name names nothing
+pub named_none : (found all : List Field) (x : Field) → bytes_eq x.name (codes "connection") ≡ false → named_by_connection found ≡ named_by_connection all → named_by_connection found ≡ named_by_connection (all ++ x ∷ [])
+named_none found all x other e =
+    let nothing : values_of (codes "connection") (x ∷ []) ≡ [] = cond-false (bytes_eq x.name (codes "connection")) (x.value ∷ []) [] other in
+    e ∙ sym (append-nil (named_by_connection all)) ∙ ap (λ (o : List (List ℕ)). named_by_connection all ++ flat_map names_in o) (sym nothing) ∙ sym (named_append all (x ∷ []))
+
+-- ---- one field of a name
+
+none_left : (name : List ℕ) (xs : List Field) → length (values_of name xs) ≡ 0 → without (name ∷ []) xs ≡ xs
+none_left name [] e = refl
+none_left name (x ∷ xs) e = elim (cases_Bool (bytes_eq x.name name)) [
+  | inl p ↦ (
+      let there : values_of name (x ∷ xs) ≡ x.value ∷ values_of name xs = cond-true (bytes_eq x.name name) (x.value ∷ values_of name xs) (values_of name xs) p in
+      let sizes : length (values_of name (x ∷ xs)) ≡ length (x.value ∷ values_of name xs) = ap length there in
+      absurd (omega arith)
+      )
+  | inr p ↦ (
+      let there : values_of name (x ∷ xs) ≡ values_of name xs = cond-false (bytes_eq x.name name) (x.value ∷ values_of name xs) (values_of name xs) p in
+      rw p (ap (λ (o : List Field). x ∷ o) (none_left name xs (sym (ap length there) ∙ e)))
+      )
+]
+
+-- all fields are kept where no second one has the name
+pub one_alone : (name : List ℕ) (xs : List Field) → length (values_of name xs) ≤ 1 → with_one name xs ≡ xs
+one_alone name [] few = refl
+one_alone name (x ∷ xs) few = elim (cases_Bool (bytes_eq x.name name)) [
+  | inl p ↦ (
+      let there : values_of name (x ∷ xs) ≡ x.value ∷ values_of name xs = cond-true (bytes_eq x.name name) (x.value ∷ values_of name xs) (values_of name xs) p in
+      let sizes : length (values_of name (x ∷ xs)) ≡ length (x.value ∷ values_of name xs) = ap length there in
+      cond-true (bytes_eq x.name name) (x ∷ without (name ∷ []) xs) (x ∷ with_one name xs) p ∙ ap (λ (o : List Field). x ∷ o) (none_left name xs (omega arith))
+      )
+  | inr p ↦ (
+      let there : values_of name (x ∷ xs) ≡ values_of name xs = cond-false (bytes_eq x.name name) (x.value ∷ values_of name xs) (values_of name xs) p in
+      let sizes : length (values_of name (x ∷ xs)) ≡ length (values_of name xs) = ap length there in
+      cond-false (bytes_eq x.name name) (x ∷ without (name ∷ []) xs) (x ∷ with_one name xs) p ∙ ap (λ (o : List Field). x ∷ o) (one_alone name xs (omega arith))
+      )
+]

@@ -128,20 +128,3 @@ ends_there octets text taken used k few whole fits p =
     let all : used - 0 ≡ used = omega arith in
     let within : used - 0 ≤ length octets = ends.fits in
     record { more = ends.more; fits = omega arith; is = ends.is ∙ ap (λ n. take n octets) all }
-
--- the text with no more octets than a head may have
-pub too_long : (to_head : Bool) (held octets text : List ℕ) (before taken : ℕ) → before ≡ length held → before ≤ 16384 → taken ≤ length octets → taken ≡ 16384 - before
-    → text ≡ held ++ take taken octets → HasNoResponse text → HasNoHead to_head (held ++ octets)
-too_long to_head held octets text before taken is low few all whole none =
-    let lengths : length (held ++ take taken octets) ≡ length held + length (take taken octets) = length-append held (take taken octets) in
-    let counted : length (take taken octets) ≡ taken = length-take-le taken octets few in
-    let long : 16384 ≤ length text = rw whole (omega arith) in
-    let cut : text ++ drop taken octets ≡ held ++ octets =
-    ap (λ (o : List ℕ). o ++ drop taken octets) whole ∙ append_assoc held (take taken octets) (drop taken octets) ∙ ap (λ (o : List ℕ). held ++ o) (take-append-drop taken octets) in
-    subst (λ (o : List ℕ). HasNoHead to_head o) cut (none_so_long to_head text (drop taken octets) none long)
-
-pub none_behind : (to_head : Bool) (held octets text : List ℕ) (taken : ℕ) → text ≡ held ++ take taken octets → HasNoHead to_head text → HasNoHead to_head (held ++ octets)
-none_behind to_head held octets text taken whole none =
-    let cut : text ++ drop taken octets ≡ held ++ octets =
-    ap (λ (o : List ℕ). o ++ drop taken octets) whole ∙ append_assoc held (take taken octets) (drop taken octets) ∙ ap (λ (o : List ℕ). held ++ o) (take-append-drop taken octets) in
-    subst (λ (o : List ℕ). HasNoHead to_head o) cut (none_longer to_head text (drop taken octets) none)

@@ -16,25 +16,11 @@ use Rattle.model.proofs.ResponseHeadReadings.{Spelled, spelled_reads}
 use Rattle.h1_reader.specs.Heads.{field_from, HasNoHead}
 use Rattle.h1_reader.proofs.Values.{head_values}
 
--- a head that stands at the front is the one that any head at the front of more octets is
-pub same_spelled : (text more front past rest : List ℕ) (h k : grammar.ResponseHead) → ReadsResponse text h rest → text ++ more ≡ front ++ past → Spelled front k → h ≡ k
-same_spelled text more front past rest h k p e q =
-    (response_unique (text ++ more) h k (rest ++ more) past (ReadsResponse-append text h rest more p) (subst (λ (t : List ℕ). ReadsResponse t k past) (sym e) (spelled_reads front past k q))).0
-
 pub none_taken : (to_head : Bool) (text : List ℕ) → ((more front past : List ℕ) (k : grammar.ResponseHead) → text ++ more ≡ front ++ past → IsTaken front k → ⊥) → HasNoHead to_head text
 none_taken to_head text none = record {
   no_interim = λ more front past head e p. none more front past p.spelled e p.taken;
   no_final = λ more front past head framing e p. none more front past p.spelled e p.taken;
 }
-
--- a head with too many fields for the room isn't taken
-pub overflowing : (to_head : Bool) (room : ℕ) (text : List ℕ) → 100 ≤ room → ResponseOverflows room text → HasNoHead to_head text
-overflowing to_head room text h over =
-    none_taken to_head text (λ more front past k e p.
-    let reads : ReadsResponse (text ++ more) k past = subst (λ (t : List ℕ). ReadsResponse t k past) (sym e) (spelled_reads front past k p.reads) in
-    let many : room < length k.fields = over more k past reads in
-    let few : length k.fields ≤ 100 = p.has_few in
-    absurd (omega arith))
 
 map_map : (f : List ℕ × List ℕ → Field) (g : HeaderSpan → List ℕ × List ℕ) (xs : List HeaderSpan) → map f (map g xs) ≡ map (λ x. f (g x)) xs
 map_map f g [] = refl
@@ -72,52 +58,6 @@ front_is text spans found h at = (
   at.reads.0,
   ap (take found.len) at.reads.1 ∙ ap (λ n. take n (print_response h ++ drop found.len text)) at.len ∙ take-append_seam (print_response h) (drop found.len text) ∙ sym (append-nil (print_response h)),
 )
-
-pub too_many : (to_head : Bool) (text : List ℕ) (spans : List HeaderSpan) (found : ResponseSpans) → IsResponseWithin text spans found → IsResponseOf text spans found → 100 < found.headers → HasNoHead to_head text
-too_many to_head text spans found within of many =
-    none_taken to_head text (λ more front past k e p.
-    let same = same_spelled text more front past (drop found.len text) of.0 k of.1.reads e p.reads in
-    let count : found.headers ≡ length of.0.fields = count_is text spans found.headers of.0.fields within.section.count_fits of.1.fields in
-    let lengths : length of.0.fields ≡ length k.fields = ap (λ (s : grammar.ResponseHead). length s.fields) same in
-    let few : length k.fields ≤ 100 = p.has_few in
-    absurd (omega arith))
-
-pub too_low : (to_head : Bool) (text : List ℕ) (spans : List HeaderSpan) (found : ResponseSpans) → IsResponseOf text spans found → found.code < 100 → HasNoHead to_head text
-too_low to_head text spans found of low =
-    none_taken to_head text (λ more front past k e p.
-    let same = same_spelled text more front past (drop found.len text) of.0 k of.1.reads e p.reads in
-    let code : found.code ≡ status_code of.0 = of.1.code in
-    let codes : status_code of.0 ≡ status_code k = ap status_code same in
-    let high : 100 ≤ status_code k = p.has_class in
-    absurd (omega arith))
-
-pub upgrades : (to_head : Bool) (text : List ℕ) (spans : List HeaderSpan) (found : ResponseSpans) → IsResponseOf text spans found → found.code ≡ 101 → HasNoHead to_head text
-upgrades to_head text spans found of is =
-    none_taken to_head text (λ more front past k e p.
-    let same = same_spelled text more front past (drop found.len text) of.0 k of.1.reads e p.reads in
-    absurd (p.no_upgrade (sym (ap status_code same) ∙ sym of.1.code ∙ is)))
-
-none_some : (f : Framing) → ◌≡◌ {A = Option Framing} None (Some f) → ⊥
-none_some f e = cc
-
-pub unframed : (to_head : Bool) (text : List ℕ) (spans : List HeaderSpan) (found : ResponseSpans) (fields : List Field) → IsResponseOf text spans found
-    → fields ≡ map (field_from text) (take found.headers spans) → 200 ≤ found.code → framing_for to_head found.version found.code fields ≡ None → HasNoHead to_head text
-unframed to_head text spans found fields of is high none =
-    let lines = is ∙ meant_at text spans found.headers of.0.fields of.1.fields in
-    let code : found.code ≡ status_code of.0 = of.1.code in
-    record {
-      no_interim = λ more front past head e p.
-          let same = same_spelled text more front past (drop found.len text) of.0 p.spelled of.1.reads e p.taken.reads in
-          let codes : status_code of.0 ≡ status_code p.spelled = ap status_code same in
-          let low : status_code p.spelled < 200 = p.is_interim in
-          absurd (omega arith);
-      no_final = λ more front past head framing e p.
-          let same = same_spelled text more front past (drop found.len text) of.0 p.spelled of.1.reads e p.taken.reads in
-          let here : framing_of to_head of.0 ≡ None =
-          sym (ap (λ (fs : List Field). framing_for to_head of.0.minor (status_code of.0) fs) lines) ∙ ap (λ n. framing_for to_head of.0.minor n fields) (sym code)
-          ∙ ap (λ n. framing_for to_head n found.code fields) (sym of.1.version) ∙ none in
-          absurd (none_some framing (sym here ∙ ap (framing_of to_head) same ∙ p.framed));
-    }
 
 -- a head that passes all tests is taken: the grammar lets no other octet into a value
 pub taken : (text : List ℕ) (spans : List HeaderSpan) (found : ResponseSpans) → (of : IsResponseOf text spans found) → IsResponseWithin text spans found

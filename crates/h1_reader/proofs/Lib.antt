@@ -14,3 +14,9 @@ pub mod Telling
 pub mod Noticed
 pub mod Hopes
 pub mod HeadSizeLemmas
+pub mod Rooms
+pub mod FaultReads
+pub mod FaultSteps
+pub mod FaultLaws
+pub mod OneFault
+pub mod ToldLaws

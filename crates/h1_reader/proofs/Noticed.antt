@@ -83,7 +83,7 @@ final_not_bad to_head before head_text rest head framing final (inr (inr r)) =
 -- ---- chunks
 
 -- no chunk begins what can't be continued
-chunk_begins_none : (text : List ℕ) → IsBadChunk text → BeginsNone IsChunk text
+pub chunk_begins_none : (text : List ℕ) → IsBadChunk text → BeginsNone IsChunk text
 chunk_begins_none text (inl n) = (no_line_body text (λ line past size l e. n.begins_none line past size l e)).no_chunk
 chunk_begins_none text (inr (inl b)) =
     let none = end_no_body b.line b.octets b.end b.has_line b.is_not_last (λ more e. b.is_no_end (record { rest = more; is = e })) in

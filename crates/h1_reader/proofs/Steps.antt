@@ -261,46 +261,6 @@ final_step old count xs text before head framing p b =
       told = ap (λ (o : List Part). o ++ Final head ∷ []) b.told;
     }
 
--- ---- faults
-
-whole_text : (text front held xs more : List ℕ) → text ≡ front ++ held → (text ++ xs) ++ more ≡ front ++ ((held ++ xs) ++ more)
-whole_text text front held xs more e =
-    ap (λ (o : List ℕ). (o ++ xs) ++ more) e ∙ ap (λ (o : List ℕ). o ++ more) (append_assoc front held xs) ∙ append_assoc front (held ++ xs) more
-
-pub breaks_head : (old : State) (count : ℕ) (xs : List ℕ) → old.place ≡ Head count → HasNoHead old.to_head (old.held ++ xs) → Breaks old xs
-breaks_head old count xs e none text before s more ended whole =
-    let b = at (Head count) old text before e s in
-    let r = whole.0 in
-    let p = whole.1 in
-    let parts : b.front ++ ((old.held ++ xs) ++ more) ≡ p.front ++ (p.head_text ++ p.rest) =
-    sym (whole_text text b.front old.held xs more b.is) ∙ p.is ∙ append_assoc p.front p.head_text p.rest in
-    let fronts = one_joined model.Interim one_interim b.front p.front ((old.held ++ xs) ++ more) (p.head_text ++ p.rest) b.interims r.interims b.are_interims p.are_interims
-    (λ front past head q f. none.no_interim more front past head f q) (none_at_final old.to_head p.head_text p.rest r.head p.framing p.is_final) parts in
-    none.no_final more p.head_text p.rest r.head p.framing (same_rest b.front p.front ((old.held ++ xs) ++ more) (p.head_text ++ p.rest) fronts.0 parts) p.is_final
-
-cut_text : (front held xs more : List ℕ) (used : ℕ) → front ++ ((held ++ xs) ++ more) ≡ (front ++ (held ++ take used xs)) ++ (drop used xs ++ more)
-cut_text front held xs more used =
-    let cut : xs ≡ take used xs ++ drop used xs = sym (take-append-drop used xs) in
-    ap (λ (o : List ℕ). front ++ ((held ++ o) ++ more)) cut
-    ∙ ap (λ (o : List ℕ). front ++ (o ++ more)) (sym (append_assoc held (take used xs) (drop used xs)))
-    ∙ ap (λ (o : List ℕ). front ++ o) (append_assoc (held ++ take used xs) (drop used xs) more)
-    ∙ sym (append_assoc front (held ++ take used xs) (drop used xs ++ more))
-
-pub breaks_ninth : (old : State) (count used : ℕ) (xs : List ℕ) (head : model.Head) → old.place ≡ Head count → 8 ≤ count → model.Interim (old.held ++ take used xs) head → Breaks old xs
-breaks_ninth old count used xs head e many i text before s more ended whole =
-    let b = at (Head count) old text before e s in
-    let r = whole.0 in
-    let p = whole.1 in
-    let parts : (b.front ++ (old.held ++ take used xs)) ++ (drop used xs ++ more) ≡ p.front ++ (p.head_text ++ p.rest) =
-    sym (cut_text b.front old.held xs more used) ∙ sym (whole_text text b.front old.held xs more b.is) ∙ p.is ∙ append_assoc p.front p.head_text p.rest in
-    let nine : length (b.interims ++ head ∷ []) ≤ length r.interims =
-    joined_longer (b.front ++ (old.held ++ take used xs)) p.front (drop used xs ++ more) (p.head_text ++ p.rest) (b.interims ++ head ∷ []) r.interims
-    (joined_more model.Interim b.front (old.held ++ take used xs) b.interims head b.are_interims i) p.are_interims (none_at_final old.to_head p.head_text p.rest r.head p.framing p.is_final) parts in
-    let counted : count ≡ length b.interims = b.has_count in
-    let few : length r.interims ≤ 8 = p.few_interims in
-    let longer : length (b.interims ++ head ∷ []) ≡ length b.interims + 1 = length-append b.interims (head ∷ []) in
-    absurd (omega arith)
-
 -- ---- one step after another
 
 pub hears_none : (old : State) → Hears old [] [] old
@@ -319,15 +279,6 @@ hears_then a b c xs ys p q h k = record {
       let texts : Stands (text ++ (xs ++ ys)) ((before ++ p) ++ q) c = subst (λ (o : List ℕ). Stands o ((before ++ p) ++ q) c) (append_assoc text xs ys) all in
       subst (λ (o : List Part). Stands (text ++ (xs ++ ys)) o c) (append_assoc before p q) texts;
 }
-
-pub breaks_then : (a b : State) (xs ys : List ℕ) (p : List Part) → Hears a xs p b → Breaks b ys → Breaks a (xs ++ ys)
-breaks_then a b xs ys p h k text before s =
-    let spoilt : IsSpoilt ((text ++ xs) ++ ys) b.to_head = k (text ++ xs) (before ++ p) (h.stands text before s) in
-    let same : IsSpoilt ((text ++ xs) ++ ys) a.to_head = subst (λ (t : Bool). IsSpoilt ((text ++ xs) ++ ys) t) h.same spoilt in
-    subst (λ (o : List ℕ). IsSpoilt o a.to_head) (append_assoc text xs ys) same
-
-pub breaks_none : (a : State) (fault : _) (xs : List ℕ) → a.place ≡ Broken fault → Breaks a xs
-breaks_none a fault xs e text before s = absurd (at (Broken fault) a text before e s)
 
 -- all octets are taken
 pub all_taken : (a b : State) (xs : List ℕ) (p : List Part) → Hears a xs p b → Hears a (take (length xs) xs) p b
@@ -403,9 +354,6 @@ pub taken_all : (a b : State) (t0 t1 : List Part) (octets rest : List ℕ) → T
 taken_all a b t0 t1 octets rest i e =
     let all : octets ≡ i.0 = i.2 ∙ ap (λ (o : List ℕ). i.0 ++ o) (nil_of rest e) ∙ append-nil i.0 in
     (i.1, i.3, subst (λ (o : List ℕ). Hears a o i.1 b) (sym all) i.4)
-
-pub taken_breaks : (a b : State) (t0 t1 : List Part) (octets rest : List ℕ) → Taken a t0 octets rest t1 b → Breaks b rest → Breaks a octets
-taken_breaks a b t0 t1 octets rest i h = subst (λ (o : List ℕ). Breaks a o) (sym i.2) (breaks_then a b i.0 rest i.1 i.4 h)
 
 pub taken_none : (a : State) (t0 : List Part) (octets : List ℕ) → Taken a t0 octets octets t0 a
 taken_none a t0 octets = ([], [], refl, sym (append-nil t0), hears_none a)

@@ -3,6 +3,10 @@ use Rattle.std.proofs.Common.{zero, suc, ◌≡◌, ℕ, ◌+◌, ◌<◌, Bool,
 use Rattle.std.specs.Prelude.{not, ◌==◌}
 use Rattle.std.specs.List.{list_all}
 use Rattle.std.proofs.lemmas.Bool.{and_parts, not-true, cond-false}
+use Rattle.std.specs.Prelude.{map}
+use Rattle.std.proofs.lemmas.Bool.Decides.{nat_tests}
+use Rattle.std.specs.Char.{to_ascii_lowercase}
+use Rattle.model.specs.Octets.{lower, lower_octet}
 use Rattle.model.specs.ResponseHeads.{cut_at, longer}
 
 -- an octet that isn't a comma
@@ -31,3 +35,11 @@ around (octet ∷ text) (suc i) h = ap (λ (o : List ℕ). octet ∷ o) (around 
 pub cut_there : (text : List ℕ) (i : ℕ) → i < length text → get_or text i 0 ≡ 44 → list_all is_other (take i text) ≡ true → cut_at 44 text ≡ take i text ∷ cut_at 44 (drop (i + 1) text)
 cut_there text i h e p =
     rw add-one (ap (cut_at 44) (around text i h ∙ ap (λ (o : ℕ). take i text ++ o ∷ drop (suc i) text) e) ∙ cut_before (take i text) (drop (suc i) text) p)
+
+-- ASCII letters in lower case
+lower_is : (octet : ℕ) → to_ascii_lowercase octet ≡ lower_octet octet
+lower_is octet = grind (arith, nat_tests)
+
+pub lowered : (text : List ℕ) → map to_ascii_lowercase text ≡ lower text
+lowered [] = refl
+lowered (octet ∷ octets) = ap (λ n. n ∷ map to_ascii_lowercase octets) (lower_is octet) ∙ ap (λ (o : List ℕ). lower_octet octet ∷ o) (lowered octets)

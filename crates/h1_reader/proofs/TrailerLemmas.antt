@@ -15,23 +15,8 @@ use Rattle.h1_reader.proofs.Values.{values_of}
 use Rattle.h1_reader.proofs.FrontLemmas.{EndsIn, ends_any, front_of_longer}
 
 -- trailers begin a text just where they stand there
-trailers_read : (trailers past : List ℕ) (are : IsTrailers trailers) → ReadsSection (trailers ++ past) are.lines are.last past
+pub trailers_read : (trailers past : List ℕ) (are : IsTrailers trailers) → ReadsSection (trailers ++ past) are.lines are.last past
 trailers_read trailers past are = ReadsSection-append trailers are.lines are.last [] past are.reads
-
--- trailers that stand at the front are those that any at the front of more octets are
-same_lines : (text more trailers past rest : List ℕ) (lines : List grammar.Field) (last : LineEnd) → ReadsSection text lines last rest → text ++ more ≡ trailers ++ past
-    → (are : IsTrailers trailers) → lines ≡ are.lines
-same_lines text more trailers past rest lines last reads e are =
-    (section_unique (text ++ more) lines are.lines last are.last (rest ++ more) past (ReadsSection-append text lines last rest more reads)
-    (subst (λ (o : List ℕ). ReadsSection o are.lines are.last past) (sym e) (trailers_read trailers past are))).0
-
-pub many_trailers : (text : List ℕ) (spans : List HeaderSpan) (used count : ℕ) → IsSectionWithin text spans used count → IsSectionOf text 0 spans (used, count) → 100 < count → NeverTrailers text
-many_trailers text spans used count within of many more trailers past e are =
-    let same = same_lines text more trailers past (drop used text) of.0 of.1 of.2.reads e are in
-    let counted : count ≡ length of.0 = count_is text spans count of.0 within.count_fits of.2.fields_are in
-    let lengths : length of.0 ≡ length are.lines = ap length same in
-    let few : length are.lines ≤ 100 = are.has_few in
-    absurd (omega arith)
 
 pub whole_trailers : (text : List ℕ) (spans : List HeaderSpan) (used count : ℕ) → IsSectionWithin text spans used count → IsSectionOf text 0 spans (used, count) → count ≤ 100
     → length text ≤ 16384 → ((k : ℕ) → get_or text k 0 < 256) → (used ≤ length text) × IsTrailers (take used text)
@@ -65,23 +50,6 @@ never_so_long text more none long rest trailers past e are =
     let there : trailers ++ drop (length trailers) text ≡ text = front_of_longer text (more ++ rest) trailers past whole (omega arith) in
     none are.lines are.last (drop (length trailers) text)
     (subst (λ (o : List ℕ). ReadsSection o are.lines are.last (drop (length trailers) text)) there (trailers_read trailers (drop (length trailers) text) are))
-
--- octets behind others
-cut_there : (held octets text : List ℕ) (taken : ℕ) → text ≡ held ++ take taken octets → text ++ drop taken octets ≡ held ++ octets
-cut_there held octets text taken whole =
-    ap (λ (o : List ℕ). o ++ drop taken octets) whole ∙ append_assoc held (take taken octets) (drop taken octets) ∙ ap (λ (o : List ℕ). held ++ o) (take-append-drop taken octets)
-
-pub never_behind : (held octets text : List ℕ) (taken : ℕ) → text ≡ held ++ take taken octets → NeverTrailers text → NeverTrailers (held ++ octets)
-never_behind held octets text taken whole never =
-    subst (λ (o : List ℕ). NeverTrailers o) (cut_there held octets text taken whole) (never_longer text (drop taken octets) never)
-
-pub long_behind : (held octets text : List ℕ) (before taken : ℕ) → before ≡ length held → before ≤ 16384 → taken ≤ length octets → taken ≡ 16384 - before
-    → text ≡ held ++ take taken octets → HasNoSection text → NeverTrailers (held ++ octets)
-long_behind held octets text before taken is low few all whole none =
-    let lengths : length (held ++ take taken octets) ≡ length held + length (take taken octets) = length-append held (take taken octets) in
-    let counted : length (take taken octets) ≡ taken = length-take-le taken octets few in
-    let long : 16384 ≤ length text = rw whole (omega arith) in
-    subst (λ (o : List ℕ). NeverTrailers o) (cut_there held octets text taken whole) (never_so_long text (drop taken octets) none long)
 
 -- where trailers end that were not whole before
 pub trailers_end : (held octets text : List ℕ) (before taken used : ℕ) → HasNoSection held → before ≡ length held → taken ≤ length octets

@@ -6,6 +6,8 @@ pub mod Heads
 pub mod HeadSizes
 pub mod Standing
 pub mod Begins
+pub mod Faults
+pub mod Told
 pub use Rattle.model.specs.Messages
 pub use Rattle.model.specs.ResponseHeads
 pub use Rattle.model.specs.Responses

@@ -64,40 +64,53 @@ fn never_has_body(status: u16) -> bool
     status < 200 || status == 204
 }
 
-/// Whether a field is passed back, by all fields of its head.
-fn is_passed(all: &[Field], field: &Field) -> bool
-    ensures { result ≡ not (list_any (bytes_eq field.now.name) (connection_names ++ named_by_connection all.now)) }
+/// Whether a field is passed back, by the fields Connection of its head, or by more of them.
+fn is_passed(connections: &[Field], field: &Field) -> bool
+    ensures { result ≡ not (list_any (bytes_eq field.now.name) (connection_names ++ named_by_connection connections.now)) }
 {
-    !is_of_connection(field) && !is_named_by_connection(all, field.name())
+    !is_of_connection(field) && !is_named_by_connection(connections, field.name())
 }
 
-/// Adds the fields that are passed back, by all fields of their head.
-fn push_passed(
-    alloc: Global,
-    all: &[Field],
-    fields: &[Field],
-    out: &mut Vec<Field>,
-) -> Result<(), AllocError>
-    ensures { OnOk result (out.new.items ≡ out.old.items ++ passed all.now fields.now) }
+/// The fields Connection among fields.
+fn connections(alloc: Global, fields: &[Field]) -> Result<Vec<Field>, AllocError>
+    ensures { IfOk result (λ found. named_by_connection found.items ≡ named_by_connection fields.now) }
 {
+    let mut found = Vec::new(alloc);
     for field in fields {
-        if is_passed(all, field) {
-            out.push(field.copy(alloc)?)?;
+        if is_named(field, b"connection") {
+            found.push(field.copy(alloc)?)?;
         }
     }
-    Ok(())
+    Ok(found)
 }
 
-/// Adds the fields that don't frame a body.
-fn push_unframing(alloc: Global, fields: &[Field], out: &mut Vec<Field>) -> Result<(), AllocError>
-    ensures { OnOk result (out.new.items ≡ out.old.items ++ without (codes "content-length" ∷ codes "transfer-encoding" ∷ []) fields.now) }
+/// Drops the fields that aren't passed back, by the fields Connection of their head.
+fn keep_passed(connections: &[Field], fields: &mut Vec<Field>)
+    ensures { fields.new.items ≡ passed connections.now fields.old.items }
 {
-    for field in fields {
-        if !is_of_framing(field) {
-            out.push(field.copy(alloc)?)?;
-        }
-    }
-    Ok(())
+    fields.retain(|field| is_passed(connections, field));
+}
+
+/// Whether the field doesn't frame a body.
+fn is_unframing(field: &Field) -> bool
+    ensures { result ≡ not (list_any (bytes_eq field.now.name) (codes "content-length" ∷ codes "transfer-encoding" ∷ [])) }
+{
+    !is_of_framing(field)
+}
+
+/// Drops the fields that frame a body.
+fn keep_unframing(fields: &mut Vec<Field>)
+    ensures { fields.new.items ≡ without (codes "content-length" ∷ codes "transfer-encoding" ∷ []) fields.old.items }
+{
+    fields.retain(|field| is_unframing(field));
+}
+
+/// How many fields have this name.
+#[tactic(auto, using(crate::proofs::FieldLists::count_values))]
+pub fn count(fields: &[Field], name: &[u8]) -> usize
+    ensures { result ≡ length (values_of name.now fields.now) }
+{
+    fields.iter().filter(|field| is_named(field, name)).count()
 }
 
 /// Whether the field is no second content-length.
@@ -133,24 +146,36 @@ fn push_with_one_length(
 }
 
 /// The fields without what framing leaves no meaning (RFC 9112, sections 6.1 to 6.3).
-fn without_framing(alloc: Global, status: u16, fields: &[Field]) -> Result<Vec<Field>, AllocError>
-    ensures { IfOk result (λ kept. kept.items ≡ without_framing status fields.now) }
+fn without_framing(
+    alloc: Global,
+    status: u16,
+    fields: Vec<Field>,
+) -> Result<Vec<Field>, AllocError>
+    ensures { IfOk result (λ kept. kept.items ≡ without_framing status fields.items) }
 {
-    let mut kept = Vec::new(alloc);
+    let mut fields = fields;
     if never_has_body(status) {
-        push_unframing(alloc, fields, &mut kept)?;
-    } else {
-        push_with_one_length(alloc, fields, &mut kept)?;
+        keep_unframing(&mut fields);
+        return Ok(fields);
     }
+    if count(&fields, b"content-length") <= 1 {
+        return Ok(fields);
+    }
+    let mut kept = Vec::new(alloc);
+    push_with_one_length(alloc, &fields, &mut kept)?;
     Ok(kept)
 }
 
 /// The fields of a head that are passed back (RFC 9110, section 7.6.1).
-pub fn passed_back(alloc: Global, status: u16, fields: &[Field]) -> Result<Vec<Field>, AllocError>
-    ensures { IfOk result (λ kept. kept.items ≡ passed fields.now (without_framing status fields.now)) }
+pub fn passed_back(
+    alloc: Global,
+    status: u16,
+    fields: Vec<Field>,
+) -> Result<Vec<Field>, AllocError>
+    ensures { IfOk result (λ kept. kept.items ≡ passed fields.items (without_framing status fields.items)) }
 {
-    let kept = without_framing(alloc, status, fields)?;
-    let mut out = Vec::new(alloc);
-    push_passed(alloc, fields, &kept, &mut out)?;
-    Ok(out)
+    let connections = connections(alloc, &fields)?;
+    let mut kept = without_framing(alloc, status, fields)?;
+    keep_passed(&connections, &mut kept);
+    Ok(kept)
 }

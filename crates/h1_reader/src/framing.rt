@@ -11,7 +11,7 @@ ghost use Rattle.h1_reader.specs.Views.{framing_view};
 ghost use Rattle.h1_reader.specs.Heads.{framing_fault};
 
 use crate::fault::ResponseFault;
-use crate::fields::is_named;
+use crate::fields::{count, is_named};
 use crate::octets;
 use hpack_table::Field;
 
@@ -69,14 +69,6 @@ fn all_have(fields: &[Field], name: &[u8], value: &[u8]) -> bool
     ensures { result ≡ list_all (bytes_eq value.now) (values_of name.now fields.now) }
 {
     all_agree(fields, name, value)
-}
-
-/// How many fields have this name.
-#[tactic(auto, using(crate::proofs::FieldLists::count_values))]
-fn count(fields: &[Field], name: &[u8]) -> usize
-    ensures { result ≡ length (values_of name.now fields.now) }
-{
-    fields.iter().filter(|field| is_named(field, name)).count()
 }
 
 /// Whether the only coding is one that is taken, in HTTP/1.0 or HTTP/1.1 (RFC 9112, section 6.1).

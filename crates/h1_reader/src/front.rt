@@ -1,21 +1,20 @@
 //! The head that octets end, behind those that were held.
 
-ghost use Rattle.std.specs.Prelude.{◌≡◌, ◌≢◌, ◌≤◌, ◌++◌, [], length, vec_len, OnOk, MatchResult};
+ghost use Rattle.std.specs.Prelude.{◌≡◌, ◌≢◌, ◌≤◌, ◌++◌, [], length, MatchResult};
 ghost use Rattle.httparse.specs.Grammar.{HasNoResponse};
-ghost use Rattle.h1_reader.specs.Heads.{IsFrontRead, HasNoHead};
+ghost use Rattle.h1_reader.specs.Heads.{IsHeadRead, IsFrontRead};
+ghost use Rattle.h1_reader.specs.Faults.{HeadFault};
 
 use crate::fault::ResponseFault;
 use crate::framing::Framing;
 use crate::head::{HeadRead, read_head};
 use crate::piece::ResponseHead;
-use httparse::spans::{EMPTY_HEADER_SPAN, HeaderSpan};
-use std::alloc::{AllocError, Global};
+use crate::room::{ALL_FIELDS, SOME_FIELDS, make_room};
+use httparse::spans::HeaderSpan;
+use std::alloc::Global;
 
 /// The longest head, and the longest trailer section (this project's profile).
 pub const LONGEST_SECTION: usize = 16384;
-
-/// Room for the fields of every head or trailer section of at most 16,384 octets, since each takes three or more.
-const ROOM: usize = 5462;
 
 /// What stands in octets behind those that were held, with how many of them it takes.
 #[derive(Drop)]
@@ -28,14 +27,25 @@ pub enum FrontRead {
     FinalAt(ResponseHead, Framing, usize),
 }
 
-/// Makes the room for a section's fields, where it isn't there yet.
-pub fn make_room(alloc: Global, spans: &mut Vec<HeaderSpan>) -> Result<(), AllocError>
-    ensures { OnOk result (5462 ≤ vec_len spans.new) }
+/// Reads the head at the front of at most 16,384 octets, with room for some fields, and for all where these are too few.
+fn read_text(
+    alloc: Global,
+    to_head: bool,
+    text: &[u8],
+    spans: &mut Vec<HeaderSpan>,
+) -> Result<HeadRead, ResponseFault>
+    requires { length text.now ≤ 16384 }
+    ensures { MatchResult result (IsHeadRead to_head text.now) (λ fault. fault ≢ ResponseFault.Memory → HeadFault fault to_head 0 text.now) }
 {
-    if spans.len() < ROOM {
-        *spans = vec![in alloc; EMPTY_HEADER_SPAN; ROOM]?;
+    make_room(alloc, spans, SOME_FIELDS)?;
+    if let Some(found) = read_head(alloc, to_head, text, spans) {
+        return found;
     }
-    Ok(())
+    make_room(alloc, spans, ALL_FIELDS)?;
+    match read_head(alloc, to_head, text, spans) {
+        Some(found) => found,
+        None => unreachable!(),
+    }
 }
 
 /// Reads the head at the front of octets, where they stand.
@@ -43,14 +53,13 @@ fn read_there(
     alloc: Global,
     to_head: bool,
     octets: &[u8],
-    spans: &mut [HeaderSpan],
+    spans: &mut Vec<HeaderSpan>,
 ) -> Result<FrontRead, ResponseFault>
-    requires { 100 ≤ length spans.old }
-    ensures { MatchResult result (IsFrontRead to_head [] octets.now) (λ fault. fault ≢ ResponseFault.Memory → HasNoHead to_head octets.now) }
+    ensures { MatchResult result (IsFrontRead to_head [] octets.now) (λ fault. fault ≢ ResponseFault.Memory → HeadFault fault to_head 0 octets.now) }
 {
     let taken = octets.len().min(LONGEST_SECTION);
     let text = &octets[..taken];
-    match read_head(alloc, to_head, text, spans) {
+    match read_text(alloc, to_head, text, spans) {
         Ok(HeadRead::More) => {
             if taken < octets.len() {
                 return Err(ResponseFault::TooLong);
@@ -69,18 +78,17 @@ fn read_behind(
     to_head: bool,
     held: Vec<u8>,
     octets: &[u8],
-    spans: &mut [HeaderSpan],
+    spans: &mut Vec<HeaderSpan>,
 ) -> Result<FrontRead, ResponseFault>
-    requires room { 100 ≤ length spans.old }
     requires short { length held.items ≤ 16384 }
     requires none { HasNoResponse held.items }
-    ensures { MatchResult result (IsFrontRead to_head held.items octets.now) (λ fault. fault ≢ ResponseFault.Memory → HasNoHead to_head (held.items ++ octets.now)) }
+    ensures { MatchResult result (IsFrontRead to_head held.items octets.now) (λ fault. fault ≢ ResponseFault.Memory → HeadFault fault to_head 0 (held.items ++ octets.now)) }
 {
     let before = held.len();
     let taken = octets.len().min(LONGEST_SECTION - before);
     let mut text = held;
     text.extend_from_slice(&octets[..taken])?;
-    match read_head(alloc, to_head, &text, spans) {
+    match read_text(alloc, to_head, &text, spans) {
         Ok(HeadRead::More) => {
             if taken < octets.len() {
                 return Err(ResponseFault::TooLong);
@@ -106,9 +114,8 @@ pub fn read_front(
 ) -> Result<FrontRead, ResponseFault>
     requires short { length held.items ≤ 16384 }
     requires none { HasNoResponse held.items }
-    ensures { MatchResult result (IsFrontRead to_head held.items octets.now) (λ fault. fault ≢ ResponseFault.Memory → HasNoHead to_head (held.items ++ octets.now)) }
+    ensures { MatchResult result (IsFrontRead to_head held.items octets.now) (λ fault. fault ≢ ResponseFault.Memory → HeadFault fault to_head 0 (held.items ++ octets.now)) }
 {
-    make_room(alloc, spans)?;
     if held.is_empty() {
         return read_there(alloc, to_head, octets, spans);
     }

@@ -1,16 +1,17 @@
 //! The head at the front of octets.
 
-ghost use Rattle.std.specs.Prelude.{◌≡◌, ◌≢◌, ◌≤◌, map, length, All, IfOk, MatchResult};
+ghost use Rattle.std.specs.Prelude.{◌≡◌, ◌≢◌, ◌<◌, ◌≤◌, map, length, All, IfOk, MatchOption, MatchResult};
 ghost use Rattle.httparse.specs.Spans.{IsHeaderWithin, IsResponseWithin, IsResponseOf};
-ghost use Rattle.h1_reader.specs.Heads.{field_from, IsHeadRead, HasNoHead};
+ghost use Rattle.h1_reader.specs.Heads.{field_from, IsHeadRead};
+ghost use Rattle.h1_reader.specs.Faults.{HeadFault};
 
 use crate::fault::ResponseFault;
 use crate::framing::{Framing, framing_of};
 use crate::piece::ResponseHead;
 use crate::{fields, octets};
 use hpack_table::Field;
-use httparse::Status;
 use httparse::spans::{HeaderSpan, ResponseSpans, parse_response};
+use httparse::{Error, Status};
 use std::alloc::{AllocError, Global};
 
 /// The most fields of a head, and of a trailer section (this project's profile).
@@ -42,28 +43,31 @@ fn fields_at(alloc: Global, text: &[u8], lines: &[HeaderSpan]) -> Result<Vec<Fie
     requires { All (IsHeaderWithin (length text.now)) lines.now }
     ensures { IfOk result (λ fields. fields.items ≡ map (field_from text.now) lines.now) }
 {
-    let mut fields = Vec::new(alloc);
+    let mut fields = Vec::with_capacity(alloc, lines.len())?;
     for line in lines {
         fields.push(field_at(alloc, text, *line)?)?;
     }
     Ok(fields)
 }
 
-/// Reads the head at the front of at most 16,384 octets, of a response to HEAD or to another method.
+/// Reads the head at the front of at most 16,384 octets, of a response to HEAD or to another method; none where there is too
+/// little room for its fields.
 pub fn read_head(
     alloc: Global,
     to_head: bool,
     text: &[u8],
     spans: &mut [HeaderSpan],
-) -> Result<HeadRead, ResponseFault>
-    requires short { length text.now ≤ 16384 }
-    requires room { 100 ≤ length spans.old }
-    ensures { MatchResult result (IsHeadRead to_head text.now) (λ fault. fault ≢ ResponseFault.Memory → HasNoHead to_head text.now) }
+) -> Option<Result<HeadRead, ResponseFault>>
+    requires { length text.now ≤ 16384 }
+    ensures { MatchOption result (length spans.old < 5462) (λ found. MatchResult found (IsHeadRead to_head text.now) (λ fault. fault ≢ ResponseFault.Memory → HeadFault fault to_head 0 text.now)) }
 {
     match parse_response(text, spans) {
-        Ok(Status::Complete(found)) => take_head(alloc, to_head, text, spans, found),
-        Ok(Status::Partial) => Ok(HeadRead::More),
-        Err(_) => Err(ResponseFault::Head),
+        Ok(Status::Complete(found)) => Some(take_head(alloc, to_head, text, spans, found)),
+        Ok(Status::Partial) => Some(Ok(HeadRead::More)),
+        Err(error) => match error {
+            Error::TooManyHeaders => None,
+            _ => Some(Err(ResponseFault::Head)),
+        },
     }
 }
 
@@ -78,7 +82,7 @@ fn take_head(
     requires short { length text.now ≤ 16384 }
     requires within { IsResponseWithin text.now spans.now found }
     requires is_head { IsResponseOf text.now spans.now found }
-    ensures { MatchResult result (IsHeadRead to_head text.now) (λ fault. fault ≢ ResponseFault.Memory → HasNoHead to_head text.now) }
+    ensures { MatchResult result (IsHeadRead to_head text.now) (λ fault. fault ≢ ResponseFault.Memory → HeadFault fault to_head 0 text.now) }
 {
     if found.headers > MOST_FIELDS {
         return Err(ResponseFault::Head);
@@ -90,13 +94,16 @@ fn take_head(
         return Err(ResponseFault::Upgrade);
     }
     let all = fields_at(alloc, text, &spans[..found.headers])?;
-    let passed = fields::passed_back(alloc, found.code, &all)?;
-    let head = ResponseHead::new(found.code, passed);
     if found.code < 200 {
+        let passed = fields::passed_back(alloc, found.code, all)?;
+        let head = ResponseHead::new(found.code, passed);
         return Ok(HeadRead::Interim(head, found.len));
     }
-    match framing_of(to_head, found.version, found.code, &all) {
-        Ok(framing) => Ok(HeadRead::Final(head, framing, found.len)),
-        Err(fault) => Err(fault),
-    }
+    let framing = match framing_of(to_head, found.version, found.code, &all) {
+        Ok(framing) => framing,
+        Err(fault) => return Err(fault),
+    };
+    let passed = fields::passed_back(alloc, found.code, all)?;
+    let head = ResponseHead::new(found.code, passed);
+    Ok(HeadRead::Final(head, framing, found.len))
 }

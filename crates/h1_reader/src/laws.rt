@@ -1,11 +1,14 @@
 //! What it means to stand for octets and pieces.
 
-ghost use Rattle.std.specs.Prelude.{◌≡◌, ◌≤◌, ℕ, Bool, true, false, List, length};
+ghost use Rattle.std.specs.Prelude.{◌≡◌, ◌≤◌, ◌++◌, ℕ, Bool, true, false, List, [], length, is_some};
 ghost use Rattle.model.specs.ResponseHeads.{Head, Framing, Interim, Final};
-ghost use Rattle.model.specs.Responses.{IsComplete, IsSpoilt, IsPlainlyBad};
+ghost use Rattle.model.specs.Responses.{IsComplete, IsSpoilt, IsPlainlyBad, Seen};
 ghost use Rattle.h1_reader.specs.Parts.{Part};
 ghost use Rattle.h1_reader.specs.HeadSizes.{field_octets, HeadsAreShort};
 ghost use Rattle.h1_reader.specs.Standing.{State, Stands, IsInBody, Tells, TellsWhole, is_done};
+ghost use Rattle.h1_reader.specs.Told.{interims_of, head_of, body_of, IsWholeOf};
+ghost use Rattle.h1_reader.specs.Faults.{FaultStands};
+ghost use Rattle.h1_reader.specs.declared.fault.ResponseFault.{ResponseFault};
 
 /// What was told are the interim heads, the final head and the
 /// octets of its body that stand in the octets so far; and the last piece is told just where a whole response stands
@@ -19,6 +22,22 @@ pub fn what_stands()
 /// Once the last piece is told, the pieces are those of the whole response that stands in the octets so far.
 pub fn what_is_whole()
     ensures { (text : List ℕ) (parts : List Part) (state : State) → Stands text parts state → is_done parts ≡ true → TellsWhole text state.to_head parts }
+{}
+
+/// What was told, put together, is what is seen in the octets so far. Once the last piece is told, or where the end of the
+/// connection makes a whole response of the octets, it is that response. No interim head is told behind the final one.
+pub fn what_is_told()
+    ensures seen { (text : List ℕ) (parts : List Part) (state : State) → Stands text parts state → Seen text state.to_head (interims_of parts) (head_of parts) (body_of parts) }
+    ensures whole { (text : List ℕ) (parts : List Part) (state : State) → Stands text parts state → is_done parts ≡ true → IsWholeOf text false state.to_head parts }
+    ensures ended { (text : List ℕ) (parts : List Part) (state : State) → Stands text parts state → IsComplete text true state.to_head → IsWholeOf text true state.to_head parts }
+    ensures in_order { (text longer : List ℕ) (parts added : List Part) (old new : State) → Stands text parts old → Stands longer (parts ++ added) new → is_some (head_of parts) ≡ true → interims_of added ≡ [] }
+{}
+
+/// A text has one fault at most, and nothing that follows makes a whole response of a text that has one. So a reader that
+/// answers a fault answers the only one that its contract allows.
+pub fn one_fault()
+    ensures one { (first second : ResponseFault) (text : List ℕ) (to_head : Bool) → FaultStands first text to_head → FaultStands second text to_head → first ≡ second }
+    ensures spoils { (fault : ResponseFault) (text : List ℕ) (to_head : Bool) → FaultStands fault text to_head → IsSpoilt text to_head }
 {}
 
 /// The names and values of a head, as it is passed back, have at most as many octets as its text. So each head that was

@@ -11,6 +11,7 @@ pub mod laws;
 mod octets;
 mod piece;
 mod reader;
+mod room;
 #[cfg(test)]
 mod tests;
 mod trailers;

@@ -24,7 +24,9 @@ fn lower_octet(octet: u8) -> u8
 pub fn lowered(alloc: Global, text: &[u8]) -> Result<Vec<u8>, AllocError>
     ensures { IfOk result (λ low. low.items ≡ lower text.now) }
 {
-    text.iter().map(|octet| lower_octet(*octet)).collect(alloc)
+    let mut low = Vec::from_slice(alloc, text)?;
+    low.make_ascii_lowercase();
+    Ok(low)
 }
 
 /// Whether the octet is a space or a tab.

@@ -1,11 +1,12 @@
 //! A reader of one response.
 
-ghost use Rattle.std.specs.Prelude.{◌≡◌, ◌≢◌, ◌<◌, ◌≤◌, ◌++◌, ◌∷◌, [], List, Err, length, take, OnOk, OnErr, IfOk, IfErr};
+ghost use Rattle.std.specs.Prelude.{◌≡◌, ◌≢◌, ◌<◌, ◌≤◌, ◌++◌, ◌∷◌, [], ℕ, List, Err, length, take, OnOk, OnErr, IfOk, IfErr};
 ghost use Rattle.h1_reader.specs.Parts.{Part};
 ghost use Rattle.h1_reader.specs.Views.{parts_of};
 ghost use Rattle.h1_reader.specs.ChunkLines.{IsInRange};
 ghost use Rattle.h1_reader.specs.Standing.{Stands, Hears, Breaks, IsEnd};
 ghost use Rattle.h1_reader.specs.Begins.{Begins};
+ghost use Rattle.h1_reader.specs.Faults.{Fails};
 
 use crate::chunk_line::{LINE_START, LinePlace, LineStep, line_step};
 use crate::fault::ResponseFault;
@@ -95,10 +96,12 @@ impl Reader {
 
     /// Takes the next octets, and adds what they tell to the pieces.
     ///
-    /// What stands behind a whole response is ignored. A fault adds nothing, and every later call answers the same one.
+    /// What stands behind a whole response is ignored. A fault adds nothing, and every later call answers the same one. It is
+    /// the fault that stands in all octets so far, of which there is one at most (`laws`).
     pub fn feed(&mut self, octets: &[u8], pieces: &mut Vec<Piece>) -> Result<(), ResponseFault>
         ensures ok { OnOk result ((added : List Part) × (parts_of pieces.new.items ≡ parts_of pieces.old.items ++ added) × Hears self.old octets.now added self.new) }
         ensures fault { IfErr result (λ fault. fault ≢ ResponseFault.Memory → Breaks self.old octets.now) }
+        ensures kind { IfErr result (λ fault. fault ≢ ResponseFault.Memory → Fails self.old octets.now fault) }
         ensures unchanged { OnErr result (pieces.new.items ≡ pieces.old.items) }
         ensures broken { IfErr result (λ fault. self.new.place ≡ Place.Broken fault) }
         ensures again { (fault : ResponseFault) → self.old.place ≡ Place.Broken fault → result ≡ Err fault }
@@ -136,7 +139,7 @@ impl Reader {
     /// Takes the next octets, and adds what they tell to the pieces, or nothing where there is a fault.
     fn tell(&mut self, octets: &[u8], pieces: &mut Vec<Piece>) -> Result<(), ResponseFault>
         ensures ok { OnOk result ((added : List Part) × (parts_of pieces.new.items ≡ parts_of pieces.old.items ++ added) × Hears self.old octets.now added self.new) }
-        ensures fault { IfErr result (λ fault. fault ≢ ResponseFault.Memory → Breaks self.old octets.now) }
+        ensures fault { IfErr result (λ fault. fault ≢ ResponseFault.Memory → Fails self.old octets.now fault) }
         ensures unchanged { OnErr result (pieces.new.items ≡ pieces.old.items) }
     {
         let mut told = Told::new(self.alloc);
@@ -150,7 +153,7 @@ impl Reader {
     /// Takes all octets, one step after another.
     fn take_all(&mut self, octets: &[u8], told: &mut Told) -> Result<(), ResponseFault>
         ensures ok { OnOk result ((added : List Part) × (told.new ≡ told.old ++ added) × Hears self.old octets.now added self.new) }
-        ensures fault { IfErr result (λ fault. fault ≢ ResponseFault.Memory → Breaks self.old octets.now) }
+        ensures fault { IfErr result (λ fault. fault ≢ ResponseFault.Memory → Fails self.old octets.now fault) }
     {
         let mut rest = octets;
         while !rest.is_empty() {
@@ -166,7 +169,7 @@ impl Reader {
     fn take(&mut self, octets: &[u8], told: &mut Told) -> Result<usize, ResponseFault>
         requires { 0 < length octets.now }
         ensures ok { IfOk result (λ used. (0 < used) × (used ≤ length octets.now) × ((added : List Part) × (told.new ≡ told.old ++ added) × Hears self.old (take used octets.now) added self.new)) }
-        ensures fault { IfErr result (λ fault. fault ≢ ResponseFault.Memory → Breaks self.old octets.now) }
+        ensures fault { IfErr result (λ fault. fault ≢ ResponseFault.Memory → Fails self.old octets.now fault) }
     {
         match self.place {
             Place::Head(interims) => self.take_head(interims, octets, told),
@@ -215,7 +218,7 @@ impl Reader {
         requires place { self.old.place ≡ Place.Line line }
         requires range { IsInRange line }
         ensures ok { IfOk result (λ used. (used ≡ 1) × Hears self.old (octet ∷ []) [] self.new) }
-        ensures fault { OnErr result (Breaks self.old (octet ∷ [])) }
+        ensures fault { IfErr result (λ fault. (rest : List ℕ) → Fails self.old (octet ∷ rest) fault) }
     {
         match line_step(line, octet) {
             None => return Err(ResponseFault::Chunk),
@@ -257,7 +260,7 @@ impl Reader {
     fn take_return(&mut self, octet: u8) -> Result<usize, ResponseFault>
         requires { self.old.place ≡ Place.ChunkEnd }
         ensures ok { IfOk result (λ used. (used ≡ 1) × Hears self.old (octet ∷ []) [] self.new) }
-        ensures fault { OnErr result (Breaks self.old (octet ∷ [])) }
+        ensures fault { IfErr result (λ fault. (rest : List ℕ) → Fails self.old (octet ∷ rest) fault) }
     {
         if octet != b'\r' {
             return Err(ResponseFault::Chunk);
@@ -270,7 +273,7 @@ impl Reader {
     fn take_feed(&mut self, octet: u8) -> Result<usize, ResponseFault>
         requires { self.old.place ≡ Place.ChunkReturn }
         ensures ok { IfOk result (λ used. (used ≡ 1) × Hears self.old (octet ∷ []) [] self.new) }
-        ensures fault { OnErr result (Breaks self.old (octet ∷ [])) }
+        ensures fault { IfErr result (λ fault. (rest : List ℕ) → Fails self.old (octet ∷ rest) fault) }
     {
         if octet != b'\n' {
             return Err(ResponseFault::Chunk);
@@ -284,7 +287,7 @@ impl Reader {
         requires place { self.old.place ≡ Place.Trailers }
         requires octets { 0 < length octets.now }
         ensures ok { IfOk result (λ used. (0 < used) × (used ≤ length octets.now) × ((added : List Part) × (told.new ≡ told.old ++ added) × Hears self.old (take used octets.now) added self.new)) }
-        ensures fault { IfErr result (λ fault. fault ≢ ResponseFault.Memory → Breaks self.old octets.now) }
+        ensures fault { IfErr result (λ fault. fault ≢ ResponseFault.Memory → Fails self.old octets.now fault) }
     {
         let held = mem::replace(&mut self.held, Vec::new(self.alloc));
         match read_trailers(self.alloc, held, octets, &mut self.spans) {
@@ -311,7 +314,7 @@ impl Reader {
         requires place { self.old.place ≡ Place.Head interims }
         requires octets { 0 < length octets.now }
         ensures ok { IfOk result (λ used. (0 < used) × (used ≤ length octets.now) × ((added : List Part) × (told.new ≡ told.old ++ added) × Hears self.old (take used octets.now) added self.new)) }
-        ensures fault { IfErr result (λ fault. fault ≢ ResponseFault.Memory → Breaks self.old octets.now) }
+        ensures fault { IfErr result (λ fault. fault ≢ ResponseFault.Memory → Fails self.old octets.now fault) }
     {
         let held = mem::replace(&mut self.held, Vec::new(self.alloc));
         match read_front(self.alloc, self.to_head, held, octets, &mut self.spans) {

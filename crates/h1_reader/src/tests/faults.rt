@@ -122,6 +122,33 @@ fn heads(rt: HostRuntime) -> Result<(), Fail> {
     Ok(())
 }
 
+/// Heads that could be refused for two reasons: too many fields before all else, a change of protocols before its place behind
+/// eight interim heads and before the lines of framing, and a coding before the lengths.
+#[test]
+fn the_first_of_two(rt: HostRuntime) -> Result<(), Fail> {
+    let alloc = rt.alloc();
+    let mut many = Vec::from_slice(alloc, b"HTTP/1.1 101 OK\r\n")?;
+    for _ in 0..101 {
+        many.extend_from_slice(b"A:\r\n")?;
+    }
+    many.extend_from_slice(b"\r\n")?;
+    check(&rt, alloc, &[b""], &many, ResponseFault::Head)?;
+    let mut eight = Vec::new(alloc);
+    for _ in 0..8 {
+        eight.extend_from_slice(INTERIM)?;
+    }
+    let upgrade = b"HTTP/1.1 101 OK\r\nContent-Length: x\r\n\r\n".as_slice();
+    check(&rt, alloc, &[&eight], upgrade, ResponseFault::Upgrade)?;
+    check(&rt, alloc, &[&eight], INTERIM, ResponseFault::TooLong)?;
+    for text in [
+        b"HTTP/1.1 200 OK\r\nContent-Length: x\r\nTransfer-Encoding: chunked\r\n\r\n".as_slice(),
+        b"HTTP/1.0 200 OK\r\nContent-Length: 1\r\nContent-Length: 2\r\nTransfer-Encoding: y\r\n\r\n".as_slice(),
+    ] {
+        check(&rt, alloc, &[b"", &eight], text, ResponseFault::Coding)?;
+    }
+    Ok(())
+}
+
 /// What can't be continued in a body of chunks, each up to the octet at which it can't.
 #[test]
 fn chunks(rt: HostRuntime) -> Result<(), Fail> {

@@ -75,7 +75,18 @@ fn counts_of_a_head(rt: HostRuntime) -> Result<(), Fail> {
     let length = b"HTTP/1.1 200 OK\r\nContent-Length: ".as_slice();
     let interim = b"HTTP/1.1 100 Continue\r\n\r\n".as_slice();
     for (text, fault) in [
+        (repeated(alloc, line, b"A:\n", 31, b"\r\n")?, None),
+        (repeated(alloc, line, b"A:\n", 32, b"\r\n")?, None),
         (repeated(alloc, line, b"A:\n", 100, b"\r\n")?, None),
+        (repeated(alloc, line, b"A:\n", 101, b"")?, None),
+        (
+            repeated(alloc, line, b"A:\n", 101, b":")?,
+            Some(ResponseFault::Head),
+        ),
+        (
+            repeated(alloc, line, b"A:\n", 5456, b"")?,
+            Some(ResponseFault::TooLong),
+        ),
         (
             repeated(alloc, line, b"A:\n", 101, b"\r\n")?,
             Some(ResponseFault::Head),
@@ -147,6 +158,7 @@ fn long_trailers(rt: HostRuntime) -> Result<(), Fail> {
             stretched(alloc, &field, b'b', room + 5, b"")?,
             Some(ResponseFault::TooLong),
         ),
+        (repeated(alloc, &last, b"A:\n", 32, b"\r\n")?, None),
         (repeated(alloc, &last, b"A:\n", 100, b"\r\n")?, None),
         (
             repeated(alloc, &last, b"A:\n", 101, b"\r\n")?,

@@ -1,7 +1,8 @@
-use Rattle.std.proofs.Common.{◌≡◌, ◌≤◌, ◌<◌, length, ◌∙◌, subst, rules, arith, List, ℕ}
+use Rattle.std.proofs.Common.{◌≡◌, ◌≤◌, ◌<◌, ◌+◌, ◌-◌, ◌++◌, length, length-append, ◌∙◌, subst, rules, arith, List, ℕ}
 use Rattle.model.specs.ResponseHeads.{Interim, Final}
 use Rattle.h1_reader.specs.Views.{framing_view}
-use Rattle.h1_reader.proofs.FrontLemmas.{ends_in, too_long, none_behind}
+use Rattle.h1_reader.proofs.FrontLemmas.{ends_in}
+use Rattle.h1_reader.proofs.FaultReads.{reach, head_in_whole, long_head}
 use Rattle.h1_reader.proofs.front.read_behind.Goals as goal
 
 pub returns-then-taken-octets : goal.returns-then-taken-octets
@@ -9,8 +10,12 @@ returns-then-taken-octets c =
     let counted : c.len-before.result ≡ length c.args.held.items = search rules in
     let less : c.min-taken.result < length c.args.octets.now = c.if-taken-octets.true in
     let low : length c.args.held.items ≤ 16384 = c.requires.short in
-    λ _. too_long c.args.to_head c.args.held.items c.args.octets.now c.deref.result.now c.len-before.result c.min-taken.result counted (omega arith) (omega arith) (omega (arith, c.min-taken.ensures))
-    (c.deref.ensures.value ∙ c.in_ok-extend_from_slice.ensures.items) (rw c.in-Ok-More.field-0-is at c.in-Ok-More.ensures).0
+    let read = rw c.in-Ok-More.field-0-is at c.in-Ok-More.ensures in
+    let there = reach c.args.held.items c.args.octets.now c.deref.result.now c.len-before.result c.min-taken.result counted (omega arith) (omega (arith, c.min-taken.ensures)) (omega (arith, c.min-taken.ensures)) (λ less. omega (arith, c.min-taken.ensures))
+    (c.deref.ensures.value ∙ c.in_ok-extend_from_slice.ensures.items) in
+    let sum : length (c.args.held.items ++ c.args.octets.now) ≡ length c.args.held.items + length c.args.octets.now = length-append c.args.held.items c.args.octets.now in
+    let full : c.min-taken.result ≡ 16384 - c.len-before.result = omega (arith, c.min-taken.ensures) in
+    λ _. long_head c.args.to_head (c.args.held.items ++ c.args.octets.now) c.deref.result.now _ there (omega arith) read.0 read.1
 
 pub overflow_sub-result : goal.overflow_sub-result
 overflow_sub-result c =
@@ -49,4 +54,9 @@ returns-in-Ok-Final c =
     (omega arith, ends.fits, subst (λ (o : List ℕ). Final c.args.to_head o c.in-Ok-Final.head (framing_view c.in-Ok-Final.framing)) ends.is read.1)
 
 pub returns-in-Err : goal.returns-in-Err
-returns-in-Err c = λ n. none_behind c.args.to_head c.args.held.items c.args.octets.now c.deref.result.now c.min-taken.result (c.deref.ensures.value ∙ c.in_ok-extend_from_slice.ensures.items) (c.in-Err.ensures n)
+returns-in-Err c =
+    let counted : c.len-before.result ≡ length c.args.held.items = search rules in
+    let low : length c.args.held.items ≤ 16384 = c.requires.short in
+    let there = reach c.args.held.items c.args.octets.now c.deref.result.now c.len-before.result c.min-taken.result counted (omega arith) (omega (arith, c.min-taken.ensures)) (omega (arith, c.min-taken.ensures)) (λ less. omega (arith, c.min-taken.ensures))
+    (c.deref.ensures.value ∙ c.in_ok-extend_from_slice.ensures.items) in
+    λ n. head_in_whole c.in-Err.fault c.args.to_head (c.args.held.items ++ c.args.octets.now) c.deref.result.now _ there (c.in-Err.ensures n)

@@ -1,14 +1,18 @@
-use Rattle.std.proofs.Common.{◌≡◌, ◌≤◌, [], subst, refl, arith, List, ℕ}
+use Rattle.std.proofs.Common.{◌≡◌, ◌≤◌, ◌<◌, length, [], subst, refl, arith, List, ℕ}
 use Rattle.model.specs.ResponseHeads.{Interim, Final}
 use Rattle.h1_reader.specs.Views.{framing_view}
-use Rattle.h1_reader.proofs.FrontLemmas.{ends_there, too_long, none_behind}
+use Rattle.h1_reader.proofs.FrontLemmas.{ends_there}
+use Rattle.h1_reader.proofs.FaultReads.{reach, head_in_whole, long_head}
 use Rattle.h1_reader.proofs.front.read_there.Goals as goal
 
 pub returns-then-taken-octets : goal.returns-then-taken-octets
 returns-then-taken-octets c =
-    let full : c.min-taken.result ≡ 16384 = omega (arith, c.min-taken.ensures) in
     let low : 0 ≤ 16384 = omega arith in
-    λ _. too_long c.args.to_head [] c.args.octets.now _ 0 c.min-taken.result refl low (omega arith) full refl (rw c.in-Ok-More.field-0-is at c.in-Ok-More.ensures).0
+    let less : c.min-taken.result < length c.args.octets.now = c.if-taken-octets.true in
+    let full : c.min-taken.result ≡ 16384 = omega (arith, c.min-taken.ensures) in
+    let read = rw c.in-Ok-More.field-0-is at c.in-Ok-More.ensures in
+    let there = reach [] c.args.octets.now _ 0 c.min-taken.result refl low (omega (arith, c.min-taken.ensures)) (omega (arith, c.min-taken.ensures)) (λ less. omega (arith, c.min-taken.ensures)) refl in
+    λ _. long_head c.args.to_head c.args.octets.now _ _ there (omega arith) read.0 read.1
 
 pub returns-in-Ok-Interim : goal.returns-in-Ok-Interim
 returns-in-Ok-Interim c =
@@ -23,4 +27,7 @@ returns-in-Ok-Final c =
     (ends.more, ends.fits, subst (λ (o : List ℕ). Final c.args.to_head o c.in-Ok-Final.head (framing_view c.in-Ok-Final.framing)) ends.is read.1)
 
 pub returns-in-Err : goal.returns-in-Err
-returns-in-Err c = λ n. none_behind c.args.to_head [] c.args.octets.now _ c.min-taken.result refl (c.in-Err.ensures n)
+returns-in-Err c =
+    let low : 0 ≤ 16384 = omega arith in
+    let there = reach [] c.args.octets.now _ 0 c.min-taken.result refl low (omega (arith, c.min-taken.ensures)) (omega (arith, c.min-taken.ensures)) (λ less. omega (arith, c.min-taken.ensures)) refl in
+    λ n. head_in_whole c.in-Err.fault c.args.to_head c.args.octets.now _ _ there (c.in-Err.ensures n)

@@ -2,18 +2,22 @@ use Rattle.std.proofs.Common.{◌≡◌, ◌<◌, ◌≤◌, ◌∙◌, sym, ap,
 use Rattle.model.specs.Messages.{Field}
 use Rattle.httparse.specs.Grammar.{status_code}
 use Rattle.model.specs.ResponseHeads.{passed, without_framing, framing_for}
+use Rattle.std.specs.Prelude.{codes}
+use Rattle.model.specs.Http1.{values_of}
+use Rattle.h1_reader.specs.Heads.{framing_fault}
 use Rattle.h1_reader.specs.Views.{framing_view}
-use Rattle.h1_reader.proofs.HeadLemmas.{too_many, too_low, upgrades, unframed, taken, says, framed}
+use Rattle.h1_reader.proofs.HeadLemmas.{taken, says, framed}
+use Rattle.h1_reader.proofs.FaultReads.{crowded, low, upgraded, unframed}
 use Rattle.h1_reader.proofs.head.take_head.Goals as goal
 
 pub returns-then-found-gt-MOST_FIELDS : goal.returns-then-found-gt-MOST_FIELDS
-returns-then-found-gt-MOST_FIELDS c = λ _. too_many c.args.to_head c.args.text.now c.args.spans.now c.args.found c.requires.within c.requires.is_head c.if-found-gt-MOST_FIELDS.true
+returns-then-found-gt-MOST_FIELDS c = λ _. crowded c.args.to_head c.args.text.now c.args.spans.now c.args.found c.requires.is_head c.requires.within c.requires.short c.if-found-gt-MOST_FIELDS.true
 
 pub returns-then-found-lt100 : goal.returns-then-found-lt100
-returns-then-found-lt100 c = λ _. too_low c.args.to_head c.args.text.now c.args.spans.now c.args.found c.requires.is_head c.if-found-lt100.true
+returns-then-found-lt100 c = λ _. low c.args.to_head c.args.text.now c.args.spans.now c.args.found c.requires.is_head c.requires.within c.requires.short c.if-found-lt100.true
 
 pub returns-then-found-eq101 : goal.returns-then-found-eq101
-returns-then-found-eq101 c = λ _. upgrades c.args.to_head c.args.text.now c.args.spans.now c.args.found c.requires.is_head c.if-found-eq101.true
+returns-then-found-eq101 c = λ _. upgraded c.args.to_head c.args.text.now c.args.spans.now c.args.found c.requires.is_head c.requires.within c.requires.short c.if-found-gt-MOST_FIELDS.false c.if-found-eq101.true
 
 pub returns-then-found-lt200 : goal.returns-then-found-lt200
 returns-then-found-lt200 c =
@@ -26,12 +30,12 @@ returns-then-found-lt200 c =
         taken = taken c.args.text.now c.args.spans.now c.args.found of c.requires.within (λ k. (c.type_inv.text k).fits) c.requires.short c.if-found-gt-MOST_FIELDS.false c.if-found-lt100.false c.if-found-eq101.false;
         is_interim = omega arith;
         says = says c.args.text.now c.args.spans.now c.args.found c.in_ok-all.all.items c.in_ok-passed.passed.items c.new-head.result of c.in_ok-all.ensures
-            (c.in_ok-passed.ensures ∙ ap (λ (fs : List Field). passed fs (without_framing c.args.found.code fs)) c.deref.ensures.value) c.new-head.ensures.status c.new-head.ensures.fields;
+            c.in_ok-passed.ensures c.new-head.ensures.status c.new-head.ensures.fields;
       },
     )
 
-pub returns-in-Ok : goal.returns-in-Ok
-returns-in-Ok c =
+pub returns : goal.returns
+returns c =
     let of = c.requires.is_head in
     let code : c.args.found.code ≡ status_code of.0 = of.1.code in
     let high : 200 ≤ c.args.found.code = c.if-found-lt200.false in (
@@ -41,13 +45,14 @@ returns-in-Ok c =
         taken = taken c.args.text.now c.args.spans.now c.args.found of c.requires.within (λ k. (c.type_inv.text k).fits) c.requires.short c.if-found-gt-MOST_FIELDS.false c.if-found-lt100.false c.if-found-eq101.false;
         is_final = omega arith;
         framed = framed c.args.to_head c.args.text.now c.args.spans.now c.args.found c.in_ok-all.all.items (framing_view c.in-Ok.framing) of c.in_ok-all.ensures
-            (ap (framing_for c.args.to_head c.args.found.version c.args.found.code) (sym c.deref-2.ensures.value) ∙ c.in-Ok.ensures);
-        says = says c.args.text.now c.args.spans.now c.args.found c.in_ok-all.all.items c.in_ok-passed.passed.items c.new-head.result of c.in_ok-all.ensures
-            (c.in_ok-passed.ensures ∙ ap (λ (fs : List Field). passed fs (without_framing c.args.found.code fs)) c.deref.ensures.value) c.new-head.ensures.status c.new-head.ensures.fields;
+            (ap (framing_for c.args.to_head c.args.found.version c.args.found.code) (sym c.deref.ensures.value) ∙ c.in-Ok.ensures);
+        says = says c.args.text.now c.args.spans.now c.args.found c.in_ok-all.all.items c.in_ok-passed-2.passed.items c.new-head-2.result of c.in_ok-all.ensures
+            c.in_ok-passed-2.ensures c.new-head-2.ensures.status c.new-head-2.ensures.fields;
       },
     )
 
-pub returns : goal.returns
-returns c =
-    λ _. unframed c.args.to_head c.args.text.now c.args.spans.now c.args.found c.in_ok-all.all.items c.requires.is_head c.in_ok-all.ensures c.if-found-lt200.false
-    (ap (framing_for c.args.to_head c.args.found.version c.args.found.code) (sym c.deref-2.ensures.value) ∙ c.in-Err.ensures.0)
+pub returns-in-Err : goal.returns-in-Err
+returns-in-Err c =
+    λ _. unframed c.args.to_head c.args.text.now c.args.spans.now c.args.found c.in_ok-all.all.items c.in-Err.fault c.requires.is_head c.requires.within c.requires.short c.in_ok-all.ensures c.if-found-gt-MOST_FIELDS.false
+    c.if-found-lt200.false (ap (framing_for c.args.to_head c.args.found.version c.args.found.code) (sym c.deref.ensures.value) ∙ c.in-Err.ensures.0)
+    (c.in-Err.ensures.1 ∙ ap (λ (fs : List Field). framing_fault (values_of (codes "transfer-encoding") fs)) c.deref.ensures.value)

@@ -1,6 +1,7 @@
-use Rattle.std.proofs.Common.{◌≡◌, ◌≤◌, ◌<◌, length, ◌∙◌, subst, rules, arith, List, ℕ}
+use Rattle.std.proofs.Common.{◌≡◌, ◌≤◌, ◌<◌, ◌+◌, ◌-◌, ◌++◌, length, length-append, ◌∙◌, subst, rules, arith, List, ℕ}
 use Rattle.model.specs.Responses.{IsTrailers}
-use Rattle.h1_reader.proofs.TrailerLemmas.{trailers_end, long_behind, never_behind}
+use Rattle.h1_reader.proofs.TrailerLemmas.{trailers_end}
+use Rattle.h1_reader.proofs.FaultReads.{reach, trailers_in_whole, long_trailers}
 use Rattle.h1_reader.proofs.trailers.read_trailers.Goals as goal
 
 pub returns-then-taken-octets : goal.returns-then-taken-octets
@@ -8,8 +9,12 @@ returns-then-taken-octets c =
     let counted : c.len-before.result ≡ length c.args.held.items = search rules in
     let less : c.min-taken.result < length c.args.octets.now = c.if-taken-octets.true in
     let low : length c.args.held.items ≤ 16384 = c.requires.short in
-    λ _. long_behind c.args.held.items c.args.octets.now c.deref.result.now c.len-before.result c.min-taken.result counted (omega arith) (omega arith) (omega (arith, c.min-taken.ensures))
-    (c.deref.ensures.value ∙ c.in_ok-extend_from_slice.ensures.items) (rw c.in-Ok-None.field-0-is at c.in-Ok-None.ensures).0
+    let read = rw c.in-Ok-None.field-0-is at c.in-Ok-None.ensures in
+    let there = reach c.args.held.items c.args.octets.now c.deref.result.now c.len-before.result c.min-taken.result counted (omega arith) (omega (arith, c.min-taken.ensures)) (omega (arith, c.min-taken.ensures)) (λ less. omega (arith, c.min-taken.ensures))
+    (c.deref.ensures.value ∙ c.in_ok-extend_from_slice.ensures.items) in
+    let sum : length (c.args.held.items ++ c.args.octets.now) ≡ length c.args.held.items + length c.args.octets.now = length-append c.args.held.items c.args.octets.now in
+    let full : c.min-taken.result ≡ 16384 - c.len-before.result = omega (arith, c.min-taken.ensures) in
+    λ _. long_trailers (c.args.held.items ++ c.args.octets.now) c.deref.result.now _ there (omega arith) read.0 read.1
 
 pub overflow_sub-result : goal.overflow_sub-result
 overflow_sub-result c =
@@ -31,4 +36,8 @@ returns-in-Ok-Some c =
 
 pub returns-in-Err : goal.returns-in-Err
 returns-in-Err c =
-    λ _. never_behind c.args.held.items c.args.octets.now c.deref.result.now c.min-taken.result (c.deref.ensures.value ∙ c.in_ok-extend_from_slice.ensures.items) c.in-Err.ensures
+    let counted : c.len-before.result ≡ length c.args.held.items = search rules in
+    let low : length c.args.held.items ≤ 16384 = c.requires.short in
+    let there = reach c.args.held.items c.args.octets.now c.deref.result.now c.len-before.result c.min-taken.result counted (omega arith) (omega (arith, c.min-taken.ensures)) (omega (arith, c.min-taken.ensures)) (λ less. omega (arith, c.min-taken.ensures))
+    (c.deref.ensures.value ∙ c.in_ok-extend_from_slice.ensures.items) in
+    λ n. trailers_in_whole c.in-Err.fault (c.args.held.items ++ c.args.octets.now) c.deref.result.now _ there (c.in-Err.ensures n)

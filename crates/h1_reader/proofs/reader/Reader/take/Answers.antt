@@ -3,7 +3,7 @@ use Rattle.std.proofs.lemmas.List.{append-nil}
 use Rattle.h1_reader.specs.Parts.Part.{Body}
 use Rattle.h1_reader.specs.Standing.{State}
 use Rattle.h1_reader.proofs.Steps.{hears_rest, hears_past, all_taken}
-use Rattle.h1_reader.proofs.ChunkEnds.{first_breaks}
+use Rattle.h1_reader.proofs.FaultSteps.{first_fails, fails_broken}
 use Rattle.h1_reader.proofs.reader.Reader.take.Goals as goal
 
 pub returns-in_ok-body-in-UntilEnd-clause-ok : goal.returns-in_ok-body-in-UntilEnd-clause-ok
@@ -31,10 +31,10 @@ returns-in-Past-clause-ok c = (
 )
 
 pub returns-in-Line-clause-fault : goal.returns-in-Line-clause-fault
-returns-in-Line-clause-fault c = first_breaks c.args.self.now c.args.octets.now c.take_line.result c.requires c.take_line.ensures.fault
+returns-in-Line-clause-fault c = first_fails c.args.self.now c.args.octets.now c.take_line.result c.requires c.take_line.ensures.fault
 
 pub returns-in-ChunkEnd-clause-fault : goal.returns-in-ChunkEnd-clause-fault
-returns-in-ChunkEnd-clause-fault c = first_breaks c.args.self.now c.args.octets.now c.take_return.result c.requires c.take_return.ensures.fault
+returns-in-ChunkEnd-clause-fault c = first_fails c.args.self.now c.args.octets.now c.take_return.result c.requires c.take_return.ensures.fault
 
 pub returns-in-ChunkReturn-clause-fault : goal.returns-in-ChunkReturn-clause-fault
-returns-in-ChunkReturn-clause-fault c = first_breaks c.args.self.now c.args.octets.now c.take_feed.result c.requires c.take_feed.ensures.fault
+returns-in-ChunkReturn-clause-fault c = first_fails c.args.self.now c.args.octets.now c.take_feed.result c.requires c.take_feed.ensures.fault

@@ -1,6 +1,7 @@
 use Rattle.std.proofs.Common.{◌∙◌, sym}
 use Rattle.std.proofs.lemmas.List.{take_rest}
-use Rattle.h1_reader.proofs.Steps.{taken_none, taken_more, taken_all, taken_breaks}
+use Rattle.h1_reader.proofs.Steps.{taken_none, taken_more, taken_all}
+use Rattle.h1_reader.proofs.FaultSteps.{taken_fails}
 use Rattle.h1_reader.proofs.reader.Reader.take_all.Goals as goal
 
 pub loop-rest-init : goal.loop-rest-init
@@ -8,7 +9,7 @@ loop-rest-init c = taken_none c.args.self.now c.args.told.now c.args.octets.now
 
 pub returns-in-Err-clause-fault : goal.returns-in-Err-clause-fault
 returns-in-Err-clause-fault c =
-    λ n. taken_breaks c.args.self.now c.loop-rest.self c.args.told.now c.loop-rest.told c.args.octets.now c.loop-rest.rest.now c.loop-rest.invariant (c.in-Err.ensures.fault n)
+    λ n. taken_fails c.args.self.now c.loop-rest.self c.args.told.now c.loop-rest.told c.in-Err.fault c.args.octets.now c.loop-rest.rest.now c.loop-rest.invariant (c.in-Err.ensures.fault n)
 
 pub loop-rest-preserved : goal.loop-rest-preserved
 loop-rest-preserved c =

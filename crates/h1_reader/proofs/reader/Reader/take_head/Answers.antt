@@ -2,11 +2,12 @@ use Rattle.std.proofs.Common.{◌≡◌, ◌+◌, ◌∙◌, ◌∷◌, [], ◌+
 use Rattle.std.proofs.lemmas.List.{append-nil}
 use Rattle.model.specs.ResponseHeads as model
 use Rattle.h1_reader.specs.Parts.Part.{Interim}
-use Rattle.h1_reader.specs.Heads.{HasNoHead}
+use Rattle.h1_reader.specs.Faults.{HeadFault}
 use Rattle.h1_reader.specs.Standing.{State}
 use Rattle.h1_reader.specs.declared.reader.Place.TheVariants.{Head}
 use Rattle.h1_reader.specs.Views.{framing_view}
-use Rattle.h1_reader.proofs.Steps.{nothing_held, kept_head, hears_more, hears_interim, hears_final, breaks_head, breaks_ninth, all_taken}
+use Rattle.h1_reader.proofs.Steps.{nothing_held, kept_head, hears_more, hears_interim, hears_final, all_taken}
+use Rattle.h1_reader.proofs.FaultSteps.{fails_head, fails_ninth}
 use Rattle.h1_reader.proofs.reader.Reader.take_head.Goals as goal
 
 pub invariant_of-self-then-interims-ge-MOST_INTERIMS : goal.invariant_of-self-then-interims-ge-MOST_INTERIMS
@@ -43,15 +44,15 @@ pub returns-then-interims-ge-MOST_INTERIMS-clause-fault : goal.returns-then-inte
 returns-then-interims-ge-MOST_INTERIMS-clause-fault c =
     let read = rw c.in-Ok-InterimAt.field-0-is at c.in-Ok-InterimAt.ensures in
     let held : c.replace-held.result.items ≡ c.args.self.now.held = ap (λ (v : Vec ℕ Global). v.items) c.replace-held.ensures.value ∙ ap (λ (s : State). s.held) c.self.view_is in
-    λ _. breaks_ninth c.args.self.now c.args.interims c.in-Ok-InterimAt.used c.args.octets.now c.in-Ok-InterimAt.head c.requires.place c.if-interims-ge-MOST_INTERIMS.true
+    λ _. fails_ninth c.args.self.now c.args.interims c.in-Ok-InterimAt.used c.args.octets.now c.in-Ok-InterimAt.head c.requires.place c.if-interims-ge-MOST_INTERIMS.true
     (subst (λ (o : List ℕ). model.Interim (o ++ take c.in-Ok-InterimAt.used c.args.octets.now) c.in-Ok-InterimAt.head) held read.2)
 
 pub returns-in-Err-clause-fault : goal.returns-in-Err-clause-fault
 returns-in-Err-clause-fault c =
     let held : c.replace-held.result.items ≡ c.args.self.now.held = ap (λ (v : Vec ℕ Global). v.items) c.replace-held.ensures.value ∙ ap (λ (s : State). s.held) c.self.view_is in
-    λ n. breaks_head c.args.self.now c.args.interims c.args.octets.now c.requires.place
-    (subst (λ (o : List ℕ). HasNoHead c.args.self.now.to_head (o ++ c.args.octets.now)) held
-    (subst (λ t. HasNoHead t (c.replace-held.result.items ++ c.args.octets.now)) (ap (λ (s : State). s.to_head) c.self.view_is) (c.in-Err.ensures n)))
+    λ n. fails_head c.args.self.now c.args.interims c.in-Err.fault c.args.octets.now c.requires.place
+    (subst (λ (o : List ℕ). HeadFault c.in-Err.fault c.args.self.now.to_head 0 (o ++ c.args.octets.now)) held
+    (subst (λ t. HeadFault c.in-Err.fault t 0 (c.replace-held.result.items ++ c.args.octets.now)) (ap (λ (s : State). s.to_head) c.self.view_is) (c.in-Err.ensures n)))
 
 pub returns-in-Ok-OnGoing-clause-ok : goal.returns-in-Ok-OnGoing-clause-ok
 returns-in-Ok-OnGoing-clause-ok c =

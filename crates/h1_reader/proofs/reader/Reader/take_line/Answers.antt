@@ -4,11 +4,11 @@ use Rattle.h1_reader.specs.declared.chunk_line.LineStep.TheVariants.{Whole}
 use Rattle.h1_reader.specs.declared.reader.Place.TheVariants.{Line, Trailers}
 use Rattle.h1_reader.proofs.TrailerLemmas.{no_trailers_yet, trailers_may_come}
 use Rattle.h1_reader.proofs.ChunkSteps.{hears_line, hears_last}
-use Rattle.h1_reader.proofs.ChunkEnds.{breaks_line}
+use Rattle.h1_reader.proofs.FaultSteps.{fails_line}
 use Rattle.h1_reader.proofs.reader.Reader.take_line.Goals as goal
 
 pub returns-in-None-clause-fault : goal.returns-in-None-clause-fault
-returns-in-None-clause-fault c = breaks_line c.args.self.now c.args.line c.args.octet c.requires.place c.in-None.ensures
+returns-in-None-clause-fault c = fails_line c.args.self.now c.args.line c.args.octet c.requires.place c.in-None.ensures
 
 pub returns-in-Some-On-clause-ok : goal.returns-in-Some-On-clause-ok
 returns-in-Some-On-clause-ok c =

@@ -2,12 +2,12 @@ use Rattle.std.proofs.Common.{◌≡◌, ◌∙◌, ◌∷◌, [], ◌++◌, Lis
 use Rattle.std.proofs.lemmas.List.{append-nil}
 use Rattle.model.specs.Responses.{IsTrailers}
 use Rattle.h1_reader.specs.Parts.Part.{Done}
-use Rattle.h1_reader.specs.Trailers.{NeverTrailers}
+use Rattle.h1_reader.specs.Faults.{TrailerFault}
 use Rattle.h1_reader.specs.Standing.{State}
 use Rattle.h1_reader.specs.declared.reader.Place.TheVariants.{Trailers, Past}
 use Rattle.h1_reader.proofs.Steps.{all_taken}
 use Rattle.h1_reader.proofs.ChunkSteps.{hears_trailers, hears_end}
-use Rattle.h1_reader.proofs.ChunkEnds.{breaks_trailers}
+use Rattle.h1_reader.proofs.FaultSteps.{fails_trailers}
 use Rattle.h1_reader.proofs.reader.Reader.take_trailers.Goals as goal
 
 pub returns-in-Ok-OnGoing-clause-ok : goal.returns-in-Ok-OnGoing-clause-ok
@@ -45,5 +45,5 @@ returns-in_ok-done-in-Ok-WholeAt-clause-ok c =
 pub returns-in-Err-clause-fault : goal.returns-in-Err-clause-fault
 returns-in-Err-clause-fault c =
     let held : c.replace-held.result.items ≡ c.args.self.now.held = ap (λ (v : Vec ℕ Global). v.items) c.replace-held.ensures.value ∙ ap (λ (s : State). s.held) c.self.view_is in
-    λ n. breaks_trailers c.args.self.now c.args.octets.now c.requires.place
-    (subst (λ (o : List ℕ). NeverTrailers (o ++ c.args.octets.now)) held (c.in-Err.ensures n))
+    λ n. fails_trailers c.args.self.now c.in-Err.fault c.args.octets.now c.requires.place
+    (subst (λ (o : List ℕ). TrailerFault c.in-Err.fault (o ++ c.args.octets.now)) held (c.in-Err.ensures n))

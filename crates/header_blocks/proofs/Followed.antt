@@ -1,5 +1,7 @@
 -- What a joiner keeps is what the frames say.
-use Rattle.std.proofs.Common.{◌≡◌, ℕ, suc, ◌+◌, ◌≤◌, ◌==◌, nat_lt, Bool, true, false, not, ◌&&◌, ◌||◌, if◌then◌else◌, List, [], ◌∷◌, ◌++◌, length, length-append, Option, Some, None, refl, ap, sym, ◌∙◌, subst, arith}
+use Rattle.std.proofs.Common.{◌≡◌, ℕ, suc, ◌+◌, ◌-◌, ◌≤◌, ◌==◌, nat_lt, Bool, true, false, not, ◌&&◌, ◌||◌, if◌then◌else◌, List, [], ◌∷◌, ◌++◌, length, length-append, Option, Some, None, refl, ap, sym, ◌∙◌, subst, arith}
+use Rattle.std.specs.Prelude.{is_some}
+use Rattle.std.proofs.lemmas.List.{take_all}
 use Rattle.std.proofs.lemmas.Bool.{eq-eqb, eqb-true, ltb-false}
 use Rattle.model.specs.Frames.{Frame, headers_kind, continuation_kind, ends_headers, ends_stream, content}
 use Rattle.model.specs.Tapes.{Noted}
@@ -102,6 +104,16 @@ more_joined joining frame e is =
       record { block = on.block; is_begun = on.is; octets = omega (arith, size, sum); frames = omega (arith, count) },
       joins ∙ ap (λ b. (continues (record { begun = b; continuations = joining.continuations }) (content frame)).begun) (sym on.is),
     )
+
+-- the payload of a CONTINUATION is its fragment
+pub room_for : (joining : Joining) (kind id : ℕ) (payload : List ℕ) → fault_at joining (record { kind = kind; flags = 0; id = id; payload = payload }) ≡ None → kind ≡ continuation_kind → HasRoom joining payload
+room_for joining kind id payload e is =
+    let whole : content (record { kind = kind; flags = 0; id = id; payload = payload }) ≡ payload = ap (λ k. content (record { kind = k; flags = 0; id = id; payload = payload })) is ∙ take_all (length payload - 0 - 0) payload (omega arith) in
+    subst (HasRoom joining) whole (more_joined joining (record { kind = kind; flags = 0; id = id; payload = payload }) e is).0
+
+pub none_at : (fault : Option JoinFault) → false ≡ is_some fault → fault ≡ None
+none_at None e = refl
+none_at (Some f) e = cc
 
 -- ---- any other frame
 

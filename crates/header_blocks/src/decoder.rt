@@ -11,7 +11,7 @@ ghost use Rattle.header_blocks.specs.Decoding.{DecodesFrom, Settles};
 ghost use Rattle.header_blocks.specs.Faults.{IsFaultOf};
 
 use crate::fault::DecodeFault;
-use crate::fields::{Taken, take_field};
+use crate::fields::{Taken, skip_indexed, take_field};
 use crate::gather::{Decoded, Gathering};
 use crate::maxima::{is_maximum, take_maxima};
 use crate::strings::take_int;
@@ -110,6 +110,11 @@ fn decode_block(
         if is_maximum(block[start]) {
             take_int(5, &block[start..])?;
             return Err(DecodeFault::Late);
+        }
+        // past the cap an indexed field is copied no more, be it as long as the table allows
+        if gathering.room.is_none() && block[start] >= 128 {
+            start += skip_indexed(table, &block[start..])?;
+            continue;
         }
         let taken = take_field(alloc, table, &block[start..])?;
         start += taken.used;

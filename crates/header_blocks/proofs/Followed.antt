@@ -1,39 +1,47 @@
 -- What a joiner keeps is what the frames say.
-use Rattle.std.proofs.Common.{◌≡◌, ℕ, ◌+◌, ◌==◌, Bool, true, false, if◌then◌else◌, List, ◌∷◌, ◌++◌, Option, Some, None, refl, ap, sym, ◌∙◌, arith}
-use Rattle.std.proofs.lemmas.Bool.{eq-eqb, eqb-true}
+use Rattle.std.proofs.Common.{◌≡◌, ℕ, suc, ◌+◌, ◌-◌, ◌≤◌, ◌==◌, nat_lt, Bool, true, false, not, ◌&&◌, ◌||◌, if◌then◌else◌, List, [], ◌∷◌, ◌++◌, length, length-append, Option, Some, None, refl, ap, sym, ◌∙◌, subst, arith}
+use Rattle.std.specs.Prelude.{is_some}
+use Rattle.std.proofs.lemmas.List.{take_all}
+use Rattle.std.proofs.lemmas.Bool.{eq-eqb, eqb-true, ltb-false}
 use Rattle.model.specs.Frames.{Frame, headers_kind, continuation_kind, ends_headers, ends_stream, content}
 use Rattle.model.specs.Tapes.{Noted}
 use Rattle.model.specs.Decoding.{Partial, joined, begun, completed}
-use Rattle.header_blocks.specs.Joining.{Begun, begins, continues}
-use Rattle.header_blocks.specs.Following.{last_continuations, IsSameBlock, IsKeptOf, LeadsTo}
+use Rattle.model.specs.FrameErrors.{is_between, is_long, longest_block, most_continuations, last_continuations}
+use Rattle.header_blocks.specs.Joining.{Joining, nothing_begun, continuations_with, is_too_long, misplaced, fault_at, begins, continues, HasRoom}
+use Rattle.header_blocks.specs.Following.{IsKeptOf}
+use Rattle.header_blocks.specs.declared.join_fault.JoinFault.{JoinFault}
+use Rattle.header_blocks.specs.declared.join_fault.JoinFault.TheVariants.{TooLong}
 
-not_equal : (a b : ℕ) → (a ≡ b → ⊥) → (a == b) ≡ false
+pub not_equal : (a b : ℕ) → (a ≡ b → ⊥) → (a == b) ≡ false
 not_equal a b never = no (a == b) (λ e. never (eqb-true a b e))
   where
     no : (t : Bool) → (t ≡ true → ⊥) → t ≡ false
     no true f = absurd (f refl)
     no false f = refl
 
--- a frame that leads to a block, and what it leaves by whether it ends the block
-left_open : (before : List Noted) (noted : Noted) (partial : Option Partial) → joined (begun before) noted.frame ≡ partial → ends_headers noted.frame ≡ false → begun (noted ∷ before) ≡ partial
-left_open before noted partial is unended = rw unended is
+-- a test that isn't passed where there is no fault
+passed : (test : Bool) (fault : JoinFault) (other : Option JoinFault) → (if test then Some fault else other) ≡ None → (test ≡ false) × (other ≡ None)
+passed true fault other e = cc
+passed false fault other e = (refl, e)
 
-left_whole : (before : List Noted) (noted : Noted) → ends_headers noted.frame ≡ true → begun (noted ∷ before) ≡ None
-left_whole before noted whole = rw whole refl
+neither : (a b : Bool) → (a || b) ≡ false → (a ≡ false) × (b ≡ false)
+neither true b e = cc
+neither false b e = (refl, e)
 
-completed_whole : (before : List Noted) (noted : Noted) (partial : Option Partial) → joined (begun before) noted.frame ≡ partial → ends_headers noted.frame ≡ true → completed before noted.frame ≡ partial
-completed_whole before noted partial is whole = rw whole is
+-- What is known of a frame without a fault.
+pub record IsFaultless (joining : Joining) (frame : Frame) : Type 0 where
+  pub in_place : is_between joining.begun frame ≡ false
+  pub short : is_long (joined joining.begun frame) ≡ false
+  pub few : nat_lt most_continuations (continuations_with joining frame) ≡ false
 
-completed_none : (before : List Noted) (noted : Noted) → ends_headers noted.frame ≡ false → completed before noted.frame ≡ None
-completed_none before noted unended = rw unended refl
+pub faultless : (joining : Joining) (frame : Frame) → fault_at joining frame ≡ None → IsFaultless joining frame
+faultless joining frame e =
+    let first = passed (is_between joining.begun frame) (misplaced joining.begun) (if is_too_long joining frame then Some TooLong else None) e in
+    let second = passed (is_too_long joining frame) TooLong None first.1 in
+    let both = neither (is_long (joined joining.begun frame)) (nat_lt most_continuations (continuations_with joining frame)) second.0 in
+    record { in_place = first.0; short = both.0; few = both.1 }
 
-leads : (before : List Noted) (noted : Noted) (block : Begun) (partial : Partial) → joined (begun before) noted.frame ≡ Some partial → IsSameBlock block partial → block.continuations ≡ last_continuations (noted ∷ before) → LeadsTo before noted block
-leads before noted block partial is same count = record {
-  kept = λ unended. record { partial = partial; is = left_open before noted (Some partial) is unended; same = same; continuations = count };
-  not_whole = completed_none before noted;
-  whole = λ ends. record { partial = partial; is = completed_whole before noted (Some partial) is ends; same = same };
-  not_kept = left_whole before noted;
-}
+-- ---- HEADERS
 
 begun_by : Frame → Partial
 begun_by frame = record { id = frame.id; ends = ends_stream frame; fragments = content frame }
@@ -42,11 +50,20 @@ joined_first : (frame : Frame) → frame.kind ≡ headers_kind → joined None f
 unfolding begun_by
 joined_first frame is = let yes : (frame.kind == headers_kind) ≡ true = eq-eqb frame.kind headers_kind is in rw yes refl
 
-pub first_leads : (before : List Noted) (noted : Noted) → IsKeptOf before None → noted.frame.kind ≡ headers_kind → LeadsTo before noted (begins noted.frame.id (content noted.frame))
+none_begun : (before : Option Partial) (frame : Frame) → (frame.kind == continuation_kind) ≡ false → is_between before frame ≡ false → before ≡ None
+none_begun None frame other e = refl
+none_begun (Some block) frame other e = let clash : true ≡ false = (rw other at e) in cc
+
+headers_differ : (kind : ℕ) → kind ≡ headers_kind → (kind == continuation_kind) ≡ false
+headers_differ kind is = not_equal kind continuation_kind (λ e. let clash : headers_kind ≡ continuation_kind = sym is ∙ e in omega (arith, clash))
+
+pub first_joined : (joining : Joining) (frame : Frame) → fault_at joining frame ≡ None → frame.kind ≡ headers_kind → (joining.begun ≡ None) × (joined joining.begun frame ≡ (begins frame.id (ends_stream frame) (content frame)).begun)
 unfolding begun_by
-first_leads before noted none is =
-    let no : (noted.frame.kind == continuation_kind) ≡ false = not_equal noted.frame.kind continuation_kind (λ e. let clash : headers_kind ≡ continuation_kind = sym is ∙ e in omega (arith, clash)) in
-    leads before noted (begins noted.frame.id (content noted.frame)) (begun_by noted.frame) (ap (λ b. joined b noted.frame) none ∙ joined_first noted.frame is) (record { id = refl; fragments = refl }) (rw no refl)
+first_joined joining frame e is =
+    let none : joining.begun ≡ None = none_begun joining.begun frame (headers_differ frame.kind is) (faultless joining frame e).in_place in
+    (none, ap (λ b. joined b frame) none ∙ joined_first frame is)
+
+-- ---- CONTINUATION
 
 more_of : Partial → Frame → Partial
 more_of partial frame = record { id = partial.id; ends = partial.ends; fragments = partial.fragments ++ content frame }
@@ -58,27 +75,83 @@ joined_more partial frame is same =
     let on : (frame.id == partial.id) ≡ true = eq-eqb frame.id partial.id same in
     rw (yes, on) refl
 
-pub more_leads : (before : List Noted) (noted : Noted) (block : Begun) → IsKeptOf before (Some block) → noted.frame.kind ≡ continuation_kind → noted.frame.id ≡ block.id → LeadsTo before noted (continues block (content noted.frame))
+-- The block with which a CONTINUATION goes on.
+record GoesOnWith (before : Option Partial) (frame : Frame) : Type 0 where
+  pub block : Partial
+  pub is : before ≡ Some block
+  pub same : frame.id ≡ block.id
+
+not_both : (test : Bool) → not (true && test) ≡ false → test ≡ true
+not_both true e = refl
+not_both false e = cc
+
+goes_on_with : (before : Option Partial) (frame : Frame) → frame.kind ≡ continuation_kind → is_between before frame ≡ false → GoesOnWith before frame
+goes_on_with None frame is e = let clash : true ≡ false = sym (eq-eqb frame.kind continuation_kind is) ∙ e in cc
+goes_on_with (Some block) frame is e =
+    let yes : (frame.kind == continuation_kind) ≡ true = eq-eqb frame.kind continuation_kind is in
+    record { block = block; is = refl; same = eqb-true frame.id block.id (not_both (frame.id == block.id) (rw yes at e)) }
+
+pub more_joined : (joining : Joining) (frame : Frame) → fault_at joining frame ≡ None → frame.kind ≡ continuation_kind → HasRoom joining (content frame) × (joined joining.begun frame ≡ (continues joining (content frame)).begun)
 unfolding more_of
-more_leads before noted block p is same =
-    let yes : (noted.frame.kind == continuation_kind) ≡ true = eq-eqb noted.frame.kind continuation_kind is in
-    leads before noted (continues block (content noted.frame)) (more_of p.partial noted.frame)
-    (ap (λ b. joined b noted.frame) p.is ∙ joined_more p.partial noted.frame is (same ∙ p.same.id))
-    (record { id = p.same.id; fragments = ap (λ f. f ++ content noted.frame) p.same.fragments })
-    (rw yes (ap (λ n. n + 1) p.continuations))
+more_joined joining frame e is =
+    let fine = faultless joining frame e in
+    let on = goes_on_with joining.begun frame is fine.in_place in
+    let joins : joined joining.begun frame ≡ Some (more_of on.block frame) = ap (λ b. joined b frame) on.is ∙ joined_more on.block frame is on.same in
+    let size : length (on.block.fragments ++ content frame) ≤ longest_block = ltb-false longest_block (length (on.block.fragments ++ content frame)) (ap is_long (sym joins) ∙ fine.short) in
+    let yes : (frame.kind == continuation_kind) ≡ true = eq-eqb frame.kind continuation_kind is in
+    let count : suc joining.continuations ≤ most_continuations = ltb-false most_continuations (suc joining.continuations) (rw yes at fine.few) in
+    let sum = length-append on.block.fragments (content frame) in (
+      record { block = on.block; is_begun = on.is; octets = omega (arith, size, sum); frames = omega (arith, count) },
+      joins ∙ ap (λ b. (continues (record { begun = b; continuations = joining.continuations }) (content frame)).begun) (sym on.is),
+    )
 
-joined_other : (frame : Frame) → (frame.kind ≡ headers_kind → ⊥) → joined None frame ≡ None
-joined_other frame never = let no : (frame.kind == headers_kind) ≡ false = not_equal frame.kind headers_kind never in rw no refl
+-- the payload of a CONTINUATION is its fragment
+pub room_for : (joining : Joining) (kind id : ℕ) (payload : List ℕ) → fault_at joining (record { kind = kind; flags = 0; id = id; payload = payload }) ≡ None → kind ≡ continuation_kind → HasRoom joining payload
+room_for joining kind id payload e is =
+    let whole : content (record { kind = kind; flags = 0; id = id; payload = payload }) ≡ payload = ap (λ k. content (record { kind = k; flags = 0; id = id; payload = payload })) is ∙ take_all (length payload - 0 - 0) payload (omega arith) in
+    subst (HasRoom joining) whole (more_joined joining (record { kind = kind; flags = 0; id = id; payload = payload }) e is).0
 
-either : (b : Bool) (x : Option Partial) → x ≡ None → (if b then None else x) ≡ None
-either true x e = refl
-either false x e = e
+pub none_at : (fault : Option JoinFault) → false ≡ is_some fault → fault ≡ None
+none_at None e = refl
+none_at (Some f) e = cc
 
-or_none : (b : Bool) (x : Option Partial) → x ≡ None → (if b then x else None) ≡ None
-or_none true x e = e
-or_none false x e = refl
+-- ---- any other frame
 
-pub other_leads : (before : List Noted) (noted : Noted) → IsKeptOf before None → (noted.frame.kind ≡ headers_kind → ⊥) → IsKeptOf (noted ∷ before) None × (completed before noted.frame ≡ None)
-other_leads before noted none never =
-    let nothing : joined (begun before) noted.frame ≡ None = ap (λ b. joined b noted.frame) none ∙ joined_other noted.frame never in
-    (either (ends_headers noted.frame) (joined (begun before) noted.frame) nothing, or_none (ends_headers noted.frame) (joined (begun before) noted.frame) nothing)
+pub other_joined : (joining : Joining) (frame : Frame) → fault_at joining frame ≡ None → (frame.kind ≡ headers_kind → ⊥) → (frame.kind ≡ continuation_kind → ⊥) → (joining.begun ≡ None) × (joined joining.begun frame ≡ None)
+other_joined joining frame e no_headers no_continuation =
+    let none : joining.begun ≡ None = none_begun joining.begun frame (not_equal frame.kind continuation_kind no_continuation) (faultless joining frame e).in_place in
+    let no : (frame.kind == headers_kind) ≡ false = not_equal frame.kind headers_kind no_headers in
+    (none, ap (λ b. joined b frame) none ∙ rw no refl)
+
+-- ---- the frames of a direction
+
+-- of how many CONTINUATION frames the newest are
+pub counted : (before : List Noted) (noted : Noted) (joining : Joining) → IsKeptOf before joining → is_between joining.begun noted.frame ≡ false → continuations_with joining noted.frame ≡ last_continuations (noted ∷ before)
+counted before noted joining kept e = by_type (noted.frame.kind == continuation_kind) refl
+  where
+    by_type : (test : Bool) → (noted.frame.kind == continuation_kind) ≡ test → (if test then suc joining.continuations else 0) ≡ (if test then suc (last_continuations before) else 0)
+    by_type false is = refl
+    by_type true is =
+        let on = goes_on_with joining.begun noted.frame (eqb-true noted.frame.kind continuation_kind is) e in
+        ap suc (kept.continuations (λ none. let clash : ◌≡◌ {A = Option Partial} None (Some on.block) = sym none ∙ on.is in cc))
+
+pub nothing_kept : IsKeptOf [] nothing_begun
+nothing_kept = record { is_begun = refl; continuations = λ some. absurd (some refl) }
+
+-- behind a frame that doesn't end its block
+pub kept_on : (before : List Noted) (noted : Noted) (joining : Joining) → IsKeptOf before joining → fault_at joining noted.frame ≡ None → ends_headers noted.frame ≡ false
+    → IsKeptOf (noted ∷ before) (record { begun = joined joining.begun noted.frame; continuations = continuations_with joining noted.frame }) × (completed before noted.frame ≡ None)
+kept_on before noted joining kept e unended = (
+  record {
+    is_begun = ap (λ b. joined b noted.frame) kept.is_begun ∙ ap (λ b. if b then None else joined (begun before) noted.frame) (sym unended);
+    continuations = λ some. counted before noted joining kept (faultless joining noted.frame e).in_place;
+  },
+  ap (λ b. if b then joined (begun before) noted.frame else None) unended,
+)
+
+-- behind a frame that does
+pub kept_none : (before : List Noted) (noted : Noted) (joining : Joining) → IsKeptOf before joining → ends_headers noted.frame ≡ true → IsKeptOf (noted ∷ before) nothing_begun × (completed before noted.frame ≡ joined joining.begun noted.frame)
+kept_none before noted joining kept ended = (
+  record { is_begun = sym (ap (λ b. if b then None else joined (begun before) noted.frame) ended); continuations = λ some. absurd (some refl) },
+  ap (λ b. if b then joined (begun before) noted.frame else None) ended ∙ ap (λ b. joined b noted.frame) (sym kept.is_begun),
+)

@@ -9,5 +9,4 @@ pub mod Announced
 pub mod Wrote
 pub mod Faulted
 pub mod Followed
-pub mod Joined
 pub mod OneFault

@@ -1,5 +1,6 @@
 -- Octets that aren't a block, by a place that can't be read.
-use Rattle.std.proofs.Common.{◌≡◌, ℕ, zero, suc, ◌+◌, ◌-◌, ◌/◌, ◌<◌, ◌≤◌, List, [], ◌∷◌, ◌++◌, length, take, drop, get_or, refl, ap, sym, ◌∙◌, subst, inl, inr, arith, append_assoc, length-drop, Option}
+use Rattle.std.proofs.Common.{◌≡◌, ℕ, zero, suc, ◌+◌, ◌-◌, ◌/◌, ◌<◌, ◌≤◌, List, [], ◌∷◌, ◌++◌, length, take, drop, get_or, refl, ap, sym, ◌∙◌, subst, inl, inr, arith, append_assoc, length-drop, true, false, Option, None, Some}
+use Rattle.std.specs.Prelude.{is_some}
 use Rattle.std.proofs.lemmas.List.{append-nil, take_rest, take-append-drop, get_or_past}
 use Rattle.std.proofs.lemmas.Bool.{cases_lt}
 use Rattle.model.specs.Messages.{Field}
@@ -10,12 +11,12 @@ use Rattle.model.proofs.IntegerLemmas.{one_int}
 use Rattle.model.proofs.BlockLemmas.{head_mark, cancel}
 use Rattle.model.proofs.BlockLaws.{one_field, none_longer, field_some, field_head, maximum_apart, fields_apart}
 use Rattle.hpack_int.specs.Reading.{ReadsValue}
-use Rattle.header_blocks.specs.Represented.{BeginsNoField, BeginsNoMaximum, TakesField}
+use Rattle.header_blocks.specs.Represented.{BeginsNoField, BeginsNoMaximum, TakesField, SkipsField}
 use Rattle.header_blocks.specs.Decoding.{TakesMaxima, GathersFrom, Settles}
 use Rattle.header_blocks.specs.Gathering.{Holds}
 use Rattle.header_blocks.specs.declared.fields.Taken.{Taken}
 use Rattle.header_blocks.proofs.Chained.{gathers_start, gathers_field}
-use Rattle.header_blocks.proofs.Gathered.{within_rest}
+use Rattle.header_blocks.proofs.Gathered.{stays_over, within_rest}
 use Rattle.header_blocks.proofs.Refused.{same_value}
 
 nothing_left : (x z : List ℕ) → 0 < length z → x ++ z ≡ [] → ⊥
@@ -158,3 +159,14 @@ decoding_field first now next block start cap taken kept more room rest d t s =
       fresh = λ e. absurd (last_of d.gathers.all taken.field e);
       unmarked = λ e. absurd (last_of d.gathers.all taken.field e);
     }
+
+pub is_none_at : (room : Option ℕ) → is_some room ≡ false → room ≡ None
+is_none_at None e = refl
+is_none_at (Some r) e = cc
+
+-- an indexed field that isn't kept, since those before passed the maximum
+pub decoding_skipped : (first now : Table) (block : List ℕ) (start cap used : ℕ) (kept : List Field) (room : Option ℕ) → Decoding first block start cap kept room now
+    → SkipsField now (take (length block - start) (drop start block)) used → room ≡ None → Decoding first block (start + used) cap kept room now
+decoding_skipped first now block start cap used kept room d s none =
+    let taken : Taken = record { field = s.field; used = used; inserts = false } in
+    decoding_field first now now block start cap taken kept kept room room d (record { some = s.some; within = s.within; is_field = s.is_field }) (record { table = refl; gathered = stays_over s.field kept room none })

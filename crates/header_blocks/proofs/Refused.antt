@@ -1,5 +1,5 @@
 -- What can't be read begins with nothing that can.
-use Rattle.std.proofs.Common.{◌≡◌, ℕ, zero, suc, ◌+◌, ◌-◌, ◌<◌, ◌≤◌, ◌⊎◌, List, [], ◌∷◌, ◌++◌, length, take, drop, get_or, Result, Ok, Err, IfErr, Option, Some, None, IfNone, refl, ap, sym, ◌∙◌, subst, inl, inr, arith, append_assoc, length-append, length-drop}
+use Rattle.std.proofs.Common.{◌≡◌, ℕ, zero, suc, ◌+◌, ◌-◌, ◌<◌, ◌≤◌, ◌⊎◌, List, [], ◌∷◌, ◌++◌, length, take, drop, get_or, Result, Ok, Err, IfErr, Option, Some, None, refl, ap, sym, ◌∙◌, subst, inl, inr, arith, append_assoc, length-append, length-drop}
 use Rattle.std.proofs.lemmas.List.{append-nil, take_rest, take-append-drop}
 use Rattle.std.proofs.Math.Seq.{take-append_seam}
 use Rattle.model.specs.Messages.{Field}
@@ -10,6 +10,7 @@ use Rattle.model.specs.Blocks.{IsNewName, IsNameOfEntry, IsLiteral}
 use Rattle.model.proofs.IntegerLemmas.{one_int}
 use Rattle.model.proofs.BlockLemmas.{head_mark, cancel, literal_head, one_name}
 use Rattle.hpack_int.specs.Reading.{ReadsValue, IsBad}
+use Rattle.header_blocks.specs.Directions.{table_behind}
 use Rattle.header_blocks.specs.Represented.{UnlessMemory, BeginsNoString, BeginsNoName, BeginsNoLiteral, BeginsNoField, TakesName}
 use Rattle.header_blocks.specs.declared.fault.DecodeFault.{DecodeFault}
 use Rattle.header_blocks.specs.declared.fault.DecodeFault.TheVariants.{Integer, Text, Index, Maximum, Late, Cut, Memory}
@@ -189,6 +190,7 @@ no_other table octets low none = λ front rest field next e r.
       | inr (inr (inr p)) ↦ none 1 front rest field e p.literal
     ]
 
-pub if_none : {X : Type 0} (o : Option X) (P : Type 0) → P → IfNone o P
-if_none None P p = p
-if_none (Some x) P p = tt
+-- what is said by the table that lies there, said by the one that is seen
+pub by_seen : {U : Type 0} (r : Result U DecodeFault) (P : Table → DecodeFault → Type 0) (before : Option DecodeFault) (last table : Table) → IfErr r (P table) → IfErr r (λ fault. before ≡ None → P (table_behind before last table) fault)
+by_seen (Ok value) P before last table p = tt
+by_seen (Err fault) P before last table p = λ none. subst (λ b. P (table_behind b last table) fault) (sym none) p

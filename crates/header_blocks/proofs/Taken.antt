@@ -1,15 +1,15 @@
 -- What is taken from the front of octets.
-use Rattle.std.proofs.Common.{◌≡◌, ℕ, ◌+◌, ◌-◌, ◌/◌, ◌^◌, ◌<◌, ◌≤◌, ◌⊎◌, List, ◌++◌, length, take, drop, get_or, refl, ap, sym, ◌∙◌, subst, inl, inr, arith, length-drop}
+use Rattle.std.proofs.Common.{◌≡◌, ℕ, ◌+◌, ◌-◌, ◌/◌, ◌^◌, ◌<◌, ◌≤◌, ◌⊎◌, List, ◌++◌, length, Some, take, drop, get_or, refl, ap, sym, ◌∙◌, subst, inl, inr, arith, length-drop}
 use Rattle.std.proofs.lemmas.List.{take_rest, length-take-le}
 use Rattle.std.proofs.lemmas.Bool.{cases_lt}
 use Rattle.std.proofs.Math.Seq.{take-add}
 use Rattle.model.specs.Messages.{Field}
 use Rattle.model.specs.Integers.{IsMarkedInt}
 use Rattle.model.specs.Huffman.{Huff}
-use Rattle.model.specs.Tables.{Table, added}
+use Rattle.model.specs.Tables.{Table, added, look_up}
 use Rattle.model.specs.Blocks.{IsString, IsNewName, IsNameOfEntry, IsLiteral, Represents}
 use Rattle.hpack_int.specs.Reading.{ReadsValue}
-use Rattle.header_blocks.specs.Represented.{TakesString, TakesName, TakesLiteral}
+use Rattle.header_blocks.specs.Represented.{TakesString, TakesName, TakesLiteral, SkipsField}
 use Rattle.header_blocks.proofs.Spelled.{raw_string, marked, some}
 
 pub taken_raw : (octets : List ℕ) (number start : ℕ) (string : List ℕ) → ReadsValue 7 octets number start → get_or octets 0 0 < 128 → number ≤ length octets - start
@@ -60,6 +60,16 @@ taken_literal table prefix octets index start name name_length value value_lengt
         name = subst (λ t. IsNewName index (take name_length (drop start octets)) t ⊎ IsNameOfEntry table index (take name_length (drop start octets)) t) (sym is_name) n2.is_name;
         string = subst (λ t. IsString (take value_length (drop (start + name_length) octets)) t) (sym is_value) v2.is_string;
       };
+    }
+
+pub skipped : (table : Table) (octets : List ℕ) (index used : ℕ) (entry : Field) → ReadsValue 7 octets index used → 128 ≤ get_or octets 0 0 → get_or octets 0 0 < 256 → look_up table index ≡ Some entry → SkipsField table octets used
+skipped table octets index used entry p high small found =
+    let mark : get_or octets 0 0 / 2 ^ 7 ≡ 1 = omega arith in
+    record {
+      field = entry;
+      some = some 7 octets index used p;
+      within = p.within;
+      is_field = inl (record { index = index; marked = subst (λ m. IsMarkedInt 7 m (take used octets) index) mark (marked 7 octets index used p); found = found; same = refl });
     }
 
 pub taken_inserted : (table : Table) (octets : List ℕ) (field : Field) (used : ℕ) → get_or octets 0 0 / 64 ≡ 1 → TakesLiteral table 6 octets field used → Represents table (take used octets) field (added field table)

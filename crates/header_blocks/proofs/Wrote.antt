@@ -7,7 +7,7 @@ use Rattle.std.proofs.Math.Seq.{take-append_seam}
 use Rattle.model.specs.Octets.{IsFront}
 use Rattle.model.specs.Messages.{Field}
 use Rattle.model.specs.Tables.{Table, look_up, added, resized, keep, first_maximum, field_size}
-use Rattle.model.specs.Blocks.{IsString, IsNewName, IsNameOfEntry, Represents, AreFields, AreMaxima}
+use Rattle.model.specs.Blocks.{IsString, IsRawString, IsNewName, IsNameOfEntry, Represents, AreFields, AreMaxima}
 use Rattle.hpack_table.specs.Finding.{FindsBoth, FindsName, HasNone, HasNoName}
 use Rattle.hpack_int.specs.Writing.{Writes}
 use Rattle.header_blocks.specs.Chosen.{sought, IsNameIndex, IsChosen, AreChosen}
@@ -33,7 +33,7 @@ raw : (string old between new : List ℕ) → Writes 7 0 (length string) old bet
 raw string old between new w is = record {
   text = w.text ++ string;
   added = is ∙ ap (λ o. o ++ string) w.added ∙ append_assoc old w.text string;
-  is_string = inl (record { header = w.text; is = refl; number = w.shortest.marked });
+  is_string = record { header = w.text; is = refl; number = w.shortest.marked };
 }
 
 pub raw_added : {U E : Type 0} (r : Result U E) (string old between new : List ℕ) → Writes 7 0 (length string) old between → new ≡ (if is_ok r then between ++ string else between) → OnOk r (AddsString string old new)
@@ -56,13 +56,14 @@ old_name table index name some (inr p) = absurd (some p.1)
 pub record NameFollows (index : ℕ) (name old new : List ℕ) : Type 0 where
   pub text : List ℕ
   pub is : new ≡ old ++ text
+  pub raw : index ≡ 0 → IsRawString text name
   pub named : (table : Table) → IsNameIndex table name index → IsNewName index text name ⊎ IsNameOfEntry table index text name
 
 pub name_written : (index : ℕ) (name old new : List ℕ) → index ≡ 0 → AddsString name old new → NameFollows index name old new
-name_written index name old new zero_index s = record { text = s.text; is = s.added; named = λ table is. new_name table index name s.text zero_index is s.is_string }
+name_written index name old new zero_index s = record { text = s.text; is = s.added; raw = λ zero_again. s.is_string; named = λ table is. new_name table index name s.text zero_index is (inl s.is_string) }
 
 pub nothing_written : (index : ℕ) (name old new : List ℕ) → (index ≡ 0 → ⊥) → new ≡ old → NameFollows index name old new
-nothing_written index name old new some is = record { text = []; is = is ∙ sym (append-nil old); named = λ table p. old_name table index name some p }
+nothing_written index name old new some is = record { text = []; is = is ∙ sym (append-nil old); raw = λ zero_index. absurd (some zero_index); named = λ table p. old_name table index name some p }
 
 -- a literal, in parts
 pub literal_added : (prefix mark : ℕ) (table : Table) (index : ℕ) (field : Field) (old a b new : List ℕ) → Writes prefix mark index old a → NameFollows index field.name a b → IsNameIndex table field.name index
@@ -79,9 +80,10 @@ literal_added prefix mark table index field old a b new w n is v = record {
     is = refl;
     marked = w.shortest.marked;
     name = n.named table is;
-    string = v.is_string;
+    string = inl v.is_string;
   };
   same = refl;
+  raw = record { name = n.raw; value = v.is_string };
 }
 
 -- where a field is sought
@@ -138,6 +140,7 @@ left_out_added indexing table next field index old new plain p l never is =
         absent = subst (λ t. HasNone t field.name field.value) (sym same) p.none;
         left_out = record { literal = l.literal; same = is };
         name = subst (λ t. IsNameIndex t field.name l.literal.index) (sym same) (subst (λ i. IsNameIndex table field.name i) (sym l.same) p.name);
+        raw = λ is_plain. l.raw;
         too_large = λ on. elim (cases_lt table.maximum (field_size field)) [ inl over ↦ over | inr fits ↦ absurd (never on fits) ];
       }));
     }
@@ -217,12 +220,14 @@ fields_and indexing first now next fields place field old between new within at 
 
 pub encoded : (table : Table) (limits : Option Limits) (indexing : Bool) (maximum : ℕ) (due : Due) (next : Table) (fields : List Field) (before after : List ℕ) → IsDue maximum limits due → maximum ≡ table.maximum
     → AddsBlock indexing table due fields next before after
-    → Encodes (record { table = table; limits = limits; indexing = indexing; refused = false }) (record { table = next; limits = None; indexing = indexing; refused = false }) fields before after
+    → Encodes (record { table = table; limits = limits; indexing = indexing; refused = false }) fields next before after
 encoded table limits indexing maximum due next fields before after d same p = record {
   written = p.written;
   added = p.added;
-  maxima = option_to_list due.least ++ option_to_list due.last;
-  is_block = p.is_block;
-  due = λ named q. subst (λ m. Maxima m named (option_to_list due.least ++ option_to_list due.last)) same (d.maxima named q);
-  chosen = p.chosen;
+  is_written = record {
+    maxima = option_to_list due.least ++ option_to_list due.last;
+    is_block = p.is_block;
+    due = λ named q. subst (λ m. Maxima m named (option_to_list due.least ++ option_to_list due.last)) same (d.maxima named q);
+    chosen = p.chosen;
+  };
 }

@@ -2,7 +2,7 @@
 use Rattle.std.specs.Prelude.{◌≡◌, ℕ, ◌≤◌, ◌<◌, ◌⊎◌, Bool, true, false, List, [], ◌∷◌, ◌++◌, length}
 use Rattle.model.specs.Messages.{Field}
 use Rattle.model.specs.Tables.{Table, field_size}
-use Rattle.model.specs.Blocks.{IsIndexed, IsInserted, IsNotInserted}
+use Rattle.model.specs.Blocks.{IsRawString, IsIndexed, IsInserted, IsNotInserted}
 use Rattle.hpack_table.specs.Finding.{FindsBoth, FindsName, HasNone, HasNoName}
 
 -- A field whose strings can be written.
@@ -19,6 +19,11 @@ sought false table = record { fields = []; maximum = table.maximum }
 abbrev pub IsNameIndex : Table → List ℕ → ℕ → Type 0
 IsNameIndex table name index = FindsName table name index ⊎ (HasNoName table name × (index ≡ 0))
 
+-- The strings of a literal stand raw: its name, where that has no index, and its value.
+pub record AreRaw (index : ℕ) (name_octets value_octets : List ℕ) (field : Field) : Type 0 where
+  pub name : index ≡ 0 → IsRawString name_octets field.name
+  pub value : IsRawString value_octets field.value
+
 -- The least index of the field.
 pub record GoesAsIndex (indexing : Bool) (table : Table) (octets : List ℕ) (field : Field) (next : Table) : Type 0 where
   pub indexed : IsIndexed table octets field next
@@ -32,12 +37,14 @@ pub record GoesIn (indexing : Bool) (table : Table) (octets : List ℕ) (field :
   pub is_indexing : indexing ≡ true
   pub fits : field_size field ≤ table.maximum
 
--- A literal that isn't inserted, of a field that stands nowhere; one that fits the table only where none is inserted.
+-- A literal that isn't inserted, of a field that stands nowhere; one that fits the table only where none is inserted. Then
+-- its strings are raw.
 pub record StaysOut (indexing : Bool) (table : Table) (octets : List ℕ) (field : Field) (next : Table) : Type 0 where
   pub absent : HasNone (sought indexing table) field.name field.value
   pub left_out : IsNotInserted table octets field next
   pub name : IsNameIndex (sought indexing table) field.name left_out.literal.index
   pub too_large : indexing ≡ true → table.maximum < field_size field
+  pub raw : indexing ≡ false → AreRaw left_out.literal.index left_out.literal.name_octets left_out.literal.value_octets field
 
 -- How a field is written.
 abbrev pub IsChosen : Bool → Table → List ℕ → Field → Table → Type 0

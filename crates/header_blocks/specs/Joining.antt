@@ -1,84 +1,60 @@
 -- Header blocks that come in fragments (RFC 9113, section 4.3).
-use Rattle.std.specs.Prelude.{◌≡◌, ℕ, ◌+◌, ◌≤◌, ◌==◌, nat_lt, ◌||◌, Bool, true, false, if◌then◌else◌, List, ◌++◌, length, Option, Some, None}
+use Rattle.std.specs.Prelude.{◌≡◌, ℕ, suc, ◌+◌, ◌≤◌, ◌<◌, ◌==◌, nat_lt, ◌||◌, Bool, if◌then◌else◌, List, ◌++◌, length, Option, Some, None, option_map}
 use Rattle.std.specs.Option.{ForSome}
+use Rattle.model.specs.Frames.{Frame, continuation_kind}
+use Rattle.model.specs.Decoding.{Partial, joined}
+use Rattle.model.specs.FrameErrors.{is_between, is_long, longest_block, most_continuations}
 use Rattle.header_blocks.specs.declared.join_fault.JoinFault.{JoinFault}
-use Rattle.header_blocks.specs.declared.join_fault.JoinFault.TheVariants.{Outside, Between, TooLong, Memory}
+use Rattle.header_blocks.specs.declared.join_fault.JoinFault.TheVariants.{Outside, Between, TooLong}
 
--- A block that was begun: its stream, its fragments, joined, and of how many CONTINUATION frames they came.
-pub record Begun : Type 0 where
-  pub id : ℕ
-  pub fragments : List ℕ
-  pub continuations : ℕ
-
--- The block that was begun and isn't whole, if any, and the fault that is answered from then on, if any.
+-- The block that was begun and isn't whole, if any, and of how many CONTINUATION frames it came.
 pub record Joining : Type 0 where
-  pub begun : Option Begun
-  pub fault : Option JoinFault
+  pub begun : Option Partial
+  pub continuations : ℕ
 
 -- no block was begun
 abbrev pub nothing_begun : Joining
-nothing_begun = record { begun = None; fault = None }
+nothing_begun = record { begun = None; continuations = 0 }
 
--- a fault was answered, and nothing is kept
-abbrev pub failed : JoinFault → Joining
-failed fault = record { begun = None; fault = Some fault }
+-- of how many CONTINUATION frames the block comes with this frame
+abbrev pub continuations_with : Joining → Frame → ℕ
+continuations_with joining frame = if frame.kind == continuation_kind then suc joining.continuations else 0
 
--- the block that a HEADERS begins
-abbrev pub begins : ℕ → List ℕ → Begun
-begins id fragment = record { id = id; fragments = fragment; continuations = 0 }
+-- whether the block passes its most octets or CONTINUATION frames with this frame (this project's profile)
+abbrev pub is_too_long : Joining → Frame → Bool
+is_too_long joining frame = is_long (joined joining.begun frame) || nat_lt most_continuations (continuations_with joining frame)
+
+-- what a frame that may not come next is called
+abbrev pub misplaced : Option Partial → JoinFault
+misplaced None = Outside
+misplaced (Some block) = Between
+
+-- the fault of a frame, if it has one: it may not come next, or the block is too long with it
+abbrev pub fault_at : Joining → Frame → Option JoinFault
+fault_at joining frame =
+    if is_between joining.begun frame then Some (misplaced joining.begun)
+    else if is_too_long joining frame then Some TooLong
+    else None
+
+-- the block that a HEADERS begins, by its stream, its END_STREAM and its fragment
+abbrev pub begins : ℕ → Bool → List ℕ → Joining
+begins id ends fragment = record { begun = Some (record { id = id; ends = ends; fragments = fragment }); continuations = 0 }
 
 -- the block with the fragment of a CONTINUATION more
-abbrev pub continues : Begun → List ℕ → Begun
-continues begun fragment = record { id = begun.id; fragments = begun.fragments ++ fragment; continuations = begun.continuations + 1 }
+abbrev pub continues : Joining → List ℕ → Joining
+continues joining fragment = record {
+  begun = option_map {T = Partial} (λ block. record block { fragments = block.fragments ++ fragment }) joining.begun;
+  continuations = suc joining.continuations;
+}
 
--- whether a block passes 65,536 octets or 64 CONTINUATION frames (this project's profile)
-abbrev pub is_too_long : Begun → Bool
-is_too_long begun = nat_lt 65536 (length begun.fragments) || nat_lt 64 begun.continuations
+-- A block was begun, and stays within the limits with the fragment of a CONTINUATION more.
+pub record HasRoom (joining : Joining) (fragment : List ℕ) : Type 0 where
+  pub block : Partial
+  pub is_begun : joining.begun ≡ Some block
+  pub octets : length block.fragments + length fragment ≤ longest_block
+  pub frames : joining.continuations < most_continuations
 
-abbrev pub due_to : Begun → Option JoinFault
-due_to begun = if is_too_long begun then Some TooLong else None
-
--- The fault that is due for any frame but a CONTINUATION, by what was begun and the fault before: that fault, or Between
--- inside a block.
-abbrev pub due_at_other : Option Begun → Option JoinFault → Option JoinFault
-due_at_other begun (Some fault) = Some fault
-due_at_other (Some begun) None = Some Between
-due_at_other None None = None
-
--- The fault that is due for the first fragment of a block.
-abbrev pub due_at_first : Option Begun → Option JoinFault → ℕ → List ℕ → Option JoinFault
-due_at_first begun (Some fault) id fragment = Some fault
-due_at_first (Some begun) None id fragment = Some Between
-due_at_first None None id fragment = due_to (begins id fragment)
-
--- The fault that is due for the fragment of a CONTINUATION.
-abbrev pub due_at_more : Option Begun → Option JoinFault → ℕ → List ℕ → Option JoinFault
-due_at_more begun (Some fault) id fragment = Some fault
-due_at_more None None id fragment = Some Outside
-due_at_more (Some begun) None id fragment = if begun.id == id then due_to (continues begun fragment) else Some Between
-
--- The answered fault is the one that is due; where none is, memory was refused.
-abbrev pub IsDueFault : Option JoinFault → JoinFault → Type 0
-IsDueFault (Some due) fault = fault ≡ due
-IsDueFault None fault = fault ≡ Memory
-
--- The block isn't whole, and is kept.
-pub record GoesOn (begun : Begun) (ends : Bool) (new : Joining) : Type 0 where
-  pub not_ended : ends ≡ false
-  pub kept : new ≡ record { begun = Some begun; fault = None }
-
--- The block is whole, is answered and isn't kept.
-pub record IsWhole (begun : Begun) (ends : Bool) (octets : List ℕ) (new : Joining) : Type 0 where
-  pub ended : ends ≡ true
-  pub answered : octets ≡ begun.fragments
-  pub kept : new ≡ nothing_begun
-
--- The block is within the limits.
-pub record IsWithin (begun : Begun) : Type 0 where
-  pub octets : length begun.fragments ≤ 65536
-  pub frames : begun.continuations ≤ 64
-
--- What a joiner keeps: a block within the limits, and none behind a fault.
-pub record IsSoundJoiner (begun : Option Begun) (fault : Option JoinFault) : Type 0 where
-  pub within : ForSome begun IsWithin
-  pub nothing : ForSome fault (λ _. begun ≡ None)
+-- What was begun is within the limits.
+pub record IsWithin (joining : Joining) : Type 0 where
+  pub octets : ForSome joining.begun (λ block. length block.fragments ≤ longest_block)
+  pub frames : joining.continuations ≤ most_continuations

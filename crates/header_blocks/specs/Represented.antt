@@ -29,6 +29,13 @@ pub record TakesField (table : Table) (octets : List ℕ) (taken : Taken) : Type
   pub within : taken.used ≤ length octets
   pub is_field : Represents table (take taken.used octets) taken.field (if taken.inserts then added taken.field table else table)
 
+-- The first octets, so many, are one field, which leaves the table as it is.
+pub record SkipsField (table : Table) (octets : List ℕ) (used : ℕ) : Type 0 where
+  pub field : Field
+  pub some : 0 < used
+  pub within : used ≤ length octets
+  pub is_field : Represents table (take used octets) field table
+
 -- a fact, where it isn't memory that was refused
 abbrev pub UnlessMemory : DecodeFault → Type 0 → Type 0
 UnlessMemory Memory P = Unit {0}

@@ -1,6 +1,6 @@
 //! The decoder of a direction, with its table.
 
-ghost use Rattle.std.specs.Prelude.{◌≡◌, if◌then◌else◌, [], ℕ, List, ◌∷◌, ◌++◌, IfOk, IfErr, IfNone, IfSome, OnOk, Some, None, Err};
+ghost use Rattle.std.specs.Prelude.{◌≡◌, if◌then◌else◌, [], ℕ, List, ◌∷◌, ◌++◌, IfOk, IfErr, IfSome, OnOk, OnErr, Some, None, Err};
 ghost use Rattle.model.specs.Messages.{Field as FieldLine};
 ghost use Rattle.model.specs.Blocks.{NoBlock};
 ghost use Rattle.model.specs.Tables.{added};
@@ -11,31 +11,37 @@ ghost use Rattle.header_blocks.specs.Decoding.{DecodesFrom, Settles};
 ghost use Rattle.header_blocks.specs.Faults.{IsFaultOf};
 
 use crate::fault::DecodeFault;
-use crate::fields::{Taken, take_field};
+use crate::fields::{Taken, skip_indexed, take_field};
 use crate::gather::{Decoded, Gathering};
 use crate::maxima::{is_maximum, take_maxima};
 use crate::strings::take_int;
 use hpack_table::Table;
 use std::alloc::Global;
 use std::marker::Model;
+use std::snapshot::Snapshot;
 
-/// Decodes the blocks of a direction, in the order in which they come (RFC 7541). A clause sees its table and the fault that
-/// it answers from then on, if any.
+/// The first maximum of a table.
+const FIRST_MAXIMUM: u32 = 4096;
+
+/// Decodes the blocks of a direction, in the order in which they come (RFC 7541). A clause sees its table, as the last block
+/// that was decoded leaves it, and the fault that it answers from then on, if any.
 #[derive(Drop)]
 pub struct Decoder {
     table: Table,
     fault: Option<DecodeFault>,
+    /// The table before the last block, for clauses alone: behind a fault no table is kept.
+    before: Snapshot<Table>,
 }
 
 impl Model for Decoder {
     ghost use Rattle.header_blocks.specs.Bounds.{IsBounded};
-    ghost use Rattle.header_blocks.specs.Directions.{Direction};
+    ghost use Rattle.header_blocks.specs.Directions.{Direction, table_behind};
 
     ghost Value = { Direction };
 
-    ghost view = { λ decoder. record { table = decoder.table; fault = decoder.fault } };
+    ghost view = { λ decoder. record { table = table_behind decoder.fault decoder.before.value decoder.table; fault = decoder.fault } };
 
-    ghost invariant = { λ decoder. IsBounded decoder.table };
+    ghost invariant = { λ decoder. IsBounded (table_behind decoder.fault decoder.before.value decoder.table) };
 }
 
 impl Decoder {
@@ -46,15 +52,18 @@ impl Decoder {
         ensures maximum { result.table.maximum ≡ limit }
         ensures fault { result.fault ≡ None }
     {
+        let table = Table::new(alloc, limit);
+        let before = Snapshot::of(&table);
         Decoder {
-            table: Table::new(alloc, limit),
+            table,
             fault: None,
+            before,
         }
     }
 
     /// The fields of the next block of the direction, where their sizes (the octets of name and value, and 32) sum to at most
-    /// `cap`; otherwise the whole block is decoded into the table all the same. After a fault every call answers the same
-    /// fault.
+    /// `cap`; otherwise the whole block is decoded into the table all the same. A fault but `Memory` says that the octets are
+    /// no block by the table. After a fault every call answers the same fault, and the table is seen as it was before.
     pub fn decode(
         &mut self,
         alloc: Global,
@@ -62,19 +71,22 @@ impl Decoder {
         cap: usize,
     ) -> Result<Decoded, DecodeFault>
         ensures decoded { IfOk result (λ decoded. DecodesFrom self.old.table block.now cap self.new.table decoded) }
-        ensures no_block { IfNone self.old.fault (IfErr result (λ fault. UnlessMemory fault (NoBlock self.old.table block.now))) }
-        ensures fault { IfNone self.old.fault (IfErr result (λ fault. UnlessMemory fault (IsFaultOf self.old.table block.now fault))) }
+        ensures no_block { IfErr result (λ fault. self.old.fault ≡ None → UnlessMemory fault (NoBlock self.old.table block.now)) }
+        ensures fault { IfErr result (λ fault. self.old.fault ≡ None → UnlessMemory fault (IsFaultOf self.old.table block.now fault)) }
         ensures goes_on { OnOk result ((self.old.fault ≡ None) × (self.new.fault ≡ None)) }
         ensures fault_stays { IfErr result (λ fault. self.new.fault ≡ Some fault) }
+        ensures table_stays { OnErr result (self.new.table ≡ self.old.table) }
         ensures faulted { IfSome self.old.fault (λ fault. result ≡ Err fault) }
         ensures bounded { IsBounded self.new.table }
     {
         if let Some(fault) = self.fault {
             return Err(fault);
         }
+        self.before = Snapshot::of(&self.table);
         let result = decode_block(alloc, &mut self.table, block, cap);
         if let Err(fault) = &result {
             self.fault = Some(*fault);
+            self.table = Table::new(alloc, FIRST_MAXIMUM);
         }
         result
     }
@@ -98,6 +110,11 @@ fn decode_block(
         if is_maximum(block[start]) {
             take_int(5, &block[start..])?;
             return Err(DecodeFault::Late);
+        }
+        // past the cap an indexed field is copied no more, be it as long as the table allows
+        if gathering.room.is_none() && block[start] >= 128 {
+            start += skip_indexed(table, &block[start..])?;
+            continue;
         }
         let taken = take_field(alloc, table, &block[start..])?;
         start += taken.used;

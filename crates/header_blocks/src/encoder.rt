@@ -66,10 +66,12 @@ impl Encoder {
     }
 
     /// Adds the block of the fields at the end of `out`. The name and the value of a field have at most 65,536 octets each.
-    /// An `Err` says that memory was refused; it leaves the octets of `out` as they were, and every later call answers it.
+    /// Under the plain policy strings are written raw. An `Err` says that memory was refused; it leaves the octets of `out` as
+    /// they were, and every later call answers it.
     pub fn encode(&mut self, fields: &[Field], out: &mut Vec<u8>) -> Result<(), AllocError>
         requires { All HasShortStrings fields.now }
-        ensures encoded { OnOk result (Encodes self.old self.new fields.now out.old.items out.new.items) }
+        ensures encoded { OnOk result (Encodes self.old fields.now self.new.table out.old.items out.new.items) }
+        ensures sound { OnOk result ((self.old.refused ≡ false) × (self.new.refused ≡ false)) }
         ensures goes_on { OnOk result (self.new ≡ record self.old { table = self.new.table; limits = None; refused = false }) }
         ensures unchanged { OnErr result (out.new.items ≡ out.old.items) }
         ensures stays_refused { OnErr result (self.new ≡ record self.old { table = self.new.table; refused = true }) }

@@ -1,7 +1,7 @@
 //! Representations of fields at the front of octets.
 
 ghost use Rattle.std.specs.Prelude.{◌≤◌, ◌<◌, ◌⊎◌, length, IfErr, IfOk, slice_index};
-ghost use Rattle.header_blocks.specs.Represented.{BeginsNoField, BeginsNoLiteral, BeginsNoName, TakesField, TakesLiteral, TakesName, UnlessMemory};
+ghost use Rattle.header_blocks.specs.Represented.{BeginsNoField, BeginsNoLiteral, BeginsNoName, SkipsField, TakesField, TakesLiteral, TakesName, UnlessMemory};
 ghost use Rattle.header_blocks.specs.Faults.{IsNameFault, IsLiteralFault, IsFieldFault};
 
 use crate::fault::DecodeFault;
@@ -81,6 +81,21 @@ fn take_indexed(alloc: Global, table: &Table, octets: &[u8]) -> Result<Taken, De
         used,
         inserts: false,
     })
+}
+
+/// How many octets the indexed field at the front of octets takes (RFC 7541, section 6.1).
+pub fn skip_indexed(table: &Table, octets: &[u8]) -> Result<usize, DecodeFault>
+    requires some { 0 < length octets.now }
+    requires marked { 128 ≤ slice_index octets.now 0 }
+    ensures skipped { IfOk result (SkipsField table.now octets.now) }
+    ensures none { IfErr result (λ fault. UnlessMemory fault (BeginsNoField table.now octets.now)) }
+    ensures fault { IfErr result (λ fault. UnlessMemory fault (IsFieldFault table.now octets.now fault)) }
+{
+    let (index, used) = take_int(7, octets)?;
+    let Some(_) = table.get(index) else {
+        return Err(DecodeFault::Index);
+    };
+    Ok(used)
 }
 
 /// The representation of a field at the front of octets (RFC 7541, section 6); a maximum isn't one.

@@ -1,32 +1,42 @@
 //! Fragments joined to header blocks.
 
-ghost use Rattle.std.specs.Prelude.{◌≡◌, Some, None, IfOk, IfErr, IfNone, IfSome, OnOk};
-ghost use Rattle.header_blocks.specs.Joining.{nothing_begun, failed, begins, continues, due_at_other, due_at_first, due_at_more, IsDueFault, GoesOn, IsWhole, IsWithin};
+ghost use Rattle.std.specs.Prelude.{◌≡◌, ◌≤◌, ℕ, length, None, Some, IfOk, OnOk, OnErr};
+ghost use Rattle.model.specs.FrameErrors.{longest_block};
+ghost use Rattle.header_blocks.specs.Joining.{Joining, nothing_begun, fault_at, begins, continues, HasRoom, IsWithin};
 
-use crate::begun::Begun;
+use crate::block::Block;
 use crate::join_fault::JoinFault;
-use std::alloc::Global;
+use std::alloc::{AllocError, Global};
 use std::marker::Model;
 
+/// The type of CONTINUATION (RFC 9113, section 6.10).
+const CONTINUATION: u8 = 9;
+
+/// The most octets of a block (this project's profile).
+const MOST_OCTETS: usize = 65536;
+
+/// The most CONTINUATION frames of a block (this project's profile).
+const MOST_CONTINUATIONS: u32 = 64;
+
 /// Joins the fragments of HEADERS and CONTINUATION frames to header blocks (RFC 9113, section 4.3). A clause sees the block
-/// that was begun and isn't whole, and the fault that it answers from then on, if any.
+/// that was begun and isn't whole, and of how many CONTINUATION frames it came. A caller asks for each frame whether it has a
+/// fault before it hands its fragment over; joining is then refused for want of memory alone. A block that is whole in its
+/// HEADERS is decoded where it lies and never comes here.
 #[derive(Drop)]
 pub struct Joiner {
     alloc: Global,
-    begun: Option<Begun>,
-    fault: Option<JoinFault>,
+    begun: Option<Block>,
+    continuations: u32,
 }
 
 impl Model for Joiner {
-    ghost use Rattle.header_blocks.specs.Joining.{Joining};
+    ghost use Rattle.header_blocks.specs.Joining.{Joining, IsWithin};
 
     ghost Value = { Joining };
 
-    ghost view = { λ joiner. record { begun = joiner.begun; fault = joiner.fault } };
+    ghost view = { λ joiner. record { begun = joiner.begun; continuations = joiner.continuations } };
 
-    ghost use Rattle.header_blocks.specs.Joining.{IsSoundJoiner};
-
-    ghost invariant = { λ joiner. IsSoundJoiner joiner.begun joiner.fault };
+    ghost invariant = { λ joiner. IsWithin (record { begun = joiner.begun; continuations = joiner.continuations }) };
 }
 
 impl Joiner {
@@ -37,99 +47,71 @@ impl Joiner {
         Joiner {
             alloc,
             begun: None,
-            fault: None,
+            continuations: 0,
         }
     }
 
-    /// Whether any frame but a CONTINUATION may come. After a fault every call answers the same fault, and nothing is kept.
-    pub fn other(&mut self) -> Result<(), JoinFault>
-        ensures ok { OnOk result ((due_at_other self.old.begun self.old.fault ≡ None) × (self.new ≡ self.old)) }
-        ensures fault { IfErr result (λ fault. due_at_other self.old.begun self.old.fault ≡ Some fault) }
-        ensures fails { IfErr result (λ fault. self.new ≡ failed fault) }
+    /// The fault of a frame that comes next, by its type, its stream and its payload, whatever its flags are: `Outside` of a
+    /// CONTINUATION where no block is begun, `Between` of any frame but a CONTINUATION of its stream where one is, and
+    /// `TooLong` where the block passes 65,536 octets or 64 CONTINUATION frames with it. Asking changes nothing.
+    pub fn fault(&self, kind: u8, id: u32, payload: &[u8]) -> Option<JoinFault>
+        requires { length payload.now ≤ 16384 }
+        ensures { (flags : ℕ) → result ≡ fault_at self.now (record { kind = kind; flags = flags; id = id; payload = payload.now }) }
     {
-        if let Some(fault) = self.fault {
-            return Err(fault);
-        }
-        if self.begun.is_some() {
-            return Err(self.fail(JoinFault::Between));
-        }
-        Ok(())
-    }
-
-    /// Takes the fragment of a HEADERS, which ends its block or doesn't. The block's octets come with its end. A block has at
-    /// most 65,536 octets. After a fault every call answers the same fault, and nothing is kept.
-    pub fn first(
-        &mut self,
-        id: u32,
-        fragment: &[u8],
-        end: bool,
-    ) -> Result<Option<Vec<u8>>, JoinFault>
-        ensures not_due { OnOk result (due_at_first self.old.begun self.old.fault id fragment.now ≡ None) }
-        ensures goes_on { IfOk result (λ answer. IfNone answer (GoesOn (begins id fragment.now) end self.new)) }
-        ensures whole { IfOk result (λ answer. IfSome answer (λ octets. IsWhole (begins id fragment.now) end octets.items self.new)) }
-        ensures fault { IfErr result (IsDueFault (due_at_first self.old.begun self.old.fault id fragment.now)) }
-        ensures fails { IfErr result (λ fault. self.new ≡ failed fault) }
-        ensures within { IfSome self.new.begun IsWithin }
-    {
-        self.other()?;
-        match Begun::new(self.alloc, id, fragment) {
-            Ok(begun) => Ok(self.keep(begun, end)),
-            Err(fault) => Err(self.fail(fault)),
-        }
-    }
-
-    /// Takes the fragment of a CONTINUATION, which ends its block or doesn't. The block's octets come with its end. A block has
-    /// at most 65,536 octets and 64 CONTINUATION frames. After a fault every call answers the same fault, and nothing is kept.
-    pub fn more(
-        &mut self,
-        id: u32,
-        fragment: &[u8],
-        end: bool,
-    ) -> Result<Option<Vec<u8>>, JoinFault>
-        ensures not_due { OnOk result (due_at_more self.old.begun self.old.fault id fragment.now ≡ None) }
-        ensures goes_on { IfOk result (λ answer. IfNone answer (IfSome self.old.begun (λ begun. GoesOn (continues begun fragment.now) end self.new))) }
-        ensures whole { IfOk result (λ answer. IfSome answer (λ octets. IfSome self.old.begun (λ begun. IsWhole (continues begun fragment.now) end octets.items self.new))) }
-        ensures fault { IfErr result (IsDueFault (due_at_more self.old.begun self.old.fault id fragment.now)) }
-        ensures fails { IfErr result (λ fault. self.new ≡ failed fault) }
-        ensures within { IfSome self.new.begun IsWithin }
-    {
-        if let Some(fault) = self.fault {
-            return Err(fault);
-        }
-        let Some(begun) = self.begun.take() else {
-            return Err(self.fail(JoinFault::Outside));
+        let continues = kind == CONTINUATION;
+        let Some(begun) = &self.begun else {
+            return if continues {
+                Some(JoinFault::Outside)
+            } else {
+                None
+            };
         };
-        if begun.id() != id {
-            return Err(self.fail(JoinFault::Between));
+        if !continues || id != begun.id() {
+            return Some(JoinFault::Between);
         }
-        match begun.and(fragment) {
-            Ok(begun) => Ok(self.keep(begun, end)),
-            Err(fault) => Err(self.fail(fault)),
+        let too_long = payload.len() > MOST_OCTETS - begun.fragments().len();
+        if too_long || self.continuations == MOST_CONTINUATIONS {
+            return Some(JoinFault::TooLong);
         }
-    }
-
-    /// Answers the octets of a block that is whole, and keeps one that isn't.
-    fn keep(&mut self, begun: Begun, end: bool) -> Option<Vec<u8>>
-        requires nothing { self.old ≡ nothing_begun }
-        requires within { IsWithin begun }
-        ensures within { IfSome self.new.begun IsWithin }
-        ensures goes_on { IfNone result (GoesOn begun end self.new) }
-        ensures whole { IfSome result (λ octets. IsWhole begun end octets.items self.new) }
-    {
-        if end {
-            return Some(begun.into_octets());
-        }
-        self.begun = Some(begun);
         None
     }
 
-    /// Keeps nothing, and the fault for all later calls.
-    fn fail(&mut self, fault: JoinFault) -> JoinFault
-        ensures same { result ≡ fault }
-        ensures failed { self.new ≡ failed fault }
+    /// Begins a block with the fragment of a HEADERS that has no END_HEADERS, and keeps whether it has END_STREAM. An `Err` says
+    /// that memory was refused; it changes nothing.
+    pub fn first(&mut self, id: u32, ends: bool, fragment: &[u8]) -> Result<(), AllocError>
+        requires nothing { self.old.begun ≡ None }
+        requires short { length fragment.now ≤ longest_block }
+        ensures begun { OnOk result (self.new ≡ begins id ends fragment.now) }
+        ensures unchanged { OnErr result (self.new ≡ self.old) }
+        ensures within { IsWithin self.new }
     {
-        self.begun = None;
-        self.fault = Some(fault);
-        fault
+        self.begun = Some(Block::new(self.alloc, id, ends, fragment)?);
+        self.continuations = 0;
+        Ok(())
+    }
+
+    /// Adds the fragment of a CONTINUATION to the block that was begun. An `Err` says that memory was refused; it changes
+    /// nothing.
+    pub fn more(&mut self, fragment: &[u8]) -> Result<(), AllocError>
+        requires { HasRoom self.old fragment.now }
+        ensures begun { OnOk result (self.new ≡ continues self.old fragment.now) }
+        ensures unchanged { OnErr result (self.new ≡ self.old) }
+        ensures within { IsWithin self.new }
+    {
+        let Some(begun) = &mut self.begun else {
+            unreachable!();
+        };
+        begun.add(fragment)?;
+        self.continuations += 1;
+        Ok(())
+    }
+
+    /// Hands out the block that was begun, if any, as it is once its last fragment came.
+    pub fn finish(&mut self) -> Option<Block>
+        ensures block { result ≡ self.old.begun }
+        ensures nothing { self.new ≡ nothing_begun }
+    {
+        self.continuations = 0;
+        self.begun.take()
     }
 }

@@ -2,6 +2,14 @@ use super::*;
 use std::alloc::{AllocError, Global};
 use std::test::*;
 
+const DATA: u8 = 0;
+
+const HEADERS: u8 = 1;
+
+const PING: u8 = 6;
+
+const CONTINUATION: u8 = 9;
+
 /// So many octets.
 fn octets(alloc: Global, count: usize) -> Result<Vec<u8>, AllocError> {
     let mut octets = Vec::new(alloc);
@@ -11,128 +19,111 @@ fn octets(alloc: Global, count: usize) -> Result<Vec<u8>, AllocError> {
     Ok(octets)
 }
 
-/// Whether a block is answered, with these octets.
-fn is_block(answer: Result<Option<Vec<u8>>, JoinFault>, wanted: &[u8]) -> bool {
-    match answer {
-        Ok(Some(block)) => block.as_slice() == wanted,
-        _ => false,
+/// Joins the fragment of a frame, where it has no fault; and whether it was joined.
+fn joins(
+    joiner: &mut Joiner,
+    kind: u8,
+    id: u32,
+    ends: bool,
+    fragment: &[u8],
+) -> Result<bool, AllocError> {
+    if fragment.len() > 16384 || joiner.fault(kind, id, fragment).is_some() {
+        return Ok(false);
+    }
+    if kind == HEADERS {
+        joiner.first(id, ends, fragment)?;
+        return Ok(true);
+    }
+    if kind == CONTINUATION {
+        joiner.more(fragment)?;
+        return Ok(true);
+    }
+    Ok(false)
+}
+
+/// Whether a block is of these parts.
+fn is_block(block: Option<Block>, id: u32, ends: bool, octets: &[u8]) -> bool {
+    match block {
+        Some(block) => block.id() == id && block.ends() == ends && block.fragments() == octets,
+        None => false,
     }
 }
 
-/// Whether a fragment is kept.
-fn is_kept(answer: Result<Option<Vec<u8>>, JoinFault>) -> bool {
-    matches!(answer, Ok(None))
+#[test]
+fn fragments_are_joined(rt: HostRuntime) -> Result<(), Fail> {
+    let mut joiner = Joiner::new(rt.alloc());
+    assert!(rt; joiner.finish().is_none());
+    assert!(rt; joins(&mut joiner, HEADERS, 3, true, b"ab")?);
+    assert!(rt; joins(&mut joiner, CONTINUATION, 3, false, b"")?);
+    assert!(rt; joins(&mut joiner, CONTINUATION, 3, false, b"cde")?);
+    assert!(rt; is_block(joiner.finish(), 3, true, b"abcde"));
+    assert!(rt; joins(&mut joiner, HEADERS, 5, false, b"")?);
+    assert!(rt; is_block(joiner.finish(), 5, false, b""));
+    assert!(rt; joiner.finish().is_none());
+    Ok(())
 }
 
 #[test]
-fn fragments_are_joined(rt: HostRuntime) {
+fn a_continuation_comes_inside_a_block_alone(rt: HostRuntime) -> Result<(), Fail> {
     let mut joiner = Joiner::new(rt.alloc());
-    assert!(rt; joiner.other().is_ok());
-    assert!(rt; is_block(joiner.first(1, b"abc", true), b"abc"));
-    assert!(rt; is_kept(joiner.first(3, b"ab", false)));
-    assert!(rt; is_kept(joiner.more(3, b"", false)));
-    assert!(rt; is_kept(joiner.more(3, b"c", false)));
-    assert!(rt; is_block(joiner.more(3, b"de", true), b"abcde"));
-    assert!(rt; joiner.other().is_ok());
-    assert!(rt; is_block(joiner.first(5, b"", true), b""));
-}
-
-/// The fault of an answer.
-fn fault_of(answer: Result<Option<Vec<u8>>, JoinFault>) -> Option<JoinFault> {
-    answer.err()
-}
-
-#[test]
-fn a_fault_stays(rt: HostRuntime) {
-    let mut joiner = Joiner::new(rt.alloc());
+    for kind in [DATA, HEADERS, PING] {
+        assert_eq!(rt; joiner.fault(kind, 1, b"a"), None);
+    }
     assert_eq!(rt;
-        fault_of(joiner.more(1, b"a", true)),
+        joiner.fault(CONTINUATION, 1, b"a"),
         Some(JoinFault::Outside)
     );
+    assert!(rt; joins(&mut joiner, HEADERS, 1, false, b"a")?);
+    for kind in [DATA, HEADERS, PING] {
+        assert_eq!(rt; joiner.fault(kind, 1, b"a"), Some(JoinFault::Between));
+    }
     assert_eq!(rt;
-        fault_of(joiner.first(1, b"a", true)),
-        Some(JoinFault::Outside)
-    );
-    assert_eq!(rt;
-        fault_of(joiner.more(1, b"a", false)),
-        Some(JoinFault::Outside)
-    );
-    assert_eq!(rt; joiner.other(), Err(JoinFault::Outside));
-}
-
-#[test]
-fn nothing_comes_between(rt: HostRuntime) {
-    let mut joiner = Joiner::new(rt.alloc());
-    assert!(rt; is_kept(joiner.first(1, b"a", false)));
-    assert_eq!(rt; joiner.other(), Err(JoinFault::Between));
-    let mut joiner = Joiner::new(rt.alloc());
-    assert!(rt; is_kept(joiner.first(1, b"a", false)));
-    assert_eq!(rt;
-        fault_of(joiner.first(1, b"b", true)),
+        joiner.fault(CONTINUATION, 3, b"a"),
         Some(JoinFault::Between)
     );
-    let mut joiner = Joiner::new(rt.alloc());
-    assert!(rt; is_kept(joiner.first(1, b"a", false)));
-    assert_eq!(rt;
-        fault_of(joiner.more(3, b"b", true)),
-        Some(JoinFault::Between)
-    );
-    assert_eq!(rt;
-        fault_of(joiner.more(1, b"b", true)),
-        Some(JoinFault::Between)
-    );
-}
-
-/// What is answered to a block in two parts, and a third.
-fn in_parts(
-    alloc: Global,
-    block: &[u8],
-    cut: usize,
-    last: &[u8],
-) -> Result<Option<Vec<u8>>, JoinFault> {
-    let cut = cut.min(block.len());
-    let mut joiner = Joiner::new(alloc);
-    joiner.first(1, &block[..cut], false)?;
-    joiner.more(1, &block[cut..], false)?;
-    joiner.more(1, last, true)
+    assert_eq!(rt; joiner.fault(CONTINUATION, 1, b"a"), None);
+    Ok(())
 }
 
 #[test]
 fn a_block_has_at_most_65536_octets(rt: HostRuntime) -> Result<(), Fail> {
     let alloc = rt.alloc();
-    let longest = octets(alloc, 65536)?;
-    let longer = octets(alloc, 65537)?;
-    assert!(rt; is_block(Joiner::new(alloc).first(1, &longest, true), &longest));
+    let frame = octets(alloc, 16384)?;
+    let mut joiner = Joiner::new(alloc);
+    assert!(rt; joins(&mut joiner, HEADERS, 1, false, &frame)?);
+    for _ in 0..2 {
+        assert!(rt; joins(&mut joiner, CONTINUATION, 1, false, &frame)?);
+    }
+    assert!(rt; joins(&mut joiner, CONTINUATION, 1, false, &frame[1..])?);
     assert_eq!(rt;
-        fault_of(Joiner::new(alloc).first(1, &longer, true)),
+        joiner.fault(CONTINUATION, 1, b"ab"),
         Some(JoinFault::TooLong)
     );
-    for cut in [0, 1, 16384, 65535, 65536] {
-        assert!(rt; is_block(in_parts(alloc, &longest, cut, b""), &longest));
-        assert_eq!(rt;
-            fault_of(in_parts(alloc, &longest, cut, b"a")),
-            Some(JoinFault::TooLong)
-        );
-    }
+    assert!(rt; joins(&mut joiner, CONTINUATION, 1, false, b"a")?);
+    assert_eq!(rt;
+        joiner.fault(CONTINUATION, 1, b"a"),
+        Some(JoinFault::TooLong)
+    );
+    assert_eq!(rt; joiner.fault(CONTINUATION, 1, b""), None);
+    assert!(rt; is_block(joiner.finish(), 1, false, &octets(alloc, 65536)?));
     Ok(())
 }
 
 #[test]
-fn a_block_has_at_most_64_continuations(rt: HostRuntime) {
+fn a_block_has_at_most_64_continuations(rt: HostRuntime) -> Result<(), Fail> {
     let mut joiner = Joiner::new(rt.alloc());
-    assert!(rt; is_kept(joiner.first(1, b"a", false)));
-    for _ in 0..63 {
-        assert!(rt; is_kept(joiner.more(1, b"", false)));
+    for id in [1, 3] {
+        assert!(rt; joins(&mut joiner, HEADERS, id, false, b"a")?);
+        for _ in 0..64 {
+            assert!(rt; joins(&mut joiner, CONTINUATION, id, false, b"b")?);
+        }
+        assert_eq!(rt;
+            joiner.fault(CONTINUATION, id, b""),
+            Some(JoinFault::TooLong)
+        );
+        assert!(rt; joiner.finish().is_some());
     }
-    assert!(rt; is_block(joiner.more(1, b"b", true), b"ab"));
-    assert!(rt; is_kept(joiner.first(3, b"a", false)));
-    for _ in 0..64 {
-        assert!(rt; is_kept(joiner.more(3, b"", false)));
-    }
-    assert_eq!(rt;
-        fault_of(joiner.more(3, b"", true)),
-        Some(JoinFault::TooLong)
-    );
+    Ok(())
 }
 
 /// The blocks of RFC 7541, appendix C.4, with their fields' number.
@@ -154,12 +145,16 @@ fn a_block_decodes_alike_however_it_is_cut(rt: HostRuntime) -> Result<(), Fail> 
     let alloc = rt.alloc();
     for cut in 0..25 {
         let mut decoder = Decoder::new(alloc, 4096);
+        let mut joiner = Joiner::new(alloc);
         for (block, count) in BLOCKS {
-            let Ok(Some(joined)) = in_parts(alloc, block, cut, b"") else {
+            let cut = block.len().min(cut);
+            assert!(rt; joins(&mut joiner, HEADERS, 1, true, &block[..cut])?);
+            assert!(rt; joins(&mut joiner, CONTINUATION, 1, false, &block[cut..])?);
+            let Some(joined) = joiner.finish() else {
                 return Err(Fail::from("no block"));
             };
-            assert_eq!(rt; joined.as_slice(), block);
-            let Decoded::Fields(fields) = decoder.decode(alloc, &joined, 16384)? else {
+            assert_eq!(rt; joined.fragments(), block);
+            let Decoded::Fields(fields) = decoder.decode(alloc, joined.fragments(), 16384)? else {
                 return Err(Fail::from("too large"));
             };
             assert_eq!(rt; fields.len(), count);

@@ -1,23 +1,33 @@
-//! Laws: what a joiner keeps and answers is what the frames of a direction say, and a block has one fault.
+//! Laws: what a joiner keeps is what the frames of a direction say, and a block has one fault.
 
-ghost use Rattle.std.specs.Prelude.{◌≡◌, ℕ, List, [], ◌∷◌, Some, None};
-ghost use Rattle.model.specs.Frames.{headers_kind, continuation_kind, content};
+ghost use Rattle.std.specs.Prelude.{◌≡◌, ℕ, true, false, List, [], ◌∷◌, None};
+ghost use Rattle.model.specs.Frames.{Frame, headers_kind, continuation_kind, ends_headers, ends_stream, content};
 ghost use Rattle.model.specs.Tapes.{Noted};
-ghost use Rattle.model.specs.Decoding.{completed};
+ghost use Rattle.model.specs.Decoding.{joined, completed};
+ghost use Rattle.model.specs.FrameErrors.{is_between, last_continuations};
 ghost use Rattle.model.specs.Tables.{Table};
-ghost use Rattle.header_blocks.specs.Joining.{Begun, begins, continues};
-ghost use Rattle.header_blocks.specs.Following.{IsKeptOf, LeadsTo};
+ghost use Rattle.header_blocks.specs.Joining.{Joining, nothing_begun, continuations_with, fault_at, begins, continues, HasRoom};
+ghost use Rattle.header_blocks.specs.Following.{IsKeptOf};
 ghost use Rattle.header_blocks.specs.Faults.{IsFaultOf};
 ghost use Rattle.header_blocks.specs.declared.fault.DecodeFault.{DecodeFault};
 
-/// The block that `Joiner::first` and `Joiner::more` answer or keep is the one that the frames complete or begin, where what
-/// was kept before is what the frames before begin (RFC 9113, section 4.3). A frame that is neither a HEADERS nor inside a
-/// block changes nothing.
-pub fn blocks_are_joined()
-    ensures nothing { IsKeptOf [] None }
-    ensures first { (before : List Noted) (noted : Noted) → IsKeptOf before None → noted.frame.kind ≡ headers_kind → LeadsTo before noted (begins noted.frame.id (content noted.frame)) }
-    ensures more { (before : List Noted) (noted : Noted) (block : Begun) → IsKeptOf before (Some block) → noted.frame.kind ≡ continuation_kind → noted.frame.id ≡ block.id → LeadsTo before noted (continues block (content noted.frame)) }
-    ensures other { (before : List Noted) (noted : Noted) → IsKeptOf before None → (noted.frame.kind ≡ headers_kind → ⊥) → IsKeptOf (noted ∷ before) None × (completed before noted.frame ≡ None) }
+/// The fragment of a frame in which `Joiner::fault` finds none may be joined, and what `Joiner::first` and `Joiner::more` keep then
+/// is the block that the frame begins or goes on with (RFC 9113, section 4.3). Any other frame comes outside a block, and
+/// begins none.
+pub fn fragments_are_joined()
+    ensures first { (joining : Joining) (frame : Frame) → fault_at joining frame ≡ None → frame.kind ≡ headers_kind → (joining.begun ≡ None) × (joined joining.begun frame ≡ (begins frame.id (ends_stream frame) (content frame)).begun) }
+    ensures more { (joining : Joining) (frame : Frame) → fault_at joining frame ≡ None → frame.kind ≡ continuation_kind → HasRoom joining (content frame) × (joined joining.begun frame ≡ (continues joining (content frame)).begun) }
+    ensures other { (joining : Joining) (frame : Frame) → fault_at joining frame ≡ None → (frame.kind ≡ headers_kind → ⊥) → (frame.kind ≡ continuation_kind → ⊥) → (joining.begun ≡ None) × (joined joining.begun frame ≡ None) }
+{}
+
+/// What a joiner keeps is what the frames of its direction begin and don't complete, from the first frame on: a frame that
+/// doesn't end its block leaves what it is joined to, and one that ends it completes that and leaves nothing. The CONTINUATION
+/// frames are counted as the newest ones are.
+pub fn blocks_are_kept()
+    ensures nothing { IsKeptOf [] nothing_begun }
+    ensures count { (before : List Noted) (noted : Noted) (joining : Joining) → IsKeptOf before joining → is_between joining.begun noted.frame ≡ false → continuations_with joining noted.frame ≡ last_continuations (noted ∷ before) }
+    ensures goes_on { (before : List Noted) (noted : Noted) (joining : Joining) → IsKeptOf before joining → fault_at joining noted.frame ≡ None → ends_headers noted.frame ≡ false → IsKeptOf (noted ∷ before) (record { begun = joined joining.begun noted.frame; continuations = continuations_with joining noted.frame }) × (completed before noted.frame ≡ None) }
+    ensures whole { (before : List Noted) (noted : Noted) (joining : Joining) → IsKeptOf before joining → ends_headers noted.frame ≡ true → IsKeptOf (noted ∷ before) nothing_begun × (completed before noted.frame ≡ joined joining.begun noted.frame) }
 {}
 
 /// A table and a block determine the fault that `Decoder::decode` answers, if it isn't want of memory: there is one first place

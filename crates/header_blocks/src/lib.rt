@@ -1,7 +1,7 @@
 //! Header blocks of HPACK (RFC 7541).
 #![tactic(auto)]
 
-mod begun;
+mod block;
 mod decoder;
 mod encoder;
 #[cfg(test)]
@@ -22,6 +22,7 @@ mod strings;
 #[cfg(test)]
 mod tests;
 
+pub use crate::block::Block;
 pub use crate::decoder::Decoder;
 pub use crate::encoder::Encoder;
 pub use crate::fault::DecodeFault;

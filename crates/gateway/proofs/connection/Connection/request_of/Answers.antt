@@ -11,4 +11,4 @@ pub returns-in-Err-clause-fault : goal.returns-in-Err-clause-fault
 returns-in-Err-clause-fault c =
     let head : IsHead c.args.self.now (frame_of c.args.view.now) = c.is_request_head.ensures c.if-not-is_request_head.false in
     unless_also {P = NoBlock c.args.self.now.table c.args.view.now.payload.now} {Q = IsUnreadIn c.args.self.now (frame_of c.args.view.now)} c.in-Err.fault (λ none. record { head = head; no_block = none })
-    (subst (λ (s : State). UnlessMemory c.in-Err.fault (NoBlock s.table c.args.view.now.payload.now)) c.self.view_is (rw c.self.invariant.readable at c.in-Err.ensures.no_block))
+    (subst (λ (s : State). UnlessMemory c.in-Err.fault (NoBlock s.table c.args.view.now.payload.now)) c.self.view_is (c.in-Err.ensures.no_block c.self.invariant.readable))

@@ -25,7 +25,7 @@ returns-clause-responds c =
     let body : c.deref-3.result.now ≡ c.args.exchange.body = c.deref-3.ensures.value ∙ c.into_response-head.ensures.body in
     let stream : c.stream-stream.result ≡ c.args.exchange.stream = c.stream-stream.ensures.is in
     let fits = c.may_respond.ensures c.if-not-may_respond.false in
-    let no_maxima : written.maxima ≡ [] = written.due [] (subst (StandsFor []) (sym c.self.invariant.unlimited) refl) in
+    let no_maxima : written.is_written.maxima ≡ [] = written.is_written.due [] (subst (StandsFor []) (sym c.self.invariant.unlimited) refl) in
     let fields : c.deref.result.now ≡ section_of c.in-Some.head = c.deref.ensures.value ∙ c.in_ok-fields.ensures in
     rw (← c.self.view_is) (ok_both c.pass_back.result c.pass_back.ensures.state c.pass_back.ensures.outputs
     (λ es eo. inr (record {
@@ -33,7 +33,7 @@ returns-clause-responds c =
       has_head = sym c.into_response-head.ensures.head ∙ c.in-Some.is;
       block = written.written;
       next = c.encode.new.self.table;
-      is_block = subst (λ ms. blocks.IsBlock c.self.inside.encoder.table written.written ms (section_of c.in-Some.head) c.encode.new.self.table) no_maxima (subst (λ fs. blocks.IsBlock c.self.inside.encoder.table written.written written.maxima fs c.encode.new.self.table) fields written.is_block);
+      is_block = subst (λ ms. blocks.IsBlock c.self.inside.encoder.table written.written ms (section_of c.in-Some.head) c.encode.new.self.table) no_maxima (subst (λ fs. blocks.IsBlock c.self.inside.encoder.table written.written written.is_written.maxima fs c.encode.new.self.table) fields written.is_written.is_block);
       stream = subst (λ n. n < 2147483648) stream c.stream-stream.ensures.in_range;
       short_block = subst (λ xs. length xs ≤ 16384) block (let n = c.len.ensures in let f = fits.0 in omega (arith, n, f));
       short_body = subst (λ xs. length xs ≤ 16384) c.into_response-head.ensures.body (let n = c.len-2.ensures in let f = fits.1 in omega (arith, n, f));

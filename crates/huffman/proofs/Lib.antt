@@ -6,4 +6,5 @@ pub mod FlushLemmas
 pub mod CodingLemmas
 pub mod FaultLemmas
 pub mod WindowLemmas
+pub mod UpcomingLemmas
 pub mod TableLemmas

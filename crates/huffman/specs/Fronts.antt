@@ -2,11 +2,11 @@
 use Rattle.std.specs.Prelude.{ℕ, ◌-◌, ◌/◌, ◌^◌, ◌<◌, ◌≤◌, List, Option, Some, None}
 use Rattle.model.specs.Huffman.{bits, IsCode}
 use Rattle.huffman.specs.Decoding.{BeginsWith}
-use Rattle.huffman.specs.Waiting.{pending_bits}
+use Rattle.huffman.specs.Upcoming.{upcoming_bits}
 use Rattle.huffman.specs.declared.codes.Code.{Code}
 use Rattle.huffman.specs.declared.codes.Symbol.{Symbol}
 use Rattle.huffman.specs.declared.codes.Symbol.TheVariants.{Octet, End}
-use Rattle.huffman.specs.declared.pending.Pending.{Pending}
+use Rattle.huffman.specs.declared.upcoming.Upcoming.{Upcoming}
 
 -- The bits are the code of the symbol.
 abbrev pub StandFor : List ℕ → Symbol → Type 0
@@ -20,17 +20,17 @@ pub record IsFront (width number : ℕ) (code : Code) : Type 0 where
   pub stand : StandFor (bits code.width (number / 2 ^ (width - code.width))) code.symbol
 
 -- The bits that wait begin with the whole code.
-pub record IsWholeFront (waiting : Pending) (code : Code) : Type 0 where
+pub record IsWholeFront (waiting : Upcoming) (code : Code) : Type 0 where
   pub whole : code.width ≤ waiting.width
-  pub front : IsFront waiting.width waiting.number code
+  pub front : IsFront 64 waiting.number code
 
 -- The bits begin with no code.
 abbrev pub BeginWithNone : List ℕ → Type 0
 BeginWithNone bits = (symbol : ℕ) → BeginsWith symbol bits → ⊥
 
 -- The bits that wait begin with no code, and the longest has 30.
-pub record IsUnended (waiting : Pending) : Type 0 where
-  pub none : BeginWithNone (pending_bits waiting)
+pub record IsUnended (waiting : Upcoming) : Type 0 where
+  pub none : BeginWithNone (upcoming_bits waiting)
   pub few : waiting.width < 30
 
 -- what an octet at a place of the code is, and behind the octets the end

@@ -5,10 +5,11 @@
 ghost use Rattle.std.specs.Prelude.{◌≡◌, ◌*◌, ◌^◌, ◌<◌, ◌≤◌, nat_lt, slice_get, IfSome, IfNone};
 ghost use Rattle.std.specs.List.{find};
 ghost use Rattle.huffman.specs.Fronts.{IsFront, IsUnended, IsWholeFront, symbol_of};
+ghost use Rattle.huffman.specs.Upcoming.{IsAligned};
 
 use crate::long_codes::{OCTETS, ROWS};
-use crate::pending::Pending;
 use crate::short_codes::SHORT;
+use crate::upcoming::Upcoming;
 
 /// What a code stands for.
 #[derive(Clone, Copy)]
@@ -26,17 +27,16 @@ pub struct Code {
     pub width: u32,
 }
 
-/// The bits of a window. As many can wait: less than the 30 of the longest code, and those of one octet.
-const WINDOW: u32 = 38;
+/// The bits by which a code is looked up, the 30 of the longest among them.
+const FRONT: u32 = 38;
 
 /// The code that bits begin with, or None where they don't begin with a code.
-pub fn next_code(waiting: Pending) -> Option<Code>
-    requires below { waiting.number < 2 ^ waiting.width }
-    requires few { waiting.width ≤ 38 }
+pub fn next_code(waiting: Upcoming) -> Option<Code>
+    requires { IsAligned waiting }
     ensures some { IfSome result (λ code. IsWholeFront waiting code) }
     ensures none { IfNone result (IsUnended waiting) }
 {
-    let code = code_at(waiting.number << (WINDOW - waiting.width));
+    let code = code_at(waiting.number >> (64 - FRONT));
     if code.width <= waiting.width {
         Some(code)
     } else {
@@ -74,7 +74,7 @@ fn long_code_at(window: u64) -> Code
     let Some((width, _, lead)) = row_at(&ROWS, window) else {
         unreachable!();
     };
-    let place = (window >> (WINDOW - width)) - lead;
+    let place = (window >> (FRONT - width)) - lead;
     Code {
         symbol: symbol_at(&OCTETS, place),
         width,

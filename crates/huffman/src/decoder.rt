@@ -1,15 +1,15 @@
 //! Decoding: a whole code at a step, off the front of the bits that wait.
 
-ghost use Rattle.std.specs.Prelude.{◌≡◌, ◌^◌, ◌<◌, ◌≤◌, IfOk, IfErr, OnOk, OnErr};
+ghost use Rattle.std.specs.Prelude.{◌≡◌, ◌≤◌, IfOk, IfErr, OnOk, OnErr};
 ghost use Rattle.std.specs.Bool.{OnTrue, OnFalse};
 ghost use Rattle.huffman.specs.Decoding.{Adds, Decodes, IsFaultOf, IsPadding};
+ghost use Rattle.huffman.specs.Fronts.{IsUnended};
 ghost use Rattle.huffman.specs.Taking.{Stops, Takes};
-ghost use Rattle.huffman.specs.Waiting.{pending_bits};
+ghost use Rattle.huffman.specs.Upcoming.{IsAligned, upcoming_bits};
 ghost use Rattle.huffman.specs.declared.decoder.HuffFault.TheVariants.{Memory};
 
 use crate::codes::{Symbol, next_code};
-use crate::pending::{NOTHING, Pending, append, behind};
-use crate::words::Word;
+use crate::upcoming::{NO_BITS, ROOM_FOR_OCTET, Upcoming, and_octet, past};
 use std::alloc::{AllocError, AllocFailed};
 
 /// Why octets aren't Huffman text.
@@ -21,6 +21,14 @@ pub enum HuffFault {
     Padding,
     /// Memory was refused.
     Memory,
+}
+
+impl From<AllocError> for HuffFault {
+    ghost from_gives = { λ _ fault. fault ≡ Memory };
+
+    fn from(_error: AllocError) -> HuffFault {
+        HuffFault::Memory
+    }
 }
 
 impl From<AllocFailed<u8>> for HuffFault {
@@ -40,6 +48,7 @@ pub fn decode(octets: &[u8], out: &mut Vec<u8>) -> Result<(), HuffFault>
     ensures fault { IfErr result (λ fault. IsFaultOf octets.now fault) }
     ensures err { OnErr result (out.new.items ≡ out.old.items) }
 {
+    out.reserve(octets.len() / 5 * 8 + 8)?;
     let start = out.len();
     let result = decode_onto(octets, out);
     if result.is_err() {
@@ -54,26 +63,34 @@ fn decode_onto(octets: &[u8], out: &mut Vec<u8>) -> Result<(), HuffFault>
     ensures fault { IfErr result (λ fault. IsFaultOf octets.now fault) }
     ensures err { OnErr result (Adds out.old.items out.new.items) }
 {
-    let mut waiting = NOTHING;
+    let mut coming = NO_BITS;
     for octet in octets {
-        let word = Word {
-            number: u32::from(*octet),
-            width: 8,
-        };
-        waiting = take_codes(append(waiting, word), out)?;
+        coming = and_octet(make_room(coming, out)?, *octet);
     }
-    if is_padding(waiting) {
+    if is_padding(take_codes(coming, out)?) {
         Ok(())
     } else {
         Err(HuffFault::Padding)
     }
 }
 
-/// Takes the codes that bits begin with off them, and adds their octets.
-fn take_codes(all: Pending, out: &mut Vec<u8>) -> Result<Pending, HuffFault>
-    requires below { all.number < 2 ^ all.width }
-    requires few { all.width ≤ 38 }
-    ensures ok { IfOk result (λ rest. Takes all rest out.old.items out.new.items) }
+/// Takes codes off bits where there is no room for an octet behind them, and adds their octets.
+fn make_room(all: Upcoming, out: &mut Vec<u8>) -> Result<Upcoming, HuffFault>
+    requires { IsAligned all }
+    ensures ok { IfOk result (λ rest. Takes all rest out.old.items out.new.items × (rest.width ≤ 56)) }
+    ensures stops { IfErr result (λ fault. Stops all out.old.items out.new.items fault) }
+{
+    if all.width <= ROOM_FOR_OCTET {
+        Ok(all)
+    } else {
+        take_codes(all, out)
+    }
+}
+
+/// Takes all codes that bits begin with off them, and adds their octets.
+fn take_codes(all: Upcoming, out: &mut Vec<u8>) -> Result<Upcoming, HuffFault>
+    requires { IsAligned all }
+    ensures ok { IfOk result (λ rest. Takes all rest out.old.items out.new.items × IsUnended rest) }
     ensures stops { IfErr result (λ fault. Stops all out.old.items out.new.items fault) }
 {
     let mut rest = all;
@@ -82,16 +99,16 @@ fn take_codes(all: Pending, out: &mut Vec<u8>) -> Result<Pending, HuffFault>
             return Err(HuffFault::Eos);
         };
         out.push(octet)?;
-        rest = behind(rest, code.width);
+        rest = past(rest, code.width);
     }
     Ok(rest)
 }
 
 /// Whether bits are fewer than eight ones.
-fn is_padding(waiting: Pending) -> bool
-    requires { waiting.number < 2 ^ waiting.width }
-    ensures yes { OnTrue result (IsPadding (pending_bits waiting)) }
-    ensures no { OnFalse result (IsPadding (pending_bits waiting) → ⊥) }
+fn is_padding(left: Upcoming) -> bool
+    requires { IsAligned left }
+    ensures yes { OnTrue result (IsPadding (upcoming_bits left)) }
+    ensures no { OnFalse result (IsPadding (upcoming_bits left) → ⊥) }
 {
-    waiting.width <= MOST_PADDING && waiting.number == (1 << waiting.width) - 1
+    left.width <= MOST_PADDING && left.number >> 1 >> (63 - left.width) == (1 << left.width) - 1
 }

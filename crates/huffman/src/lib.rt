@@ -17,6 +17,7 @@ mod printed_codes;
 mod short_codes;
 #[cfg(test)]
 mod tests;
+mod upcoming;
 mod words;
 
 pub use crate::decoder::{HuffFault, decode};

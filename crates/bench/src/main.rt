@@ -1,0 +1,77 @@
+//! Drives the layers over fixed samples, so that their instructions can be counted: `bench PART ROUNDS`, where `all` stands
+//! for every part. For each part it prints the name and a checksum of what the last round made.
+#![tactic(auto)]
+
+mod bodies;
+mod exchanges;
+mod made;
+mod samples;
+mod tables;
+mod texts;
+
+use crate::made::Made;
+use std::alloc::Global;
+use std::env;
+use std::process::ExitCode;
+
+/// The names of the parts.
+const PARTS: [&str; 13] = [
+    "exchanges",
+    "decode",
+    "send",
+    "small-head",
+    "large-head",
+    "encode",
+    "encode-known",
+    "encode-new",
+    "sized-body",
+    "chunked-body",
+    "huffman-decode",
+    "huffman-encode",
+    "find",
+];
+
+/// The status is 1 for any command line but a part and a number of rounds, where a layer refuses the samples or memory is
+/// refused, and where a write fails.
+fn main(rt: HostRuntime) -> ExitCode {
+    match run(&rt) {
+        Some(()) => ExitCode::SUCCESS,
+        None => ExitCode::FAILURE,
+    }
+}
+
+/// Runs the parts that the command line names.
+fn run(rt: &HostRuntime) -> Option<()> {
+    let mut words = env::args(rt).ok()?.skip(1);
+    let wanted = words.next()?;
+    let rounds = words.next()?.parse::<u32>().ok()?;
+    for part in &PARTS {
+        if wanted.as_str() == "all" || wanted.as_str() == *part {
+            let mut made = Made::new(rt.alloc());
+            run_part(part, rt.alloc(), rounds, &mut made)?;
+            let sum = made.checksum();
+            println!(rt; "{part} {sum:016x}").ok()?;
+        }
+    }
+    Some(())
+}
+
+/// Runs the rounds of a part, and leaves what the last one made. None where something is refused.
+fn run_part(part: &str, alloc: Global, rounds: u32, made: &mut Made) -> Option<()> {
+    match part {
+        "exchanges" => exchanges::exchange(alloc, rounds, made),
+        "decode" => exchanges::decode(alloc, rounds, made),
+        "send" => exchanges::send(alloc, rounds, made),
+        "small-head" => exchanges::read_small(alloc, rounds, made),
+        "large-head" => exchanges::read_large(alloc, rounds, made),
+        "encode" => tables::encode(alloc, rounds, made),
+        "encode-known" => tables::encode_known(alloc, rounds, made),
+        "encode-new" => tables::encode_new(alloc, rounds, made),
+        "sized-body" => bodies::read_sized(alloc, rounds, made),
+        "chunked-body" => bodies::read_chunked(alloc, rounds, made),
+        "huffman-decode" => texts::decode(alloc, rounds, made),
+        "huffman-encode" => texts::encode(alloc, rounds, made),
+        "find" => tables::find(alloc, rounds, made),
+        _ => None,
+    }
+}

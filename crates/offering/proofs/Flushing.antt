@@ -17,16 +17,14 @@ use Rattle.model.specs.ProgressClause.{NoneReady}
 use Rattle.model.specs.Turns.{IsNextTurn}
 use Rattle.model.specs.Offers.{IsGiven, IsOffered}
 use Rattle.model.proofs.DeliveryReadings.{one_delivery}
+use Rattle.model.proofs.OfferLaws.{one_offer}
 use Rattle.offering.specs.Outbox.{offered_by, can_go}
-use Rattle.offering.specs.Shown.{OneShown}
 use Rattle.offering.specs.State.{Kept, State, Move, start, find, are_open, is_ready, is_ready_if, can_turn, ready, entry_of, after, state_of}
 use Rattle.offering.specs.State.Move.{Takes, Breaks, Notes, Hears, Fails, Goes, Sends, Acts}
 use Rattle.offering.specs.Policy.{Neighbours, Holds, AreAllowed, IsFlushed, KeepClauses}
 use Rattle.offering.proofs.Heads.{nothing_reads}
 use Rattle.offering.proofs.Listing.{filter_in, filter_out, found_among}
 use Rattle.offering.proofs.Going.{goes_by_outbox, outbox_goes}
-use Rattle.offering.proofs.Laws.{one_offer}
-use Rattle.offering.proofs.SeenLaws.{one_shown}
 use Rattle.offering.proofs.Offering.{IsKept, IsKeptIf, Offering, breaks_keep, notes_keep, sends_keep}
 use Rattle.offering.proofs.Moving.{hears_keep, fails_keep, goes_keep, acts_keep}
 use Rattle.offering.proofs.Taking.{takes_keep}
@@ -65,13 +63,13 @@ module _ (known : Known) (t : List Entry) (s : State) (h : Offering known t s) (
       record { own = subst (λ z. pos 0 <ℤ z) kept.own (above k.own parts.0); shared = subst (λ z. pos 0 <ℤ z) h.shared (above s.shared parts.1) }
 
   -- a stream that is ready by the clause is ready by its outbox
-  pub ready_by_outbox : OneShown known.setup.passing → Neighbours known t → k.cut ≡ false → IsReady known t stream → is_ready s k ≡ true
-  ready_by_outbox one n not_cut r =
+  pub ready_by_outbox : Neighbours known t → k.cut ≡ false → IsReady known t stream → is_ready s k ≡ true
+  ready_by_outbox n not_cut r =
       let st = kept.held.stands not_cut in
       let same : r.read ≡ st.read = one_delivery (items_on stream (sent t)) r.read st.read r.reads st.reads in
       elim st.offer [
         | inl p ↦ (
-            let offers : r.offered ≡ offered_by st.read k.box = one_offer known one t stream n.apart r.offered (offered_by st.read k.box) r.is_offered p in
+            let offers : r.offered ≡ offered_by st.read k.box = one_offer known t stream n.apart r.offered (offered_by st.read k.box) r.is_offered p in
             let goes : CanGo t stream st.read (offered_by st.read k.box) = subst (λ d. CanGo t stream st.read d) offers (subst (λ d. CanGo t stream d r.offered) same r.can_go) in
             and_from (not k.cut) (can_go (are_open s k) k.box) (ap (λ b. not b) not_cut) (goes_by_outbox t stream (are_open s k) st.read k.box windows_there st.fits goes)
             )
@@ -100,11 +98,11 @@ kept_at known t stream None h = absurd h
 kept_at known t stream (Some k) h = (k, refl, h)
 
 -- a stream is ready by the clause just where it stands in the list
-pub listed : (known : Known) (t : List Entry) (s : State) → OneShown known.setup.passing → Neighbours known t → Offering known t s → ((stream : ℕ) (kept : Kept) → find stream s.kept ≡ Some kept → kept.cut ≡ false)
+pub listed : (known : Known) (t : List Entry) (s : State) → Neighbours known t → Offering known t s → ((stream : ℕ) (kept : Kept) → find stream s.kept ≡ Some kept → kept.cut ≡ false)
     → (stream : ℕ) → IsReady known t stream → SomeIndex (ready s) (λ k. slice_index (ready s) k ≡ stream)
-listed known t s one n h none_cut stream r =
+listed known t s n h none_cut stream r =
     let at = kept_at known t stream (find stream s.kept) (h.kept stream r.is_active) in
-    let yes : is_ready s at.0 ≡ true = ready_by_outbox known t s h stream at.0 at.2 one n (none_cut stream at.0 at.1) r in
+    let yes : is_ready s at.0 ≡ true = ready_by_outbox known t s h stream at.0 at.2 n (none_cut stream at.0 at.1) r in
     filter_in (can_turn s) (map (λ (k : Kept). k.id) s.kept) stream (found_among stream s.kept at.0 at.1) (ap (is_ready_if s) at.1 ∙ yes)
 
 pub listed_ready : (known : Known) (t : List Entry) (s : State) → Offering known t s → (stream : ℕ) → SomeIndex (ready s) (λ k. slice_index (ready s) k ≡ stream) → IsReady known t stream
@@ -122,9 +120,9 @@ turn_ready known t s h stream (inl turn) = listed_ready known t s h stream turn.
 turn_ready known t s h stream (inr turn) = listed_ready known t s h stream turn.is_ready
 
 -- and where no stream is listed none is ready
-pub flushed : (known : Known) (t : List Entry) (s : State) → OneShown known.setup.passing → Neighbours known t → Offering known t s → IsFlushed s → NoneReady known t
-flushed known t s one n h done low stream r =
-    let i = listed known t s one n h done.none_cut stream r in
+pub flushed : (known : Known) (t : List Entry) (s : State) → Neighbours known t → Offering known t s → IsFlushed s → NoneReady known t
+flushed known t s n h done low stream r =
+    let i = listed known t s n h done.none_cut stream r in
     let none : length (ready s) ≡ 0 = ap length (done.none_ready (subst (λ x. x < high_water) (sym h.untaken) low)) in
     let within = i.1 in
     omega (arith, within, none)
@@ -149,4 +147,4 @@ run_holds known (m ∷ ms) a = moves_keep known (map entry_of ms) (state_of ms) 
 pub clauses_hold : (known : Known) (ms : List Move) → AreAllowed known ms → Neighbours known (map entry_of ms) → IsFlushed (state_of ms) → KeepClauses known (map entry_of ms)
 clauses_hold known ms a n done =
     let h = run_holds known ms a in
-    record { delivered = h.delivered; keeps = h.keeps; none_ready = flushed known (map entry_of ms) (state_of ms) (one_shown known.setup.passing) n h done }
+    record { delivered = h.delivered; keeps = h.keeps; none_ready = flushed known (map entry_of ms) (state_of ms) n h done }

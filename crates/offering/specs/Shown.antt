@@ -5,10 +5,6 @@ use Rattle.model.specs.Deliveries.{Delivery}
 use Rattle.model.specs.Available.{IsShown}
 use Rattle.offering.specs.Outbox.{News, with_news}
 
--- One thing is on offer of a text.
-abbrev pub OneShown : Passing → Type 0
-OneShown passing = (text : List ℕ) (ended to_head : Bool) (d e : Delivery) → IsShown passing text ended to_head d → IsShown passing text ended to_head e → d ≡ e
-
 -- The text became this one and ended or not, and with it came this news of its response: whatever was on offer before.
 pub record Tells (passing : Passing) (text : List ℕ) (ended : Bool) (longer : List ℕ) (ends to_head : Bool) (news : News) : Type 0 where
   pub not_whole : (d : Delivery) → IsShown passing text ended to_head d → d.whole ≡ false

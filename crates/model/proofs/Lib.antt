@@ -33,6 +33,7 @@ pub mod MalformedLaws
 pub mod RouteLaws
 pub mod FailureLaws
 pub mod DeliveryReadings
+pub mod OpenedLaws
 pub mod OfferLemmas
 pub mod OfferLaws
 mod HeadlineExamples

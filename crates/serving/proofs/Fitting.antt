@@ -1,0 +1,131 @@
+-- A frame without a fault that is no cause leaves its stream's items a request so far: what a sender needs to write it.
+use Rattle.std.proofs.Common.{◌≡◌, ℕ, ◌+◌, Bool, true, false, not, ◌&&◌, ◌||◌, List, [], ◌∷◌, ◌++◌, length, refl, sym, ap, ◌∙◌, length-append}
+use Rattle.std.specs.Prelude.{Option, Some, None}
+use Rattle.std.specs.List.{concat}
+use Rattle.std.proofs.lemmas.Bool.{leb-true, eqb-true}
+use Rattle.model.specs.Messages.{Field, Item}
+use Rattle.model.specs.Messages.Item.{Block}
+use Rattle.model.specs.Http2.{WellFormedHead, WellFormedTrailers, HasLength, is_connect, declared_length, body_of}
+use Rattle.model.specs.Malformed.{Carried, carried_by, is_well_formed, are_trailers, declared, has_length, is_within, is_malformed_block, is_malformed_content}
+use Rattle.model.specs.Setup.{Setup}
+use Rattle.model.specs.Tapes.{Noted, Entry, came}
+use Rattle.model.specs.Tapes.Note.{Fields}
+use Rattle.model.specs.Tapes.Entry.{Came}
+use Rattle.model.specs.Decoding.{completed}
+use Rattle.model.specs.Errors.{Fault, or_else}
+use Rattle.model.specs.FrameErrors.{fault_if}
+use Rattle.model.specs.Causes.{Cause, are_large, cause_if, first_cause, cause_of_head, is_routed}
+use Rattle.model.specs.ErrorTable.{is_bad_block, is_malformed, row_malformed, fault_of_rows, fault_with}
+use Rattle.model.proofs.MalformedLaws.{head_holds, trailers_hold}
+use Rattle.request_rules.specs.Heads.{parts_of}
+use Rattle.h1_writer.specs.Sending.{Stage, HasRoom, MayPush, MayFinish}
+use Rattle.h1_writer.specs.Sending.Stage.{Whole}
+use Rattle.h1_writer.proofs.Wholes.{room_to_push, end_to_finish}
+use Rattle.serving.specs.Written.{IsWritten}
+
+-- ---- no fault
+
+-- where neither is a fault the second isn't
+second_none : (first second : Option Fault) → or_else first second ≡ None → second ≡ None
+second_none None second e = e
+second_none (Some fault) second e = absurd (cc)
+
+-- a test that is no fault fails
+no_fault_if : (b : Bool) (fault : Fault) → fault_if b fault ≡ None → b ≡ false
+no_fault_if true fault is = absurd (cc)
+no_fault_if false fault is = refl
+
+-- a frame without a fault, on a stream that the gateway doesn't answer, isn't malformed
+pub not_malformed : (carried : Carried) (t : List Entry) (noted : Noted) → fault_with carried t (Came noted) ≡ None → carried.waits ≡ false → is_malformed carried (completed (came t) noted.frame) noted ≡ false
+not_malformed carried t noted none calm =
+    let row : row_malformed carried t (Came noted) ≡ None = second_none (fault_of_rows t (Came noted)) (row_malformed carried t (Came noted)) none in
+    sym (ap (λ b. not b && is_malformed carried (completed (came t) noted.frame) noted) calm) ∙ no_fault_if (not carried.waits && is_malformed carried (completed (came t) noted.frame) noted) _ row
+
+-- ---- tests
+
+-- neither of two tests passes
+neither : (a b : Bool) → (a || b) ≡ false → (a ≡ false) × (b ≡ false)
+neither false b e = (refl, e)
+neither true b e = absurd (cc)
+
+-- a test whose opposite fails passes
+not_not : (b : Bool) → not b ≡ false → b ≡ true
+not_not true e = refl
+not_not false e = absurd (cc)
+
+-- a test that passes where another does
+then_true : (a b : Bool) → (a && not b) ≡ false → a ≡ true → b ≡ true
+then_true true true e on = refl
+then_true true false e on = absurd (cc)
+then_true false b e on = absurd (cc)
+
+-- the first of some causes, and the others
+no_cause : (b : Bool) (cause : Cause) (later : List (Option Cause)) → first_cause (cause_if b cause ∷ later) ≡ None → (b ≡ false) × (first_cause later ≡ None)
+no_cause true cause later e = absurd (cc)
+no_cause false cause later e = (refl, e)
+
+-- ---- heads
+
+-- A head that is taken: well-formed, no tunnel, with a route, and of no body where it ends the stream.
+pub record IsTaken (setup : Setup) (head : List Field) (ends : Bool) : Type 0 where
+  pub well_formed : WellFormedHead head
+  pub no_connect : is_connect head ≡ false
+  pub routed : is_routed setup.routes head ≡ true
+  pub no_body : ends ≡ true → HasLength (declared_length head) []
+
+-- the test of a length tells it
+length_told : (declared : Option ℕ) (body : List ℕ) → has_length declared (length body) ≡ true → HasLength declared body
+length_told None body e = tt
+length_told (Some n) body e = eqb-true (length body) n e
+
+-- a head that is neither malformed nor a cause is taken
+pub head_taken : (setup : Setup) (head : List Field) (ends : Bool) → cause_of_head setup head ≡ None → is_bad_block (carried_by [] false) ends (Fields head) ≡ false → IsTaken setup head ends
+head_taken setup head ends none good =
+    let small = no_cause (are_large head) _ _ none in
+    let plain = no_cause (is_connect head) _ _ small.1 in
+    let expects = no_cause (Rattle.model.specs.Causes.has_field (Rattle.std.specs.Prelude.codes "expect") head) _ _ plain.1 in
+    let length_ok = no_cause (Rattle.model.specs.Causes.declares_past setup.max_body (declared_length head)) _ _ expects.1 in
+    let routed = no_cause (not (is_routed setup.routes head)) _ _ length_ok.1 in
+    let rules = neither (not (is_well_formed head)) (ends && not (has_length (declared_length head) 0)) (sym (ap (λ b. not b && is_malformed_block (carried_by [] false) head ends) small.0) ∙ good) in record {
+      well_formed = head_holds head (not_not (is_well_formed head) rules.0);
+      no_connect = plain.0;
+      routed = not_not (is_routed setup.routes head) routed.0;
+      no_body = λ e. length_told (declared_length head) [] (then_true ends (has_length (declared_length head) 0) rules.1 e);
+    }
+
+-- ---- what comes behind a head
+
+module _ (items : List Item) (text : List ℕ) (stage : Stage) (w : IsWritten items text stage) (part : stage ≡ Whole → ⊥) where
+  declared_is : declared items ≡ (parts_of w.head).length
+  declared_is = ap declared w.is
+
+  body_is : body_of items ≡ concat w.pieces
+  body_is = ap body_of w.is ∙ sym w.body
+
+  room_told : (declared : Option ℕ) (octets : List ℕ) → is_within declared (length (concat w.pieces) + length octets) ≡ true → HasRoom declared w.pieces (length octets)
+  room_told None octets e = tt
+  room_told (Some n) octets e = leb-true (length (concat w.pieces) + length octets) n e
+
+  -- octets may be pushed, and where they end the stream the body is as long as declared
+  pub content_fits : (octets : List ℕ) (ends : Bool) → is_malformed_content (carried_by items false) octets ends ≡ false → MayPush stage (length octets) × (ends ≡ true → HasLength (parts_of w.head).length (concat w.pieces ++ octets))
+  content_fits octets ends good =
+      let rules = neither (not (is_within (declared items) (length (body_of items) + length octets))) (ends && not (has_length (declared items) (length (body_of items) + length octets))) good in
+      let within : is_within (parts_of w.head).length (length (concat w.pieces) + length octets) ≡ true =
+      sym (ap (λ d. is_within d (length (concat w.pieces) + length octets)) declared_is) ∙ sym (ap (λ b. is_within (declared items) (length b + length octets)) body_is) ∙ not_not (is_within (declared items) (length (body_of items) + length octets)) rules.0 in (
+        room_to_push (parts_of w.head) w.ended text w.pieces stage (length octets) w.sending part (room_told (parts_of w.head).length octets within),
+        λ e.
+            let whole : has_length (declared items) (length (body_of items) + length octets) ≡ true = then_true ends _ rules.1 e in
+            length_told (parts_of w.head).length (concat w.pieces ++ octets) (ap (has_length (parts_of w.head).length) (length-append (concat w.pieces) octets) ∙ sym (ap (λ d. has_length d (length (concat w.pieces) + length octets)) declared_is) ∙ sym (ap (λ b. has_length (declared items) (length b + length octets)) body_is) ∙ whole),
+      )
+
+  -- a block behind a head is of trailers: it ends the stream, and the text may be ended
+  pub trailers_fit : (fields : List Field) (ends : Bool) → is_malformed_block (carried_by items false) fields ends ≡ false → (ends ≡ true) × WellFormedTrailers fields × MayFinish stage
+  trailers_fit fields ends good =
+      let now : is_malformed_block (carried_by (Block w.head w.ended ∷ w.more) false) fields ends ≡ false = sym (ap (λ xs. is_malformed_block (carried_by xs false) fields ends) w.is) ∙ good in
+      let first = neither (not ends || not (are_trailers fields)) (not (has_length (declared_length w.head) (length (body_of w.more)))) now in
+      let second = neither (not ends) (not (are_trailers fields)) first.0 in
+      let whole : has_length (parts_of w.head).length (length (body_of w.more)) ≡ true = not_not (has_length (declared_length w.head) (length (body_of w.more))) first.1 in (
+        not_not ends second.0,
+        trailers_hold fields (not_not (are_trailers fields) second.1),
+        end_to_finish (parts_of w.head) w.ended text w.pieces stage w.sending part (length_told (parts_of w.head).length (concat w.pieces) (ap (λ b. has_length (parts_of w.head).length (length b)) w.body ∙ whole)),
+      )

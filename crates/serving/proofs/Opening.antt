@@ -1,0 +1,256 @@
+-- A connection is opened, and its text goes out.
+use Rattle.std.proofs.Common.{◌≡◌, ℕ, suc, ◌<◌, Bool, true, false, ◌==◌, ◌&&◌, not, List, [], ◌∷◌, ◌++◌, refl, sym, ap, ◌∙◌, subst, inl, inr, if◌then◌else◌, arith, append-nil}
+use Rattle.std.specs.Prelude.{Option, Some, None}
+use Rattle.std.proofs.lemmas.Bool.{eq-eqb, ne_eqb}
+use Rattle.std.proofs.lemmas.Bool.Decides.{eqb_tells}
+use Rattle.model.specs.Http2.{HasHead}
+use Rattle.model.specs.Responses.{IsComplete}
+use Rattle.model.specs.Logs.Act.{Open, ToUp}
+use Rattle.model.specs.Tapes.{Entry, sent_up}
+use Rattle.model.specs.Tapes.Entry.{Did}
+use Rattle.model.specs.Openings.{Opened, opens, last_stream, IsGivenNone}
+use Rattle.model.specs.Admission.{is_open}
+use Rattle.model.specs.Available.{heard, IsIn}
+use Rattle.model.specs.Known.{Known}
+use Rattle.model.specs.Lifetimes.{is_opened, is_over, is_active}
+use Rattle.model.specs.Courses.{items, cause}
+use Rattle.model.specs.Offers.{is_to_head}
+use Rattle.model.specs.ProgressClause.{Reason}
+use Rattle.model.specs.ProgressClause.Reason.{Over, Complete, Answered, ClientClosed}
+use Rattle.serving.proofs.Courses.{items_stay}
+use Rattle.model.proofs.OfferLemmas.{nothing_complete}
+use Rattle.serving.proofs.Courses.{cause_stays, none_by_did}
+use Rattle.h1_writer.specs.Sending.{Stage}
+use Rattle.serving.specs.Written.{IsWritten}
+use Rattle.serving.specs.State.{Held, held_of, Live, live_of, k_of, Due, State, after, Move}
+use Rattle.serving.specs.State.Due.{Nothing, ToOpen, ToSend}
+use Rattle.serving.specs.State.Move.{Acts}
+use Rattle.serving.specs.Policy.{MayOpen}
+use Rattle.serving.proofs.Lists.{find_first, find_past}
+use Rattle.serving.proofs.Texts.{sent_either, no_request}
+use Rattle.serving.proofs.Reasons.{opened_stays}
+use Rattle.serving.proofs.Standing.{owed, text_of, IsSent, Given, IsDueFor, Fares, IsOpening, IsDue, IsLetGo, IsFresh, Stands, unread_same, has_head_stays, closes_stay, stands_next}
+use Rattle.serving.proofs.Passing.{sent_same, fresh_same, lives_found, lives_same, reason_on, lasts_did}
+use Rattle.serving.proofs.Framing.{within, found_live}
+
+-- an active stream was opened
+active_opened : (stream : ℕ) (t : List Entry) → is_active stream t ≡ true → is_opened stream t ≡ true
+active_opened stream t active = by (is_opened stream t) (is_over stream t) active
+  where
+    by : (a b : Bool) → (a && not b) ≡ true → a ≡ true
+    by true b e = refl
+    by false b e = e
+
+-- none was given to the stream
+given_none_in : (stream : ℕ) (os : List Opened) → ((o : Opened) → IsIn o os → o.stream ≡ stream → ⊥) → IsGivenNone stream os
+given_none_in stream [] none = tt
+given_none_in stream (o ∷ os) none = (λ e. none o (inl refl) (sym e), given_none_in stream os (λ p i. none p (inr i)))
+
+-- what a text that was written is to a connection that is sent it
+pub sent_written : (known : Known) (t : List Entry) (o : Opened) (text : List ℕ) (stage : Stage) → IsWritten (items known o.stream t) text stage → IsSent known t text o
+sent_written known t o text stage w = record {
+  reads = elim (sent_either (items known o.stream t) text stage w) [
+    | inl whole ↦ inl whole
+    | inr part ↦ inr (record { part = part.0; cut = λ request means. absurd (no_request (items known o.stream t) request part.1 means) })
+  ];
+  writes = λ opened. (stage, w);
+}
+
+module _ (known : Known) (t : List Entry) (s : State) (h : Stands known t s) (open_yet : s.closed ≡ false) where
+  -- ---- opening
+
+  module _ (k route : ℕ) (may : MayOpen s k route) where
+    abbrev pub e : Entry
+    e = Did (Open k route)
+
+    abbrev pub u : State
+    u = after s (Acts (Open k route))
+
+    due : IsOpening known t may.stream route may.text
+    due = subst (IsDue known t s) may.due h.due
+
+    last : last_stream t ≡ may.stream
+    last = due.last
+
+    abbrev pub new : Opened
+    new = record { k = k; route = route; stream = last_stream t }
+
+    u_due : u.due ≡ ToSend k may.text
+    u_due = ap (λ d. Rattle.serving.specs.State.due_opened d k) may.due
+
+    abbrev pub new_live : Live
+    new_live = record { k = k; stream = Rattle.serving.specs.State.due_stream s.due; done = false }
+
+    fresh : IsFresh t k
+    fresh = h.fresh k (let next = may.next in omega (arith, next))
+
+    same_items : (stream : ℕ) → items known stream (e ∷ t) ≡ items known stream t
+    same_items stream = sym (items_stay known stream t e refl)
+
+    written : IsWritten (items known (last_stream t) t) may.text due.stage
+    written = subst (λ n. IsWritten (items known n t) may.text due.stage) (sym last) due.written
+
+    -- ---- the new connection
+
+    new_live_is : live_of k u.live ≡ Some new_live
+    new_live_is = find_first k_of k new_live s.live refl
+
+    no_reason_for_new : Reason known (e ∷ t) new → ⊥
+    no_reason_for_new (Over is) = let clash : true ≡ false = sym due.active ∙ ap (λ n. is_active n t) (sym last) ∙ is in cc
+    no_reason_for_new (Complete c) = nothing_complete false (is_to_head (items known (last_stream t) (e ∷ t))) (subst (λ x. IsComplete x false (is_to_head (items known (last_stream t) (e ∷ t)))) fresh.unheard (subst (λ x. IsComplete (heard k t) x (is_to_head (items known (last_stream t) (e ∷ t)))) fresh.not_ended c))
+    no_reason_for_new (Answered found is) =
+        let clash : ◌≡◌ {A = Option _} None (Some found) = sym due.calm ∙ ap (λ n. cause known n t) (sym last) ∙ cause_stays known (last_stream t) t e (none_by_did known (last_stream t) t (Open k route)) ∙ is in cc
+    no_reason_for_new (ClientClosed is) = let clash : false ≡ true = sym open_yet ∙ sym h.closed ∙ is in cc
+
+    new_given : Given known (e ∷ t) u new
+    new_given = record {
+      started = opened_stays t e (last_stream t) (ap (λ n. is_opened n t) last ∙ active_opened may.stream t due.active);
+      head = due.written.head;
+      has_head = has_head_stays known t e (last_stream t) due.written.head (subst (λ n. HasHead (items known n t) due.written.head) (sym last) (subst (λ xs. HasHead xs due.written.head) (sym due.written.is) refl));
+      well_formed = due.written.well_formed;
+      by_route = due.by_route;
+      sent =
+          let text : text_of k (e ∷ t) u.due ≡ may.text = ap (λ d. sent_up k t ++ owed k d) u_due ∙ ap (λ x. x ++ (if k == k then may.text else [])) fresh.unsent ∙ ap (λ b. if b then may.text else []) (eq-eqb k k refl) in
+          subst (λ x. IsSent known (e ∷ t) x new) (sym text) (sent_written known (e ∷ t) new may.text due.stage (subst (λ xs. IsWritten xs may.text due.stage) (sym (same_items (last_stream t))) written));
+      lives = inl (record {
+        live = new_live;
+        found = new_live_is;
+        same = ap Rattle.serving.specs.State.due_stream may.due ∙ sym last;
+        opened = ap (λ b. if b then true else is_open k t) (eq-eqb k k refl);
+        done = λ d. absurd (let clash : false ≡ true = d in cc);
+        going = λ d. no_reason_for_new;
+      });
+    }
+
+    -- ---- the others
+
+    other_k : (o : Opened) → IsIn o (opens t) → o.k ≡ k → ⊥
+    other_k o i same = let less = within (opens t) o h.numbered i in let next = may.next in let count = h.count in omega (arith, less, next, count, same)
+
+    old_owed : (o : Opened) → IsIn o (opens t) → text_of o.k (e ∷ t) u.due ≡ text_of o.k t s.due
+    old_owed o i =
+        ap (λ d. sent_up o.k t ++ owed o.k d) u_due ∙ ap (λ b. sent_up o.k t ++ (if b then may.text else [])) (ne_eqb o.k k (other_k o i)) ∙ sym (ap (λ d. sent_up o.k t ++ owed o.k d) may.due)
+
+    old_live : (n : ℕ) → (n ≡ k → ⊥) → live_of n u.live ≡ live_of n s.live
+    old_live n apart = find_past k_of n new_live s.live (λ e. apart (sym e))
+
+    old_open : (n : ℕ) → (n ≡ k → ⊥) → is_open n (e ∷ t) ≡ is_open n t
+    old_open n apart = ap (λ b. if b then true else is_open n t) (ne_eqb n k apart)
+
+    old_given : (o : Opened) → IsIn o (opens t) → Given known (e ∷ t) u o
+    old_given o i =
+        let g = h.given o i in record {
+          started = opened_stays t e o.stream g.started;
+          head = g.head;
+          has_head = has_head_stays known t e o.stream g.head g.has_head;
+          well_formed = g.well_formed;
+          by_route = g.by_route;
+          sent = subst (λ x. IsSent known (e ∷ t) x o) (sym (old_owed o i)) (sent_same known t e o (text_of o.k t s.due) i (same_items o.stream) (λ shut. old_open o.k (other_k o i) ∙ shut) g.sent);
+          lives = lives_found known t e s u o g (λ x. x) (old_open o.k (other_k o i)) refl (old_live o.k (other_k o i)) (lasts_did known t (Open k route) o.stream) g.lives;
+        }
+
+    given : (o : Opened) → IsIn o (opens (e ∷ t)) → Given known (e ∷ t) u o
+    given o (inl is) = subst (Given known (e ∷ t) u) (sym is) new_given
+    given o (inr i) = old_given o i
+
+    let_go : (n : ℕ) → IsLetGo known t s n → IsLetGo known (e ∷ t) u n
+    let_go n l = record {
+      o = l.o;
+      is_opened = inr l.is_opened;
+      number = l.number;
+      missing = old_live n (λ same. other_k l.o l.is_opened (l.number ∙ same)) ∙ l.missing;
+      why = elim l.why [ inl reason ↦ inl (reason_on known t e s l.o (h.given l.o l.is_opened) (λ x. x) reason) | inr ending ↦ inr ending ];
+    }
+
+    there : (n : ℕ) (l : Live) → live_of n u.live ≡ Some l → (o : Opened) × IsIn o (opens (e ∷ t)) × (o.k ≡ n)
+    there n l found = elim (eqb_tells n k) [
+      | inl same ↦ (new, inl refl, sym same.1)
+      | inr apart ↦ (let was = h.there n l (sym (old_live n apart.1) ∙ found) in (was.0, inr was.1, was.2))
+    ]
+
+    fresh_on : (n : ℕ) → suc s.count < n → IsFresh (e ∷ t) n
+    fresh_on n lt =
+        let apart : n ≡ k → ⊥ = λ same. let next = may.next in omega (arith, lt, same, next) in
+        fresh_same t e n refl (λ x. x) (λ shut. old_open n apart ∙ shut) (h.fresh n (omega (arith, lt)))
+
+    fares : (stream : ℕ) → Fares known (e ∷ t) u stream
+    fares stream = elim (h.fares stream) [
+      | inl none ↦ inl (unread_same known t e stream (same_items stream) none)
+      | inr some ↦ (elim some [
+        | inl is ↦ inr (inr (new, record { is_opened = inl refl; is_given = last ∙ subst (λ d. IsDueFor d stream) may.due is }))
+        | inr g ↦ inr (inr (g.0, record { is_opened = inr g.1.is_opened; is_given = g.1.is_given }))
+      ])
+    ]
+
+    pub opens_next : Stands known (e ∷ t) u
+    opens_next = record {
+      numbered = (may.next ∙ ap suc h.count, h.numbered);
+      apart = (given_none_in (last_stream t) (opens t) (λ o i same. due.none_given o (record { is_opened = i; is_given = same ∙ last })), h.apart);
+      count = ap suc h.count;
+      given = given;
+      there = there;
+      fresh = fresh_on;
+      fares = fares;
+      held = λ stream x found. subst (λ xs. IsWritten xs x.text x.stage) (sym (same_items stream)) (h.held stream x found);
+      due = subst (IsDue known (e ∷ t) u) (sym u_due) (new_live, new_live_is);
+      goes = h.goes;
+      in_time = (record { active = ap (λ n. is_active n t) last ∙ due.active; no_cause = ap (λ n. cause known n t) last ∙ due.calm; goes_on = due.lasts }, h.in_time);
+      in_turn = h.in_turn;
+      closes = closes_stay known t e s u let_go t h.closes;
+      closed = h.closed;
+    }
+
+  -- ---- sending
+
+  module _ (k : ℕ) (octets : List ℕ) (is_due : s.due ≡ ToSend k octets) where
+    abbrev pub sending : Entry
+    sending = Did (ToUp k octets)
+
+    abbrev pub sent_state : State
+    sent_state = after s (Acts (ToUp k octets))
+
+    kept : (l : Live) × (live_of k s.live ≡ Some l)
+    kept = subst (IsDue known t s) is_due h.due
+
+    -- what was due is sent
+    same_text : (n : ℕ) → text_of n (sending ∷ t) Nothing ≡ text_of n t s.due
+    same_text n = append-nil (sent_up n (sending ∷ t)) ∙ by (n == k) ∙ sym (ap (λ d. sent_up n t ++ owed n d) is_due)
+      where
+        by : (b : Bool) → (if b then sent_up n t ++ octets else sent_up n t) ≡ sent_up n t ++ (if b then octets else [])
+        by true = refl
+        by false = sym (append-nil (sent_up n t))
+
+    stays : (stream : ℕ) → items known stream (sending ∷ t) ≡ items known stream t
+    stays stream = sym (items_stay known stream t sending refl)
+
+    fares_sent : (stream : ℕ) → Fares known (sending ∷ t) sent_state stream
+    fares_sent stream = elim (h.fares stream) [
+      | inl none ↦ inl (unread_same known t sending stream (stays stream) none)
+      | inr some ↦ (elim some [
+        | inl is ↦ absurd (subst (λ d. IsDueFor d stream) is_due is)
+        | inr g ↦ inr (inr (g.0, record { is_opened = g.1.is_opened; is_given = g.1.is_given }))
+      ])
+    ]
+
+    unsent_same : (n : ℕ) → s.count < n → sent_up n (sending ∷ t) ≡ sent_up n t
+    unsent_same n lt = ap (λ b. if b then sent_up n t ++ octets else sent_up n t) (ne_eqb n k (λ same. let there = h.there k kept.0 kept.1 in let less = within (opens t) there.0 h.numbered there.1 in let at = there.2 in let count = h.count in omega (arith, lt, same, less, at, count)))
+
+    pub sends_next : Stands known (sending ∷ t) sent_state
+    sends_next = stands_next known t sending s sent_state h (record {
+      same_opens = refl;
+      count = refl;
+      lives = λ o i g. lives_same known t sending s sent_state o g (λ x. x) refl refl refl (lasts_did known t (ToUp k octets) o.stream) g.lives;
+      gone = λ o i g none. (none, reason_on known t sending s o g (λ x. x));
+      sent = λ o i g. subst (λ x. IsSent known (sending ∷ t) x o) (sym (same_text o.k)) (sent_same known t sending o (text_of o.k t s.due) i (stays o.stream) (λ shut. shut) g.sent);
+      back = λ n l e. (l, e);
+      fresh = λ n lt. fresh_same t sending n (unsent_same n lt) (λ x. x) (λ shut. shut);
+      fares = fares_sent;
+      held = λ stream x found. subst (λ xs. IsWritten xs x.text x.stage) (sym (stays stream)) (h.held stream x found);
+      due = tt;
+      goes = (let it = found_live known t s h k kept.0 kept.1 in (ap (λ n. is_open n t) (sym it.2) ∙ it.3.opened, h.goes));
+      in_time = h.in_time;
+      in_turn = h.in_turn;
+      ends = λ e. e;
+      closes = λ c. c;
+      closed = h.closed;
+    })

@@ -1,0 +1,166 @@
+-- Why a connection is done with, and which entries leave that as it is.
+use Rattle.std.proofs.Common.{◌≡◌, ℕ, Bool, true, false, not, ◌==◌, ◌&&◌, ◌||◌, List, [], ◌∷◌, ◌++◌, refl, sym, ap, ◌∙◌, subst, if◌then◌else◌}
+use Rattle.std.specs.Prelude.{Option, Some, None}
+use Rattle.std.proofs.lemmas.Bool.{ne_eqb}
+use Rattle.model.specs.Frames.{rst_stream_kind}
+use Rattle.model.specs.Responses.{IsComplete}
+use Rattle.model.specs.Logs.Event.{Client, ClientEnd, ClientTook, Up, UpEnd, UpFailed, UpTook}
+use Rattle.model.specs.Logs.Act.{Open, ToUp, Close, CloseClient}
+use Rattle.model.specs.Tapes.{Entry, came, sent, is_closed}
+use Rattle.model.specs.Tapes.Entry.{Came, Breached, Happened, Sent, Did}
+use Rattle.model.specs.Decoding.{completed}
+use Rattle.model.specs.Openings.{Opened}
+use Rattle.model.specs.Available.{heard, has_ended}
+use Rattle.model.specs.Known.{Known}
+use Rattle.model.specs.Causes.{Cause}
+use Rattle.model.specs.Lifetimes.{opened, opens_by, ends_by, is_opened, is_over, is_active, is_ended_by_client, is_ended_by_gateway, is_reset_by_client, is_reset_by_gateway}
+use Rattle.model.specs.Courses.{items, cause, first_of_both, upstream_of}
+use Rattle.model.specs.Offers.{is_to_head}
+use Rattle.model.specs.ProgressClause.{Reason}
+use Rattle.model.specs.ProgressClause.Reason.{Over, Complete, Answered, ClientClosed}
+use Rattle.model.specs.Courses.{cause_of}
+use Rattle.serving.proofs.Courses.{head_stays}
+
+-- ---- streams that are over
+
+-- a stream that was opened stays so
+pub opened_stays : (t : List Entry) (e : Entry) (stream : ℕ) → is_opened stream t ≡ true → is_opened stream (e ∷ t) ≡ true
+opened_stays t (Came noted) stream is = by (opens_by (opened t) (completed (came t) noted.frame) noted.note)
+  where
+    or_true : (b : Bool) → (b || is_opened stream t) ≡ true
+    or_true true = refl
+    or_true false = is
+
+    by : (b : Bool) → Rattle.std.specs.List.list_any (λ id. id == stream) (if b then noted.frame.id ∷ opened t else opened t) ≡ true
+    by true = or_true (noted.frame.id == stream)
+    by false = is
+opened_stays t (Breached breach) stream is = is
+opened_stays t (Happened event) stream is = is
+opened_stays t (Sent noted) stream is = is
+opened_stays t (Did act) stream is = is
+
+-- a stream that is over stays so
+over_stays : (t : List Entry) (e : Entry) (stream : ℕ) → is_over stream t ≡ true → is_over stream (e ∷ t) ≡ true
+over_stays t (Came noted) stream is =
+    by (noted.frame.kind == rst_stream_kind && noted.frame.id == stream) (noted.frame.id == stream && ends_by (completed (came t) noted.frame) noted.frame) (is_reset_by_gateway stream t) (is_reset_by_client stream t) (is_ended_by_client stream t) (is_ended_by_gateway stream t) is
+  where
+    by : (x y a b c d : Bool) → (a || b || c && d) ≡ true → (a || (x || b) || (y || c) && d) ≡ true
+    by x y true b c d e = refl
+    by true y false b c d e = refl
+    by false y false true c d e = refl
+    by false true false false true d e = e
+    by false true false false false d e = cc
+    by false false false false c d e = e
+over_stays t (Breached breach) stream is = is
+over_stays t (Happened event) stream is = is
+over_stays t (Sent noted) stream is =
+    by (noted.frame.kind == rst_stream_kind && noted.frame.id == stream) (noted.frame.id == stream && ends_by (completed (sent t) noted.frame) noted.frame) (is_reset_by_gateway stream t) (is_reset_by_client stream t) (is_ended_by_client stream t) (is_ended_by_gateway stream t) is
+  where
+    by : (x y a b c d : Bool) → (a || b || c && d) ≡ true → ((x || a) || b || c && (y || d)) ≡ true
+    by true y a b c d e = refl
+    by false y true b c d e = refl
+    by false y false true c d e = refl
+    by false true false false true d e = refl
+    by false true false false false d e = e
+    by false false false false c d e = e
+over_stays t (Did act) stream is = is
+
+-- a stream that was opened and isn't active never is again
+pub lost_stays : (t : List Entry) (e : Entry) (stream : ℕ) → is_opened stream t ≡ true → is_active stream t ≡ false → is_active stream (e ∷ t) ≡ false
+lost_stays t e stream opened lost = by (is_opened stream (e ∷ t)) (is_over stream (e ∷ t)) (over_stays t e stream (was (is_opened stream t) (is_over stream t) opened lost))
+  where
+    was : (a b : Bool) → a ≡ true → (a && not b) ≡ false → b ≡ true
+    was true true e f = refl
+    was true false e f = cc
+    was false b e f = cc
+
+    by : (a b : Bool) → b ≡ true → (a && not b) ≡ false
+    by true true e = refl
+    by false true e = refl
+    by a false e = cc
+
+-- ---- what else stays
+
+-- a cause that came stays
+pub cause_stays : (known : Known) (t : List Entry) (e : Entry) (stream : ℕ) (found : Cause) → cause known stream t ≡ Some found → cause known stream (e ∷ t) ≡ Some found
+cause_stays known t e stream found is = ap (λ c. first_of_both c (cause_of known stream t e)) is
+
+-- a client that was closed stays so
+closed_stays : (t : List Entry) (e : Entry) → is_closed t ≡ true → is_closed (e ∷ t) ≡ true
+closed_stays t (Came noted) is = is
+closed_stays t (Breached breach) is = is
+closed_stays t (Happened event) is = is
+closed_stays t (Sent noted) is = is
+closed_stays t (Did (Open k route)) is = is
+closed_stays t (Did (ToUp k octets)) is = is
+closed_stays t (Did (Close k)) is = is
+closed_stays t (Did CloseClient) is = refl
+
+-- the entry is an answer of this upstream
+abbrev pub IsOf : ℕ → Entry → Type 0
+IsOf k (Happened event) = k ≡ upstream_of event
+IsOf k _ = ⊥
+
+-- what came of any other upstream is as it was
+pub heard_same : (t : List Entry) (e : Entry) (k : ℕ) → (IsOf k e → ⊥) → heard k (e ∷ t) ≡ heard k t
+heard_same t (Came noted) k other = refl
+heard_same t (Breached breach) k other = refl
+heard_same t (Happened (Client piece)) k other = refl
+heard_same t (Happened ClientEnd) k other = refl
+heard_same t (Happened (ClientTook count)) k other = refl
+heard_same t (Happened (Up j piece)) k other = ap (λ b. if b then heard k t ++ piece else heard k t) (ne_eqb k j other)
+heard_same t (Happened (UpEnd j)) k other = refl
+heard_same t (Happened (UpFailed j)) k other = refl
+heard_same t (Happened (UpTook j count)) k other = refl
+heard_same t (Sent noted) k other = refl
+heard_same t (Did act) k other = refl
+
+-- whether any other ended is as it was
+pub ended_same : (t : List Entry) (e : Entry) (k : ℕ) → (IsOf k e → ⊥) → has_ended k (e ∷ t) ≡ has_ended k t
+ended_same t (Came noted) k other = refl
+ended_same t (Breached breach) k other = refl
+ended_same t (Happened (Client piece)) k other = refl
+ended_same t (Happened ClientEnd) k other = refl
+ended_same t (Happened (ClientTook count)) k other = refl
+ended_same t (Happened (Up j piece)) k other = refl
+ended_same t (Happened (UpEnd j)) k other = ap (λ b. if b then true else has_ended k t) (ne_eqb k j other)
+ended_same t (Happened (UpFailed j)) k other = refl
+ended_same t (Happened (UpTook j count)) k other = refl
+ended_same t (Sent noted) k other = refl
+ended_same t (Did act) k other = refl
+
+-- ---- reasons
+
+module _ (known : Known) (t : List Entry) (e : Entry) (o : Opened) (opened : is_opened o.stream t ≡ true) (begun : items known o.stream t ≡ [] → ⊥) (other : IsOf o.k e → ⊥) where
+  to_head_same : is_to_head (items known o.stream t) ≡ is_to_head (items known o.stream (e ∷ t))
+  to_head_same = head_stays known o.stream t e begun
+
+  complete_there : IsComplete (heard o.k t) (has_ended o.k t) (is_to_head (items known o.stream t)) → IsComplete (heard o.k (e ∷ t)) (has_ended o.k (e ∷ t)) (is_to_head (items known o.stream (e ∷ t)))
+  complete_there c =
+      subst (λ x. IsComplete x (has_ended o.k (e ∷ t)) (is_to_head (items known o.stream (e ∷ t)))) (sym (heard_same t e o.k other)) (subst (λ x. IsComplete (heard o.k t) x (is_to_head (items known o.stream (e ∷ t)))) (sym (ended_same t e o.k other)) (subst (λ x. IsComplete (heard o.k t) (has_ended o.k t) x) to_head_same c))
+
+  complete_back : IsComplete (heard o.k (e ∷ t)) (has_ended o.k (e ∷ t)) (is_to_head (items known o.stream (e ∷ t))) → IsComplete (heard o.k t) (has_ended o.k t) (is_to_head (items known o.stream t))
+  complete_back c =
+      subst (λ x. IsComplete x (has_ended o.k t) (is_to_head (items known o.stream t))) (heard_same t e o.k other) (subst (λ x. IsComplete (heard o.k (e ∷ t)) x (is_to_head (items known o.stream t))) (ended_same t e o.k other) (subst (λ x. IsComplete (heard o.k (e ∷ t)) (has_ended o.k (e ∷ t)) x) (sym to_head_same) c))
+
+  -- A reason stays, whatever comes but an answer of its own upstream.
+  pub reason_stays : Reason known t o → Reason known (e ∷ t) o
+  reason_stays (Over is) = Over (lost_stays t e o.stream opened is)
+  reason_stays (Complete c) = Complete (complete_there c)
+  reason_stays (Answered found is) = Answered found (cause_stays known t e o.stream found is)
+  reason_stays (ClientClosed is) = ClientClosed (closed_stays t e is)
+
+  -- No reason comes with an entry with which the stream lasts and the client isn't closed.
+  pub no_reason : (is_active o.stream t ≡ true → is_active o.stream (e ∷ t) ≡ true) → (cause known o.stream t ≡ None → cause known o.stream (e ∷ t) ≡ None) → is_closed (e ∷ t) ≡ is_closed t → (Reason known t o → ⊥) → Reason known (e ∷ t) o → ⊥
+  no_reason lasts calm closed none (Over is) = cases (is_active o.stream t) refl
+    where
+      cases : (b : Bool) → is_active o.stream t ≡ b → ⊥
+      cases true was = let clash : true ≡ false = sym (lasts was) ∙ is in cc
+      cases false was = none (Over was)
+  no_reason lasts calm closed none (Complete c) = none (Complete (complete_back c))
+  no_reason lasts calm closed none (Answered found is) = cases (cause known o.stream t) refl
+    where
+      cases : (c : Option Cause) → cause known o.stream t ≡ c → ⊥
+      cases None was = let clash : ◌≡◌ {A = Option Cause} None (Some found) = sym (calm was) ∙ is in cc
+      cases (Some earlier) was = none (Answered earlier was)
+  no_reason lasts calm closed none (ClientClosed is) = none (ClientClosed (sym closed ∙ is))

@@ -1,0 +1,122 @@
+-- What a text that was written means: the whole request, or a part of it.
+use Rattle.std.proofs.Common.{◌≡◌, ℕ, ◌+◌, true, false, ◌||◌, List, [], ◌∷◌, ◌++◌, length, refl, sym, ap, ◌∙◌, subst, append-nil, arith, inl, inr, length-append}
+use Rattle.std.specs.Prelude.{◌⊎◌, replicate}
+use Rattle.std.specs.List.{concat, list_any}
+use Rattle.std.proofs.lemmas.List.{length-replicate}
+use Rattle.model.specs.Octets.{IsFront}
+use Rattle.model.specs.Messages.{Field, Request, Item, ends_with}
+use Rattle.model.specs.Messages.Item.{Block, Content}
+use Rattle.model.specs.Http1.{H1Request, H1Requests, forward}
+use Rattle.model.specs.Http2.{HasHead, HasLength, body_of, declared_length, request_of, EndsWithLast, H2Request, MayBecome}
+use Rattle.model.specs.RequestClause.{IsSentWhole, IsSentInPart}
+use Rattle.request_rules.specs.Heads.{parts_of, IsRequestHead}
+use Rattle.h1_writer.specs.Sending.{Stage, Sending, GoesOnTo}
+use Rattle.h1_writer.specs.Sending.Stage.{Whole, Counting, Holding, Chunking}
+use Rattle.h1_writer.proofs.Wholes.{whole_read, unfinished_front, unfinished_none}
+use Rattle.serving.specs.Written.{IsWritten}
+
+-- a text that reads as one request, as a run of requests
+pub one_request_text : (text : List ℕ) (r : Request) → H1Request text r → H1Requests text (r ∷ []) []
+one_request_text text r h = record {
+  front = text;
+  is = sym (append-nil text);
+  are_requests = h;
+  no_more = λ front more request reads is. no_text front more request reads is;
+}
+  where
+    no_text : (front more : List ℕ) (request : Request) → H1Request front request → [] ≡ front ++ more → ⊥
+    no_text front more request reads is =
+        let size : 0 ≡ length front + length more = ap length is ∙ length-append front more in
+        let parts : length front ≡ length reads.head_text + length reads.content = ap length reads.is ∙ length-append reads.head_text reads.content in
+        let head = reads.has_head in
+        let whole : length reads.head_text ≡ length head.lines + (length reads.head.method + (length reads.head.target + 14)) = ap length head.is ∙ simp length-append (omega arith) in
+        omega arith
+
+-- a stage is the last one or isn't
+pub cases_stage : (stage : Stage) → (stage ≡ Whole) ⊎ (stage ≡ Whole → ⊥)
+cases_stage Whole = inl refl
+cases_stage (Counting left) = inr (λ e. cc)
+cases_stage (Holding octet) = inr (λ e. cc)
+cases_stage Chunking = inr (λ e. cc)
+
+-- items of which none ends the stream don't end with the last
+pub none_end : (items : List Item) → list_any ends_with items ≡ false → EndsWithLast items → ⊥
+none_end [] none ends = ends
+none_end (Block fields b ∷ []) none ends = let clash : true ≡ false = sym (ap (λ x. x || false) ends) ∙ none in cc
+none_end (Content octets b ∷ []) none ends = let clash : true ≡ false = sym (ap (λ x. x || false) ends) ∙ none in cc
+none_end (Block fields b ∷ next ∷ items) none ends = none_end (next ∷ items) (sym (ap (λ x. x || list_any ends_with (next ∷ items)) ends.0) ∙ none) ends.1
+none_end (Content octets b ∷ next ∷ items) none ends = none_end (next ∷ items) (sym (ap (λ x. x || list_any ends_with (next ∷ items)) ends.0) ∙ none) ends.1
+
+-- so they are no request
+pub no_request : (items : List Item) (request : Request) → list_any ends_with items ≡ false → H2Request items request → ⊥
+no_request items request none means = none_end items none means.ends
+
+module _ (items : List Item) (text : List ℕ) (stage : Stage) (w : IsWritten items text stage) where
+  right : IsRequestHead (parts_of w.head)
+  right = record { head = w.head; well_formed = w.well_formed; no_connect = w.no_connect; is = refl }
+
+  body_is : body_of items ≡ concat w.pieces
+  body_is = ap body_of w.is ∙ sym w.body
+
+  has_head : HasHead items w.head
+  has_head = subst (λ xs. HasHead xs w.head) (sym w.is) refl
+
+  -- the head of the items is the one that was written
+  one_head : (head : List Field) → HasHead items head → w.head ≡ head
+  one_head head has = subst (λ xs. HasHead xs head) w.is has
+
+  -- ---- whole
+
+  length_whole : Sending (parts_of w.head) w.ended text w.pieces Whole → HasLength (declared_length w.head) (concat w.pieces)
+  length_whole s = s.has_length
+
+  pub sent_whole : stage ≡ Whole → IsSentWhole text items
+  sent_whole e =
+      let s : Sending (parts_of w.head) w.ended text w.pieces Whole = subst (λ x. Sending (parts_of w.head) w.ended text w.pieces x) e w.sending in
+      let reads : H1Request text (forward (request_of w.head (concat w.pieces))) = whole_read (parts_of w.head) w.ended text w.pieces right s in
+      record {
+        request = request_of w.head (body_of items);
+        means = record {
+          head = w.head;
+          has_head = has_head;
+          well_formed = w.well_formed;
+          no_connect = w.no_connect;
+          contents = subst (λ xs. Rattle.model.specs.Http2.HasContents xs) (sym w.is) w.contents;
+          ends = w.ends e;
+          length_holds = subst (λ b. HasLength (declared_length w.head) b) (sym body_is) (length_whole s);
+          is = refl;
+        };
+        reads = one_request_text text (forward (request_of w.head (body_of items))) (subst (λ b. H1Request text (forward (request_of w.head b))) (sym body_is) reads);
+      }
+
+  -- ---- in part
+
+  -- octets that make the body as long as declared
+  filled : (stage : Stage) → Sending (parts_of w.head) w.ended text w.pieces stage → (stage ≡ Whole → ⊥) → (more : List ℕ) × HasLength (declared_length w.head) (concat w.pieces ++ more)
+  filled Whole s part = absurd (part refl)
+  filled (Counting left) s part = (replicate left 0, subst (λ d. HasLength d (concat w.pieces ++ replicate left 0)) (sym s.declared) (length-append (concat w.pieces) (replicate left 0) ∙ ap (λ n. length (concat w.pieces) + n) (length-replicate left 0)))
+  filled (Holding octet) s part = ([], subst (λ d. HasLength d (concat w.pieces ++ [])) (sym s.declared) (ap length (append-nil (concat w.pieces))))
+  filled Chunking s part = ([], subst (λ d. HasLength d (concat w.pieces ++ [])) (sym s.undeclared) tt)
+
+  pub sent_in_part : (stage ≡ Whole → ⊥) → IsSentInPart text items
+  sent_in_part part =
+      let more = filled stage w.sending part in
+      let body : List ℕ = concat w.pieces ++ more.0 in
+      record {
+        some = (request_of w.head body, record { head = w.head; has_head = has_head; begun = record { rest = more.0; is = ap (λ b. b ++ more.0) (sym body_is) }; length_holds = more.1; is = refl });
+        reads = record { front = []; is = refl; are_requests = refl; no_more = unfinished_none (parts_of w.head) w.ended text w.pieces stage right w.sending part };
+        goes_on = λ request may.
+            let same : w.head ≡ may.head = one_head may.head may.has_head in
+            let goes : GoesOnTo (parts_of w.head) text request.body =
+            unfinished_front (parts_of w.head) w.ended text w.pieces stage request.body right w.sending part
+            (subst (λ b. IsFront b request.body) body_is may.begun) (subst (λ h. HasLength (declared_length h) request.body) (sym same) may.length_holds) in
+            let is : request_of w.head request.body ≡ request = ap (λ h. request_of h request.body) same ∙ sym may.is in
+            (goes.whole, subst (λ r. H1Request goes.whole (forward r)) is goes.reads, goes.is_front);
+      }
+
+  -- either of them
+  pub sent_either : IsSentWhole text items ⊎ (IsSentInPart text items × (list_any ends_with items ≡ false))
+  sent_either = elim (cases_stage stage) [
+    | inl whole ↦ inl (sent_whole whole)
+    | inr part ↦ inr (sent_in_part part, w.goes_on part)
+  ]

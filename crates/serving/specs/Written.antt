@@ -1,0 +1,35 @@
+-- The text that was written for the items of a stream.
+use Rattle.std.specs.Prelude.{◌≡◌, ℕ, Bool, true, false, List, [], ◌∷◌}
+use Rattle.std.specs.List.{concat, list_any, list_all}
+use Rattle.model.specs.Messages.{Field, Item, ends_with}
+use Rattle.model.specs.Messages.Item.{Block, Content}
+use Rattle.model.specs.Http2.{WellFormedHead, is_connect, body_of, AreContents, EndsWithLast}
+use Rattle.request_rules.specs.Heads.{parts_of}
+use Rattle.h1_writer.specs.Sending.{Stage, Sending}
+use Rattle.h1_writer.specs.Sending.Stage.{Whole}
+
+-- the item is octets of the body
+abbrev pub is_content : Item → Bool
+is_content (Content octets ends) = true
+is_content (Block fields ends) = false
+
+-- the octets of the body that an item brings
+abbrev pub octets_of : Item → List ℕ
+octets_of (Content octets ends) = octets
+octets_of (Block fields ends) = []
+
+-- This text was written for the items, and that is waited for: it is whole just where they come to the stream's end.
+pub record IsWritten (items : List Item) (text : List ℕ) (stage : Stage) : Type 0 where
+  pub head : List Field
+  pub ended : Bool
+  pub more : List Item
+  pub pieces : List (List ℕ)
+  pub is : items ≡ Block head ended ∷ more
+  pub well_formed : WellFormedHead head
+  pub no_connect : is_connect head ≡ false
+  pub sending : Sending (parts_of head) ended text pieces stage
+  pub body : concat pieces ≡ body_of more
+  pub contents : AreContents more
+  pub ends : stage ≡ Whole → EndsWithLast items
+  pub plain : (stage ≡ Whole → ⊥) → list_all is_content more ≡ true
+  pub goes_on : (stage ≡ Whole → ⊥) → list_any ends_with items ≡ false

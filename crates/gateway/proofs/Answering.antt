@@ -61,7 +61,7 @@ pays_end s o = pays_closes (shut s) [] s.upstreams o
 
 pub pays_farewell : (s : State) (code : ℕ) (o : List Output) → Pays (record { state = shut s; owes = farewell s code }) (idle (left s code)) o (put_farewell o s code)
 pays_farewell s code o =
-    pays_then (pays_by (shut s) (ToSend (goaway s.high code)) (closes s) (Sends (goaway s.high code)) o (record { turn = refl; holds = record { fits = fits_goaway s.high code; within = λ kind. absurd (let n : 7 ≡ 0 = kind in omega arith); no_reset = refl; no_block = refl } }) refl)
+    pays_then (pays_by (shut s) (ToSend (goaway s.high code)) (closes s) (Sends (goaway s.high code)) o (record { turn = refl; holds = record { fits = fits_goaway s.high code; within = λ kind. absurd (let n : 7 ≡ 0 = kind in omega arith); below = λ kind. absurd (let n : 7 ≡ 0 = kind in omega arith); no_reset = refl; no_block = refl } }) refl)
     (pays_end (record s { greeted = true; untaken = s.untaken + length (spell (goaway s.high code)) }) (put o (ToClient (spell (goaway s.high code)))))
 
 -- the note of a frame whose block isn't read
@@ -117,7 +117,7 @@ answers_settled s s' o o' frame on first plain es eo =
     subst (λ x. Answers s x o o' (OfFrame frame ∷ [])) (sym es)
     (subst (λ x. Answers s (settled s) o x (OfFrame frame ∷ [])) (sym eo)
     (answers_from s (settled s) o (put o (ToClient (spell settings_ack))) (Takes noted Settled) (OfFrame frame ∷ []) (record { turn = record { open_yet = on; nothing = refl }; holds = (note, may) }) refl refl
-    (pays_by (record s { settled = true }) (ToSend settings_ack) [] (Sends settings_ack) o (record { turn = refl; holds = record { fits = fits_ack; within = λ kind. absurd (let n : 4 ≡ 0 = kind in omega arith); no_reset = refl; no_block = refl } }) refl)))
+    (pays_by (record s { settled = true }) (ToSend settings_ack) [] (Sends settings_ack) o (record { turn = refl; holds = record { fits = fits_ack; within = λ kind. absurd (let n : 4 ≡ 0 = kind in omega arith); below = λ kind. absurd (let n : 4 ≡ 0 = kind in omega arith); no_reset = refl; no_block = refl } }) refl)))
 
 -- ---- events
 
@@ -228,7 +228,7 @@ begins_greeted s s' o o' first none es eo =
     (subst (λ x. Begins s (greeted s) o x) (sym eo)
     (record {
       pays = subst (λ b. Pays (record { state = s; owes = if b then [] else ToSend settings_frame ∷ [] }) (idle (greeted s)) o (put o (ToClient (spell settings_frame)))) (sym first)
-          (pays_by s (ToSend settings_frame) [] (Sends settings_frame) o (record { turn = refl; holds = record { fits = fits_settings; within = λ kind. absurd (let n : 4 ≡ 0 = kind in omega arith); no_reset = refl; no_block = refl } }) refl);
+          (pays_by s (ToSend settings_frame) [] (Sends settings_frame) o (record { turn = refl; holds = record { fits = fits_settings; within = λ kind. absurd (let n : 4 ≡ 0 = kind in omega arith); below = λ kind. absurd (let n : 4 ≡ 0 = kind in omega arith); no_reset = refl; no_block = refl } }) refl);
       greeted = refl;
       admits = admits_greeted s none;
     }))

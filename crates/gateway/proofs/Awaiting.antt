@@ -41,7 +41,7 @@ use Rattle.gateway.proofs.Living.{Living}
 use Rattle.gateway.proofs.Owed.{all_opens}
 use Rattle.gateway.proofs.Giving.{Giving, Serving, AllServing}
 use Rattle.gateway.proofs.Taking.{told_here}
-use Rattle.gateway.proofs.Responding.{items_owed, all_items, answered_more, Waiting, WaitingIf, Responding, waiting_same, in_back, changed_at, changed_other, head_more, body_more, interim_more, heard_here, heard_other}
+use Rattle.gateway.proofs.Responding.{items_owed, answered_more, Waiting, WaitingIf, Responding, waiting_same, in_back, changed_at, changed_other, head_more, body_more, interim_more, heard_here, heard_other}
 
 -- ---- the requests of streams that were given connections stay
 
@@ -123,7 +123,7 @@ module _ (t : List Entry) (s : State) (noted : Noted) (route : ℕ) (text : List
     count = λ o. length-append s.exchanges (Some fresh ∷ []) ∙ (let c = h.count on in omega (arith, c));
     unheard = h.unheard;
     not_ended = λ o. h.not_ended on;
-    answered = λ stream. answered_more s.setup t (Came noted) (all_items stream t []) stream (h.answered stream);
+    answered = λ stream. answered_more s.setup t (Came noted) [] due stream refl (λ quiet. (refl, refl)) (inl refl) (h.answered stream);
     unsent = λ o stream lt. h.unsent on stream (let a = may.above in omega (arith, a, lt));
   }
 
@@ -244,6 +244,6 @@ module _ (t : List Entry) (s : State) (k : ℕ) (piece : List ℕ) (added : List
         count = λ _. ap length is ∙ with_size s.exchanges k (Some now) ∙ h.count on;
         unheard = unheard_still;
         not_ended = λ _. h.not_ended on;
-        answered = λ stream. answered_more s.setup t e (all_items stream t []) stream (h.answered stream);
+        answered = λ stream. answered_more s.setup t e [] [] stream refl (λ quiet. (refl, refl)) (inl refl) (h.answered stream);
         unsent = λ _. h.unsent on;
       }

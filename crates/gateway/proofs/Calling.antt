@@ -59,11 +59,10 @@ pub resets_none_told : (setup : Setup) (t : List Entry) (e : Entry) (fields : Li
 resets_none_told setup t e fields is =
     ap (λ (c : Course). reset_for (about t e) c.head_out (course (known_of setup) (about t e) t).cause c.cause) is
 
-pub calls : (known : Known) (t : List Entry) (e : Entry) (found : Option Fault) → fault known t e ≡ found → resets known (about t e) t e ≡ [] → owed_by known t e ≡ owed_first t e found ++ acks e found ++ reset_behind t e
+pub calls : (known : Known) (t : List Entry) (e : Entry) (found : Option Fault) → fault known t e ≡ found → resets known (about t e) t e ≡ [] → owed_by known t e ≡ owed_first t e found ++ (acks e found ++ reset_behind t e)
 calls known t e found is none =
-    ap (λ f. owed_first t e f ++ acks e f ++ resets known (about t e) t e ++ reset_behind t e) is
-    ∙ ap (λ fs. owed_first t e found ++ acks e found ++ fs ++ reset_behind t e) none
-    ∙ ap (λ fs. fs ++ reset_behind t e) (append-nil (owed_first t e found ++ acks e found))
+    ap (λ f. owed_first t e f ++ (acks e f ++ (resets known (about t e) t e ++ reset_behind t e))) is
+    ∙ ap (λ fs. owed_first t e found ++ (acks e found ++ (fs ++ reset_behind t e))) none
 
 owed_more : (known : Known) (t : List Entry) (e : Entry) (fs : List Frame) → owed_by known t e ≡ fs → owed known (e ∷ t) ≡ reverse fs ++ owed known t
 owed_more known t e fs is = ap (λ x. reverse x ++ owed known t) is
@@ -72,20 +71,20 @@ pub owed_did : (setup : Setup) (t : List Entry) (act : Act) → owed (known_of s
 owed_did setup t act =
     owed_more (known_of setup) t (Did act) [] (
     calls (known_of setup) t (Did act) None refl (resets_none setup t (Did act) (no_cause_did setup 0 t act))
-    ∙ ap (λ fs. fs ++ [] ++ []) (no_farewell_same t (Did act) refl))
+    ∙ ap (λ fs. fs ++ []) (no_farewell_same t (Did act) refl))
 
 pub owed_happened : (setup : Setup) (t : List Entry) (event : Event) → owed (known_of setup) (Happened event ∷ t) ≡ owed (known_of setup) t
 owed_happened setup t event =
     owed_more (known_of setup) t (Happened event) [] (
     calls (known_of setup) t (Happened event) None refl (resets_none setup t (Happened event) (no_cause_happened setup (about t (Happened event)) t event))
-    ∙ ap (λ fs. fs ++ [] ++ []) (no_farewell_same t (Happened event) refl))
+    ∙ ap (λ fs. fs ++ []) (no_farewell_same t (Happened event) refl))
 
 -- a frame that calls for no reset behind it
 pub owed_sent : (setup : Setup) (t : List Entry) (noted : Noted) → reset_behind t (Sent noted) ≡ [] → owed (known_of setup) (Sent noted ∷ t) ≡ owed (known_of setup) t
 owed_sent setup t noted none =
     owed_more (known_of setup) t (Sent noted) [] (
     calls (known_of setup) t (Sent noted) None refl (resets_none setup t (Sent noted) (no_cause_sent setup 0 t noted))
-    ∙ ap (λ fs. fs ++ [] ++ reset_behind t (Sent noted)) (no_farewell_same t (Sent noted) refl)
+    ∙ ap (λ fs. fs ++ reset_behind t (Sent noted)) (no_farewell_same t (Sent noted) refl)
     ∙ none)
 
 -- a frame of the client without a fault
@@ -94,14 +93,14 @@ pub owed_came : (setup : Setup) (t : List Entry) (noted : Noted) (fs : List Fram
 owed_came setup t noted fs none no_farewell no_reset answered =
     owed_more (known_of setup) t (Came noted) fs (
     calls (known_of setup) t (Came noted) None none no_reset
-    ∙ ap (λ first. first ++ acks (Came noted) None ++ []) no_farewell
+    ∙ ap (λ first. first ++ (acks (Came noted) None ++ [])) no_farewell
     ∙ append-nil (acks (Came noted) None)
     ∙ answered)
 
 -- one with a fault of the connection
-pub owed_fatal : (setup : Setup) (t : List Entry) (noted : Noted) (code : ℕ) → fault (known_of setup) t (Came noted) ≡ Some (Connection code) → owed (known_of setup) (Came noted ∷ t) ≡ goaway (highest t) code ∷ owed (known_of setup) t
+pub owed_fatal : (setup : Setup) (t : List Entry) (noted : Noted) (code : ℕ) → fault (known_of setup) t (Came noted) ≡ Some (Connection code) → owed (known_of setup) (Came noted ∷ t) ≡ goaway (highest (Came noted ∷ t)) code ∷ owed (known_of setup) t
 owed_fatal setup t noted code is =
-    owed_more (known_of setup) t (Came noted) (goaway (highest t) code ∷ []) (calls (known_of setup) t (Came noted) (Some (Connection code)) is (resets_none setup t (Came noted) no_cause))
+    owed_more (known_of setup) t (Came noted) (goaway (highest (Came noted ∷ t)) code ∷ []) (calls (known_of setup) t (Came noted) (Some (Connection code)) is (resets_none setup t (Came noted) no_cause))
   where
     no_cause : cause_for setup noted.frame.id t (Came noted) ≡ None
     no_cause =
@@ -133,5 +132,5 @@ calmly known t e frames none no_farewell =
     subst (λ f. IsFollowed frames (owed_first t e f) f) (sym none) (subst (λ fs. IsFollowed frames fs None) (sym no_farewell) (frames, sym (append-nil frames)))
 
 -- One with a fault of the connection is followed by the farewell alone.
-pub fatally : (known : Known) (t : List Entry) (e : Entry) (frames : List Frame) (code : ℕ) → fault known t e ≡ Some (Connection code) → frames ≡ goaway (highest t) code ∷ [] → IsFollowed frames (owed_first t e (fault known t e)) (fault known t e)
+pub fatally : (known : Known) (t : List Entry) (e : Entry) (frames : List Frame) (code : ℕ) → fault known t e ≡ Some (Connection code) → frames ≡ goaway (highest (e ∷ t)) code ∷ [] → IsFollowed frames (owed_first t e (fault known t e)) (fault known t e)
 fatally known t e frames code is only = subst (λ f. IsFollowed frames (owed_first t e f) f) (sym is) only

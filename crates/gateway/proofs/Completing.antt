@@ -11,7 +11,7 @@ use Rattle.model.specs.Logs.Event.{Up}
 use Rattle.model.specs.Tapes.{Entry, sent}
 use Rattle.model.specs.Tapes.Entry.{Happened}
 use Rattle.model.specs.Courses.{Course, course, items}
-use Rattle.model.specs.Offers.{is_to_head, IsOffered, IsDelivered}
+use Rattle.model.specs.Offers.{is_to_head, IsDelivered}
 use Rattle.model.specs.ResponseClause.{EachKeeps, ResponsesHold}
 use Rattle.gateway.specs.Setups.{known_of}
 use Rattle.model.specs.Openings.{Opened, opens}
@@ -28,7 +28,7 @@ use Rattle.gateway.specs.Policy.Due.{ToAct}
 use Rattle.gateway.proofs.Owed.{to_open, all_opens}
 use Rattle.gateway.proofs.Courses.{told as told_of, told_stays, no_cause_happened}
 use Rattle.gateway.proofs.Giving.{Giving, AreCalm}
-use Rattle.gateway.proofs.Responding.{items_owed, all_items, Answered, answered_more, Waiting, WaitingIf, Responding, waiting_same, opened_at, streams_apart, low_in, changed_at, changed_other, heard_other}
+use Rattle.gateway.proofs.Responding.{items_owed, all_items, IsOn, was_on, Answered, answered_more, Waiting, WaitingIf, Responding, waiting_same, opened_at, streams_apart, low_in, changed_at, changed_other, heard_other}
 use Rattle.gateway.proofs.Awaiting.{items_stay, waits_on, all_told, unheard_still, with_size, IsWhole, whole_response, response_items, owed_on, reads_back}
 
 -- a response asks for no connection
@@ -89,44 +89,50 @@ module _ (t : List Entry) (s : State) (k : ℕ) (piece : List ℕ) (added : List
     | inr x ↦ ap (λ y. items_on stream (sent t) ++ y) (brings stream ∙ ap (λ b. if b then response_items r.response.head r.response.body else []) x.0)
   ]
 
+  owes_none : (stream : ℕ) → (old.stream ≡ stream → ⊥) → items_owed stream due ≡ []
+  owes_none stream other = elim (eqb_tells old.stream stream) [
+    | inl x ↦ absurd (other x.1)
+    | inr x ↦ brings stream ∙ ap (λ b. if b then response_items r.response.head r.response.body else []) x.0
+  ]
+
+  abbrev all_of_it : Delivery
+  all_of_it = record { interims = []; head = Some r.response.head; body = r.response.body; whole = true }
+
   -- the response is on offer
-  offered : IsOffered (known_of s.setup) (e ∷ t) old.stream (record { interims = []; head = Some r.response.head; body = r.response.body; whole = true })
+  offered : IsOn s.setup (e ∷ t) old.stream all_of_it
   offered =
       let calm : (fields : List Field) × (course (known_of s.setup) o.stream t ≡ told_of fields) = calm_in s.setup t o (opens t) (g.calm on) there.1 in
       let course_is : course (known_of s.setup) o.stream (e ∷ t) ≡ told_of calm.0 = told_stays s.setup o.stream t e calm.0 calm.1 (no_cause_happened s.setup o.stream t (Up k piece)) in
       let to_head : reader.to_head ≡ is_to_head (items (known_of s.setup) o.stream (e ∷ t)) = w.for_head in
       let ended : has_ended o.k (e ∷ t) ≡ false = h.not_ended on o.k in
-      subst (λ n. IsOffered (known_of s.setup) (e ∷ t) n (record { interims = []; head = Some r.response.head; body = r.response.body; whole = true })) (sym w.stream) (inr (record {
-        no_reply = inl (ap (λ (c : Course). c.cause) course_is);
+      subst (λ n. IsOn s.setup (e ∷ t) n all_of_it) (sym w.stream) (record {
+        calm = ap (λ (c : Course). c.cause) course_is;
+        over = ap (λ (c : Course). c.over) course_is;
         o = o;
         given = record { is_opened = there.1; is_given = refl };
-        answers = inl (record {
+        source = all_of_it;
+        shows = inl (record {
           response = r.response;
           is_whole = subst (λ b. H1Response (heard o.k (e ∷ t)) b (is_to_head (items (known_of s.setup) o.stream (e ∷ t))) r.response) (sym ended) (subst (λ b. H1Response (heard o.k (e ∷ t)) false b r.response) to_head r.is_whole);
           says = ap (λ (is : List Head). let d : Delivery = record { interims = is; head = Some r.response.head; body = r.response.body; whole = true } in d) (sym r.no_interims);
         });
-      }))
+        part = whole_part [] r.response.head r.response.body;
+      })
 
-  answered_now : (stream : ℕ) → Answered s.setup (e ∷ t) (all_items stream (e ∷ t) due) stream
+  answered_now : (stream : ℕ) → Answered s.setup (e ∷ t) due stream
   answered_now stream = elim (eqb_tells old.stream stream) [
     | inl x ↦ (
         let bare : all_items stream t [] ≡ [] = ap (λ n. all_items n t []) (sym x.1 ∙ w.stream) ∙ w.unsent in
         let sent_none : items_on stream (sent t) ≡ [] = sym (append-nil (items_on stream (sent t))) ∙ bare in
         let all : all_items stream (e ∷ t) due ≡ response_items r.response.head r.response.body =
         ap (λ y. y ++ items_owed stream due) sent_none ∙ brings stream ∙ ap (λ b. if b then response_items r.response.head r.response.body else []) x.0 in
-        subst (λ y. Answered s.setup (e ∷ t) y stream) (sym all) (inr (record {
-          delivery = record { interims = []; head = Some r.response.head; body = r.response.body; whole = true };
-          reads = reads_back (heard o.k (e ∷ t)) reader.to_head r.response r.is_whole;
-          was = record {
-            later = [];
-            earlier = e ∷ t;
-            is = refl;
-            source = record { interims = []; head = Some r.response.head; body = r.response.body; whole = true };
-            offered = subst (λ n. IsOffered (known_of s.setup) (e ∷ t) n (record { interims = []; head = Some r.response.head; body = r.response.body; whole = true })) x.1 offered;
-            part = whole_part [] r.response.head r.response.body;
-          };
-        })))
-    | inr x ↦ subst (λ y. Answered s.setup (e ∷ t) y stream) (sym (brings_none stream x.1)) (answered_more s.setup t e (all_items stream t []) stream (h.answered stream))
+        inr (record {
+          delivery = all_of_it;
+          reads = subst (λ y. ReadsAs y all_of_it) (sym all) (reads_back (heard o.k (e ∷ t)) reader.to_head r.response r.is_whole);
+          was = inl (subst (λ n. IsOn s.setup (e ∷ t) n all_of_it) x.1 offered);
+        })
+        )
+    | inr x ↦ answered_more s.setup t e [] due stream (brings_none stream x.1) (λ quiet. (owes_none stream x.1, refl)) (inl refl) (h.answered stream)
   ]
 
   no_opens : all_opens (e ∷ t) due ≡ opens t
@@ -158,11 +164,11 @@ module _ (t : List Entry) (s : State) (k : ℕ) (piece : List ℕ) (added : List
 
 -- ---- the clause on responses
 
-delivered : (setup : Setup) (t : List Entry) (stream : ℕ) → Answered setup t (items_on stream (sent t) ++ []) stream → IsDelivered (known_of setup) t stream
+delivered : (setup : Setup) (t : List Entry) (stream : ℕ) → Answered setup t [] stream → IsDelivered (known_of setup) t stream
 delivered setup t stream (inl none) =
     let bare : items_on stream (sent t) ≡ [] = sym (append-nil (items_on stream (sent t))) ∙ none in
     record { delivery = nothing; reads = subst (λ x. ReadsAs x nothing) (sym bare) (record { interim_items = []; rest = []; is = refl; interims = tt; answer = (refl, refl, refl) }); offered = inl refl }
-delivered setup t stream (inr a) = record { delivery = a.delivery; reads = subst (λ x. ReadsAs x a.delivery) (append-nil (items_on stream (sent t))) a.reads; offered = inr a.was }
+delivered setup t stream (inr a) = record { delivery = a.delivery; reads = subst (λ x. ReadsAs x a.delivery) (append-nil (items_on stream (sent t))) a.reads; offered = inr (elim a.was [ inl now ↦ was_on setup t stream a.delivery now | inr past ↦ past.1 ]) }
 
 pub responses_hold : (t : List Entry) (s : State) → Responding t s [] → EachKeeps t → ResponsesHold (known_of s.setup) t
 responses_hold t s h limits = record {

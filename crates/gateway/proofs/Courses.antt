@@ -2,27 +2,28 @@
 use Rattle.std.proofs.Common.{◌≡◌, ℕ, true, false, Bool, ◌==◌, ◌&&◌, ◌||◌, List, [], ◌∷◌, ◌++◌, refl, ◌∙◌, ap, if◌then◌else◌}
 use Rattle.std.specs.Prelude.{Option, None, nat_lt}
 use Rattle.std.specs.List.{list_any}
-use Rattle.model.specs.Messages.{Field}
+use Rattle.model.specs.Messages.{Field, ends_with}
 use Rattle.model.specs.Messages.Item.{Block}
 use Rattle.model.specs.Frames.{rst_stream_kind}
 use Rattle.model.specs.Logs.{Act, Event}
 use Rattle.model.specs.Setup.{Setup}
-use Rattle.model.specs.Tapes.{Noted, Entry}
+use Rattle.model.specs.Tapes.{Noted, Entry, sent}
 use Rattle.model.specs.Tapes.Entry.{Came, Happened, Sent, Did}
 use Rattle.model.specs.Errors.{Fault}
-use Rattle.model.specs.Streams.{is_on, is_ended_by, is_reset, items_of, ends_with}
+use Rattle.model.specs.Streams.{is_on, is_ended_by, is_reset, items_of}
+use Rattle.model.specs.Available.{items_on}
 use Rattle.model.specs.Causes.{Cause}
 use Rattle.model.specs.ErrorTable.{fault_with}
-use Rattle.model.specs.Courses.{Course, course, carried, about, cause_at, new_cause, interrupts, course_behind, is_head_out}
+use Rattle.model.specs.Courses.{Course, course, carried, about, cause_at, new_cause, interrupts, course_behind}
 use Rattle.gateway.specs.Setups.{known_of}
 
 -- no item yet, and more may come
 abbrev pub untold : Course
-untold = record { items = []; over = false; cause = None; head_out = false }
+untold = record { items = []; over = false; cause = None; head_out = false; heads_out = [] }
 
 -- a head that ended its stream, which goes on to an upstream
 abbrev pub told : List Field → Course
-told fields = record { items = Block fields true ∷ []; over = true; cause = None; head_out = false }
+told fields = record { items = Block fields true ∷ []; over = true; cause = None; head_out = false; heads_out = [] }
 
 -- an entry's fault for a stream, and its cause
 abbrev pub found_for : Setup → ℕ → List Entry → Entry → Option Fault
@@ -45,8 +46,8 @@ items_stay setup stream t e over =
 -- what is told stays so, where the entry is no cause for the stream
 pub told_stays : (setup : Setup) (stream : ℕ) (t : List Entry) (e : Entry) (fields : List Field) → course (known_of setup) stream t ≡ told fields → cause_for setup stream t e ≡ None → course (known_of setup) stream (e ∷ t) ≡ told fields
 told_stays setup stream t e fields is none =
-    ap (λ c. course_behind (course (known_of setup) stream t) (interrupts stream e (found_for setup stream t e) c) (items_of stream t e) c (is_head_out stream t)) none
-    ∙ ap (λ (c : Course). course_behind c (interrupts stream e (found_for setup stream t e) None) (items_of stream t e) None (is_head_out stream t)) is
+    ap (λ c. course_behind (course (known_of setup) stream t) (interrupts stream e (found_for setup stream t e) c) (items_of stream t e) c (items_on stream (sent t))) none
+    ∙ ap (λ (c : Course). course_behind c (interrupts stream e (found_for setup stream t e) None) (items_of stream t e) None (items_on stream (sent t))) is
 
 -- what isn't begun stays so, where the entry brings the stream nothing
 pub untold_stays : (setup : Setup) (stream : ℕ) (t : List Entry) (e : Entry) → course (known_of setup) stream t ≡ untold → cause_for setup stream t e ≡ None → is_ended_by (is_on stream e) (found_for setup stream t e) ≡ false → is_reset stream e ≡ false → items_of stream t e ≡ []
@@ -54,10 +55,10 @@ pub untold_stays : (setup : Setup) (stream : ℕ) (t : List Entry) (e : Entry) �
 untold_stays setup stream t e is none goes_on no_reset no_item =
     let old : Course = course (known_of setup) stream t in
     let quiet : interrupts stream e (found_for setup stream t e) None ≡ false = ap (λ b. (b || is_reset stream e) || false) goes_on ∙ ap (λ b. b || false) no_reset in
-    ap (λ c. course_behind old (interrupts stream e (found_for setup stream t e) c) (items_of stream t e) c (is_head_out stream t)) none
-    ∙ ap (λ b. course_behind old b (items_of stream t e) None (is_head_out stream t)) quiet
-    ∙ ap (λ xs. course_behind old false xs None (is_head_out stream t)) no_item
-    ∙ ap (λ (c : Course). course_behind c false [] None (is_head_out stream t)) is
+    ap (λ c. course_behind old (interrupts stream e (found_for setup stream t e) c) (items_of stream t e) c (items_on stream (sent t))) none
+    ∙ ap (λ b. course_behind old b (items_of stream t e) None (items_on stream (sent t))) quiet
+    ∙ ap (λ xs. course_behind old false xs None (items_on stream (sent t))) no_item
+    ∙ ap (λ (c : Course). course_behind c false [] None (items_on stream (sent t))) is
 
 -- the first items, which end the stream
 pub told_first : (setup : Setup) (stream : ℕ) (t : List Entry) (e : Entry) (fields : List Field) → course (known_of setup) stream t ≡ untold → found_for setup stream t e ≡ None → cause_for setup stream t e ≡ None → is_reset stream e ≡ false → items_of stream t e ≡ Block fields true ∷ []
@@ -65,10 +66,10 @@ pub told_first : (setup : Setup) (stream : ℕ) (t : List Entry) (e : Entry) (fi
 told_first setup stream t e fields is no_fault none no_reset item =
     let old : Course = course (known_of setup) stream t in
     let quiet : interrupts stream e (found_for setup stream t e) None ≡ false = ap (λ f. (is_ended_by (is_on stream e) f || is_reset stream e) || false) no_fault ∙ ap (λ b. b || false) no_reset in
-    ap (λ c. course_behind old (interrupts stream e (found_for setup stream t e) c) (items_of stream t e) c (is_head_out stream t)) none
-    ∙ ap (λ b. course_behind old b (items_of stream t e) None (is_head_out stream t)) quiet
-    ∙ ap (λ xs. course_behind old false xs None (is_head_out stream t)) item
-    ∙ ap (λ (c : Course). course_behind c false (Block fields true ∷ []) None (is_head_out stream t)) is
+    ap (λ c. course_behind old (interrupts stream e (found_for setup stream t e) c) (items_of stream t e) c (items_on stream (sent t))) none
+    ∙ ap (λ b. course_behind old b (items_of stream t e) None (items_on stream (sent t))) quiet
+    ∙ ap (λ xs. course_behind old false xs None (items_on stream (sent t))) item
+    ∙ ap (λ (c : Course). course_behind c false (Block fields true ∷ []) None (items_on stream (sent t))) is
 
 -- ---- entries that are no cause
 

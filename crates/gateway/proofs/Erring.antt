@@ -1,5 +1,5 @@
 -- The clause on errors: it holds of each tape on which the gateway didn't give the connection up.
-use Rattle.std.proofs.Common.{◌≡◌, ℕ, Bool, true, false, ◌||◌, List, [], ◌∷◌, ◌++◌, length, Option, Some, None, refl, sym, ◌∙◌, ap, subst, inl, inr}
+use Rattle.std.proofs.Common.{◌≡◌, ℕ, ◌<◌, Bool, true, false, ◌||◌, List, [], ◌∷◌, ◌++◌, length, Option, Some, None, refl, sym, ◌∙◌, ap, subst, inl, inr}
 use Rattle.std.specs.Prelude.{nat_le}
 use Rattle.std.proofs.Math.Bool.{or-false}
 use Rattle.std.proofs.lemmas.Bool.{and_parts, or_from}
@@ -12,6 +12,7 @@ use Rattle.model.specs.Logs.Event.{Client, ClientEnd, ClientTook, Up, UpEnd, UpF
 use Rattle.model.specs.Tapes.{Noted, Entry, sent, is_closed}
 use Rattle.model.specs.Tapes.Note.{Fields}
 use Rattle.model.specs.Tapes.Entry.{Happened, Sent, Did}
+use Rattle.model.specs.Admission.{high_water}
 use Rattle.model.specs.Courses.{fault}
 use Rattle.model.specs.ErrorClause.{owed_first, controls, IsFollowed, calls_for_end, must_end, ErrorsHold}
 use Rattle.h1_reader.specs.Parts.{Part}
@@ -23,9 +24,9 @@ use Rattle.gateway.specs.Moves.Outcome.{Settled, Served, Stopped}
 use Rattle.gateway.specs.Moves.Hearing.{Noticed, Told, Completed, Abandoned}
 use Rattle.gateway.specs.State.{State, after, upstream_at}
 use Rattle.gateway.specs.Setups.{known_of, IsServable}
-use Rattle.gateway.specs.Policy.{Due, idle, Allowed, rest_of, farewell, closes, answer_hearing, answer_exchange, response_on, owes_after, noticed, is_in_order, MayHear, MayTell, MaySend}
+use Rattle.gateway.specs.Policy.{Due, idle, Allowed, rest_of, farewell, closes, answer_hearing, answer_exchange, response_on, owes_after, noticed, is_in_order, MayHear, MayTell, MaySend, MaySendHead}
 use Rattle.gateway.specs.Policy.Due.{ToSend, ToSendHead, ToAct}
-use Rattle.gateway.proofs.Admitting.{is_up}
+use Rattle.gateway.proofs.Admitting.{Admitting, is_up}
 use Rattle.gateway.proofs.Responding.{plain, Responding}
 use Rattle.gateway.proofs.Standing.{Inv}
 use Rattle.model.specs.Faithful.{is_given_up}
@@ -104,9 +105,9 @@ begun_sent t frame ds (inl x) =
     inr ([], ap (λ f. f ∷ frames_in (sent t)) first ∙ ap (λ ns. settings_frame ∷ frames_in ns) x.0)
 begun_sent t frame ds (inr x) = inr (frame ∷ x.0, ap (λ fs. frame ∷ fs) x.1)
 
-sends : (t : List Entry) (s : State) (frame : Frame) (ds : List Due) → Erring t s (ToSend frame ∷ ds) → MaySend s frame → Erring (Sent (plain frame) ∷ t) (after s (Sends frame)) ds
-sends t s frame ds x may =
-    let w : IsSentWell t (plain frame) ds = sends_well t frame ds may.no_block may.no_reset x.ready in record {
+sends : (t : List Entry) (s : State) (frame : Frame) (ds : List Due) → Admitting t s → Erring t s (ToSend frame ∷ ds) → MaySend s frame → Erring (Sent (plain frame) ∷ t) (after s (Sends frame)) ds
+sends t s frame ds a x may =
+    let w : IsSentWell t (plain frame) ds = sends_well t frame ds may.no_block may.no_reset (λ kind. subst (λ n. n < high_water) a.untaken (may.below kind)) x.ready in record {
       begins = begun_sent t frame ds x.begins;
       few = x.few;
       fewer = x.fewer;
@@ -122,11 +123,11 @@ sends t s frame ds x may =
           };
     }
 
-heads : (t : List Entry) (s : State) (id : ℕ) (fields : List Field) (ends : Bool) (block : List ℕ) (next : Table) (ds : List Due) → Responding t s (ToSendHead id fields ends ∷ ds) → Erring t s (ToSendHead id fields ends ∷ ds) → s.closed ≡ false
+heads : (t : List Entry) (s : State) (id : ℕ) (fields : List Field) (ends : Bool) (block : List ℕ) (next : Table) (ds : List Due) → Admitting t s → Responding t s (ToSendHead id fields ends ∷ ds) → Erring t s (ToSendHead id fields ends ∷ ds) → MaySendHead s id fields ends block next
     → Erring (entry_of (SendsHead id fields ends block next) ∷ t) (after s (SendsHead id fields ends block next)) ds
-heads t s id fields ends block next ds r x on =
+heads t s id fields ends block next ds a r x may =
     let noted : Noted = record { frame = head_frame id ends block; note = Fields fields } in
-    let w : IsSentWell t noted ds = heads_well t id fields ends block ds r.no_block x.ready in record {
+    let w : IsSentWell t noted ds = heads_well t id fields ends block ds r.no_block may.some (subst (λ n. n < high_water) a.untaken may.below) x.ready in record {
       begins = elim x.begins [
         | inl first ↦ absurd (let f : ToSendHead id fields ends ∷ ds ≡ ToSend settings_frame ∷ [] = first.1 in cc)
         | inr begun ↦ inr (noted.frame ∷ begun.0, ap (λ fs. noted.frame ∷ fs) begun.1)
@@ -139,7 +140,7 @@ heads t s id fields ends block next ds r x on =
       held = λ kept.
           let h : Held t s (ToSendHead id fields ends ∷ ds) = x.held kept in record {
             owing = h.owing ∙ sym (owed_sent s.setup t noted w.no_reset);
-            followed = elim h.followed [ inl all ↦ inl (λ frames. all (frames ++ noted.frame ∷ [])) | inr only ↦ absurd (let f : true ≡ false = sym only.0 ∙ on in cc) ];
+            followed = elim h.followed [ inl all ↦ inl (λ frames. all (frames ++ noted.frame ∷ [])) | inr only ↦ absurd (let f : true ≡ false = sym only.0 ∙ may.open_yet in cc) ];
             ends = h.ends;
             in_time = h.in_time;
           };
@@ -178,8 +179,8 @@ erring_step t s ds (Takes noted (Served route text request next)) servable i x a
 erring_step t s ds (Takes noted (Stopped code next)) servable i x a = came_end t s noted (still t s ds i a.turn.nothing) (calm t s ds x a.turn.nothing) a.turn.open_yet code next a.holds.1.1
 erring_step t s ds (Breaks breach) servable i x a = breached t s breach (calm t s ds x a.turn.nothing) a.turn.open_yet
 erring_step t s ds (Hears event hearing) servable i x a = happened t s event hearing (still t s ds i a.turn.nothing) (calm t s ds x a.turn.nothing) a.turn.open_yet a.holds.0 a.holds.1
-erring_step t s ds (Sends frame) servable i x a = sends t s frame (rest_of ds) (subst (Erring t s) a.turn x) a.holds
-erring_step t s ds (SendsHead id fields ends block next) servable i x a = heads t s id fields ends block next (rest_of ds) (subst (Responding t s) a.turn i.responding) (subst (Erring t s) a.turn x) a.holds.open_yet
+erring_step t s ds (Sends frame) servable i x a = sends t s frame (rest_of ds) i.admitting (subst (Erring t s) a.turn x) a.holds
+erring_step t s ds (SendsHead id fields ends block next) servable i x a = heads t s id fields ends block next (rest_of ds) i.admitting (subst (Responding t s) a.turn i.responding) (subst (Erring t s) a.turn x) a.holds
 erring_step t s ds (Acts act) servable i x a = acts t s act (rest_of ds) (subst (Erring t s) a.turn x)
 
 -- ---- the clause on errors

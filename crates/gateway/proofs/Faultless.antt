@@ -18,7 +18,7 @@ use Rattle.model.specs.Decoding.{Partial, begun, joined, completed}
 use Rattle.model.specs.StreamStates.{StreamState, OpenedStream, Standing, state_of, is_above, opened_or, most_streams, verdict}
 use Rattle.model.specs.StreamStates.Standing.{WholeConnection, Idle, ServerIdle, Skipped, Beyond}
 use Rattle.model.specs.StreamStates.Verdict.{Opens, Fails}
-use Rattle.model.specs.Errors.{Fault, row_first_frame, row_start, first_of}
+use Rattle.model.specs.Errors.{Fault, has_come, row_first_frame, row_start, first_of, or_else}
 use Rattle.model.specs.Errors.Fault.{Connection, Stream}
 use Rattle.model.specs.Payloads.{code_of_payload, is_over_padded}
 use Rattle.model.specs.Payloads.PayloadFault.{WrongSize, OverPadded}
@@ -29,8 +29,8 @@ use Rattle.model.specs.Causes.Cause.{LargeFields, Tunnel, Expects, LargeBody, No
 use Rattle.model.specs.SettingValues.{Setting, settings_in, header_table_size, values_of}
 use Rattle.model.specs.WindowsOnTape.{is_past, window_from, has_settings, first_size, are_taken, client_settings}
 use Rattle.model.specs.ResponseClause.{limits_since}
-use Rattle.model.specs.Malformed.{is_well_formed, has_length}
-use Rattle.model.specs.ErrorTable.{Carried, fault_of, fault_on, fault_by_standing, judged, is_idle, is_headers, unless_of_stream, is_undecodable, is_bad_block, is_malformed, row_settings, row_shift, row_connection_update, row_idle, row_block, row_closed, row_malformed, rows_before_block, rows_behind_block, fault_with}
+use Rattle.model.specs.Malformed.{Carried, is_well_formed, are_trailers, has_length}
+use Rattle.model.specs.ErrorTable.{fault_of, fault_on, fault_by_standing, judged, is_idle, is_headers, unless_of_stream, is_undecodable, is_bad_block, is_malformed, row_settings, row_shift, row_connection_update, row_idle, row_block, row_closed, row_malformed, rows_before_block, rows_behind_block, fault_of_rows, fault_with}
 use Rattle.model.proofs.MalformedLaws.{head_holds, head_told}
 use Rattle.model.proofs.RouteLaws.{match_has}
 
@@ -71,7 +71,7 @@ pub record IsNewFrame (t : List Entry) (noted : Noted) : Type 0 where
   pub flags : noted.frame.flags ≡ 5
   pub odd : noted.frame.id % 2 ≡ 1
   pub short : length noted.frame.payload ≤ 16384
-  pub not_first : row_first_frame (came t) noted.frame ≡ None
+  pub not_first : has_come (came t) ≡ true
   pub none_begun : begun (came t) ≡ None
   pub above : list_all (λ other. nat_lt other noted.frame.id) (opened t) ≡ true
   pub few : length (opened t) < 100
@@ -202,22 +202,22 @@ module _ (t : List Entry) (id : ℕ) (payload : List ℕ) (note : Note) (h : IsN
       ∙ ap (λ s. if is_idle s && false then fault_on t id (Some headers_kind) else None) idle
 
   none_before_block : NoneApplies (rows_before_block t (Came noted))
-  none_before_block = (h.not_first, (refl, (within, (not_long, (placed, (sized, (refl, (refl, (no_increment, (headers, (refl, tt)))))))))))
+  none_before_block = (ap (λ b. row_first_frame b noted.frame) h.not_first, (refl, (within, (not_long, (placed, (sized, (refl, (refl, (no_increment, (headers, (refl, tt)))))))))))
 
   -- ---- the rows behind it
 
   closed : row_closed t (Came noted) ≡ None
   closed = ap unless_of_stream may_open_it
 
-  none_behind_block : (carried : Carried) → row_block t (Came noted) ≡ None → row_malformed carried t (Came noted) ≡ None → NoneApplies (rows_behind_block carried t (Came noted))
-  none_behind_block carried readable request = (readable, (closed, (no_update t id, (no_data t id, (may_open_it, (request, tt))))))
+  none_behind_block : row_block t (Came noted) ≡ None → NoneApplies (rows_behind_block t (Came noted))
+  none_behind_block readable = (readable, (closed, (no_update t id, (no_data t id, (may_open_it, tt)))))
 
-  -- a request's head, behind no items
-  well : (carried : Carried) (fields : List Field) → carried.items ≡ [] → note ≡ Fields fields → is_well_formed fields ≡ true → has_length (declared_length fields) 0 ≡ true → row_malformed carried t (Came noted) ≡ None
+  -- a request's head, which is the first
+  well : (carried : Carried) (fields : List Field) → carried.begun ≡ false → note ≡ Fields fields → is_well_formed fields ≡ true → has_length (declared_length fields) 0 ≡ true → row_malformed carried t (Came noted) ≡ None
   well carried fields none is formed sized =
-      ap (λ c. fault_if (not carried.waits && is_malformed carried.items c noted) (Stream protocol_error)) completes
-      ∙ ap (λ items. fault_if (not carried.waits && is_bad_block items true note) (Stream protocol_error)) none
-      ∙ ap (λ n. fault_if (not carried.waits && is_bad_block [] true n) (Stream protocol_error)) is
+      ap (λ c. fault_if (not carried.waits && is_malformed carried c noted) (Stream protocol_error)) completes
+      ∙ ap (λ n. fault_if (not carried.waits && is_bad_block carried true n) (Stream protocol_error)) is
+      ∙ ap (λ b. fault_if (not carried.waits && (not (are_large fields) && (if b then (not true || not (are_trailers fields) || not (has_length carried.declared carried.octets)) else (not (is_well_formed fields) || true && not (has_length (declared_length fields) 0))))) (Stream protocol_error)) none
       ∙ ap (λ b. fault_if (not carried.waits && (not (are_large fields) && (not b || not (has_length (declared_length fields) 0)))) (Stream protocol_error)) formed
       ∙ ap (λ b. fault_if (not carried.waits && (not (are_large fields) && not b)) (Stream protocol_error)) sized
       ∙ ap (λ b. fault_if (not carried.waits && b) (Stream protocol_error)) (and_right (not (are_large fields)) false refl)
@@ -252,17 +252,28 @@ pub new_head_before : {t : List Entry} {noted : Noted} → IsNewFrame t noted �
 new_head_before {t} new = by_numbers (λ n. first_of (rows_before_block t (Came n)) ≡ None) new (λ id payload note h. none_first (rows_before_block t (Came (headed id payload note))) (none_before_block t id payload note h))
 
 -- The rows behind the block decide.
-behind : {t : List Entry} {noted : Noted} (carried : Carried) → IsNewFrame t noted → fault_with carried t (Came noted) ≡ first_of (rows_behind_block carried t (Came noted))
-behind {t} {noted} carried new = none_before (rows_before_block t (Came noted)) (rows_behind_block carried t (Came noted)) (new_head_before new)
+behind : {t : List Entry} {noted : Noted} → IsNewFrame t noted → fault_of_rows t (Came noted) ≡ first_of (rows_behind_block t (Came noted))
+behind {t} {noted} new = none_before (rows_before_block t (Came noted)) (rows_behind_block t (Came noted)) (new_head_before new)
 
-pub new_head_passes : {t : List Entry} {noted : Noted} {fields : List Field} (carried : Carried) → carried.items ≡ [] → IsNewHead t noted fields → fault_with carried t (Came noted) ≡ None
+-- where they have a fault, it is the entry's, whatever its stream carries
+by_rows : (carried : Carried) (t : List Entry) (e : Entry) (fault : Fault) → fault_of_rows t e ≡ Some fault → fault_with carried t e ≡ Some fault
+by_rows carried t e fault is = ap (λ f. or_else f (row_malformed carried t e)) is
+
+-- where they have none, the last row decides
+by_last : (carried : Carried) (t : List Entry) (e : Entry) → fault_of_rows t e ≡ None → fault_with carried t e ≡ row_malformed carried t e
+by_last carried t e none = ap (λ f. or_else f (row_malformed carried t e)) none
+
+pub new_head_passes : {t : List Entry} {noted : Noted} {fields : List Field} (carried : Carried) → carried.begun ≡ false → IsNewHead t noted fields → fault_with carried t (Came noted) ≡ None
 new_head_passes {t} {noted} {fields} carried none head =
-    behind carried head.new
-    ∙ by_numbers (λ n. n.note ≡ Fields fields → first_of (rows_behind_block carried t (Came n)) ≡ None) head.new
-    (λ id payload note h is. none_first (rows_behind_block carried t (Came (headed id payload note))) (
-    none_behind_block t id payload note h carried
-    (ap (λ n. fault_if (is_undecodable n) (Connection compression_error)) is)
-    (well t id payload note h carried fields none is (head_told fields head.well_formed) (no_octets (declared_length fields) head.no_body))))
+    by_last carried t (Came noted)
+    (behind head.new
+    ∙ by_numbers (λ n. n.note ≡ Fields fields → first_of (rows_behind_block t (Came n)) ≡ None) head.new
+    (λ id payload note h is. none_first (rows_behind_block t (Came (headed id payload note))) (
+    none_behind_block t id payload note h
+    (ap (λ n. fault_if (is_undecodable n) (Connection compression_error)) is)))
+    head.note)
+    ∙ by_numbers (λ n. n.note ≡ Fields fields → row_malformed carried t (Came n) ≡ None) head.new
+    (λ id payload note h is. well t id payload note h carried fields none is (head_told fields head.well_formed) (no_octets (declared_length fields) head.no_body))
     head.note
 
 pub new_head_opens : {t : List Entry} {noted : Noted} {fields : List Field} → IsNewHead t noted fields → opened (Came noted ∷ t) ≡ noted.frame.id ∷ opened t
@@ -297,8 +308,9 @@ no_cause_of_head setup fields place small connect expects short match =
 -- A block that can't be read ends the connection, whatever its stream carries.
 pub undecodable_fails : {t : List Entry} {noted : Noted} (carried : Carried) → IsNewFrame t noted → noted.note ≡ Undecodable → fault_with carried t (Came noted) ≡ Some (Connection compression_error)
 undecodable_fails {t} {noted} carried new is =
-    behind carried new
-    ∙ first_decides (row_block t (Came noted)) (Connection compression_error) _ (ap (λ n. fault_if (is_undecodable n) (Connection compression_error)) is)
+    by_rows carried t (Came noted) (Connection compression_error)
+    (behind new
+    ∙ first_decides (row_block t (Came noted)) (Connection compression_error) _ (ap (λ n. fault_if (is_undecodable n) (Connection compression_error)) is))
 
 -- ---- the settings with which a client begins
 
@@ -340,7 +352,7 @@ module _ (t : List Entry) (flags : ℕ) (h : IsFirstSettings t (settled flags)) 
 
   starts : row_start t (Came settings) ≡ None
   starts =
-      ap (λ frames. row_first_frame frames settings.frame) h.first
+      ap (λ frames. row_first_frame (has_come frames) settings.frame) h.first
       ∙ ap (λ b. if not b then None else Some (Connection protocol_error)) not_ack
 
   settings_within : row_between t (Came settings) ≡ None
@@ -363,15 +375,21 @@ module _ (t : List Entry) (flags : ℕ) (h : IsFirstSettings t (settled flags)) 
   settings_before : opened t ≡ [] → NoneApplies (rows_before_block t (Came settings))
   settings_before none = (starts, (refl, (settings_within, (settings_not_long, (refl, (settings_sized, (settings_right, (no_shift none, (refl, (refl, (refl, tt)))))))))))
 
-  settings_behind : (carried : Carried) → NoneApplies (rows_behind_block carried t (Came settings))
-  settings_behind carried = (refl, (refl, (no_update t 0, (no_data t 0, (refl, (ap (λ b. fault_if b (Stream protocol_error)) (and_right (not carried.waits) false refl), tt))))))
+  settings_behind : NoneApplies (rows_behind_block t (Came settings))
+  settings_behind = (refl, (refl, (no_update t 0, (no_data t 0, (refl, tt)))))
+
+  -- they bring no stream anything
+  settings_well : (carried : Carried) → row_malformed carried t (Came settings) ≡ None
+  settings_well carried = ap (λ b. fault_if b (Stream protocol_error)) (and_right (not carried.waits) false refl)
 
 pub first_settings_pass : {t : List Entry} {noted : Noted} (carried : Carried) → opened t ≡ [] → IsFirstSettings t noted → fault_with carried t (Came noted) ≡ None
 first_settings_pass {t} carried none first =
     by_flags (λ n. fault_with carried t (Came n) ≡ None) first
     (λ flags h.
-    none_before (rows_before_block t (Came (settled flags))) (rows_behind_block carried t (Came (settled flags))) (none_first (rows_before_block t (Came (settled flags))) (settings_before t flags h none))
-    ∙ none_first (rows_behind_block carried t (Came (settled flags))) (settings_behind t flags h carried))
+    by_last carried t (Came (settled flags))
+    (none_before (rows_before_block t (Came (settled flags))) (rows_behind_block t (Came (settled flags))) (none_first (rows_before_block t (Came (settled flags))) (settings_before t flags h none))
+    ∙ none_first (rows_behind_block t (Came (settled flags))) (settings_behind t flags h))
+    ∙ settings_well t flags h carried)
 
 pub first_settings_open_none : {t : List Entry} {noted : Noted} → IsFirstSettings t noted → opened (Came noted ∷ t) ≡ opened t
 first_settings_open_none {t} first = by_flags (λ n. opened (Came n ∷ t) ≡ opened t) first (λ flags h. refl)
@@ -382,9 +400,10 @@ first_settings_complete_none {t} first = by_flags (λ n. completed (came t) n.fr
 -- A client that begins otherwise has its connection ended.
 pub wrong_first_fails : (t : List Entry) (noted : Noted) (carried : Carried) → came t ≡ [] → (noted.frame.kind == settings_kind && not (is_ack noted.frame)) ≡ false → fault_with carried t (Came noted) ≡ Some (Connection protocol_error)
 wrong_first_fails t noted carried first wrong =
-    first_decides (row_first_frame (came t) noted.frame) (Connection protocol_error) _ (
-    ap (λ frames. row_first_frame frames noted.frame) first
-    ∙ ap (λ b. if b then None else Some (Connection protocol_error)) wrong)
+    by_rows carried t (Came noted) (Connection protocol_error)
+    (first_decides (row_first_frame (has_come (came t)) noted.frame) (Connection protocol_error) _ (
+    ap (λ frames. row_first_frame (has_come frames) noted.frame) first
+    ∙ ap (λ b. if b then None else Some (Connection protocol_error)) wrong))
 
 -- ---- what they change
 

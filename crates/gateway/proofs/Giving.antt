@@ -14,7 +14,7 @@ use Rattle.model.specs.Logs.Act.{Open, ToUp, Close, CloseClient}
 use Rattle.model.specs.Tapes.{Noted, Entry, came, sent_up}
 use Rattle.model.specs.Tapes.Entry.{Happened, Sent, Did}
 use Rattle.model.specs.Decoding.{begun, Decodes, are_read}
-use Rattle.model.specs.Errors.{row_first_frame}
+use Rattle.model.specs.Errors.{has_come}
 use Rattle.model.specs.Openings.{Opened, last_stream, opens, AreNumbered, AreApart}
 use Rattle.model.specs.Courses.{course}
 use Rattle.gateway.specs.Setups.{known_of}
@@ -58,7 +58,7 @@ pub record Giving (t : List Entry) (s : State) (ds : List Due) : Type 0 where
   pub fresh : s.closed ≡ false → (stream : ℕ) → s.high < stream → course (known_of s.setup) stream t ≡ untold
   pub no_block : s.closed ≡ false → begun (came t) ≡ None
   pub all_read : s.closed ≡ false → are_read (came t) ≡ true
-  pub settled : s.settled ≡ true → (frame : _) → row_first_frame (came t) frame ≡ None
+  pub settled : s.settled ≡ true → has_come (came t) ≡ true
   pub unsettled : s.closed ≡ false → s.settled ≡ false → came t ≡ []
   pub decodes : (table : Table) × Decodes (came t) table × (s.closed ≡ false → s.table ≡ table)
 
@@ -132,7 +132,7 @@ giving_passes t e s s' ds ds' h p es eu eh ef ec et = record {
   fresh = λ o stream lt. subst (λ x. course (known_of x) stream (e ∷ t) ≡ untold) (sym es) (p.fresh_stays s.setup stream (h.fresh (ec o) stream (subst (λ n. n < stream) eh lt)));
   no_block = λ o. ap begun p.same_came ∙ h.no_block (ec o);
   all_read = λ o. ap are_read p.same_came ∙ h.all_read (ec o);
-  settled = λ f frame. ap (λ x. row_first_frame x frame) p.same_came ∙ h.settled (sym ef ∙ f) frame;
+  settled = λ f. ap has_come p.same_came ∙ h.settled (sym ef ∙ f);
   unsettled = λ o f. p.same_came ∙ h.unsettled (ec o) (sym ef ∙ f);
   decodes = (h.decodes.0, subst (λ x. Decodes x h.decodes.0) (sym p.same_came) h.decodes.1, (λ o. et ∙ h.decodes.2 (ec o)));
 }
@@ -213,7 +213,7 @@ giving_opened t s s' k route ds h at es eu eh ef ec et =
       fresh = λ q stream lt. subst (λ x. course (known_of x) stream (e ∷ t) ≡ untold) (sym es) (untold_did s.setup stream t (Open k route) (h.fresh (sym ec ∙ q) stream (subst (λ n. n < stream) eh lt)));
       no_block = λ q. h.no_block (sym ec ∙ q);
       all_read = λ q. h.all_read (sym ec ∙ q);
-      settled = λ f frame. h.settled (sym ef ∙ f) frame;
+      settled = λ f. h.settled (sym ef ∙ f);
       unsettled = λ q f. h.unsettled (sym ec ∙ q) (sym ef ∙ f);
       decodes = (h.decodes.0, h.decodes.1, (λ q. et ∙ h.decodes.2 (sym ec ∙ q)));
     }
@@ -238,7 +238,7 @@ giving_sent t s s' j octets ds h within es eu eh ef ec et =
       fresh = λ q stream lt. subst (λ x. course (known_of x) stream (e ∷ t) ≡ untold) (sym es) (untold_did s.setup stream t (ToUp j octets) (h.fresh (sym ec ∙ q) stream (subst (λ n. n < stream) eh lt)));
       no_block = λ q. h.no_block (sym ec ∙ q);
       all_read = λ q. h.all_read (sym ec ∙ q);
-      settled = λ f frame. h.settled (sym ef ∙ f) frame;
+      settled = λ f. h.settled (sym ef ∙ f);
       unsettled = λ q f. h.unsettled (sym ec ∙ q) (sym ef ∙ f);
       decodes = (h.decodes.0, h.decodes.1, (λ q. et ∙ h.decodes.2 (sym ec ∙ q)));
     }

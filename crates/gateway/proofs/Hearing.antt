@@ -84,7 +84,7 @@ exchange_ends k None added h = h
 exchange_ends k (Some e) added h = response_ends e.stream (head_after e.head added) (e.body ++ body_of added) h
 
 -- nothing is asked of upstreams but ends
-opens_none : (stream : ℕ) (s : State) (event : Event) (hearing : Hearing) → to_open stream (answer_hearing s event hearing) ≡ []
+pub opens_none : (stream : ℕ) (s : State) (event : Event) (hearing : Hearing) → to_open stream (answer_hearing s event hearing) ≡ []
 opens_none stream s ClientEnd Noticed = closes_open stream 1 s.upstreams
 opens_none stream s (Client piece) Noticed = refl
 opens_none stream s (ClientTook count) Noticed = refl
@@ -179,7 +179,7 @@ admitting_hears t s (UpTook k count) hearing h order =
 
 -- an event that says nothing of responses
 idles : (t : List Entry) (s : State) (event : Event) → Giving t s [] → ((k : ℕ) → heard k (Happened event ∷ t) ≡ heard k t) → ((k : ℕ) → has_ended k (Happened event ∷ t) ≡ has_ended k t) → Idles s.setup t (Happened event) [] []
-idles t s event g eh ee = record { same_sent = refl; same_owed = λ stream. refl; same_heard = eh; same_ended = ee; same_opens = refl; no_fewer = omega arith; same_heads = λ o m. items_stay t s [] (Happened event) o g m }
+idles t s event g eh ee = record { same_sent = refl; same_owed = λ stream. refl; same_heard = eh; same_ended = ee; same_opens = refl; no_fewer = omega arith; same_heads = λ o m. items_stay t s [] (Happened event) o g m; offers = λ stream. inl refl }
 
 pub responding_hears : (t : List Entry) (s : State) (event : Event) (hearing : Hearing) → Giving t s [] → Responding t s [] → s.closed ≡ false → is_in_order s event ≡ true → MayHear s event hearing → Responding (Happened event ∷ t) (after s (Hears event hearing)) (answer_hearing s event hearing)
 responding_hears t s (Client piece) Noticed g h on order may = responding_idle t (Happened (Client piece)) s (after s (Hears (Client piece) Noticed)) [] [] h (idles t s (Client piece) g (λ k. refl) (λ k. refl)) refl (λ o. on) refl refl refl

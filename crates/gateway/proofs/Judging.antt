@@ -11,9 +11,9 @@ use Rattle.model.specs.Logs.{Event}
 use Rattle.model.specs.Logs.Event.{Client, ClientEnd, ClientTook, Up, UpEnd, UpFailed, UpTook}
 use Rattle.model.specs.Tapes.{Entry}
 use Rattle.model.specs.Tapes.Entry.{Happened}
-use Rattle.model.specs.Courses.{items, given}
+use Rattle.model.specs.Courses.{items}
 use Rattle.model.specs.Offers.{is_to_head}
-use Rattle.model.specs.Openings.{Opened, opens, AreNumbered}
+use Rattle.model.specs.Openings.{Opened, opens, given, exchange_on, AreNumbered}
 use Rattle.model.specs.Available.{heard, IsIn}
 use Rattle.model.specs.Failures.{is_asked_for_head, IsTooLong, MustFail, AreJudged}
 use Rattle.h1_reader.specs.Parts.{Part}
@@ -115,16 +115,16 @@ module _ (t : List Entry) (s : State) (k : ℕ) (piece : List ℕ) (added : List
   stands = subst (λ n. Stands (heard n (e ∷ t)) w.parts reader) there.2 w.stands
 
   -- the reader knows whether the request has the method HEAD
-  asked : reader.to_head ≡ is_asked_for_head (known_of s.setup) k t
+  asked : reader.to_head ≡ is_asked_for_head (known_of s.setup) (exchange_on k t) t
   asked =
       w.for_head
       ∙ ap is_to_head (items_stay t s [] e o g there.1)
       ∙ ap (λ n. is_to_head (items (known_of s.setup) n t)) (sym (given_is o k (opens t) g.numbered there.1 there.2))
 
-  not_plain : IsPlainlyBad text (is_asked_for_head (known_of s.setup) k t) → ⊥
+  not_plain : IsPlainlyBad text (is_asked_for_head (known_of s.setup) (exchange_on k t) t) → ⊥
   not_plain bad = not_bad text w.parts reader stands (subst (IsPlainlyBad text) (sym asked) bad)
 
-  not_long : IsTooLong (known_of s.setup) text (is_asked_for_head (known_of s.setup) k t) → ⊥
+  not_long : IsTooLong (known_of s.setup) text (is_asked_for_head (known_of s.setup) (exchange_on k t) t) → ⊥
   not_long long =
       let told : SeenAsTold text reader.to_head w.parts = as_told text reader.to_head w.parts (tells text w.parts reader stands) in
       let seen : Seen text reader.to_head long.interims long.head long.octets = subst (λ b. Seen text b long.interims long.head long.octets) (sym asked) long.seen in

@@ -28,6 +28,7 @@ pub mod Proceeding
 pub mod Carrying
 pub mod Progressed
 pub mod Windowing
+pub mod Opening
 pub mod Holding
 pub mod Closing
 pub mod Sizes
@@ -38,6 +39,7 @@ pub mod PassingBack
 pub mod Receiving
 pub mod Prefaces
 pub mod Coming
+pub mod Following
 pub mod Told
 pub mod Steps
 pub mod Logging

@@ -8,7 +8,7 @@ use Rattle.model.specs.Tapes.{Noted, Entry, came}
 use Rattle.model.specs.Tapes.Note.{NoBlock}
 use Rattle.model.specs.Tapes.Entry.{Came}
 use Rattle.model.specs.Decoding.{Partial, completed, is_read}
-use Rattle.model.specs.Errors.{row_first_frame, first_of}
+use Rattle.model.specs.Errors.{has_come, row_first_frame, first_of}
 use Rattle.model.specs.Errors.Fault.{Connection}
 use Rattle.model.specs.ErrorTable.{rows_before_block}
 use Rattle.model.specs.Headline.{is_unread, OthersAreRead}
@@ -73,8 +73,8 @@ no_error t noted none read =
 -- the first frame of the client is no settings
 wrong_first : (t : List Entry) (s : State) (noted : Noted) → came t ≡ [] → IsWrongFirst s noted → IsRight t noted
 wrong_first t s noted first w =
-    let starts : row_first_frame (came t) noted.frame ≡ Some (Connection protocol_error) =
-    ap (λ frames. row_first_frame frames noted.frame) first ∙ ap (λ b. if b then None else Some (Connection protocol_error)) w.wrong in
+    let starts : row_first_frame (has_come (came t)) noted.frame ≡ Some (Connection protocol_error) =
+    ap (λ frames. row_first_frame (has_come frames) noted.frame) first ∙ ap (λ b. if b then None else Some (Connection protocol_error)) w.wrong in
     let fails : is_some (first_of (rows_before_block t (Came noted))) ≡ true = ap (λ row. is_some (first_of (row ∷ drop 1 (rows_before_block t (Came noted))))) starts in
     w.note ∙ none (completed [] noted.frame) ∙ ap (λ frames. not (is_some (completed frames noted.frame) && true)) (sym first)
     ∙ ap (λ b. not (is_some (completed (came t) noted.frame) && b)) (sym fails)

@@ -1,9 +1,10 @@
 -- What is owed to the client: parts of responses on streams that wait for them, and frames that are no such parts.
-use Rattle.std.proofs.Common.{◌≡◌, ℕ, suc, ◌≤◌, Bool, true, false, not, ◌&&◌, ◌||◌, ◌==◌, nat_lt, if◌then◌else◌, List, [], ◌∷◌, ◌++◌, map, filter, length, Option, Some, None, refl, sym, ◌∙◌, ap, subst, append-nil, append_assoc, arith, inl, inr, ◌⊎◌}
+use Rattle.std.proofs.Common.{◌≡◌, ℕ, suc, ◌<◌, ◌≤◌, Bool, true, false, not, ◌&&◌, ◌||◌, ◌==◌, nat_lt, if◌then◌else◌, List, [], ◌∷◌, ◌++◌, map, filter, length, Option, Some, None, refl, sym, ◌∙◌, ap, subst, append-nil, append_assoc, arith, inl, inr, ◌⊎◌}
 use Rattle.std.specs.Prelude.{cond}
 use Rattle.std.specs.List.{list_any}
-use Rattle.std.proofs.lemmas.Bool.{and_parts, and_from, and_right, or_parts, or_from, or_left, or_right, eq-eqb}
+use Rattle.std.proofs.lemmas.Bool.{and_parts, and_from, and_right, or_parts, or_from, or_left, or_right, eq-eqb, lt-ltb}
 use Rattle.std.proofs.lemmas.List.Elements.{filter-append}
+use Rattle.model.specs.Octets.{is_empty}
 use Rattle.model.specs.Messages.Item.{Block, Content}
 use Rattle.model.specs.Tables.{Table}
 use Rattle.model.specs.Frames.{Frame, data_kind, headers_kind, rst_stream_kind, continuation_kind, window_update_kind, ends_stream, content, no_error}
@@ -18,19 +19,19 @@ use Rattle.model.specs.Streams.{frame_items}
 use Rattle.model.specs.Openings.{Opened, opens}
 use Rattle.model.specs.Available.{items_on, IsIn, are_decoded, is_decoded}
 use Rattle.model.specs.Lifetimes.{is_opened, ends_by, is_ended_by_client, is_ended_by_gateway, is_reset_by_client, is_reset_by_gateway, has_reset, is_over, is_active}
-use Rattle.model.specs.WindowsOnTape.{increment}
+use Rattle.model.specs.Admission.{untaken, high_water}
 use Rattle.model.specs.ErrorClause.{rst_stream, reset_behind, is_passing, controls, is_rightly_sent}
 use Rattle.h1_reader.specs.Parts.{Part}
 use Rattle.h1_reader.specs.Standing.{State as Reader}
 use Rattle.gateway.specs.declared.upstream.Upstream.{Upstream}
 use Rattle.gateway.specs.Exchanges.{Awaited, IsTold, exchange_at}
-use Rattle.gateway.specs.Moves.{head_frame}
+use Rattle.gateway.specs.Moves.{head_frame, last_data}
 use Rattle.gateway.specs.State.{State}
 use Rattle.gateway.specs.Policy.{Due, closes_from, response_on}
 use Rattle.gateway.specs.Policy.Due.{ToSend, ToSendHead, ToAct}
 use Rattle.gateway.proofs.Giving.{Giving}
 use Rattle.gateway.proofs.Living.{Living}
-use Rattle.gateway.proofs.Responding.{plain, Responding, Waiting, none_completed, whole_head, opened_at}
+use Rattle.gateway.proofs.Responding.{plain, Responding, Waiting, none_completed, none_both, whole_head, opened_at}
 use Rattle.gateway.proofs.Awaiting.{waited}
 
 -- ---- the frames that are owed
@@ -74,7 +75,7 @@ pub record IsReady (t : List Entry) (stream : ℕ) : Type 0 where
   pub unreset : is_reset_by_client stream t ≡ false
   pub ours : is_reset_by_gateway stream t ≡ false
 
-active_ready : (t : List Entry) (stream : ℕ) → IsReady t stream → is_active stream t ≡ true
+pub active_ready : (t : List Entry) (stream : ℕ) → IsReady t stream → is_active stream t ≡ true
 active_ready t stream r =
     let going : is_over stream t ≡ false = or_from (is_reset_by_gateway stream t || is_reset_by_client stream t) (is_ended_by_client stream t && is_ended_by_gateway stream t)
     (or_from (is_reset_by_gateway stream t) (is_reset_by_client stream t) r.ours r.unreset) (and_right (is_ended_by_client stream t) (is_ended_by_gateway stream t) r.unended) in
@@ -84,9 +85,28 @@ active_ready t stream r =
 may_send : (t : List Entry) (stream : ℕ) → IsReady t stream → (is_active stream t && not (is_ended_by_gateway stream t)) ≡ true
 may_send t stream r = and_from (is_active stream t) (not (is_ended_by_gateway stream t)) (active_ready t stream r) (ap not r.unended)
 
+-- DATA with END_STREAM alone is rightly sent
+last_rightly : (t : List Entry) (id : ℕ) (octets : List ℕ) → IsReady t id → untaken t < high_water → is_rightly_sent t (last_data id octets) ≡ true
+last_rightly t id octets r below =
+    and_from (is_active id t && not (is_ended_by_gateway id t) && (not (is_empty octets) || true)) (nat_lt (untaken t) high_water)
+    (and_from (is_active id t && not (is_ended_by_gateway id t)) (not (is_empty octets) || true) (may_send t id r) (or_right (not (is_empty octets)) true refl)) (lt-ltb (untaken t) high_water below)
+
+-- and so is a header block that isn't empty
+head_rightly : (t : List Entry) (id : ℕ) (ends : Bool) (block : List ℕ) → IsReady t id → is_empty block ≡ false → untaken t < high_water → is_rightly_sent t (head_frame id ends block) ≡ true
+head_rightly t id ends block r some below = by ends
+  where
+    part : (is_active id t && not (is_ended_by_gateway id t) && (not (is_empty block) || false) && nat_lt (untaken t) high_water) ≡ true
+    part =
+        and_from (is_active id t && not (is_ended_by_gateway id t) && (not (is_empty block) || false)) (nat_lt (untaken t) high_water)
+        (and_from (is_active id t && not (is_ended_by_gateway id t)) (not (is_empty block) || false) (may_send t id r) (or_left (not (is_empty block)) false (ap not some))) (lt-ltb (untaken t) high_water below)
+
+    by : (b : Bool) → is_rightly_sent t (head_frame id b block) ≡ true
+    by true = part
+    by false = part
+
 -- a frame that is no part of a response, or the last one of a response
 abbrev pub IsReadyFrame : List Entry → Frame → List Due → Type 0
-IsReadyFrame t frame ds = (is_passing (plain frame) ≡ false) ⊎ ((frame.kind ≡ data_kind) × IsReady t frame.id × (ds ≡ []))
+IsReadyFrame t frame ds = (is_passing (plain frame) ≡ false) ⊎ ((frame ≡ last_data frame.id frame.payload) × IsReady t frame.id × (ds ≡ []))
 
 -- What is owed goes to streams that wait for it; behind the end of a response nothing is owed.
 abbrev pub AreReady : List Entry → List Due → Type 0
@@ -139,24 +159,24 @@ pub record IsSentWell (t : List Entry) (noted : Noted) (ds : List Due) : Type 0 
 first_no : (a b c d : Bool) → (a || b || c || d) ≡ false → a ≡ false
 first_no a b c d e = (or_parts a b (or_parts (a || b) c (or_parts (a || b || c) d e).0).0).0
 
-pub sends_well : (t : List Entry) (frame : Frame) (ds : List Due) → (frame.kind == headers_kind || frame.kind == continuation_kind) ≡ false → (frame.kind == rst_stream_kind) ≡ false → AreReady t (ToSend frame ∷ ds) → IsSentWell t (plain frame) ds
-sends_well t frame ds no_block no_reset (inl control, h) =
+pub sends_well : (t : List Entry) (frame : Frame) (ds : List Due) → (frame.kind == headers_kind || frame.kind == continuation_kind) ≡ false → (frame.kind == rst_stream_kind) ≡ false → (frame.kind ≡ data_kind → untaken t < high_water) → AreReady t (ToSend frame ∷ ds) → IsSentWell t (plain frame) ds
+sends_well t frame ds no_block no_reset below (inl control, h) =
     let no_data : (frame.kind == data_kind) ≡ false = first_no (frame.kind == data_kind) (frame.kind == headers_kind) (frame.kind == continuation_kind) (frame.kind == window_update_kind) control in
     let no_end : ends_by (completed (sent t) frame) frame ≡ false = ap (λ c. ends_by c frame) (none_completed (sent t) frame no_block) ∙ ap (λ b. b && ends_stream frame) no_data in record {
       rightly = ap (λ b. not b || is_rightly_sent t frame) control;
       no_reset = ap (λ b. if b && not (is_ended_by_client frame.id t) then rst_stream frame.id no_error ∷ [] else []) no_end;
       ready = ready_sent t (plain frame) ds no_reset no_end h;
     }
-sends_well t frame ds no_block no_reset (inr last, h) =
+sends_well t frame ds no_block no_reset below (inr last, h) =
     let ends : Bool = ends_by (completed (sent t) frame) frame in record {
-      rightly = or_right (not (is_passing (plain frame))) (is_rightly_sent t frame) (ap (λ k. if k == window_update_kind then (length frame.payload == 4 && nat_lt 0 (increment frame) && (frame.id == 0 || is_active frame.id t && not (is_ended_by_client frame.id t))) else (is_active frame.id t && not (is_ended_by_gateway frame.id t))) last.0 ∙ may_send t frame.id last.1);
+      rightly = or_right (not (is_passing (plain frame))) (is_rightly_sent t frame) (ap (is_rightly_sent t) last.0 ∙ last_rightly t frame.id frame.payload last.1 (below (ap (λ (f : Frame). f.kind) last.0)));
       no_reset = ap (λ b. if ends && not b then rst_stream frame.id no_error ∷ [] else []) last.1.ended ∙ ap (λ b. if b then rst_stream frame.id no_error ∷ [] else []) (and_right ends false refl);
       ready = subst (AreReady (Sent (plain frame) ∷ t)) (sym last.2) tt;
     }
 
-pub heads_well : (t : List Entry) (id : ℕ) (fields : List _) (ends : Bool) (block : List ℕ) (ds : List Due) → begun (sent t) ≡ None → AreReady t (ToSendHead id fields ends ∷ ds) → IsSentWell t (record { frame = head_frame id ends block; note = Fields fields }) ds
-heads_well t id fields ends block ds none h = record {
-  rightly = may_send t id h.0;
+pub heads_well : (t : List Entry) (id : ℕ) (fields : List _) (ends : Bool) (block : List ℕ) (ds : List Due) → begun (sent t) ≡ None → is_empty block ≡ false → untaken t < high_water → AreReady t (ToSendHead id fields ends ∷ ds) → IsSentWell t (record { frame = head_frame id ends block; note = Fields fields }) ds
+heads_well t id fields ends block ds none some below h = record {
+  rightly = or_right (not (is_passing (record { frame = head_frame id ends block; note = Fields fields }))) (is_rightly_sent t (head_frame id ends block)) (head_rightly t id ends block h.0 some below);
   no_reset = ap (λ b. if ends_by (completed (sent t) (head_frame id ends block)) (head_frame id ends block) && not b then rst_stream id no_error ∷ [] else []) h.0.ended
       ∙ ap (λ b. if b then rst_stream id no_error ∷ [] else []) (and_right (ends_by (completed (sent t) (head_frame id ends block)) (head_frame id ends block)) false refl);
   ready = behind ends refl;
@@ -167,10 +187,6 @@ heads_well t id fields ends block ds none h = record {
     behind false e = ready_sent t (record { frame = head_frame id ends block; note = Fields fields }) ds refl (ap (λ c. ends_by c (head_frame id ends block)) (whole_head (begun (sent t)) id ends block none) ∙ e) h.2
 
 -- ---- a response is complete
-
-none_both : {X : Type 0} (xs ys : List X) → xs ++ ys ≡ [] → (xs ≡ []) × (ys ≡ [])
-none_both [] ys e = (refl, e)
-none_both (x ∷ xs) ys e = absurd (let f : x ∷ (xs ++ ys) ≡ [] = e in cc)
 
 -- a frame that brings its stream nothing doesn't end it
 ends_none : (block : Option Partial) (noted : Noted) (old new : Table) → IsNoteOf block old noted.note new → is_decoded noted.note ≡ true → frame_items block noted ≡ [] → ends_by block noted.frame ≡ false
@@ -188,7 +204,7 @@ ends_none (Some block) noted old new note decoded none = cases noted.note note d
     cases Unread is d e = absurd (let f : false ≡ true = d in cc)
 
 -- A stream that was brought nothing wasn't ended by the gateway.
-unended_unsent : (t : List Entry) (table : Table) (stream : ℕ) → Decodes (sent t) table → are_decoded (sent t) ≡ true → items_on stream (sent t) ≡ [] → is_ended_by_gateway stream t ≡ false
+pub unended_unsent : (t : List Entry) (table : Table) (stream : ℕ) → Decodes (sent t) table → are_decoded (sent t) ≡ true → items_on stream (sent t) ≡ [] → is_ended_by_gateway stream t ≡ false
 unended_unsent [] table stream d e none = refl
 unended_unsent (Came noted ∷ t) table stream d e none = unended_unsent t table stream d e none
 unended_unsent (Breached breach ∷ t) table stream d e none = unended_unsent t table stream d e none

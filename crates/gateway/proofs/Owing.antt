@@ -1,6 +1,7 @@
 -- Concern: what is sent beside responses, and when the connection ends, wherever the gateway didn't give it up. And what comes
 -- of the client's octets.
 use Rattle.std.proofs.Common.{◌≡◌, ℕ, suc, ◌<◌, ◌≤◌, ◌/◌, ◌%◌, max, fold, Bool, true, false, ◌&&◌, ◌||◌, ◌==◌, nat_lt, if◌then◌else◌, List, [], ◌∷◌, ◌++◌, map, length, Some, None, refl, sym, ◌∙◌, ap, subst, arith, inl, inr, ◌⊎◌}
+use Rattle.std.specs.Prelude.{Option, is_none}
 use Rattle.std.specs.List.{list_all}
 use Rattle.std.proofs.lemmas.Bool.{and_from, and_left, and_right, or_parts, or_from, lt-ltb, ne_eqb}
 use Rattle.std.proofs.lemmas.List.{length-map}
@@ -9,15 +10,17 @@ use Rattle.model.specs.Tables.{Table}
 use Rattle.model.specs.Frames.{Frame, settings_kind, is_ack, has_flag, settings_frame, settings_ack, goaway, protocol_error, compression_error}
 use Rattle.model.specs.Logs.Act.{Open, ToUp}
 use Rattle.model.specs.Setup.{Setup}
-use Rattle.model.specs.Tapes.{Noted, Breach, Entry, came, sent}
+use Rattle.model.specs.Tapes.{Note, Noted, Breach, Entry, came, sent}
+use Rattle.model.specs.Tapes.Note.{NoBlock, Fields, Undecodable, Unread}
 use Rattle.model.specs.Tapes.Breach.{WrongPreface, TooLong}
 use Rattle.model.specs.Tapes.Entry.{Came, Breached}
-use Rattle.model.specs.Decoding.{completed}
+use Rattle.model.specs.Decoding.{Partial, completed, is_read}
 use Rattle.model.specs.StreamStates.{most_streams}
 use Rattle.model.specs.Errors.Fault.{Connection}
 use Rattle.model.specs.Known.{Known}
 use Rattle.model.specs.Openings.{Opened, opens}
 use Rattle.model.specs.Lifetimes.{opened, opens_by, highest, active, is_spent}
+use Rattle.model.specs.Malformed.{is_begun}
 use Rattle.model.specs.Courses.{Course, course, carried, cause_at, fault}
 use Rattle.model.specs.ErrorClause.{last_farewell, resets, owed, controls, AreFollowed, AreRightlySent, is_fatal, calls_for_end, must_end, EndsInTime}
 use Rattle.gateway.specs.Moves.{Outcome}
@@ -111,6 +114,18 @@ one_more t noted = cases (opens_by (opened t) (completed (came t) noted.frame) n
 pub spent : (t : List Entry) → length (opened t) ≤ 101 → is_spent t ≡ false
 spent t few = and_left (length (opened t) == most_streams) (length (active t) == 0) (ne_eqb (length (opened t)) most_streams (λ same. omega (arith, same, few)))
 
+-- a block that isn't read, or can't be, opens no stream
+unread_opens_none : (ids : List ℕ) (block : Option Partial) (note : Note) → is_read note ≡ is_none block → opens_by ids block note ≡ false
+unread_opens_none ids None note e = refl
+unread_opens_none ids (Some block) NoBlock e = refl
+unread_opens_none ids (Some block) (Fields fields) e = absurd (let f : true ≡ false = e in cc)
+unread_opens_none ids (Some block) Undecodable e = refl
+unread_opens_none ids (Some block) Unread e = refl
+
+undecodable_opens_none : (ids : List ℕ) (block : Option Partial) → opens_by ids block Undecodable ≡ false
+undecodable_opens_none ids None = refl
+undecodable_opens_none ids (Some block) = refl
+
 -- the connection goes on
 pub goes_on : (t : List Entry) (s : State) (ds : List Due) → Held t s ds → length (opened t) ≤ 101 → s.closed ≡ false → must_end (known_of s.setup) t ≡ false
 goes_on t s ds h few on = or_from (calls_for_end (known_of s.setup) t) (is_spent t) (sym h.ends ∙ on) (spent t few)
@@ -148,12 +163,12 @@ module _ (t : List Entry) (s : State) (noted : Noted) (i : Inv t (idle s)) (x : 
       }
 
   -- one with a fault of the connection
-  came_fatal : (code : ℕ) (next : Table) → fault known t (Came noted) ≡ Some (Connection code) → is_lost t [] ≡ false → Held (Came noted ∷ t) (after s (Takes noted (Stopped code next))) (farewell s code)
-  came_fatal code next is kept =
+  came_fatal : (code : ℕ) (next : Table) → fault known t (Came noted) ≡ Some (Connection code) → opened (Came noted ∷ t) ≡ opened t → is_lost t [] ≡ false → Held (Came noted ∷ t) (after s (Takes noted (Stopped code next))) (farewell s code)
+  came_fatal code next is same kept =
       let h : Held t s [] = x.held kept in
-      let last : goaway s.high code ≡ goaway (highest t) code = ap (λ n. goaway n code) (sym (x.high on)) in
-      let due : due_frames (farewell s code) ≡ goaway (highest t) code ∷ [] = farewell_frames s code ∙ ap (λ f. f ∷ []) last in record {
-        owing = ap (λ xs. controls_in xs ++ controls (sent t)) due ∙ ap (λ xs. goaway (highest t) code ∷ xs) h.owing ∙ sym (owed_fatal s.setup t noted code is);
+      let last : goaway s.high code ≡ goaway (highest (Came noted ∷ t)) code = ap (λ n. goaway n code) (sym (ap (fold max 0) same ∙ x.high on)) in
+      let due : due_frames (farewell s code) ≡ goaway (highest (Came noted ∷ t)) code ∷ [] = farewell_frames s code ∙ ap (λ f. f ∷ []) last in record {
+        owing = ap (λ xs. controls_in xs ++ controls (sent t)) due ∙ ap (λ xs. goaway (highest (Came noted ∷ t)) code ∷ xs) h.owing ∙ sym (owed_fatal s.setup t noted code is);
         followed = inr (refl, (fatally known t (Came noted) (due_frames (farewell s code)) code is due, any_followed t s [] h on (due_frames (farewell s code))));
         ends = sym (ap is_fatal is);
         in_time = (goes_on t s [] h x.few on, h.in_time);
@@ -189,7 +204,7 @@ module _ (t : List Entry) (s : State) (noted : Noted) (i : Inv t (idle s)) (x : 
       let new : IsNewHead t noted may.fields = is_new t s noted route text request next i.giving i.living on note may in
       let more : opened (Came noted ∷ t) ≡ noted.frame.id ∷ opened t = new_head_opens new in
       let few : length (opened (Came noted ∷ t)) ≤ 100 = let size : length (opened (Came noted ∷ t)) ≡ suc (length (opened t)) = ap length more in let before = new.new.few in omega (arith, size, before) in
-      let none : fault known t (Came noted) ≡ None = new_head_passes (carried (course known noted.frame.id t)) (ap (λ (c : Course). c.items) (i.giving.fresh on noted.frame.id may.above)) new in
+      let none : fault known t (Came noted) ≡ None = new_head_passes (carried (course known noted.frame.id t)) (ap (λ (c : Course). is_begun c.items) (i.giving.fresh on noted.frame.id may.above)) new in
       let no_farewell : last_farewell t (Came noted) ≡ [] = no_farewell_few t (Came noted) few in
       let no_reset : resets known noted.frame.id t (Came noted) ≡ [] = resets_none_told s.setup t (Came noted) may.fields (told_here t s noted route text request next i.giving i.living on note may) in
       record {
@@ -208,6 +223,17 @@ module _ (t : List Entry) (s : State) (noted : Noted) (i : Inv t (idle s)) (x : 
   wrong_first : (code : ℕ) → code ≡ protocol_error → IsWrongFirst s noted → fault known t (Came noted) ≡ Some (Connection code)
   wrong_first code is w = wrong_first_fails t noted (carried (course known noted.frame.id t)) (i.giving.unsettled on w.first) w.wrong ∙ ap (λ c. Some (Connection c)) (sym is)
 
+  -- neither opens a stream
+  wrong_opens_none : IsWrongFirst s noted → opened (Came noted ∷ t) ≡ opened t
+  wrong_opens_none w =
+      ap (λ frames. if opens_by (opened t) (completed frames noted.frame) noted.note then noted.frame.id ∷ opened t else opened t) (i.giving.unsettled on w.first)
+      ∙ ap (λ b. if b then noted.frame.id ∷ opened t else opened t) (unread_opens_none (opened t) (completed [] noted.frame) noted.note w.note)
+
+  unreadable_opens_none : IsUnreadable s noted → opened (Came noted ∷ t) ≡ opened t
+  unreadable_opens_none u =
+      ap (λ note. if opens_by (opened t) (completed (came t) noted.frame) note then noted.frame.id ∷ opened t else opened t) u.note
+      ∙ ap (λ b. if b then noted.frame.id ∷ opened t else opened t) (undecodable_opens_none (opened t) (completed (came t) noted.frame))
+
   unreadable : (code : ℕ) → code ≡ compression_error → IsUnreadable s noted → fault known t (Came noted) ≡ Some (Connection code)
   unreadable code is u =
       let frame : IsNewFrame t noted = record {
@@ -215,7 +241,7 @@ module _ (t : List Entry) (s : State) (noted : Noted) (i : Inv t (idle s)) (x : 
         flags = u.flags;
         odd = u.odd;
         short = u.short;
-        not_first = i.giving.settled u.settled noted.frame;
+        not_first = i.giving.settled u.settled;
         none_begun = i.giving.no_block on;
         above = below_new noted.frame.id (opened t) (subst (λ n. n < noted.frame.id) (sym (x.high on)) u.above);
         few = let c = i.giving.count in let f = u.few in let n : length (opened t) ≡ length (opens t) = ap length (i.living.opened_are on) ∙ length-map (opens t) (λ (o : Opened). o.stream) in omega (arith, c, f, n);
@@ -235,8 +261,8 @@ module _ (t : List Entry) (s : State) (noted : Noted) (i : Inv t (idle s)) (x : 
         elim may [
           | inl given ↦ absurd (let f : true ≡ false = sym (ap (λ c. is_lost (Came noted ∷ t) (farewell s c)) given ∙ lost_by_farewell (Came noted ∷ t) s) ∙ kept in cc)
           | inr told ↦ elim told [
-            | inl w ↦ came_fatal code next (wrong_first code w.0 w.1) before
-            | inr u ↦ came_fatal code next (unreadable code u.0 u.1) before
+            | inl w ↦ came_fatal code next (wrong_first code w.0 w.1) (wrong_opens_none w.1) before
+            | inr u ↦ came_fatal code next (unreadable code u.0 u.1) (unreadable_opens_none u.1) before
           ]
         ];
   }

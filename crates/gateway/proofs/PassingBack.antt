@@ -1,6 +1,8 @@
 -- Octets of an upstream, and a response that is passed back, as moves.
-use Rattle.std.proofs.Common.{◌≡◌, ℕ, zero, suc, ◌<◌, ◌≤◌, true, false, Bool, List, [], ◌∷◌, ◌++◌, length, set, refl, sym, ◌∙◌, ap, subst, lit<, inl, inr}
+use Rattle.std.proofs.Common.{◌≡◌, ℕ, zero, suc, ◌+◌, ◌<◌, ◌≤◌, true, false, Bool, List, [], ◌∷◌, ◌++◌, length, set, refl, sym, ◌∙◌, ap, subst, lit<, inl, inr, length-append, arith}
 use Rattle.std.specs.Prelude.{Option, None, Some, nat_le}
+use Rattle.model.specs.Octets.{is_empty}
+use Rattle.model.specs.Messages.{Field}
 use Rattle.model.specs.Tables.{Table}
 use Rattle.model.specs.Blocks as blocks
 use Rattle.model.specs.ResponseHeads.{Head}
@@ -10,7 +12,8 @@ use Rattle.model.specs.Logs.Act.{Close}
 use Rattle.model.specs.Logs.Event.{Up}
 use Rattle.model.specs.Logs.Output.{ToClient, Does}
 use Rattle.model.specs.Tapes.{put}
-use Rattle.gateway.specs.Exchanges.{Awaited, head_after, body_of, section_of, exchange_at, with_exchange}
+use Rattle.model.specs.Admission.{high_water}
+use Rattle.gateway.specs.Exchanges.{Awaited, head_after, body_of, status_field, section_of, exchange_at, with_exchange}
 use Rattle.gateway.specs.Heard.{Gathers}
 use Rattle.gateway.specs.Connections.{without_exchange, awaiting, with_encoding, sent_frame, passed_back, put_response, Responds}
 use Rattle.gateway.specs.Moves.{Move, head_frame, last_data}
@@ -20,6 +23,7 @@ use Rattle.gateway.specs.Moves.Hearing.{Told, Completed}
 use Rattle.gateway.specs.State.{State, upstream_at, gathered_if, after}
 use Rattle.gateway.specs.Policy.{Pays, idle, Answers, IsUp, is_in_order, response_on, answer_exchange}
 use Rattle.gateway.specs.Policy.Due.{ToSend, ToSendHead, ToAct}
+use Rattle.model.proofs.BlockLaws.{field_some}
 use Rattle.gateway.proofs.Admitting.{is_up}
 use Rattle.gateway.proofs.Hearing.{and_left}
 use Rattle.gateway.proofs.Leading.{pays_then}
@@ -49,17 +53,38 @@ fits_head : (stream : ℕ) (ends : Bool) (block : List ℕ) → stream < 2147483
 fits_head stream true block low short = record { kind = lit< tt; flags = lit< tt; id = low; payload = short }
 fits_head stream false block low short = record { kind = lit< tt; flags = lit< tt; id = low; payload = short }
 
+-- a block of a field has octets
+block_some : (table : Table) (block : List ℕ) (field : Field) (fields : List Field) (next : Table) → blocks.IsBlock table block [] (field ∷ fields) next → is_empty block ≡ false
+block_some table block field fields next h =
+    let size = length-append h.front h.rest in
+    let whole : length block ≡ length (h.front ++ h.rest) = ap length h.is in
+    let first = h.are_fields in
+    let parts = length-append first.0 first.1 in
+    let rest : length h.rest ≡ length (first.0 ++ first.1) = ap length first.3 in
+    let some : 0 < length first.0 = field_some h.between first.2 first.0 field first.4 in
+    not_empty block (omega (arith, size, whole, parts, rest, some))
+  where
+    not_empty : (octets : List ℕ) → 0 < length octets → is_empty octets ≡ false
+    not_empty [] lt = absurd (omega (arith, lt))
+    not_empty (octet ∷ octets) lt = refl
+
+-- the room that is left behind a head
+below_behind : (stream : ℕ) (ends : Bool) (untaken : ℕ) (block : List ℕ) → untaken + (9 + length block) < high_water → untaken + length (spell (head_frame stream ends block)) < high_water
+below_behind stream ends untaken block below =
+    let size : length (spell (head_frame stream ends block)) ≡ 9 + length block = omega arith in
+    omega (arith, size, below)
+
 -- a response is sent
-pays_response : (s : State) (stream : ℕ) (head : Head) (body block : List ℕ) (next : Table) (o : List Output) → s.closed ≡ false → blocks.IsBlock s.encoding block [] (section_of head) next → stream < 2147483648 → length block ≤ 16384 → length body ≤ 16384 → length body ≤ s.window
+pays_response : (s : State) (stream : ℕ) (head : Head) (body block : List ℕ) (next : Table) (o : List Output) → s.closed ≡ false → blocks.IsBlock s.encoding block [] (section_of head) next → stream < 2147483648 → length block ≤ 16384 → length body ≤ 16384 → length body ≤ s.window → s.untaken + (9 + length block) < high_water
     → Pays (record { state = s; owes = response_on stream (Some head) body }) (idle (passed_back (with_encoding s next) stream block body)) o (put_response o stream block body)
-pays_response s stream head [] block next o on is_block low short short_body within =
-    pays_by s (ToSendHead stream (section_of head) true) [] (SendsHead stream (section_of head) true block next) o (record { turn = refl; holds = record { open_yet = on; is_block = is_block; fits = fits_head stream true block low short } }) refl
-pays_response s stream head (octet ∷ body) block next o on is_block low short short_body within =
+pays_response s stream head [] block next o on is_block low short short_body within below =
+    pays_by s (ToSendHead stream (section_of head) true) [] (SendsHead stream (section_of head) true block next) o (record { turn = refl; holds = record { open_yet = on; is_block = is_block; some = block_some s.encoding block (status_field head.status) head.fields next is_block; fits = fits_head stream true block low short; below = omega (arith, below) } }) refl
+pays_response s stream head (octet ∷ body) block next o on is_block low short short_body within below =
     let all : List ℕ = octet ∷ body in
     let s1 : State = sent_frame (with_encoding s next) (head_frame stream false block) in
     pays_then
-    (pays_by s (ToSendHead stream (section_of head) false) (ToSend (last_data stream all) ∷ []) (SendsHead stream (section_of head) false block next) o (record { turn = refl; holds = record { open_yet = on; is_block = is_block; fits = fits_head stream false block low short } }) refl)
-    (pays_by s1 (ToSend (last_data stream all)) [] (Sends (last_data stream all)) (put o (ToClient (spell (head_frame stream false block)))) (record { turn = refl; holds = record { fits = record { kind = lit< tt; flags = lit< tt; id = low; payload = short_body }; within = λ kind. within; no_reset = refl; no_block = refl } }) refl)
+    (pays_by s (ToSendHead stream (section_of head) false) (ToSend (last_data stream all) ∷ []) (SendsHead stream (section_of head) false block next) o (record { turn = refl; holds = record { open_yet = on; is_block = is_block; some = block_some s.encoding block (status_field head.status) head.fields next is_block; fits = fits_head stream false block low short; below = omega (arith, below) } }) refl)
+    (pays_by s1 (ToSend (last_data stream all)) [] (Sends (last_data stream all)) (put o (ToClient (spell (head_frame stream false block)))) (record { turn = refl; holds = record { fits = record { kind = lit< tt; flags = lit< tt; id = low; payload = short_body }; within = λ kind. within; below = λ kind. below_behind stream false s.untaken block below; no_reset = refl; no_block = refl } }) refl)
 
 -- octets that may come are those of a connection
 pub up_here : (s : State) (k : ℕ) (piece : List ℕ) → is_in_order s (Up k piece) ≡ true → IsUp s k
@@ -84,7 +109,7 @@ answers_whole s s' o o' k piece old new on order up found g (inr p) =
     let outs : List Output = put_response (put o (Does (Close k))) new.stream p.block new.body in
     let paid : Pays (record { state = s1; owes = ToAct (Close k) ∷ response_on new.stream (Some p.head) new.body }) (idle end) o outs =
     pays_then (pays_by s1 (ToAct (Close k)) (response_on new.stream (Some p.head) new.body) (Acts (Close k)) o (record { turn = refl; holds = record { counted = up.counted; within = up.within } }) refl)
-    (pays_response s2 new.stream p.head new.body p.block p.next (put o (Does (Close k))) on p.is_block p.stream p.short_block p.short_body p.within) in
+    (pays_response s2 new.stream p.head new.body p.block p.next (put o (Does (Close k))) on p.is_block p.stream p.short_block p.short_body p.within p.below) in
     subst (λ x. Answers s x o o' (OfEvent (Up k piece) ∷ [])) (sym p.state)
     (subst (λ x. Answers s end o x (OfEvent (Up k piece) ∷ [])) (sym p.outputs)
     (answers_from s end o outs m (OfEvent (Up k piece) ∷ []) (record { turn = record { open_yet = on; nothing = refl }; holds = (order, record { old = old; found = found; told = g.told; fits = subst (λ (x : Awaited). length x.body ≤ s.setup.max_response) g.is g.fits }) }) refl refl

@@ -107,7 +107,7 @@ kept_headed t s id fields ends block next ds g none h =
 -- ---- acts
 
 -- a list with an element at its end isn't empty
-not_bare : (os : List Opened) (o : Opened) → os ++ o ∷ [] ≡ [] → ⊥
+pub not_bare : (os : List Opened) (o : Opened) → os ++ o ∷ [] ≡ [] → ⊥
 not_bare [] o e = cc
 not_bare (p ∷ os) o e = cc
 

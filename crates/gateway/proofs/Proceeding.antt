@@ -199,16 +199,12 @@ kept_wrong_first t s noted next g a h on wrong =
     (λ stream. bare_interrupted s.setup stream t (Came noted) (ap (λ f. interrupts stream (Came noted) f (cause_for s.setup stream t (Came noted))) (fails stream)))
 
 -- a block that isn't read is no cause
-no_cause_block : (setup : Setup) (before : List Item) → cause_of_block setup before Undecodable ≡ None
-no_cause_block setup [] = refl
-no_cause_block setup (item ∷ before) = refl
-
 no_cause_unread : (setup : Setup) (stream : ℕ) (t : List Entry) (noted : Noted) → noted.frame.kind ≡ headers_kind → noted.note ≡ Undecodable → cause_for setup stream t (Came noted) ≡ None
 no_cause_unread setup stream t noted kind note =
     ap (λ c. if noted.frame.id == stream && nat_lt 0 stream then c else None) (judged (found_for setup stream t (Came noted))) ∙ either_none (noted.frame.id == stream && nat_lt 0 stream)
   where
-    frame_none : (block : Option Partial) → cause_of_frame setup (course (known_of setup) stream t).items block noted ≡ None
-    frame_none (Some block) = ap (cause_of_block setup (course (known_of setup) stream t).items) note ∙ no_cause_block setup (course (known_of setup) stream t).items
+    frame_none : (block : Option Partial) → cause_of_frame setup (carried (course (known_of setup) stream t)) block noted ≡ None
+    frame_none (Some block) = ap (cause_of_block setup (carried (course (known_of setup) stream t))) note
     frame_none None = ap (λ k. cause_if (k == data_kind && nat_lt setup.max_body (length (body_of (course (known_of setup) stream t).items) + length (content noted.frame))) LargeBody) kind
 
     judged : (found : Option Fault) → cause_at (known_of setup) (course (known_of setup) stream t) t (Came noted) found ≡ None

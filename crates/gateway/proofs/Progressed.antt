@@ -7,6 +7,7 @@ use Rattle.model.specs.Octets.{Joined}
 use Rattle.model.specs.Messages.{Request, Item}
 use Rattle.model.specs.Http1.{H1Requests, forward}
 use Rattle.model.specs.Http2.{H2Request}
+use Rattle.model.specs.Setup.{Setup}
 use Rattle.model.specs.Setup.Passing.{Whole, Streaming}
 use Rattle.model.specs.ResponseHeads.{Head, Interim}
 use Rattle.model.specs.Responses.{IsComplete, Seen}
@@ -15,15 +16,14 @@ use Rattle.model.specs.Tapes.{Entry, is_closed, sent_up}
 use Rattle.model.specs.Tapes.Entry.{Came, Breached, Happened, Sent, Did}
 use Rattle.model.specs.Openings.{Opened, opens, GoToOpen}
 use Rattle.model.specs.Admission.{is_open}
-use Rattle.model.specs.Available.{heard, has_ended, shown, IsIn, IsAnswered, IsBegun}
+use Rattle.model.specs.Available.{heard, heard_by, ended_by, shown, IsIn, IsShown}
 use Rattle.model.specs.Deliveries.{Delivery}
 use Rattle.model.specs.Lifetimes.{opened, is_opened, is_active, is_ended_by_client, is_ended_by_gateway, is_reset_by_client, is_reset_by_gateway}
 use Rattle.model.specs.Known.{Known}
 use Rattle.model.specs.Courses.{items}
 use Rattle.model.specs.Offers.{is_to_head}
-use Rattle.model.specs.RequestClause.{IsServed, AreServed}
-use Rattle.model.specs.ProgressClause.{IsForwarded, AllForwarded, NoneReady, Reason, AreClosed, IsDoneWith, ClosesRightly, ProgressHolds}
-use Rattle.model.specs.ProgressClause.Reason.{Over, Complete, Ended, Answered, ClientClosed}
+use Rattle.model.specs.ProgressClause.{IsForwarded, AllForwarded, AllStreamed, AreStreamedInTurn, NoneReady, Reason, IsDoneWith, ClosesRightly, ProgressHolds}
+use Rattle.model.specs.ProgressClause.Reason.{Over, Complete, Answered, ClientClosed}
 use Rattle.model.proofs.Http1Runs.{BeginsNone, one_joined}
 use Rattle.model.proofs.Http2Readings.{one_meaning}
 use Rattle.model.proofs.ResponseHeadReadings.{one_interim, none_without_head, none_at_final}
@@ -38,7 +38,7 @@ use Rattle.gateway.specs.Policy.{idle}
 use Rattle.gateway.proofs.Giving.{Serving}
 use Rattle.gateway.proofs.Awaiting.{serving_in, none_told}
 use Rattle.gateway.proofs.Standing.{Inv}
-use Rattle.gateway.proofs.Requesting.{requests_hold}
+use Rattle.gateway.proofs.Requesting.{is_served}
 use Rattle.model.specs.Faithful.{is_given_up}
 use Rattle.gateway.proofs.Progressing.{has_close, is_let_go, AreOpenBefore, Pending, Finished, IsThere, Kept, Progressing}
 use Rattle.model.proofs.OfferLemmas.{OffersNothing, nothing_goes}
@@ -77,20 +77,13 @@ none_led text parts to_head (inr b) none = subst (IsLed text) (none_told b.inter
 whole_shown : (d : Delivery) (interims : List Head) (head : Option Head) (octets : List ℕ) → d ≡ shown Whole interims head octets → interims ≡ [] → OffersNothing d
 whole_shown d interims head octets says none = (ap (λ (x : Delivery). x.interims) says ∙ none, ap (λ (x : Delivery). x.head) says)
 
-pending_offers : (t : List Entry) (s : State) (o : Opened) (delivery : Delivery) → Kept t s [] → Pending t s [] o → IsAnswered (heard o.k t) (has_ended o.k t) (is_to_head (items (known_of s.setup) o.stream t)) delivery ⊎ IsBegun Whole (heard o.k t) (has_ended o.k t) (is_to_head (items (known_of s.setup) o.stream t)) delivery → OffersNothing delivery
+pending_offers : (t : List Entry) (s : State) (o : Opened) (delivery : Delivery) → Kept t s [] → Pending t s [] o → IsShown Whole (heard_by o t) (ended_by o t) (is_to_head (items (known_of s.setup) o.stream t)) delivery → OffersNothing delivery
 pending_offers t s o delivery h p (inl answered) =
     let complete : IsComplete (heard o.k t) false p.reader.to_head = subst (λ b. IsComplete (heard o.k t) false b) (sym p.for_head) (subst (λ b. IsComplete (heard o.k t) b (is_to_head (items (known_of s.setup) o.stream t))) (h.not_ended o.k) (answered.response, answered.is_whole)) in
     absurd (not_done (heard o.k t) p.parts p.reader p.stands p.not_done complete)
 pending_offers t s o delivery h p (inr begun) =
     let none : IsLed (heard o.k t) [] = none_led (heard o.k t) p.parts p.reader.to_head (tells (heard o.k t) p.parts p.reader p.stands) p.no_interim in
     whole_shown delivery begun.interims begun.head begun.octets begun.says (one_led (heard o.k t) begun.interims [] (led (heard o.k t) (is_to_head (items (known_of s.setup) o.stream t)) begun.interims begun.head begun.octets begun.seen) none)
-
--- ---- one connection of those that were served
-
-served_in : (known : Known) (t : List Entry) (o : Opened) (os : List Opened) → AreServed known t os → IsIn o os → IsServed known t o
-served_in known t o [] all m = absurd m
-served_in known t o (p ∷ os) all (inl same) = subst (IsServed known t) (sym same) all.0
-served_in known t o (p ∷ os) all (inr m) = served_in known t o os all.1 m
 
 -- ---- streams that are over
 
@@ -117,7 +110,7 @@ module _ (t : List Entry) (s : State) (i : Inv t (idle s)) (h : Kept t s []) whe
   forwarded_by stream request means o m given =
       let own : Serving s.setup t [] o = serving_in s.setup t [] o (opens t) i.giving.serving m in
       let here : H2Request (items (known_of s.setup) o.stream t) request = subst (λ n. H2Request (items (known_of s.setup) n t) request) (sym given) means in
-      elim (served_in (known_of s.setup) t o (opens t) (requests_hold t s i).served m).sent [
+      elim (is_served t s i o m).sent [
         | inl whole ↦ record {
           o = o;
           given = record { is_opened = m; is_given = given };
@@ -140,7 +133,7 @@ module _ (t : List Entry) (s : State) (i : Inv t (idle s)) (h : Kept t s []) whe
   -- ---- responses
 
   offers_nothing : (stream : ℕ) (delivery : Delivery) → is_active stream t ≡ true → (o : Opened) → IsIn o (opens t) → o.stream ≡ stream
-      → IsAnswered (heard o.k t) (has_ended o.k t) (is_to_head (items (known_of s.setup) o.stream t)) delivery ⊎ IsBegun Whole (heard o.k t) (has_ended o.k t) (is_to_head (items (known_of s.setup) o.stream t)) delivery → OffersNothing delivery
+      → IsShown Whole (heard_by o t) (ended_by o t) (is_to_head (items (known_of s.setup) o.stream t)) delivery → OffersNothing delivery
   offers_nothing stream delivery active o m given answers = elim (h.stages o m) [
     | inl p ↦ pending_offers t s o delivery h p answers
     | inr f ↦ absurd (let clash : false ≡ true = sym (finished_over o m f) ∙ ap (λ n. is_active n t) given ∙ active in cc)
@@ -151,8 +144,8 @@ module _ (t : List Entry) (s : State) (i : Inv t (idle s)) (h : Kept t s []) whe
     | inl replied ↦ (let clash : None ≡ Some replied.cause = sym (h.calm stream) ∙ replied.has_cause in cc)
     | inr passed ↦ nothing_goes t stream ready.read ready.offered (
         offers_nothing stream ready.offered ready.is_active passed.o passed.given.is_opened passed.given.is_given
-        (subst (λ n. IsAnswered (heard passed.o.k t) (has_ended passed.o.k t) (is_to_head (items (known_of s.setup) n t)) ready.offered ⊎ IsBegun Whole (heard passed.o.k t) (has_ended passed.o.k t) (is_to_head (items (known_of s.setup) n t)) ready.offered) (sym passed.given.is_given)
-        (subst (λ p. IsAnswered (heard passed.o.k t) (has_ended passed.o.k t) (is_to_head (items (known_of s.setup) stream t)) ready.offered ⊎ IsBegun p (heard passed.o.k t) (has_ended passed.o.k t) (is_to_head (items (known_of s.setup) stream t)) ready.offered) servable.whole passed.answers))
+        (subst (λ n. IsShown Whole (heard_by passed.o t) (ended_by passed.o t) (is_to_head (items (known_of s.setup) n t)) ready.offered) (sym passed.given.is_given)
+        (subst (λ p. IsShown p (heard_by passed.o t) (ended_by passed.o t) (is_to_head (items (known_of s.setup) stream t)) ready.offered) servable.whole passed.shows))
         ) ready.can_go
   ]
 
@@ -187,7 +180,6 @@ module _ (t : List Entry) (s : State) (i : Inv t (idle s)) (h : Kept t s []) whe
   stays_open on o m p (Over over) = let clash : true ≡ false = sym (pending_active on o m p) ∙ over in cc
   stays_open on o m p (Complete complete) =
       not_done (heard o.k t) p.parts p.reader p.stands p.not_done (subst (λ b. IsComplete (heard o.k t) false b) (sym p.for_head) (subst (λ b. IsComplete (heard o.k t) b (is_to_head (items (known_of s.setup) o.stream t))) (h.not_ended o.k) complete))
-  stays_open on o m p (Ended ended) = let clash : false ≡ true = sym (h.not_ended o.k) ∙ ended in cc
   stays_open on o m p (Answered found caused) = let clash : None ≡ Some found = sym (h.calm o.stream) ∙ caused in cc
   stays_open on o m p (ClientClosed closed) = not_closed_yet on closed
 
@@ -197,10 +189,6 @@ module _ (t : List Entry) (s : State) (i : Inv t (idle s)) (h : Kept t s []) whe
       cases : (b : Bool) → s.closed ≡ b → ⊥
       cases true e = let clash : false ≡ true = h.shut e o.k opened in cc
       cases false e = elim (h.stages o m) [ inl p ↦ stays_open e o m p reason | inr f ↦ (let clash : false ≡ true = f.shut opened in cc) ]
-
-  are_closed : (os : List Opened) → ((o : Opened) → IsIn o os → IsIn o (opens t)) → AreClosed (known_of s.setup) t os
-  are_closed [] all = tt
-  are_closed (o ∷ os) all = (λ opened reason. none_done o (all o (inl refl)) opened reason, are_closed os (λ p m. all p (inr m)))
 
   -- what was closed is done with
   done_with : (k : ℕ) → has_close k t ≡ true → IsDoneWith (known_of s.setup) t k
@@ -232,6 +220,18 @@ module _ (t : List Entry) (s : State) (i : Inv t (idle s)) (h : Kept t s []) whe
 
 -- ---- the clause
 
+-- whole requests are passed on
+none_streamed : (setup : Setup) → IsServable setup → (t : List Entry) → AllStreamed (known_of setup) t
+none_streamed setup servable t passing = absurd (let clash : Whole ≡ Streaming = sym servable.whole ∙ passing in cc)
+
+in_turn : (setup : Setup) → IsServable setup → (t : List Entry) → AreStreamedInTurn (known_of setup) t
+in_turn setup servable [] = tt
+in_turn setup servable (Came noted ∷ t) = (none_streamed setup servable t, in_turn setup servable t)
+in_turn setup servable (Breached breach ∷ t) = (none_streamed setup servable t, in_turn setup servable t)
+in_turn setup servable (Happened event ∷ t) = (none_streamed setup servable t, in_turn setup servable t)
+in_turn setup servable (Sent noted ∷ t) = in_turn setup servable t
+in_turn setup servable (Did act ∷ t) = in_turn setup servable t
+
 pub progress_holds : (t before segment : List Entry) (s : State) → t ≡ segment ++ before → GoToOpen (segment ++ before) → IsServable s.setup → Inv t (idle s) → Progressing t s [] → is_given_up t ≡ false → ProgressHolds (known_of s.setup) before segment
 progress_holds t before segment s is go servable inv progressing on =
     let i : Inv (segment ++ before) (idle s) = subst (λ x. Inv x (idle s)) is inv in
@@ -239,9 +239,10 @@ progress_holds t before segment s is go servable inv progressing on =
     let up : is_given_up (segment ++ before) ≡ false = ap is_given_up (sym is) ∙ on in
     let h : Kept (segment ++ before) s [] = p.kept (ap (λ b. b || false) up) in record {
       forwarded = all_forwarded (segment ++ before) s i h;
-      streamed = λ passing. absurd (let clash : Whole ≡ Streaming = sym servable.whole ∙ passing in cc);
+      streamed = none_streamed s.setup servable (segment ++ before);
+      in_turn = in_turn s.setup servable (segment ++ before);
       none_ready = none_ready (segment ++ before) s i h servable;
-      closed = are_closed (segment ++ before) s i h (opens (segment ++ before)) (λ o m. m);
+      closed = none_done (segment ++ before) s i h;
       closes = closes_rightly (segment ++ before) s i h before segment h.open_before (λ k e. e);
       go_to_open = go;
     }

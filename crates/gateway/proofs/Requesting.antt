@@ -6,18 +6,21 @@ use Rattle.model.specs.Http2.{HasHead, WellFormedHead, H2Request}
 use Rattle.model.specs.Setup.{Setup}
 use Rattle.model.specs.Tapes.{Entry, sent_up}
 use Rattle.model.specs.Openings.{Opened, opens}
-use Rattle.model.specs.RequestClause.{IsServed, AreServed, RequestsHold}
+use Rattle.model.specs.Available.{IsIn}
+use Rattle.model.specs.RequestClause.{IsServed, RequestsHold}
 use Rattle.gateway.specs.Setups.{known_of}
 use Rattle.gateway.specs.State.{State}
 use Rattle.gateway.specs.Policy.{idle}
-use Rattle.gateway.proofs.Giving.{Serving, AllServing}
+use Rattle.gateway.proofs.Giving.{Serving}
+use Rattle.gateway.proofs.Awaiting.{serving_in}
+use Rattle.gateway.proofs.Opening.{Opening}
 use Rattle.gateway.proofs.Standing.{Inv}
 
 one_request_text : (text : List ℕ) (r : Request) → H1Request text r → H1Requests text (r ∷ []) []
 one_request_text text r h = record {
   front = text;
   is = sym (append-nil text);
-  are_requests = (text, [], h, sym (append-nil text), refl);
+  are_requests = h;
   no_more = λ front more request reads is. no_text front more request reads is;
 }
   where
@@ -42,9 +45,9 @@ served setup t o h = record {
   });
 }
 
-all_served : (setup : Setup) (t : List Entry) (os : List Opened) → AllServing setup t [] os → AreServed (known_of setup) t os
-all_served setup t [] h = tt
-all_served setup t (o ∷ os) h = (served setup t o h.0, all_served setup t os h.1)
+-- each connection that was opened is given to a stream that it serves
+pub is_served : (t : List Entry) (s : State) → Inv t (idle s) → (o : Opened) → IsIn o (opens t) → IsServed (known_of s.setup) t o
+is_served t s i o m = served s.setup t o (serving_in s.setup t [] o (opens t) i.giving.serving m)
 
-pub requests_hold : (t : List Entry) (s : State) → Inv t (idle s) → RequestsHold (known_of s.setup) t
-requests_hold t s i = record { numbered = i.giving.numbered; apart = i.giving.apart; served = all_served s.setup t (opens t) i.giving.serving }
+pub requests_hold : (t : List Entry) (s : State) → Inv t (idle s) → Opening t s [] → RequestsHold (known_of s.setup) t
+requests_hold t s i o = record { numbered = i.giving.numbered; apart = i.giving.apart; in_time = o.in_time; served = is_served t s i }

@@ -1,5 +1,5 @@
 -- Concern: what is awaited of the upstreams, and what each stream was sent or is to be.
-use Rattle.std.proofs.Common.{◌≡◌, ℕ, zero, suc, ◌<◌, ◌≤◌, true, false, Bool, ◌==◌, ◌&&◌, ◌||◌, List, [], ◌∷◌, ◌++◌, length, refl, sym, ◌∙◌, ap, subst, append_assoc, arith, if◌then◌else◌, inl, inr, ◌-◌}
+use Rattle.std.proofs.Common.{◌≡◌, ℕ, zero, suc, ◌<◌, ◌≤◌, true, false, Bool, ◌==◌, ◌&&◌, ◌||◌, List, [], ◌∷◌, ◌++◌, length, refl, sym, ◌∙◌, ap, subst, append_assoc, append-nil, arith, if◌then◌else◌, inl, inr, ◌-◌}
 use Rattle.std.specs.Prelude.{Option, None, Some, ◌⊎◌, cond}
 use Rattle.std.proofs.lemmas.List.{take_all, get_or-set_same, get_or-set_other}
 use Rattle.std.proofs.lemmas.List.Folds.{list_any-append}
@@ -19,14 +19,14 @@ use Rattle.model.specs.Tapes.Note.{NoBlock, Fields, Undecodable, Unread}
 use Rattle.model.specs.Tapes.Entry.{Happened, Sent}
 use Rattle.model.specs.Decoding.{Partial, begun, joined, completed, Decodes, IsNoteOf, is_read, are_read}
 use Rattle.model.specs.Streams.{frame_items}
-use Rattle.model.specs.Courses.{items}
+use Rattle.model.specs.Courses.{course, items, cause, first_of_both}
 use Rattle.model.specs.FrameErrors.{is_between}
 use Rattle.model.specs.ResponseClause.{AreTogether}
-use Rattle.model.specs.Offers.{WasOffered, is_to_head}
+use Rattle.model.specs.Offers.{WasOffered, IsGiven, is_to_head}
 use Rattle.gateway.specs.Setups.{known_of}
 use Rattle.model.specs.Openings.{Opened, opens, AreNumbered, AreApart, IsGivenNone}
-use Rattle.model.specs.Deliveries.{Delivery, ReadsAs}
-use Rattle.model.specs.Available.{heard, has_ended, items_on, IsIn, is_decoded, are_decoded}
+use Rattle.model.specs.Deliveries.{Delivery, ReadsAs, IsPartOf}
+use Rattle.model.specs.Available.{heard, has_ended, heard_by, ended_by, items_on, IsIn, IsShown, is_decoded, are_decoded}
 use Rattle.h1_reader.specs.Parts.{Part}
 use Rattle.h1_reader.specs.Parts.Part.{Interim, Final, Body, Done}
 use Rattle.h1_reader.specs.Standing.{Stands}
@@ -36,6 +36,7 @@ use Rattle.gateway.specs.Moves.{head_frame}
 use Rattle.gateway.specs.State.{State}
 use Rattle.gateway.specs.Policy.{Due, closes_from, farewell}
 use Rattle.gateway.specs.Policy.Due.{ToSend, ToSendHead, ToAct}
+use Rattle.gateway.proofs.Courses.{cause_for, over_stays, items_stay, no_cause_sent}
 use Rattle.gateway.proofs.Owed.{all_opens}
 use Rattle.gateway.proofs.Giving.{AreLow}
 
@@ -69,24 +70,75 @@ farewell_brings stream s code = no_items (0 == stream) (items_owed stream (close
 
 -- ---- what is awaited, and what was answered
 
--- The items are a response, or a part of one, that was available for the stream.
-pub record AnsweredBy (setup : Setup) (t : List Entry) (all : List Item) (stream : ℕ) : Type 0 where
+-- What a stream's upstream answered is on offer for it, and this is a part of it. The gateway doesn't answer the stream itself, and
+-- the client sends no more on it.
+pub record IsOn (setup : Setup) (t : List Entry) (stream : ℕ) (delivery : Delivery) : Type 0 where
+  pub calm : cause (known_of setup) stream t ≡ None
+  pub over : (course (known_of setup) stream t).over ≡ true
+  pub o : Opened
+  pub given : IsGiven t stream o
+  pub source : Delivery
+  pub shows : IsShown setup.passing (heard_by o t) (ended_by o t) (is_to_head (items (known_of setup) stream t)) source
+  pub part : IsPartOf delivery source
+
+-- The items are a response, or a part of one. It is on offer; or nothing more of it is owed, and it was on offer for the stream
+-- at a place behind which nothing more came on it.
+pub record AnsweredBy (setup : Setup) (t : List Entry) (ds : List Due) (stream : ℕ) : Type 0 where
   pub delivery : Delivery
-  pub reads : ReadsAs all delivery
-  pub was : WasOffered (known_of setup) t stream delivery
+  pub reads : ReadsAs (all_items stream t ds) delivery
+  pub was : IsOn setup t stream delivery ⊎ ((items_owed stream ds ≡ []) × WasOffered (known_of setup) t stream delivery)
 
-abbrev pub Answered : Setup → List Entry → List Item → ℕ → Type 0
-Answered setup t all stream = (all ≡ []) ⊎ AnsweredBy setup t all stream
+abbrev pub Answered : Setup → List Entry → List Due → ℕ → Type 0
+Answered setup t ds stream = (all_items stream t ds ≡ []) ⊎ AnsweredBy setup t ds stream
 
-pub answered_more : (setup : Setup) (t : List Entry) (e : Entry) (all : List Item) (stream : ℕ) → Answered setup t all stream → Answered setup (e ∷ t) all stream
-answered_more setup t e all stream (inl none) = inl none
-answered_more setup t e all stream (inr a) =
-    let w = a.was in
-    inr (record {
-      delivery = a.delivery;
-      reads = a.reads;
-      was = record { later = e ∷ w.later; earlier = w.earlier; is = ap (λ x. e ∷ x) w.is; source = w.source; offered = w.offered; part = w.part };
-    })
+-- what is on offer now was at this place
+pub was_on : (setup : Setup) (t : List Entry) (stream : ℕ) (delivery : Delivery) → IsOn setup t stream delivery → WasOffered (known_of setup) t stream delivery
+was_on setup t stream delivery h = record {
+  later = [];
+  earlier = t;
+  is = refl;
+  no_more = refl;
+  source = h.source;
+  offered = inr (record { no_reply = inl h.calm; o = h.o; given = h.given; shows = h.shows });
+  part = h.part;
+}
+
+-- It stays on offer, where nothing more of it is heard and the entry is no cause.
+abbrev pub StaysOn : Setup → List Entry → Entry → ℕ → Type 0
+StaysOn setup t e stream = (delivery : Delivery) → IsOn setup t stream delivery → IsOn setup (e ∷ t) stream delivery
+
+pub stays_on : (setup : Setup) (t : List Entry) (e : Entry) (stream : ℕ) → cause_for setup stream t e ≡ None → ((o : Opened) → heard_by o (e ∷ t) ≡ heard_by o t) → ((o : Opened) → ended_by o (e ∷ t) ≡ ended_by o t) → ((o : Opened) → IsIn o (opens t) → IsIn o (opens (e ∷ t))) → StaysOn setup t e stream
+stays_on setup t e stream none eh ee stay delivery h = record {
+  calm = ap (λ c. first_of_both c (cause_for setup stream t e)) h.calm ∙ none;
+  over = over_stays setup stream t e h.over;
+  o = h.o;
+  given = record { is_opened = stay h.o h.given.is_opened; is_given = h.given.is_given };
+  source = h.source;
+  shows = subst (λ xs. IsShown setup.passing (heard_by h.o (e ∷ t)) (ended_by h.o (e ∷ t)) (is_to_head xs) h.source) (sym (items_stay setup stream t e h.over))
+      (subst (λ b. IsShown setup.passing (heard_by h.o (e ∷ t)) b (is_to_head (items (known_of setup) stream t)) h.source) (sym (ee h.o))
+      (subst (λ x. IsShown setup.passing x (ended_by h.o t) (is_to_head (items (known_of setup) stream t)) h.source) (sym (eh h.o)) h.shows));
+  part = h.part;
+}
+
+-- What was answered stays so: where nothing was owed the stream, nothing came on it, and else it stays on offer.
+pub answered_more : (setup : Setup) (t : List Entry) (e : Entry) (ds ds' : List Due) (stream : ℕ) → all_items stream (e ∷ t) ds' ≡ all_items stream t ds
+    → (items_owed stream ds ≡ [] → (items_owed stream ds' ≡ []) × (items_on stream (sent (e ∷ t)) ≡ items_on stream (sent t)))
+    → (items_owed stream ds ≡ []) ⊎ StaysOn setup t e stream → Answered setup t ds stream → Answered setup (e ∷ t) ds' stream
+answered_more setup t e ds ds' stream same settled go (inl none) = inl (same ∙ none)
+answered_more setup t e ds ds' stream same settled go (inr a) = inr (record {
+  delivery = a.delivery;
+  reads = subst (λ x. ReadsAs x a.delivery) (sym same) a.reads;
+  was = elim a.was [
+    | inl on ↦ elim go [ inl none ↦ inr (later none (was_on setup t stream a.delivery on)) | inr stays ↦ inl (stays a.delivery on) ]
+    | inr past ↦ inr (later past.0 past.1)
+  ];
+})
+  where
+    later : items_owed stream ds ≡ [] → WasOffered (known_of setup) t stream a.delivery → (items_owed stream ds' ≡ []) × WasOffered (known_of setup) (e ∷ t) stream a.delivery
+    later none w = (
+      (settled none).0,
+      record { later = e ∷ w.later; earlier = w.earlier; is = ap (λ x. e ∷ x) w.is; no_more = (settled none).1 ∙ w.no_more; source = w.source; offered = w.offered; part = w.part },
+    )
 
 -- A response is awaited for the stream of a connection: its reader stands for all that was heard, what it told is kept, and
 -- the stream was sent nothing.
@@ -113,7 +165,7 @@ pub record Responding (t : List Entry) (s : State) (ds : List Due) : Type 0 wher
   pub count : s.closed ≡ false → length s.exchanges ≡ length (all_opens t ds)
   pub unheard : (k : ℕ) → length (opens t) < k → heard k t ≡ []
   pub not_ended : s.closed ≡ false → (k : ℕ) → has_ended k t ≡ false
-  pub answered : (stream : ℕ) → Answered s.setup t (all_items stream t ds) stream
+  pub answered : (stream : ℕ) → Answered s.setup t ds stream
   pub unsent : s.closed ≡ false → (stream : ℕ) → s.high < stream → all_items stream t ds ≡ []
 
 -- ---- nothing of it happens
@@ -127,6 +179,7 @@ pub record Idles (setup : Setup) (t : List Entry) (e : Entry) (ds ds' : List Due
   pub same_opens : all_opens (e ∷ t) ds' ≡ all_opens t ds
   pub no_fewer : length (opens t) ≤ length (opens (e ∷ t))
   pub same_heads : (o : Opened) → IsIn o (all_opens t ds) → items (known_of setup) o.stream (e ∷ t) ≡ items (known_of setup) o.stream t
+  pub offers : (stream : ℕ) → (items_owed stream ds ≡ []) ⊎ StaysOn setup t e stream
 
 pub same_items : (t : List Entry) (e : Entry) (ds ds' : List Due) (stream : ℕ) → sent (e ∷ t) ≡ sent t → items_owed stream ds' ≡ items_owed stream ds → all_items stream (e ∷ t) ds' ≡ all_items stream t ds
 same_items t e ds ds' stream es eo = ap (λ x. items_on stream x ++ items_owed stream ds') es ∙ ap (λ x. items_on stream (sent t) ++ x) eo
@@ -159,8 +212,8 @@ responding_idle t e s s' ds ds' h i es ec ex en eh = record {
   unheard = λ k lt. i.same_heard k ∙ h.unheard k (let n = i.no_fewer in omega (arith, n, lt));
   not_ended = λ on k. i.same_ended k ∙ h.not_ended (ec on) k;
   answered = λ stream.
-      subst (λ x. Answered s'.setup (e ∷ t) x stream) (sym (same_items t e ds ds' stream i.same_sent (i.same_owed stream)))
-      (subst (λ x. Answered x (e ∷ t) (all_items stream t ds) stream) (sym es) (answered_more s.setup t e (all_items stream t ds) stream (h.answered stream)));
+      subst (λ x. Answered x (e ∷ t) ds' stream) (sym es)
+      (answered_more s.setup t e ds ds' stream (same_items t e ds ds' stream i.same_sent (i.same_owed stream)) (λ none. (i.same_owed stream ∙ none, ap (items_on stream) i.same_sent)) (i.offers stream) (h.answered stream));
   unsent = λ on stream lt. same_items t e ds ds' stream i.same_sent (i.same_owed stream) ∙ h.unsent (ec on) stream (subst (λ n. n < stream) eh lt);
 }
 
@@ -176,8 +229,8 @@ responding_ends t e s s' ds' h es ec et none fewer eh = record {
   unheard = λ k lt. let lt' : length (opens t) < k = omega (arith, fewer, lt) in eh k lt' ∙ h.unheard k lt';
   not_ended = λ on. ended on;
   answered = λ stream.
-      subst (λ x. Answered s'.setup (e ∷ t) x stream) (sym (same_items t e [] ds' stream et (none stream)))
-      (subst (λ x. Answered x (e ∷ t) (all_items stream t []) stream) (sym es) (answered_more s.setup t e (all_items stream t []) stream (h.answered stream)));
+      subst (λ x. Answered x (e ∷ t) ds' stream) (sym es)
+      (answered_more s.setup t e [] ds' stream (same_items t e [] ds' stream et (none stream)) (λ quiet. (none stream, ap (items_on stream) et)) (inl refl) (h.answered stream));
   unsent = λ on. ended on;
 }
   where
@@ -185,6 +238,10 @@ responding_ends t e s s' ds' h es ec et none fewer eh = record {
     ended on = absurd (let f : true ≡ false = sym ec ∙ on in cc)
 
 -- ---- frames are sent
+
+pub none_both : {X : Type 0} (xs ys : List X) → xs ++ ys ≡ [] → (xs ≡ []) × (ys ≡ [])
+none_both [] ys e = (refl, e)
+none_both (x ∷ xs) ys e = absurd (let f : x ∷ (xs ++ ys) ≡ [] = e in cc)
 
 read_of_decoded : (ns : List Noted) → are_decoded ns ≡ true → are_read ns ≡ true
 read_of_decoded [] e = refl
@@ -229,6 +286,14 @@ module _ (t : List Entry) (s s' : State) (frame : Frame) (ds : List Due) (h : Re
       ap (λ b. (items_on stream (sent t) ++ (if frame.id == stream then frame_items b noted else [])) ++ items_owed stream ds) none
       ∙ append_assoc (items_on stream (sent t)) (if frame.id == stream then frame_items None noted else []) (items_owed stream ds)
 
+  -- where nothing was owed a stream, it got nothing
+  paid : (stream : ℕ) → items_owed stream due ≡ [] → (items_owed stream ds ≡ []) × (items_on stream (sent (Sent noted ∷ t)) ≡ items_on stream (sent t))
+  paid stream quiet =
+      let both = none_both (if frame.id == stream then frame_items None noted else []) (items_owed stream ds) quiet in (
+        both.1,
+        ap (λ b. items_on stream (sent t) ++ (if frame.id == stream then frame_items b noted else [])) none ∙ ap (λ x. items_on stream (sent t) ++ x) both.0 ∙ append-nil (items_on stream (sent t)),
+      )
+
   pub responding_sent : Responding (Sent noted ∷ t) s' ds
   responding_sent = record {
     encodes = (
@@ -247,8 +312,8 @@ module _ (t : List Entry) (s s' : State) (frame : Frame) (ds : List Due) (h : Re
     unheard = h.unheard;
     not_ended = λ on k. h.not_ended (sym ec ∙ on) k;
     answered = λ stream.
-        subst (λ x. Answered s'.setup (Sent noted ∷ t) x stream) (sym (moved stream))
-        (subst (λ x. Answered x (Sent noted ∷ t) (all_items stream t due) stream) (sym es) (answered_more s.setup t (Sent noted) (all_items stream t due) stream (h.answered stream)));
+        subst (λ x. Answered x (Sent noted ∷ t) ds stream) (sym es)
+        (answered_more s.setup t (Sent noted) due ds stream (moved stream) (paid stream) (inr (stays_on s.setup t (Sent noted) stream (no_cause_sent s.setup stream t noted) (λ o. refl) (λ o. refl) (λ o m. m))) (h.answered stream));
     unsent = λ on stream lt. moved stream ∙ h.unsent (sym ec ∙ on) stream (subst (λ n. n < stream) eh lt);
   }
 
@@ -281,6 +346,13 @@ module _ (t : List Entry) (s s' : State) (id : ℕ) (fields : List Field) (ends 
       ap (λ b. (items_on stream (sent t) ++ (if id == stream then frame_items b headed else [])) ++ items_owed stream ds) whole
       ∙ append_assoc (items_on stream (sent t)) (if id == stream then Block fields ends ∷ [] else []) (items_owed stream ds)
 
+  paid_head : (stream : ℕ) → items_owed stream due_head ≡ [] → (items_owed stream ds ≡ []) × (items_on stream (sent (Sent headed ∷ t)) ≡ items_on stream (sent t))
+  paid_head stream quiet =
+      let both = none_both (if id == stream then Block fields ends ∷ [] else []) (items_owed stream ds) quiet in (
+        both.1,
+        ap (λ b. items_on stream (sent t) ++ (if id == stream then frame_items b headed else [])) whole ∙ ap (λ x. items_on stream (sent t) ++ x) both.0 ∙ append-nil (items_on stream (sent t)),
+      )
+
   pub responding_head : Responding (Sent headed ∷ t) s' ds
   responding_head = record {
     encodes = (
@@ -299,8 +371,8 @@ module _ (t : List Entry) (s s' : State) (id : ℕ) (fields : List Field) (ends 
     unheard = h.unheard;
     not_ended = λ o k. h.not_ended on k;
     answered = λ stream.
-        subst (λ x. Answered s'.setup (Sent headed ∷ t) x stream) (sym (moved_head stream))
-        (subst (λ x. Answered x (Sent headed ∷ t) (all_items stream t due_head) stream) (sym es) (answered_more s.setup t (Sent headed) (all_items stream t due_head) stream (h.answered stream)));
+        subst (λ x. Answered x (Sent headed ∷ t) ds stream) (sym es)
+        (answered_more s.setup t (Sent headed) due_head ds stream (moved_head stream) (paid_head stream) (inr (stays_on s.setup t (Sent headed) stream (no_cause_sent s.setup stream t headed) (λ o. refl) (λ o. refl) (λ o m. m))) (h.answered stream));
     unsent = λ o stream lt. moved_head stream ∙ h.unsent on stream (subst (λ n. n < stream) eh lt);
   }
 

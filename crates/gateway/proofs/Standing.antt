@@ -1,5 +1,5 @@
 -- What holds behind moves each of which was allowed.
-use Rattle.std.proofs.Common.{◌≡◌, ℕ, zero, suc, ◌+◌, ◌==◌, true, false, Bool, ◌&&◌, ◌||◌, List, [], ◌∷◌, length, refl, sym, ◌∙◌, ap, subst, append_assoc, inl, length-append, arith}
+use Rattle.std.proofs.Common.{◌≡◌, ℕ, zero, suc, ◌+◌, ◌==◌, true, false, Bool, ◌&&◌, ◌||◌, List, [], ◌∷◌, length, refl, sym, ◌∙◌, ap, subst, append_assoc, inl, inr, length-append, arith}
 use Rattle.model.specs.Messages.{Field}
 use Rattle.model.specs.Tables.{Table, first_table}
 use Rattle.model.specs.Frames.{Frame, settings_frame, settings_ack, spell}
@@ -11,13 +11,15 @@ use Rattle.model.specs.Decoding.{begun, Decodes}
 use Rattle.model.specs.Lifetimes.{has_reset}
 use Rattle.model.specs.Tapes.Note.{NoBlock, Fields}
 use Rattle.model.specs.Tapes.Entry.{Came, Breached, Sent, Did}
-use Rattle.model.specs.Openings.{opens, last_stream}
+use Rattle.model.specs.Openings.{Opened, opens, last_stream}
+use Rattle.model.specs.Available.{IsIn}
 use Rattle.gateway.specs.Moves.{Move, entry_of, head_frame}
 use Rattle.gateway.specs.Moves.Move.{Takes, Breaks, Hears, Sends, SendsHead, Acts}
 use Rattle.gateway.specs.Moves.Outcome.{Settled, Served, Stopped}
 use Rattle.gateway.specs.State.{State, upstream_at, closed_up, sent_more, after, start}
 use Rattle.gateway.specs.Policy.{breach_code, Due, Point, point_after, resting, Allowed, rest_of, IsUp, MaySendHead, farewell}
 use Rattle.gateway.specs.Policy.Due.{ToSend, ToSendHead, ToAct}
+use Rattle.gateway.proofs.Courses.{no_cause_did}
 use Rattle.gateway.proofs.Owed.{to_open}
 use Rattle.gateway.proofs.Faultless.{IsNewHead, new_head_change_none, new_head_limit_none, IsFirstSettings, first_settings_change_none, first_settings_limit_none}
 use Rattle.gateway.proofs.Living.{Living, living_lasts, living_ends, lasts_beside}
@@ -27,7 +29,7 @@ use Rattle.gateway.proofs.Giving.{Giving, giving_none, giving_passes, passes_sen
 use Rattle.gateway.proofs.Taking.{are_first, is_new, giving_settled, giving_served, giving_stopped, giving_breached}
 use Rattle.gateway.proofs.Shutting.{Shutting, shutting_same, shutting_ends, shutting_paid, shutting_closed, farewell_ends}
 use Rattle.gateway.proofs.Admitting.{Admitting, admitting_same, admitting_changed, admitting_opened}
-use Rattle.gateway.proofs.Responding.{Responding, responding_idle, responding_ends, responding_sent, responding_head, no_items, farewell_brings, none_completed, whole_head}
+use Rattle.gateway.proofs.Responding.{Responding, StaysOn, stays_on, responding_idle, responding_ends, responding_sent, responding_head, no_items, farewell_brings, none_completed, whole_head}
 use Rattle.gateway.proofs.Awaiting.{items_stay, responding_served}
 use Rattle.gateway.proofs.Hearing.{with_length, sends_count, stays_open, stays_counted, giving_hears, shutting_hears, admitting_hears, responding_hears, living_hears, limiting_hears}
 
@@ -83,7 +85,7 @@ step_takes t s ds noted Settled h a = record {
   shutting = shutting_same t (Came noted) s (after s (Takes noted Settled)) ds _ h.shutting a.turn.open_yet refl refl (λ x. x);
   admitting = admitting_same t (Came noted) s (after s (Takes noted Settled)) h.admitting refl refl refl (λ k. refl) (λ k. refl);
   responding = responding_idle t (Came noted) s (after s (Takes noted Settled)) [] (ToSend settings_ack ∷ []) (calm t s ds h.responding a.turn.nothing)
-      (record { same_sent = refl; same_owed = λ stream. no_items (0 == stream) []; same_heard = λ k. refl; same_ended = λ k. refl; same_opens = refl; no_fewer = omega arith; same_heads = λ o m. items_stay t s [] (Came noted) o (quiet t s ds h.giving a.turn.nothing) m }) refl (λ o. o) refl refl refl;
+      (record { same_sent = refl; same_owed = λ stream. no_items (0 == stream) []; same_heard = λ k. refl; same_ended = λ k. refl; same_opens = refl; no_fewer = omega arith; same_heads = λ o m. items_stay t s [] (Came noted) o (quiet t s ds h.giving a.turn.nothing) m; offers = λ stream. inl refl }) refl (λ o. o) refl refl refl;
   limiting =
       let first : IsFirstSettings t noted = are_first t s noted (quiet t s ds h.giving a.turn.nothing) a.turn.open_yet a.holds.0 a.holds.1 in
       limiting_same t (Came noted) s (after s (Takes noted Settled)) h.limiting (λ keeps. keeps) (λ on. first_settings_change_none first) (λ on. first_settings_limit_none first) (λ on. on) (λ on. refl);
@@ -135,6 +137,10 @@ step_heads t s id fields ends block next ds h may =
           (whole_head (begun (sent t)) id ends block h.responding.no_block) may.is_block refl refl;
     }
 
+-- what is on offer stays so, whatever is done
+did_on : (setup : Setup) (t : List Entry) (act : Act) (stream : ℕ) → ((o : Opened) → IsIn o (opens t) → IsIn o (opens (Did act ∷ t))) → StaysOn setup t (Did act) stream
+did_on setup t act stream stay = stays_on setup t (Did act) stream (no_cause_did setup stream t act) (λ o. refl) (λ o. refl) stay
+
 step_acts : (t : List Entry) (s : State) (act : Act) (ds : List Due) → Inv t (record { state = s; owes = ToAct act ∷ ds }) → Allowed (record { state = s; owes = ToAct act ∷ ds }) (Acts act) → Inv (Did act ∷ t) (record { state = after s (Acts act); owes = ds })
 step_acts t s (Open k route) ds h a = record {
   giving = giving_opened t s (after s (Acts (Open k route))) k route ds h.giving a.holds refl (length-append s.upstreams (record { is_open = true; untaken = 0 } ∷ []) ∙ (omega arith)) refl refl refl refl;
@@ -143,7 +149,7 @@ step_acts t s (Open k route) ds h a = record {
   shutting = shutting_paid t (Did (Open k route)) s (after s (Acts (Open k route))) (ToAct (Open k route)) ds h.shutting refl refl (λ x. x) (λ x. x);
   admitting = admitting_opened t s (after s (Acts (Open k route))) k route h.admitting a.holds refl refl;
   responding = responding_idle t (Did (Open k route)) s (after s (Acts (Open k route))) (ToAct (Open k route) ∷ ds) ds h.responding
-      (record { same_sent = refl; same_owed = λ stream. refl; same_heard = λ j. refl; same_ended = λ j. refl; same_opens = sym (append_assoc (to_open (last_stream t) ds) (record { k = k; route = route; stream = last_stream t } ∷ []) (opens t)); no_fewer = omega arith; same_heads = λ o m. items_stay t s (ToAct (Open k route) ∷ ds) (Did (Open k route)) o h.giving m }) refl (λ o. o) refl refl refl;
+      (record { same_sent = refl; same_owed = λ stream. refl; same_heard = λ j. refl; same_ended = λ j. refl; same_opens = sym (append_assoc (to_open (last_stream t) ds) (record { k = k; route = route; stream = last_stream t } ∷ []) (opens t)); no_fewer = omega arith; same_heads = λ o m. items_stay t s (ToAct (Open k route) ∷ ds) (Did (Open k route)) o h.giving m; offers = λ stream. inr (did_on s.setup t (Open k route) stream (λ o m. inr m)) }) refl (λ o. o) refl refl refl;
 }
 step_acts t s (ToUp k octets) ds h a =
     let up : IsUp s k = a.holds.0 in record {
@@ -154,7 +160,7 @@ step_acts t s (ToUp k octets) ds h a =
       admitting = admitting_changed t (Did (ToUp k octets)) s (after s (Acts (ToUp k octets))) k (sent_more (length octets) (upstream_at s.upstreams k)) h.admitting up.counted up.within refl refl refl
           (λ j. stays_open t s k j h.admitting) (λ j. sends_count t s k j octets h.admitting);
       responding = responding_idle t (Did (ToUp k octets)) s (after s (Acts (ToUp k octets))) (ToAct (ToUp k octets) ∷ ds) ds h.responding
-          (record { same_sent = refl; same_owed = λ stream. refl; same_heard = λ j. refl; same_ended = λ j. refl; same_opens = refl; no_fewer = omega arith; same_heads = λ o m. items_stay t s (ToAct (ToUp k octets) ∷ ds) (Did (ToUp k octets)) o h.giving m }) refl (λ o. o) refl refl refl;
+          (record { same_sent = refl; same_owed = λ stream. refl; same_heard = λ j. refl; same_ended = λ j. refl; same_opens = refl; no_fewer = omega arith; same_heads = λ o m. items_stay t s (ToAct (ToUp k octets) ∷ ds) (Did (ToUp k octets)) o h.giving m; offers = λ stream. inr (did_on s.setup t (ToUp k octets) stream (λ o m. m)) }) refl (λ o. o) refl refl refl;
     }
 step_acts t s (Close k) ds h a =
     let up : IsUp s k = a.holds in record {
@@ -165,7 +171,7 @@ step_acts t s (Close k) ds h a =
       admitting = admitting_changed t (Did (Close k)) s (after s (Acts (Close k))) k (closed_up (upstream_at s.upstreams k)) h.admitting up.counted up.within refl refl refl
           (λ j. refl) (λ j. stays_counted t s k j h.admitting);
       responding = responding_idle t (Did (Close k)) s (after s (Acts (Close k))) (ToAct (Close k) ∷ ds) ds h.responding
-          (record { same_sent = refl; same_owed = λ stream. refl; same_heard = λ j. refl; same_ended = λ j. refl; same_opens = refl; no_fewer = omega arith; same_heads = λ o m. items_stay t s (ToAct (Close k) ∷ ds) (Did (Close k)) o h.giving m }) refl (λ o. o) refl refl refl;
+          (record { same_sent = refl; same_owed = λ stream. refl; same_heard = λ j. refl; same_ended = λ j. refl; same_opens = refl; no_fewer = omega arith; same_heads = λ o m. items_stay t s (ToAct (Close k) ∷ ds) (Did (Close k)) o h.giving m; offers = λ stream. inr (did_on s.setup t (Close k) stream (λ o m. m)) }) refl (λ o. o) refl refl refl;
     }
 step_acts t s CloseClient ds h a = record {
   giving = giving_passes t (Did CloseClient) s (after s (Acts CloseClient)) (ToAct CloseClient ∷ ds) ds h.giving (passes_end t ds) refl refl refl refl (λ o. o) refl;
@@ -174,7 +180,7 @@ step_acts t s CloseClient ds h a = record {
   shutting = shutting_closed t (Did CloseClient) s (after s (Acts CloseClient)) ds h.shutting refl refl;
   admitting = admitting_same t (Did CloseClient) s (after s (Acts CloseClient)) h.admitting refl refl refl (λ k. refl) (λ k. refl);
   responding = responding_idle t (Did CloseClient) s (after s (Acts CloseClient)) (ToAct CloseClient ∷ ds) ds h.responding
-      (record { same_sent = refl; same_owed = λ stream. refl; same_heard = λ j. refl; same_ended = λ j. refl; same_opens = refl; no_fewer = omega arith; same_heads = λ o m. items_stay t s (ToAct CloseClient ∷ ds) (Did CloseClient) o h.giving m }) refl (λ o. o) refl refl refl;
+      (record { same_sent = refl; same_owed = λ stream. refl; same_heard = λ j. refl; same_ended = λ j. refl; same_opens = refl; no_fewer = omega arith; same_heads = λ o m. items_stay t s (ToAct CloseClient ∷ ds) (Did CloseClient) o h.giving m; offers = λ stream. inr (did_on s.setup t CloseClient stream (λ o m. m)) }) refl (λ o. o) refl refl refl;
 }
 
 -- ---- any move that is allowed

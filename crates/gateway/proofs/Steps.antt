@@ -9,7 +9,7 @@ use Rattle.model.specs.Logs.{Event, Output, Step, client_in, client_octets}
 use Rattle.model.specs.Logs.Event.{Client, ClientEnd, ClientTook, Up, UpEnd, UpFailed, UpTook}
 use Rattle.model.specs.Logs.Act.{Open, ToUp, Close, CloseClient}
 use Rattle.model.specs.Setup.{Setup}
-use Rattle.model.specs.Tapes.{Entry, came, frames_of, breaches, is_closed, CanBeSpelled, EndsWithClose, listed}
+use Rattle.model.specs.Tapes.{Entry, came, frames_of, breaches, is_closed, CanBeSpelled, EndsWithClose, ActsFollow, listed}
 use Rattle.model.specs.Tapes.Breach.{WrongPreface}
 use Rattle.model.specs.Decoding.{are_read}
 use Rattle.model.specs.Admission as admission
@@ -41,6 +41,7 @@ use Rattle.gateway.proofs.Requesting.{requests_hold}
 use Rattle.gateway.proofs.Completing.{responses_hold}
 use Rattle.gateway.proofs.Leading.{leads_then, AllAllowed-append, after_all-append, inputs-append}
 use Rattle.gateway.proofs.Coming.{events_in, happened_by, outputs_by, in_events}
+use Rattle.gateway.proofs.Following.{resting_acts, follow_none, follow_one}
 use Rattle.gateway.proofs.Told.{Tells, tells_same, tells_waits, tells_departs, tells_goes}
 
 -- ---- what holds behind all moves
@@ -173,6 +174,7 @@ pub record Stepped (k k' : Kept) (event : Event) (o : List Output) (text : List 
   pub segment : List Move
   pub leads : Leads (resting k.state) (idle k'.state) [] o segment
   pub events : events_in (inputs segment) ≡ listed event
+  pub acts_follow : ActsFollow (tape_of segment)
   pub tells : (is_closed (tape_of segment ++ tape) ≡ false → k'.state.closed ≡ false) → Tells k' text (tape_of segment ++ tape)
 
 stood : (k' : Kept) (log : List Step) (tape : List Entry) (event : Event) (o : List Output) (k : Kept) (text : List ℕ) (s : Stepped k k' event o text tape) (setup : Setup) → k'.state.setup ≡ setup → IsServable setup → (all : List Move) → tape_of s.segment ++ tape ≡ tape_of all → resting k'.state ≡ after_all point_after (resting (start setup)) all
@@ -208,10 +210,10 @@ stands_then k k' log tape event o h admitted greeted s =
     let by_tape : admission.is_admitted tape event ≡ true = sym (admitted_same tape k.state event before) ∙ admitted in
     let taped : IsTaped (known_of setup) log (record { event = event; outputs = reverse o }) tape (tape_of s.segment) = record {
       admitted = record { in_order = by_tape; fits = fits_room setup tape event h.servable.whole by_tape };
-      step_is = record { spelled = spelled_frames (resting k.state) s.segment s.leads.allowed; put_out = ap reverse (s.leads.outputs ∙ outputs_by s.segment); event = happened_by s.segment ∙ s.events };
+      step_is = record { spelled = spelled_frames (resting k.state) s.segment s.leads.allowed; put_out = ap reverse (s.leads.outputs ∙ outputs_by s.segment); event = happened_by s.segment ∙ s.events; acts_follow = s.acts_follow };
       told = record { read = tells.read; table = i.giving.decodes.0; decodes = i.giving.decodes.1; unread = unread_ends (tape_of s.segment ++ tape) k'.state i; ends = subst EndsWithClose (sym same_tape) (ends_with_close setup all allowed) };
       clauses = record {
-        requests = subst (λ x. RequestsHold (known_of x) (tape_of s.segment ++ tape)) same_setup (requests_hold (tape_of s.segment ++ tape) k'.state i);
+        requests = subst (λ x. RequestsHold (known_of x) (tape_of s.segment ++ tape)) same_setup (requests_hold (tape_of s.segment ++ tape) k'.state i besides.opening);
         responses = subst (λ x. ResponsesHold (known_of x) (tape_of s.segment ++ tape)) same_setup (responses_hold (tape_of s.segment ++ tape) k'.state i.responding i.limiting.keeps);
         windows = subst (λ x. WindowsHold (known_of x) (tape_of s.segment ++ tape)) same_setup (windows_hold (tape_of s.segment ++ tape) k'.state (subst IsServable (sym same_setup) h.servable) i besides.windowing);
         go_to_open = to_open;
@@ -244,6 +246,7 @@ onward_other k g k' o1 o event text tape b gp gb kept none a ep eb is_listed no_
         segment = a.segment ++ b.pays.segment;
         leads = joins k g k' o1 o a.segment b a.leads;
         events = ap events_in ins ∙ sym is_listed;
+        acts_follow = follow_one (resting k.state) (a.segment ++ b.pays.segment) event (resting_acts k.state.greeted) (joins k g k' o1 o a.segment b a.leads).allowed ins;
         tells = λ open_yet. tells_same k k' text (text ++ client_octets event) tape (a.segment ++ b.pays.segment) event kept none ins (ap (λ x. text ++ x) no_octets ∙ append-nil text) (ep ∙ gp) (eb ∙ gb);
       };
     }
@@ -266,6 +269,7 @@ onward_waits k g k' o1 o piece text tape b kept none w =
         segment = [] ++ b.pays.segment;
         leads = joins k g k' o1 o [] b stay;
         events = ap events_in ins;
+        acts_follow = follow_none b.pays.segment (ap events_in ins);
         tells = λ open_yet. tells_waits g k' o1 o text piece (g.partial ++ piece) tape ([] ++ b.pays.segment) kept none w refl ins;
       };
     }
@@ -278,6 +282,7 @@ onward_departs k g k' o1 o piece text tape b kept none d =
         segment = d.segment ++ b.pays.segment;
         leads = joins k g k' o1 o d.segment b d.leads;
         events = ap events_in ins;
+        acts_follow = follow_none (d.segment ++ b.pays.segment) (ap events_in ins);
         tells = λ open_yet. tells_departs g k' o1 o text piece (g.partial ++ piece) tape (d.segment ++ b.pays.segment) kept none d refl ins;
       };
     }
@@ -285,12 +290,16 @@ onward_departs k g k' o1 o piece text tape b kept none d =
 onward_goes : (k g k' : Kept) (o1 o : List Output) (piece text : List ℕ) (tape : List Entry) → Begins k.state g.state [] o1 → IsKeptOf g.begun g text tape → breaches tape ≡ [] → GoesOn g k' o1 o (g.partial ++ piece) → Onward k k' (Client piece) o (text ++ piece) tape
 onward_goes k g k' o1 o piece text tape b kept none n =
     let takes = n.goes.takes in
-    let ins : inputs (takes.segment ++ b.pays.segment) ≡ inputs takes.segment = joined_inputs k g o1 takes.segment b in record {
+    let ins : inputs (takes.segment ++ b.pays.segment) ≡ inputs takes.segment = joined_inputs k g o1 takes.segment b in
+    let no_events : events_in (inputs (takes.segment ++ b.pays.segment)) ≡ [] =
+    ap events_in ins ∙ elim takes.came_in [ inl e ↦ ap events_in e ∙ in_events takes.frames | inr e ↦ ap events_in e.0 ∙ in_events takes.frames ] in
+    record {
       greeted = stays_greeted k g k' o1 o takes.segment b takes.leads;
       stepped = record {
         segment = takes.segment ++ b.pays.segment;
         leads = joins k g k' o1 o takes.segment b takes.leads;
-        events = ap events_in ins ∙ elim takes.came_in [ inl e ↦ ap events_in e ∙ in_events takes.frames | inr e ↦ ap events_in e.0 ∙ in_events takes.frames ];
+        events = no_events;
+        acts_follow = follow_none (takes.segment ++ b.pays.segment) no_events;
         tells = λ open_yet. tells_goes g k' o1 o text piece (g.partial ++ piece) tape (takes.segment ++ b.pays.segment) kept none n refl ins open_yet;
       };
     }

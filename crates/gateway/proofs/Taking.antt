@@ -17,6 +17,7 @@ use Rattle.model.specs.Tapes.Entry.{Came, Breached, Happened, Sent, Did}
 use Rattle.model.specs.Decoding.{Partial, begun, joined, completed, is_read, are_read, Decodes, IsNoteOf}
 use Rattle.model.specs.Streams.{block_items, frame_items, items_of, is_ended_by, is_reset}
 use Rattle.model.specs.Openings.{Opened, opens, last_stream, AreNumbered, AreApart, IsGivenNone}
+use Rattle.model.specs.Malformed.{is_begun}
 use Rattle.model.specs.Lifetimes.{opened}
 use Rattle.model.specs.Causes.{Cause, cause_if}
 use Rattle.model.specs.Causes.Cause.{LargeBody}
@@ -78,7 +79,7 @@ module _ (t : List Entry) (s : State) (noted : Noted) (h : Giving t s []) (on : 
   settings_no_cause stream =
       let old : Course = course (known_of s.setup) stream t in
       let none : cause_at (known_of s.setup) old t settings_came None ≡ None =
-      ap (λ b. cause_of_frame s.setup old.items b noted) none_complete
+      ap (λ b. cause_of_frame s.setup (carried old) b noted) none_complete
       ∙ ap (λ k. cause_if (k == data_kind && nat_lt s.setup.max_body (length (body_of old.items) + length (content noted.frame))) LargeBody) may.kind in
       ap (λ f. new_cause (known_of s.setup) stream t settings_came old f) (settings_no_fault stream)
       ∙ ap (λ c. if noted.frame.id == stream && nat_lt 0 stream then c else None) none ∙ either (noted.frame.id == stream && nat_lt 0 stream)
@@ -117,7 +118,7 @@ module _ (t : List Entry) (s : State) (noted : Noted) (h : Giving t s []) (on : 
         untold_stays s.setup stream t settings_came (h.fresh on stream lt) (settings_no_cause stream) (ap (is_ended_by (noted.frame.id == stream)) (settings_no_fault stream)) (no_reset_by stream noted (ap (λ k. k == rst_stream_kind) may.kind)) (settings_no_item stream);
     no_block = λ o. no_begin;
     all_read = λ o. and_true (is_read noted.note) (are_read (came t)) (ap is_read may.note) (h.all_read on);
-    settled = λ f frame. refl;
+    settled = λ f. refl;
     unsettled = λ o f. absurd (let g : true ≡ false = f in cc);
     decodes = (s.table, decodes_more t s [] noted s.table h on note, (λ o. refl));
   }
@@ -140,7 +141,7 @@ new_frame t s noted g l on settled above kind flags odd short few = record {
   flags = flags;
   odd = odd;
   short = short;
-  not_first = g.settled settled noted.frame;
+  not_first = g.settled settled;
   none_begun = g.no_block on;
   above = subst (λ ids. list_all (λ other. nat_lt other noted.frame.id) ids ≡ true) (sym (l.opened_are on)) (all_below noted.frame.id s.high (opens t) above g.low);
   few = let c = g.count in let n : length (opened t) ≡ length (opens t) = ap length (l.opened_are on) ∙ length-map (opens t) (λ (o : Opened). o.stream) in omega (arith, c, few, n);
@@ -184,15 +185,15 @@ module _ (t : List Entry) (s : State) (noted : Noted) (route : ℕ) (text : List
   fresh_here = h.fresh on noted.frame.id may.above
 
   no_fault : (stream : ℕ) → course (known_of s.setup) stream t ≡ untold → found_for s.setup stream t e ≡ None
-  no_fault stream is = new_head_passes (carried (course (known_of s.setup) stream t)) (ap (λ (c : Course). c.items) is) is_new
+  no_fault stream is = new_head_passes (carried (course (known_of s.setup) stream t)) (ap (λ (c : Course). is_begun c.items) is) is_new
 
   no_cause_here : cause_for s.setup noted.frame.id t e ≡ None
   no_cause_here =
       let old : Course = course (known_of s.setup) noted.frame.id t in
       let none : cause_at (known_of s.setup) old t e None ≡ None =
-      ap (λ b. cause_of_frame s.setup old.items b noted) completes
-      ∙ ap (λ (c : Course). cause_of_block s.setup c.items noted.note) fresh_here
-      ∙ ap (cause_of_block s.setup []) may.note
+      ap (λ b. cause_of_frame s.setup (carried old) b noted) completes
+      ∙ ap (λ (c : Course). cause_of_block s.setup (carried c) noted.note) fresh_here
+      ∙ ap (cause_of_block s.setup (carried untold)) may.note
       ∙ no_cause_of_head s.setup may.fields route may.small (ap is_connect may.means.has_head ∙ may.means.no_connect) may.no_expect (subst (λ x. HasLength (declared_length x) []) (sym may.means.has_head) may.means.length_holds) may.by_route in
       ap (λ f. new_cause (known_of s.setup) noted.frame.id t e old f) (no_fault noted.frame.id fresh_here)
       ∙ ap (λ c. if noted.frame.id == noted.frame.id && nat_lt 0 noted.frame.id then c else None) none ∙ either (noted.frame.id == noted.frame.id && nat_lt 0 noted.frame.id)
@@ -261,7 +262,7 @@ module _ (t : List Entry) (s : State) (noted : Noted) (route : ℕ) (text : List
         ap (λ b. if b then None else joined (begun (came t)) noted.frame) ends
         );
     all_read = λ o. and_true (is_read noted.note) (are_read (came t)) (ap is_read may.note) (h.all_read on);
-    settled = λ f frame. refl;
+    settled = λ f. refl;
     unsettled = λ o f. absurd (let g : true ≡ false = sym may.settled ∙ f in cc);
     decodes = (next, decodes_more t s [] noted next h on note, (λ o. refl));
   }
@@ -287,7 +288,7 @@ giving_stopped t s noted code next h on note =
       fresh = λ o. absurd (let f : true ≡ false = o in cc);
       no_block = λ o. absurd (let f : true ≡ false = o in cc);
       all_read = λ o. absurd (let f : true ≡ false = o in cc);
-      settled = λ e frame. refl;
+      settled = λ e. refl;
       unsettled = λ o. absurd (let f : true ≡ false = o in cc);
       decodes = (note.0, decodes_more t s [] noted note.0 h on note.1, (λ o. absurd (let f : true ≡ false = o in cc)));
     }

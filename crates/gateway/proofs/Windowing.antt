@@ -24,7 +24,7 @@ use Rattle.model.specs.FrameErrors.{frame_fault, sound}
 use Rattle.model.specs.Windows.{first_window, sending_window}
 use Rattle.model.specs.SettingValues.{initial_window_after}
 use Rattle.model.specs.WindowsOnTape.{data_length, data_octets, increment, increments, is_on, is_any, first_size}
-use Rattle.model.specs.WindowClause.{IsWithinWindows, KeepsWindows, kept, kept_in_all, WindowsHold}
+use Rattle.model.specs.WindowClause.{IsWithinWindows, KeepsWindows, GivesNoMore, kept, kept_in_all, WindowsHold}
 use Rattle.h1_reader.specs.Parts.{Part}
 use Rattle.h1_reader.specs.Standing.{State as Reader}
 use Rattle.gateway.specs.Setups.{known_of, IsServable}
@@ -142,6 +142,7 @@ no_octets stream (noted ∷ before) e =
 -- is kept is what the connection's window leaves.
 pub record Windowing (t : List Entry) (s : State) (ds : List Due) : Type 0 where
   pub keeps : KeepsWindows t
+  pub no_more : GivesNoMore t
   pub none_given : (id : ℕ) → increments id (sent t) ≡ 0
   pub owed : AreFirst (sent t) ds
   pub ended : s.closed ≡ true → ArePlain ds
@@ -152,6 +153,7 @@ pub record Windowing (t : List Entry) (s : State) (ds : List Due) : Type 0 where
 pub windowing_start : (setup : Setup) → IsServable setup → Windowing [] (start setup) (ToSend settings_frame ∷ [])
 windowing_start setup servable = record {
   keeps = tt;
+  no_more = tt;
   none_given = λ id. refl;
   owed = (refl, (λ is. other_kind settings_frame.kind data_kind is refl), tt);
   ended = λ e. absurd (let f : false ≡ true = e in cc);
@@ -161,11 +163,12 @@ windowing_start setup servable = record {
 }
 
 -- nothing is sent, and no window changes
-module _ (t : List Entry) (e : Entry) (s s' : State) (ds ds' : List Due) (h : Windowing t s ds) (keeps : KeepsWindows t → KeepsWindows (e ∷ t)) (same_sent : sent (e ∷ t) ≡ sent t) (ew : s'.window ≡ s.window) where
+module _ (t : List Entry) (e : Entry) (s s' : State) (ds ds' : List Due) (h : Windowing t s ds) (keeps : KeepsWindows t → KeepsWindows (e ∷ t)) (no_more : GivesNoMore t → GivesNoMore (e ∷ t)) (same_sent : sent (e ∷ t) ≡ sent t) (ew : s'.window ≡ s.window) where
   pub windowing_same : s'.closed ≡ s.closed → s.closed ≡ false → AreFirst (sent t) ds' → ((id : ℕ) → increments id (sound t) ≡ 0 → increments id (sound (e ∷ t)) ≡ 0) → ((test : ℕ → Bool) → data_octets test (came t) ≡ 0 → data_octets test (came (e ∷ t)) ≡ 0)
       → Windowing (e ∷ t) s' ds'
   windowing_same ec on first granted arrived = record {
     keeps = keeps h.keeps;
+    no_more = no_more h.no_more;
     none_given = λ id. ap (increments id) same_sent ∙ h.none_given id;
     owed = subst (λ x. AreFirst x ds') (sym same_sent) first;
     ended = λ c. absurd (let f : true ≡ false = sym c ∙ ec ∙ on in cc);
@@ -178,6 +181,7 @@ module _ (t : List Entry) (e : Entry) (s s' : State) (ds ds' : List Due) (h : Wi
   pub windowing_ends : s'.closed ≡ true → ArePlain ds' → Windowing (e ∷ t) s' ds'
   windowing_ends ec none = record {
     keeps = keeps h.keeps;
+    no_more = no_more h.no_more;
     none_given = λ id. ap (increments id) same_sent ∙ h.none_given id;
     owed = plain_first (sent (e ∷ t)) ds' none;
     ended = λ c. none;
@@ -203,7 +207,7 @@ no_grant id t noted kind old = elim (is_none (frame_fault t (Came noted))) as (�
 
 windowing_frame : (t : List Entry) (s s' : State) (ds ds' : List Due) (noted : Noted) → Windowing t s ds → s'.closed ≡ s.closed → s.closed ≡ false → s'.window ≡ s.window → AreFirst (sent t) ds' → (noted.frame.kind == data_kind) ≡ false → (noted.frame.kind == window_update_kind) ≡ false
     → Windowing (Came noted ∷ t) s' ds'
-windowing_frame t s s' ds ds' noted h ec on ew first no_data no_update = windowing_same t (Came noted) s s' ds ds' h (λ keeps. keeps) refl ew ec on first (λ id. no_grant id t noted no_update) (λ test. no_data_more test (came t) noted no_data)
+windowing_frame t s s' ds ds' noted h ec on ew first no_data no_update = windowing_same t (Came noted) s s' ds ds' h (λ keeps. keeps) (λ more. more) refl ew ec on first (λ id. no_grant id t noted no_update) (λ test. no_data_more test (came t) noted no_data)
 
 windowing_takes : (t : List Entry) (s : State) (ds : List Due) (noted : Noted) (outcome : Outcome) → Windowing t s ds → Allowed (record { state = s; owes = ds }) (Takes noted outcome) → Windowing (Came noted ∷ t) (after s (Takes noted outcome)) (owes_after s ds (Takes noted outcome))
 windowing_takes t s ds noted Settled h a =
@@ -212,7 +216,7 @@ windowing_takes t s ds noted Settled h a =
 windowing_takes t s ds noted (Served route text request next) h a =
     let may = a.holds.1 in
     windowing_frame t s (after s (Takes noted (Served route text request next))) ds _ noted h refl a.turn.open_yet refl tt (ap (λ k. k == data_kind) may.kind) (ap (λ k. k == window_update_kind) may.kind)
-windowing_takes t s ds noted (Stopped code next) h a = windowing_ends t (Came noted) s (after s (Takes noted (Stopped code next))) ds (farewell s code) h (λ keeps. keeps) refl refl refl (plain_farewell s code)
+windowing_takes t s ds noted (Stopped code next) h a = windowing_ends t (Came noted) s (after s (Takes noted (Stopped code next))) ds (farewell s code) h (λ keeps. keeps) (λ more. more) refl refl refl (plain_farewell s code)
 
 -- ---- an event
 
@@ -226,16 +230,16 @@ completed_first t s k piece added reader g r on order may =
     subst (λ x. AreFirst (sent t) (answer_exchange k x added)) (sym may.found) (response_first (sent t) may.old.stream (head_after may.old.head added) (may.old.body ++ body_of added) (no_octets may.old.stream (sent t) none))
 
 windowing_hears : (t : List Entry) (s : State) (ds : List Due) (event : Event) (hearing : Hearing) → Windowing t s ds → Giving t s [] → Responding t s [] → s.closed ≡ false → is_in_order s event ≡ true → MayHear s event hearing → Windowing (Happened event ∷ t) (after s (Hears event hearing)) (answer_hearing s event hearing)
-windowing_hears t s ds (Client piece) Noticed h g r on order may = windowing_same t (Happened (Client piece)) s (after s (Hears (Client piece) Noticed)) ds [] h (λ keeps. keeps) refl refl refl on tt (λ id x. x) (λ test x. x)
-windowing_hears t s ds ClientEnd Noticed h g r on order may = windowing_ends t (Happened ClientEnd) s (after s (Hears ClientEnd Noticed)) ds (closes s) h (λ keeps. keeps) refl refl refl (plain_closes 1 s.upstreams)
-windowing_hears t s ds (ClientTook count) Noticed h g r on order may = windowing_same t (Happened (ClientTook count)) s (after s (Hears (ClientTook count) Noticed)) ds [] h (λ keeps. keeps) refl refl refl on tt (λ id x. x) (λ test x. x)
-windowing_hears t s ds (Up k piece) Noticed h g r on order may = windowing_same t (Happened (Up k piece)) s (after s (Hears (Up k piece) Noticed)) ds [] h (λ keeps. keeps) refl refl refl on tt (λ id x. x) (λ test x. x)
-windowing_hears t s ds (UpEnd k) Noticed h g r on order may = windowing_same t (Happened (UpEnd k)) s (after s (Hears (UpEnd k) Noticed)) ds [] h (λ keeps. keeps) refl refl refl on tt (λ id x. x) (λ test x. x)
-windowing_hears t s ds (UpFailed k) Noticed h g r on order may = windowing_same t (Happened (UpFailed k)) s (after s (Hears (UpFailed k) Noticed)) ds [] h (λ keeps. keeps) refl refl refl on tt (λ id x. x) (λ test x. x)
-windowing_hears t s ds (UpTook k count) Noticed h g r on order may = windowing_same t (Happened (UpTook k count)) s (after s (Hears (UpTook k count) Noticed)) ds [] h (λ keeps. keeps) refl refl refl on tt (λ id x. x) (λ test x. x)
-windowing_hears t s ds event (Told added reader) h g r on order may = windowing_same t (Happened event) s (after s (Hears event (Told added reader))) ds [] h (λ keeps. keeps) refl refl refl on tt (λ id x. x) (λ test x. x)
+windowing_hears t s ds (Client piece) Noticed h g r on order may = windowing_same t (Happened (Client piece)) s (after s (Hears (Client piece) Noticed)) ds [] h (λ keeps. keeps) (λ more. more) refl refl refl on tt (λ id x. x) (λ test x. x)
+windowing_hears t s ds ClientEnd Noticed h g r on order may = windowing_ends t (Happened ClientEnd) s (after s (Hears ClientEnd Noticed)) ds (closes s) h (λ keeps. keeps) (λ more. more) refl refl refl (plain_closes 1 s.upstreams)
+windowing_hears t s ds (ClientTook count) Noticed h g r on order may = windowing_same t (Happened (ClientTook count)) s (after s (Hears (ClientTook count) Noticed)) ds [] h (λ keeps. keeps) (λ more. more) refl refl refl on tt (λ id x. x) (λ test x. x)
+windowing_hears t s ds (Up k piece) Noticed h g r on order may = windowing_same t (Happened (Up k piece)) s (after s (Hears (Up k piece) Noticed)) ds [] h (λ keeps. keeps) (λ more. more) refl refl refl on tt (λ id x. x) (λ test x. x)
+windowing_hears t s ds (UpEnd k) Noticed h g r on order may = windowing_same t (Happened (UpEnd k)) s (after s (Hears (UpEnd k) Noticed)) ds [] h (λ keeps. keeps) (λ more. more) refl refl refl on tt (λ id x. x) (λ test x. x)
+windowing_hears t s ds (UpFailed k) Noticed h g r on order may = windowing_same t (Happened (UpFailed k)) s (after s (Hears (UpFailed k) Noticed)) ds [] h (λ keeps. keeps) (λ more. more) refl refl refl on tt (λ id x. x) (λ test x. x)
+windowing_hears t s ds (UpTook k count) Noticed h g r on order may = windowing_same t (Happened (UpTook k count)) s (after s (Hears (UpTook k count) Noticed)) ds [] h (λ keeps. keeps) (λ more. more) refl refl refl on tt (λ id x. x) (λ test x. x)
+windowing_hears t s ds event (Told added reader) h g r on order may = windowing_same t (Happened event) s (after s (Hears event (Told added reader))) ds [] h (λ keeps. keeps) (λ more. more) refl refl refl on tt (λ id x. x) (λ test x. x)
 windowing_hears t s ds event (Completed added reader) h g r on order may =
-    windowing_same t (Happened event) s (after s (Hears event (Completed added reader))) ds (answer_hearing s event (Completed added reader)) h (λ keeps. keeps) refl refl refl on (first event order may) (λ id x. x) (λ test x. x)
+    windowing_same t (Happened event) s (after s (Hears event (Completed added reader))) ds (answer_hearing s event (Completed added reader)) h (λ keeps. keeps) (λ more. more) refl refl refl on (first event order may) (λ id x. x) (λ test x. x)
   where
     first : (event : Event) → is_in_order s event ≡ true → MayHear s event (Completed added reader) → AreFirst (sent t) (answer_hearing s event (Completed added reader))
     first (Client piece) order may = absurd may
@@ -245,7 +249,7 @@ windowing_hears t s ds event (Completed added reader) h g r on order may =
     first (UpEnd k) order may = absurd may
     first (UpFailed k) order may = absurd may
     first (UpTook k count) order may = absurd may
-windowing_hears t s ds event (Abandoned left encoding) h g r on order may = windowing_ends t (Happened event) s (after s (Hears event (Abandoned left encoding))) ds _ h (λ keeps. keeps) refl refl refl (plain_farewell (noticed s event) internal_error)
+windowing_hears t s ds event (Abandoned left encoding) h g r on order may = windowing_ends t (Happened event) s (after s (Hears event (Abandoned left encoding))) ds _ h (λ keeps. keeps) (λ more. more) refl refl refl (plain_farewell (noticed s event) internal_error)
 
 -- ---- a debt is paid
 
@@ -288,6 +292,7 @@ module _ (t : List Entry) (s : State) (frame : Frame) (ds : List Due) (h : Windo
   windowing_sent : Windowing (Sent noted ∷ t) (after s (Sends frame)) ds
   windowing_sent = record {
     keeps = ((λ is some. fits_windows is), h.keeps);
+    no_more = ((λ is. other_kind frame.kind window_update_kind is h.owed.0), h.no_more);
     none_given = λ id. no_update_more id (sent t) noted h.owed.0 (h.none_given id);
     owed = elim (eqb_tells frame.kind data_kind) [
       | inl x ↦ plain_first (noted ∷ sent t) ds (h.owed.1 x.1).1
@@ -305,6 +310,7 @@ windowing_headed t s s' noted id fields ends ds h kind ec ew =
     let no_data : (noted.frame.kind == data_kind) ≡ false = ap (λ k. k == data_kind) kind in
     let none : (test : ℕ → Bool) → data_length test noted.frame ≡ 0 = λ test. ap (λ b. if b && test noted.frame.id then length noted.frame.payload else 0) no_data in record {
       keeps = ((λ is some. other_kind noted.frame.kind data_kind is no_data), h.keeps);
+      no_more = ((λ is. other_kind noted.frame.kind window_update_kind is (ap (λ k. k == window_update_kind) kind)), h.no_more);
       none_given = λ stream. no_update_more stream (sent t) noted (ap (λ k. k == window_update_kind) kind) (h.none_given stream);
       owed = first_stays (sent t) noted ds none h.owed;
       ended = λ c. h.ended (sym ec ∙ c);
@@ -320,6 +326,7 @@ windowing_headed t s s' noted id fields ends ds h kind ec ew =
 windowing_acts : (t : List Entry) (s s' : State) (act : Act) (ds : List Due) → Windowing t s (ToAct act ∷ ds) → s'.closed ≡ s.closed → s'.window ≡ s.window → Windowing (Did act ∷ t) s' ds
 windowing_acts t s s' act ds h ec ew = record {
   keeps = h.keeps;
+  no_more = h.no_more;
   none_given = h.none_given;
   owed = h.owed;
   ended = λ c. h.ended (sym ec ∙ c);
@@ -332,7 +339,7 @@ windowing_acts t s s' act ds h ec ew = record {
 
 pub windowing_step : (t : List Entry) (s : State) (ds : List Due) (m : Move) → IsServable s.setup → Inv t (record { state = s; owes = ds }) → Windowing t s ds → Allowed (record { state = s; owes = ds }) m → Windowing (entry_of m ∷ t) (after s m) (owes_after s ds m)
 windowing_step t s ds (Takes noted outcome) servable i h a = windowing_takes t s ds noted outcome h a
-windowing_step t s ds (Breaks breach) servable i h a = windowing_ends t (Breached breach) s (after s (Breaks breach)) ds (farewell s (breach_code breach)) h (λ keeps. keeps) refl refl refl (plain_farewell s (breach_code breach))
+windowing_step t s ds (Breaks breach) servable i h a = windowing_ends t (Breached breach) s (after s (Breaks breach)) ds (farewell s (breach_code breach)) h (λ keeps. keeps) (λ more. more) refl refl refl (plain_farewell s (breach_code breach))
 windowing_step t s ds (Hears event hearing) servable i h a = windowing_hears t s ds event hearing h (quiet t s ds i.giving a.turn.nothing) (subst (Responding t s) a.turn.nothing i.responding) a.turn.open_yet a.holds.0 a.holds.1
 windowing_step t s ds (Sends frame) servable i h a = windowing_sent t s frame (rest_of ds) (subst (Windowing t s) a.turn h) i.limiting a.holds
 windowing_step t s ds (SendsHead id fields ends block next) servable i h a =
@@ -360,6 +367,7 @@ open_unless_closed t s i on = cases s.closed refl
 pub windows_hold : (t : List Entry) (s : State) → IsServable s.setup → Inv t (idle s) → Windowing t s [] → WindowsHold (known_of s.setup) t
 windows_hold t s servable i h = record {
   keeps = h.keeps;
+  no_more = h.no_more;
   gives_back = λ is.
       let on : s.closed ≡ false = open_unless_closed t s i is in record {
         shared = is_as_first (increments 0 (sent t)) (data_octets is_any (came t)) (kept_in_all s.setup.passing t) (h.none_given 0) (h.none_came on is_any) (ap (λ p. kept_in_all p t) servable.whole ∙ none_kept (active t));

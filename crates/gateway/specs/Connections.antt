@@ -14,6 +14,7 @@ use Rattle.model.specs.Logs.Act.{Close, CloseClient}
 use Rattle.model.specs.Logs.Output.{ToClient, Does}
 use Rattle.model.specs.Setup.{Route, IsFirstMatch}
 use Rattle.model.specs.Tapes.{put}
+use Rattle.model.specs.Admission.{high_water}
 use Rattle.header_blocks.specs.Bounds.{IsBounded as IsTableBounded}
 use Rattle.model.specs.ResponseHeads.{Head}
 use Rattle.model.specs.Blocks as blocks
@@ -178,7 +179,8 @@ pub record IsLeft (old new : State) (o o' : List Output) : Type 0 where
   pub state : new ≡ left (with_encoding old encoding) internal_error
   pub outputs : o' ≡ put_farewell o old internal_error
 
--- The connection of a whole response is closed, and the response is passed back on its stream.
+-- The connection of a whole response is closed, and the response is passed back on its stream. Behind its head there are still
+-- fewer octets untaken than the high water.
 pub record IsPassedBack (old new : State) (k : ℕ) (e : Awaited) (o o' : List Output) : Type 0 where
   pub head : Head
   pub has_head : e.head ≡ Some head
@@ -189,6 +191,7 @@ pub record IsPassedBack (old new : State) (k : ℕ) (e : Awaited) (o o' : List O
   pub short_block : length block ≤ 16384
   pub short_body : length e.body ≤ 16384
   pub within : length e.body ≤ old.window
+  pub below : old.untaken + (9 + length block) < high_water
   pub state : new ≡ passed_back (with_encoding (after old (Acts (Close k))) next) e.stream block e.body
   pub outputs : o' ≡ put_response (put o (Does (Close k))) e.stream block e.body
 

@@ -1,5 +1,6 @@
 -- What the gateway may do: which move may come next, by its state and by what it owes.
 use Rattle.std.specs.Prelude.{◌≡◌, ℕ, suc, ◌%◌, ◌<◌, ◌≤◌, ◌==◌, Bool, true, false, not, ◌&&◌, ◌||◌, ◌⊎◌, nat_le, if◌then◌else◌, List, [], ◌∷◌, ◌++◌, length, Option, None, Some, is_none, codes}
+use Rattle.model.specs.Octets.{is_empty}
 use Rattle.model.specs.Messages.{Field, Request}
 use Rattle.model.specs.Messages.Item.{Block}
 use Rattle.model.specs.Tables.{Table, total_size}
@@ -16,6 +17,7 @@ use Rattle.model.specs.Tapes.{Noted, Breach}
 use Rattle.model.specs.Tapes.Breach.{WrongPreface, TooLong}
 use Rattle.model.specs.Tapes.Note.{NoBlock, Fields, Undecodable}
 use Rattle.model.specs.Decoding.{completed, IsNoteOf, is_read}
+use Rattle.model.specs.Admission.{high_water}
 use Rattle.model.specs.Causes.{has_field}
 use Rattle.h1_reader.specs.Parts.{Part}
 use Rattle.h1_reader.specs.Standing.{State as Reader}
@@ -142,18 +144,22 @@ MayHear s event (Completed added reader) = MayTellOf s event added reader true
 MayHear s event (Abandoned left encoding) = is_upstreams event ≡ true
 
 -- The frame can be spelled, ends no stream by force and is no part of a header block; as DATA it is within the window of the
--- connection.
+-- connection, and begun below the high water.
 pub record MaySend (s : State) (frame : Frame) : Type 0 where
   pub fits : Fits frame
   pub within : frame.kind ≡ data_kind → length frame.payload ≤ s.window
+  pub below : frame.kind ≡ data_kind → s.untaken < high_water
   pub no_reset : (frame.kind == rst_stream_kind) ≡ false
   pub no_block : (frame.kind == headers_kind || frame.kind == continuation_kind) ≡ false
 
--- The block says the fields, over the table towards the client and without maxima, and can be spelled.
+-- The block says the fields, over the table towards the client and without maxima, has octets and can be spelled; it is begun
+-- below the high water.
 pub record MaySendHead (s : State) (stream : ℕ) (fields : List Field) (ends : Bool) (block : List ℕ) (next : Table) : Type 0 where
   pub open_yet : s.closed ≡ false
   pub is_block : blocks.IsBlock s.encoding block [] fields next
+  pub some : is_empty block ≡ false
   pub fits : Fits (head_frame stream ends block)
+  pub below : s.untaken < high_water
 
 abbrev pub Holds : State → Move → Type 0
 Holds s (Takes noted outcome) = IsNoted s.table noted outcome × MayBe s noted outcome

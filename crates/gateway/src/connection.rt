@@ -1,6 +1,6 @@
 //! A client's connection: what is kept of it, and what its frames and the other events do.
 
-ghost use Rattle.std.specs.Prelude.{◌≡◌, ◌≢◌, ◌≤◌, ◌<◌, ◌++◌, suc, length, drop, List, [], ◌∷◌, OnOk, IfOk, IfErr, IfSome, false, true};
+ghost use Rattle.std.specs.Prelude.{◌≡◌, ◌≢◌, ◌≤◌, ◌<◌, ◌+◌, ◌++◌, suc, length, drop, List, [], ◌∷◌, OnOk, IfOk, IfErr, IfSome, false, true};
 ghost use Rattle.gateway.specs.Exchanges.{exchange_at, IsSmall};
 ghost use Rattle.gateway.specs.Moves.{head_frame, last_data};
 ghost use Rattle.model.specs.Frames.{spell, spell_number, settings_frame, settings_ack};
@@ -41,7 +41,7 @@ const LIST_LIMIT: usize = 16384;
 /// The octets of DATA that the client takes of the whole connection (RFC 9113, section 6.9.2).
 const FIRST_WINDOW: usize = 65535;
 
-/// How many octets for the client may not be taken when a response begins.
+/// From so many octets on that the client hasn't taken no part of a response begins.
 const HIGH_WATER: u64 = 65536;
 
 /// The longest payload of a frame (RFC 9113, section 4.2).
@@ -446,14 +446,15 @@ impl Connection {
         }
     }
 
-    /// Whether a response may go out now: its block and its body in a frame each, within the window and the high water.
+    /// Whether a response may go out now: its block and its body in a frame each, both begun below the high water, and the body
+    /// within the window.
     fn may_respond(&self, block: usize, body: usize) -> bool
-        ensures { result ≡ true → (block ≤ 16384) × (body ≤ 16384) × (body ≤ self.now.window) × (self.now.untaken ≤ 65535) }
+        ensures { result ≡ true → (block ≤ 16384) × (body ≤ 16384) × (body ≤ self.now.window) × (self.now.untaken + (9 + block) < 65536) }
     {
         block <= LONGEST_PAYLOAD
             && body <= LONGEST_PAYLOAD
             && body <= self.window
-            && self.untaken < HIGH_WATER
+            && self.untaken + 9 + (block as u64) < HIGH_WATER
     }
 
     /// Closes the connection of a response that is whole and passes it back, where it may go out.

@@ -1,5 +1,6 @@
-use Rattle.std.proofs.Common.{◌≡◌, ◌<◌, ◌≤◌, [], ◌++◌, length, refl, inl, inr, ap, sym, ◌∙◌, subst, arith}
+use Rattle.std.proofs.Common.{◌≡◌, ◌+◌, ◌<◌, ◌≤◌, [], ◌++◌, length, refl, inl, inr, ap, sym, ◌∙◌, subst, arith}
 use Rattle.model.specs.Blocks as blocks
+use Rattle.model.specs.Admission.{high_water}
 use Rattle.gateway.specs.Exchanges.{section_of}
 use Rattle.gateway.specs.Connections.{passed_back, put_response}
 use Rattle.std.specs.List.{All}
@@ -38,6 +39,7 @@ returns-clause-responds c =
       short_block = subst (λ xs. length xs ≤ 16384) block (let n = c.len.ensures in let f = fits.0 in omega (arith, n, f));
       short_body = subst (λ xs. length xs ≤ 16384) c.into_response-head.ensures.body (let n = c.len-2.ensures in let f = fits.1 in omega (arith, n, f));
       within = subst (λ xs. length xs ≤ c.self.inside.window) c.into_response-head.ensures.body (let n = c.len-2.ensures in let f = fits.2 in omega (arith, n, f));
+      below = subst (λ xs. c.self.inside.untaken + (9 + length xs) < high_water) block (let n = c.len.ensures in let f = fits.3 in omega (arith, n, f));
       state = es ∙ ap (λ n. passed_back c.drop_upstream.new.self n c.deref-2.result.now c.deref-3.result.now) stream ∙ ap (λ x. passed_back c.drop_upstream.new.self c.args.exchange.stream x c.deref-3.result.now) sent_block ∙ ap (λ x. passed_back c.drop_upstream.new.self c.args.exchange.stream written.written x) body
           ∙ ap (λ s. passed_back s c.args.exchange.stream written.written c.args.exchange.body) c.drop_upstream.ensures.state;
       outputs = eo ∙ ap (λ n. put_response c.close_up.new.self n c.deref-2.result.now c.deref-3.result.now) stream ∙ ap (λ x. put_response c.close_up.new.self c.args.exchange.stream x c.deref-3.result.now) sent_block ∙ ap (λ x. put_response c.close_up.new.self c.args.exchange.stream written.written x) body

@@ -16,7 +16,7 @@ use Rattle.h1_reader.specs.declared.chunk_line.LinePlace.{LinePlace}
 use Rattle.h1_reader.specs.declared.fault.ResponseFault.{ResponseFault}
 use Rattle.h1_reader.specs.declared.fault.ResponseFault.TheVariants as fault
 use Rattle.h1_reader.specs.declared.reader.Place.TheVariants.{Head, Line, ChunkEnd, ChunkReturn, Trailers, Broken}
-use Rattle.h1_reader.proofs.Steps.{at, Taken}
+use Rattle.h1_reader.proofs.Steps.{at}
 
 -- ---- heads
 
@@ -156,12 +156,3 @@ pub first_fails : (old : State) (octets : List ℕ) (result : Result ℕ Respons
 first_fails old octets (Ok used) some h = tt
 first_fails old [] (Err f) some h = absurd (omega arith)
 first_fails old (octet ∷ octets) (Err f) some h = λ _. h octets
-
-fails_then : (a b : State) (f : ResponseFault) (xs ys : List ℕ) (p : List Part) → Hears a xs p b → Fails b ys f → Fails a (xs ++ ys) f
-fails_then a b f xs ys p h k text before s =
-    let there : FaultStands f ((text ++ xs) ++ ys) b.to_head = k (text ++ xs) (before ++ p) (h.stands text before s) in
-    let same : FaultStands f ((text ++ xs) ++ ys) a.to_head = subst (λ (t : Bool). FaultStands f ((text ++ xs) ++ ys) t) h.same there in
-    subst (λ (o : List ℕ). FaultStands f o a.to_head) (append_assoc text xs ys) same
-
-pub taken_fails : (a b : State) (t0 t1 : List Part) (f : ResponseFault) (octets rest : List ℕ) → Taken a t0 octets rest t1 b → Fails b rest f → Fails a octets f
-taken_fails a b t0 t1 f octets rest i h = subst (λ (o : List ℕ). Fails a o f) (sym i.2) (fails_then a b f i.0 rest i.1 i.4 h)

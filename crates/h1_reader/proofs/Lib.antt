@@ -9,6 +9,7 @@ pub mod TrailerLemmas
 pub mod Steps
 pub mod ChunkSteps
 pub mod ChunkEnds
+pub mod Joining
 pub mod Ends
 pub mod Telling
 pub mod Noticed

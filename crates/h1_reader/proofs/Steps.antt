@@ -331,32 +331,9 @@ hears_final old mid new count xs head framing t0 t1 t2 e p same begins told = (
   },
 )
 
-nil_of : (xs : List ℕ) → (length xs == 0) ≡ true → xs ≡ []
+pub nil_of : (xs : List ℕ) → (length xs == 0) ≡ true → xs ≡ []
 nil_of [] e = refl
 nil_of (x ∷ xs) e = let none : length (x ∷ xs) ≡ 0 = eqb-true (length (x ∷ xs)) 0 e in absurd (omega arith)
-
--- what a loop over all octets has taken
-abbrev pub Taken : State → List Part → List ℕ → List ℕ → List Part → State → Type 0
-Taken a t0 octets rest t1 b = (taken : List ℕ) × (added : List Part) × (octets ≡ taken ++ rest) × (t1 ≡ t0 ++ added) × Hears a taken added b
-
-pub taken_more : (a b c : State) (t0 t1 t2 : List Part) (octets rest : List ℕ) (used : ℕ) → Taken a t0 octets rest t1 b
-    → ((added : List Part) × (t2 ≡ t1 ++ added) × Hears b (take used rest) added c) → Taken a t0 octets (drop used rest) t2 c
-taken_more a b c t0 t1 t2 octets rest used i r = (
-  i.0 ++ take used rest,
-  i.1 ++ r.0,
-  i.2 ∙ ap (λ (o : List ℕ). i.0 ++ o) (sym (take-append-drop used rest)) ∙ sym (append_assoc i.0 (take used rest) (drop used rest)),
-  r.1 ∙ ap (λ (o : List Part). o ++ r.0) i.3 ∙ append_assoc t0 i.1 r.0,
-  hears_then a b c i.0 (take used rest) i.1 r.0 i.4 r.2,
-)
-
-pub taken_all : (a b : State) (t0 t1 : List Part) (octets rest : List ℕ) → Taken a t0 octets rest t1 b → (length rest == 0) ≡ true
-    → (added : List Part) × (t1 ≡ t0 ++ added) × Hears a octets added b
-taken_all a b t0 t1 octets rest i e =
-    let all : octets ≡ i.0 = i.2 ∙ ap (λ (o : List ℕ). i.0 ++ o) (nil_of rest e) ∙ append-nil i.0 in
-    (i.1, i.3, subst (λ (o : List ℕ). Hears a o i.1 b) (sym all) i.4)
-
-pub taken_none : (a : State) (t0 : List Part) (octets : List ℕ) → Taken a t0 octets octets t0 a
-taken_none a t0 octets = ([], [], refl, sym (append-nil t0), hears_none a)
 
 -- a new reader stands for nothing
 pub stands_new : (to_head : Bool) (held : List ℕ) → held ≡ [] → Stands [] [] (record { to_head = to_head; place = Head 0; held = held })

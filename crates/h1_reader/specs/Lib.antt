@@ -5,6 +5,7 @@ pub mod Trailers
 pub mod Heads
 pub mod HeadSizes
 pub mod Standing
+pub mod GoesOn
 pub mod Begins
 pub mod Faults
 pub mod Told

@@ -146,11 +146,7 @@ fn push_with_one_length(
 }
 
 /// The fields without what framing leaves no meaning (RFC 9112, sections 6.1 to 6.3).
-fn without_framing(
-    alloc: Global,
-    status: u16,
-    fields: Vec<Field>,
-) -> Result<Vec<Field>, AllocError>
+fn without_framing(alloc: Global, status: u16, fields: Vec<Field>) -> Result<Vec<Field>, AllocError>
     ensures { IfOk result (λ kept. kept.items ≡ without_framing status fields.items) }
 {
     let mut fields = fields;
@@ -167,11 +163,7 @@ fn without_framing(
 }
 
 /// The fields of a head that are passed back (RFC 9110, section 7.6.1).
-pub fn passed_back(
-    alloc: Global,
-    status: u16,
-    fields: Vec<Field>,
-) -> Result<Vec<Field>, AllocError>
+pub fn passed_back(alloc: Global, status: u16, fields: Vec<Field>) -> Result<Vec<Field>, AllocError>
     ensures { IfOk result (λ kept. kept.items ≡ passed fields.items (without_framing status fields.items)) }
 {
     let connections = connections(alloc, &fields)?;

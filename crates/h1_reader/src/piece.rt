@@ -3,6 +3,7 @@
 ghost use Rattle.std.specs.Prelude.{◌≡◌, ◌++◌, ◌∷◌, [], OnOk, OnErr};
 ghost use Rattle.h1_reader.specs.Parts.Part.{Interim, Final, Body, Done};
 ghost use Rattle.h1_reader.specs.Views.{parts_of};
+ghost use Rattle.h1_reader.specs.GoesOn.{IsJoined};
 
 use hpack_table::Field;
 use std::alloc::{AllocError, Global};
@@ -118,6 +119,25 @@ impl Told {
         let octets = Vec::from_slice(self.alloc, octets)?;
         self.items.push(Piece::Body(octets))?;
         Ok(())
+    }
+
+    /// Adds octets of a chunk, joined to those of a body where some were told last.
+    pub(crate) fn chunk(&mut self, octets: &[u8]) -> Result<(), AllocError>
+        ensures { OnOk result (IsJoined self.old octets.now self.new) }
+    {
+        match self.items.pop() {
+            Some(Piece::Body(body)) => {
+                let mut joined = body;
+                joined.extend_from_slice(octets)?;
+                self.items.push(Piece::Body(joined))?;
+                Ok(())
+            }
+            Some(last) => {
+                self.items.push(last)?;
+                self.body(octets)
+            }
+            None => self.body(octets),
+        }
     }
 
     /// Adds that the response is whole.

@@ -5,6 +5,7 @@ ghost use Rattle.h1_reader.specs.Parts.{Part};
 ghost use Rattle.h1_reader.specs.Views.{parts_of};
 ghost use Rattle.h1_reader.specs.ChunkLines.{IsInRange};
 ghost use Rattle.h1_reader.specs.Standing.{Stands, Hears, Breaks, IsEnd};
+ghost use Rattle.h1_reader.specs.GoesOn.{GoesOn};
 ghost use Rattle.h1_reader.specs.Begins.{Begins};
 ghost use Rattle.h1_reader.specs.Faults.{Fails};
 
@@ -152,7 +153,8 @@ impl Reader {
 
     /// Takes all octets, one step after another.
     fn take_all(&mut self, octets: &[u8], told: &mut Told) -> Result<(), ResponseFault>
-        ensures ok { OnOk result ((added : List Part) × (told.new ≡ told.old ++ added) × Hears self.old octets.now added self.new) }
+        requires { told.old ≡ [] }
+        ensures ok { OnOk result (GoesOn self.old told.old octets.now self.new told.new) }
         ensures fault { IfErr result (λ fault. fault ≢ ResponseFault.Memory → Fails self.old octets.now fault) }
     {
         let mut rest = octets;
@@ -168,7 +170,7 @@ impl Reader {
     /// Takes some octets, one or more, and answers how many.
     fn take(&mut self, octets: &[u8], told: &mut Told) -> Result<usize, ResponseFault>
         requires { 0 < length octets.now }
-        ensures ok { IfOk result (λ used. (0 < used) × (used ≤ length octets.now) × ((added : List Part) × (told.new ≡ told.old ++ added) × Hears self.old (take used octets.now) added self.new)) }
+        ensures ok { IfOk result (λ used. (0 < used) × (used ≤ length octets.now) × GoesOn self.old told.old (take used octets.now) self.new told.new) }
         ensures fault { IfErr result (λ fault. fault ≢ ResponseFault.Memory → Fails self.old octets.now fault) }
     {
         match self.place {
@@ -197,7 +199,7 @@ impl Reader {
     ) -> Result<usize, ResponseFault>
         requires place { self.old.place ≡ Place.Sized left }
         requires octets { 0 < length octets.now }
-        ensures ok { IfOk result (λ used. (0 < used) × (used ≤ length octets.now) × ((added : List Part) × (told.new ≡ told.old ++ added) × Hears self.old (take used octets.now) added self.new)) }
+        ensures ok { IfOk result (λ used. (0 < used) × (used ≤ length octets.now) × GoesOn self.old told.old (take used octets.now) self.new told.new) }
         ensures fault { IfErr result (λ fault. fault ≡ ResponseFault.Memory) }
     {
         let count = octets.len() as u64;
@@ -241,17 +243,17 @@ impl Reader {
     ) -> Result<usize, ResponseFault>
         requires place { self.old.place ≡ Place.Chunk left }
         requires octets { 0 < length octets.now }
-        ensures ok { IfOk result (λ used. (0 < used) × (used ≤ length octets.now) × ((added : List Part) × (told.new ≡ told.old ++ added) × Hears self.old (take used octets.now) added self.new)) }
+        ensures ok { IfOk result (λ used. (0 < used) × (used ≤ length octets.now) × GoesOn self.old told.old (take used octets.now) self.new told.new) }
         ensures fault { IfErr result (λ fault. fault ≡ ResponseFault.Memory) }
     {
         let count = octets.len() as u64;
         if count < left as u64 {
-            told.body(octets)?;
+            told.chunk(octets)?;
             self.place = Place::Chunk(left - octets.len() as u32);
             return Ok(octets.len());
         }
         let used = left as usize;
-        told.body(&octets[..used])?;
+        told.chunk(&octets[..used])?;
         self.place = Place::ChunkEnd;
         Ok(used)
     }
@@ -286,7 +288,7 @@ impl Reader {
     fn take_trailers(&mut self, octets: &[u8], told: &mut Told) -> Result<usize, ResponseFault>
         requires place { self.old.place ≡ Place.Trailers }
         requires octets { 0 < length octets.now }
-        ensures ok { IfOk result (λ used. (0 < used) × (used ≤ length octets.now) × ((added : List Part) × (told.new ≡ told.old ++ added) × Hears self.old (take used octets.now) added self.new)) }
+        ensures ok { IfOk result (λ used. (0 < used) × (used ≤ length octets.now) × GoesOn self.old told.old (take used octets.now) self.new told.new) }
         ensures fault { IfErr result (λ fault. fault ≢ ResponseFault.Memory → Fails self.old octets.now fault) }
     {
         let held = mem::replace(&mut self.held, Vec::new(self.alloc));
@@ -313,7 +315,7 @@ impl Reader {
     ) -> Result<usize, ResponseFault>
         requires place { self.old.place ≡ Place.Head interims }
         requires octets { 0 < length octets.now }
-        ensures ok { IfOk result (λ used. (0 < used) × (used ≤ length octets.now) × ((added : List Part) × (told.new ≡ told.old ++ added) × Hears self.old (take used octets.now) added self.new)) }
+        ensures ok { IfOk result (λ used. (0 < used) × (used ≤ length octets.now) × GoesOn self.old told.old (take used octets.now) self.new told.new) }
         ensures fault { IfErr result (λ fault. fault ≢ ResponseFault.Memory → Fails self.old octets.now fault) }
     {
         let held = mem::replace(&mut self.held, Vec::new(self.alloc));

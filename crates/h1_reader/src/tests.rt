@@ -5,6 +5,7 @@ use std::test::*;
 
 mod faults;
 mod limits;
+mod plain;
 
 /// What is told of pieces: each head with its fields, the body, `done`, the fault if there is one, and what the end of the
 /// connection makes of it.

@@ -4,7 +4,7 @@ use Rattle.std.specs.Prelude.{Option}
 use Rattle.std.proofs.lemmas.Bool.Decides.{nat_tests}
 use Rattle.model.specs.Messages.{Field}
 use Rattle.model.specs.Http2.{WellFormedHead, HasLength, declared_length}
-use Rattle.model.specs.Malformed.{is_well_formed, are_trailers, has_length, is_malformed_block}
+use Rattle.model.specs.Malformed.{is_well_formed, are_trailers, has_length, carried_by, is_malformed_block}
 use Rattle.model.proofs.MalformedLaws.{head_holds, head_told, trailers_hold}
 use Rattle.request_rules.specs.declared.rule.Rule.{Rule}
 use Rattle.request_rules.specs.declared.rule.Rule.TheVariants as rule
@@ -15,12 +15,12 @@ length_told None h = refl
 length_told (Some n) h = grind (arith, nat_tests)
 
 -- a head that keeps the rules passes
-pub head_passes : (fields : List Field) (ends : Bool) → WellFormedHead fields → (ends ≡ true → HasLength (declared_length fields) []) → is_malformed_block [] fields ends ≡ false
+pub head_passes : (fields : List Field) (ends : Bool) → WellFormedHead fields → (ends ≡ true → HasLength (declared_length fields) []) → is_malformed_block (carried_by [] false) fields ends ≡ false
 head_passes fields false w l = rw (head_told fields w) refl
 head_passes fields true w l = rw (head_told fields w, length_told (declared_length fields) (l refl)) refl
 
 -- so does one that keeps all of them
-pub kept_passes : (fields : List Field) (ends : Bool) → Keeps (take 11 in_order) fields ends → is_malformed_block [] fields ends ≡ false
+pub kept_passes : (fields : List Field) (ends : Bool) → Keeps (take 11 in_order) fields ends → is_malformed_block (carried_by [] false) fields ends ≡ false
 kept_passes fields ends (pseudo, (names, (values, (connection, (te, (method, (scheme, (path, (authority, (length_field, (length, none))))))))))) =
     head_passes fields ends (record {
       pseudo_fields_hold = pseudo;
@@ -36,7 +36,7 @@ kept_passes fields ends (pseudo, (names, (values, (connection, (te, (method, (sc
     }) length
 
 -- and one of which nothing but memory was wrong
-pub memory_passes : (r : Rule) (fields : List Field) (ends : Bool) → IsFirstBroken r fields ends → r ≡ rule.Memory → is_malformed_block [] fields ends ≡ false
+pub memory_passes : (r : Rule) (fields : List Field) (ends : Bool) → IsFirstBroken r fields ends → r ≡ rule.Memory → is_malformed_block (carried_by [] false) fields ends ≡ false
 memory_passes r fields ends h e = kept_passes fields ends (subst (λ (x : Rule). Keeps (take (place x) in_order) fields ends) e h.kept)
 
 length_broken : (declared : Option ℕ) (ends : Bool) → ((ends ≡ true → HasLength declared []) → ⊥) → (ends && not (has_length declared 0)) ≡ true
@@ -65,7 +65,7 @@ either_way true wrong h = h refl
 either_way false wrong h = refl
 
 -- a head that breaks one is malformed
-pub head_fails : (r : Rule) (fields : List Field) (ends : Bool) → IsFirstBroken r fields ends → (r ≡ rule.Memory → ⊥) → is_malformed_block [] fields ends ≡ true
+pub head_fails : (r : Rule) (fields : List Field) (ends : Bool) → IsFirstBroken r fields ends → (r ≡ rule.Memory → ⊥) → is_malformed_block (carried_by [] false) fields ends ≡ true
 head_fails r fields ends h n = either_way (is_well_formed fields) (ends && not (has_length (declared_length fields) 0)) (λ e. broken r fields ends (head_holds fields e) n h)
 
 no_trailers : (r : Rule) (fields : List Field) → IsFirstBrokenByTrailers r fields → are_trailers fields ≡ true → ⊥

@@ -2,7 +2,7 @@
 
 ghost use Rattle.std.specs.Prelude.{◌≡◌, ℕ, true, false, [], MatchBool, MatchOption, take, IfOk, OnOk, IfErr, OnErr};
 ghost use Rattle.model.specs.Http2.{LengthFieldHolds, HasLength, declared_length, is_connect, WellFormedHead, WellFormedTrailers};
-ghost use Rattle.model.specs.Malformed.{is_malformed_block, are_trailers};
+ghost use Rattle.model.specs.Malformed.{carried_by, is_malformed_block, are_trailers};
 ghost use Rattle.request_rules.specs.Heads.{parts_of, IsRequestHead};
 ghost use Rattle.request_rules.specs.Rules.{IsFirstBroken, IsFirstBrokenByTrailers, Keeps, in_order};
 
@@ -83,9 +83,9 @@ pub fn check_head(alloc: Global, head: &[Field], ended: bool) -> Result<RequestH
     ensures refused { IfErr result (λ rule. IsFirstBroken rule head.now ended) }
 
     // The same by the test of a stream's first block.
-    ensures passes { OnOk result (is_malformed_block [] head.now ended ≡ false) }
-    ensures malformed { IfErr result (λ rule. (rule ≡ Rule.Memory → ⊥) → is_malformed_block [] head.now ended ≡ true) }
-    ensures memory { IfErr result (λ rule. rule ≡ Rule.Memory → is_malformed_block [] head.now ended ≡ false) }
+    ensures passes { OnOk result (is_malformed_block (carried_by [] false) head.now ended ≡ false) }
+    ensures malformed { IfErr result (λ rule. (rule ≡ Rule.Memory → ⊥) → is_malformed_block (carried_by [] false) head.now ended ≡ true) }
+    ensures memory { IfErr result (λ rule. rule ≡ Rule.Memory → is_malformed_block (carried_by [] false) head.now ended ≡ false) }
 {
     if let Some(rule) = first_broken(head, ended) {
         return Err(rule);

@@ -8,6 +8,7 @@ use Rattle.h1_reader.specs.declared.reader.Place.TheVariants.{Head}
 use Rattle.h1_reader.specs.Views.{framing_view}
 use Rattle.h1_reader.proofs.Steps.{nothing_held, kept_head, hears_more, hears_interim, hears_final, all_taken}
 use Rattle.h1_reader.proofs.FaultSteps.{fails_head, fails_ninth}
+use Rattle.h1_reader.proofs.Joining.{goes_on}
 use Rattle.h1_reader.proofs.reader.Reader.take_head.Goals as goal
 
 pub invariant_of-self-then-interims-ge-MOST_INTERIMS : goal.invariant_of-self-then-interims-ge-MOST_INTERIMS
@@ -61,7 +62,7 @@ returns-in-Ok-OnGoing-clause-ok c =
     let place : c.self.inside.place ≡ Head c.args.interims = ap (λ (s : State). s.place) c.self.view_is ∙ c.requires.place in (
       c.requires.octets,
       omega arith,
-      (
+      goes_on _ _ _ _ _ (
         [],
         sym (append-nil c.args.told.now),
         all_taken c.args.self.now _ c.args.octets.now []
@@ -78,7 +79,7 @@ returns-in_ok-interim-in-Ok-InterimAt-clause-ok c =
     let nothing : c.replace-held.new.dest.items ≡ [] = ap (λ (v : Vec ℕ Global). v.items) c.replace-held.ensures.after ∙ c.new.ensures.items in (
       read.0,
       read.1,
-      (
+      goes_on _ _ _ _ _ (
         Interim c.in-Ok-InterimAt.head ∷ [],
         c.in_ok-interim-in-Ok-InterimAt.ensures,
         hears_interim c.args.self.now _ c.args.interims (take c.in-Ok-InterimAt.used c.args.octets.now) c.in-Ok-InterimAt.head c.requires.place c.if-interims-ge-MOST_INTERIMS.false
@@ -93,8 +94,8 @@ returns-in_ok-begin_body-in-Ok-FinalAt-clause-ok c =
     let held : c.replace-held.result.items ≡ c.args.self.now.held = ap (λ (v : Vec ℕ Global). v.items) c.replace-held.ensures.value ∙ ap (λ (s : State). s.held) c.self.view_is in (
       read.0,
       read.1,
-      hears_final c.args.self.now (record { to_head = c.self.inside.to_head; place = c.self.inside.place; held = c.replace-held.new.dest.items }) c.begin_body.new.self c.args.interims (take c.in-Ok-FinalAt.used c.args.octets.now) c.in-Ok-FinalAt.head c.in-Ok-FinalAt.framing c.args.told.now c.head-in-Ok-FinalAt.new.self c.begin_body.new.told c.requires.place
+      goes_on _ _ _ _ _ (hears_final c.args.self.now (record { to_head = c.self.inside.to_head; place = c.self.inside.place; held = c.replace-held.new.dest.items }) c.begin_body.new.self c.args.interims (take c.in-Ok-FinalAt.used c.args.octets.now) c.in-Ok-FinalAt.head c.in-Ok-FinalAt.framing c.args.told.now c.head-in-Ok-FinalAt.new.self c.begin_body.new.told c.requires.place
           (subst (λ (o : List ℕ). model.Final c.args.self.now.to_head (o ++ take c.in-Ok-FinalAt.used c.args.octets.now) c.in-Ok-FinalAt.head (framing_view c.in-Ok-FinalAt.framing)) held
           (subst (λ t. model.Final t (c.replace-held.result.items ++ take c.in-Ok-FinalAt.used c.args.octets.now) c.in-Ok-FinalAt.head (framing_view c.in-Ok-FinalAt.framing)) (ap (λ (s : State). s.to_head) c.self.view_is) read.2))
-          (ap (λ (s : State). s.to_head) c.self.view_is) c.in_ok-begin_body-in-Ok-FinalAt.ensures.ok c.in_ok-head-in-Ok-FinalAt.ensures,
+          (ap (λ (s : State). s.to_head) c.self.view_is) c.in_ok-begin_body-in-Ok-FinalAt.ensures.ok c.in_ok-head-in-Ok-FinalAt.ensures),
     )

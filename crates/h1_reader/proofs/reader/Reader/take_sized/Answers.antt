@@ -5,13 +5,14 @@ use Rattle.h1_reader.specs.Standing.{State, IsKept}
 use Rattle.h1_reader.specs.declared.reader.Place.{Place}
 use Rattle.h1_reader.specs.declared.reader.Place.TheVariants.{Past, Sized}
 use Rattle.h1_reader.proofs.Steps.{hears_sized, hears_sized_all, all_taken}
+use Rattle.h1_reader.proofs.Joining.{goes_on}
 use Rattle.h1_reader.proofs.reader.Reader.take_sized.Goals as goal
 
 pub returns-then-count-left-clause-ok : goal.returns-then-count-left-clause-ok
 returns-then-count-left-clause-ok c = (
   c.requires.octets,
   omega arith,
-  (
+  goes_on _ _ _ _ _ (
     Body c.args.octets.now ∷ [],
     c.in_ok-body.ensures,
     all_taken c.args.self.now _ c.args.octets.now (Body c.args.octets.now ∷ [])
@@ -26,7 +27,7 @@ returns-clause-ok c =
     let some : 0 < c.args.left = subst (λ (p : Place). IsKept p c.self.inside.held.items) (ap (λ (s : State). s.place) c.self.view_is ∙ c.requires.place) c.self.invariant.1 in (
       some,
       c.if-count-left.false,
-      (
+      goes_on _ _ _ _ _ (
         Body (take c.args.left c.args.octets.now) ∷ Done ∷ [],
         (c.in_ok-done.ensures ∙ ap (λ (o : List Part). o ++ Done ∷ []) c.in_ok-body-2.ensures ∙ append_assoc c.args.told.now (Body (take c.args.left c.args.octets.now) ∷ []) (Done ∷ [])),
         hears_sized_all c.args.self.now _ c.args.left (take c.args.left c.args.octets.now) c.requires.place fits

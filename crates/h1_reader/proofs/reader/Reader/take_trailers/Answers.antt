@@ -8,6 +8,7 @@ use Rattle.h1_reader.specs.declared.reader.Place.TheVariants.{Trailers, Past}
 use Rattle.h1_reader.proofs.Steps.{all_taken}
 use Rattle.h1_reader.proofs.ChunkSteps.{hears_trailers, hears_end}
 use Rattle.h1_reader.proofs.FaultSteps.{fails_trailers}
+use Rattle.h1_reader.proofs.Joining.{goes_on}
 use Rattle.h1_reader.proofs.reader.Reader.take_trailers.Goals as goal
 
 pub returns-in-Ok-OnGoing-clause-ok : goal.returns-in-Ok-OnGoing-clause-ok
@@ -17,7 +18,7 @@ returns-in-Ok-OnGoing-clause-ok c =
     let place : c.self.inside.place ≡ Trailers = ap (λ (s : State). s.place) c.self.view_is ∙ c.requires.place in (
       c.requires.octets,
       omega arith,
-      (
+      goes_on _ _ _ _ _ (
         [],
         sym (append-nil c.args.told.now),
         all_taken c.args.self.now _ c.args.octets.now []
@@ -33,7 +34,7 @@ returns-in_ok-done-in-Ok-WholeAt-clause-ok c =
     let held : c.replace-held.result.items ≡ c.args.self.now.held = ap (λ (v : Vec ℕ Global). v.items) c.replace-held.ensures.value ∙ ap (λ (s : State). s.held) c.self.view_is in (
       read.0,
       read.1,
-      (
+      goes_on _ _ _ _ _ (
         Done ∷ [],
         c.in_ok-done-in-Ok-WholeAt.ensures,
         hears_end c.args.self.now _ (take c.in-Ok-WholeAt.used c.args.octets.now) c.replace-held.new.dest.items c.requires.place

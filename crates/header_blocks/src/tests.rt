@@ -216,7 +216,21 @@ fn the_first_place_decides(rt: HostRuntime) {
     }
 }
 
-// Past the cap indexed fields are skipped; beside a decoder that keeps them all the table and the faults are the same.
+/// Whether a decoder's table has just the three entries that the blocks below leave.
+fn has_three_entries(decoder: &mut Decoder, alloc: Global) -> bool {
+    let all = [
+        (b"a".as_slice(), b"b".as_slice()),
+        (b"cache-control".as_slice(), b"no-cache".as_slice()),
+        (b":authority".as_slice(), b"www.example.com".as_slice()),
+    ];
+    decodes_to(decoder, alloc, b"\xbe\xbf\xc0", &all)
+        && matches!(
+            decoder.decode(alloc, b"\x82\x84\xc1", 0),
+            Err(DecodeFault::Index)
+        )
+}
+
+// Past the cap indexed fields are skipped; beside a decoder that keeps them all the table and the fault are the same.
 #[test]
 fn fields_past_the_cap_are_read_alike(rt: HostRuntime) -> Result<(), Fail> {
     let alloc = rt.alloc();
@@ -231,19 +245,7 @@ fn fields_past_the_cap_are_read_alike(rt: HostRuntime) -> Result<(), Fail> {
         assert!(rt; matches!(keeps.decode(alloc, block, 16384)?, Decoded::Fields(_)));
         assert!(rt; matches!(skips.decode(alloc, block, 0)?, Decoded::TooLarge));
     }
-    let all = [
-        (b"a".as_slice(), b"b".as_slice()),
-        (b"cache-control".as_slice(), b"no-cache".as_slice()),
-        (b":authority".as_slice(), b"www.example.com".as_slice()),
-    ];
-    for mut decoder in [keeps, skips] {
-        assert!(rt; decodes_to(&mut decoder, alloc, b"\xbe\xbf\xc0", &all));
-        assert!(rt;
-            matches!(
-                decoder.decode(alloc, b"\x82\x84\xc1", 0),
-                Err(DecodeFault::Index)
-            )
-        );
-    }
+    assert!(rt; has_three_entries(&mut keeps, alloc));
+    assert!(rt; has_three_entries(&mut skips, alloc));
     Ok(())
 }

@@ -4,6 +4,7 @@ pub use Rattle.model.specs.Maxima
 pub use Rattle.model.specs.Decoding as FrameDecoding
 pub use Rattle.model.specs.Tapes
 pub use Rattle.model.specs.Frames
+pub use Rattle.model.specs.FrameErrors
 pub use Rattle.hpack_table.specs.Finding
 pub mod Gathering
 pub mod Represented

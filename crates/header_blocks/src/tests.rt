@@ -215,3 +215,37 @@ fn the_first_place_decides(rt: HostRuntime) {
         assert_eq!(rt; fault_of(alloc, block), Some(wanted));
     }
 }
+
+/// Whether a decoder's table has just the three entries that the blocks below leave.
+fn has_three_entries(decoder: &mut Decoder, alloc: Global) -> bool {
+    let all = [
+        (b"a".as_slice(), b"b".as_slice()),
+        (b"cache-control".as_slice(), b"no-cache".as_slice()),
+        (b":authority".as_slice(), b"www.example.com".as_slice()),
+    ];
+    decodes_to(decoder, alloc, b"\xbe\xbf\xc0", &all)
+        && matches!(
+            decoder.decode(alloc, b"\x82\x84\xc1", 0),
+            Err(DecodeFault::Index)
+        )
+}
+
+// Past the cap indexed fields are skipped; beside a decoder that keeps them all the table and the fault are the same.
+#[test]
+fn fields_past_the_cap_are_read_alike(rt: HostRuntime) -> Result<(), Fail> {
+    let alloc = rt.alloc();
+    let blocks: [&[u8]; 3] = [
+        b"\x82\x86\x84\x41\x8c\xf1\xe3\xc2\xe5\xf2\x3a\x6b\xa0\xab\x90\xf4\xff",
+        b"\x82\x86\x84\xbe\x58\x86\xa8\xeb\x10\x64\x9c\xbf",
+        b"\xbe\xbf\x82\x40\x01a\x01b\xbe",
+    ];
+    let mut keeps = Decoder::new(alloc, 4096);
+    let mut skips = Decoder::new(alloc, 4096);
+    for block in blocks {
+        assert!(rt; matches!(keeps.decode(alloc, block, 16384)?, Decoded::Fields(_)));
+        assert!(rt; matches!(skips.decode(alloc, block, 0)?, Decoded::TooLarge));
+    }
+    assert!(rt; has_three_entries(&mut keeps, alloc));
+    assert!(rt; has_three_entries(&mut skips, alloc));
+    Ok(())
+}

@@ -8,7 +8,7 @@ use Rattle.hpack_table.proofs.Kept.{total_at_least}
 pub some_at : {X : Type 0} (xs : List X) (i : ℕ) (x : X) → i < length xs → ((d : X) → x ≡ get_or xs i d) → slice_get xs i ≡ Some x
 some_at xs i x h p = slice_get-get_or xs i x h ∙ ap (λ y. Some y) (sym (p x))
 
-get_front : (xs ys : List Field) (i : ℕ) → i < length xs → slice_get (xs ++ ys) i ≡ slice_get xs i
+pub get_front : (xs ys : List Field) (i : ℕ) → i < length xs → slice_get (xs ++ ys) i ≡ slice_get xs i
 get_front [] ys i h = absurd (omega arith)
 get_front (x ∷ xs) ys zero h = refl
 get_front (x ∷ xs) ys (suc i) h = get_front xs ys i (omega arith)
@@ -18,7 +18,7 @@ get_behind [] ys i h = let same : i - 0 ≡ i = omega arith in rw same refl
 get_behind (x ∷ xs) ys zero h = absurd (omega arith)
 get_behind (x ∷ xs) ys (suc i) h = let same : suc i - suc (length xs) ≡ i - length xs = omega arith in rw same (get_behind xs ys i (omega arith))
 
-entries : length static_table ≡ 61
+pub entries : length static_table ≡ 61
 unfolding static_table
 entries = refl
 

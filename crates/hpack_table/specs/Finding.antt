@@ -2,8 +2,8 @@
 use Rattle.std.specs.Prelude.{◌≡◌, ℕ, ◌<◌, List, Some}
 use Rattle.model.specs.Messages.{Field}
 use Rattle.model.specs.Tables.{Table, look_up, field_of}
-use Rattle.hpack_table.specs.declared.table.Found.{Found}
-use Rattle.hpack_table.specs.declared.table.Found.TheVariants.{Both, Name, Absent}
+use Rattle.hpack_table.specs.declared.found.Found.{Found}
+use Rattle.hpack_table.specs.declared.found.Found.TheVariants.{Both, Name, Absent}
 
 -- The index has an entry with the name and the value, and no lower one has.
 pub record FindsBoth (table : Table) (name value : List ℕ) (index : ℕ) : Type 0 where

@@ -1,3 +1,4 @@
 pub use Rattle.model.specs.Tables
 pub use Rattle.model.specs.Messages
 pub mod Finding
+pub mod Searching

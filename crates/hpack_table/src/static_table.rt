@@ -1,7 +1,12 @@
 //! The static table (RFC 7541, appendix A).
 
-ghost use Rattle.std.specs.Prelude.{◌≡◌, MatchOption, slice_get, Some, None};
+ghost use Rattle.std.specs.Prelude.{◌≡◌, ◌+◌, ◌<◌, ◌≤◌, MatchOption, slice_get, length, Some, None};
+ghost use Rattle.model.specs.Messages.{Field};
 ghost use Rattle.model.specs.Tables.{static_table, field_of};
+ghost use Rattle.hpack_table.specs.Finding.{Finds};
+ghost use Rattle.hpack_table.specs.Searching.{IsNextOfLength, static_alone};
+
+use crate::found::{Found, is_both, met};
 
 /// The number of its entries.
 pub const STATIC_LENGTH: usize = 61;
@@ -71,6 +76,19 @@ static ENTRIES: [(&[u8], &[u8]); STATIC_LENGTH] = [
     (b"www-authenticate", b""),
 ];
 
+/// The first place of an entry whose name has so many octets, or the number of entries where there is none.
+static FIRST: [usize; 28] = [
+    61, 61, 61, 20, 32, 3, 18, 1, 38, 61, 0, 52, 30, 17, 14, 15, 25, 39, 47, 24, 61, 61, 61, 61,
+    61, 55, 61, 19,
+];
+
+/// The next place of an entry whose name has as many octets as that of the entry at a place, or the number of entries.
+static NEXT: [usize; STATIC_LENGTH] = [
+    54, 2, 5, 4, 21, 6, 7, 8, 9, 10, 11, 12, 13, 35, 27, 16, 61, 22, 31, 61, 59, 49, 23, 29, 42,
+    26, 28, 61, 60, 40, 46, 34, 33, 36, 53, 50, 37, 44, 41, 56, 43, 45, 48, 61, 58, 61, 61, 61, 61,
+    61, 51, 61, 61, 61, 57, 61, 61, 61, 61, 61, 61,
+];
+
 type Entry = (&'static [u8], &'static [u8]);
 
 /// The entry at a place.
@@ -85,4 +103,53 @@ pub fn static_entry(place: usize) -> Option<Entry>
     ensures { MatchOption result (slice_get static_table place ≡ None) (λ p. slice_get static_table place ≡ Some (field_of p.0.now p.1.now)) }
 {
     entry_at(&ENTRIES, place)
+}
+
+/// The number at a place, or the number of entries behind the last one.
+fn number_at(numbers: &[usize], place: usize) -> usize
+    ensures { MatchOption (slice_get numbers.now place) (result ≡ 61) (λ number. result ≡ number) }
+{
+    match numbers.get(place) {
+        Some(number) => *number,
+        None => STATIC_LENGTH,
+    }
+}
+
+/// The first place of an entry whose name has so many octets, or the number of entries where there is none.
+fn first_place(length: usize) -> usize
+    ensures { IsNextOfLength length 0 result }
+{
+    number_at(&FIRST, length)
+}
+
+/// The next place of an entry whose name has as many octets as that of the entry at a place, or the number of entries.
+fn next_place(place: usize) -> usize
+    requires { place < 61 }
+    ensures later { place < result }
+    ensures next { (entry : Field) → slice_get static_table place ≡ Some entry → IsNextOfLength (length entry.name) (place + 1) result }
+{
+    number_at(&NEXT, place)
+}
+
+/// The least index of an entry of the static table with the name and the value; where there is none, of one with the name.
+pub fn find_static(name: &[u8], value: &[u8]) -> Found
+    ensures { Finds static_alone name.now value.now result }
+{
+    let mut found = Found::Absent;
+    let mut place = first_place(name.len());
+    while let Some((entry_name, entry_value)) = static_entry(place) {
+        found = met(
+            found,
+            place as u32 + 1,
+            entry_name,
+            entry_value,
+            name,
+            value,
+        );
+        if is_both(found) {
+            return found;
+        }
+        place = next_place(place);
+    }
+    found
 }

@@ -1,25 +1,19 @@
 //! The table of a direction.
 
-ghost use Rattle.std.specs.Prelude.{◌≡◌, ◌<◌, ◌^◌, ◌≤◌, [], OnSome, ℕ, Some, None, MatchOption, OnOk, OnErr};
+ghost use Rattle.std.specs.Prelude.{◌≡◌, ◌<◌, ◌^◌, ◌≤◌, [], length, OnSome, ℕ, Some, None, MatchOption, OnOk, OnErr};
 ghost use Rattle.model.specs.Tables.{added, field_of, keep, look_up, resized, total_size};
 ghost use Rattle.hpack_table.specs.Finding.{Finds};
+ghost use Rattle.hpack_table.specs.Searching.{Seeks, table_of};
 
 use crate::field::Field;
-use crate::static_table::{STATIC_LENGTH, static_entry};
+use crate::found::{Found, is_both, met};
+use crate::static_table::{STATIC_LENGTH, find_static, static_entry};
 use std::alloc::{AllocError, Global};
 use std::collections::VecDeque;
 use std::marker::Model;
 
-/// Where a field is found, by the least index of both tables.
-#[derive(Clone, Copy, PartialEq, Eq, Debug)]
-pub enum Found {
-    /// An entry with the name and the value.
-    Both(u32),
-    /// No such entry, but one with the name.
-    Name(u32),
-    /// No entry with the name.
-    Absent,
-}
+/// The index of the newest field.
+const FIRST_INDEX: u32 = 62;
 
 /// The dynamic table of a direction. A clause sees its fields, the newest first, and the maximum of their sizes.
 #[derive(Drop)]
@@ -51,6 +45,13 @@ impl Table {
             size: 0,
             maximum,
         }
+    }
+
+    /// The maximum of the sizes.
+    pub fn maximum(&self) -> u32
+        ensures { result ≡ self.now.maximum }
+    {
+        self.maximum
     }
 
     /// The name and the value of the entry at an index: the static table from 1 to 61, then this one, the newest first
@@ -101,24 +102,31 @@ impl Table {
     pub fn find(&self, name: &[u8], value: &[u8]) -> Found
         ensures { Finds self.now name.now value.now result }
     {
-        let mut named = None;
-        let mut index = 1;
-        while let Some((entry_name, entry_value)) = self.get(index) {
-            if entry_name == name {
-                if entry_value == value {
-                    return Found::Both(index);
-                }
-                if named.is_none() {
-                    named = Some(index);
-                }
-            }
-            index += 1;
+        let found = find_static(name, value);
+        if is_both(found) {
+            return found;
         }
-        match named {
-            Some(index) => Found::Name(index),
-            None => Found::Absent,
-        }
+        find_added(&self.fields, name, value, found)
     }
+}
+
+/// The least index of an entry with the name and the value, of which the static table has none; where there is none, the
+/// least index of one with the name, as it was found in the static table.
+fn find_added(fields: &VecDeque<Field>, name: &[u8], value: &[u8], found: Found) -> Found
+    requires seeks { Seeks (table_of fields.now.items) name.now value.now 62 found }
+    requires few { length fields.now.items < 134217728 }
+    ensures { Finds (table_of fields.now.items) name.now value.now result }
+{
+    let mut found = found;
+    let mut index = FIRST_INDEX;
+    for field in fields {
+        found = met(found, index, field.name(), field.value(), name, value);
+        if is_both(found) {
+            return found;
+        }
+        index += 1;
+    }
+    found
 }
 
 /// Takes the oldest fields out until the sizes of the others sum to at most the maximum, and answers their sum.

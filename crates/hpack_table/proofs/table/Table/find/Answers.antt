@@ -1,19 +1,19 @@
-use Rattle.std.proofs.Common.{arith}
-use Rattle.model.specs.Tables.{field_of}
-use Rattle.hpack_table.proofs.Looked.{look_within}
-use Rattle.hpack_table.proofs.Searched.{none_has, name_found, no_name}
+use Rattle.std.proofs.Common.{List, ap, sym, ◌∙◌}
+use Rattle.model.specs.Tables.{Table}
+use Rattle.hpack_table.specs.Searching.{table_of}
+use Rattle.hpack_table.proofs.Looked.{few_entries}
+use Rattle.hpack_table.proofs.Searched.{finds_alike, finds_in_all, seeks_behind}
 use Rattle.hpack_table.proofs.table.Table.find.Goals as goal
 
-pub loop-entry_name-smaller : goal.loop-entry_name-smaller
-loop-entry_name-smaller c =
-    let within = look_within c.args.self.now c.loop-entry_name.index (field_of c.in-Some.entry_name.now c.in-Some.entry_value.now) c.in-Some.ensures.entry in
-    omega (arith, within)
+pub returns-then-is_both : goal.returns-then-is_both
+returns-then-is_both c = finds_in_all c.args.self.now c.args.name.now c.args.value.now c.find_static-found.result c.find_static-found.ensures (sym c.is_both.ensures ∙ c.if-is_both.true)
 
-pub returns-in-Some-named : goal.returns-in-Some-named
-returns-in-Some-named c = (
-  name_found c.args.self.now c.args.name.now c.args.value.now c.loop-entry_name.index c.in-Some-named.index c.loop-entry_name.named c.loop-entry_name.invariant c.in-Some-named.is,
-  none_has c.args.self.now c.args.name.now c.args.value.now c.loop-entry_name.index c.loop-entry_name.named c.loop-entry_name.invariant c.in_default.ensures.entry,
-)
+pub find_added-requires-clause-seeks : goal.find_added-requires-clause-seeks
+find_added-requires-clause-seeks c =
+    seeks_behind (table_of c.self.inside.fields.items) c.args.name.now c.args.value.now c.find_static-found.result c.find_static-found.ensures (sym c.is_both.ensures ∙ c.if-is_both.false)
 
-pub returns-in-None : goal.returns-in-None
-returns-in-None c = no_name c.args.self.now c.args.name.now c.args.value.now c.loop-entry_name.index c.loop-entry_name.named c.loop-entry_name.invariant c.in-None.is c.in_default.ensures.entry
+pub find_added-requires-clause-few : goal.find_added-requires-clause-few
+find_added-requires-clause-few c = few_entries c.self.inside.fields.items c.self.inside.size c.self.inside.maximum c.self.invariant.0 c.self.invariant.1 c.self.invariant.2
+
+pub returns : goal.returns
+returns c = finds_alike (table_of c.self.inside.fields.items) c.args.self.now c.args.name.now c.args.value.now c.find_added.result (ap (λ (t : Table). t.fields) c.self.view_is) c.find_added.ensures

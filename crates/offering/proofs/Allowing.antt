@@ -38,11 +38,14 @@ start_placed known = record {
   unheard = λ k lt. (refl, refl);
 }
 
-first_right : (known : Known) → IsRightOf known [] first_sight
+pub first_right : (known : Known) → IsRightOf known [] first_sight
 first_right known = record {
+  opened = λ id. refl;
   active = λ id. refl;
+  ended = λ id on. refl;
   cause = λ id on. refl;
   new = λ id may. (refl, refl);
+  room = λ id may. refl;
   has_items = λ id on some none. let clash : false ≡ true = on in cc;
   own = λ id on. let clash : false ≡ true = on in cc;
   shared = refl;

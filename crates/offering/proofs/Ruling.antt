@@ -100,7 +100,7 @@ module _ (t : List Entry) (noted : Noted) where
       by false out = out
 
   -- A stream that is active behind the frame, and wasn't before, is opened by it.
-  opened_by_it : is_active noted.frame.id t ≡ false → is_active noted.frame.id u ≡ true → opens_it ≡ true
+  pub opened_by_it : is_active noted.frame.id t ≡ false → is_active noted.frame.id u ≡ true → opens_it ≡ true
   opened_by_it off on = by opens_it refl
     where
       id : ℕ

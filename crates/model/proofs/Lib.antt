@@ -27,12 +27,15 @@ mod FirstLog
 pub mod ResponseHeadReadings
 pub mod ResponseBodies
 pub mod ResponseReadings
+pub mod SeenLaws
 pub mod DeliveryLemmas
 pub mod MalformedLaws
 pub mod RouteLaws
 pub mod FailureLaws
 pub mod DeliveryReadings
+pub mod OpenedLaws
 pub mod OfferLemmas
+pub mod OfferLaws
 mod HeadlineExamples
 mod AnswerTexts
 mod AnswerExamples

@@ -1,18 +1,22 @@
 //! Laws of what the clauses of the headline speak of.
 
-ghost use Rattle.std.specs.Prelude.{◌≡◌, ℕ, ◌≤◌, List, length, false, true, Some, slice_get};
+ghost use Rattle.std.specs.Prelude.{◌≡◌, ℕ, ◌≤◌, Bool, List, length, false, true, Some, slice_get};
 ghost use Rattle.std.specs.List.{list_any};
 ghost use Rattle.model.specs.Messages.{Item, Field};
 ghost use Rattle.model.specs.Deliveries.{Delivery, ReadsAs};
-ghost use Rattle.model.specs.Openings.{Opened, AreNumbered, AreApart};
-ghost use Rattle.model.specs.Available.{IsIn};
+ghost use Rattle.model.specs.Openings.{Opened, opens, AreNumbered, AreApart};
+ghost use Rattle.model.specs.Available.{IsIn, IsShown};
 ghost use Rattle.model.specs.Http2.{WellFormedHead, WellFormedTrailers, authority_of, path_of};
 ghost use Rattle.model.specs.Malformed.{is_well_formed, are_trailers};
-ghost use Rattle.model.specs.Setup.{Setup, Route, Matches, IsFirstMatch};
+ghost use Rattle.model.specs.Setup.{Setup, Passing, Route, Matches, IsFirstMatch};
 ghost use Rattle.model.specs.Causes.{is_routed};
-ghost use Rattle.model.specs.Tapes.{Entry};
+ghost use Rattle.model.specs.Tapes.{Noted, Entry, came};
+ghost use Rattle.model.specs.Decoding.{completed};
+ghost use Rattle.model.specs.Lifetimes.{opens_by, opened, is_opened};
+ghost use Rattle.model.specs.Failures.{AreJudged};
 ghost use Rattle.model.specs.Known.{Known, with_failure};
 ghost use Rattle.model.specs.Courses.{course};
+ghost use Rattle.model.specs.Offers.{IsOffered};
 ghost use Rattle.model.specs.Logs.{Step};
 ghost use Rattle.model.specs.Headline.{Headline};
 ghost use Rattle.model.specs.Faithful.{Faithful, is_given_up};
@@ -27,6 +31,22 @@ pub fn one_delivery()
 pub fn one_connection()
     ensures number { (opens : List Opened) (o p : Opened) → AreNumbered opens → IsIn o opens → IsIn p opens → o.k ≡ p.k → o ≡ p }
     ensures stream { (opens : List Opened) (o p : Opened) → AreApart opens → IsIn o opens → IsIn p opens → o.stream ≡ p.stream → o ≡ p }
+{}
+
+/// One thing is shown of what an upstream answered, however responses are passed on.
+pub fn one_shown()
+    ensures { (passing : Passing) (text : List ℕ) (ended to_head : Bool) (d e : Delivery) → IsShown passing text ended to_head d → IsShown passing text ended to_head e → d ≡ e }
+{}
+
+/// One thing is on offer for a stream, where no stream was given two connections.
+pub fn one_offer()
+    ensures { (known : Known) (t : List Entry) (stream : ℕ) (d e : Delivery) → AreApart (opens t) → IsOffered known t stream d → IsOffered known t stream e → d ≡ e }
+{}
+
+/// A stream is opened once, and none has the id 0 (RFC 9113, section 5.1.1).
+pub fn opened_once()
+    ensures fresh { (t : List Entry) (noted : Noted) → opens_by (opened t) (completed (came t) noted.frame) noted.note ≡ true → is_opened noted.frame.id t ≡ false }
+    ensures not_zero { (t : List Entry) → is_opened 0 t ≡ false }
 {}
 
 /// The tests by which the error table finds a malformed head and malformed trailers pass just where all rules hold (RFC 9113,
@@ -47,6 +67,11 @@ pub fn routed_test()
 /// What becomes of a stream on a tape doesn't change with a failure that is known of a later place.
 pub fn later_failure()
     ensures { (place : ℕ) (known : Known) (stream : ℕ) (t : List Entry) → length t ≤ place → course (with_failure place known) stream t ≡ course known stream t }
+{}
+
+/// What is judged of a tape's failures stays right with a failure that is known of a later place.
+pub fn later_verdicts()
+    ensures { (place : ℕ) (known : Known) (t : List Entry) → length t ≤ place → AreJudged known t → AreJudged (with_failure place known) t }
 {}
 
 /// A faithful log keeps the whole headline, unless the gateway gave the connection up: so it ends today, by a farewell with

@@ -1,0 +1,155 @@
+-- A worked run: a GET that no route takes is answered with 404 in its turn, and all clauses hold behind it. And who is ready of
+-- four streams.
+use Rattle.std.proofs.Common.{◌≡◌, ℕ, ◌<◌, ◌≤◌, true, false, List, [], ◌∷◌, map, refl, sym, subst, inl, arith, pos}
+use Rattle.std.specs.Prelude.{Option, Some, None, codes, slice_index}
+use Rattle.model.specs.Tables.{total_size}
+use Rattle.model.specs.Messages.{Field}
+use Rattle.model.specs.Messages.Item.{Block}
+use Rattle.model.specs.Frames.{Frame, settings_frame, settings_ack}
+use Rattle.model.specs.Setup.Policy.{Plain}
+use Rattle.model.specs.Setup.Passing.{Whole}
+use Rattle.model.specs.Tapes.{Noted, Entry}
+use Rattle.model.specs.Tapes.Note.{NoBlock, Fields}
+use Rattle.model.specs.Openings.{opens, AreNumbered, AreApart}
+use Rattle.model.specs.Available.{IsIn}
+use Rattle.model.specs.Known.{Known}
+use Rattle.model.specs.Causes.{reply_head}
+use Rattle.model.specs.Causes.Cause.{NoRoute}
+use Rattle.offering.specs.Outbox.{silent, replied}
+use Rattle.offering.specs.Outbox.Outbox.{Behind}
+use Rattle.offering.specs.Outbox.Part.{Final}
+use Rattle.offering.specs.State.{Kept, State, Change, Move, ready, entry_of, state_of}
+use Rattle.offering.specs.State.Move.{Takes, Goes, Sends}
+use Rattle.offering.specs.Policy.{Neighbours, AreAllowed, IsFlushed, KeepClauses}
+use Rattle.offering.proofs.Flushing.{clauses_hold}
+
+-- ---- who is ready
+
+-- One stream has a head to send, one octets and no window, one octets and a window, one nothing.
+abbrev pub four : State
+four = record {
+  kept = record { id = 1; box = replied NoRoute; own = pos 0; cut = false }
+      ∷ record { id = 3; box = Behind (7 ∷ []) false; own = pos 0; cut = false }
+      ∷ record { id = 5; box = Behind (7 ∷ 8 ∷ []) true; own = pos 9; cut = false }
+      ∷ record { id = 7; box = silent; own = pos 9; cut = false }
+      ∷ [];
+  shared = pos 5;
+  untaken = 0;
+  last = 1;
+}
+
+two_ready : ready four ≡ 1 ∷ 5 ∷ []
+two_ready = refl
+
+-- ---- a run
+
+-- one route, for another authority
+abbrev pub elsewhere : Known
+elsewhere = record {
+  setup = record { routes = record { authority = codes "a.example"; path = codes "/" } ∷ []; policy = Plain; passing = Whole; max_body = 1048576; max_response = 1048576 };
+  failures = [];
+}
+
+-- a frame by its parts
+abbrev pub frame : ℕ → ℕ → ℕ → List ℕ → Frame
+frame kind flags id payload = record { kind = kind; flags = flags; id = id; payload = payload }
+
+-- a field by its name and value
+abbrev pub field : List ℕ → List ℕ → Field
+field name value = record { name = name; value = value }
+
+-- the fields of a request
+abbrev pub get : List Field
+get = field (codes ":method") (codes "GET") ∷ field (codes ":scheme") (codes "http") ∷ field (codes ":path") (codes "/") ∷ field (codes ":authority") (codes "www.example.com") ∷ []
+
+-- a frame that completes no header block
+abbrev pub plain : Frame → Noted
+plain f = record { frame = f; note = NoBlock }
+
+-- a frame that changes nothing, with the windows as at first
+abbrev pub no_change : Change
+no_change = record { opens = false; over = false; caused = None; shared = pos 65535; owns = λ id. pos 65535 }
+
+-- the fields of the reply
+abbrev pub not_found : List Field
+not_found = field (codes ":status") (codes "404") ∷ field (codes "content-length") (codes "0") ∷ []
+
+-- the gateway's settings, the client's, and their acknowledgement
+abbrev pub greeted : List Move
+greeted = Sends (plain settings_ack) ∷ Takes (plain (frame 4 0 0 [])) no_change ∷ Sends (plain settings_frame) ∷ []
+
+-- the request opens stream 1, and no route takes it
+abbrev pub asked : List Move
+asked = Takes (record { frame = frame 1 5 1 []; note = Fields get }) (record { opens = true; over = false; caused = Some NoRoute; shared = pos 65535; owns = λ id. pos 65535 }) ∷ greeted
+
+-- its reply goes out, and the stream is over
+abbrev pub answered : List Move
+answered = Goes (record { frame = frame 1 5 1 []; note = Fields not_found }) (Block not_found true) (Final (reply_head NoRoute) true) true ∷ asked
+
+no_neighbours : (t : List Entry) → opens t ≡ [] → Neighbours elsewhere t
+no_neighbours t e = record { numbered = subst AreNumbered (sym e) tt; apart = subst AreApart (sym e) tt; begun = λ o i. absurd (subst (IsIn o) e i) }
+
+-- each of the first three moves is allowed
+greeted_allowed : AreAllowed elsewhere greeted
+unfolding total_size
+greeted_allowed = (
+  (
+    (tt, no_neighbours [] refl, record { no_block = refl; no_data = refl }),
+    no_neighbours (map entry_of (Sends (plain settings_frame) ∷ [])) refl,
+    record {
+      opened = refl;
+      caused = record { cause = refl; out = refl; heads = refl };
+      shared = refl;
+      owns = λ stream a. let clash : false ≡ true = a in cc;
+    },
+  ),
+  no_neighbours (map entry_of (Takes (plain (frame 4 0 0 [])) no_change ∷ Sends (plain settings_frame) ∷ [])) refl,
+  record { no_block = refl; no_data = refl },
+)
+
+-- so is the request
+asked_allowed : AreAllowed elsewhere asked
+unfolding total_size
+asked_allowed = (
+  greeted_allowed,
+  no_neighbours (map entry_of greeted) refl,
+  record {
+    opened = (record { not_kept = refl; unsent = refl; not_given = λ o g. g.is_opened; no_cause = refl }, refl, refl);
+    caused = record { no_cause = refl; now = refl };
+    shared = refl;
+    owns = λ stream a. refl;
+  },
+)
+
+-- and its reply, whose turn it is
+all_allowed : AreAllowed elsewhere answered
+unfolding total_size
+all_allowed = (
+  asked_allowed,
+  no_neighbours (map entry_of asked) refl,
+  (
+    record {
+      kept = record { id = 1; box = replied NoRoute; own = pos 65535; cut = false };
+      found = refl;
+      not_cut = refl;
+      next = (refl, (refl, refl));
+      is = (refl, record { digits = codes "404"; is = refl; three = refl; are_digits = refl; status = refl; no_other = refl }, omega arith);
+      low = omega arith;
+      turn = inl (record { is_ready = (0, omega arith, refl); above = omega arith; least = least });
+      own = λ is_data. let clash : 1 ≡ 0 = is_data in absurd (omega (arith, clash));
+      shared = λ is_data. let clash : 1 ≡ 0 = is_data in absurd (omega (arith, clash));
+    },
+    record { active = refl; brings = refl },
+  ),
+)
+  where
+    least : (k : ℕ) → k < 1 → 0 < slice_index (1 ∷ []) k → 1 ≤ slice_index (1 ∷ []) k
+    least k lt some = some
+
+all_flushed : IsFlushed (state_of answered)
+unfolding total_size
+all_flushed = record { none_cut = λ stream kept found. let clash : ◌≡◌ {A = Option Kept} None (Some kept) = found in cc; none_ready = λ low. refl }
+
+-- The clauses hold behind it.
+pub not_found_holds : KeepClauses elsewhere (map entry_of answered)
+not_found_holds = clauses_hold elsewhere answered all_allowed (no_neighbours (map entry_of answered) refl) all_flushed

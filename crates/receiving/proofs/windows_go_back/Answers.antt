@@ -1,0 +1,8 @@
+use Rattle.receiving.proofs.Resting as resting
+use Rattle.receiving.proofs.windows_go_back.Goals as goal
+
+pub returns-clause-at_rest : goal.returns-clause-at_rest
+returns-clause-at_rest c = resting.gives_back_at_rest
+
+pub returns-clause-no_more : goal.returns-clause-no_more
+returns-clause-no_more c = resting.gives_no_more

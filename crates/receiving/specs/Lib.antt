@@ -1,0 +1,6 @@
+pub mod Marks
+pub mod State
+pub mod Policy
+pub mod Rooms
+pub mod Held
+pub mod Marking

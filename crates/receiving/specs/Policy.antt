@@ -1,0 +1,119 @@
+-- Which move may come next, by what is kept and by what other concerns know of the tape.
+use Rattle.std.specs.Prelude.{◌≡◌, ℕ, ◌+◌, ◌<◌, Bool, true, false, not, ◌&&◌, ◌==◌, nat_le, if◌then◌else◌, List, [], ◌∷◌, length, pos}
+use Rattle.model.specs.Frames.{Frame, window_update_kind}
+use Rattle.model.specs.Logs.{Event, Act}
+use Rattle.model.specs.Logs.Event.{Client, ClientEnd, ClientTook, Up, UpEnd, UpFailed, UpTook}
+use Rattle.model.specs.Logs.Act.{Open, ToUp}
+use Rattle.model.specs.Setup.{Passing}
+use Rattle.model.specs.Setup.Passing.{Streaming}
+use Rattle.model.specs.Tapes.{Noted, Entry, came}
+use Rattle.model.specs.Tapes.Entry.{Came, Sent}
+use Rattle.model.specs.Decoding.{completed}
+use Rattle.model.specs.Windows.{first_window}
+use Rattle.model.specs.Openings.{opens}
+use Rattle.model.specs.Lifetimes.{opens_by, opened, is_active, is_ended_by_client}
+use Rattle.model.specs.WindowsOnTape.{increment, room_on}
+use Rattle.receiving.specs.State.{State, is_live, Move, tape_of, state_of}
+use Rattle.receiving.specs.State.Move.{Takes, Breaks, Hears, Settles, Gives, Sends, Acts}
+
+-- ---- admission
+
+-- how many octets of an upstream may come, but for what is held of its response
+abbrev pub room_in : State → ℕ → ℕ
+room_in s k = if s.is_up k then 65536 else 0
+
+-- the event may come as far as its own numbers go
+abbrev pub may_come : State → Event → Bool
+may_come s (Client piece) = nat_le (length piece) 65536 && nat_le s.untaken 1073741824
+may_come s ClientEnd = true
+may_come s (ClientTook count) = nat_le count s.untaken
+may_come s (Up k piece) = s.is_up k && nat_le (length piece) (room_in s k)
+may_come s (UpEnd k) = s.is_up k
+may_come s (UpFailed k) = s.is_up k
+may_come s (UpTook k count) = s.is_up k && nat_le (s.took k + count) (s.out k)
+
+-- the event may come: once the client is closed none may
+abbrev pub admits : State → Event → Bool
+admits s event = not s.closed && may_come s event
+
+-- ---- what other concerns know
+
+-- The stream's receiving window is as at first.
+abbrev pub IsNew : List Entry → ℕ → Type 0
+IsNew t stream = room_on stream t ≡ pos first_window
+
+-- The frame opens its stream, which is active then; or it doesn't, and the stream is active where it was, unless it is over.
+abbrev pub IsOpened : List Entry → Noted → Bool → Bool → Type 0
+IsOpened t noted true over = (over ≡ false) × (is_active noted.frame.id (Came noted ∷ t) ≡ true) × IsNew t noted.frame.id
+IsOpened t noted false over = is_active noted.frame.id (Came noted ∷ t) ≡ (is_active noted.frame.id t && not over)
+
+-- A frame of the client: whether it opens its stream, and whether that is over with it, is what the tape says. The effect of
+-- the frame before is over.
+pub record MayTake (t : List Entry) (s : State) (noted : Noted) (news over : Bool) : Type 0 where
+  pub settled : s.count ≡ 0
+  pub opens : opens_by (opened t) (completed (came t) noted.frame) noted.note ≡ news
+  pub opened : IsOpened t noted news over
+  pub was : over ≡ true → is_active noted.frame.id t ≡ true
+
+-- An event is one that may come.
+pub record MayHear (s : State) (event : Event) : Type 0 where
+  pub settled : s.count ≡ 0
+  pub admitted : may_come s event ≡ true
+
+-- what is owed on the connection, or on an active stream that the client hasn't ended
+abbrev pub IsOwed : List Entry → State → Frame → Bool → Type 0
+IsOwed t s frame true = increment frame ≡ s.debt
+IsOwed t s frame false = (is_active frame.id t ≡ true) × (is_ended_by_client frame.id t ≡ false) × (increment frame ≡ (s.row frame.id).debt)
+
+-- The frame gives back all that is owed on its id.
+pub record MayGive (t : List Entry) (s : State) (frame : Frame) : Type 0 where
+  pub kind : frame.kind ≡ window_update_kind
+  pub owed : IsOwed t s frame (frame.id == 0)
+
+-- Any other frame: the stream is over with it or isn't.
+pub record MaySend (t : List Entry) (noted : Noted) (over : Bool) : Type 0 where
+  pub kind : (noted.frame.kind == window_update_kind) ≡ false
+  pub active : is_active noted.frame.id (Sent noted ∷ t) ≡ (is_active noted.frame.id t && not over)
+  pub was : over ≡ true → is_active noted.frame.id t ≡ true
+
+-- A connection is opened for the stream of the last frame, which is active and has none, under a number that was never used.
+pub record MayOpen (s : State) (k : ℕ) : Type 0 where
+  pub active : is_live s s.last ≡ true
+  pub counted : 0 < k
+  pub first : (s.row s.last).k ≡ 0
+  pub unused : s.out k ≡ 0
+  pub untaken : s.took k ≡ 0
+
+-- Octets go to a connection that is open; where requests are passed on as they come, before the frame's effect is over.
+pub record MayPut (passing : Passing) (s : State) (k : ℕ) : Type 0 where
+  pub opened : s.is_up k ≡ true
+  pub in_effect : passing ≡ Streaming → s.settled ≡ false
+
+-- The act may be done.
+abbrev pub MayDo : Passing → State → Act → Type 0
+MayDo passing s (Open k route) = MayOpen s k
+MayDo passing s (ToUp k octets) = MayPut passing s k
+MayDo passing s act = Unit {0}
+
+-- ---- the policy
+
+-- The move is allowed.
+abbrev pub Holds : Passing → List Entry → State → Move → Type 0
+Holds passing t s (Takes noted opens over) = MayTake t s noted opens over
+Holds passing t s (Breaks breach) = s.count ≡ 0
+Holds passing t s (Hears event) = MayHear s event
+Holds passing t s Settles = Unit {0}
+Holds passing t s (Gives noted) = MayGive t s noted.frame
+Holds passing t s (Sends noted over) = MaySend t noted over
+Holds passing t s (Acts act) = MayDo passing s act
+
+-- Each move is allowed where it stands; the newest stands first.
+abbrev pub AreAllowed : Passing → List Move → Type 0
+AreAllowed passing [] = Unit {0}
+AreAllowed passing (m ∷ ms) = AreAllowed passing ms × Holds passing (tape_of ms) (state_of passing ms) m
+
+-- Nothing is owed: the last frame's effect is over, and all is given back that goes back.
+pub record IsPaid (t : List Entry) (s : State) : Type 0 where
+  pub settled : s.count ≡ 0
+  pub shared : s.debt ≡ 0
+  pub own : (stream : ℕ) → is_active stream t ≡ true → is_ended_by_client stream t ≡ false → (s.row stream).debt ≡ 0

@@ -1,0 +1,59 @@
+//! What of the client's DATA is kept and what goes back, and which event may come.
+#![tactic(auto)]
+
+ghost use Rattle.std.specs.Prelude.{◌≡◌, ◌≢◌, ◌+◌, ◌≤◌, ℕ, Bool, true, List, length, sum_by, pos, ◌-ℤ◌};
+ghost use Rattle.model.specs.Setup.{Passing};
+ghost use Rattle.model.specs.Logs.{Event};
+ghost use Rattle.model.specs.Tapes.{Entry, sent};
+ghost use Rattle.model.specs.Openings.{Opened, exchange_on, opens, AreNumbered};
+ghost use Rattle.model.specs.Windows.{first_window};
+ghost use Rattle.model.specs.WindowsOnTape.{room_on, room_on_connection};
+ghost use Rattle.model.specs.Known.{Known};
+ghost use Rattle.model.specs.Admission.{is_admitted, room};
+ghost use Rattle.model.specs.Rooms.{IsAdmitted};
+ghost use Rattle.model.specs.Lifetimes.{is_active};
+ghost use Rattle.model.specs.WindowClause.{GivesBack, GivesNoMore, waiting};
+ghost use Rattle.receiving.specs.State.{Move, tape_of, state_of, held, fresh_of, with_taken, add};
+ghost use Rattle.receiving.specs.Policy.{AreAllowed, IsPaid, admits, room_in};
+ghost use Rattle.receiving.specs.Rooms.{HoldsBody, AreHeld, admits_beside};
+ghost use Rattle.offering.specs.Outbox.{Outbox};
+ghost use Rattle.receiving.specs.Held.{HasOutbox, AreUnpadded, body_in};
+ghost use Rattle.receiving.specs.Marks.{released, waiting_of};
+ghost use Rattle.receiving.specs.Marking.{marks_on};
+
+/// Behind moves that are allowed, where all that is owed is paid, each receiving window is as at first but for what is kept; and
+/// no frame that gives octets back makes a window larger than that.
+pub fn windows_go_back()
+    ensures at_rest { (known : Known) (moves : List Move) → AreAllowed known.setup.passing moves → IsPaid (tape_of moves) (state_of known.setup.passing moves) → GivesBack known (tape_of moves) }
+    ensures no_more { (passing : Passing) (moves : List Move) → AreAllowed passing moves → GivesNoMore (tape_of moves) }
+{}
+
+/// The octets of a stream that wait on a tape are those behind marks that aren't reached.
+pub fn marks_wait()
+    ensures { (o : Opened) (taken : ℕ) (t : List Entry) (put_out : ℕ) → waiting o taken t put_out ≡ waiting_of taken (marks_on o t put_out) }
+{}
+
+/// The rooms that the client has: as at first, without what waits, what came last, and what is owed.
+pub fn rooms_are_told()
+    ensures shared { (passing : Passing) (moves : List Move) → AreAllowed passing moves → room_on_connection (tape_of moves) ≡ pos first_window -ℤ pos (sum_by (held (state_of passing moves)) (state_of passing moves).live + (state_of passing moves).count + (state_of passing moves).debt) }
+    ensures own { (passing : Passing) (moves : List Move) (id : ℕ) → AreAllowed passing moves → is_active id (tape_of moves) ≡ true → room_on id (tape_of moves) ≡ pos first_window -ℤ pos (held (state_of passing moves) id + fresh_of (state_of passing moves) id + ((state_of passing moves).row id).debt) }
+{}
+
+/// As an upstream's side takes octets, those of its own stream go back, where no other active stream has its connection.
+pub fn one_stream_returns()
+    ensures { (passing : Passing) (moves : List Move) (k count id : ℕ) → AreAllowed passing moves → is_active id (tape_of moves) ≡ true → ((other : ℕ) → other ≢ id → is_active other (tape_of moves) ≡ true → ((state_of passing moves).row other).k ≢ k) → (with_taken (state_of passing moves) k count).debt ≡ (state_of passing moves).debt + released (add k count (state_of passing moves).took ((state_of passing moves).row id).k) ((state_of passing moves).row id).queue }
+{}
+
+/// Which event may come by the state is which may by the tape, and so is the room of an upstream; where responses are passed on
+/// as they come, with what is held of them.
+pub fn admission_is_told()
+    ensures admits { (passing : Passing) (moves : List Move) (event : Event) → AreAllowed passing moves → admits (state_of passing moves) event ≡ is_admitted (tape_of moves) event }
+    ensures room { (passing : Passing) (moves : List Move) (k : ℕ) → AreAllowed passing moves → room_in (state_of passing moves) k ≡ room k (tape_of moves) }
+    ensures beside { (known : Known) (passing : Passing) (moves : List Move) (held : ℕ → ℕ) (event : Event) → AreAllowed passing moves → AreHeld known (tape_of moves) held event → admits_beside (state_of passing moves) held event ≡ true → IsAdmitted known (tape_of moves) event }
+    ensures only { (known : Known) (passing : Passing) (moves : List Move) (held : ℕ → ℕ) (event : Event) → AreAllowed passing moves → AreHeld known (tape_of moves) held event → IsAdmitted known (tape_of moves) event → admits_beside (state_of passing moves) held event ≡ true }
+{}
+
+/// Where responses are passed on as they come, what takes room is the body in the outbox of the upstream's stream.
+pub fn held_is_told()
+    ensures { (known : Known) (t : List Entry) (k : ℕ) (box : Outbox) → AreNumbered (opens t) → HasOutbox known t k box → AreUnpadded (sent t) → HoldsBody known (exchange_on k t) t (length (body_in box)) }
+{}

@@ -119,7 +119,8 @@ size_if : (taken : Bool) (before new : List Setting) → (if taken then initial_
 size_if true before new = sym (applied_in_order first_window before new)
 size_if false before new = refl
 
-taken_same : (known : Known) (t : List Entry) (frame : Frame) → are_taken_in (summary_of known t) frame ≡ are_taken t (client_settings t) frame
+-- whether settings are taken
+pub taken_same : (known : Known) (t : List Entry) (frame : Frame) → are_taken_in (summary_of known t) frame ≡ are_taken t (client_settings t) frame
 taken_same known t frame =
     let new : List Setting = settings_in frame.payload in
     ap (λ n. has_settings frame && is_none (settings_fault frame.payload) && not (shifts_past n t)) (sym (applied_in_order first_window (client_settings t) new))

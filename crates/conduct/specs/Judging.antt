@@ -1,5 +1,5 @@
 -- The error table over a summary: each row as the model has it over the tape.
-use Rattle.std.specs.Prelude.{ℕ, suc, Bool, not, ◌&&◌, ◌||◌, ◌==◌, nat_lt, if◌then◌else◌, List, [], ◌∷◌, length, map, filter, Option, Some, None, is_some, option_map, ℤ, pos, ◌+ℤ◌}
+use Rattle.std.specs.Prelude.{ℕ, suc, Bool, not, ◌&&◌, ◌||◌, ◌==◌, nat_lt, if◌then◌else◌, List, [], ◌∷◌, ◌++◌, length, map, filter, Option, Some, None, is_some, option_map, ℤ, pos, ◌+ℤ◌}
 use Rattle.std.specs.List.{list_any}
 use Rattle.model.specs.Frames.{Frame, continuation_kind, ends_headers, protocol_error, flow_control_error, frame_size_error, compression_error, enhance_your_calm}
 use Rattle.model.specs.Tapes.{Noted, Entry}
@@ -156,26 +156,35 @@ frame_rows_in s frame =
     ∷ payload_in frame
     ∷ []
 
--- all rows but that on malformed messages, which alone looks at the course of the frame's stream
-abbrev pub rows_in : Summary → Noted → List (Option Fault)
-rows_in s noted =
-    row_first_frame s.has_come noted.frame
+-- the rows that are judged before a header block is read
+abbrev pub rows_before_block_in : Summary → Frame → List (Option Fault)
+rows_before_block_in s frame =
+    row_first_frame s.has_come frame
     ∷ None
-    ∷ between_in s noted.frame
-    ∷ long_block_in s noted.frame
-    ∷ misplaced_in noted.frame
-    ∷ payload_in noted.frame
-    ∷ values_in noted.frame
-    ∷ shift_in s noted.frame
-    ∷ connection_update_in s noted.frame
-    ∷ idle_in s noted.frame
-    ∷ connection_data_in s noted.frame
-    ∷ fault_if (is_undecodable noted.note) (Connection compression_error)
+    ∷ between_in s frame
+    ∷ long_block_in s frame
+    ∷ misplaced_in frame
+    ∷ payload_in frame
+    ∷ values_in frame
+    ∷ shift_in s frame
+    ∷ connection_update_in s frame
+    ∷ idle_in s frame
+    ∷ connection_data_in s frame
+    ∷ []
+
+-- the rows that are judged when it is
+abbrev pub rows_behind_block_in : Summary → Noted → List (Option Fault)
+rows_behind_block_in s noted =
+    fault_if (is_undecodable noted.note) (Connection compression_error)
     ∷ unless_of_stream (fault_by_standing_in s noted.frame)
     ∷ stream_update_in s noted.frame
     ∷ stream_data_in s noted.frame
     ∷ fault_by_standing_in s noted.frame
     ∷ []
+
+-- all rows but that on malformed messages, which alone looks at the course of the frame's stream
+abbrev pub rows_in : Summary → Noted → List (Option Fault)
+rows_in s noted = rows_before_block_in s noted.frame ++ rows_behind_block_in s noted
 
 -- the fault by all these rows
 abbrev pub fault_of_rows_in : Summary → Entry → Option Fault

@@ -25,7 +25,7 @@ use Rattle.conduct.proofs.Seen.{EndsActive, FailsActive, fault_seen, owes_seen, 
 -- ---- frames beside responses
 
 -- a frame that is neither HEADERS nor CONTINUATION completes no header block
-completes_none : (begun : Option Partial) (frame : Frame) → (frame.kind == headers_kind) ≡ false → (frame.kind == continuation_kind) ≡ false → completed_in begun frame ≡ None
+pub completes_none : (begun : Option Partial) (frame : Frame) → (frame.kind == headers_kind) ≡ false → (frame.kind == continuation_kind) ≡ false → completed_in begun frame ≡ None
 completes_none begun frame h c =
     ap (λ b. if (b || frame.kind == continuation_kind) && has_flag 4 frame then joined begun frame else None) h
     ∙ ap (λ b. if b && has_flag 4 frame then joined begun frame else None) c

@@ -123,7 +123,7 @@ one_delivery items d e p q =
 -- ---- connections
 
 -- a connection's number is at most how many were opened
-number_within : (os : List Opened) (o : Opened) → AreNumbered os → IsIn o os → o.k ≤ length os
+pub number_within : (os : List Opened) (o : Opened) → AreNumbered os → IsIn o os → o.k ≤ length os
 number_within [] o n i = absurd i
 number_within (p ∷ os) o n (inl same) = let k : o.k ≡ p.k = ap (λ (x : Opened). x.k) same in let first : p.k ≡ suc (length os) = n.0 in omega (arith, k, first)
 number_within (p ∷ os) o n (inr is) = let less = number_within os o n.1 is in omega (arith, less)

@@ -1,5 +1,5 @@
 -- Which entries leave what is on offer for a stream as it is.
-use Rattle.std.proofs.Common.{◌≡◌, ℕ, Bool, true, false, ◌==◌, ◌&&◌, ◌||◌, List, [], ◌∷◌, ◌++◌, refl, sym, ap, ◌∙◌, inl, inr, if◌then◌else◌}
+use Rattle.std.proofs.Common.{◌≡◌, ℕ, zero, suc, Bool, true, false, ◌==◌, ◌&&◌, ◌||◌, List, [], ◌∷◌, ◌++◌, refl, sym, ap, ◌∙◌, inl, inr, arith, if◌then◌else◌}
 use Rattle.std.specs.Prelude.{Option, Some, None, is_some, nat_lt}
 use Rattle.std.specs.List.{list_any}
 use Rattle.std.proofs.lemmas.List.{append-nil}
@@ -73,6 +73,15 @@ heads_stay known stream t e none =
     by : (c : Option Cause) → (course known stream t).cause ≡ c → (if is_some c then (course known stream t).heads_out else []) ≡ (course known stream t).heads_out
     by None e = sym (no_heads known stream t e)
     by (Some c) e = refl
+
+-- behind a cause both stay
+pub out_with_cause : (known : Known) (stream : ℕ) (t : List Entry) (e : Entry) (found : Cause) → (course known stream t).cause ≡ Some found → (course known stream t).head_out ≡ (course known stream (e ∷ t)).head_out
+out_with_cause known stream t e found is =
+    sym (ap (λ c. if is_some c then (course known stream t).head_out else is_some (cause_of known stream t e) && list_any is_final (items_on stream (sent t))) is)
+
+pub heads_with_cause : (known : Known) (stream : ℕ) (t : List Entry) (e : Entry) (found : Cause) → (course known stream t).cause ≡ Some found → (course known stream t).heads_out ≡ (course known stream (e ∷ t)).heads_out
+heads_with_cause known stream t e found is =
+    sym (ap (λ c. if is_some c then (course known stream t).heads_out else (if is_some (cause_of known stream t e) then heads_in (items_on stream (sent t)) else [])) is)
 
 -- the first item tells the method
 first_tells : (b : Bool) (xs ys : List Item) → (xs ≡ [] → ⊥) → is_to_head xs ≡ is_to_head (if b then xs else xs ++ ys)
@@ -190,7 +199,7 @@ none_by_other known stream t noted other =
 abbrev pub IsElsewhere : List Entry → Event → ℕ → Type 0
 IsElsewhere t event stream = (o : Opened) → IsGiven t stream o → o.k ≡ upstream_of event → ⊥
 
-heard_same : (t : List Entry) (event : Event) (k : ℕ) → (k ≡ upstream_of event → ⊥) → heard k t ≡ heard k (Happened event ∷ t)
+pub heard_same : (t : List Entry) (event : Event) (k : ℕ) → (k ≡ upstream_of event → ⊥) → heard k t ≡ heard k (Happened event ∷ t)
 heard_same t (Client piece) k other = refl
 heard_same t ClientEnd k other = refl
 heard_same t (ClientTook count) k other = refl
@@ -199,7 +208,7 @@ heard_same t (UpEnd j) k other = refl
 heard_same t (UpFailed j) k other = refl
 heard_same t (UpTook j count) k other = refl
 
-ended_same : (t : List Entry) (event : Event) (k : ℕ) → (k ≡ upstream_of event → ⊥) → has_ended k t ≡ has_ended k (Happened event ∷ t)
+pub ended_same : (t : List Entry) (event : Event) (k : ℕ) → (k ≡ upstream_of event → ⊥) → has_ended k t ≡ has_ended k (Happened event ∷ t)
 ended_same t (Client piece) k other = refl
 ended_same t ClientEnd k other = refl
 ended_same t (ClientTook count) k other = refl
@@ -230,6 +239,27 @@ given_is (p ∷ os) o n i = elim (eqb_tells p.k o.k) [
     | inr rest ↦ given_is os o n.1 rest
   ])
 ]
+
+-- a connection's number is above 0
+pub number_above : (os : List Opened) (o : Opened) → AreNumbered os → IsIn o os → o.k ≡ 0 → ⊥
+number_above [] o n i z = i
+number_above (p ∷ os) o n (inl same) z = let first = n.0 in let k : o.k ≡ p.k = ap (λ (x : Opened). x.k) same in omega (arith, first, k, z)
+number_above (p ∷ os) o n (inr rest) z = number_above os o n.1 rest z
+
+-- so the number 0 was given to no stream
+given_zero : (os : List Opened) → AreNumbered os → given 0 os ≡ 0
+given_zero [] n = refl
+given_zero (p ∷ os) n = ap (λ b. if b then p.stream else given 0 os) (ne_eqb p.k 0 (number_above (p ∷ os) p n (inl refl))) ∙ given_zero os n.1
+
+-- the event is of no connection
+pub none_of_nobody : (known : Known) (stream : ℕ) (t : List Entry) (event : Event) → AreNumbered (opens t) → upstream_of event ≡ 0 → cause_of known stream t (Happened event) ≡ None
+none_of_nobody known stream t event numbered nobody =
+    let about_is : about t (Happened event) ≡ 0 = ap (λ n. given n (opens t)) nobody ∙ given_zero (opens t) numbered in
+    ap (λ n. if n == stream && nat_lt 0 stream then cause_if (fails_behind known t) BadAnswer else None) about_is ∙ nobodys stream (cause_if (fails_behind known t) BadAnswer)
+  where
+    nobodys : (stream : ℕ) (c : Option Cause) → (if 0 == stream && nat_lt 0 stream then c else None) ≡ None
+    nobodys zero c = refl
+    nobodys (suc n) c = ap (λ b. if b && nat_lt 0 (suc n) then c else None) (ne_eqb 0 (suc n) (λ e. omega (arith, e)))
 
 -- no answer fails with the event
 pub none_unless_fails : (known : Known) (stream : ℕ) (t : List Entry) (event : Event) → fails_behind known t ≡ false → cause_of known stream t (Happened event) ≡ None

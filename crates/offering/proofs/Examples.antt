@@ -98,7 +98,7 @@ greeted_allowed = (
     no_neighbours (map entry_of (Sends (plain settings_frame) ∷ [])) refl,
     record {
       opened = refl;
-      caused = record { cause = refl; out = refl; heads = refl };
+      caused = λ a. record { cause = refl; out = refl; heads = refl };
       shared = refl;
       owns = λ stream a. let clash : false ≡ true = a in cc;
     },
@@ -115,7 +115,7 @@ asked_allowed = (
   no_neighbours (map entry_of greeted) refl,
   record {
     opened = (record { not_kept = refl; unsent = refl; not_given = λ o g. g.is_opened; no_cause = refl }, refl, refl);
-    caused = record { no_cause = refl; now = refl };
+    caused = λ a. record { no_cause = refl; now = refl };
     shared = refl;
     owns = λ stream a. refl;
   },

@@ -1,16 +1,17 @@
 -- Which streams are active behind an entry, and what it leaves of the sending windows.
 use Rattle.std.proofs.Common.{◌≡◌, ℕ, ◌+◌, Bool, true, false, not, ◌==◌, ◌&&◌, ◌||◌, List, [], ◌∷◌, ◌++◌, length, refl, sym, ap, ◌∙◌, arith, if◌then◌else◌, ℤ, pos, ◌-ℤ◌, ◌+ℤ◌}
-use Rattle.std.specs.Prelude.{None, is_none}
+use Rattle.std.specs.Prelude.{Option, None, is_none}
 use Rattle.std.specs.List.{list_any}
 use Rattle.std.proofs.lemmas.Int.{ints}
 use Rattle.std.proofs.lemmas.List.{append-nil}
 use Rattle.std.proofs.lemmas.Bool.{and_parts, and_from, and_right, eq-eqb, ne_eqb}
 use Rattle.std.proofs.Math.Bool.{and-true}
 use Rattle.model.specs.Messages.{Item}
-use Rattle.model.specs.Frames.{data_kind, window_update_kind, rst_stream_kind, ends_stream}
+use Rattle.model.specs.Messages.Item.{Content}
+use Rattle.model.specs.Frames.{content, data_kind, window_update_kind, rst_stream_kind, ends_stream}
 use Rattle.model.specs.Tapes.{Noted, Entry, came, sent}
 use Rattle.model.specs.Tapes.Entry.{Came, Sent}
-use Rattle.model.specs.Decoding.{completed}
+use Rattle.model.specs.Decoding.{Partial, completed}
 use Rattle.model.specs.Streams.{frame_items}
 use Rattle.model.specs.Available.{items_on}
 use Rattle.model.specs.FrameErrors.{frame_fault, sound}
@@ -99,6 +100,11 @@ no_items false xs items e = append-nil xs
 
 pub brought_none : (t : List Entry) (noted : Noted) (stream : ℕ) → frame_items (completed (sent t) noted.frame) noted ≡ [] → items_on stream (sent (Sent noted ∷ t)) ≡ items_on stream (sent t)
 brought_none t noted stream none = no_items (noted.frame.id == stream) (items_on stream (sent t)) (frame_items (completed (sent t) noted.frame) noted) none
+
+-- a frame that completes no block and isn't DATA brings nothing
+pub none_brought : (noted : Noted) (block : Option Partial) → block ≡ None → (noted.frame.kind == data_kind) ≡ false → frame_items block noted ≡ []
+none_brought noted block none no_data =
+    ap (λ b. frame_items b noted) none ∙ ap (λ b. if b then Content (content noted.frame) (ends_stream noted.frame) ∷ [] else []) no_data
 
 -- ---- the sending windows behind a frame that is sent
 

@@ -11,7 +11,7 @@ use Rattle.model.specs.Logs.Act.{Open, ToUp, Close, CloseClient}
 use Rattle.model.specs.Tapes.{Noted, Entry}
 use Rattle.model.specs.Tapes.Entry.{Happened, Sent, Did}
 use Rattle.model.specs.Admission.{untaken}
-use Rattle.model.specs.Openings.{Opened, opens, given, last_stream}
+use Rattle.model.specs.Openings.{Opened, opens, given, last_stream, AreNumbered}
 use Rattle.model.specs.Known.{Known, fails_behind}
 use Rattle.model.specs.Causes.{cause_if}
 use Rattle.model.specs.Causes.Cause.{BadAnswer}
@@ -97,14 +97,18 @@ hears_keep known t s event stream news n h may =
       own = kept.own;
     })
 
+-- a failure is the cause for the stream of its connection
+pub caused_by_failure : (known : Known) (t : List Entry) (event : Event) {stream : ℕ} (of : IsOf known t event stream) → AreNumbered (opens t) → fails_behind known t ≡ true → cause_of known stream t (Happened event) ≡ Some BadAnswer
+caused_by_failure known t event {stream} of numbered fails =
+    let about_is : about t (Happened event) ≡ stream = ap (λ j. given j (opens t)) (sym of.number) ∙ given_is (opens t) of.o numbered of.given.is_opened ∙ of.given.is_given in
+    ap (λ b. if b && nat_lt 0 stream then cause_if (fails_behind known t) BadAnswer else None) (eq-eqb (about t (Happened event)) stream about_is)
+    ∙ ap (λ b. if b then cause_if (fails_behind known t) BadAnswer else None) (lt-ltb 0 stream of.counted) ∙ ap (λ b. cause_if b BadAnswer) fails
+
 -- its answer fails
 pub fails_keep : (known : Known) (t : List Entry) (s : State) (event : Event) (stream : ℕ) → Neighbours known t → Offering known t s → MayGiveUp known t event stream → Offering known (Happened event ∷ t) (after s (Fails event stream))
 fails_keep known t s event stream n h may =
     let of = may.of in
-    let about_is : about t (Happened event) ≡ stream = ap (λ j. given j (opens t)) (sym of.number) ∙ given_is (opens t) of.o n.numbered of.given.is_opened ∙ of.given.is_given in
-    let new : cause_of known stream t (Happened event) ≡ Some BadAnswer =
-    ap (λ b. if b && nat_lt 0 stream then cause_if (fails_behind known t) BadAnswer else None) (eq-eqb (about t (Happened event)) stream about_is)
-    ∙ ap (λ b. if b then cause_if (fails_behind known t) BadAnswer else None) (lt-ltb 0 stream of.counted) ∙ ap (λ b. cause_if b BadAnswer) may.fails in
+    let new = caused_by_failure known t event of n.numbered may.fails in
     let now = caused_now known stream t (Happened event) BadAnswer of.no_cause new in
     let out = out_now known stream t (Happened event) BadAnswer of.no_cause now in
     let heads = heads_now known stream t (Happened event) BadAnswer of.no_cause now in

@@ -21,18 +21,18 @@ use Rattle.model.specs.Lifetimes.{is_active}
 use Rattle.model.specs.WindowsOnTape.{stream_window, connection_window}
 use Rattle.model.specs.WindowClause.{KeepsWindows}
 use Rattle.model.specs.Deliveries.{heads_in}
-use Rattle.model.specs.Courses.{course, cause_of, is_final, first_of_both}
+use Rattle.model.specs.Courses.{course, cause_of, upstream_of, is_final, first_of_both}
 use Rattle.model.specs.Offers.{IsDelivered}
 use Rattle.offering.specs.Outbox.{Outbox}
 use Rattle.offering.specs.Outbox.Outbox.{Before, Behind, Over}
 use Rattle.offering.specs.State.{Kept, State, find, unless_over, answered_box, untaken_by, after}
 use Rattle.offering.specs.State.Move.{Breaks, Notes, Sends}
-use Rattle.offering.specs.Policy.{Neighbours, BringsNone, MayNote}
+use Rattle.offering.specs.Policy.{Neighbours, BringsNone}
 use Rattle.offering.proofs.Standing.{SameOffer, Stands, stands_same, stands_replied, delivered_same}
 use Rattle.offering.proofs.Heads.{out_by_read}
-use Rattle.offering.proofs.Entries.{sent_quiet, breach_quiet, event_quiet, none_unless_fails}
+use Rattle.offering.proofs.Entries.{sent_quiet, breach_quiet, event_quiet, none_of_nobody, number_above}
 use Rattle.offering.proofs.Keeping.{find_without, find_beside, some_unless}
-use Rattle.offering.proofs.Living.{active_sent, active_beside, active_control, brought_none, own_control, shared_control}
+use Rattle.offering.proofs.Living.{active_sent, active_beside, active_control, brought_none, none_brought, own_control, shared_control}
 
 -- The record is the stream's, and unless a reset is owed its outbox is what is on offer behind what was read.
 pub record IsHeld (known : Known) (t : List Entry) (stream : ℕ) (k : Kept) : Type 0 where
@@ -141,18 +141,12 @@ module _ (known : Known) (t : List Entry) (e : Entry) (s s' : State) (h : Offeri
     delivered = λ stream. delivered_same known e t stream (same_items stream) (h.delivered stream);
   }
 
--- a number from 1 on
-number_above : (os : List Opened) (o : Opened) → AreNumbered os → IsIn o os → o.k ≡ 0 → ⊥
-number_above [] o n i z = i
-number_above (p ∷ os) o n (inl same) z = let first = n.0 in let k : o.k ≡ p.k = ap (λ (x : Opened). x.k) same in omega (arith, first, k, z)
-number_above (p ∷ os) o n (inr rest) z = number_above os o n.1 rest z
-
 -- an event that is no answer
-pub notes_keep : (known : Known) (t : List Entry) (s : State) (event : Event) → Neighbours known t → Offering known t s → MayNote known t event → Offering known (Happened event ∷ t) (after s (Notes event))
+pub notes_keep : (known : Known) (t : List Entry) (s : State) (event : Event) → Neighbours known t → Offering known t s → upstream_of event ≡ 0 → Offering known (Happened event ∷ t) (after s (Notes event))
 notes_keep known t s event n h may =
     offering_quiet known t (Happened event) s (after s (Notes event)) h
     (λ stream. refl)
-    (λ stream. event_quiet known t event stream (none_unless_fails known stream t event may.sound) (λ o g k. number_above (opens t) o n.numbered g.is_opened (k ∙ may.no_answer)))
+    (λ stream. event_quiet known t event stream (none_of_nobody known stream t event n.numbered may) (λ o g k. number_above (opens t) o n.numbered g.is_opened (k ∙ may)))
     (λ stream. refl) (λ stream. refl) refl refl refl (numbers event) h.keeps
   where
     numbers : (event : Event) → untaken_by s.untaken event ≡ untaken (Happened event ∷ t)
@@ -186,7 +180,4 @@ sends_keep known t s noted h may = record {
     live = active_control t noted may.no_block may.no_data
 
     none : (stream : ℕ) → items_on stream (sent (Sent noted ∷ t)) ≡ items_on stream (sent t)
-    none stream = brought_none t noted stream (none_there (completed (sent t) noted.frame) may.no_block)
-      where
-        none_there : (block : Option Partial) → block ≡ None → frame_items block noted ≡ []
-        none_there block e = ap (λ b. frame_items b noted) e ∙ ap (λ b. if b then Content (content noted.frame) (ends_stream noted.frame) ∷ [] else []) may.no_data
+    none stream = brought_none t noted stream (none_brought noted (completed (sent t) noted.frame) may.no_block may.no_data)

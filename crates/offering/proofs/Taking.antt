@@ -62,8 +62,8 @@ module _ (known : Known) (t : List Entry) (s : State) (noted : Noted) (effect : 
 
   -- the record of the frame's stream
   held_here : (opens : Bool) → IsOpened known t s noted opens effect.over → is_active id u ≡ true → IsHeldIf known u id (option_map (answered_if effect.caused) (find id (with_new opens id s.kept)))
-  held_here true new a = subst (λ o. IsHeldIf known u id (option_map (answered_if effect.caused) o)) (sym (find_new id s.kept new.0.not_kept)) (held_new effect.caused new.0 may.caused)
-  held_here false old a = held_old effect.caused (find id s.kept) may.caused (h.kept id (and_parts (is_active id t) (not effect.over) (sym old ∙ a)).0)
+  held_here true new a = subst (λ o. IsHeldIf known u id (option_map (answered_if effect.caused) o)) (sym (find_new id s.kept new.0.not_kept)) (held_new effect.caused new.0 (may.caused a))
+  held_here false old a = held_old effect.caused (find id s.kept) (may.caused a) (h.kept id (and_parts (is_active id t) (not effect.over) (sym old ∙ a)).0)
 
   -- the records of other streams stay behind a new one
   with_other : (opens : Bool) (stream : ℕ) → (id ≡ stream → ⊥) → find stream (with_new opens id s.kept) ≡ find stream s.kept

@@ -79,11 +79,6 @@ pub record MayGiveUp (known : Known) (t : List Entry) (event : Event) (stream : 
   pub fails : fails_behind known t ≡ true
   pub not_took : (count : ℕ) → event ≡ ClientTook count → ⊥
 
--- The event is none of an upstream's answer, and nothing fails with it.
-pub record MayNote (known : Known) (t : List Entry) (event : Event) : Type 0 where
-  pub no_answer : upstream_of event ≡ 0
-  pub sound : fails_behind known t ≡ false
-
 -- ---- acts and frames of the client
 
 -- A connection is opened for the stream of the last frame of the client: its first, with a new number.
@@ -126,10 +121,10 @@ abbrev pub IsOpened : Known → List Entry → State → Noted → Bool → Bool
 IsOpened known t s noted true over = IsNew known t s noted.frame.id × (over ≡ false) × (is_active noted.frame.id (Came noted ∷ t) ≡ true)
 IsOpened known t s noted false over = is_active noted.frame.id (Came noted ∷ t) ≡ (is_active noted.frame.id t && not over)
 
--- What the frame of the client changes is what the tape says.
+-- What the frame of the client changes is what the tape says; a cause counts only where the stream is active behind the frame.
 pub record MayTake (known : Known) (t : List Entry) (s : State) (noted : Noted) (change : Change) : Type 0 where
   pub opened : IsOpened known t s noted change.opens change.over
-  pub caused : IsCaused known t noted change.caused
+  pub caused : is_active noted.frame.id (Came noted ∷ t) ≡ true → IsCaused known t noted change.caused
   pub shared : change.shared ≡ connection_window (Came noted ∷ t)
   pub owns : (stream : ℕ) → is_active stream (Came noted ∷ t) ≡ true → change.owns stream ≡ stream_window stream (Came noted ∷ t)
 
@@ -139,7 +134,7 @@ pub record MayTake (known : Known) (t : List Entry) (s : State) (noted : Noted) 
 abbrev pub Holds : Known → List Entry → State → Move → Type 0
 Holds known t s (Takes noted change) = MayTake known t s noted change
 Holds known t s (Breaks breach) = Unit {0}
-Holds known t s (Notes event) = MayNote known t event
+Holds known t s (Notes event) = upstream_of event ≡ 0
 Holds known t s (Hears event stream news) = MayHear known t event stream news
 Holds known t s (Fails event stream) = MayGiveUp known t event stream
 Holds known t s (Goes noted item part over) = MayGo s noted item part × Brings t noted item over

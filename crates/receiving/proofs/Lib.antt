@@ -11,4 +11,5 @@ pub mod Admitting
 pub mod Returning
 pub mod Holding
 pub mod Marking
+pub mod Ruling
 mod Examples

@@ -1,4 +1,9 @@
 //! What of the client's DATA is kept and what goes back, and which event may come.
+//!
+//! The main theorem is `states_give_back`, beside `windows_go_back` on what goes back at each place. Its premises, and where each
+//! comes from: that each move may come by the states (`AllMayCome`) is what the methods of the gateway show; that what is read of
+//! the other concerns' states is right (`AreRight`) is the theorem on the summary of a tape; that nothing is owed
+//! (`OwesNothing`) is where a step ends. What is held of a response (`AreHeld`) is what its stream's outbox has (`held_is_told`).
 #![tactic(auto)]
 
 ghost use Rattle.std.specs.Prelude.{◌≡◌, ◌≢◌, ◌+◌, ◌≤◌, ℕ, Bool, true, List, length, sum_by, pos, ◌-ℤ◌};
@@ -15,6 +20,7 @@ ghost use Rattle.model.specs.Lifetimes.{is_active};
 ghost use Rattle.model.specs.WindowClause.{GivesBack, GivesNoMore, waiting};
 ghost use Rattle.receiving.specs.State.{Move, tape_of, state_of, held, fresh_of, with_taken, add};
 ghost use Rattle.receiving.specs.Policy.{AreAllowed, IsPaid, admits, room_in};
+ghost use Rattle.receiving.specs.Rule.{Seen, moves_of, sight_of, AllMayCome, AreRight, OwesNothing};
 ghost use Rattle.receiving.specs.Rooms.{HoldsBody, AreHeld, admits_beside};
 ghost use Rattle.offering.specs.Outbox.{Outbox};
 ghost use Rattle.receiving.specs.Held.{HasOutbox, AreUnpadded, body_in};
@@ -26,6 +32,13 @@ ghost use Rattle.receiving.specs.Marking.{marks_on};
 pub fn windows_go_back()
     ensures at_rest { (known : Known) (moves : List Move) → AreAllowed known.setup.passing moves → IsPaid (tape_of moves) (state_of known.setup.passing moves) → GivesBack known (tape_of moves) }
     ensures no_more { (passing : Passing) (moves : List Move) → AreAllowed passing moves → GivesNoMore (tape_of moves) }
+{}
+
+/// Moves that are allowed by the states alone, where what is read of other concerns is right, are allowed by their tape; and where
+/// nothing is owed each receiving window is as at first, but for what is kept.
+pub fn states_give_back()
+    ensures allowed { (known : Known) (passing : Passing) (run : List Seen) → AllMayCome passing run → AreRight known run → AreAllowed passing (moves_of run) }
+    ensures at_rest { (known : Known) (run : List Seen) → AllMayCome known.setup.passing run → AreRight known run → OwesNothing (sight_of run) (state_of known.setup.passing (moves_of run)) → GivesBack known (tape_of (moves_of run)) }
 {}
 
 /// The octets of a stream that wait on a tape are those behind marks that aren't reached.

@@ -19,7 +19,7 @@ use Rattle.offering.specs.Outbox.{first_head, with_news}
 use Rattle.offering.specs.Shown.{Tells}
 use Rattle.offering.proofs.Parts.{same_delivery, none_more}
 use Rattle.model.proofs.OfferLaws.{one_shown}
-use Rattle.offering_reader.specs.Telling.{interims_of, head_of, body_of, all_told, begun, shown_of, news_of}
+use Rattle.read_answers.specs.Telling.{interims_of, head_of, body_of, all_told, begun, shown_of, news_of}
 
 -- ---- parts in the form in which a reader tells them
 

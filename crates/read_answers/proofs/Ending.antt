@@ -19,8 +19,8 @@ use Rattle.offering.specs.Outbox.{first_head, with_news}
 use Rattle.offering.specs.Shown.{Tells}
 use Rattle.model.proofs.OfferLaws.{one_shown}
 use Rattle.offering.proofs.Parts.{same_delivery}
-use Rattle.offering_reader.specs.Telling.{interims_of, head_of, body_of, all_told, begun, shown_of, news_at_end}
-use Rattle.offering_reader.proofs.Reading.{told_behind, told_shown, not_whole}
+use Rattle.read_answers.specs.Telling.{interims_of, head_of, body_of, all_told, begun, shown_of, news_at_end}
+use Rattle.read_answers.proofs.Reading.{told_behind, told_shown, not_whole}
 
 -- all that was told, and that it is whole
 abbrev pub all_at_end : List Part → Delivery

@@ -1,0 +1,247 @@
+-- Whoever keeps the book by the rule of conduct keeps the clause on errors.
+use Rattle.std.proofs.Common.{◌≡◌, ℕ, Bool, true, false, not, ◌&&◌, if◌then◌else◌, List, [], ◌∷◌, ◌++◌, Option, Some, None, refl, sym, ◌∙◌, ap, subst, arith, inl, inr}
+use Rattle.std.proofs.lemmas.Bool.{or_left, cases_Bool}
+use Rattle.std.specs.Prelude.{is_none}
+use Rattle.model.specs.Frames.{Frame}
+use Rattle.model.specs.Setup.{Setup}
+use Rattle.model.specs.SettingValues.{settings_in, settings_fault, initial_window_after}
+use Rattle.model.specs.Logs.Event.{Client, ClientEnd, ClientTook, Up, UpEnd, UpFailed, UpTook}
+use Rattle.model.specs.Logs.Act.{Open, ToUp, Close, CloseClient}
+use Rattle.model.specs.Tapes.{Entry}
+use Rattle.model.specs.Tapes.Breach.{WrongPreface, TooLong}
+use Rattle.model.specs.Tapes.Entry.{Came, Breached, Happened, Sent, Did}
+use Rattle.model.specs.Errors.{Fault, first_of, or_else}
+use Rattle.model.specs.Errors.Fault.{Stream}
+use Rattle.model.specs.FrameErrors.{fault_if}
+use Rattle.model.specs.WindowsOnTape.{has_settings}
+use Rattle.model.specs.Known.{Known}
+use Rattle.model.specs.ErrorClause.{is_fatal, ErrorsHold}
+use Rattle.conduct.specs.Turn.{rest_of, IsDue}
+use Rattle.conduct.specs.Summary.{Brief, Stream as Kept, Summary}
+use Rattle.conduct.specs.Judging.{rows_in, fault_for}
+use Rattle.conduct.specs.Owing.{must_end_in}
+use Rattle.conduct.specs.After.{is_sound, first_size_after, ends_after, after}
+use Rattle.conduct.specs.Rows.{Row, fresh, find, with_streams, rows_after, WillDo, StandFor}
+use Rattle.conduct.specs.Rule.{Move, Point, queue_behind, point_after, IsInTurn, Allowed, tape_of, point_of, AllAllowed, AreKnown}
+use Rattle.conduct.specs.Book.{Book, summary_in, book_with, Desk, as_point, desk_after, IsSound, IsFit, MayMove, desk_of, AllMoved, Rests}
+use Rattle.conduct.proofs.Alike.{shifts_seen}
+use Rattle.conduct.proofs.Seen.{fault_seen, end_seen}
+use Rattle.conduct.proofs.RowsKept.{will_do, rows_stand}
+use Rattle.conduct.proofs.Idle.{still_idle}
+use Rattle.conduct.proofs.Turns.{control_owes, fit_told, allowed_told, queue_told}
+use Rattle.conduct.proofs.Rule.{errors_hold_at_rest}
+
+-- ---- whether an error is one of the connection doesn't depend on a stream's course
+
+fatal_last : (found : Option Fault) (a b : Bool) (code : ℕ) → is_fatal (or_else found (fault_if a (Stream code))) ≡ is_fatal (or_else found (fault_if b (Stream code)))
+fatal_last None true true code = refl
+fatal_last None true false code = refl
+fatal_last None false true code = refl
+fatal_last None false false code = refl
+fatal_last (Some fault) a b code = refl
+
+fatal_same : (s : Summary) (x y : Brief) (e : Entry) → is_fatal (fault_for x s e) ≡ is_fatal (fault_for y s e)
+fatal_same s x y (Came noted) = fatal_last (first_of (rows_in s noted)) _ _ _
+fatal_same s x y (Breached WrongPreface) = refl
+fatal_same s x y (Breached TooLong) = refl
+fatal_same s x y (Happened event) = refl
+fatal_same s x y (Sent noted) = refl
+fatal_same s x y (Did act) = refl
+
+-- where the end isn't called for behind an entry, the entry was no error of the connection
+no_end : (s : Summary) (e : Entry) → ends_after s e ≡ false → is_fatal (fault_for fresh.brief s e) ≡ false
+no_end s (Came noted) on = fatal_same s fresh.brief (s.stream noted.frame.id).brief (Came noted) ∙ on
+no_end s (Breached breach) on = absurd (let no : true ≡ false = on in cc)
+no_end s (Happened event) on = refl
+no_end s (Sent noted) on = refl
+no_end s (Did act) on = refl
+
+-- a fit entry behind which the end isn't called for is sound
+sound_if : (fails : Bool) (s : Summary) (e : Entry) → ends_after s e ≡ false → IsFit fails s e → IsSound fails s e
+sound_if fails s (Came noted) on fit = fit on
+sound_if fails s (Breached breach) on fit = fit
+sound_if fails s (Happened event) on fit = fit
+sound_if fails s (Sent noted) on fit = fit
+sound_if fails s (Did act) on fit = fit
+
+-- ---- the connection's part, as the rows tell it
+
+module _ (setup : Setup) (fails : Bool) (rows : List Row) (s : Summary) (stand : StandFor rows s) where
+  abbrev view : Summary
+  view = with_streams (find rows) s
+
+  size_seen : (e : Entry) → first_size_after view e ≡ first_size_after s e
+  size_seen (Came noted) =
+      let new = initial_window_after s.first_size (settings_in noted.frame.payload) in
+      ap (λ b. if is_sound s noted.frame && (has_settings noted.frame && is_none (settings_fault noted.frame.payload) && not b) then new else s.first_size) (shifts_seen (find rows) s (will_do rows s stand) new)
+  size_seen (Breached breach) = refl
+  size_seen (Happened event) = refl
+  size_seen (Sent noted) = refl
+  size_seen (Did act) = refl
+
+  ends_seen : (e : Entry) → ends_after view e ≡ ends_after s e
+  ends_seen (Came noted) = ap is_fatal (fault_seen setup fails (find rows) s (will_do rows s stand) stand.few (Came noted))
+  ends_seen (Breached breach) = refl
+  ends_seen (Happened (Client piece)) = refl
+  ends_seen (Happened ClientEnd) = refl
+  ends_seen (Happened (ClientTook count)) = refl
+  ends_seen (Happened (Up k piece)) = refl
+  ends_seen (Happened (UpEnd k)) = refl
+  ends_seen (Happened (UpFailed k)) = refl
+  ends_seen (Happened (UpTook k count)) = refl
+  ends_seen (Sent noted) = refl
+  ends_seen (Did act) = refl
+
+  -- The summary behind an entry is the same but for the streams.
+  after_seen : (g : ℕ → Kept) (e : Entry) → with_streams g (after setup fails view e) ≡ with_streams g (after setup fails s e)
+  after_seen g e =
+      ap (λ (n : ℕ). with_streams g (record (after setup fails view e) { first_size = n })) (size_seen e)
+      ∙ ap (λ (b : Bool). with_streams g (record (after setup fails view e) { first_size = first_size_after s e; ends = b })) (ends_seen e)
+
+-- ---- what a desk tells
+
+-- A book tells a summary, in all but the streams of which nothing has to be kept.
+pub record IsTold (book : Book) (s : Summary) : Type 0 where
+  pub same : summary_in book ≡ with_streams (find book.rows) s
+  pub stand : StandFor book.rows s
+
+-- A desk tells a point; the streams only as long as the end isn't called for.
+pub record Tells (desk : Desk) (p : Point) : Type 0 where
+  pub queue : desk.queue ≡ p.queue
+  pub ends : desk.book.ends ≡ p.summary.ends
+  pub closed : desk.book.closed ≡ p.summary.closed
+  pub told : p.summary.ends ≡ false → IsTold desk.book p.summary
+
+-- what a move is and leads to, by the summary
+pub record Follows (setup : Setup) (desk : Desk) (p : Point) (m : Move) : Type 0 where
+  pub allowed : Allowed p m
+  pub tells : Tells desk (point_after setup p m)
+
+-- a book with these rows tells a summary
+told_with : (rows : List Row) (v s : Summary) → with_streams (find rows) v ≡ with_streams (find rows) s → StandFor rows s → summary_in (book_with rows v) ≡ with_streams (find rows) s
+told_with rows v s same stand =
+    let opened : v.opened ≡ s.opened = ap (λ (x : Summary). x.opened) same in
+    ap (λ (ids : List ℕ). with_streams (find rows) (record v { opened = ids })) (stand.ids ∙ sym opened) ∙ same
+
+-- one move, where the end wasn't called for
+goes_on : (setup : Setup) (rows : List Row) (s : Summary) (queue : List Frame) (m : Move) → StandFor rows s
+    → Allowed (record { summary = with_streams (find rows) s; queue = queue }) m → IsFit m.fails (with_streams (find rows) s) m.entry
+    → Follows setup (record { book = book_with (rows_after setup m.fails (with_streams (find rows) s) m.entry rows) (after setup m.fails (with_streams (find rows) s) m.entry); queue = queue_behind setup m.fails (record { summary = with_streams (find rows) s; queue = queue }) m.entry }) (record { summary = s; queue = queue }) m
+goes_on setup rows s queue m stand may fit_seen = record {
+  allowed = allowed;
+  tells = record {
+    queue = queue_told setup m.fails (find rows) s will stand.few queue m.entry fit allowed.turn;
+    ends = ends_seen setup m.fails rows s stand m.entry;
+    closed = refl;
+    told = λ on.
+        let idle = still_idle setup m.fails s stand.idle m.entry (sound_if m.fails s m.entry on fit) (no_end s m.entry on) in
+        let now : StandFor later (after setup m.fails s m.entry) = rows_stand setup m.fails rows s stand m.entry idle in
+        record { same = told_with later (after setup m.fails (with_streams (find rows) s) m.entry) (after setup m.fails s m.entry) (after_seen setup m.fails rows s stand (find later) m.entry) now; stand = now };
+  };
+}
+  where
+    will : WillDo (find rows) s
+    will = will_do rows s stand
+
+    allowed : Allowed (record { summary = s; queue = queue }) m
+    allowed = allowed_told setup m.fails (find rows) s will stand.few queue m may
+
+    fit : IsFit m.fails s m.entry
+    fit = fit_told setup m.fails (find rows) s will stand.few m.entry fit_seen
+
+    later : List Row
+    later = rows_after setup m.fails (with_streams (find rows) s) m.entry rows
+
+-- ---- where the end is called for
+
+-- The end stays called for behind a frame that is sent, or an act.
+ends_on : (setup : Setup) (desk : Desk) (p : Point) (m : Move) → Tells desk p → p.summary.ends ≡ true → Allowed (as_point desk) m → Follows setup (desk_after setup desk m) p m
+ends_on setup desk p m tells ended may = by_entry m.entry m.fails may.turn
+  where
+    e_ended : desk.book.ends ≡ true
+    e_ended = tells.ends ∙ ended
+
+    to_end : must_end_in (summary_in desk.book) ≡ true
+    to_end = or_left desk.book.ends _ e_ended
+
+    open_yet : p.summary.closed ≡ false
+    open_yet = sym tells.closed ∙ may.open_yet
+
+    nothing_in : must_end_in (summary_in desk.book) ≡ false → ⊥
+    nothing_in on = let no : true ≡ false = sym to_end ∙ on in absurd (let x : true ≡ false = no in cc)
+
+    by_entry : (e : Entry) (fails : Bool) → IsInTurn (as_point desk) e → Follows setup (desk_after setup desk (record { entry = e; fails = fails })) p (record { entry = e; fails = fails })
+    by_entry (Came noted) fails turn = absurd (nothing_in turn.goes_on)
+    by_entry (Breached breach) fails turn = absurd (nothing_in turn.goes_on)
+    by_entry (Happened event) fails turn = absurd (nothing_in turn.goes_on)
+    by_entry (Sent noted) fails (inr pass) = absurd (nothing_in pass.goes_on)
+    by_entry (Sent noted) fails (inl due) = record {
+      allowed = record { open_yet = open_yet; turn = inl (subst (λ q. IsDue q noted) tells.queue due) };
+      tells = record {
+        queue =
+            ap (λ (fs : List Frame). rest_of desk.queue ++ fs) (control_owes setup fails (summary_in desk.book) noted due.control)
+            ∙ ap (λ (q : List Frame). rest_of q ++ []) tells.queue
+            ∙ sym (ap (λ (fs : List Frame). rest_of p.queue ++ fs) (control_owes setup fails p.summary noted due.control));
+        ends = tells.ends;
+        closed = tells.closed;
+        told = λ on. absurd (let no : true ≡ false = sym ended ∙ on in cc);
+      };
+    }
+    by_entry (Did (Open k route)) fails turn = record {
+      allowed = record { open_yet = open_yet; turn = tt };
+      tells = record { queue = tells.queue; ends = tells.ends; closed = tells.closed; told = λ on. absurd (let no : true ≡ false = sym ended ∙ on in cc) };
+    }
+    by_entry (Did (ToUp k octets)) fails turn = record {
+      allowed = record { open_yet = open_yet; turn = tt };
+      tells = record { queue = tells.queue; ends = tells.ends; closed = tells.closed; told = λ on. absurd (let no : true ≡ false = sym ended ∙ on in cc) };
+    }
+    by_entry (Did (Close k)) fails turn = record {
+      allowed = record { open_yet = open_yet; turn = tt };
+      tells = record { queue = tells.queue; ends = tells.ends; closed = tells.closed; told = λ on. absurd (let no : true ≡ false = sym ended ∙ on in cc) };
+    }
+    by_entry (Did CloseClient) fails turn = record {
+      allowed = record { open_yet = open_yet; turn = record { nothing = sym tells.queue ∙ turn.nothing; to_end = or_left p.summary.ends _ ended } };
+      tells = record { queue = tells.queue; ends = tells.ends; closed = refl; told = λ on. absurd (let no : true ≡ false = sym ended ∙ on in cc) };
+    }
+
+-- ---- any move
+
+one_move : (setup : Setup) (desk : Desk) (p : Point) (m : Move) → Tells desk p → MayMove desk m → Follows setup (desk_after setup desk m) p m
+one_move setup desk p m tells may = elim (cases_Bool p.summary.ends) [
+  | inl ended ↦ ends_on setup desk p m tells ended may.allowed
+  | inr on ↦
+      let told : IsTold desk.book p.summary = tells.told on in
+      let rows : List Row = desk.book.rows in
+      let at : Summary → List Frame → Desk = λ s queue. record { book = book_with (rows_after setup m.fails s m.entry rows) (after setup m.fails s m.entry); queue = queue_behind setup m.fails (record { summary = s; queue = queue }) m.entry } in
+      let may_there : Allowed (record { summary = with_streams (find rows) p.summary; queue = p.queue }) m =
+      subst (λ (q : List Frame). Allowed (record { summary = with_streams (find rows) p.summary; queue = q }) m) tells.queue (subst (λ (s : Summary). Allowed (record { summary = s; queue = desk.queue }) m) told.same may.allowed) in
+      let fit_there : IsFit m.fails (with_streams (find rows) p.summary) m.entry = subst (λ (s : Summary). IsFit m.fails s m.entry) told.same may.fit in
+      subst (λ (s : Summary). Follows setup (at s desk.queue) p m) (sym told.same) (subst (λ (q : List Frame). Follows setup (at (with_streams (find rows) p.summary) q) p m) (sym tells.queue) (goes_on setup rows p.summary p.queue m told.stand may_there fit_there))
+]
+
+-- What the fold of the moves keeps, and that each of them was allowed.
+pub record HasKept (setup : Setup) (moves : List Move) : Type 0 where
+  pub tells : Tells (desk_of setup moves) (point_of setup moves)
+  pub allowed : AllAllowed setup moves
+
+pub has_kept : (setup : Setup) (moves : List Move) → AllMoved setup moves → HasKept setup moves
+has_kept setup [] all = record { tells = record { queue = refl; ends = refl; closed = refl; told = λ on. record { same = refl; stand = record { ids = refl; alike = λ id there. absurd (let no : false ≡ true = there in cc); idle = λ id may. refl; few = omega arith } } }; allowed = tt }
+has_kept setup (m ∷ moves) all =
+    let before : HasKept setup moves = has_kept setup moves all.0 in
+    let next : Follows setup (desk_after setup (desk_of setup moves) m) (point_of setup moves) m = one_move setup (desk_of setup moves) (point_of setup moves) m before.tells all.1 in
+    record { tells = next.tells; allowed = (before.allowed, next.allowed) }
+
+-- A desk tells whether the connection is to end.
+end_told : (setup : Setup) (desk : Desk) (p : Point) → Tells desk p → must_end_in (summary_in desk.book) ≡ must_end_in p.summary
+end_told setup desk p tells = elim (cases_Bool p.summary.ends) [
+  | inl ended ↦ or_left desk.book.ends _ (tells.ends ∙ ended) ∙ sym (or_left p.summary.ends _ ended)
+  | inr on ↦
+      let told : IsTold desk.book p.summary = tells.told on in
+      ap must_end_in told.same ∙ end_seen setup false (find desk.book.rows) p.summary (will_do desk.book.rows p.summary told.stand) told.stand.few
+]
+
+-- The clause on errors holds wherever the program rests, whatever came.
+pub errors_hold_by_book : (known : Known) (moves : List Move) → AreKnown known moves → AllMoved known.setup moves → Rests (desk_of known.setup moves) → ErrorsHold known (tape_of moves)
+errors_hold_by_book known moves knows all rests =
+    let kept : HasKept known.setup moves = has_kept known.setup moves all in
+    errors_hold_at_rest known moves knows kept.allowed (record { nothing = sym kept.tells.queue ∙ rests.nothing; ended = λ ends. sym kept.tells.closed ∙ rests.ended (end_told known.setup (desk_of known.setup moves) (point_of known.setup moves) kept.tells ∙ ends) })

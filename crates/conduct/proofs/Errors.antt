@@ -1,0 +1,236 @@
+-- The clause on errors, from whose turn it was: it holds of each tape whose entries stood in their turn, whatever they are.
+use Rattle.std.proofs.Common.{◌≡◌, Bool, true, false, not, ◌||◌, if◌then◌else◌, List, [], ◌∷◌, ◌++◌, map, filter, reverse, Option, Some, None, refl, sym, ◌∙◌, ap, subst, append-nil, append_assoc, inl, inr}
+use Rattle.std.proofs.lemmas.List.{reverse-append}
+use Rattle.std.proofs.lemmas.Bool.{or_parts, or_right}
+use Rattle.model.specs.Frames.{Frame, settings_frame, protocol_error, frame_size_error}
+use Rattle.model.specs.Logs.{Act, Event}
+use Rattle.model.specs.Logs.Act.{Open, ToUp, Close, CloseClient}
+use Rattle.model.specs.Tapes.{Noted, Breach, Entry, sent, is_closed}
+use Rattle.model.specs.Tapes.Breach.{WrongPreface, TooLong}
+use Rattle.model.specs.Tapes.Entry.{Came, Breached, Happened, Sent, Did}
+use Rattle.model.specs.Errors.{Fault}
+use Rattle.model.specs.Errors.Fault.{Connection, Stream, Discarded}
+use Rattle.model.specs.Known.{Known}
+use Rattle.model.specs.Lifetimes.{is_spent}
+use Rattle.model.specs.Courses.{course, fault, new_cause}
+use Rattle.model.specs.ErrorClause.{owed_first, owed_by, owed, controls, is_passing, is_rightly_sent, is_fatal, calls_for_end, must_end, IsFollowed, AreFollowed, ErrorsHold}
+use Rattle.conduct.specs.Turn.{rest_of, queue_after, queue_of, MayCome, MayPass, MayClose, MayStand, Conducted, Holds}
+use Rattle.conduct.proofs.Silences.{no_farewell, did_nothing, control_owes_nothing, later_owed, nothing_besides, no_cause_of_fault}
+
+-- the frames of notes
+abbrev pub frames_in : List Noted → List Frame
+frames_in noted = map (λ (n : Noted). n.frame) noted
+
+-- At the start the gateway's settings are owed, and nothing else is.
+holds_first : (known : Known) → Holds known [] (settings_frame ∷ [])
+holds_first known = record {
+  begins = ([], refl);
+  owing = refl;
+  followed = λ behind none. tt;
+  rightly_sent = tt;
+  in_time = tt;
+  closed = λ shut. absurd (let f : false ≡ true = shut in cc);
+}
+
+-- ---- lists of debts
+
+-- a debt that is paid has moved from the front of the debts to the frames that were sent
+paid : (frame : Frame) (queue frames : List Frame) → reverse queue ++ frame ∷ frames ≡ reverse (frame ∷ queue) ++ frames
+paid frame queue frames = sym (ap (λ fs. fs ++ frames) (reverse-append (frame ∷ []) queue) ∙ append_assoc (reverse queue) (frame ∷ []) frames)
+
+-- where nothing was owed, a frame that is sent stands behind all that was
+sent_behind : (behind : List Frame) (queue : List Frame) → queue ≡ [] → behind ++ reverse queue ≡ behind
+sent_behind behind queue none = ap (λ q. behind ++ reverse q) none ∙ append-nil behind
+
+-- What an entry calls for before all else stands first among what it calls for. Behind an error of the connection it is all.
+follows : (found : Option Fault) (first rest behind : List Frame) → (is_fatal found ≡ true → (behind ≡ []) × ((rest ≡ []) × (reverse first ≡ first))) → IsFollowed (behind ++ reverse (first ++ rest)) first found
+follows None first rest behind fatal = (behind ++ reverse rest, ap (λ fs. behind ++ fs) (reverse-append first rest) ∙ sym (append_assoc behind (reverse rest) (reverse first)))
+follows (Some (Stream code)) first rest behind fatal = (behind ++ reverse rest, ap (λ fs. behind ++ fs) (reverse-append first rest) ∙ sym (append_assoc behind (reverse rest) (reverse first)))
+follows (Some Discarded) first rest behind fatal = (behind ++ reverse rest, ap (λ fs. behind ++ fs) (reverse-append first rest) ∙ sym (append_assoc behind (reverse rest) (reverse first)))
+follows (Some (Connection code)) first rest behind fatal =
+    let f = fatal refl in
+    ap (λ fs. fs ++ reverse (first ++ rest)) f.0 ∙ ap (λ fs. reverse (first ++ fs)) f.1.0 ∙ ap (λ fs. reverse fs) (append-nil first) ∙ f.1.1
+
+-- ---- what comes in
+
+-- an error of the connection calls for one farewell, and nothing else
+abbrev IsAlone : Known → List Entry → Entry → Option Fault → Type 0
+IsAlone known t e found = (later_owed known t e found ≡ []) × (reverse (owed_first t e found) ≡ owed_first t e found)
+
+-- What an entry calls for follows it.
+follows_it : (known : Known) (t : List Entry) (e : Entry) (behind : List Frame) → (is_fatal (fault known t e) ≡ true → (behind ≡ []) × IsAlone known t e (fault known t e))
+    → IsFollowed (behind ++ reverse (owed_by known t e)) (owed_first t e (fault known t e)) (fault known t e)
+follows_it known t e behind fatal =
+    let found = fault known t e in
+    follows found (owed_first t e found) (later_owed known t e found) behind (λ so. ((fatal so).0, (fatal so).1))
+
+-- the farewell of a frame that is such an error
+alone_frame : (known : Known) (t : List Entry) (noted : Noted) (found : Option Fault) → fault known t (Came noted) ≡ found → is_fatal found ≡ true → IsAlone known t (Came noted) found
+alone_frame known t noted None is so = absurd (let no : false ≡ true = so in cc)
+alone_frame known t noted (Some (Stream code)) is so = absurd (let no : false ≡ true = so in cc)
+alone_frame known t noted (Some Discarded) is so = absurd (let no : false ≡ true = so in cc)
+alone_frame known t noted (Some (Connection code)) is so =
+    let c = course known noted.frame.id t in
+    (nothing_besides known t (Came noted) code (ap (new_cause known noted.frame.id t (Came noted) c) is ∙ no_cause_of_fault known noted.frame.id t noted c (Connection code)) refl, refl)
+
+-- the farewell of a breach
+alone_breach : (known : Known) (t : List Entry) (breach : Breach) → IsAlone known t (Breached breach) (fault known t (Breached breach))
+alone_breach known t WrongPreface = (nothing_besides known t (Breached WrongPreface) protocol_error refl refl, refl)
+alone_breach known t TooLong = (nothing_besides known t (Breached TooLong) frame_size_error refl refl, refl)
+
+module _ (known : Known) (t : List Entry) (queue : List Frame) (h : Holds known t queue) (may : MayCome known t queue) where
+  -- the gateway's settings were the first frame
+  still_begins : (more : List Frame) → (newer : List Frame) × (reverse more ++ frames_in (sent t) ≡ newer ++ settings_frame ∷ [])
+  still_begins more =
+      let was : reverse queue ++ frames_in (sent t) ≡ h.begins.0 ++ settings_frame ∷ [] = h.begins.1 in
+      (reverse more ++ h.begins.0, ap (λ fs. reverse more ++ fs) (ap (λ (q : List Frame). reverse q ++ frames_in (sent t)) (sym may.nothing) ∙ was) ∙ sym (append_assoc (reverse more) h.begins.0 (settings_frame ∷ [])))
+
+  -- what the entry calls for is owed, and nothing else is
+  still_owing : (more : List Frame) → reverse more ++ controls (sent t) ≡ reverse more ++ owed known t
+  still_owing more = ap (λ fs. reverse more ++ fs) (ap (λ (q : List Frame). reverse q ++ controls (sent t)) (sym may.nothing) ∙ h.owing)
+
+  -- the entries before are followed as they have to be, whatever comes
+  still_followed : (behind : List Frame) → AreFollowed known behind t
+  still_followed behind =
+      let goes_on = or_parts (calls_for_end known t) _ may.goes_on in
+      subst (λ fs. AreFollowed known fs t) (sent_behind behind queue may.nothing) (h.followed behind (λ ends. absurd (let no : false ≡ true = sym goes_on.0 ∙ ends in cc)))
+
+  -- the client isn't closed
+  still_open : is_closed t ≡ true → ⊥
+  still_open shut = let no : false ≡ true = sym may.goes_on ∙ (h.closed shut).to_end in absurd (let x : false ≡ true = no in cc)
+
+  -- the facts of an entry that comes in, and is no act and no frame to the client
+  came : (noted : Noted) → Holds known (Came noted ∷ t) (owed_by known t (Came noted))
+  came noted = record {
+    begins = still_begins (owed_by known t (Came noted));
+    owing = still_owing (owed_by known t (Came noted));
+    followed = λ behind last.
+        (follows_it known t (Came noted) behind (λ so. (last so, alone_frame known t noted (fault known t (Came noted)) refl so)), still_followed (behind ++ reverse (owed_by known t (Came noted))));
+    rightly_sent = h.rightly_sent;
+    in_time = (may.goes_on, h.in_time);
+    closed = λ shut. absurd (still_open shut);
+  }
+
+  breached : (breach : Breach) → Holds known (Breached breach ∷ t) (owed_by known t (Breached breach))
+  breached breach = record {
+    begins = still_begins (owed_by known t (Breached breach));
+    owing = still_owing (owed_by known t (Breached breach));
+    followed = λ behind last.
+        (follows_it known t (Breached breach) behind (λ so. (last refl, alone_breach known t breach)), still_followed (behind ++ reverse (owed_by known t (Breached breach))));
+    rightly_sent = h.rightly_sent;
+    in_time = (may.goes_on, h.in_time);
+    closed = λ shut. absurd (still_open shut);
+  }
+
+  happened : (event : Event) → Holds known (Happened event ∷ t) (owed_by known t (Happened event))
+  happened event = record {
+    begins = still_begins (owed_by known t (Happened event));
+    owing = still_owing (owed_by known t (Happened event));
+    followed = λ behind last.
+        (follows_it known t (Happened event) behind (λ so. absurd (let no : false ≡ true = so in cc)), still_followed (behind ++ reverse (owed_by known t (Happened event))));
+    rightly_sent = h.rightly_sent;
+    in_time = (may.goes_on, h.in_time);
+    closed = λ shut. absurd (still_open shut);
+  }
+
+-- ---- what is sent
+
+-- A frame beside responses pays the front of what is owed.
+pays : (known : Known) (t : List Entry) (queue : List Frame) (noted : Noted) → Holds known t (noted.frame ∷ queue) → is_closed t ≡ false → is_passing noted ≡ false → Holds known (Sent noted ∷ t) queue
+pays known t queue noted h on control = record {
+  begins = (h.begins.0, paid noted.frame queue (frames_in (sent t)) ∙ h.begins.1);
+  owing =
+      ap (λ b. reverse queue ++ map (λ (n : Noted). n.frame) (if not b then noted ∷ control_notes else control_notes)) control
+      ∙ paid noted.frame queue (controls (sent t))
+      ∙ h.owing
+      ∙ sym (ap (λ (fs : List Frame). reverse fs ++ owed known t) (control_owes_nothing known t noted control));
+  followed = λ behind last. subst (λ fs. AreFollowed known fs t) (sym (moved behind)) (h.followed behind last);
+  rightly_sent = (ap (λ b. not b || is_rightly_sent t noted.frame) control, h.rightly_sent);
+  in_time = h.in_time;
+  closed = λ shut. absurd (let no : false ≡ true = sym on ∙ shut in cc);
+}
+  where
+    control_notes : List Noted
+    control_notes = filter (λ (n : Noted). not (is_passing n)) (sent t)
+
+    moved : (behind : List Frame) → (behind ++ reverse queue) ++ noted.frame ∷ [] ≡ behind ++ reverse (noted.frame ∷ queue)
+    moved behind = append_assoc behind (reverse queue) (noted.frame ∷ []) ∙ ap (λ fs. behind ++ fs) (paid noted.frame queue [] ∙ append-nil (reverse (noted.frame ∷ queue)))
+
+-- A part of a response, or octets given back, may call for a reset behind it.
+passes : (known : Known) (t : List Entry) (queue : List Frame) (noted : Noted) → Holds known t queue → is_closed t ≡ false → MayPass known t queue noted → Holds known (Sent noted ∷ t) (owed_by known t (Sent noted))
+passes known t queue noted h on may = record {
+  begins =
+      let was : reverse queue ++ frames_in (sent t) ≡ h.begins.0 ++ settings_frame ∷ [] = h.begins.1 in
+      let now : frames_in (sent t) ≡ h.begins.0 ++ settings_frame ∷ [] = ap (λ (q : List Frame). reverse q ++ frames_in (sent t)) (sym may.nothing) ∙ was in
+      (reverse more ++ noted.frame ∷ h.begins.0, ap (λ fs. reverse more ++ noted.frame ∷ fs) now ∙ sym (append_assoc (reverse more) (noted.frame ∷ h.begins.0) (settings_frame ∷ [])));
+  owing =
+      ap (λ b. reverse more ++ map (λ (n : Noted). n.frame) (if not b then noted ∷ control_notes else control_notes)) may.passing
+      ∙ ap (λ fs. reverse more ++ fs) (ap (λ (q : List Frame). reverse q ++ controls (sent t)) (sym may.nothing) ∙ h.owing);
+  followed = λ behind last.
+      let goes_on = or_parts (calls_for_end known t) (is_spent t) may.goes_on in
+      let all = (behind ++ reverse more) ++ noted.frame ∷ [] in
+      subst (λ fs. AreFollowed known fs t) (sent_behind all queue may.nothing) (h.followed all (λ ends. absurd (let no : false ≡ true = sym goes_on.0 ∙ ends in cc)));
+  rightly_sent = (or_right (not (is_passing noted)) (is_rightly_sent t noted.frame) may.rightly, h.rightly_sent);
+  in_time = h.in_time;
+  closed = λ shut. absurd (let no : false ≡ true = sym on ∙ shut in cc);
+}
+  where
+    more : List Frame
+    more = owed_by known t (Sent noted)
+
+    control_notes : List Noted
+    control_notes = filter (λ (n : Noted). not (is_passing n)) (sent t)
+
+-- ---- what is done
+
+-- Acts owe nothing; the client's close stands only where it may.
+acts : (known : Known) (t : List Entry) (queue : List Frame) (act : Act) → Holds known t queue → (is_closed (Did act ∷ t) ≡ true → MayClose known t queue) → Holds known (Did act ∷ t) queue
+acts known t queue act h closes = record {
+  begins = h.begins;
+  owing = h.owing ∙ sym (ap (λ (fs : List Frame). reverse fs ++ owed known t) (did_nothing known t act));
+  followed = λ behind last.
+      let none : owed_first t (Did act) None ≡ [] = no_farewell t (Did act) refl in
+      ((behind ++ reverse queue, sym (ap (λ (fs : List Frame). (behind ++ reverse queue) ++ reverse fs) none ∙ append-nil (behind ++ reverse queue))), h.followed behind last);
+  rightly_sent = h.rightly_sent;
+  in_time = h.in_time;
+  closed = λ shut. let may = closes shut in record { nothing = may.nothing; to_end = may.to_end };
+}
+
+-- ---- any entry in its turn
+
+-- What holds behind a tape holds behind an entry more that stands in its turn.
+pub holds_step : (known : Known) (t : List Entry) (queue : List Frame) (e : Entry) → Holds known t queue → MayStand known t queue e → Holds known (e ∷ t) (queue_after known t queue e)
+holds_step known t queue (Came noted) h may = came known t queue h may.turn noted
+holds_step known t queue (Breached breach) h may = breached known t queue h may.turn breach
+holds_step known t queue (Happened event) h may = happened known t queue h may.turn event
+holds_step known t queue (Sent noted) h may = elim may.turn [
+  | inl due ↦ subst (λ fs. Holds known (Sent noted ∷ t) fs) (sym (ap (λ fs. rest_of queue ++ fs) (control_owes_nothing known t noted due.control) ∙ append-nil (rest_of queue)))
+      (pays known t (rest_of queue) noted (subst (λ q. Holds known t q) due.front h) may.open_yet due.control)
+  | inr pass ↦ subst (λ (q : List Frame). Holds known (Sent noted ∷ t) (rest_of q ++ owed_by known t (Sent noted))) (sym pass.nothing) (passes known t queue noted h may.open_yet pass)
+]
+holds_step known t queue (Did (Open k route)) h may = acts known t queue (Open k route) h h.closed
+holds_step known t queue (Did (ToUp k octets)) h may = acts known t queue (ToUp k octets) h h.closed
+holds_step known t queue (Did (Close k)) h may = acts known t queue (Close k) h h.closed
+holds_step known t queue (Did CloseClient) h may = acts known t queue CloseClient h (λ shut. may.turn)
+
+-- It holds behind entries that all stood in their turn.
+pub holds : (known : Known) (t : List Entry) → Conducted known t → Holds known t (queue_of known t)
+holds known [] c = holds_first known
+holds known (e ∷ t) c = holds_step known t (queue_of known t) e (holds known t c.0) c.1
+
+-- Where nothing is owed, and the client is closed if the connection is to end, the clause on errors holds.
+pub errors_hold : (known : Known) (t : List Entry) → Conducted known t → queue_of known t ≡ [] → (must_end known t ≡ true → is_closed t ≡ true) → ErrorsHold known t
+errors_hold known t c none ends =
+    let h : Holds known t [] = subst (λ q. Holds known t q) none (holds known t c) in record {
+      begins = h.begins;
+      just_owed = h.owing;
+      followed = h.followed [] (λ so. refl);
+      rightly_sent = h.rightly_sent;
+      closed = same (is_closed t) refl (must_end known t) refl;
+      in_time = h.in_time;
+    }
+  where
+    same : (a : Bool) → is_closed t ≡ a → (b : Bool) → must_end known t ≡ b → is_closed t ≡ must_end known t
+    same true p b q = let h : Holds known t [] = subst (λ q. Holds known t q) none (holds known t c) in p ∙ sym (h.closed p).to_end
+    same false p true q = absurd (let no : false ≡ true = sym p ∙ ends q in cc)
+    same false p false q = p ∙ sym q

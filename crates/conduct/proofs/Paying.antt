@@ -1,0 +1,96 @@
+-- A control frame that is owed: it may be sent, and then it is owed no more, and nothing else changes but what is untaken.
+use Rattle.std.proofs.Common.{◌≡◌, ℕ, ◌+◌, Bool, true, false, ◌&&◌, ◌||◌, ◌==◌, nat_lt, if◌then◌else◌, List, [], ◌∷◌, ◌++◌, length, append-nil, Option, None, refl, sym, ◌∙◌, ap, inl}
+use Rattle.std.proofs.lemmas.Bool.{and_right}
+use Rattle.std.proofs.Math.Bool.{or-false}
+use Rattle.std.specs.List.{list_any}
+use Rattle.model.specs.Messages.{Item}
+use Rattle.model.specs.Messages.Item.{Content}
+use Rattle.model.specs.Frames.{Frame, headers_kind, continuation_kind, window_update_kind, ends_headers, ends_stream, content}
+use Rattle.model.specs.Setup.{Setup}
+use Rattle.model.specs.Decoding.{Partial, joined}
+use Rattle.model.specs.Streams.{frame_items}
+use Rattle.model.specs.Lifetimes.{ends_by, may_open}
+use Rattle.model.specs.WindowsOnTape.{increment}
+use Rattle.model.specs.Courses.{is_final}
+use Rattle.model.specs.ErrorClause.{is_passing}
+use Rattle.conduct.specs.Summary.{Stream as Kept}
+use Rattle.conduct.specs.Judging.{completed_in}
+use Rattle.conduct.specs.Owing.{owes_in}
+use Rattle.conduct.specs.After.{grant, stream_from}
+use Rattle.conduct.specs.Rows.{Row, Slot, kept_in, slot_of, row_behind, over_kept}
+use Rattle.conduct.specs.Rows.Slot.{Live, Over}
+use Rattle.conduct.specs.Book.{Book, summary_in, book_after, desk_after, MayMove}
+use Rattle.conduct.specs.Tidy.{IsSteady, IsTidy, IsRow, AreKept}
+use Rattle.conduct.specs.Quiet.{IsControl, noted_of, sending, sends, paid_of}
+use Rattle.conduct.proofs.Elsewhere.{kept_same, course_same, none_more, none_less, over_again}
+use Rattle.conduct.proofs.Idle.{no_cause_if}
+use Rattle.conduct.proofs.Turns.{completes_none, control_owes}
+use Rattle.conduct.proofs.Quiet.{begins_none, no_items_if, all_stay, same_book}
+
+-- it is no part of a response, nor are octets given back with it
+pub no_passing : (frame : Frame) → IsControl frame → is_passing (noted_of frame) ≡ false
+no_passing frame control =
+    ap (λ x. x || frame.kind == headers_kind || frame.kind == continuation_kind || frame.kind == window_update_kind) control.no_data
+    ∙ ap (λ x. x || frame.kind == continuation_kind || frame.kind == window_update_kind) control.no_headers
+    ∙ ap (λ x. x || frame.kind == window_update_kind) control.no_continuation
+    ∙ control.no_update
+
+-- It calls for nothing.
+pub owes_none : (setup : Setup) (b : Book) (frame : Frame) → IsControl frame → owes_in setup false (summary_in b) (sending frame) ≡ []
+owes_none setup b frame control = control_owes setup false (summary_in b) (noted_of frame) (no_passing frame control)
+
+module _ (setup : Setup) (b : Book) (frame : Frame) (control : IsControl frame) (no_block : b.block_out ≡ None) (kept : AreKept b.rows) where
+  nothing : completed_in b.block_out frame ≡ None
+  nothing = completes_none b.block_out frame control.no_headers control.no_continuation
+
+  -- it leaves each stream as it was
+  untouched : (id : ℕ) (k : Kept) → IsSteady k.brief → stream_from setup false (summary_in b) (sending frame) id k None ≡ k
+  untouched id k is = kept_same k _
+      refl
+      (ap (λ (block : Option Partial). frame.id == id && ends_by block frame || k.ended_by_gateway) nothing
+      ∙ ap (λ x. frame.id == id && (x && ends_stream frame) || k.ended_by_gateway) control.no_data
+      ∙ ap (λ x. x || k.ended_by_gateway) (and_right (frame.id == id) false refl))
+      refl
+      (ap (λ x. x && frame.id == id || k.reset_by_gateway) control.no_reset)
+      (none_less k.balance _ (ap (λ x. if x && frame.id == id then length frame.payload else 0) control.no_data))
+      (none_more true k.room (grant id frame) (ap (λ x. if x && frame.id == id then increment frame else 0) control.no_update))
+      (ap (λ (items : List Item). k.head_out || list_any is_final items) (none_on id) ∙ or-false k.head_out)
+      (course_same setup false (summary_in b) (sending frame) id k None is (no_cause_if (0 == id && nat_lt 0 id) None refl) (ap (λ x. x && frame.id == id || false) control.no_reset) refl)
+    where
+      none_on : (id : ℕ) → (if frame.id == id then frame_items (completed_in b.block_out frame) (noted_of frame) else []) ≡ []
+      none_on id =
+          ap (λ (block : Option Partial). if frame.id == id then frame_items block (noted_of frame) else []) nothing
+          ∙ ap (λ x. if frame.id == id then (if x then Content (content frame) (ends_stream frame) ∷ [] else []) else []) control.no_data
+          ∙ no_items_if (frame.id == id)
+
+  -- each slot stays
+  slot_stays : (id : ℕ) (slot : Slot) → IsTidy slot → slot_of (stream_from setup false (summary_in b) (sending frame) id (kept_in slot) None) ≡ slot
+  slot_stays id (Live k) tidy = ap slot_of (untouched id k tidy.1) ∙ ap (λ x. if x then Over k.reset_by_gateway else Live k) tidy.0
+  slot_stays id (Over by_us) tidy = ap slot_of (untouched id (over_kept by_us) (λ none. refl)) ∙ over_again by_us
+
+  row_same : (row : Row) → IsRow row → row_behind setup false (summary_in b) (sending frame) row ≡ row
+  row_same row is = ap (λ (x : Slot). record { id = row.id; slot = x }) (slot_stays row.id row.slot is.tidy)
+
+  -- the book stays, but for what is untaken
+  pub book_stays : book_after setup false b (sending frame) ≡ paid_of b frame
+  book_stays = same_book (book_after setup false b (sending frame)) (paid_of b frame) refl refl refl
+      (ap (λ (block : Option Partial). if ends_headers frame then None else joined block frame) no_block ∙ begins_none frame control.no_headers ∙ sym no_block)
+      refl
+      (none_less b.window _ (ap (λ x. if x && true then length frame.payload else 0) control.no_data))
+      (none_more true b.room (grant 0 frame) (ap (λ x. if x && frame.id == 0 then increment frame else 0) control.no_update))
+      (all_stay (row_behind setup false (summary_in b) (sending frame)) b.rows kept row_same)
+      refl
+
+  -- A debt that is paid is owed no more.
+  pub paid : (queue : List Frame) → desk_after setup (record { book = b; queue = frame ∷ queue }) (sends frame) ≡ record { book = paid_of b frame; queue = queue }
+  paid queue =
+      ap (λ (x : Book). record { book = x; queue = queue ++ owes_in setup false (summary_in b) (sending frame) }) book_stays
+      ∙ ap (λ (fs : List Frame). record { book = paid_of b frame; queue = queue ++ fs }) (owes_none setup b frame control)
+      ∙ ap (λ (fs : List Frame). record { book = paid_of b frame; queue = fs }) (append-nil queue)
+
+-- Any frame that is owed may be sent, unless it is on a stream that may be opened yet.
+pub may_pay : (b : Book) (frame : Frame) → is_passing (noted_of frame) ≡ false → (queue : List Frame) → b.closed ≡ false → may_open (summary_in b).opened frame.id ≡ false → MayMove (record { book = b; queue = frame ∷ queue }) (sends frame)
+may_pay b frame control queue open_yet apart = record {
+  allowed = record { open_yet = open_yet; turn = inl (record { front = refl; control = control }) };
+  fit = apart;
+}

@@ -1,0 +1,153 @@
+-- What an entry calls for, over a summary: each word as the model has it over the tape.
+use Rattle.std.specs.Prelude.{true, false, ℕ, ◌+◌, max, fold, Bool, not, ◌&&◌, ◌||◌, ◌==◌, nat_lt, if◌then◌else◌, List, [], ◌∷◌, ◌++◌, length, Option, Some, None, is_some}
+use Rattle.std.specs.List.{list_any}
+use Rattle.model.specs.Octets.{is_empty}
+use Rattle.model.specs.Messages.{Item, ends_with}
+use Rattle.model.specs.Http2.{body_of}
+use Rattle.model.specs.Malformed.{declared, is_begun}
+use Rattle.model.specs.Frames.{Frame, data_kind, window_update_kind, continuation_kind, ends_stream, goaway, no_error}
+use Rattle.model.specs.Setup.{Setup}
+use Rattle.model.specs.Tapes.{Entry}
+use Rattle.model.specs.Tapes.Entry.{Came, Happened, Sent}
+use Rattle.model.specs.Admission.{high_water}
+use Rattle.model.specs.Streams.{frame_items}
+use Rattle.model.specs.StreamStates.{most_streams}
+use Rattle.model.specs.Errors.{Fault}
+use Rattle.model.specs.Errors.Fault.{Connection, Stream}
+use Rattle.model.specs.Lifetimes.{opens_by, ends_by}
+use Rattle.model.specs.WindowsOnTape.{increment}
+use Rattle.model.specs.Openings.{given}
+use Rattle.model.specs.Causes.{Cause, cause_if}
+use Rattle.model.specs.Causes.Cause.{BadAnswer}
+use Rattle.model.specs.Courses.{upstream_of, cause_of_frame, first_of_both, interrupts}
+use Rattle.model.specs.ErrorClause.{rst_stream, acks, reset_for, is_plainly_flagged}
+use Rattle.conduct.specs.Summary.{Brief, carried_in, Stream as Kept, Summary}
+use Rattle.conduct.specs.Judging.{active_in, is_active_in, completed_in, fault_for}
+
+-- ---- the entry and its stream
+
+-- the stream that an entry is about, or 0
+abbrev pub about_in : Summary → Entry → ℕ
+about_in s (Came noted) = noted.frame.id
+about_in s (Happened event) = given (upstream_of event) s.given
+about_in s _ = 0
+
+-- the fault of an entry
+abbrev pub fault_in : Summary → Entry → Option Fault
+fault_in s e = fault_for (s.stream (about_in s e)).brief s e
+
+-- the items that it brings a stream
+abbrev pub items_in : ℕ → Summary → Entry → List Item
+items_in stream s (Came noted) =
+    if noted.frame.id == stream then frame_items (completed_in s.block noted.frame) noted else []
+items_in stream s _ = []
+
+-- ---- causes
+
+-- Why the entry is answered; `fails` says that an answer failed with it.
+abbrev pub cause_in : Setup → Bool → Brief → Summary → Entry → Option Fault → Option Cause
+cause_in setup fails brief s (Came noted) None = cause_of_frame setup (carried_in brief) (completed_in s.block noted.frame) noted
+cause_in setup fails brief s (Happened event) found = cause_if fails BadAnswer
+cause_in setup fails brief s _ _ = None
+
+-- the cause that an entry is for a stream
+abbrev pub new_cause_in : Setup → Bool → ℕ → Summary → Entry → Brief → Option Fault → Option Cause
+new_cause_in setup fails stream s e brief found =
+    if about_in s e == stream && nat_lt 0 stream then cause_in setup fails brief s e found else None
+
+-- ---- the course of a stream
+
+-- what the head declares, with these items behind others
+abbrev pub declared_with : Bool → Option ℕ → List Item → Option ℕ
+declared_with begun before [] = before
+declared_with true before (item ∷ items) = before
+declared_with false before (item ∷ items) = declared (item ∷ items)
+
+-- what is needed of a stream's course behind an entry
+abbrev pub brief_behind : Brief → Bool → List Item → Option Cause → Bool → Brief
+brief_behind brief interrupted new cause head_out = record {
+  begun = if brief.over || interrupted then brief.begun else brief.begun || is_begun new;
+  declared = if brief.over || interrupted then brief.declared else declared_with brief.begun brief.declared new;
+  octets = if brief.over || interrupted then brief.octets else brief.octets + length (body_of new);
+  over = brief.over || interrupted || list_any ends_with new;
+  cause = first_of_both brief.cause cause;
+  head_out = if is_some brief.cause then brief.head_out else is_some cause && head_out;
+}
+
+-- what is needed of a stream's course behind an entry with this fault
+abbrev pub brief_from : Setup → Bool → ℕ → Summary → Entry → Kept → Option Fault → Brief
+brief_from setup fails stream s e kept found =
+    let cause = new_cause_in setup fails stream s e kept.brief found in
+    brief_behind kept.brief (interrupts stream e found cause) (items_in stream s e) cause kept.head_out
+
+-- the same, from the summary
+abbrev pub next_brief : Setup → Bool → ℕ → Summary → Entry → Brief
+next_brief setup fails stream s e =
+    brief_from setup fails stream s e (s.stream stream) (fault_for (s.stream stream).brief s e)
+
+-- ---- what is owed
+
+-- the streams that were opened, with the entry
+abbrev pub opened_after : Summary → Entry → List ℕ
+opened_after s (Came noted) =
+    if opens_by s.opened (completed_in s.block noted.frame) noted.note then noted.frame.id ∷ s.opened else s.opened
+opened_after s _ = s.opened
+
+-- the highest of these ids, or 0
+abbrev pub highest_in : List ℕ → ℕ
+highest_in opened = fold max 0 opened
+
+-- the farewell that the last stream calls for
+abbrev pub last_farewell_in : Summary → Entry → List Frame
+last_farewell_in s e =
+    if nat_lt (length s.opened) most_streams && length (opened_after s e) == most_streams
+    then goaway (highest_in (opened_after s e)) no_error ∷ []
+    else []
+
+-- what an entry calls for before all else
+abbrev pub owed_first_in : Summary → Entry → Option Fault → List Frame
+owed_first_in s e (Some (Connection code)) = goaway (highest_in (opened_after s e)) code ∷ []
+owed_first_in s e (Some (Stream code)) = last_farewell_in s e ++ rst_stream (about_in s e) code ∷ []
+owed_first_in s e _ = last_farewell_in s e
+
+-- the reset of a stream by a cause, where a response's final head is out
+abbrev pub resets_in : Setup → Bool → Summary → Entry → List Frame
+resets_in setup fails s e =
+    let now = next_brief setup fails (about_in s e) s e in
+    reset_for (about_in s e) now.head_out (s.stream (about_in s e)).brief.cause now.cause
+
+-- the reset behind a response that ends before its request
+abbrev pub reset_behind_in : Summary → Entry → List Frame
+reset_behind_in s (Sent noted) =
+    if ends_by (completed_in s.block_out noted.frame) noted.frame && not (s.stream noted.frame.id).ended_by_client
+    then rst_stream noted.frame.id no_error ∷ []
+    else []
+reset_behind_in s _ = []
+
+-- what an entry calls for, the oldest first
+abbrev pub owes_in : Setup → Bool → Summary → Entry → List Frame
+owes_in setup fails s e =
+    owed_first_in s e (fault_in s e) ++ (acks e (fault_in s e) ++ (resets_in setup fails s e ++ reset_behind_in s e))
+
+-- ---- what may be sent, and the end
+
+-- octets are given back to the connection, or to an active stream that the client hasn't ended
+abbrev pub is_given_back_in : Summary → Frame → Bool
+is_given_back_in s frame =
+    length frame.payload == 4 && nat_lt 0 (increment frame) && (frame.id == 0 || is_active_in frame.id s && not (s.stream frame.id).ended_by_client)
+
+-- a part of a response to an active stream that the gateway hasn't ended, which may go out now
+abbrev pub is_part_in : Summary → Frame → Bool
+is_part_in s frame =
+    is_active_in frame.id s && not (s.stream frame.id).ended_by_gateway
+    && (not (is_empty frame.payload) || frame.kind == data_kind && ends_stream frame)
+    && (frame.kind == continuation_kind || nat_lt s.untaken high_water)
+
+-- a part of a response, or octets given back, as they may be sent
+abbrev pub is_rightly_sent_in : Summary → Frame → Bool
+is_rightly_sent_in s frame =
+    is_plainly_flagged frame && (if frame.kind == window_update_kind then is_given_back_in s frame else is_part_in s frame)
+
+-- the connection is to end
+abbrev pub must_end_in : Summary → Bool
+must_end_in s = s.ends || length s.opened == most_streams && length (active_in s) == 0

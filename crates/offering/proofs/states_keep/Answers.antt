@@ -1,0 +1,8 @@
+use Rattle.offering.proofs.Allowing as allowing
+use Rattle.offering.proofs.states_keep.Goals as goal
+
+pub returns-clause-allowed : goal.returns-clause-allowed
+returns-clause-allowed c known run may right told = (allowing.placed known run may right told).0
+
+pub returns-clause-keeps : goal.returns-clause-keeps
+returns-clause-keeps c = allowing.run_keeps

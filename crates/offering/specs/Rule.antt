@@ -1,0 +1,132 @@
+-- Which move may come next by states alone: what is kept here, and what is read of the rest before the move and behind it. It
+-- names no tape.
+use Rattle.std.specs.Prelude.{◌≡◌, ℕ, suc, Bool, true, false, not, ◌&&◌, ◌==◌, if◌then◌else◌, List, [], ◌∷◌, length, map, Option, Some, None}
+use Rattle.model.specs.Messages.{Item}
+use Rattle.model.specs.Frames.{Frame, data_kind, ends_headers}
+use Rattle.model.specs.Logs.{Event, Act}
+use Rattle.model.specs.Logs.Act.{Open}
+use Rattle.model.specs.Tapes.{Noted, Entry}
+use Rattle.model.specs.Tapes.Entry.{Happened}
+use Rattle.model.specs.Decoding.{Partial, joined}
+use Rattle.model.specs.Streams.{frame_items}
+use Rattle.model.specs.Openings.{Opened, IsGivenNone}
+use Rattle.model.specs.Available.{heard_by, ended_by, IsIn}
+use Rattle.model.specs.Known.{Known}
+use Rattle.model.specs.Causes.{Cause}
+use Rattle.model.specs.Causes.Cause.{BadAnswer}
+use Rattle.model.specs.Courses.{items, upstream_of}
+use Rattle.model.specs.Offers.{is_to_head, IsGiven}
+use Rattle.offering.specs.Outbox.{Part}
+use Rattle.offering.specs.Shown.{Tells}
+use Rattle.offering.specs.State.{State, Change, Move, entry_of, state_of}
+use Rattle.offering.specs.State.Move.{Takes, Breaks, Notes, Hears, Fails, Goes, Sends, Acts}
+use Rattle.offering.specs.Policy.{MayGo}
+use Rattle.offering.specs.Sight.{Sight, first_sight, IsRightOf}
+
+-- ---- what a frame of the client changes
+
+-- the cause that came, if none was there
+abbrev pub found_by : Option Cause → Option Cause → Option Cause
+found_by None now = now
+found_by (Some cause) now = None
+
+-- what it changes, as it is read before the frame and behind it
+abbrev pub change_by : Sight → Sight → ℕ → Change
+change_by before behind id = record {
+  opens = not (before.active id) && behind.active id;
+  over = before.active id && not (behind.active id);
+  caused = found_by (before.cause id) (behind.cause id);
+  shared = behind.shared;
+  owns = behind.own;
+}
+
+-- ---- which move may come
+
+-- The event is of the stream's connection; the stream is active, and the gateway doesn't answer it itself.
+pub record IsEventOf (before : Sight) (event : Event) (stream : ℕ) : Type 0 where
+  pub o : Opened
+  pub there : IsIn o before.given
+  pub is_given : o.stream ≡ stream
+  pub number : o.k ≡ upstream_of event
+  pub active : before.active stream ≡ true
+  pub no_cause : before.cause stream ≡ None
+
+-- A connection is opened for the stream of the client's last frame, which is active, has an item and no cause, and was given
+-- none; connections are numbered in their order.
+pub record OpensNext (before : Sight) (k : ℕ) : Type 0 where
+  pub active : before.active before.last ≡ true
+  pub has_items : before.has_items before.last ≡ true
+  pub no_cause : before.cause before.last ≡ None
+  pub first : IsGivenNone before.last before.given
+  pub next : k ≡ suc (length before.given)
+
+-- the header block that a frame completes
+abbrev pub completed_by : Option Partial → Frame → Option Partial
+completed_by block frame = if ends_headers frame then joined block frame else None
+
+-- The frame brings its stream this item, and the stream is over with it or isn't.
+pub record BringsOne (before behind : Sight) (noted : Noted) (item : Item) (over : Bool) : Type 0 where
+  pub active : behind.active noted.frame.id ≡ not over
+  pub brings : frame_items (completed_by before.block noted.frame) noted ≡ item ∷ []
+
+-- The frame brings no item.
+pub record BringsNothing (before : Sight) (noted : Noted) : Type 0 where
+  pub no_block : completed_by before.block noted.frame ≡ None
+  pub no_data : (noted.frame.kind == data_kind) ≡ false
+
+-- what an act asks
+abbrev pub MayAct : Sight → Act → Type 0
+MayAct before (Open k route) = OpensNext before k
+MayAct before _ = Unit {0}
+
+-- The move may come.
+abbrev pub MayCome : Sight → Sight → State → Move → Type 0
+MayCome before behind s (Takes noted change) = change ≡ change_by before behind noted.frame.id
+MayCome before behind s (Breaks breach) = Unit {0}
+MayCome before behind s (Notes event) = upstream_of event ≡ 0
+MayCome before behind s (Hears event stream news) = IsEventOf before event stream × (behind.cause stream ≡ None)
+MayCome before behind s (Fails event stream) = IsEventOf before event stream × (behind.cause stream ≡ Some BadAnswer)
+MayCome before behind s (Goes noted item part over) = MayGo s noted item part × BringsOne before behind noted item over
+MayCome before behind s (Sends noted) = BringsNothing before noted
+MayCome before behind s (Acts act) = MayAct before act
+
+-- ---- runs
+
+-- A move, and what is read behind it.
+pub record Seen : Type 0 where
+  pub move : Move
+  pub sight : Sight
+
+-- the moves of a run, the newest first
+abbrev pub moves_of : List Seen → List Move
+moves_of run = map (λ (x : Seen). x.move) run
+
+-- its tape
+abbrev pub tape_of : List Seen → List Entry
+tape_of run = map entry_of (moves_of run)
+
+-- what is read behind it
+abbrev pub sight_of : List Seen → Sight
+sight_of [] = first_sight
+sight_of (x ∷ run) = x.sight
+
+-- Each move might come where it came.
+abbrev pub AllMayCome : List Seen → Type 0
+AllMayCome [] = Unit {0}
+AllMayCome (x ∷ run) = AllMayCome run × MayCome (sight_of run) x.sight (state_of (moves_of run)) x.move
+
+-- What was read is right behind each move.
+abbrev pub AreRight : Known → List Seen → Type 0
+AreRight known [] = Unit {0}
+AreRight known (x ∷ run) = AreRight known run × IsRightOf known (tape_of (x ∷ run)) x.sight
+
+-- What is told of an event is news of what the stream's upstream answered.
+abbrev pub IsTold : Known → List Entry → Move → Type 0
+IsTold known t (Hears event stream news) =
+    (o : Opened) → IsGiven t stream o → Tells known.setup.passing (heard_by o t) (ended_by o t) (heard_by o (Happened event ∷ t)) (ended_by o (Happened event ∷ t)) (is_to_head (items known stream t)) news
+IsTold known t _ = Unit {0}
+
+-- It is so of each event.
+abbrev pub AreTold : Known → List Seen → Type 0
+AreTold known [] = Unit {0}
+AreTold known (x ∷ run) = AreTold known run × IsTold known (tape_of run) x.move

@@ -1,0 +1,134 @@
+-- Runs that the rule by states alone allows are runs that are allowed by the tape: so windows go back.
+use Rattle.std.proofs.Common.{◌≡◌, ℕ, Bool, true, false, not, ◌==◌, ◌&&◌, ◌||◌, List, [], ◌∷◌, ◌++◌, refl, sym, ap, ◌∙◌, subst, if◌then◌else◌}
+use Rattle.std.specs.List.{list_any}
+use Rattle.std.proofs.lemmas.Bool.{and_parts, and_right, eq-eqb}
+use Rattle.model.specs.Tapes.{Noted, Entry, came}
+use Rattle.model.specs.Tapes.Entry.{Came, Sent}
+use Rattle.model.specs.Setup.{Passing}
+use Rattle.model.specs.Decoding.{completed}
+use Rattle.model.specs.Known.{Known}
+use Rattle.model.specs.Lifetimes.{opened, opens_by, is_opened, is_active}
+use Rattle.model.specs.WindowClause.{GivesBack}
+use Rattle.model.proofs.OpenedLaws.{opens_own, opens_new}
+use Rattle.offering.specs.Sight.{Sight, first_sight, IsRightOf}
+use Rattle.offering.proofs.Living.{active_sent}
+use Rattle.offering.proofs.Ruling.{opened_by_it}
+use Rattle.offering.proofs.Allowing.{first_right}
+use Rattle.receiving.specs.State.{State, Move, entries_of, tape_of, state_of}
+use Rattle.receiving.specs.State.Move.{Takes, Breaks, Hears, Settles, Gives, Sends, Acts}
+use Rattle.receiving.specs.Policy.{IsOpened, MayTake, IsOwed, MayGive, MaySend, Holds, AreAllowed, IsPaid}
+use Rattle.receiving.specs.Rule.{is_over_by, TakesFrame, OwesAll, GivesAll, SendsOther, MayCome, OwesNothing, Seen, moves_of, sight_of, AllMayCome, AreRight}
+use Rattle.receiving.proofs.Resting.{gives_back_at_rest}
+
+-- a frame opens its stream just where that wasn't opened before and is behind it
+opens_told : (t : List Entry) (noted : Noted) → opens_by (opened t) (completed (came t) noted.frame) noted.note ≡ (not (is_opened noted.frame.id t) && is_opened noted.frame.id (Came noted ∷ t))
+opens_told t noted = by (opens_by (opened t) (completed (came t) noted.frame) noted.note) refl
+  where
+    id : ℕ
+    id = noted.frame.id
+
+    never : (x : Bool) → false ≡ (not x && x)
+    never true = refl
+    never false = refl
+
+    by : (b : Bool) → opens_by (opened t) (completed (came t) noted.frame) noted.note ≡ b → b ≡ (not (is_opened noted.frame.id t) && list_any (λ other. other == noted.frame.id) (if b then noted.frame.id ∷ opened t else opened t))
+    by true e =
+        sym (ap (λ x. not x && (noted.frame.id == noted.frame.id || is_opened noted.frame.id t)) (opens_new t noted e) ∙ ap (λ x. x || is_opened noted.frame.id t) (eq-eqb noted.frame.id noted.frame.id refl))
+    by false e = never (is_opened noted.frame.id t)
+
+-- a stream that is over with a move was active
+was_active : (a b : Bool) → (a && not b) ≡ true → a ≡ true
+was_active true b e = refl
+was_active false b e = e
+
+module _ (known : Known) (t : List Entry) (s : State) (noted : Noted) (before behind : Sight) (right : IsRightOf known t before) where
+  -- ---- a frame of the client
+
+  -- whether it opens its stream
+  opens_read : IsRightOf known (Came noted ∷ t) behind → (opens : Bool) → opens ≡ (not (before.opened noted.frame.id) && behind.opened noted.frame.id) → opens_by (opened t) (completed (came t) noted.frame) noted.note ≡ opens
+  opens_read now opens is = opens_told t noted ∙ sym (ap (λ b. not b && is_opened noted.frame.id (Came noted ∷ t)) (right.opened noted.frame.id)) ∙ sym (ap (λ b. not (before.opened noted.frame.id) && b) (now.opened noted.frame.id)) ∙ sym is
+
+  -- its life, where it opens its stream
+  opened_new : IsRightOf known (Came noted ∷ t) behind → opens_by (opened t) (completed (came t) noted.frame) noted.note ≡ true → (over : Bool) → over ≡ is_over_by before behind noted.frame.id → behind.active noted.frame.id ≡ true → IsOpened t noted true over
+  opened_new now by over is on = (
+    is ∙ ap (λ b. before.active noted.frame.id && not b) on ∙ and_right (before.active noted.frame.id) false refl,
+    sym (now.active noted.frame.id) ∙ on,
+    right.room noted.frame.id (opens_own t noted by),
+  )
+
+  -- and where it doesn't
+  opened_old : IsRightOf known (Came noted ∷ t) behind → opens_by (opened t) (completed (came t) noted.frame) noted.note ≡ false → (over : Bool) → over ≡ is_over_by before behind noted.frame.id → IsOpened t noted false over
+  opened_old now none over is =
+      by (before.active noted.frame.id) (behind.active noted.frame.id) (right.active noted.frame.id) (now.active noted.frame.id) ∙ ap (λ b. is_active noted.frame.id t && not b) (sym is)
+    where
+      by : (a b : Bool) → a ≡ is_active noted.frame.id t → b ≡ is_active noted.frame.id (Came noted ∷ t) → is_active noted.frame.id (Came noted ∷ t) ≡ (is_active noted.frame.id t && not (a && not b))
+      by true true was now = sym now ∙ ap (λ x. x && true) was
+      by true false was now = sym now ∙ ap (λ x. x && false) was
+      by false false was now = sym now ∙ ap (λ x. x && true) was
+      by false true was now = let clash : true ≡ false = sym (opened_by_it t noted (sym was) (sym now)) ∙ none in cc
+
+  takes_by : (opens over : Bool) → IsRightOf known (Came noted ∷ t) behind → TakesFrame before behind s noted opens over → MayTake t s noted opens over
+  takes_by true over now may =
+      let by = opens_read now true may.opens_it in
+      record { settled = may.settled; opens = by; opened = opened_new now by over may.over_with_it (may.lives refl); was = λ e. sym (right.active noted.frame.id) ∙ was_active (before.active noted.frame.id) (behind.active noted.frame.id) (sym may.over_with_it ∙ e) }
+  takes_by false over now may =
+      let by = opens_read now false may.opens_it in
+      record { settled = may.settled; opens = by; opened = opened_old now by over may.over_with_it; was = λ e. sym (right.active noted.frame.id) ∙ was_active (before.active noted.frame.id) (behind.active noted.frame.id) (sym may.over_with_it ∙ e) }
+
+  -- ---- frames to the client
+
+  gives_by : GivesAll before s noted.frame → MayGive t s noted.frame
+  gives_by may = record { kind = may.kind; owed = by (noted.frame.id == 0) may.owed }
+    where
+      by : (b : Bool) → OwesAll before s noted.frame b → IsOwed t s noted.frame b
+      by true owed = owed
+      by false owed =
+          let on : is_active noted.frame.id t ≡ true = sym (right.active noted.frame.id) ∙ owed.0 in
+          (on, sym (right.ended noted.frame.id on) ∙ owed.1, owed.2)
+
+  sends_by : (over : Bool) → IsRightOf known (Sent noted ∷ t) behind → SendsOther before behind noted over → MaySend t noted over
+  sends_by over now may = record {
+    kind = may.kind;
+    active = by (before.active noted.frame.id) (behind.active noted.frame.id) (right.active noted.frame.id) (now.active noted.frame.id) ∙ ap (λ b. is_active noted.frame.id t && not b) (sym may.over_with_it);
+    was = λ e. sym (right.active noted.frame.id) ∙ was_active (before.active noted.frame.id) (behind.active noted.frame.id) (sym may.over_with_it ∙ e);
+  }
+    where
+      by : (a b : Bool) → a ≡ is_active noted.frame.id t → b ≡ is_active noted.frame.id (Sent noted ∷ t) → is_active noted.frame.id (Sent noted ∷ t) ≡ (is_active noted.frame.id t && not (a && not b))
+      by true true was now = sym now ∙ ap (λ x. x && true) was
+      by true false was now = sym now ∙ ap (λ x. x && false) was
+      by false false was now = sym now ∙ ap (λ x. x && true) was
+      by false true was now = let clash : true ≡ false = sym (active_sent t noted noted.frame.id (sym now)) ∙ sym was in cc
+
+-- ---- runs
+
+-- What the rule by states allows is allowed by the tape.
+allowed_by : (known : Known) (passing : Passing) (t : List Entry) (s : State) (before behind : Sight) (m : Move) → IsRightOf known t before → IsRightOf known (entries_of m ++ t) behind → MayCome passing before behind s m → Holds passing t s m
+allowed_by known passing t s before behind (Takes noted opens over) right now may = takes_by known t s noted before behind right opens over now may
+allowed_by known passing t s before behind (Breaks breach) right now may = may
+allowed_by known passing t s before behind (Hears event) right now may = may
+allowed_by known passing t s before behind Settles right now may = tt
+allowed_by known passing t s before behind (Gives noted) right now may = gives_by known t s noted before behind right may
+allowed_by known passing t s before behind (Sends noted over) right now may = sends_by known t s noted before behind right over now may
+allowed_by known passing t s before behind (Acts act) right now may = may
+
+-- what is read last is right
+last_right : (known : Known) (run : List Seen) → AreRight known run → IsRightOf known (tape_of (moves_of run)) (sight_of run)
+last_right known [] right = first_right known
+last_right known (x ∷ run) right = right.1
+
+-- so a run is allowed
+pub all_allowed : (known : Known) (passing : Passing) (run : List Seen) → AllMayCome passing run → AreRight known run → AreAllowed passing (moves_of run)
+all_allowed known passing [] may right = tt
+all_allowed known passing (x ∷ run) may right = (
+  all_allowed known passing run may.0 right.0,
+  allowed_by known passing (tape_of (moves_of run)) (state_of passing (moves_of run)) (sight_of run) x.sight x.move (last_right known run right.0) right.1 may.1,
+)
+
+-- nothing is owed by the tape where nothing is by the states
+paid_by : (known : Known) (t : List Entry) (s : State) (sight : Sight) → IsRightOf known t sight → OwesNothing sight s → IsPaid t s
+paid_by known t s sight right none = record { settled = none.settled; shared = none.shared; own = λ stream on open_yet. none.own stream (right.active stream ∙ on) (right.ended stream on ∙ open_yet) }
+
+-- Where nothing is owed each receiving window is as at first, but for what is kept.
+pub run_gives_back : (known : Known) (run : List Seen) → AllMayCome known.setup.passing run → AreRight known run → OwesNothing (sight_of run) (state_of known.setup.passing (moves_of run)) → GivesBack known (tape_of (moves_of run))
+run_gives_back known run may right none =
+    gives_back_at_rest known (moves_of run) (all_allowed known known.setup.passing run may right) (paid_by known (tape_of (moves_of run)) (state_of known.setup.passing (moves_of run)) (sight_of run) (last_right known run right) none)

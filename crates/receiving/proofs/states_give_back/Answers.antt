@@ -1,0 +1,8 @@
+use Rattle.receiving.proofs.Ruling as ruling
+use Rattle.receiving.proofs.states_give_back.Goals as goal
+
+pub returns-clause-allowed : goal.returns-clause-allowed
+returns-clause-allowed c = ruling.all_allowed
+
+pub returns-clause-at_rest : goal.returns-clause-at_rest
+returns-clause-at_rest c = ruling.run_gives_back

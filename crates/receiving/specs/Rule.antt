@@ -1,0 +1,81 @@
+-- Which move may come next by states alone: what is kept here, and what is read of the rest before the move and behind it. It
+-- names no tape.
+use Rattle.std.specs.Prelude.{◌≡◌, ℕ, Bool, true, false, not, ◌&&◌, ◌==◌, List, [], ◌∷◌, map}
+use Rattle.model.specs.Frames.{Frame, window_update_kind}
+use Rattle.model.specs.Setup.{Passing}
+use Rattle.model.specs.Tapes.{Noted}
+use Rattle.model.specs.Known.{Known}
+use Rattle.model.specs.WindowsOnTape.{increment}
+use Rattle.offering.specs.Sight.{Sight, first_sight, IsRightOf}
+use Rattle.receiving.specs.State.{State, Move, tape_of, state_of}
+use Rattle.receiving.specs.State.Move.{Takes, Breaks, Hears, Settles, Gives, Sends, Acts}
+use Rattle.receiving.specs.Policy.{MayHear, MayDo}
+
+-- a stream is over with a move
+abbrev pub is_over_by : Sight → Sight → ℕ → Bool
+is_over_by before behind id = before.active id && not (behind.active id)
+
+-- A frame of the client, before which the effect of the last is over: whether it opens its stream, which is active then, and
+-- whether that is over with it, is what is read.
+pub record TakesFrame (before behind : Sight) (s : State) (noted : Noted) (opens over : Bool) : Type 0 where
+  pub settled : s.count ≡ 0
+  pub opens_it : opens ≡ (not (before.opened noted.frame.id) && behind.opened noted.frame.id)
+  pub lives : opens ≡ true → behind.active noted.frame.id ≡ true
+  pub over_with_it : over ≡ is_over_by before behind noted.frame.id
+
+-- what is owed on the connection, or on an active stream that the client hasn't ended
+abbrev pub OwesAll : Sight → State → Frame → Bool → Type 0
+OwesAll before s frame true = increment frame ≡ s.debt
+OwesAll before s frame false = (before.active frame.id ≡ true) × (before.ended frame.id ≡ false) × (increment frame ≡ (s.row frame.id).debt)
+
+-- The frame gives back all that is owed on its id.
+pub record GivesAll (before : Sight) (s : State) (frame : Frame) : Type 0 where
+  pub kind : frame.kind ≡ window_update_kind
+  pub owed : OwesAll before s frame (frame.id == 0)
+
+-- Any other frame to the client.
+pub record SendsOther (before behind : Sight) (noted : Noted) (over : Bool) : Type 0 where
+  pub kind : (noted.frame.kind == window_update_kind) ≡ false
+  pub over_with_it : over ≡ is_over_by before behind noted.frame.id
+
+-- The move may come.
+abbrev pub MayCome : Passing → Sight → Sight → State → Move → Type 0
+MayCome passing before behind s (Takes noted opens over) = TakesFrame before behind s noted opens over
+MayCome passing before behind s (Breaks breach) = s.count ≡ 0
+MayCome passing before behind s (Hears event) = MayHear s event
+MayCome passing before behind s Settles = Unit {0}
+MayCome passing before behind s (Gives noted) = GivesAll before s noted.frame
+MayCome passing before behind s (Sends noted over) = SendsOther before behind noted over
+MayCome passing before behind s (Acts act) = MayDo passing s act
+
+-- Nothing is owed: the last frame's effect is over, and all is given back that goes back.
+pub record OwesNothing (sight : Sight) (s : State) : Type 0 where
+  pub settled : s.count ≡ 0
+  pub shared : s.debt ≡ 0
+  pub own : (stream : ℕ) → sight.active stream ≡ true → sight.ended stream ≡ false → (s.row stream).debt ≡ 0
+
+-- ---- runs
+
+-- A move, and what is read behind it.
+pub record Seen : Type 0 where
+  pub move : Move
+  pub sight : Sight
+
+-- the moves of a run, the newest first
+abbrev pub moves_of : List Seen → List Move
+moves_of run = map (λ (x : Seen). x.move) run
+
+-- what is read behind it
+abbrev pub sight_of : List Seen → Sight
+sight_of [] = first_sight
+sight_of (x ∷ run) = x.sight
+
+-- Each move might come where it came.
+abbrev pub AllMayCome : Passing → List Seen → Type 0
+AllMayCome passing [] = Unit {0}
+AllMayCome passing (x ∷ run) = AllMayCome passing run × MayCome passing (sight_of run) x.sight (state_of passing (moves_of run)) x.move
+
+-- What was read is right behind each move.
+abbrev pub AreRight : Known → List Seen → Type 0
+AreRight known [] = Unit {0}
+AreRight known (x ∷ run) = AreRight known run × IsRightOf known (tape_of (moves_of (x ∷ run))) x.sight

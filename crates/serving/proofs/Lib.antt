@@ -17,3 +17,5 @@ pub mod Opening
 pub mod Reading
 pub mod Clauses
 pub mod RunMoves
+pub mod Telling
+mod Examples

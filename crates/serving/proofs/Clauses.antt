@@ -1,5 +1,10 @@
 -- Moves that are allowed leave what is kept in order, and at rest the clauses hold.
-use Rattle.std.proofs.Common.{◌≡◌, ℕ, true, false, List, [], ◌∷◌, ◌++◌, map, refl, sym, ap, ◌∙◌, subst, inl, inr}
+use Rattle.std.proofs.Common.{◌≡◌, ℕ, true, false, ◌==◌, List, [], ◌∷◌, ◌++◌, refl, sym, ap, ◌∙◌, subst, inl, inr, if◌then◌else◌}
+use Rattle.std.specs.Prelude.{Option, Some, None}
+use Rattle.std.specs.List.{list_any}
+use Rattle.std.proofs.lemmas.Bool.{or_parts}
+use Rattle.std.proofs.lemmas.Bool.Decides.{eqb_tells}
+use Rattle.model.specs.Messages.Item.{Block}
 use Rattle.model.specs.Http1.{H1Requests, forward}
 use Rattle.model.specs.Http2.{H2Request}
 use Rattle.model.specs.Logs.{Act}
@@ -14,46 +19,74 @@ use Rattle.model.specs.RequestClause.{IsServed, RequestsHold}
 use Rattle.model.specs.ProgressClause.{IsForwarded, AllForwarded, HasCome, AllStreamed, Reason, AreClosed, IsDoneWith, ClosesRightly}
 use Rattle.model.specs.ProgressClause.Reason.{ClientClosed}
 use Rattle.model.proofs.Http2Readings.{one_meaning}
-use Rattle.serving.specs.State.{State, Move, entry_of, after, start, state_of}
-use Rattle.serving.specs.State.Move.{Takes, Reads, Drops, Breaks, Notes, Hears, Fails, Sends, Acts}
-use Rattle.serving.specs.Policy.{MayMove, MayAct, AreAllowed, Rests, KeepClauses}
-use Rattle.serving.proofs.Lists.{none_done}
+use Rattle.serving.specs.Told.{Told, IsTold}
+use Rattle.serving.specs.State.{Live, live_of, State, Move, entry_of, after, start, Turn, state_of, tape_of}
+use Rattle.serving.specs.State.Move.{Takes, Begins, Gathers, Passes, Drops, Breaks, Notes, Hears, Fails, Sends, Acts}
+use Rattle.serving.specs.Rule.{is_done, MayAct, IsAllowed, told_of, AreAllowed, Rests}
+use Rattle.serving.specs.Meaning.{IsSo, AreSo, KeepClauses}
 use Rattle.serving.proofs.Streamed.{sent_all, all_streamed}
 use Rattle.serving.proofs.Standing.{IsDueFor, IsLetGo, Closes, Stands, stands_next}
 use Rattle.serving.proofs.Passing.{passes}
 use Rattle.serving.proofs.Framing as framing
+use Rattle.serving.proofs.Closing as closing
 use Rattle.serving.proofs.Hearing as hearing
 use Rattle.serving.proofs.Opening as opening
 use Rattle.serving.proofs.Reading as reading
 
+-- ---- connections
+
+-- of connections of which none is done with, none that is found is
+none_done : (told : Told) (k : ℕ) (ls : List Live) (l : Live) → list_any (is_done told) ls ≡ false → live_of k ls ≡ Some l → is_done told l ≡ false
+none_done told k [] l none e = cc
+none_done told k (x ∷ xs) l none e = elim (eqb_tells x.k k) [
+  | inl same ↦ (let found : Some x ≡ Some l = sym (ap (λ b. if b then Some x else live_of k xs) same.0) ∙ e in let is : x ≡ l = cc in ap (is_done told) (sym is) ∙ (or_parts (is_done told x) (list_any (is_done told) xs) none).0)
+  | inr apart ↦ none_done told k xs l (or_parts (is_done told x) (list_any (is_done told) xs) none).1 (sym (ap (λ b. if b then Some x else live_of k xs) apart.0) ∙ e)
+]
+
 -- ---- each move
 
 -- an act that may be done
-acted : (known : Known) (t : List Entry) (s : State) (act : Act) → Stands known t s → s.closed ≡ false → MayAct s act → Stands known (Did act ∷ t) (after s (Acts act))
-acted known t s (Open k route) h open_yet may = opening.opens_next known t s h open_yet k route may
-acted known t s (ToUp k octets) h open_yet may = opening.sends_next known t s h open_yet k octets may
-acted known t s (Close k) h open_yet may = stands_next known t (Did (Close k)) s (after s (Acts (Close k))) h (passes known t (Did (Close k)) s (after s (Acts (Close k))) h (framing.closes known t s h k may))
-acted known t s CloseClient h open_yet may = stands_next known t (Did CloseClient) s (after s (Acts CloseClient)) h (passes known t (Did CloseClient) s (after s (Acts CloseClient)) h (framing.shuts known t s h may))
+acted : (known : Known) (t : List Entry) (s : State) (told behind : Told) (act : Act) → Stands known t s → IsTold known t told → told.closed ≡ false → MayAct told s act → Stands known (Did act ∷ t) (after known.setup behind s (Acts act))
+acted known t s told behind (Open k route) h is_told open_yet may = opening.opens_next known t s h told behind is_told open_yet k route may
+acted known t s told behind (ToUp k octets) h is_told open_yet may = opening.sends_next known t s h told behind is_told open_yet k octets may
+acted known t s told behind (Close k) h is_told open_yet may =
+    let u = after known.setup behind s (Acts (Close k)) in stands_next known t (Did (Close k)) s u h (passes known t (Did (Close k)) s u h (closing.closes known t s h told behind is_told k may))
+acted known t s told behind CloseClient h is_told open_yet may =
+    let u = after known.setup behind s (Acts CloseClient) in stands_next known t (Did CloseClient) s u h (passes known t (Did CloseClient) s u h (closing.shuts known t s h told behind is_told may))
 
 -- a move that may come
-moved : (known : Known) (t : List Entry) (s : State) (m : Move) → Stands known t s → s.closed ≡ false → MayMove known t s m → Stands known (entry_of m ∷ t) (after s m)
-moved known t s (Takes noted lost ends) h open_yet may =
-    let u = after s (Takes noted lost ends) in stands_next known t (Came noted) s u h (passes known t (Came noted) s u h (framing.takes known t s h noted lost ends may.0.nothing may.1))
-moved known t s (Reads noted text stage due) h open_yet may =
-    let m = may.1 in stands_next known t (Came noted) s (after s (Reads noted text stage due)) h (reading.reads known t s h may.0.nothing noted m.fate text stage due m.written m.goes)
-moved known t s (Drops noted) h open_yet may =
-    stands_next known t (Came noted) s (after s (Drops noted)) h (reading.drops known t s h may.0.nothing noted may.1.fate may.1)
-moved known t s (Breaks breach) h open_yet may =
-    let u = after s (Breaks breach) in stands_next known t (Breached breach) s u h (passes known t (Breached breach) s u h (framing.breaks known t s h breach may.nothing))
-moved known t s (Notes event ends) h open_yet may =
-    let u = after s (Notes event ends) in stands_next known t (Happened event) s u h (passes known t (Happened event) s u h (framing.notes known t s h event ends may.0.nothing may.1))
-moved known t s (Hears event done) h open_yet may =
-    let u = after s (Hears event done) in stands_next known t (Happened event) s u h (passes known t (Happened event) s u h (hearing.hears known t s h may.0 event done may.1))
-moved known t s (Fails k) h open_yet may =
-    let u = after s (Fails k) in let e = entry_of (Fails k) in stands_next known t e s u h (passes known t e s u h (hearing.fails known t s h may.0 k may.1.0 may.1.1))
-moved known t s (Sends noted lost) h open_yet may =
-    let u = after s (Sends noted lost) in stands_next known t (Sent noted) s u h (passes known t (Sent noted) s u h (framing.sends known t s h noted lost may.0 may.1))
-moved known t s (Acts act) h open_yet may = acted known t s act h open_yet may
+moved : (known : Known) (t : List Entry) (s : State) (told behind : Told) (m : Move) → Stands known t s → IsTold known t told → IsSo known t m → IsTold known (entry_of m ∷ t) behind → IsAllowed known.setup told behind s m → Stands known (entry_of m ∷ t) (after known.setup behind s m)
+moved known t s told behind (Takes noted) h is_told so is_behind allowed =
+    let u = after known.setup behind s (Takes noted) in stands_next known t (Came noted) s u h (passes known t (Came noted) s u h (framing.takes known t s h told behind is_told noted allowed.may so))
+moved known t s told behind (Begins noted head ended route text stage) h is_told so is_behind allowed =
+    let may = allowed.may in
+    stands_next known t (Came noted) s (after known.setup behind s (Begins noted head ended route text stage)) h
+    (reading.begins known t s h told behind is_told may.0 noted (Block head ended) so.1 may.1.serving is_behind head ended route text stage so.0 refl may.1)
+moved known t s told behind (Gathers noted item route text old written stage) h is_told so is_behind allowed =
+    let may = allowed.may in
+    stands_next known t (Came noted) s (after known.setup behind s (Gathers noted item route text old written stage)) h
+    (reading.gathers known t s h told behind is_told may.0 noted item so may.1.serving is_behind route text old written stage may.1)
+moved known t s told behind (Passes noted item k old written stage) h is_told so is_behind allowed =
+    let may = allowed.may in
+    stands_next known t (Came noted) s (after known.setup behind s (Passes noted item k old written stage)) h
+    (reading.passes known t s h told behind is_told may.0 noted item so may.1.serving is_behind k old written stage may.1)
+moved known t s told behind (Drops noted item) h is_told so is_behind allowed =
+    let may = allowed.may in
+    stands_next known t (Came noted) s (after known.setup behind s (Drops noted item)) h (reading.drops known t s h told behind is_told may.0 noted item so may.1.serving is_behind may.1)
+moved known t s told behind (Breaks breach) h is_told so is_behind allowed =
+    let u = after known.setup behind s (Breaks breach) in stands_next known t (Breached breach) s u h (passes known t (Breached breach) s u h (framing.breaks known t s h told behind is_told breach allowed.may))
+moved known t s told behind (Notes event) h is_told so is_behind allowed =
+    let u = after known.setup behind s (Notes event) in
+    stands_next known t (Happened event) s u h (passes known t (Happened event) s u h (framing.notes known t s h told behind is_told event allowed.may.0 allowed.may.1))
+moved known t s told behind (Hears event whole) h is_told so is_behind allowed =
+    let u = after known.setup behind s (Hears event whole) in let may = allowed.may in
+    stands_next known t (Happened event) s u h (passes known t (Happened event) s u h (hearing.hears known t s h told behind is_told may.0 event whole may.1 may.2 so))
+moved known t s told behind (Fails k) h is_told so is_behind allowed =
+    let u = after known.setup behind s (Fails k) in let e = entry_of (Fails k) in
+    stands_next known t e s u h (passes known t e s u h (closing.fails known t s h told behind is_told k allowed.may.0 allowed.may.1))
+moved known t s told behind (Sends noted) h is_told so is_behind allowed =
+    let u = after known.setup behind s (Sends noted) in stands_next known t (Sent noted) s u h (passes known t (Sent noted) s u h (framing.sends known t s h told behind is_told noted allowed.may))
+moved known t s told behind (Acts act) h is_told so is_behind allowed = acted known t s told behind act h is_told allowed.open_yet allowed.may
 
 -- nothing is kept of no entry
 at_first : (known : Known) → Stands known [] start
@@ -71,17 +104,23 @@ at_first known = record {
   in_time = tt;
   in_turn = tt;
   closes = tt;
-  closed = refl;
+  shut = λ closed. refl;
 }
 
+-- what is told behind all moves is so
+all_told : (known : Known) (turns : List Turn) → AreSo known turns → IsTold known (tape_of turns) (told_of turns)
+all_told known [] so = record { served = λ stream. refl; ends = refl; closed = refl }
+all_told known (turn ∷ turns) so = so.2
+
 -- what is kept stands for the tape behind all moves
-pub all_stand : (known : Known) (ms : List Move) → AreAllowed known ms → Stands known (map entry_of ms) (state_of ms)
-all_stand known [] all = at_first known
-all_stand known (m ∷ ms) all = moved known (map entry_of ms) (state_of ms) m (all_stand known ms all.0) all.1.open_yet all.1.may
+pub all_stand : (known : Known) (turns : List Turn) → AreAllowed known.setup turns → AreSo known turns → Stands known (tape_of turns) (state_of known.setup turns)
+all_stand known [] all so = at_first known
+all_stand known (turn ∷ turns) all so =
+    moved known (tape_of turns) (state_of known.setup turns) (told_of turns) turn.told turn.move (all_stand known turns all.0 so.0) (all_told known turns so.0) so.1 so.2 all.1
 
 -- ---- the clauses at rest
 
-module _ (known : Known) (t : List Entry) (s : State) (h : Stands known t s) (rests : Rests s) where
+module _ (known : Known) (t : List Entry) (s : State) (h : Stands known t s) (told : Told) (is_told : IsTold known t told) (rests : Rests told s) where
   -- each connection was sent its request
   served : (o : Opened) → IsIn o (opens t) → IsServed known t o
   served o i =
@@ -115,13 +154,13 @@ module _ (known : Known) (t : List Entry) (s : State) (h : Stands known t s) (re
   -- there is no reason to close one that is open
   pub are_closed : AreClosed known t
   are_closed o i is_open_yet = elim (h.given o i).lives [
-    | inl l ↦ l.going (none_done o.k s.live l.live rests.none_done l.found)
+    | inl l ↦ closing.none_reason known t s h told is_told o l (none_done told o.k s.live l.live rests.none_done l.found)
     | inr gone ↦ absurd (let clash : true ≡ false = sym is_open_yet ∙ gone.shut in cc)
   ]
 
   -- one that was let go is done with
   done_with : (k : ℕ) → IsLetGo known t s k → IsDoneWith known t k
-  done_with k l = record { o = l.o; is_opened = l.is_opened; number = l.number; reason = elim l.why [ inl reason ↦ reason | inr ending ↦ ClientClosed (h.closed ∙ rests.ended ending) ] }
+  done_with k l = record { o = l.o; is_opened = l.is_opened; number = l.number; reason = elim l.why [ inl reason ↦ reason | inr ending ↦ ClientClosed (sym is_told.closed ∙ rests.ended (is_told.ends ∙ ending)) ] }
 
   -- and no others
   pub closes_rightly : (before segment : List Entry) → Closes known t s (segment ++ before) → ClosesRightly known t before segment
@@ -136,17 +175,19 @@ module _ (known : Known) (t : List Entry) (s : State) (h : Stands known t s) (re
   closes_rightly before (Sent noted ∷ segment) c = closes_rightly before segment c
 
 -- what holds at the end of a step
-clauses_of : (known : Known) (before segment : List Entry) (s : State) → Stands known (segment ++ before) s → Rests s → KeepClauses known before segment
-clauses_of known before segment s h rests = record {
-  requests = requests_hold known (segment ++ before) s h rests;
-  forwarded = all_forwarded known (segment ++ before) s h rests;
+clauses_of : (known : Known) (before segment : List Entry) (s : State) (told : Told) → Stands known (segment ++ before) s → IsTold known (segment ++ before) told → Rests told s → KeepClauses known before segment
+clauses_of known before segment s told h is_told rests = record {
+  requests = requests_hold known (segment ++ before) s h told is_told rests;
+  forwarded = all_forwarded known (segment ++ before) s h told is_told rests;
   streamed = all_streamed known (segment ++ before) s h rests.nothing;
   in_turn = h.in_turn;
-  closed = are_closed known (segment ++ before) s h rests;
-  closes = closes_rightly known (segment ++ before) s h rests before segment h.closes;
+  closed = are_closed known (segment ++ before) s h told is_told rests;
+  closes = closes_rightly known (segment ++ before) s h told is_told rests before segment h.closes;
   go_to_open = h.goes;
 }
 
--- Moves that are allowed keep the clauses where they rest.
-pub clauses_hold : (known : Known) (ms : List Move) (before segment : List Entry) → AreAllowed known ms → map entry_of ms ≡ segment ++ before → Rests (state_of ms) → KeepClauses known before segment
-clauses_hold known ms before segment all is rests = clauses_of known before segment (state_of ms) (subst (λ t. Stands known t (state_of ms)) is (all_stand known ms all)) rests
+-- Moves that are allowed, and that say what is so, keep the clauses where they rest.
+pub clauses_hold : (known : Known) (turns : List Turn) (before segment : List Entry) → AreAllowed known.setup turns → AreSo known turns → tape_of turns ≡ segment ++ before → Rests (told_of turns) (state_of known.setup turns) → KeepClauses known before segment
+clauses_hold known turns before segment all so is rests =
+    let s = state_of known.setup turns in
+    clauses_of known before segment s (told_of turns) (subst (λ t. Stands known t s) is (all_stand known turns all so)) (subst (λ t. IsTold known t (told_of turns)) is (all_told known turns so)) rests

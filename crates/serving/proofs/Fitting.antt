@@ -49,7 +49,7 @@ neither false b e = (refl, e)
 neither true b e = absurd (cc)
 
 -- a test whose opposite fails passes
-not_not : (b : Bool) → not b ≡ false → b ≡ true
+pub not_not : (b : Bool) → not b ≡ false → b ≡ true
 not_not true e = refl
 not_not false e = absurd (cc)
 
@@ -60,7 +60,7 @@ then_true true false e on = absurd (cc)
 then_true false b e on = absurd (cc)
 
 -- the first of some causes, and the others
-no_cause : (b : Bool) (cause : Cause) (later : List (Option Cause)) → first_cause (cause_if b cause ∷ later) ≡ None → (b ≡ false) × (first_cause later ≡ None)
+pub no_cause : (b : Bool) (cause : Cause) (later : List (Option Cause)) → first_cause (cause_if b cause ∷ later) ≡ None → (b ≡ false) × (first_cause later ≡ None)
 no_cause true cause later e = absurd (cc)
 no_cause false cause later e = (refl, e)
 
@@ -79,14 +79,14 @@ length_told None body e = tt
 length_told (Some n) body e = eqb-true (length body) n e
 
 -- a head that is neither malformed nor a cause is taken
-pub head_taken : (setup : Setup) (head : List Field) (ends : Bool) → cause_of_head setup head ≡ None → is_bad_block (carried_by [] false) ends (Fields head) ≡ false → IsTaken setup head ends
+pub head_taken : (setup : Setup) (head : List Field) (ends : Bool) → cause_of_head setup head ≡ None → is_malformed_block (carried_by [] false) head ends ≡ false → IsTaken setup head ends
 head_taken setup head ends none good =
     let small = no_cause (are_large head) _ _ none in
     let plain = no_cause (is_connect head) _ _ small.1 in
     let expects = no_cause (Rattle.model.specs.Causes.has_field (Rattle.std.specs.Prelude.codes "expect") head) _ _ plain.1 in
     let length_ok = no_cause (Rattle.model.specs.Causes.declares_past setup.max_body (declared_length head)) _ _ expects.1 in
     let routed = no_cause (not (is_routed setup.routes head)) _ _ length_ok.1 in
-    let rules = neither (not (is_well_formed head)) (ends && not (has_length (declared_length head) 0)) (sym (ap (λ b. not b && is_malformed_block (carried_by [] false) head ends) small.0) ∙ good) in record {
+    let rules = neither (not (is_well_formed head)) (ends && not (has_length (declared_length head) 0)) good in record {
       well_formed = head_holds head (not_not (is_well_formed head) rules.0);
       no_connect = plain.0;
       routed = not_not (is_routed setup.routes head) routed.0;

@@ -1,48 +1,85 @@
--- Moves that pass: frames that add no item, breaches, events, and closes.
-use Rattle.std.proofs.Common.{◌≡◌, ℕ, suc, ◌≤◌, Bool, true, false, ◌==◌, ◌||◌, List, [], ◌∷◌, map, length, refl, sym, ap, ◌∙◌, subst, inl, inr, if◌then◌else◌, arith}
-use Rattle.std.specs.Prelude.{Option, Some, None, option_map}
+-- Entries that leave every connection as it is: frames that add no item, frames that are sent, breaches, and events of no upstream.
+use Rattle.std.proofs.Common.{◌≡◌, ℕ, suc, ◌<◌, ◌≤◌, Bool, true, false, not, ◌==◌, ◌&&◌, ◌||◌, List, [], ◌∷◌, length, refl, sym, ap, ◌∙◌, subst, inl, inr, if◌then◌else◌, arith}
+use Rattle.std.specs.Prelude.{Option, Some, None, filter}
+use Rattle.std.proofs.lemmas.Bool.{cases_Bool, and_parts, and_from, eqb-true, eq-eqb}
 use Rattle.std.proofs.lemmas.Bool.Decides.{eqb_tells}
 use Rattle.model.specs.Logs.{Event}
 use Rattle.model.specs.Logs.Event.{Client, ClientEnd, ClientTook, Up, UpEnd, UpFailed, UpTook}
-use Rattle.model.specs.Logs.Act.{Close, CloseClient}
-use Rattle.model.specs.Tapes.{Noted, Breach, Entry}
+use Rattle.model.specs.Tapes.{Noted, Breach, Entry, is_closed}
 use Rattle.model.specs.Tapes.Entry.{Came, Breached, Happened, Sent, Did}
+use Rattle.model.specs.StreamStates.{most_streams}
 use Rattle.model.specs.Openings.{Opened, opens, AreNumbered}
 use Rattle.model.specs.Admission.{is_open}
 use Rattle.model.specs.Available.{IsIn}
 use Rattle.model.specs.Known.{Known}
-use Rattle.model.specs.Courses.{upstream_of}
-use Rattle.model.specs.ProgressClause.Reason.{ClientClosed}
-use Rattle.serving.proofs.Courses.{items_stay}
-use Rattle.serving.specs.State.{Held, held_of, Live, live_of, id_of, k_of, without, unless_lost, marked, State, after}
+use Rattle.model.specs.Lifetimes.{opened, active, is_over, is_spent}
+use Rattle.model.specs.Courses.{items, upstream_of}
+use Rattle.model.specs.ErrorClause.{calls_for_end, must_end}
+use Rattle.serving.specs.Told.{Told, IsTold}
+use Rattle.serving.specs.State.{Held, held_of, kept, State, after}
 use Rattle.serving.specs.State.Due.{Nothing}
-use Rattle.serving.specs.State.Move.{Takes, Breaks, Notes, Sends, Acts}
-use Rattle.serving.specs.Policy.{Fate, MayTake, MayClose, MayShut}
-use Rattle.serving.proofs.Lists.{find_map, find_gone, find_other}
-use Rattle.serving.proofs.Standing.{IsLive, Lives, Given, Stands}
-use Rattle.serving.proofs.Passing.{Passes, lives_same, lives_found, lives_framed, missing_framed, reason_on, lasts_came, lasts_sent, lasts_did, lasts_breach, lasts_event, open_same, items_where}
+use Rattle.serving.specs.State.Move.{Takes, Breaks, Notes, Sends}
+use Rattle.serving.specs.Rule.{MayCome}
+use Rattle.serving.proofs.Courses.{items_stay}
+use Rattle.serving.proofs.Reasons.{over_stays}
+use Rattle.serving.proofs.Standing.{IsOnWay, Given, Stands, way_stays}
+use Rattle.serving.proofs.Passing.{Passing, lives_found, reason_on, open_same, items_where, text_same}
 
--- ---- lists
+-- ---- what is held
 
--- what is held behind a stream that is lost was held
-pub held_unless : (lost : Bool) (id : ℕ) (hs : List Held) (stream : ℕ) (h : Held) → held_of stream (unless_lost lost id hs) ≡ Some h → held_of stream hs ≡ Some h
-held_unless false id hs stream h e = e
-held_unless true id hs stream h e = elim (eqb_tells id stream) [
-  | inl same ↦ absurd (let clash : ◌≡◌ {A = Option Held} None (Some h) = sym (subst (λ n. held_of n (without id_of id hs) ≡ None) same.1 (find_gone id_of id hs)) ∙ e in cc)
-  | inr apart ↦ sym (find_other id_of id stream hs apart.1) ∙ e
-]
+-- what is held of a stream that is served was held before
+pub held_kept : (told : Told) (stream : ℕ) (hs : List Held) (x : Held) → held_of stream (kept told hs) ≡ Some x → (held_of stream hs ≡ Some x) × (told.served stream ≡ true)
+held_kept told stream [] x e = cc
+held_kept told stream (h ∷ hs) x e = by (held_kept told stream hs x) (told.served h.id) refl e
+  where
+    at : (held_of stream (kept told hs) ≡ Some x → (held_of stream hs ≡ Some x) × (told.served stream ≡ true)) → told.served h.id ≡ true → held_of stream (h ∷ kept told hs) ≡ Some x → (held_of stream (h ∷ hs) ≡ Some x) × (told.served stream ≡ true)
+    at again served e = elim (eqb_tells h.id stream) [
+      | inl same ↦ (ap (λ b. if b then Some h else held_of stream hs) same.0 ∙ (sym (ap (λ b. if b then Some h else held_of stream (kept told hs)) same.0) ∙ e), sym (ap told.served same.1) ∙ served)
+      | inr apart ↦ (let more = again (sym (ap (λ b. if b then Some h else held_of stream (kept told hs)) apart.0) ∙ e) in (ap (λ b. if b then Some h else held_of stream hs) apart.0 ∙ more.0, more.1))
+    ]
 
--- what is found behind a change was found before
-pub back_map : (f : Live → Live) (x : Option Live) (l : Live) → option_map f x ≡ Some l → (m : Live) × (x ≡ Some m)
-back_map f None l e = cc
-back_map f (Some m) l e = (m, refl)
+    by : (held_of stream (kept told hs) ≡ Some x → (held_of stream hs ≡ Some x) × (told.served stream ≡ true)) → (b : Bool) → told.served h.id ≡ b → held_of stream (if b then h ∷ kept told hs else kept told hs) ≡ Some x → (held_of stream (h ∷ hs) ≡ Some x) × (told.served stream ≡ true)
+    by again true served e = at again served e
+    by again false lost e =
+        let more = again e in
+        elim (eqb_tells h.id stream) [
+          | inl same ↦ absurd (let clash : true ≡ false = sym more.1 ∙ sym (ap told.served same.1) ∙ lost in cc)
+          | inr apart ↦ (ap (λ b. if b then Some h else held_of stream hs) apart.0 ∙ more.0, more.1)
+        ]
 
--- what is found where one is gone was found before
-pub back_without : (k n : ℕ) (ls : List Live) (l : Live) → live_of n (without k_of k ls) ≡ Some l → live_of n ls ≡ Some l
-back_without k n ls l e = elim (eqb_tells k n) [
-  | inl same ↦ absurd (let clash : ◌≡◌ {A = Option Live} None (Some l) = sym (subst (λ m. live_of m (without k_of k ls) ≡ None) same.1 (find_gone k_of k ls)) ∙ e in cc)
-  | inr apart ↦ sym (find_other k_of k n ls apart.1) ∙ e
-]
+-- ---- the end of the connection
+
+-- with fewer that pass a test none does
+none_left : (p q : ℕ → Bool) → ((id : ℕ) → q id ≡ true → p id ≡ true) → (ids : List ℕ) → length (filter p ids) ≡ 0 → length (filter q ids) ≡ 0
+none_left p q fewer [] none = refl
+none_left p q fewer (id ∷ ids) none = by (none_left p q fewer ids) (p id) (q id) (fewer id) none
+  where
+    by : (length (filter p ids) ≡ 0 → length (filter q ids) ≡ 0) → (a b : Bool) → (b ≡ true → a ≡ true) → length (if a then id ∷ filter p ids else filter p ids) ≡ 0 → length (if b then id ∷ filter q ids else filter q ids) ≡ 0
+    by again true b less none = absurd (cc)
+    by again false true less none = let clash : false ≡ true = less refl in cc
+    by again false false less none = again none
+
+-- a connection that is to end still is when a frame is sent
+pub ends_sent : (known : Known) (t : List Entry) (noted : Noted) → must_end known t ≡ true → must_end known (Sent noted ∷ t) ≡ true
+ends_sent known t noted ends = by (calls_for_end known t) (is_spent t) (is_spent (Sent noted ∷ t)) spent ends
+  where
+    by : (a b c : Bool) → (b ≡ true → c ≡ true) → (a || b) ≡ true → (a || c) ≡ true
+    by true b c more e = refl
+    by false b c more e = more e
+
+    going : (id : ℕ) → not (is_over id (Sent noted ∷ t)) ≡ true → not (is_over id t) ≡ true
+    going id e = elim (cases_Bool (is_over id t)) [
+      | inl over ↦ absurd (let clash : false ≡ true = sym (ap not (over_stays t (Sent noted) id over)) ∙ e in cc)
+      | inr goes_on ↦ ap not goes_on
+    ]
+
+    spent : is_spent t ≡ true → is_spent (Sent noted ∷ t) ≡ true
+    spent e =
+        let parts = and_parts (length (opened t) == most_streams) (length (active t) == 0) e in
+        and_from (length (opened t) == most_streams) (length (active (Sent noted ∷ t)) == 0) parts.0
+        (eq-eqb (length (active (Sent noted ∷ t))) 0 (none_left (λ id. not (is_over id t)) (λ id. not (is_over id (Sent noted ∷ t))) going (opened t) (eqb-true (length (active t)) 0 parts.1)))
+
+-- ---- numbers of connections
 
 -- connections are numbered from 1
 pub not_zero : (os : List Opened) (o : Opened) → AreNumbered os → IsIn o os → o.k ≡ 0 → ⊥
@@ -56,241 +93,136 @@ within [] o n i = absurd i
 within (p ∷ os) o n (inl is) = let k : o.k ≡ p.k = ap (λ (x : Opened). x.k) is in let first : p.k ≡ suc (length os) = n.0 in omega (arith, k, first)
 within (p ∷ os) o n (inr i) = let less = within os o n.1 i in omega (arith, less)
 
-module _ (known : Known) (t : List Entry) (s : State) (h : Stands known t s) where
-  -- ---- frames that add no item
+-- an event opens no connection
+pub still_shut : (t : List Entry) (event : Event) (k : ℕ) → is_open k t ≡ false → is_open k (Happened event ∷ t) ≡ false
+still_shut t (Client piece) k e = e
+still_shut t ClientEnd k e = e
+still_shut t (ClientTook count) k e = e
+still_shut t (Up j piece) k e = e
+still_shut t (UpEnd j) k e = e
+still_shut t (UpFailed j) k e = by (k == j)
+  where
+    by : (b : Bool) → (if b then false else is_open k t) ≡ false
+    by true = refl
+    by false = e
+still_shut t (UpTook j count) k e = e
 
-  framed_back : (lost : Bool) (id k : ℕ) (l : Live) → live_of k (map (marked lost id) s.live) ≡ Some l → (m : Live) × (live_of k s.live ≡ Some m)
-  framed_back lost id k l e = back_map (marked lost id) (live_of k s.live) l (sym (find_map k_of (marked lost id) (λ l. refl) k s.live) ∙ e)
+module _ (known : Known) (t : List Entry) (s : State) (h : Stands known t s) (told behind : Told) (is_told : IsTold known t told) where
+  -- where something comes in the connection isn't to end
+  pub not_to_end : MayCome told s → must_end known t ≡ true → ⊥
+  not_to_end come ends = let clash : true ≡ false = sym ends ∙ sym is_told.ends ∙ come.goes_on in cc
+
+  -- what is held behind an entry that leaves items and connections
+  module _ (e : Entry) (u : State) (nothing : s.due ≡ Nothing) (after : u.due ≡ Nothing) (same_items : (stream : ℕ) → items known stream (e ∷ t) ≡ items known stream t) where
+    on_way : opens (e ∷ t) ≡ opens t → ((k : ℕ) → Rattle.model.specs.Tapes.sent_up k (e ∷ t) ≡ Rattle.model.specs.Tapes.sent_up k t) → u.live ≡ s.live → (stream : ℕ) (x : Held) → held_of stream s.held ≡ Some x → IsOnWay known (e ∷ t) u stream x.way
+    on_way same_opens same_sent same_live stream x found =
+        way_stays known t e s u stream x.way (same_items stream) same_opens (λ o g. text_same t e s u nothing after same_sent o.k) (λ k stage is there. subst (λ ls. Rattle.serving.specs.Rule.IsKept (record s { live = ls }) k) (sym same_live) there) (λ k none. ap (Rattle.serving.specs.State.live_of k) same_live ∙ none) (h.held stream x found)
+
+  -- ---- frames
 
   -- a frame that adds no item
-  pub takes : (noted : Noted) (lost ends : Bool) → s.due ≡ Nothing → MayTake known t noted lost → Passes known t (Came noted) s (after s (Takes noted lost ends))
-  takes noted lost ends nothing may =
-      let u = after s (Takes noted lost ends) in
-      let id = noted.frame.id in record {
-        nothing = nothing;
-        nothing_after = nothing;
+  pub takes : (noted : Noted) → MayCome told s → items known noted.frame.id (Came noted ∷ t) ≡ items known noted.frame.id t → Passing known t (Came noted) s (after known.setup behind s (Takes noted))
+  takes noted come same =
+      let u = after known.setup behind s (Takes noted) in record {
+        nothing = come.nothing;
+        nothing_after = come.nothing;
         same_opens = refl;
         same_sent = λ k. refl;
-        same_items = items_where known t noted may.same;
+        same_items = items_where known t noted same;
         still_shut = λ k e. e;
         count = refl;
-        lives = λ o i g. lives_framed known t (Came noted) s u o g (λ x. x) refl refl id lost refl may.fate (lasts_came known t noted) g.lives;
-        gone = λ o i g none. (missing_framed known t (Came noted) s u o g (λ x. x) refl refl id lost refl may.fate (lasts_came known t noted) none, reason_on known t (Came noted) s o g (λ x. x));
-        back = framed_back lost id;
+        lives = λ o i g. lives_found known t (Came noted) s u o g (λ x. x) refl refl g.lives;
+        gone = λ o i g none. (none, reason_on known t (Came noted) s o g (λ x. x));
+        back = λ k there. there;
         not_fresh = λ k lt x. x;
-        held = held_unless lost id s.held;
+        held = λ stream x found. on_way (Came noted) u come.nothing come.nothing (items_where known t noted same) refl (λ k. refl) refl stream x (held_kept behind stream s.held x found).0;
         goes = λ x. x;
         in_time = λ x. x;
         in_turn = λ here before. (here, before);
-        ends = λ e. ap (λ b. b || ends) e;
+        ends = λ ends. absurd (not_to_end come ends);
         closes = λ x. x;
-        closed = h.closed;
+        shut = h.shut;
       }
 
   -- a frame is sent
-  pub sends : (noted : Noted) (lost : Bool) → s.due ≡ Nothing → Fate known t (Sent noted) noted.frame.id lost → Passes known t (Sent noted) s (after s (Sends noted lost))
-  sends noted lost nothing fate =
-      let u = after s (Sends noted lost) in
-      let id = noted.frame.id in record {
+  pub sends : (noted : Noted) → s.due ≡ Nothing → Passing known t (Sent noted) s (after known.setup behind s (Sends noted))
+  sends noted nothing =
+      let u = after known.setup behind s (Sends noted) in
+      let same : (stream : ℕ) → items known stream (Sent noted ∷ t) ≡ items known stream t = λ stream. sym (items_stay known stream t (Sent noted) refl) in record {
         nothing = nothing;
         nothing_after = nothing;
         same_opens = refl;
         same_sent = λ k. refl;
-        same_items = λ stream. sym (items_stay known stream t (Sent noted) refl);
+        same_items = same;
         still_shut = λ k e. e;
         count = refl;
-        lives = λ o i g. lives_framed known t (Sent noted) s u o g (λ x. x) refl refl id lost refl fate (lasts_sent known t noted) g.lives;
-        gone = λ o i g none. (missing_framed known t (Sent noted) s u o g (λ x. x) refl refl id lost refl fate (lasts_sent known t noted) none, reason_on known t (Sent noted) s o g (λ x. x));
-        back = framed_back lost id;
+        lives = λ o i g. lives_found known t (Sent noted) s u o g (λ x. x) refl refl g.lives;
+        gone = λ o i g none. (none, reason_on known t (Sent noted) s o g (λ x. x));
+        back = λ k there. there;
         not_fresh = λ k lt x. x;
-        held = held_unless lost id s.held;
+        held = λ stream x found. on_way (Sent noted) u nothing nothing same refl (λ k. refl) refl stream x (held_kept behind stream s.held x found).0;
         goes = λ x. x;
         in_time = λ x. x;
         in_turn = λ here before. before;
-        ends = λ e. e;
+        ends = ends_sent known t noted;
         closes = λ x. x;
-        closed = h.closed;
+        shut = h.shut;
       }
 
-  -- ---- breaches, and events that are no answers
+  -- ---- breaches, and events of no upstream
 
   -- a breach
-  pub breaks : (breach : Breach) → s.due ≡ Nothing → Passes known t (Breached breach) s (after s (Breaks breach))
-  breaks breach nothing =
-      let u = after s (Breaks breach) in record {
-        nothing = nothing;
-        nothing_after = nothing;
+  pub breaks : (breach : Breach) → MayCome told s → Passing known t (Breached breach) s (after known.setup behind s (Breaks breach))
+  breaks breach come =
+      let u = after known.setup behind s (Breaks breach) in
+      let same : (stream : ℕ) → items known stream (Breached breach ∷ t) ≡ items known stream t = λ stream. sym (items_stay known stream t (Breached breach) refl) in record {
+        nothing = come.nothing;
+        nothing_after = come.nothing;
         same_opens = refl;
         same_sent = λ k. refl;
-        same_items = λ stream. sym (items_stay known stream t (Breached breach) refl);
+        same_items = same;
         still_shut = λ k e. e;
         count = refl;
-        lives = λ o i g. lives_same known t (Breached breach) s u o g (λ x. x) refl refl refl (lasts_breach known t breach o.stream) g.lives;
+        lives = λ o i g. lives_found known t (Breached breach) s u o g (λ x. x) refl refl g.lives;
         gone = λ o i g none. (none, reason_on known t (Breached breach) s o g (λ x. x));
-        back = λ k l e. (l, e);
+        back = λ k there. there;
         not_fresh = λ k lt x. x;
-        held = λ stream x e. e;
+        held = on_way (Breached breach) u come.nothing come.nothing same refl (λ k. refl) refl;
         goes = λ x. x;
         in_time = λ x. x;
         in_turn = λ here before. (here, before);
-        ends = λ e. refl;
+        ends = λ ends. absurd (not_to_end come ends);
         closes = λ x. x;
-        closed = h.closed;
+        shut = h.shut;
       }
-
-  -- an event of no upstream is of no connection
-  of_none : (event : Event) → upstream_of event ≡ 0 → (o : Opened) → IsIn o (opens t) → o.k ≡ upstream_of event → ⊥
-  of_none event zero o i e = not_zero (opens t) o h.numbered i (e ∙ zero)
-
-  -- an event opens no connection
-  shut_event : (event : Event) (k : ℕ) → is_open k t ≡ false → is_open k (Happened event ∷ t) ≡ false
-  shut_event event k e = elim (eqb_tells k (upstream_of event)) [ inl same ↦ by event | inr apart ↦ open_same t event k apart.1 ∙ e ]
-    where
-      if_shut : (b : Bool) → (if b then false else is_open k t) ≡ false
-      if_shut true = refl
-      if_shut false = e
-
-      by : (event : Event) → is_open k (Happened event ∷ t) ≡ false
-      by (Client piece) = e
-      by ClientEnd = e
-      by (ClientTook count) = e
-      by (Up j piece) = e
-      by (UpEnd j) = e
-      by (UpFailed j) = if_shut (k == j)
-      by (UpTook j count) = e
-
-  -- the same for others
-  pub shut_stays : (event : Event) (k : ℕ) → is_open k t ≡ false → is_open k (Happened event ∷ t) ≡ false
-  shut_stays = shut_event
 
   -- an event of no upstream
-  pub notes : (event : Event) (ends : Bool) → s.due ≡ Nothing → upstream_of event ≡ 0 → Passes known t (Happened event) s (after s (Notes event ends))
-  notes event ends nothing zero =
-      let u = after s (Notes event ends) in record {
-        nothing = nothing;
-        nothing_after = nothing;
+  pub notes : (event : Event) → MayCome told s → upstream_of event ≡ 0 → Passing known t (Happened event) s (after known.setup behind s (Notes event))
+  notes event come zero =
+      let u = after known.setup behind s (Notes event) in record {
+        nothing = come.nothing;
+        nothing_after = come.nothing;
         same_opens = refl;
         same_sent = λ k. refl;
-        same_items = λ stream. sym (items_stay known stream t (Happened event) refl);
-        still_shut = shut_event event;
+        same_items = same;
+        still_shut = still_shut t event;
         count = refl;
-        lives = λ o i g. lives_same known t (Happened event) s u o g (of_none event zero o i) (open_same t event o.k (of_none event zero o i)) refl refl (lasts_event known t event o h.apart i (of_none event zero o i)) g.lives;
-        gone = λ o i g none. (none, reason_on known t (Happened event) s o g (of_none event zero o i));
-        back = λ k l e. (l, e);
+        lives = λ o i g. lives_found known t (Happened event) s u o g (of_none o i) (open_same t event o.k (of_none o i)) refl g.lives;
+        gone = λ o i g none. (none, reason_on known t (Happened event) s o g (of_none o i));
+        back = λ k there. there;
         not_fresh = λ k lt e. (let z : k ≡ 0 = e ∙ zero in omega (arith, lt, z));
-        held = λ stream x e. e;
+        held = on_way (Happened event) u come.nothing come.nothing same refl (λ k. refl) refl;
         goes = λ x. x;
         in_time = λ x. x;
         in_turn = λ here before. (here, before);
-        ends = λ e. ap (λ b. b || ends) e;
+        ends = λ ends. absurd (not_to_end come ends);
         closes = λ x. x;
-        closed = h.closed;
-      }
-
-  -- ---- closes
-
-  -- the connection that is found was opened, and is open
-  pub found_live : (k : ℕ) (l : Live) → live_of k s.live ≡ Some l → (o : Opened) × IsIn o (opens t) × (o.k ≡ k) × IsLive known t s o
-  found_live k l found =
-      let there = h.there k l found in (
-        there.0,
-        there.1,
-        there.2,
-        (elim (h.given there.0 there.1).lives [
-          | inl live ↦ live
-          | inr gone ↦ absurd (let clash : ◌≡◌ {A = Option Live} None (Some l) = sym gone.missing ∙ ap (λ n. live_of n s.live) there.2 ∙ found in cc)
-        ]),
-      )
-
-  -- it is the one that is kept
-  pub same_live : (k : ℕ) (l : Live) → (found : live_of k s.live ≡ Some l) → (let it = found_live k l found in it.3.live ≡ l)
-  same_live k l found =
-      let it = found_live k l found in
-      let both : Some it.3.live ≡ Some l = sym it.3.found ∙ ap (λ n. live_of n s.live) it.2 ∙ found in cc
-
-  -- a connection is closed
-  pub closes : (k : ℕ) → MayClose s k → Passes known t (Did (Close k)) s (after s (Acts (Close k)))
-  closes k may =
-      let u = after s (Acts (Close k)) in
-      let it = found_live k may.live may.found in record {
-        nothing = may.nothing;
-        nothing_after = may.nothing;
-        same_opens = refl;
-        same_sent = λ j. refl;
-        same_items = λ stream. sym (items_stay known stream t (Did (Close k)) refl);
-        still_shut = shut;
-        count = refl;
-        lives = lives;
-        gone = λ o i g none. (missing o.k none, reason_on known t (Did (Close k)) s o g (λ x. x));
-        back = λ j l e. (l, back_without k j s.live l e);
-        not_fresh = λ j lt x. x;
-        held = λ stream x e. e;
-        goes = λ x. x;
-        in_time = λ x. x;
-        in_turn = λ here before. before;
-        ends = λ e. e;
-        closes = λ c. (
-          ap (λ n. is_open n t) (sym it.2) ∙ it.3.opened,
-          record {
-            o = it.0;
-            is_opened = it.1;
-            number = it.2;
-            missing = find_gone k_of k s.live;
-            why = elim may.why [
-              | inl done ↦ inl (reason_on known t (Did (Close k)) s it.0 (h.given it.0 it.1) (λ x. x) (it.3.done (ap (λ (x : Live). x.done) (same_live k may.live may.found) ∙ done)))
-              | inr ending ↦ inr ending
-            ];
-          },
-          c,
-        );
-        closed = h.closed;
+        shut = h.shut;
       }
     where
-      if_shut : (b c : Bool) → c ≡ false → (if b then false else c) ≡ false
-      if_shut true c e = refl
-      if_shut false c e = e
+      same : (stream : ℕ) → items known stream (Happened event ∷ t) ≡ items known stream t
+      same stream = sym (items_stay known stream t (Happened event) refl)
 
-      shut : (j : ℕ) → is_open j t ≡ false → is_open j (Did (Close k) ∷ t) ≡ false
-      shut j e = if_shut (j == k) (is_open j t) e
-
-      missing : (j : ℕ) → live_of j s.live ≡ None → live_of j (without k_of k s.live) ≡ None
-      missing j none = elim (eqb_tells k j) [
-        | inl same ↦ subst (λ m. live_of m (without k_of k s.live) ≡ None) same.1 (find_gone k_of k s.live)
-        | inr apart ↦ find_other k_of k j s.live apart.1 ∙ none
-      ]
-
-      lives : (o : Opened) → IsIn o (opens t) → Given known t s o → Lives known (Did (Close k) ∷ t) (after s (Acts (Close k))) o
-      lives o i g = elim (eqb_tells o.k k) [
-        | inl same ↦ inr (record { missing = subst (λ m. live_of m (without k_of k s.live) ≡ None) (sym same.1) (find_gone k_of k s.live); shut = ap (λ b. if b then false else is_open o.k t) same.0 })
-        | inr apart ↦ lives_found known t (Did (Close k)) s (after s (Acts (Close k))) o g (λ x. x) (ap (λ b. if b then false else is_open o.k t) apart.0) refl (find_other k_of k o.k s.live (λ e. apart.1 (sym e))) (lasts_did known t (Close k) o.stream) g.lives
-      ]
-
-  -- the client is closed
-  pub shuts : MayShut s → Passes known t (Did CloseClient) s (after s (Acts CloseClient))
-  shuts may = record {
-    nothing = may.nothing;
-    nothing_after = may.nothing;
-    same_opens = refl;
-    same_sent = λ j. refl;
-    same_items = λ stream. sym (items_stay known stream t (Did CloseClient) refl);
-    still_shut = λ j e. e;
-    count = refl;
-    lives = λ o i g. inr (record { missing = none o.k; shut = shut o g.lives });
-    gone = λ o i g missing. (missing, λ reason. ClientClosed refl);
-    back = λ j l e. (l, e);
-    not_fresh = λ j lt x. x;
-    held = λ stream x e. e;
-    goes = λ x. x;
-    in_time = λ x. x;
-    in_turn = λ here before. before;
-    ends = λ e. e;
-    closes = λ c. c;
-    closed = refl;
-  }
-    where
-      none : (k : ℕ) → live_of k s.live ≡ None
-      none k = ap (live_of k) may.none
-
-      shut : (o : Opened) → Lives known t s o → is_open o.k t ≡ false
-      shut o (inr gone) = gone.shut
-      shut o (inl live) = absurd (let clash : ◌≡◌ {A = Option Live} None (Some live.live) = sym (none o.k) ∙ live.found in cc)
+      -- it is of no connection
+      of_none : (o : Opened) → IsIn o (opens t) → o.k ≡ upstream_of event → ⊥
+      of_none o i e = not_zero (opens t) o h.numbered i (e ∙ zero)

@@ -3,7 +3,7 @@ use Rattle.std.proofs.Common.{◌≡◌, ℕ, suc, ◌<◌, Bool, true, false, �
 use Rattle.std.specs.Prelude.{Option, Some, None}
 use Rattle.std.proofs.lemmas.Bool.{eq-eqb, ne_eqb}
 use Rattle.std.proofs.lemmas.Bool.Decides.{eqb_tells}
-use Rattle.model.specs.Http2.{HasHead}
+use Rattle.model.specs.Http2.{HasHead, WellFormedHead}
 use Rattle.model.specs.Responses.{IsComplete}
 use Rattle.model.specs.Logs.Act.{Open, ToUp}
 use Rattle.model.specs.Tapes.{Entry, sent_up}
@@ -15,23 +15,26 @@ use Rattle.model.specs.Known.{Known}
 use Rattle.model.specs.Lifetimes.{is_opened, is_over, is_active}
 use Rattle.model.specs.Courses.{items, cause}
 use Rattle.model.specs.Offers.{is_to_head}
+use Rattle.model.specs.RequestClause.{MayBeServed}
 use Rattle.model.specs.ProgressClause.{Reason}
-use Rattle.model.specs.ProgressClause.Reason.{Over, Complete, Answered, ClientClosed}
-use Rattle.serving.proofs.Courses.{items_stay}
 use Rattle.model.proofs.OfferLemmas.{nothing_complete}
-use Rattle.serving.proofs.Courses.{cause_stays, none_by_did}
 use Rattle.h1_writer.specs.Sending.{Stage}
 use Rattle.serving.specs.Written.{IsWritten}
-use Rattle.serving.specs.State.{Held, held_of, Live, live_of, k_of, Due, State, after, Move}
+use Rattle.serving.specs.Told.{Told, IsTold}
+use Rattle.serving.specs.State.{Way, Held, held_of, held_with, held_opened, unless_whole, is_whole, Live, live_of, k_of, Due, State, after, Move}
+use Rattle.serving.specs.State.Way.{Waiting, Going, Dropped}
 use Rattle.serving.specs.State.Due.{Nothing, ToOpen, ToSend}
 use Rattle.serving.specs.State.Move.{Acts}
-use Rattle.serving.specs.Policy.{MayOpen}
-use Rattle.serving.proofs.Lists.{find_first, find_past}
-use Rattle.serving.proofs.Texts.{sent_either, no_request}
+use Rattle.serving.specs.Rule.{MayOpen}
+use Rattle.serving.specs.Meaning.{IsAllHeard}
+use Rattle.serving.proofs.Courses.{items_stay}
+use Rattle.serving.proofs.Lists.{find_first, find_past, held_now, held_beside}
+use Rattle.serving.proofs.Texts.{sent_either, no_request, one_head}
 use Rattle.serving.proofs.Reasons.{opened_stays}
-use Rattle.serving.proofs.Standing.{owed, text_of, IsSent, Given, IsDueFor, Fares, IsOpening, IsDue, IsLetGo, IsFresh, Stands, unread_same, has_head_stays, closes_stay, stands_next}
-use Rattle.serving.proofs.Passing.{sent_same, fresh_same, lives_found, lives_same, reason_on, lasts_did}
-use Rattle.serving.proofs.Framing.{within, found_live}
+use Rattle.serving.proofs.Standing.{owed, text_of, IsSent, Given, IsDueFor, Fares, IsOpening, IsDue, IsOnWay, IsLetGo, IsFresh, Stands, unread_same, has_head_stays, way_stays, closes_stay, stands_next}
+use Rattle.serving.proofs.Passing.{sent_same, fresh_same, lives_found, reason_on}
+use Rattle.serving.proofs.Framing.{within}
+use Rattle.serving.proofs.Closing.{found_live}
 
 -- an active stream was opened
 active_opened : (stream : ℕ) (t : List Entry) → is_active stream t ≡ true → is_opened stream t ≡ true
@@ -56,7 +59,7 @@ sent_written known t o text stage w = record {
   writes = λ opened. (stage, w);
 }
 
-module _ (known : Known) (t : List Entry) (s : State) (h : Stands known t s) (open_yet : s.closed ≡ false) where
+module _ (known : Known) (t : List Entry) (s : State) (h : Stands known t s) (told behind : Told) (is_told : IsTold known t told) (open_yet : told.closed ≡ false) where
   -- ---- opening
 
   module _ (k route : ℕ) (may : MayOpen s k route) where
@@ -64,9 +67,9 @@ module _ (known : Known) (t : List Entry) (s : State) (h : Stands known t s) (op
     e = Did (Open k route)
 
     abbrev pub u : State
-    u = after s (Acts (Open k route))
+    u = after known.setup behind s (Acts (Open k route))
 
-    due : IsOpening known t may.stream route may.text
+    due : IsOpening known t may.stream route may.text may.stage
     due = subst (IsDue known t s) may.due h.due
 
     last : last_stream t ≡ may.stream
@@ -79,7 +82,7 @@ module _ (known : Known) (t : List Entry) (s : State) (h : Stands known t s) (op
     u_due = ap (λ d. Rattle.serving.specs.State.due_opened d k) may.due
 
     abbrev pub new_live : Live
-    new_live = record { k = k; stream = Rattle.serving.specs.State.due_stream s.due; done = false }
+    new_live = record { k = k; stream = Rattle.serving.specs.State.due_stream s.due; whole = false }
 
     fresh : IsFresh t k
     fresh = h.fresh k (let next = may.next in omega (arith, next))
@@ -87,38 +90,36 @@ module _ (known : Known) (t : List Entry) (s : State) (h : Stands known t s) (op
     same_items : (stream : ℕ) → items known stream (e ∷ t) ≡ items known stream t
     same_items stream = sym (items_stay known stream t e refl)
 
-    written : IsWritten (items known (last_stream t) t) may.text due.stage
-    written = subst (λ n. IsWritten (items known n t) may.text due.stage) (sym last) due.written
+    written : IsWritten (items known (last_stream t) t) may.text may.stage
+    written = subst (λ n. IsWritten (items known n t) may.text may.stage) (sym last) due.written
 
     -- ---- the new connection
 
     new_live_is : live_of k u.live ≡ Some new_live
     new_live_is = find_first k_of k new_live s.live refl
 
-    no_reason_for_new : Reason known (e ∷ t) new → ⊥
-    no_reason_for_new (Over is) = let clash : true ≡ false = sym due.active ∙ ap (λ n. is_active n t) (sym last) ∙ is in cc
-    no_reason_for_new (Complete c) = nothing_complete false (is_to_head (items known (last_stream t) (e ∷ t))) (subst (λ x. IsComplete x false (is_to_head (items known (last_stream t) (e ∷ t)))) fresh.unheard (subst (λ x. IsComplete (heard k t) x (is_to_head (items known (last_stream t) (e ∷ t)))) fresh.not_ended c))
-    no_reason_for_new (Answered found is) =
-        let clash : ◌≡◌ {A = Option _} None (Some found) = sym due.calm ∙ ap (λ n. cause known n t) (sym last) ∙ cause_stays known (last_stream t) t e (none_by_did known (last_stream t) t (Open k route)) ∙ is in cc
-    no_reason_for_new (ClientClosed is) = let clash : false ≡ true = sym open_yet ∙ sym h.closed ∙ is in cc
+    -- nothing was heard of it
+    none_heard : IsAllHeard known (e ∷ t) new → ⊥
+    none_heard c =
+        let to_head : Bool = is_to_head (items known (last_stream t) (e ∷ t)) in
+        nothing_complete false to_head (subst (λ x. IsComplete x false to_head) fresh.unheard (subst (λ x. IsComplete (heard k t) x to_head) fresh.not_ended c))
 
     new_given : Given known (e ∷ t) u new
     new_given = record {
-      started = opened_stays t e (last_stream t) (ap (λ n. is_opened n t) last ∙ active_opened may.stream t due.active);
-      head = due.written.head;
-      has_head = has_head_stays known t e (last_stream t) due.written.head (subst (λ n. HasHead (items known n t) due.written.head) (sym last) (subst (λ xs. HasHead xs due.written.head) (sym due.written.is) refl));
-      well_formed = due.written.well_formed;
+      started = opened_stays t e (last_stream t) (ap (λ n. is_opened n t) last ∙ active_opened may.stream t due.in_time.active);
+      head = due.head;
+      has_head = has_head_stays known t e (last_stream t) due.head (subst (λ n. HasHead (items known n t) due.head) (sym last) due.has_head);
+      well_formed = subst WellFormedHead (one_head (items known may.stream t) may.text may.stage due.written due.head due.has_head) due.written.well_formed;
       by_route = due.by_route;
       sent =
           let text : text_of k (e ∷ t) u.due ≡ may.text = ap (λ d. sent_up k t ++ owed k d) u_due ∙ ap (λ x. x ++ (if k == k then may.text else [])) fresh.unsent ∙ ap (λ b. if b then may.text else []) (eq-eqb k k refl) in
-          subst (λ x. IsSent known (e ∷ t) x new) (sym text) (sent_written known (e ∷ t) new may.text due.stage (subst (λ xs. IsWritten xs may.text due.stage) (sym (same_items (last_stream t))) written));
+          subst (λ x. IsSent known (e ∷ t) x new) (sym text) (sent_written known (e ∷ t) new may.text may.stage (subst (λ xs. IsWritten xs may.text may.stage) (sym (same_items (last_stream t))) written));
       lives = inl (record {
         live = new_live;
         found = new_live_is;
         same = ap Rattle.serving.specs.State.due_stream may.due ∙ sym last;
         opened = ap (λ b. if b then true else is_open k t) (eq-eqb k k refl);
-        done = λ d. absurd (let clash : false ≡ true = d in cc);
-        going = λ d. no_reason_for_new;
+        verdict = none_heard;
       });
     }
 
@@ -146,7 +147,7 @@ module _ (known : Known) (t : List Entry) (s : State) (h : Stands known t s) (op
           well_formed = g.well_formed;
           by_route = g.by_route;
           sent = subst (λ x. IsSent known (e ∷ t) x o) (sym (old_owed o i)) (sent_same known t e o (text_of o.k t s.due) i (same_items o.stream) (λ shut. old_open o.k (other_k o i) ∙ shut) g.sent);
-          lives = lives_found known t e s u o g (λ x. x) (old_open o.k (other_k o i)) refl (old_live o.k (other_k o i)) (lasts_did known t (Open k route) o.stream) g.lives;
+          lives = lives_found known t e s u o g (λ x. x) (old_open o.k (other_k o i)) (old_live o.k (other_k o i)) g.lives;
         }
 
     given : (o : Opened) → IsIn o (opens (e ∷ t)) → Given known (e ∷ t) u o
@@ -182,6 +183,62 @@ module _ (known : Known) (t : List Entry) (s : State) (h : Stands known t s) (op
       ])
     ]
 
+    -- ---- requests that aren't whole
+
+    -- the request that the connection was due for goes out on it, unless it is whole
+    held_is : u.held ≡ held_with may.stream (unless_whole may.stage (Going k may.stage)) s.held
+    held_is = ap (λ d. held_opened d k s.held) may.due
+
+    new_text : text_of k (e ∷ t) u.due ≡ may.text
+    new_text = ap (λ d. sent_up k t ++ owed k d) u_due ∙ ap (λ x. x ++ (if k == k then may.text else [])) fresh.unsent ∙ ap (λ b. if b then may.text else []) (eq-eqb k k refl)
+
+    going : (way : Way) → unless_whole may.stage (Going k may.stage) ≡ Some way → IsOnWay known (e ∷ t) u may.stream way
+    going way is = by (is_whole may.stage) refl is
+      where
+        by : (b : Bool) → is_whole may.stage ≡ b → (if b then None else Some (Going k may.stage)) ≡ Some way → IsOnWay known (e ∷ t) u may.stream way
+        by true whole is = absurd (cc)
+        by false part is =
+            let same : Going k may.stage ≡ way = cc in
+            subst (IsOnWay known (e ∷ t) u may.stream) same (record {
+              o = new;
+              given = record { is_opened = inl refl; is_given = last };
+              number = refl;
+              live = (new_live, new_live_is);
+              written = subst (λ x. IsWritten (items known may.stream (e ∷ t)) x may.stage) (sym new_text) (subst (λ xs. IsWritten xs may.text may.stage) (sym (same_items may.stream)) due.written);
+              part = part;
+            })
+
+    -- other requests stay as they are
+    old_way : (stream : ℕ) → (may.stream ≡ stream → ⊥) → (way : Way) → IsOnWay known t s stream way → IsOnWay known (e ∷ t) u stream way
+    old_way stream apart (Waiting r text stage) w = record {
+      whole_passing = w.whole_passing;
+      written = subst (λ xs. IsWritten xs text stage) (sym (same_items stream)) w.written;
+      part = w.part;
+      head = w.head;
+      has_head = subst (λ xs. HasHead xs w.head) (sym (same_items stream)) w.has_head;
+      by_route = w.by_route;
+      none_given = λ o g. elim g.is_opened [
+        | inl is ↦ apart (sym last ∙ sym (ap (λ (p : Opened). p.stream) is) ∙ g.is_given)
+        | inr i ↦ w.none_given o (record { is_opened = i; is_given = g.is_given })
+      ];
+    }
+    old_way stream apart (Going j stage) w =
+        let other : j ≡ k → ⊥ = λ same. other_k w.o w.given.is_opened (w.number ∙ same) in record {
+          o = w.o;
+          given = record { is_opened = inr w.given.is_opened; is_given = w.given.is_given };
+          number = w.number;
+          live = (w.live.0, old_live j other ∙ w.live.1);
+          written = subst (λ x. IsWritten (items known stream (e ∷ t)) x stage) (sym (subst (λ n. text_of n (e ∷ t) u.due ≡ text_of n t s.due) w.number (old_owed w.o w.given.is_opened))) (subst (λ xs. IsWritten xs (text_of j t s.due) stage) (sym (same_items stream)) w.written);
+          part = w.part;
+        }
+    old_way stream apart Dropped w = record { o = w.o; given = record { is_opened = inr w.given.is_opened; is_given = w.given.is_given }; gone = old_live w.o.k (other_k w.o w.given.is_opened) ∙ w.gone }
+
+    held : (stream : ℕ) (x : Held) → held_of stream u.held ≡ Some x → IsOnWay known (e ∷ t) u stream x.way
+    held stream x found = elim (eqb_tells may.stream stream) [
+      | inl same ↦ subst (λ n. IsOnWay known (e ∷ t) u n x.way) same.1 (going x.way (held_now may.stream (unless_whole may.stage (Going k may.stage)) s.held x (ap (held_of may.stream) (sym held_is) ∙ ap (λ n. held_of n u.held) same.1 ∙ found)))
+      | inr apart ↦ old_way stream apart.1 x.way (h.held stream x (sym (held_beside may.stream stream (unless_whole may.stage (Going k may.stage)) s.held apart.1) ∙ ap (held_of stream) (sym held_is) ∙ found))
+    ]
+
     pub opens_next : Stands known (e ∷ t) u
     opens_next = record {
       numbered = (may.next ∙ ap suc h.count, h.numbered);
@@ -191,13 +248,13 @@ module _ (known : Known) (t : List Entry) (s : State) (h : Stands known t s) (op
       there = there;
       fresh = fresh_on;
       fares = fares;
-      held = λ stream x found. subst (λ xs. IsWritten xs x.text x.stage) (sym (same_items stream)) (h.held stream x found);
+      held = held;
       due = subst (IsDue known (e ∷ t) u) (sym u_due) (new_live, new_live_is);
       goes = h.goes;
-      in_time = (record { active = ap (λ n. is_active n t) last ∙ due.active; no_cause = ap (λ n. cause known n t) last ∙ due.calm; goes_on = due.lasts }, h.in_time);
+      in_time = (subst (MayBeServed known t) (sym last) due.in_time, h.in_time);
       in_turn = h.in_turn;
       closes = closes_stay known t e s u let_go t h.closes;
-      closed = h.closed;
+      shut = λ closed. absurd (let clash : true ≡ false = sym closed ∙ sym is_told.closed ∙ open_yet in cc);
     }
 
   -- ---- sending
@@ -207,7 +264,7 @@ module _ (known : Known) (t : List Entry) (s : State) (h : Stands known t s) (op
     sending = Did (ToUp k octets)
 
     abbrev pub sent_state : State
-    sent_state = after s (Acts (ToUp k octets))
+    sent_state = after known.setup behind s (Acts (ToUp k octets))
 
     kept : (l : Live) × (live_of k s.live ≡ Some l)
     kept = subst (IsDue known t s) is_due h.due
@@ -239,18 +296,18 @@ module _ (known : Known) (t : List Entry) (s : State) (h : Stands known t s) (op
     sends_next = stands_next known t sending s sent_state h (record {
       same_opens = refl;
       count = refl;
-      lives = λ o i g. lives_same known t sending s sent_state o g (λ x. x) refl refl refl (lasts_did known t (ToUp k octets) o.stream) g.lives;
+      lives = λ o i g. lives_found known t sending s sent_state o g (λ x. x) refl refl g.lives;
       gone = λ o i g none. (none, reason_on known t sending s o g (λ x. x));
       sent = λ o i g. subst (λ x. IsSent known (sending ∷ t) x o) (sym (same_text o.k)) (sent_same known t sending o (text_of o.k t s.due) i (stays o.stream) (λ shut. shut) g.sent);
-      back = λ n l e. (l, e);
+      back = λ n there. there;
       fresh = λ n lt. fresh_same t sending n (unsent_same n lt) (λ x. x) (λ shut. shut);
       fares = fares_sent;
-      held = λ stream x found. subst (λ xs. IsWritten xs x.text x.stage) (sym (stays stream)) (h.held stream x found);
+      held = λ stream x found. way_stays known t sending s sent_state stream x.way (stays stream) refl (λ o g. same_text o.k) (λ n stage is there. there) (λ n none. none) (h.held stream x found);
       due = tt;
       goes = (let it = found_live known t s h k kept.0 kept.1 in (ap (λ n. is_open n t) (sym it.2) ∙ it.3.opened, h.goes));
       in_time = h.in_time;
       in_turn = h.in_turn;
       ends = λ e. e;
       closes = λ c. c;
-      closed = h.closed;
+      shut = h.shut;
     })

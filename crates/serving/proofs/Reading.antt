@@ -1,12 +1,14 @@
 -- Frames that add an item to their stream.
-use Rattle.std.proofs.Common.{append-nil, ◌≡◌, ℕ, Bool, true, false, not, ◌==◌, ◌&&◌, List, [], ◌∷◌, ◌++◌, refl, sym, ap, ◌∙◌, subst, inl, inr, if◌then◌else◌, append_assoc}
-use Rattle.std.specs.Prelude.{Option, Some, None, ◌⊎◌}
+use Rattle.std.proofs.Common.{append-nil, ◌≡◌, ℕ, Bool, true, false, not, ◌==◌, ◌||◌, ◌&&◌, List, [], ◌∷◌, ◌++◌, refl, sym, ap, ◌∙◌, subst, inl, inr, if◌then◌else◌, append_assoc}
+use Rattle.std.specs.Prelude.{Option, Some, None, ◌⊎◌, is_none}
 use Rattle.std.specs.List.{list_any}
-use Rattle.std.proofs.lemmas.Bool.{eq-eqb, ne_eqb, cases_Bool, and_from}
+use Rattle.std.proofs.lemmas.Bool.{eq-eqb, ne_eqb, cases_Bool, and_from, and_parts, or_parts}
 use Rattle.std.proofs.lemmas.Bool.Decides.{eqb_tells}
 use Rattle.model.specs.Messages.{Field, Item, Request, ends_with}
 use Rattle.model.specs.Messages.Item.{Block, Content}
-use Rattle.model.specs.Http2.{HasHead, body_of, H2Request, MayBecome}
+use Rattle.model.specs.Http2.{HasHead, body_of, H2Request, MayBecome, authority_of, path_of}
+use Rattle.model.specs.Malformed.{carried_by}
+use Rattle.model.specs.Setup.{Setup, Passing, IsFirstMatch}
 use Rattle.model.specs.Setup.Passing.{Whole as WholePassing, Streaming}
 use Rattle.model.specs.Tapes.{Noted, Entry, came, sent_up}
 use Rattle.model.specs.Tapes.Entry.{Came}
@@ -16,59 +18,34 @@ use Rattle.model.specs.Openings.{Opened, opens}
 use Rattle.model.specs.Admission.{is_open}
 use Rattle.model.specs.Available.{IsIn}
 use Rattle.model.specs.Known.{Known}
-use Rattle.model.specs.Lifetimes.{ends_by, is_ended_by_client}
-use Rattle.model.specs.Courses.{items}
+use Rattle.model.specs.Lifetimes.{ends_by, is_active, is_ended_by_client}
+use Rattle.model.specs.Causes.{Cause}
+use Rattle.model.specs.Courses.{items, cause}
 use Rattle.model.specs.Offers.{IsGiven}
-use Rattle.model.specs.RequestClause.{IsSentWhole, IsSentInPart}
+use Rattle.model.specs.RequestClause.{IsSentWhole, IsSentInPart, MayBeServed}
 use Rattle.model.specs.ProgressClause.{is_first_end, was_cut, had_closed}
 use Rattle.model.proofs.DeliveryReadings.{one_connection, one_number}
 use Rattle.h1_writer.specs.Sending.{Stage}
-use Rattle.h1_writer.specs.Sending.Stage.{Whole, Counting, Holding, Chunking}
 use Rattle.serving.specs.Written.{IsWritten}
-use Rattle.serving.specs.State.{Held, held_of, held_with, id_of, without, Live, live_of, Due, State, after}
-use Rattle.serving.specs.State.Due.{Nothing}
-use Rattle.serving.specs.State.Move.{Reads, Drops}
-use Rattle.serving.specs.Policy.{Lasts, MayHold, IsToOpen, IsToSend, IsToWait, MayDrop}
+use Rattle.serving.specs.Told.{Told, IsTold}
+use Rattle.serving.specs.State.{Way, Held, held_of, held_with, waits_from, unless_whole, goes_now, is_streaming, is_whole, to_open, to_send, Live, live_of, Due, State, after}
+use Rattle.serving.specs.State.Way.{Waiting, Going, Dropped}
+use Rattle.serving.specs.State.Due.{Nothing, ToOpen, ToSend}
+use Rattle.serving.specs.State.Move.{Begins, Gathers, Passes, Drops}
+use Rattle.serving.specs.Rule.{MayCome, IsServing, MayBegin, MayAdd, MayDrop}
+use Rattle.serving.specs.Meaning.{Brings}
 use Rattle.serving.proofs.Ends.{ends_tell, added_ends, is_interrupted, none_ended}
-use Rattle.serving.proofs.Lists.{find_first, find_past, find_gone, find_other}
-use Rattle.serving.proofs.Texts.{no_request}
-use Rattle.serving.proofs.Standing.{owed, text_of, IsInPart, IsSent, Given, IsDueFor, Fares, IsDue, Stands, Steps, had_closed_in}
-use Rattle.serving.proofs.Passing.{items_beside, sent_same, fares_same, fresh_same, lives_same, reason_on, lasts_came}
+use Rattle.serving.proofs.Lists.{held_now, held_beside}
+use Rattle.serving.proofs.Texts.{no_request, part_told}
+use Rattle.serving.proofs.Bringing.{IsGood, is_good}
+use Rattle.serving.proofs.Writing.{body_append, head_written, item_written, may_go_on}
 use Rattle.serving.proofs.Streamed.{all_streamed}
+use Rattle.serving.proofs.Standing.{owed, text_of, IsInPart, IsSent, Given, IsDueFor, Fares, IsDue, IsOnWay, IsWaiting, IsGoing, IsDropped, Stands, Steps, had_closed_in, has_head_stays, way_stays}
+use Rattle.serving.proofs.Passing.{items_beside, sent_same, fares_same, fresh_same, lives_found, reason_on}
+use Rattle.serving.proofs.Framing.{not_to_end}
 use Rattle.serving.proofs.Opening.{sent_written}
 
--- ---- what is held
-
--- what is held of the stream now
-held_new : (id : ℕ) (text : List ℕ) (stage : Stage) (hs : List Held) (h : Held) → held_of id (held_with id text stage hs) ≡ Some h → (h.text ≡ text) × (h.stage ≡ stage)
-held_new id text Whole hs h e = let clash : ◌≡◌ {A = Option Held} None (Some h) = sym (find_gone id_of id hs) ∙ e in cc
-held_new id text (Counting left) hs h e = by (sym (find_first id_of id (record { id = id; text = text; stage = Counting left }) (without id_of id hs) refl) ∙ e)
-  where
-    by : ◌≡◌ {A = Option Held} (Some (record { id = id; text = text; stage = Counting left })) (Some h) → (h.text ≡ text) × (h.stage ≡ Counting left)
-    by e = let is : ◌≡◌ {A = Held} (record { id = id; text = text; stage = Counting left }) h = cc in (ap (λ (x : Held). x.text) (sym is), ap (λ (x : Held). x.stage) (sym is))
-held_new id text (Holding octet) hs h e = by (sym (find_first id_of id (record { id = id; text = text; stage = Holding octet }) (without id_of id hs) refl) ∙ e)
-  where
-    by : ◌≡◌ {A = Option Held} (Some (record { id = id; text = text; stage = Holding octet })) (Some h) → (h.text ≡ text) × (h.stage ≡ Holding octet)
-    by e = let is : ◌≡◌ {A = Held} (record { id = id; text = text; stage = Holding octet }) h = cc in (ap (λ (x : Held). x.text) (sym is), ap (λ (x : Held). x.stage) (sym is))
-held_new id text Chunking hs h e = by (sym (find_first id_of id (record { id = id; text = text; stage = Chunking }) (without id_of id hs) refl) ∙ e)
-  where
-    by : ◌≡◌ {A = Option Held} (Some (record { id = id; text = text; stage = Chunking })) (Some h) → (h.text ≡ text) × (h.stage ≡ Chunking)
-    by e = let is : ◌≡◌ {A = Held} (record { id = id; text = text; stage = Chunking }) h = cc in (ap (λ (x : Held). x.text) (sym is), ap (λ (x : Held). x.stage) (sym is))
-
--- what is held of the others
-held_old : (id stream : ℕ) (text : List ℕ) (stage : Stage) (hs : List Held) → (id ≡ stream → ⊥) → held_of stream (held_with id text stage hs) ≡ held_of stream hs
-held_old id stream text Whole hs apart = find_other id_of id stream hs apart
-held_old id stream text (Counting left) hs apart = find_past id_of stream (record { id = id; text = text; stage = Counting left }) (without id_of id hs) apart ∙ find_other id_of id stream hs apart
-held_old id stream text (Holding octet) hs apart = find_past id_of stream (record { id = id; text = text; stage = Holding octet }) (without id_of id hs) apart ∙ find_other id_of id stream hs apart
-held_old id stream text Chunking hs apart = find_past id_of stream (record { id = id; text = text; stage = Chunking }) (without id_of id hs) apart ∙ find_other id_of id stream hs apart
-
 -- ---- a part stays one
-
--- the octets of items behind items
-pub body_append : (xs ys : List Item) → body_of (xs ++ ys) ≡ body_of xs ++ body_of ys
-body_append [] ys = refl
-body_append (Content octets ends ∷ xs) ys = ap (λ l. octets ++ l) (body_append xs ys) ∙ sym (append_assoc octets (body_of xs) (body_of ys))
-body_append (Block fields ends ∷ xs) ys = body_append xs ys
 
 -- a request that longer items may become, the shorter ones may
 may_back : (b : Bool) (xs ys : List Item) (head : List Field) (request : Request) → HasHead xs head → MayBecome (if b then xs else xs ++ ys) request → MayBecome xs request
@@ -87,146 +64,241 @@ may_back false (Block fields ends ∷ xs) ys head request has may = record {
 part_stays : (b : Bool) (xs ys : List Item) (head : List Field) (text : List ℕ) (request : Request) → HasHead xs head → MayBecome (if b then xs else xs ++ ys) request → IsSentInPart text xs → IsSentInPart text (if b then xs else xs ++ ys)
 part_stays b xs ys head text request has some p = record { some = (request, some); reads = p.reads; goes_on = λ r may. p.goes_on r (may_back b xs ys head r has may) }
 
-module _ (known : Known) (t : List Entry) (s : State) (h : Stands known t s) (nothing : s.due ≡ Nothing) (noted : Noted) (fate : Lasts known t (Came noted) noted.frame.id) where
+-- ---- what is due
+
+-- octets that are due to a connection, and to no other
+owed_own : (k : ℕ) (octets : List ℕ) → owed k (to_send k octets) ≡ octets
+owed_own k [] = refl
+owed_own k (octet ∷ octets) = ap (λ b. if b then octet ∷ octets else []) (eq-eqb k k refl)
+
+owed_other : (n k : ℕ) (octets : List ℕ) → (n ≡ k → ⊥) → owed n (to_send k octets) ≡ []
+owed_other n k [] apart = refl
+owed_other n k (octet ∷ octets) apart = ap (λ b. if b then octet ∷ octets else []) (ne_eqb n k apart)
+
+-- requests that wait are passed on whole
+waits_whole : (passing : Passing) (b : Bool) → (is_streaming passing || b) ≡ false → (passing ≡ WholePassing) × (b ≡ false)
+waits_whole WholePassing b e = (refl, e)
+waits_whole Streaming b e = absurd (cc)
+
+-- a stream that is served is active, and isn't answered
+none_answered : (c : Option Cause) → is_none c ≡ true → c ≡ None
+none_answered None e = refl
+none_answered (Some c) e = absurd (cc)
+
+module _ (known : Known) (t : List Entry) (s : State) (h : Stands known t s) (told behind : Told) (is_told : IsTold known t told) (come : MayCome told s) (noted : Noted) (item : Item) (brings : Brings known t noted item) (serving : IsServing behind noted) (is_behind : IsTold known (Came noted ∷ t) behind) where
   abbrev pub e : Entry
   e = Came noted
 
-  lasts : (o : Opened) → Lasts known t e o.stream
-  lasts o = elim (eqb_tells noted.frame.id o.stream) [ inl x ↦ subst (Lasts known t e) x.1 fate | inr x ↦ lasts_came known t noted o.stream x.1 ]
+  abbrev pub id : ℕ
+  id = noted.frame.id
 
-  -- a connection of another stream, to which nothing is due
-  sent_beside : (o : Opened) (due : Due) → IsIn o (opens t) → Given known t s o → (noted.frame.id ≡ o.stream → ⊥) → owed o.k due ≡ [] → IsSent known (e ∷ t) (text_of o.k (e ∷ t) due) o
-  sent_beside o due i g apart none =
-      subst (λ x. IsSent known (e ∷ t) x o) (ap (λ d. sent_up o.k t ++ owed o.k d) nothing ∙ ap (λ x. sent_up o.k t ++ x) (sym none))
-      (sent_same known t e o (text_of o.k t s.due) i (items_beside known t noted o.stream apart) (λ shut. shut) g.sent)
+  in_time : MayBeServed known (e ∷ t) id
+  in_time =
+      let parts = and_parts (is_active id (e ∷ t)) (is_none (cause known id (e ∷ t))) (sym (is_behind.served id) ∙ serving.served) in
+      record { active = parts.0; no_cause = none_answered (cause known id (e ∷ t)) parts.1; goes_on = sym is_behind.ends ∙ serving.goes_on }
 
-  -- ---- what is read
+  good : IsGood known.setup (carried_by (items known id t) false) item
+  good = is_good known t noted item brings serving.counted in_time.no_cause
 
-  module _ (text : List ℕ) (stage : Stage) (due : Due) (written : IsWritten (items known noted.frame.id (e ∷ t)) text stage) where
-    abbrev pub u : State
-    u = after s (Reads noted text stage due)
+  -- what is due is due to no connection of another stream
+  abbrev pub IsBeside : Due → Type 0
+  IsBeside due = (o : Opened) → IsIn o (opens t) → (id ≡ o.stream → ⊥) → owed o.k due ≡ []
 
-    held : (stream : ℕ) (x : Held) → held_of stream u.held ≡ Some x → IsWritten (items known stream (e ∷ t)) x.text x.stage
-    held stream x found = elim (eqb_tells noted.frame.id stream) [
-      | inl same ↦ (let is = held_new noted.frame.id text stage s.held x (subst (λ n. held_of n u.held ≡ Some x) (sym same.1) found) in
-          subst (λ n. IsWritten (items known n (e ∷ t)) x.text x.stage) same.1 (subst (λ a. IsWritten (items known noted.frame.id (e ∷ t)) a x.stage) (sym is.0) (subst (λ b. IsWritten (items known noted.frame.id (e ∷ t)) text b) (sym is.1) written)))
-      | inr apart ↦ subst (λ xs. IsWritten xs x.text x.stage) (sym (items_beside known t noted stream apart.1)) (h.held stream x (sym (held_old noted.frame.id stream text stage s.held apart.1) ∙ found))
-    ]
+  text_beside : (due : Due) → IsBeside due → (o : Opened) → IsIn o (opens t) → (id ≡ o.stream → ⊥) → text_of o.k (e ∷ t) due ≡ text_of o.k t s.due
+  text_beside due beside o i apart = ap (λ x. sent_up o.k t ++ x) (beside o i apart) ∙ sym (ap (λ d. sent_up o.k t ++ owed o.k d) come.nothing)
 
-    -- by what is sent, how the stream fares and what is due
-    reads_by : ((o : Opened) → IsIn o (opens t) → Given known t s o → IsSent known (e ∷ t) (text_of o.k (e ∷ t) due) o) → Fares known (e ∷ t) u noted.frame.id → IsDue known (e ∷ t) u due → Steps known t e s u
-    reads_by sent fares is_due = record {
-      same_opens = refl;
-      count = refl;
-      lives = λ o i g. lives_same known t e s u o g (λ x. x) refl refl refl (lasts o) g.lives;
-      gone = λ o i g none. (none, reason_on known t e s o g (λ x. x));
-      sent = sent;
-      back = λ k l found. (l, found);
-      fresh = λ k lt. fresh_same t e k refl (λ x. x) (λ shut. shut);
-      fares = λ stream. elim (eqb_tells noted.frame.id stream) [
-        | inl same ↦ subst (Fares known (e ∷ t) u) same.1 fares
-        | inr apart ↦ fares_same known t e s u stream nothing refl (items_beside known t noted stream apart.1) (h.fares stream)
-      ];
-      held = held;
-      due = is_due;
-      goes = h.goes;
-      in_time = h.in_time;
-      in_turn = (all_streamed known t s h nothing, h.in_turn);
-      ends = λ x. x;
-      closes = λ c. c;
-      closed = h.closed;
-    }
+  sent_beside : (due : Due) → IsBeside due → (o : Opened) → IsIn o (opens t) → Given known t s o → (id ≡ o.stream → ⊥) → IsSent known (e ∷ t) (text_of o.k (e ∷ t) due) o
+  sent_beside due beside o i g apart =
+      subst (λ x. IsSent known (e ∷ t) x o) (sym (text_beside due beside o i apart)) (sent_same known t e o (text_of o.k t s.due) i (items_beside known t noted o.stream apart) (λ shut. shut) g.sent)
 
-    -- the stream has no connection
-    none_on : ((o : Opened) → IsGiven t noted.frame.id o → ⊥) → ((k : ℕ) → owed k due ≡ []) → (o : Opened) → IsIn o (opens t) → Given known t s o → IsSent known (e ∷ t) (text_of o.k (e ∷ t) due) o
-    none_on none silent o i g = elim (eqb_tells noted.frame.id o.stream) [
-      | inl same ↦ absurd (none o (record { is_opened = i; is_given = sym same.1 }))
-      | inr apart ↦ sent_beside o due i g apart.1 (silent o.k)
-    ]
+  -- What is to be shown of the frame's own stream.
+  record Own (u : State) : Type 0 where
+    same_count : u.count ≡ s.count
+    same_live : u.live ≡ s.live
+    beside : IsBeside u.due
+    sent : (o : Opened) → IsIn o (opens t) → Given known t s o → id ≡ o.stream → IsSent known (e ∷ t) (text_of o.k (e ∷ t) u.due) o
+    held : (x : Held) → held_of id u.held ≡ Some x → IsOnWay known (e ∷ t) u id x.way
+    held_others : (stream : ℕ) → (id ≡ stream → ⊥) → held_of stream u.held ≡ held_of stream s.held
+    fares : Fares known (e ∷ t) u id
+    is_due : IsDue known (e ∷ t) u u.due
 
-    -- the text is held
-    holds : MayHold known t noted stage due → Steps known t e s u
-    holds may =
-        reads_by (none_on may.no_connection (λ k. ap (owed k) may.nothing)) (inl (record { no_request = λ request means. no_request (items known noted.frame.id (e ∷ t)) request (written.goes_on may.part) means; no_head = λ streaming head has. (let clash : WholePassing ≡ Streaming = sym may.passing ∙ streaming in cc) })) (subst (IsDue known (e ∷ t) u) (sym may.nothing) tt)
-
-    -- a connection is due
-    to_open : IsToOpen known t noted text stage written due → Steps known t e s u
-    to_open may =
-        reads_by (none_on may.no_connection (λ k. ap (owed k) may.is)) (inr (inl (subst (λ d. IsDueFor d noted.frame.id) (sym may.is) refl)))
-        (subst (IsDue known (e ∷ t) u) (sym may.is) (record { last = refl; none_given = λ o g. may.no_connection o (record { is_opened = g.is_opened; is_given = g.is_given }); stage = stage; written = written; by_route = may.by_route; active = may.active; calm = may.calm; lasts = may.lasts }))
-
-    -- more octets are due
-    to_send : IsToSend known t s noted text due → Steps known t e s u
-    to_send may = reads_by sent (inr (inr (may.o, record { is_opened = may.given.is_opened; is_given = may.given.is_given }))) (subst (IsDue known (e ∷ t) u) (sym may.is) (may.live, may.found))
-      where
-        own_text : text_of may.o.k (e ∷ t) due ≡ text
-        own_text = ap (λ d. sent_up may.o.k t ++ owed may.o.k d) may.is ∙ ap (λ b. sent_up may.o.k t ++ (if b then may.octets else [])) (eq-eqb may.o.k may.o.k refl) ∙ sym may.goes_on
-
-        sent : (o : Opened) → IsIn o (opens t) → Given known t s o → IsSent known (e ∷ t) (text_of o.k (e ∷ t) due) o
-        sent o i g = elim (eqb_tells noted.frame.id o.stream) [
-          | inl same ↦ (let is : may.o ≡ o = one_connection (opens t) may.o o h.apart may.given.is_opened i (may.given.is_given ∙ same.1) in
-              subst (λ (p : Opened). IsSent known (e ∷ t) (text_of p.k (e ∷ t) due) p) is (subst (λ x. IsSent known (e ∷ t) x may.o) (sym own_text) (sent_written known (e ∷ t) may.o text stage (subst (λ n. IsWritten (items known n (e ∷ t)) text stage) (sym may.given.is_given) written))))
-          | inr apart ↦ sent_beside o due i g apart.1 (ap (owed o.k) may.is ∙ ap (λ b. if b then may.octets else []) (ne_eqb o.k may.o.k (λ k. apart.1 (sym may.given.is_given ∙ ap (λ (p : Opened). p.stream) (sym (one_number (opens t) o may.o h.numbered i may.given.is_opened k))))))
-        ]
-
-    -- nothing is
-    to_wait : IsToWait known t s noted text due → Steps known t e s u
-    to_wait may = reads_by sent (inr (inr (may.o, record { is_opened = may.given.is_opened; is_given = may.given.is_given }))) (subst (IsDue known (e ∷ t) u) (sym may.nothing) tt)
-      where
-        own_text : text_of may.o.k (e ∷ t) due ≡ text
-        own_text = ap (λ d. sent_up may.o.k t ++ owed may.o.k d) may.nothing ∙ append-nil (sent_up may.o.k t) ∙ sym may.same
-
-        sent : (o : Opened) → IsIn o (opens t) → Given known t s o → IsSent known (e ∷ t) (text_of o.k (e ∷ t) due) o
-        sent o i g = elim (eqb_tells noted.frame.id o.stream) [
-          | inl same ↦ (let is : may.o ≡ o = one_connection (opens t) may.o o h.apart may.given.is_opened i (may.given.is_given ∙ same.1) in
-              subst (λ (p : Opened). IsSent known (e ∷ t) (text_of p.k (e ∷ t) due) p) is (subst (λ x. IsSent known (e ∷ t) x may.o) (sym own_text) (sent_written known (e ∷ t) may.o text stage (subst (λ n. IsWritten (items known n (e ∷ t)) text stage) (sym may.given.is_given) written))))
-          | inr apart ↦ sent_beside o due i g apart.1 (ap (owed o.k) may.nothing)
-        ]
-
-    -- each of these ways
-    pub reads : MayHold known t noted stage due ⊎ (IsToOpen known t noted text stage written due ⊎ (IsToSend known t s noted text due ⊎ IsToWait known t s noted text due)) → Steps known t e s u
-    reads (inl may) = holds may
-    reads (inr (inl may)) = to_open may
-    reads (inr (inr (inl may))) = to_send may
-    reads (inr (inr (inr may))) = to_wait may
-
-  -- ---- what is dropped
-
-  -- whether the items were over, or the frame interrupts them
-  abbrev pub interrupted : Bool
-  interrupted = is_interrupted known noted.frame.id t e
-
-  pub drops : MayDrop known t s noted → Steps known t e s (after s (Drops noted))
-  drops may = record {
+  own_step : (u : State) → Own u → Steps known t e s u
+  own_step u p = record {
     same_opens = refl;
-    count = refl;
-    lives = λ o i g. lives_same known t e s s o g (λ x. x) refl refl refl (lasts o) g.lives;
-    gone = λ o i g none. (none, reason_on known t e s o g (λ x. x));
-    sent = sent;
-    back = λ k l found. (l, found);
+    count = p.same_count;
+    lives = λ o i g. lives_found known t e s u o g (λ x. x) refl (ap (live_of o.k) p.same_live) g.lives;
+    gone = λ o i g none. (ap (live_of o.k) p.same_live ∙ none, reason_on known t e s o g (λ x. x));
+    sent = λ o i g. elim (eqb_tells id o.stream) [ inl same ↦ p.sent o i g same.1 | inr apart ↦ sent_beside u.due p.beside o i g apart.1 ];
+    back = λ k there. (there.0, sym (ap (live_of k) p.same_live) ∙ there.1);
     fresh = λ k lt. fresh_same t e k refl (λ x. x) (λ shut. shut);
-    fares = λ stream. elim (eqb_tells noted.frame.id stream) [
-      | inl same ↦ inr (inr (may.o, record { is_opened = may.given.is_opened; is_given = may.given.is_given ∙ same.1 }))
-      | inr apart ↦ fares_same known t e s s stream nothing refl (items_beside known t noted stream apart.1) (h.fares stream)
+    fares = λ stream. elim (eqb_tells id stream) [
+      | inl same ↦ subst (Fares known (e ∷ t) u) same.1 p.fares
+      | inr apart ↦ fares_same known t e s u stream come.nothing refl (items_beside known t noted stream apart.1) (h.fares stream)
     ];
-    held = held_dropped;
-    due = subst (IsDue known (e ∷ t) s) (sym nothing) tt;
+    held = λ stream x found. elim (eqb_tells id stream) [
+      | inl same ↦ subst (λ n. IsOnWay known (e ∷ t) u n x.way) same.1 (p.held x (ap (λ n. held_of n u.held) same.1 ∙ found))
+      | inr apart ↦ way_stays known t e s u stream x.way (items_beside known t noted stream apart.1) refl (λ o g. text_beside u.due p.beside o g.is_opened (λ same. apart.1 (same ∙ g.is_given))) (λ k stage is there. (there.0, ap (live_of k) p.same_live ∙ there.1)) (λ k none. ap (live_of k) p.same_live ∙ none) (h.held stream x (sym (p.held_others stream apart.1) ∙ found))
+    ];
+    due = p.is_due;
     goes = h.goes;
     in_time = h.in_time;
-    in_turn = (all_streamed known t s h nothing, h.in_turn);
-    ends = λ x. x;
+    in_turn = (all_streamed known t s h come.nothing, h.in_turn);
+    ends = λ ends. absurd (not_to_end known t s h told behind is_told come ends);
     closes = λ c. c;
-    closed = h.closed;
+    shut = λ closed. p.same_live ∙ h.shut closed;
   }
-    where
-      none_before : list_any ends_with (items known noted.frame.id t) ≡ false
-      none_before = none_ended known noted.frame.id t may.not_ended
 
-      held_dropped : (stream : ℕ) (x : Held) → held_of stream s.held ≡ Some x → IsWritten (items known stream (e ∷ t)) x.text x.stage
-      held_dropped stream x found = elim (eqb_tells noted.frame.id stream) [
-        | inl same ↦ absurd (let clash : ◌≡◌ {A = Option Held} None (Some x) = sym may.not_held ∙ ap (λ n. held_of n s.held) same.1 ∙ found in cc)
-        | inr apart ↦ subst (λ xs. IsWritten xs x.text x.stage) (sym (items_beside known t noted stream apart.1)) (h.held stream x found)
-      ]
+  -- ---- a request waits, or a connection is due for it
+
+  module _ (route : ℕ) (text : List ℕ) (stage : Stage) (written : IsWritten (items known id (e ∷ t)) text stage) (head : List Field) (has_head : HasHead (items known id (e ∷ t)) head) (by_route : IsFirstMatch known.setup.routes (authority_of head) (path_of head) route) (none_given : (o : Opened) → IsGiven t id o → ⊥) where
+    abbrev pub waiting_or : Bool → State
+    waiting_or goes = record { held = held_with id (waits_from goes (Waiting route text stage)) s.held; live = s.live; due = to_open goes id route text stage; count = s.count }
+
+    none_of_id : (o : Opened) → IsIn o (opens t) → id ≡ o.stream → ⊥
+    none_of_id o i same = none_given o (record { is_opened = i; is_given = sym same })
+
+    opens_now : Steps known t e s (waiting_or true)
+    opens_now = own_step (waiting_or true) (record {
+      same_count = refl;
+      same_live = refl;
+      beside = λ o i apart. refl;
+      sent = λ o i g same. absurd (none_of_id o i same);
+      held = λ x found. absurd (let none : ◌≡◌ {A = Option Way} None (Some x.way) = held_now id None s.held x found in cc);
+      held_others = λ stream apart. held_beside id stream None s.held apart;
+      fares = inr (inl refl);
+      is_due = record { last = refl; none_given = λ o g. none_given o (record { is_opened = g.is_opened; is_given = g.is_given }); written = written; head = head; has_head = has_head; by_route = by_route; in_time = in_time };
+    })
+
+    waits : known.setup.passing ≡ WholePassing → is_whole stage ≡ false → Steps known t e s (waiting_or false)
+    waits whole_passing part = own_step (waiting_or false) (record {
+      same_count = refl;
+      same_live = refl;
+      beside = λ o i apart. refl;
+      sent = λ o i g same. absurd (none_of_id o i same);
+      held = held;
+      held_others = λ stream apart. held_beside id stream (Some (Waiting route text stage)) s.held apart;
+      fares = inl (record { no_request = λ request means. no_request (items known id (e ∷ t)) request (written.goes_on (part_told stage part)) means; no_head = λ streaming other has. (let clash : WholePassing ≡ Streaming = sym whole_passing ∙ streaming in cc) });
+      is_due = tt;
+    })
+      where
+        on_way : IsWaiting known (e ∷ t) id route text stage
+        on_way = record { whole_passing = whole_passing; written = written; part = part; head = head; has_head = has_head; by_route = by_route; none_given = λ o g. none_given o (record { is_opened = g.is_opened; is_given = g.is_given }) }
+
+        held : (x : Held) → held_of id (held_with id (Some (Waiting route text stage)) s.held) ≡ Some x → IsOnWay known (e ∷ t) (waiting_or false) id x.way
+        held x found =
+            let both : Some (Waiting route text stage) ≡ Some x.way = held_now id (Some (Waiting route text stage)) s.held x found in
+            let same : Waiting route text stage ≡ x.way = cc in
+            subst (IsOnWay known (e ∷ t) (waiting_or false) id) same on_way
+
+    either : (goes : Bool) → (goes ≡ false → (known.setup.passing ≡ WholePassing) × (is_whole stage ≡ false)) → Steps known t e s (waiting_or goes)
+    either true fine = opens_now
+    either false fine = waits (fine refl).0 (fine refl).1
+
+  -- ---- a head
+
+  pub begins : (head : List Field) (ended : Bool) (route : ℕ) (text : List ℕ) (stage : Stage) → items known id t ≡ [] → item ≡ Block head ended → MayBegin known.setup behind noted head ended route text stage → Steps known t e s (after known.setup behind s (Begins noted head ended route text stage))
+  begins head ended route text stage empty is may =
+      either route text stage written head has_head may.by_route none_given (goes_now known.setup stage) (waits_whole known.setup.passing (is_whole stage))
+    where
+      now : items known id (e ∷ t) ≡ Block head ended ∷ []
+      now = brings.adds ∙ ap (λ xs. xs ++ item ∷ []) empty ∙ ap (λ x. x ∷ []) is
+
+      written : IsWritten (items known id (e ∷ t)) text stage
+      written =
+          subst (λ xs. IsWritten xs text stage) (sym now)
+          (head_written known.setup head ended text stage (subst (IsGood known.setup (carried_by [] false)) is (subst (λ xs. IsGood known.setup (carried_by xs false) item) empty good)) may.sending may.whole)
+
+      has_head : HasHead (items known id (e ∷ t)) head
+      has_head = subst (λ xs. HasHead xs head) (sym now) refl
+
+      none_given : (o : Opened) → IsGiven t id o → ⊥
+      none_given o g = let was = (h.given o g.is_opened).has_head in subst (λ xs. HasHead xs (h.given o g.is_opened).head) (ap (λ n. items known n t) g.is_given ∙ empty) was
+
+  -- ---- an item of a request that waits
+
+  pub gathers : (route : ℕ) (text : List ℕ) (old : Stage) (written : List ℕ) (stage : Stage) → MayAdd behind s noted (Waiting route text old) item old written stage → Steps known t e s (after known.setup behind s (Gathers noted item route text old written stage))
+  gathers route text old written stage may =
+      let w : IsWaiting known t id route text old = h.held id (record { id = id; way = Waiting route text old }) may.found in
+      either route (text ++ written) stage
+      (subst (λ xs. IsWritten xs (text ++ written) stage) (sym brings.adds) (item_written known.setup (items known id t) text old item written stage w.written w.part good may.continues may.whole))
+      w.head (has_head_stays known t e id w.head w.has_head) w.by_route w.none_given (is_whole stage) (λ part. (w.whole_passing, part))
+
+  -- ---- an item of a request that goes out
+
+  abbrev pub passed : ℕ → Stage → List ℕ → Stage → State
+  passed k old written stage = after known.setup behind s (Passes noted item k old written stage)
+
+  pub passes : (k : ℕ) (old : Stage) (written : List ℕ) (stage : Stage) → MayAdd behind s noted (Going k old) item old written stage → Steps known t e s (after known.setup behind s (Passes noted item k old written stage))
+  passes k old written stage may = own_step (passed k old written stage) (record {
+    same_count = refl;
+    same_live = refl;
+    beside = λ o i apart. owed_other o.k k written (other o i apart);
+    sent = sent;
+    held = held;
+    held_others = λ stream apart. held_beside id stream (unless_whole stage (Going k stage)) s.held apart;
+    fares = inr (inr (w.o, record { is_opened = w.given.is_opened; is_given = w.given.is_given }));
+    is_due = is_due written;
+  })
+    where
+      w : IsGoing known t s id k old
+      w = h.held id (record { id = id; way = Going k old }) may.found
+
+      other : (o : Opened) → IsIn o (opens t) → (id ≡ o.stream → ⊥) → o.k ≡ k → ⊥
+      other o i apart same = apart (sym w.given.is_given ∙ ap (λ (p : Opened). p.stream) (sym (one_number (opens t) o w.o h.numbered i w.given.is_opened (same ∙ sym w.number))))
+
+      text_now : text_of k (e ∷ t) (to_send k written) ≡ text_of k t s.due ++ written
+      text_now = ap (λ x. sent_up k t ++ x) (owed_own k written) ∙ ap (λ x. x ++ written) (sym (ap (λ d. sent_up k t ++ owed k d) come.nothing ∙ append-nil (sent_up k t)))
+
+      now : IsWritten (items known id (e ∷ t)) (text_of k (e ∷ t) (to_send k written)) stage
+      now =
+          subst (λ x. IsWritten (items known id (e ∷ t)) x stage) (sym text_now)
+          (subst (λ xs. IsWritten xs (text_of k t s.due ++ written) stage) (sym brings.adds) (item_written known.setup (items known id t) (text_of k t s.due) old item written stage w.written w.part good may.continues may.whole))
+
+      sent : (o : Opened) → IsIn o (opens t) → Given known t s o → id ≡ o.stream → IsSent known (e ∷ t) (text_of o.k (e ∷ t) (to_send k written)) o
+      sent o i g same =
+          let is : w.o ≡ o = one_connection (opens t) w.o o h.apart w.given.is_opened i (w.given.is_given ∙ same) in
+          let at : o.k ≡ k = ap (λ (p : Opened). p.k) (sym is) ∙ w.number in
+          subst (λ n. IsSent known (e ∷ t) (text_of n (e ∷ t) (to_send k written)) o) (sym at)
+          (sent_written known (e ∷ t) o (text_of k (e ∷ t) (to_send k written)) stage (subst (λ n. IsWritten (items known n (e ∷ t)) (text_of k (e ∷ t) (to_send k written)) stage) same now))
+
+      is_due : (octets : List ℕ) → IsDue known (e ∷ t) (passed k old written stage) (to_send k octets)
+      is_due [] = tt
+      is_due (octet ∷ octets) = w.live
+
+      held : (x : Held) → held_of id (held_with id (unless_whole stage (Going k stage)) s.held) ≡ Some x → IsOnWay known (e ∷ t) (passed k old written stage) id x.way
+      held x found = by (is_whole stage) refl (held_now id (unless_whole stage (Going k stage)) s.held x found)
+        where
+          by : (b : Bool) → is_whole stage ≡ b → (if b then None else Some (Going k stage)) ≡ Some x.way → IsOnWay known (e ∷ t) (passed k old written stage) id x.way
+          by true whole e = absurd (cc)
+          by false part e =
+              let same : Going k stage ≡ x.way = cc in
+              subst (IsOnWay known (Came noted ∷ t) (passed k old written stage) id) same (record { o = w.o; given = record { is_opened = w.given.is_opened; is_given = w.given.is_given }; number = w.number; live = w.live; written = now; part = part })
+
+  -- ---- an item of a request that is dropped
+
+  pub drops : MayDrop behind s noted → Steps known t e s (after known.setup behind s (Drops noted item))
+  drops may = own_step s (record {
+    same_count = refl;
+    same_live = refl;
+    beside = λ o i apart. ap (owed o.k) come.nothing;
+    sent = sent;
+    held = held;
+    held_others = λ stream apart. refl;
+    fares = inr (inr (w.o, record { is_opened = w.given.is_opened; is_given = w.given.is_given }));
+    is_due = subst (IsDue known (e ∷ t) s) (sym come.nothing) tt;
+  })
+    where
+      w : IsDropped t s id
+      w = h.held id (record { id = id; way = Dropped }) may.found
+
+      held : (x : Held) → held_of id s.held ≡ Some x → IsOnWay known (e ∷ t) s id x.way
+      held x found =
+          let both : ◌≡◌ {A = Option Held} (Some (record { id = id; way = Dropped })) (Some x) = sym may.found ∙ found in
+          let same : ◌≡◌ {A = Held} (record { id = id; way = Dropped }) x = cc in
+          subst (λ (y : Held). IsOnWay known (e ∷ t) s id y.way) same (record { o = w.o; given = record { is_opened = w.given.is_opened; is_given = w.given.is_given }; gone = w.gone })
+
+      none_before : list_any ends_with (items known id t) ≡ false
+      none_before = none_ended known id t brings.goes_on
 
       shut : (o : Opened) → Given known t s o → live_of o.k s.live ≡ None → is_open o.k t ≡ false
       shut o g none = elim g.lives [
@@ -234,39 +306,42 @@ module _ (known : Known) (t : List Entry) (s : State) (h : Stands known t s) (no
         | inr gone ↦ gone.shut
       ]
 
-      own : (text : List ℕ) → (o : Opened) → IsIn o (opens t) → Given known t s o → live_of o.k s.live ≡ None → noted.frame.id ≡ o.stream → IsSent known t text o → IsSent known (e ∷ t) text o
+      own : (text : List ℕ) → (o : Opened) → IsIn o (opens t) → Given known t s o → live_of o.k s.live ≡ None → id ≡ o.stream → IsSent known t text o → IsSent known (e ∷ t) text o
       own text o i g none same was = record { reads = elim was.reads [ inl whole ↦ by_whole whole | inr p ↦ by_part p ]; writes = λ opened. absurd (let clash : true ≡ false = sym opened ∙ shut o g none in cc) }
         where
           by_whole : IsSentWhole text (items known o.stream t) → IsSentWhole text (items known o.stream (e ∷ t)) ⊎ IsInPart known (e ∷ t) text o
           by_whole whole = absurd (no_request (items known o.stream t) whole.request (subst (λ n. list_any ends_with (items known n t) ≡ false) same none_before) whole.means)
 
-          ended_now : list_any ends_with (items known noted.frame.id (e ∷ t)) ≡ true → ends_by (completed (came t) noted.frame) noted.frame ≡ true
+          ended_now : list_any ends_with (items known id (e ∷ t)) ≡ true → ends_by (completed (came t) noted.frame) noted.frame ≡ true
           ended_now now =
-              let added : list_any ends_with (items_of noted.frame.id t e) ≡ true = added_ends interrupted (items known noted.frame.id t) (items_of noted.frame.id t e) none_before now in
-              ends_tell (completed (came t) noted.frame) noted (sym (ap (λ b. list_any ends_with (if b then frame_items (completed (came t) noted.frame) noted else [])) (eq-eqb noted.frame.id noted.frame.id refl)) ∙ added)
+              let added : list_any ends_with (items_of id t e) ≡ true = added_ends (is_interrupted known id t e) (items known id t) (items_of id t e) none_before now in
+              ends_tell (completed (came t) noted.frame) noted (sym (ap (λ b. list_any ends_with (if b then frame_items (completed (came t) noted.frame) noted else [])) (eq-eqb id id refl)) ∙ added)
 
-          first_end : list_any ends_with (items known noted.frame.id (e ∷ t)) ≡ true → is_first_end o.stream t noted ≡ true
+          first_end : list_any ends_with (items known id (e ∷ t)) ≡ true → is_first_end o.stream t noted ≡ true
           first_end now =
-              and_from (noted.frame.id == o.stream && ends_by (completed (came t) noted.frame) noted.frame) (not (is_ended_by_client o.stream t))
-              (and_from (noted.frame.id == o.stream) (ends_by (completed (came t) noted.frame) noted.frame) (eq-eqb noted.frame.id o.stream same) (ended_now now))
-              (ap not (subst (λ n. is_ended_by_client n t ≡ false) same may.not_ended))
+              and_from (id == o.stream && ends_by (completed (came t) noted.frame) noted.frame) (not (is_ended_by_client o.stream t))
+              (and_from (id == o.stream) (ends_by (completed (came t) noted.frame) noted.frame) (eq-eqb id o.stream same) (ended_now now))
+              (ap not (subst (λ n. is_ended_by_client n t ≡ false) same brings.goes_on))
 
-          cut : (request : Request) → H2Request (items known noted.frame.id (e ∷ t)) request → was_cut o.stream (e ∷ t) ≡ true
-          cut request means = elim (cases_Bool (list_any ends_with (items known noted.frame.id (e ∷ t)))) [
+          cut : (request : Request) → H2Request (items known id (e ∷ t)) request → was_cut o.stream (e ∷ t) ≡ true
+          cut request means = elim (cases_Bool (list_any ends_with (items known id (e ∷ t)))) [
             | inl now ↦ ap (λ b. if b then had_closed o.stream (opens t) t else was_cut o.stream t) (first_end now) ∙ had_closed_in o.stream (opens t) t o i refl (shut o g none)
-            | inr none ↦ absurd (no_request (items known noted.frame.id (e ∷ t)) request none means)
+            | inr none ↦ absurd (no_request (items known id (e ∷ t)) request none means)
           ]
+
+          here : HasHead (items known id t) g.head
+          here = subst (λ n. HasHead (items known n t) g.head) (sym same) g.has_head
 
           by_part : IsInPart known t text o → IsSentWhole text (items known o.stream (e ∷ t)) ⊎ IsInPart known (e ∷ t) text o
           by_part p = inr (record {
-            part = subst (λ n. IsSentInPart text (items known n (e ∷ t))) same
-                (part_stays interrupted (items known noted.frame.id t) (items_of noted.frame.id t e) g.head text may.request (subst (λ n. HasHead (items known n t) g.head) (sym same) g.has_head) may.goes_on (subst (λ n. IsSentInPart text (items known n t)) (sym same) p.part));
+            part =
+                let some = may_go_on known.setup (items known id t) g.head item here good in
+                subst (λ n. IsSentInPart text (items known n (e ∷ t))) same
+                (part_stays (is_interrupted known id t e) (items known id t) (items_of id t e) g.head text some.0 here (subst (λ xs. MayBecome xs some.0) (sym brings.adds) some.1) (subst (λ n. IsSentInPart text (items known n t)) (sym same) p.part));
             cut = λ request means. (cut request (subst (λ n. H2Request (items known n (e ∷ t)) request) (sym same) means), shut o g none);
           })
 
-      sent : (o : Opened) → IsIn o (opens t) → Given known t s o → IsSent known (e ∷ t) (text_of o.k (e ∷ t) s.due) o
-      sent o i g = elim (eqb_tells noted.frame.id o.stream) [
-        | inl same ↦ (let is : may.o ≡ o = one_connection (opens t) may.o o h.apart may.given.is_opened i (may.given.is_given ∙ same.1) in
-            own (text_of o.k t s.due) o i g (ap (λ (p : Opened). live_of p.k s.live) (sym is) ∙ may.gone) same.1 g.sent)
-        | inr apart ↦ sent_same known t e o (text_of o.k t s.due) i (items_beside known t noted o.stream apart.1) (λ shut. shut) g.sent
-      ]
+      sent : (o : Opened) → IsIn o (opens t) → Given known t s o → id ≡ o.stream → IsSent known (e ∷ t) (text_of o.k (e ∷ t) s.due) o
+      sent o i g same =
+          let is : w.o ≡ o = one_connection (opens t) w.o o h.apart w.given.is_opened i (w.given.is_given ∙ same) in
+          own (text_of o.k t s.due) o i g (ap (λ (p : Opened). live_of p.k s.live) (sym is) ∙ w.gone) same g.sent

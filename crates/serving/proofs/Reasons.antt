@@ -19,6 +19,7 @@ use Rattle.model.specs.Offers.{is_to_head}
 use Rattle.model.specs.ProgressClause.{Reason}
 use Rattle.model.specs.ProgressClause.Reason.{Over, Complete, Answered, ClientClosed}
 use Rattle.model.specs.Courses.{cause_of}
+use Rattle.serving.specs.Meaning.{IsAllHeard}
 use Rattle.serving.proofs.Courses.{head_stays}
 
 -- ---- streams that are over
@@ -40,7 +41,7 @@ opened_stays t (Sent noted) stream is = is
 opened_stays t (Did act) stream is = is
 
 -- a stream that is over stays so
-over_stays : (t : List Entry) (e : Entry) (stream : ℕ) → is_over stream t ≡ true → is_over stream (e ∷ t) ≡ true
+pub over_stays : (t : List Entry) (e : Entry) (stream : ℕ) → is_over stream t ≡ true → is_over stream (e ∷ t) ≡ true
 over_stays t (Came noted) stream is =
     by (noted.frame.kind == rst_stream_kind && noted.frame.id == stream) (noted.frame.id == stream && ends_by (completed (came t) noted.frame) noted.frame) (is_reset_by_gateway stream t) (is_reset_by_client stream t) (is_ended_by_client stream t) (is_ended_by_gateway stream t) is
   where
@@ -131,36 +132,23 @@ ended_same t (Did act) k other = refl
 
 -- ---- reasons
 
-module _ (known : Known) (t : List Entry) (e : Entry) (o : Opened) (opened : is_opened o.stream t ≡ true) (begun : items known o.stream t ≡ [] → ⊥) (other : IsOf o.k e → ⊥) where
+-- What was heard of a connection that is on a stream on which something came stays a whole response or none, whatever comes but an
+-- answer of its own upstream.
+module _ (known : Known) (t : List Entry) (e : Entry) (o : Opened) (begun : items known o.stream t ≡ [] → ⊥) (other : IsOf o.k e → ⊥) where
   to_head_same : is_to_head (items known o.stream t) ≡ is_to_head (items known o.stream (e ∷ t))
   to_head_same = head_stays known o.stream t e begun
 
-  complete_there : IsComplete (heard o.k t) (has_ended o.k t) (is_to_head (items known o.stream t)) → IsComplete (heard o.k (e ∷ t)) (has_ended o.k (e ∷ t)) (is_to_head (items known o.stream (e ∷ t)))
-  complete_there c =
+  pub all_heard_there : IsAllHeard known t o → IsAllHeard known (e ∷ t) o
+  all_heard_there c =
       subst (λ x. IsComplete x (has_ended o.k (e ∷ t)) (is_to_head (items known o.stream (e ∷ t)))) (sym (heard_same t e o.k other)) (subst (λ x. IsComplete (heard o.k t) x (is_to_head (items known o.stream (e ∷ t)))) (sym (ended_same t e o.k other)) (subst (λ x. IsComplete (heard o.k t) (has_ended o.k t) x) to_head_same c))
 
-  complete_back : IsComplete (heard o.k (e ∷ t)) (has_ended o.k (e ∷ t)) (is_to_head (items known o.stream (e ∷ t))) → IsComplete (heard o.k t) (has_ended o.k t) (is_to_head (items known o.stream t))
-  complete_back c =
+  pub all_heard_back : IsAllHeard known (e ∷ t) o → IsAllHeard known t o
+  all_heard_back c =
       subst (λ x. IsComplete x (has_ended o.k t) (is_to_head (items known o.stream t))) (heard_same t e o.k other) (subst (λ x. IsComplete (heard o.k (e ∷ t)) x (is_to_head (items known o.stream t))) (ended_same t e o.k other) (subst (λ x. IsComplete (heard o.k (e ∷ t)) (has_ended o.k (e ∷ t)) x) (sym to_head_same) c))
 
-  -- A reason stays, whatever comes but an answer of its own upstream.
-  pub reason_stays : Reason known t o → Reason known (e ∷ t) o
-  reason_stays (Over is) = Over (lost_stays t e o.stream opened is)
-  reason_stays (Complete c) = Complete (complete_there c)
-  reason_stays (Answered found is) = Answered found (cause_stays known t e o.stream found is)
-  reason_stays (ClientClosed is) = ClientClosed (closed_stays t e is)
-
-  -- No reason comes with an entry with which the stream lasts and the client isn't closed.
-  pub no_reason : (is_active o.stream t ≡ true → is_active o.stream (e ∷ t) ≡ true) → (cause known o.stream t ≡ None → cause known o.stream (e ∷ t) ≡ None) → is_closed (e ∷ t) ≡ is_closed t → (Reason known t o → ⊥) → Reason known (e ∷ t) o → ⊥
-  no_reason lasts calm closed none (Over is) = cases (is_active o.stream t) refl
-    where
-      cases : (b : Bool) → is_active o.stream t ≡ b → ⊥
-      cases true was = let clash : true ≡ false = sym (lasts was) ∙ is in cc
-      cases false was = none (Over was)
-  no_reason lasts calm closed none (Complete c) = none (Complete (complete_back c))
-  no_reason lasts calm closed none (Answered found is) = cases (cause known o.stream t) refl
-    where
-      cases : (c : Option Cause) → cause known o.stream t ≡ c → ⊥
-      cases None was = let clash : ◌≡◌ {A = Option Cause} None (Some found) = sym (calm was) ∙ is in cc
-      cases (Some earlier) was = none (Answered earlier was)
-  no_reason lasts calm closed none (ClientClosed is) = none (ClientClosed (sym closed ∙ is))
+-- A reason stays, whatever comes but an answer of the connection's own upstream.
+pub reason_stays : (known : Known) (t : List Entry) (e : Entry) (o : Opened) → is_opened o.stream t ≡ true → (items known o.stream t ≡ [] → ⊥) → (IsOf o.k e → ⊥) → Reason known t o → Reason known (e ∷ t) o
+reason_stays known t e o opened begun other (Over is) = Over (lost_stays t e o.stream opened is)
+reason_stays known t e o opened begun other (Complete c) = Complete (all_heard_there known t e o begun other c)
+reason_stays known t e o opened begun other (Answered found is) = Answered found (cause_stays known t e o.stream found is)
+reason_stays known t e o opened begun other (ClientClosed is) = ClientClosed (closed_stays t e is)

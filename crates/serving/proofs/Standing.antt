@@ -1,12 +1,13 @@
 -- How what is kept stands to the tape, and that it stands so behind an entry.
 use Rattle.std.proofs.Common.{◌≡◌, ℕ, ◌<◌, Bool, true, false, ◌==◌, ◌&&◌, ◌||◌, not, List, [], ◌∷◌, ◌++◌, length, refl, sym, ap, ◌∙◌, subst, inl, inr, if◌then◌else◌}
 use Rattle.std.specs.Prelude.{Some, None, ◌⊎◌}
+use Rattle.std.specs.List.{list_any}
 use Rattle.std.proofs.lemmas.Bool.{eq-eqb}
-use Rattle.model.specs.Messages.{Field, Item, Request}
+use Rattle.model.specs.Messages.{Field, Item, Request, ends_with}
 use Rattle.model.specs.Messages.Item.{Block, Content}
-use Rattle.model.specs.Http2.{HasHead, WellFormedHead, H2Request, authority_of, path_of}
+use Rattle.model.specs.Http2.{HasHead, WellFormedHead, H2Request, EndsWithLast, authority_of, path_of}
 use Rattle.model.specs.Setup.{IsFirstMatch}
-use Rattle.model.specs.Setup.Passing.{Streaming}
+use Rattle.model.specs.Setup.Passing.{Whole as WholePassing, Streaming}
 use Rattle.model.specs.Logs.Act.{Open, ToUp, Close, CloseClient}
 use Rattle.model.specs.Tapes.{Entry, sent_up, is_closed}
 use Rattle.model.specs.Tapes.Entry.{Came, Breached, Happened, Sent, Did}
@@ -20,12 +21,15 @@ use Rattle.model.specs.ErrorTable.{fault_with}
 use Rattle.model.specs.Courses.{course, carried, items, cause, interrupts}
 use Rattle.model.specs.Offers.{IsGiven}
 use Rattle.model.specs.ErrorClause.{must_end}
-use Rattle.model.specs.RequestClause.{IsSentWhole, IsSentInPart, OpenInTime}
+use Rattle.model.specs.RequestClause.{IsSentWhole, IsSentInPart, MayBeServed, OpenInTime}
 use Rattle.model.specs.ProgressClause.{Reason, had_closed, is_first_end, was_cut, AreStreamedInTurn}
 use Rattle.h1_writer.specs.Sending.{Stage}
 use Rattle.model.specs.Courses.{cause_of}
 use Rattle.serving.specs.Written.{IsWritten}
-use Rattle.serving.specs.State.{Held, held_of, Live, live_of, Due, State}
+use Rattle.serving.specs.State.{Way, Held, held_of, Live, live_of, Due, State, is_whole}
+use Rattle.serving.specs.State.Way.{Waiting, Going, Dropped}
+use Rattle.serving.specs.Rule.{IsKept}
+use Rattle.serving.specs.Meaning.{Verdict}
 use Rattle.serving.specs.State.Due.{Nothing, ToOpen, ToSend}
 use Rattle.serving.proofs.Reasons.{opened_stays}
 
@@ -40,14 +44,13 @@ owed k due = []
 abbrev pub text_of : ℕ → List Entry → Due → List ℕ
 text_of k t due = sent_up k t ++ owed k due
 
--- The connection is open and kept: it is done with just where there is a reason.
+-- The connection is open and kept, and whether its response is whole.
 pub record IsLive (known : Known) (t : List Entry) (s : State) (o : Opened) : Type 0 where
   pub live : Live
   pub found : live_of o.k s.live ≡ Some live
   pub same : live.stream ≡ o.stream
   pub opened : is_open o.k t ≡ true
-  pub done : live.done ≡ true → Reason known t o
-  pub going : live.done ≡ false → Reason known t o → ⊥
+  pub verdict : Verdict known t o live.whole
 
 -- The connection isn't open, nor kept.
 pub record IsGone (t : List Entry) (s : State) (o : Opened) : Type 0 where
@@ -82,7 +85,7 @@ pub record Given (known : Known) (t : List Entry) (s : State) (o : Opened) : Typ
 
 -- a connection is due for the stream
 abbrev pub IsDueFor : Due → ℕ → Type 0
-IsDueFor (ToOpen stream route text) other = stream ≡ other
+IsDueFor (ToOpen stream route text stage) other = stream ≡ other
 IsDueFor due other = ⊥
 
 -- The stream has no request, nor so much as a head where requests are passed on as they come.
@@ -98,21 +101,53 @@ Fares known t s stream =
 -- ---- what is due
 
 -- A connection and a text are due for the stream of the last frame, which has none.
-pub record IsOpening (known : Known) (t : List Entry) (stream route : ℕ) (text : List ℕ) : Type 0 where
+pub record IsOpening (known : Known) (t : List Entry) (stream route : ℕ) (text : List ℕ) (stage : Stage) : Type 0 where
   pub last : last_stream t ≡ stream
   pub none_given : (o : Opened) → IsGiven t stream o → ⊥
-  pub stage : Stage
   pub written : IsWritten (items known stream t) text stage
-  pub by_route : IsFirstMatch known.setup.routes (authority_of written.head) (path_of written.head) route
-  pub active : is_active stream t ≡ true
-  pub calm : cause known stream t ≡ None
-  pub lasts : must_end known t ≡ false
+  pub head : List Field
+  pub has_head : HasHead (items known stream t) head
+  pub by_route : IsFirstMatch known.setup.routes (authority_of head) (path_of head) route
+  pub in_time : MayBeServed known t stream
 
 -- What is due can be done.
 abbrev pub IsDue : Known → List Entry → State → Due → Type 0
 IsDue known t s Nothing = Unit {0}
-IsDue known t s (ToOpen stream route text) = IsOpening known t stream route text
+IsDue known t s (ToOpen stream route text stage) = IsOpening known t stream route text stage
 IsDue known t s (ToSend k text) = (l : Live) × (live_of k s.live ≡ Some l)
+
+-- ---- requests that aren't whole
+
+-- A request that waits: this was written of it, and its stream has no connection.
+pub record IsWaiting (known : Known) (t : List Entry) (stream route : ℕ) (text : List ℕ) (stage : Stage) : Type 0 where
+  pub whole_passing : known.setup.passing ≡ WholePassing
+  pub written : IsWritten (items known stream t) text stage
+  pub part : is_whole stage ≡ false
+  pub head : List Field
+  pub has_head : HasHead (items known stream t) head
+  pub by_route : IsFirstMatch known.setup.routes (authority_of head) (path_of head) route
+  pub none_given : (o : Opened) → IsGiven t stream o → ⊥
+
+-- A request that goes out: what was written of it was sent on its stream's connection, or is due to that.
+pub record IsGoing (known : Known) (t : List Entry) (s : State) (stream k : ℕ) (stage : Stage) : Type 0 where
+  pub o : Opened
+  pub given : IsGiven t stream o
+  pub number : o.k ≡ k
+  pub live : IsKept s k
+  pub written : IsWritten (items known stream t) (text_of k t s.due) stage
+  pub part : is_whole stage ≡ false
+
+-- A request that is dropped: its stream's connection isn't open any more.
+pub record IsDropped (t : List Entry) (s : State) (stream : ℕ) : Type 0 where
+  pub o : Opened
+  pub given : IsGiven t stream o
+  pub gone : live_of o.k s.live ≡ None
+
+-- What is held of a stream is so.
+abbrev pub IsOnWay : Known → List Entry → State → ℕ → Way → Type 0
+IsOnWay known t s stream (Waiting route text stage) = IsWaiting known t stream route text stage
+IsOnWay known t s stream (Going k stage) = IsGoing known t s stream k stage
+IsOnWay known t s stream Dropped = IsDropped t s stream
 
 -- ---- connections that were closed
 
@@ -122,7 +157,7 @@ pub record IsLetGo (known : Known) (t : List Entry) (s : State) (k : ℕ) : Type
   pub is_opened : IsIn o (opens t)
   pub number : o.k ≡ k
   pub missing : live_of k s.live ≡ None
-  pub why : Reason known t o ⊎ (s.ends ≡ true)
+  pub why : Reason known t o ⊎ (must_end known t ≡ true)
 
 -- Each connection that was closed was open, and let go.
 abbrev pub Closes : Known → List Entry → State → List Entry → Type 0
@@ -148,13 +183,13 @@ pub record Stands (known : Known) (t : List Entry) (s : State) : Type 0 where
   pub there : (k : ℕ) (l : Live) → live_of k s.live ≡ Some l → (o : Opened) × IsIn o (opens t) × (o.k ≡ k)
   pub fresh : (k : ℕ) → s.count < k → IsFresh t k
   pub fares : (stream : ℕ) → Fares known t s stream
-  pub held : (stream : ℕ) (h : Held) → held_of stream s.held ≡ Some h → IsWritten (items known stream t) h.text h.stage
+  pub held : (stream : ℕ) (h : Held) → held_of stream s.held ≡ Some h → IsOnWay known t s stream h.way
   pub due : IsDue known t s s.due
   pub goes : GoToOpen t
   pub in_time : OpenInTime known t
   pub in_turn : AreStreamedInTurn known t
   pub closes : Closes known t s t
-  pub closed : is_closed t ≡ s.closed
+  pub shut : is_closed t ≡ true → s.live ≡ []
 
 -- ---- what stays whatever comes
 
@@ -214,6 +249,35 @@ closes_stay known t e s u go (Breached breach ∷ v) c = closes_stay known t e s
 closes_stay known t e s u go (Happened event ∷ v) c = closes_stay known t e s u go v c
 closes_stay known t e s u go (Sent noted ∷ v) c = closes_stay known t e s u go v c
 
+-- a way stays that a request is on, where its stream's items and its text stay, and connections that matter to it
+pub way_stays : (known : Known) (t : List Entry) (e : Entry) (s u : State) (stream : ℕ) (way : Way) → items known stream (e ∷ t) ≡ items known stream t → opens (e ∷ t) ≡ opens t → ((o : Opened) → IsGiven t stream o → text_of o.k (e ∷ t) u.due ≡ text_of o.k t s.due) → ((k : ℕ) (stage : Stage) → way ≡ Going k stage → IsKept s k → IsKept u k) → ((k : ℕ) → live_of k s.live ≡ None → live_of k u.live ≡ None)
+    → IsOnWay known t s stream way → IsOnWay known (e ∷ t) u stream way
+way_stays known t e s u stream (Waiting route text stage) same same_opens same_text keeps loses w =
+    record {
+      whole_passing = w.whole_passing;
+      written = subst (λ xs. IsWritten xs text stage) (sym same) w.written;
+      part = w.part;
+      head = w.head;
+      has_head = subst (λ xs. HasHead xs w.head) (sym same) w.has_head;
+      by_route = w.by_route;
+      none_given = λ o g. w.none_given o (record { is_opened = subst (IsIn o) same_opens g.is_opened; is_given = g.is_given });
+    }
+way_stays known t e s u stream (Going k stage) same same_opens same_text keeps loses w = record {
+  o = w.o;
+  given = record { is_opened = subst (IsIn w.o) (sym same_opens) w.given.is_opened; is_given = w.given.is_given };
+  number = w.number;
+  live = keeps k stage refl w.live;
+  written =
+      let text : text_of k (e ∷ t) u.due ≡ text_of k t s.due = subst (λ n. text_of n (e ∷ t) u.due ≡ text_of n t s.due) w.number (same_text w.o w.given) in
+      subst (λ x. IsWritten (items known stream (e ∷ t)) x stage) (sym text) (subst (λ xs. IsWritten xs (text_of k t s.due) stage) (sym same) w.written);
+  part = w.part;
+}
+way_stays known t e s u stream Dropped same same_opens same_text keeps loses w = record {
+  o = w.o;
+  given = record { is_opened = subst (IsIn w.o) (sym same_opens) w.given.is_opened; is_given = w.given.is_given };
+  gone = loses w.o.k w.gone;
+}
+
 -- ---- an entry that opens nothing
 
 -- What is to be shown of an entry with which no connection is opened.
@@ -223,17 +287,17 @@ pub record Steps (known : Known) (t : List Entry) (e : Entry) (s u : State) : Ty
   pub lives : (o : Opened) → IsIn o (opens t) → Given known t s o → Lives known (e ∷ t) u o
   pub gone : (o : Opened) → IsIn o (opens t) → Given known t s o → live_of o.k s.live ≡ None → (live_of o.k u.live ≡ None) × (Reason known t o → Reason known (e ∷ t) o)
   pub sent : (o : Opened) → IsIn o (opens t) → Given known t s o → IsSent known (e ∷ t) (text_of o.k (e ∷ t) u.due) o
-  pub back : (k : ℕ) (l : Live) → live_of k u.live ≡ Some l → (m : Live) × (live_of k s.live ≡ Some m)
+  pub back : (k : ℕ) → IsKept u k → IsKept s k
   pub fresh : (k : ℕ) → s.count < k → IsFresh t k → IsFresh (e ∷ t) k
   pub fares : (stream : ℕ) → Fares known (e ∷ t) u stream
-  pub held : (stream : ℕ) (h : Held) → held_of stream u.held ≡ Some h → IsWritten (items known stream (e ∷ t)) h.text h.stage
+  pub held : (stream : ℕ) (h : Held) → held_of stream u.held ≡ Some h → IsOnWay known (e ∷ t) u stream h.way
   pub due : IsDue known (e ∷ t) u u.due
   pub goes : GoToOpen (e ∷ t)
   pub in_time : OpenInTime known (e ∷ t)
   pub in_turn : AreStreamedInTurn known (e ∷ t)
-  pub ends : s.ends ≡ true → u.ends ≡ true
+  pub ends : must_end known t ≡ true → must_end known (e ∷ t) ≡ true
   pub closes : Closes known (e ∷ t) u t → Closes known (e ∷ t) u (e ∷ t)
-  pub closed : is_closed (e ∷ t) ≡ u.closed
+  pub shut : is_closed (e ∷ t) ≡ true → u.live ≡ []
 
 -- what is kept stands for the tape behind such an entry
 pub stands_next : (known : Known) (t : List Entry) (e : Entry) (s u : State) → Stands known t s → Steps known t e s u → Stands known (e ∷ t) u
@@ -242,7 +306,7 @@ stands_next known t e s u h p = record {
   apart = subst AreApart (sym p.same_opens) h.apart;
   count = p.count ∙ h.count ∙ ap length (sym p.same_opens);
   given = λ o i. given o (subst (IsIn o) p.same_opens i);
-  there = λ k l found. let m = p.back k l found in let was = h.there k m.0 m.1 in (was.0, subst (IsIn was.0) (sym p.same_opens) was.1, was.2);
+  there = λ k l found. let m = p.back k (l, found) in let was = h.there k m.0 m.1 in (was.0, subst (IsIn was.0) (sym p.same_opens) was.1, was.2);
   fresh = λ k lt. let lt' : s.count < k = subst (λ n. n < k) p.count lt in p.fresh k lt' (h.fresh k lt');
   fares = p.fares;
   held = p.held;
@@ -251,7 +315,7 @@ stands_next known t e s u h p = record {
   in_time = p.in_time;
   in_turn = p.in_turn;
   closes = p.closes (closes_stay known t e s u let_go t h.closes);
-  closed = p.closed;
+  shut = p.shut;
 }
   where
     given : (o : Opened) → IsIn o (opens t) → Given known (e ∷ t) u o

@@ -14,6 +14,7 @@ use Rattle.h1_writer.specs.Sending.{Stage, Sending, GoesOnTo}
 use Rattle.h1_writer.specs.Sending.Stage.{Whole, Counting, Holding, Chunking}
 use Rattle.h1_writer.proofs.Wholes.{whole_read, unfinished_front, unfinished_none}
 use Rattle.serving.specs.Written.{IsWritten}
+use Rattle.serving.specs.State.{is_whole}
 
 -- a text that reads as one request, as a run of requests
 pub one_request_text : (text : List ℕ) (r : Request) → H1Request text r → H1Requests text (r ∷ []) []
@@ -39,6 +40,22 @@ cases_stage (Counting left) = inr (λ e. cc)
 cases_stage (Holding octet) = inr (λ e. cc)
 cases_stage Chunking = inr (λ e. cc)
 
+-- so the test of a stage tells it
+pub whole_told : (stage : Stage) → is_whole stage ≡ true → stage ≡ Whole
+whole_told Whole e = refl
+whole_told (Counting left) e = cc
+whole_told (Holding octet) e = cc
+whole_told Chunking e = cc
+
+pub part_told : (stage : Stage) → is_whole stage ≡ false → stage ≡ Whole → ⊥
+part_told stage e whole = let clash : true ≡ false = sym (ap is_whole whole) ∙ e in cc
+
+pub part_tells : (stage : Stage) → (stage ≡ Whole → ⊥) → is_whole stage ≡ false
+part_tells Whole part = absurd (part refl)
+part_tells (Counting left) part = refl
+part_tells (Holding octet) part = refl
+part_tells Chunking part = refl
+
 -- items of which none ends the stream don't end with the last
 pub none_end : (items : List Item) → list_any ends_with items ≡ false → EndsWithLast items → ⊥
 none_end [] none ends = ends
@@ -62,7 +79,7 @@ module _ (items : List Item) (text : List ℕ) (stage : Stage) (w : IsWritten it
   has_head = subst (λ xs. HasHead xs w.head) (sym w.is) refl
 
   -- the head of the items is the one that was written
-  one_head : (head : List Field) → HasHead items head → w.head ≡ head
+  pub one_head : (head : List Field) → HasHead items head → w.head ≡ head
   one_head head has = subst (λ xs. HasHead xs head) w.is has
 
   -- ---- whole

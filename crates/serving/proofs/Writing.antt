@@ -1,18 +1,32 @@
 -- What a sender writes for the items of a stream, one after the other, is right for them.
-use Rattle.std.proofs.Common.{◌≡◌, ℕ, Bool, true, false, ◌&&◌, ◌||◌, List, [], ◌∷◌, ◌++◌, refl, sym, ap, ◌∙◌, subst, append_assoc, append-nil}
+use Rattle.std.proofs.Common.{◌≡◌, ℕ, ◌+◌, ◌-◌, Bool, true, false, not, arith, length, length-append, ◌&&◌, ◌||◌, List, [], ◌∷◌, ◌++◌, refl, sym, ap, ◌∙◌, subst, append_assoc, append-nil}
+use Rattle.std.specs.Prelude.{Option, Some, None, replicate}
 use Rattle.std.specs.List.{list_any, list_all}
+use Rattle.std.proofs.lemmas.List.{length-replicate}
+use Rattle.std.proofs.lemmas.Bool.{or_parts, leb-true, le-leb, eqb-true}
 use Rattle.std.proofs.lemmas.List.Folds.{list_any-append}
-use Rattle.model.specs.Messages.{Field, Item, ends_with}
+use Rattle.model.specs.Messages.{Field, Item, Request, ends_with}
 use Rattle.model.specs.Messages.Item.{Block, Content}
-use Rattle.model.specs.Http2.{WellFormedHead, is_connect, body_of, AreContents, EndsWithLast}
+use Rattle.model.specs.Http2.{HasHead, HasLength, MayBecome, declared_length, request_of, WellFormedHead, is_connect, body_of, AreContents, EndsWithLast}
+use Rattle.model.specs.Malformed.{carried_by, are_trailers, has_length, is_within}
+use Rattle.model.specs.Setup.{Setup}
 use Rattle.request_rules.specs.Heads.{parts_of}
 use Rattle.h1_writer.specs.Sending.{Stage, Sending, Continues, piece_of}
 use Rattle.h1_writer.specs.Sending.Stage.{Whole}
 use Rattle.h1_writer.proofs.Stages.{concat_more}
 use Rattle.serving.specs.Written.{is_content, octets_of, IsWritten}
-use Rattle.serving.proofs.Reading.{body_append}
+use Rattle.serving.specs.State.{is_whole}
+use Rattle.serving.proofs.Texts.{part_told, part_tells}
+use Rattle.serving.proofs.Fitting.{head_taken, trailers_fit, not_not}
+use Rattle.serving.proofs.Bringing.{IsGood}
 
 -- ---- items behind items
+
+-- the octets of items behind items
+pub body_append : (xs ys : List Item) → body_of (xs ++ ys) ≡ body_of xs ++ body_of ys
+body_append [] ys = refl
+body_append (Content octets ends ∷ xs) ys = ap (λ l. octets ++ l) (body_append xs ys) ∙ sym (append_assoc octets (body_of xs) (body_of ys))
+body_append (Block fields ends ∷ xs) ys = body_append xs ys
 
 -- contents behind octets
 contents_append : (xs ys : List Item) → list_all is_content xs ≡ true → AreContents ys → AreContents (xs ++ ys)
@@ -81,8 +95,57 @@ adds items text stage item written new w part continues whole goes are = record 
   goes_on = λ p. list_any-append ends_with items (item ∷ []) ∙ ap (λ b. b || list_any ends_with (item ∷ [])) (w.goes_on part) ∙ ap (λ b. b || false) (goes p).1;
 }
 
+-- A head that is good is written.
+pub head_written : (setup : Setup) (head : List Field) (ended : Bool) (text : List ℕ) (stage : Stage) → IsGood setup (carried_by [] false) (Block head ended) → Sending (parts_of head) ended text [] stage → is_whole stage ≡ ended → IsWritten (Block head ended ∷ []) text stage
+head_written setup head ended text stage good sending whole =
+    let taken = head_taken setup head ended good.0 good.1 in
+    begins head ended text stage taken.well_formed taken.no_connect sending (λ e. sym whole ∙ ap is_whole e) (λ part. sym whole ∙ part_tells stage part)
+
+-- An item that is good is added.
+pub item_written : (setup : Setup) (items : List Item) (text : List ℕ) (stage : Stage) (item : Item) (written : List ℕ) (new : Stage) → IsWritten items text stage → is_whole stage ≡ false → IsGood setup (carried_by items false) item → Continues stage written (octets_of item) new → is_whole new ≡ ends_with item
+    → IsWritten (items ++ item ∷ []) (text ++ written) new
+item_written setup items text stage (Content octets ends) written new w part good continues whole =
+    adds items text stage (Content octets ends) written new w (part_told stage part) continues (λ e. sym whole ∙ ap is_whole e) (λ p. (refl, sym whole ∙ part_tells new p)) tt
+item_written setup items text stage (Block fields ends) written new w part good continues whole =
+    let fits = trailers_fit items text stage w (part_told stage part) fields ends good.1 in
+    adds items text stage (Block fields ends) written new w (part_told stage part) continues (λ e. fits.0) (λ p. absurd (let clash : true ≡ false = sym fits.0 ∙ sym whole ∙ part_tells new p in cc)) (fits.1, refl)
+
 -- Octets are pushed and then the text is ended: as one step.
 pub ends_behind : (old middle new : Stage) (first second octets : List ℕ) → Continues old first octets middle → Continues middle second [] new → Continues old (first ++ second) octets new
 ends_behind old middle new first second octets a b parts ended text pieces s =
     subst (λ x. Sending parts ended x (pieces ++ piece_of octets) new) (append_assoc text first second)
     (subst (λ x. Sending parts ended ((text ++ first) ++ second) x new) (append-nil (pieces ++ piece_of octets)) (b parts ended (text ++ first) (pieces ++ piece_of octets) (a parts ended text pieces s)))
+
+-- ---- what items may still become
+
+-- octets that make a body as long as declared
+filled : (declared : Option ℕ) (body : List ℕ) → is_within declared (length body) ≡ true → (more : List ℕ) × HasLength declared (body ++ more)
+filled None body e = ([], tt)
+filled (Some n) body e =
+    let within = leb-true (length body) n e in
+    (replicate (n - length body) 0, length-append body (replicate (n - length body) 0) ∙ ap (λ m. length body + m) (length-replicate (n - length body) 0) ∙ omega (arith, within))
+
+-- what is just as declared isn't past it
+exact_within : (declared : Option ℕ) (count : ℕ) → has_length declared count ≡ true → is_within declared count ≡ true
+exact_within None count e = refl
+exact_within (Some n) count e = let same = eqb-true count n e in le-leb count n (omega (arith, same))
+
+-- a request with this head, behind items whose body is within what is declared
+becomes : (fields : List Field) (ends : Bool) (more : List Item) → is_within (declared_length fields) (length (body_of more)) ≡ true → (request : Request) × MayBecome (Block fields ends ∷ more) request
+becomes fields ends more within =
+    let rest = filled (declared_length fields) (body_of more) within in
+    (request_of fields (body_of more ++ rest.0), record { head = fields; has_head = refl; begun = record { rest = rest.0; is = refl }; length_holds = rest.1; is = refl })
+
+-- Behind an item that is good the items may still become a request.
+pub may_go_on : (setup : Setup) (items : List Item) (head : List Field) (item : Item) → HasHead items head → IsGood setup (carried_by items false) item → (request : Request) × MayBecome (items ++ item ∷ []) request
+may_go_on setup [] head item has good = absurd has
+may_go_on setup (Content octets ends ∷ items) head item has good = absurd has
+may_go_on setup (Block fields ends ∷ items) head (Content octets b) has good =
+    let count = length (body_of items) + length octets in
+    let rules = or_parts (not (is_within (declared_length fields) count)) (b && not (has_length (declared_length fields) count)) good in
+    let size : length (body_of (items ++ Content octets b ∷ [])) ≡ count = ap length (body_append items (Content octets b ∷ [])) ∙ length-append (body_of items) (octets ++ []) ∙ ap (λ xs. length (body_of items) + length xs) (append-nil octets) in
+    becomes fields ends (items ++ Content octets b ∷ []) (ap (is_within (declared_length fields)) size ∙ not_not (is_within (declared_length fields) count) rules.0)
+may_go_on setup (Block fields ends ∷ items) head (Block trailers b) has good =
+    let rules = or_parts (not b || not (are_trailers trailers)) (not (has_length (declared_length fields) (length (body_of items)))) good.1 in
+    let same : body_of (items ++ Block trailers b ∷ []) ≡ body_of items = body_append items (Block trailers b ∷ []) ∙ append-nil (body_of items) in
+    becomes fields ends (items ++ Block trailers b ∷ []) (ap (λ xs. is_within (declared_length fields) (length xs)) same ∙ exact_within (declared_length fields) (length (body_of items)) (not_not (has_length (declared_length fields) (length (body_of items))) rules.1))

@@ -1,0 +1,62 @@
+-- What the moves say of their entries, and what holds of the tape then.
+use Rattle.std.specs.Prelude.{◌≡◌, ℕ, Bool, true, false, List, [], ◌∷◌, ◌++◌}
+use Rattle.model.specs.Messages.{Item}
+use Rattle.model.specs.Messages.Item.{Block}
+use Rattle.model.specs.Tapes.{Noted, Entry}
+use Rattle.model.specs.Tapes.Entry.{Came, Happened}
+use Rattle.model.specs.Responses.{IsComplete}
+use Rattle.model.specs.Openings.{Opened, opens, GoToOpen}
+use Rattle.model.specs.Available.{heard_by, ended_by, IsIn}
+use Rattle.model.specs.Known.{Known}
+use Rattle.model.specs.Lifetimes.{is_ended_by_client}
+use Rattle.model.specs.Courses.{items, upstream_of}
+use Rattle.model.specs.Offers.{is_to_head}
+use Rattle.model.specs.RequestClause.{RequestsHold}
+use Rattle.model.specs.ProgressClause.{AllForwarded, AllStreamed, AreStreamedInTurn, AreClosed, ClosesRightly}
+use Rattle.serving.specs.Told.{IsTold}
+use Rattle.serving.specs.State.{Move, Turn, tape_of}
+use Rattle.serving.specs.State.Move.{Takes, Begins, Gathers, Passes, Drops, Breaks, Notes, Hears, Fails, Sends, Acts}
+
+-- ---- what the moves say
+
+-- The frame adds this item to its stream, which the client hadn't ended.
+pub record Brings (known : Known) (t : List Entry) (noted : Noted) (item : Item) : Type 0 where
+  pub adds : items known noted.frame.id (Came noted ∷ t) ≡ items known noted.frame.id t ++ item ∷ []
+  pub goes_on : is_ended_by_client noted.frame.id t ≡ false
+
+-- What a connection answered is a whole response.
+abbrev pub IsAllHeard : Known → List Entry → Opened → Type 0
+IsAllHeard known t o = IsComplete (heard_by o t) (ended_by o t) (is_to_head (items known o.stream t))
+
+-- it is, or isn't
+abbrev pub Verdict : Known → List Entry → Opened → Bool → Type 0
+Verdict known t o true = IsAllHeard known t o
+Verdict known t o false = IsAllHeard known t o → ⊥
+
+-- What the move says of its entry is so: which item a frame adds to its stream, and whether a response is whole.
+abbrev pub IsSo : Known → List Entry → Move → Type 0
+IsSo known t (Takes noted) = items known noted.frame.id (Came noted ∷ t) ≡ items known noted.frame.id t
+IsSo known t (Begins noted head ended route text stage) = (items known noted.frame.id t ≡ []) × Brings known t noted (Block head ended)
+IsSo known t (Gathers noted item route text old written stage) = Brings known t noted item
+IsSo known t (Passes noted item k old written stage) = Brings known t noted item
+IsSo known t (Drops noted item) = Brings known t noted item
+IsSo known t (Hears event whole) =
+    (o : Opened) → IsIn o (opens t) → o.k ≡ upstream_of event → Verdict known (Happened event ∷ t) o whole
+IsSo known t _ = Unit {0}
+
+-- All that the moves say, and all that is told, is so.
+abbrev pub AreSo : Known → List Turn → Type 0
+AreSo known [] = Unit {0}
+AreSo known (turn ∷ turns) = AreSo known turns × IsSo known (tape_of turns) turn.move × IsTold known (tape_of (turn ∷ turns)) turn.told
+
+-- ---- what holds then
+
+-- What the clauses on requests and on progress ask of requests and connections, at the end of a step.
+pub record KeepClauses (known : Known) (before segment : List Entry) : Type 0 where
+  pub requests : RequestsHold known (segment ++ before)
+  pub forwarded : AllForwarded known (segment ++ before)
+  pub streamed : AllStreamed known (segment ++ before)
+  pub in_turn : AreStreamedInTurn known (segment ++ before)
+  pub closed : AreClosed known (segment ++ before)
+  pub closes : ClosesRightly known (segment ++ before) before segment
+  pub go_to_open : GoToOpen (segment ++ before)

@@ -1,0 +1,132 @@
+-- Which move may come next, by what is kept and by what is told before and behind it.
+use Rattle.std.specs.Prelude.{◌≡◌, ℕ, suc, ◌<◌, Bool, true, false, not, ◌||◌, ◌⊎◌, List, [], ◌∷◌, Some}
+use Rattle.std.specs.List.{list_any}
+use Rattle.model.specs.Http2.{authority_of, path_of}
+use Rattle.model.specs.Messages.{Field, Item, ends_with}
+use Rattle.model.specs.Setup.{Setup, IsFirstMatch}
+use Rattle.model.specs.Logs.{Event, Act}
+use Rattle.model.specs.Logs.Event.{Up, UpEnd}
+use Rattle.model.specs.Logs.Act.{Open, ToUp, Close, CloseClient}
+use Rattle.model.specs.Tapes.{Noted}
+use Rattle.model.specs.Courses.{upstream_of}
+use Rattle.request_rules.specs.Heads.{parts_of}
+use Rattle.h1_writer.specs.Sending.{Stage, Sending, Continues}
+use Rattle.serving.specs.Written.{octets_of}
+use Rattle.serving.specs.Told.{Told, nothing_told}
+use Rattle.serving.specs.State.{Way, held_of, Live, live_of, State, Move, Turn, is_whole, state_of}
+use Rattle.serving.specs.State.Way.{Waiting, Going, Dropped}
+use Rattle.serving.specs.State.Due.{Nothing, ToOpen, ToSend}
+use Rattle.serving.specs.State.Move.{Takes, Begins, Gathers, Passes, Drops, Breaks, Notes, Hears, Fails, Sends, Acts}
+
+-- ---- what comes in
+
+-- a connection is done with: its response is whole, or its stream isn't served any more
+abbrev pub is_done : Told → Live → Bool
+is_done told l = l.whole || not (told.served l.stream)
+
+-- Something may come in: nothing is due, no connection is done with, and the connection to the client goes on.
+pub record MayCome (told : Told) (s : State) : Type 0 where
+  pub nothing : s.due ≡ Nothing
+  pub none_done : list_any (is_done told) s.live ≡ false
+  pub goes_on : told.ends ≡ false
+
+-- The frame is on a stream, which is served with it, and the connection goes on.
+pub record IsServing (behind : Told) (noted : Noted) : Type 0 where
+  pub counted : 0 < noted.frame.id
+  pub served : behind.served noted.frame.id ≡ true
+  pub goes_on : behind.ends ≡ false
+
+-- A request's head has come, of which this was written: its route is the first that matches.
+pub record MayBegin (setup : Setup) (behind : Told) (noted : Noted) (head : List Field) (ended : Bool) (route : ℕ) (text : List ℕ) (stage : Stage) : Type 0 where
+  pub serving : IsServing behind noted
+  pub by_route : IsFirstMatch setup.routes (authority_of head) (path_of head) route
+  pub sending : Sending (parts_of head) ended text [] stage
+  pub whole : is_whole stage ≡ ended
+
+-- An item has come of a request that is on this way: what was written goes on with it, and is whole where it ends the stream.
+pub record MayAdd (behind : Told) (s : State) (noted : Noted) (way : Way) (item : Item) (old : Stage) (written : List ℕ) (stage : Stage) : Type 0 where
+  pub serving : IsServing behind noted
+  pub found : held_of noted.frame.id s.held ≡ Some (record { id = noted.frame.id; way = way })
+  pub continues : Continues old written (octets_of item) stage
+  pub whole : is_whole stage ≡ ends_with item
+
+-- An item has come of a request whose connection is closed.
+pub record MayDrop (behind : Told) (s : State) (noted : Noted) : Type 0 where
+  pub serving : IsServing behind noted
+  pub found : held_of noted.frame.id s.held ≡ Some (record { id = noted.frame.id; way = Dropped })
+
+-- the event is octets of an upstream, or the end of its connection
+abbrev pub IsAnswer : Event → Type 0
+IsAnswer (Up k piece) = Unit {0}
+IsAnswer (UpEnd k) = Unit {0}
+IsAnswer event = ⊥
+
+-- the connection with a number is open
+abbrev pub IsKept : State → ℕ → Type 0
+IsKept s k = (live : Live) × (live_of k s.live ≡ Some live)
+
+-- ---- what goes out
+
+-- A connection may be opened: it is due, and has the next number.
+pub record MayOpen (s : State) (k route : ℕ) : Type 0 where
+  pub stream : ℕ
+  pub text : List ℕ
+  pub stage : Stage
+  pub due : s.due ≡ ToOpen stream route text stage
+  pub next : k ≡ suc s.count
+
+-- A connection may be closed: it is open, and done with, or the end is to come.
+pub record MayClose (told : Told) (s : State) (k : ℕ) : Type 0 where
+  pub nothing : s.due ≡ Nothing
+  pub live : Live
+  pub found : live_of k s.live ≡ Some live
+  pub why : (is_done told live ≡ true) ⊎ (told.ends ≡ true)
+
+-- The client may be closed: no connection is open.
+pub record MayShut (s : State) : Type 0 where
+  pub nothing : s.due ≡ Nothing
+  pub none : s.live ≡ []
+
+abbrev pub MayAct : Told → State → Act → Type 0
+MayAct told s (Open k route) = MayOpen s k route
+MayAct told s (ToUp k octets) = s.due ≡ ToSend k octets
+MayAct told s (Close k) = MayClose told s k
+MayAct told s CloseClient = MayShut s
+
+-- ---- moves
+
+-- The move may come, by what is told before it and behind it.
+abbrev pub MayMove : Setup → Told → Told → State → Move → Type 0
+MayMove setup before behind s (Takes noted) = MayCome before s
+MayMove setup before behind s (Begins noted head ended route text stage) = MayCome before s × MayBegin setup behind noted head ended route text stage
+MayMove setup before behind s (Gathers noted item route text old written stage) =
+    MayCome before s × MayAdd behind s noted (Waiting route text old) item old written stage
+MayMove setup before behind s (Passes noted item k old written stage) = MayCome before s × MayAdd behind s noted (Going k old) item old written stage
+MayMove setup before behind s (Drops noted item) = MayCome before s × MayDrop behind s noted
+MayMove setup before behind s (Breaks breach) = MayCome before s
+MayMove setup before behind s (Notes event) = MayCome before s × (upstream_of event ≡ 0)
+MayMove setup before behind s (Hears event whole) = MayCome before s × IsAnswer event × IsKept s (upstream_of event)
+MayMove setup before behind s (Fails k) = MayCome before s × IsKept s k
+MayMove setup before behind s (Sends noted) = s.due ≡ Nothing
+MayMove setup before behind s (Acts act) = MayAct before s act
+
+-- The move may come: the client isn't closed, and it is its turn.
+pub record IsAllowed (setup : Setup) (before behind : Told) (s : State) (m : Move) : Type 0 where
+  pub open_yet : before.closed ≡ false
+  pub may : MayMove setup before behind s m
+
+-- what is told behind all moves
+abbrev pub told_of : List Turn → Told
+told_of [] = nothing_told
+told_of (turn ∷ turns) = turn.told
+
+-- Each move might come where it came; the newest stands first.
+abbrev pub AreAllowed : Setup → List Turn → Type 0
+AreAllowed setup [] = Unit {0}
+AreAllowed setup (turn ∷ turns) = AreAllowed setup turns × IsAllowed setup (told_of turns) turn.told (state_of setup turns) turn.move
+
+-- The step may end: nothing is due, no connection is done with, and the client is closed if it is to be.
+pub record Rests (told : Told) (s : State) : Type 0 where
+  pub nothing : s.due ≡ Nothing
+  pub none_done : list_any (is_done told) s.live ≡ false
+  pub ended : told.ends ≡ true → told.closed ≡ true

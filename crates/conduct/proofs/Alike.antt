@@ -1,11 +1,12 @@
 -- A summary with other views of the streams that will do: the rows of the error table are the same.
-use Rattle.std.proofs.Common.{◌≡◌, ℕ, Bool, true, false, not, ◌&&◌, ◌==◌, if◌then◌else◌, List, [], ◌∷◌, length, Option, Some, None, refl, ◌∙◌, ap}
+use Rattle.std.proofs.Common.{◌≡◌, ℕ, Bool, true, false, not, ◌&&◌, ◌==◌, if◌then◌else◌, List, [], ◌∷◌, ◌++◌, length, Option, Some, None, refl, ◌∙◌, ap}
+use Rattle.std.specs.Prelude.{is_none}
 use Rattle.std.specs.List.{list_any}
 use Rattle.model.specs.Frames.{Frame, protocol_error, flow_control_error}
 use Rattle.model.specs.Tapes.{Noted, Entry}
 use Rattle.model.specs.Tapes.Breach.{WrongPreface, TooLong}
 use Rattle.model.specs.Tapes.Entry.{Came, Breached, Happened, Sent, Did}
-use Rattle.model.specs.SettingValues.{settings_in, initial_window_after}
+use Rattle.model.specs.SettingValues.{settings_in, settings_fault, initial_window_after}
 use Rattle.model.specs.StreamStates.{verdict}
 use Rattle.model.specs.Errors.{Fault, first_of, or_else}
 use Rattle.model.specs.Errors.Fault.{Connection, Stream}
@@ -13,7 +14,8 @@ use Rattle.model.specs.FrameErrors.{fault_if}
 use Rattle.model.specs.WindowsOnTape.{has_settings, is_past}
 use Rattle.model.specs.ErrorTable.{grants_nothing, grants_past, is_past_room, fault_of, is_idle, is_headers, judged, unless_of_stream}
 use Rattle.conduct.specs.Summary.{Brief, Stream as Kept, Summary}
-use Rattle.conduct.specs.Judging.{window_in, is_over_in, is_active_in, active_in, shifts_past_in, standing_in, completed_in, shift_in, fault_on_in, fault_by_standing_in, idle_in, stream_update_in, stream_data_in, malformed_in, rows_in, fault_for}
+use Rattle.conduct.specs.Judging.{window_in, is_over_in, is_active_in, active_in, shifts_past_in, standing_in, completed_in, shift_in, fault_on_in, fault_by_standing_in, idle_in, stream_update_in, stream_data_in, malformed_in, rows_before_block_in, rows_behind_block_in, rows_in, fault_for}
+use Rattle.conduct.specs.After.{are_taken_in}
 use Rattle.conduct.specs.Rows.{WillDo, with_streams}
 use Rattle.conduct.proofs.Standings.{AreAlike, each_alike, standing_verdict, standing_idle, actives_same, any_active_same}
 
@@ -71,17 +73,30 @@ module _ (f : ℕ → Kept) (s : Summary) (will : WillDo f s) where
   data_seen : (frame : Frame) → stream_data_in seen frame ≡ stream_data_in s frame
   data_seen frame = ap (λ b. fault_if b (Stream flow_control_error)) (when_active (λ kept. is_past_room kept.room frame) frame.id)
 
-  rows_seen : (noted : Noted) → rows_in seen noted ≡ rows_in s noted
-  rows_seen noted =
+  pub before_seen : (frame : Frame) → rows_before_block_in seen frame ≡ rows_before_block_in s frame
+  before_seen frame =
       on refl (on refl (on refl (on refl (on refl (on refl (on refl
-      (on (shift_seen noted.frame)
+      (on (shift_seen frame)
       (on refl
-      (on (idle_seen noted.frame)
-      (on refl (on refl
+      (on (idle_seen frame) refl)))))))))
+
+  behind_seen : (noted : Noted) → rows_behind_block_in seen noted ≡ rows_behind_block_in s noted
+  behind_seen noted =
+      on refl
       (on (ap unless_of_stream (by_standing_seen noted.frame))
       (on (update_seen noted.frame)
       (on (data_seen noted.frame)
-      (on (by_standing_seen noted.frame) refl)))))))))))))))
+      (on (by_standing_seen noted.frame) refl))))
+
+  rows_seen : (noted : Noted) → rows_in seen noted ≡ rows_in s noted
+  rows_seen noted =
+      ap (λ (rows : List (Option Fault)). rows ++ rows_behind_block_in seen noted) (before_seen noted.frame)
+      ∙ ap (λ (rows : List (Option Fault)). rows_before_block_in s noted.frame ++ rows) (behind_seen noted)
+
+  -- whether settings are taken
+  pub taken_seen : (frame : Frame) → are_taken_in seen frame ≡ are_taken_in s frame
+  taken_seen frame =
+      ap (λ b. has_settings frame && is_none (settings_fault frame.payload) && not b) (shifts_seen (initial_window_after s.first_size (settings_in frame.payload)))
 
   -- The fault of an entry, where its stream has this course.
   pub fault_for_seen : (brief : Brief) (e : Entry) → fault_for brief seen e ≡ fault_for brief s e

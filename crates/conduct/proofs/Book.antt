@@ -23,8 +23,9 @@ use Rattle.conduct.specs.Owing.{must_end_in}
 use Rattle.conduct.specs.After.{is_sound, first_size_after, ends_after, after}
 use Rattle.conduct.specs.Rows.{Row, fresh, find, with_streams, rows_after, WillDo, StandFor}
 use Rattle.conduct.specs.Rule.{Move, Point, queue_behind, point_after, IsInTurn, Allowed, tape_of, point_of, AllAllowed, AreKnown}
-use Rattle.conduct.specs.Book.{Book, summary_in, book_with, Desk, as_point, desk_after, IsSound, IsFit, MayMove, desk_of, AllMoved, Rests}
-use Rattle.conduct.proofs.Alike.{shifts_seen}
+use Rattle.conduct.specs.Told.{IsTold}
+use Rattle.conduct.specs.Book.{summary_in, book_with, Desk, as_point, desk_after, IsSound, IsFit, MayMove, desk_of, AllMoved, Rests}
+use Rattle.conduct.proofs.Alike.{taken_seen}
 use Rattle.conduct.proofs.Seen.{fault_seen, end_seen}
 use Rattle.conduct.proofs.RowsKept.{will_do, rows_stand}
 use Rattle.conduct.proofs.Idle.{still_idle}
@@ -72,8 +73,7 @@ module _ (setup : Setup) (fails : Bool) (rows : List Row) (s : Summary) (stand :
 
   size_seen : (e : Entry) → first_size_after view e ≡ first_size_after s e
   size_seen (Came noted) =
-      let new = initial_window_after s.first_size (settings_in noted.frame.payload) in
-      ap (λ b. if is_sound s noted.frame && (has_settings noted.frame && is_none (settings_fault noted.frame.payload) && not b) then new else s.first_size) (shifts_seen (find rows) s (will_do rows s stand) new)
+      ap (λ b. if is_sound s noted.frame && b then initial_window_after s.first_size (settings_in noted.frame.payload) else s.first_size) (taken_seen (find rows) s (will_do rows s stand) noted.frame)
   size_seen (Breached breach) = refl
   size_seen (Happened event) = refl
   size_seen (Sent noted) = refl
@@ -99,11 +99,6 @@ module _ (setup : Setup) (fails : Bool) (rows : List Row) (s : Summary) (stand :
       ∙ ap (λ (b : Bool). with_streams g (record (after setup fails view e) { first_size = first_size_after s e; ends = b })) (ends_seen e)
 
 -- ---- what a desk tells
-
--- A book tells a summary, in all but the streams of which nothing has to be kept.
-pub record IsTold (book : Book) (s : Summary) : Type 0 where
-  pub same : summary_in book ≡ with_streams (find book.rows) s
-  pub stand : StandFor book.rows s
 
 -- A desk tells a point; the streams only as long as the end isn't called for.
 pub record Tells (desk : Desk) (p : Point) : Type 0 where

@@ -1,5 +1,5 @@
 -- A frame on a stream that may be opened yet, which doesn't open it and is no error of the connection, brings it nothing.
-use Rattle.std.proofs.Common.{◌≡◌, ℕ, ◌%◌, Bool, true, false, not, ◌&&◌, ◌||◌, ◌==◌, nat_lt, if◌then◌else◌, List, [], ◌∷◌, ◌++◌, length, take, Option, Some, None, refl, sym, ◌∙◌, ap, subst, arith}
+use Rattle.std.proofs.Common.{◌≡◌, ℕ, ◌%◌, Bool, true, false, not, ◌&&◌, ◌||◌, ◌==◌, nat_lt, if◌then◌else◌, List, [], ◌∷◌, ◌++◌, length, Option, Some, None, refl, sym, ◌∙◌, ap, subst, arith}
 use Rattle.std.proofs.lemmas.Bool.{and_parts, and_right, or_parts, eqb-true, ltb-true, ne_eqb}
 use Rattle.std.specs.Prelude.{is_some, option_map, pos, ◌+ℤ◌, int_lt}
 use Rattle.std.specs.List.{list_any, list_all}
@@ -21,7 +21,8 @@ use Rattle.model.specs.Lifetimes.{may_open, opens_by}
 use Rattle.model.specs.ErrorTable.{fault_of, judged, grants, grants_nothing, grants_past, is_idle, is_headers, is_undecodable, unless_of_stream}
 use Rattle.model.specs.ErrorClause.{is_fatal}
 use Rattle.conduct.specs.Summary.{Brief, Stream as Kept, Summary}
-use Rattle.conduct.specs.Judging.{active_in, is_active_in, standing_in, window_in, completed_in, state_in, fault_on_in, fault_by_standing_in, stream_update_in, stream_data_in, malformed_in, rows_in, fault_for}
+use Rattle.conduct.specs.Judging.{active_in, is_active_in, standing_in, window_in, completed_in, state_in, fault_on_in, fault_by_standing_in, stream_update_in, stream_data_in, malformed_in, rows_before_block_in, rows_behind_block_in, fault_for}
+use Rattle.conduct.specs.Owing.{fault_in}
 use Rattle.conduct.specs.Book.{is_told}
 use Rattle.conduct.proofs.Standings.{states}
 use Rattle.conduct.proofs.Wanted.{above_told, count_told, bears}
@@ -98,13 +99,10 @@ fatal_idle n (Opened state) kind = tt
 fatal_idle n Skipped kind = tt
 fatal_idle n Beyond kind = tt
 
--- the rows up to that of header blocks that can't be read, and those behind it
-abbrev pub early_rows : Summary → Noted → List (Option Fault)
-early_rows s noted = take 12 (rows_in s noted)
-
-early_fatal : (s : Summary) (noted : Noted) → AreFatal (early_rows s noted)
-early_fatal s noted = (
-  fatal_first s.has_come noted.frame,
+-- Each row that is judged before a header block is read is such an error.
+before_fatal : (s : Summary) (frame : Frame) → AreFatal (rows_before_block_in s frame)
+before_fatal s frame = (
+  fatal_first s.has_come frame,
   (
     tt,
     (
@@ -114,20 +112,14 @@ early_fatal s noted = (
         (
           fatal_if _ protocol_error,
           (
-            fatal_payload (payload_fault noted.frame),
+            fatal_payload (payload_fault frame),
             (
-              fatal_values (has_settings noted.frame) (settings_fault noted.frame.payload),
+              fatal_values (has_settings frame) (settings_fault frame.payload),
               (
                 fatal_if _ flow_control_error,
                 (
-                  fatal_update (noted.frame.id == 0 && grants_nothing noted.frame) (noted.frame.id == 0 && grants_past s.window noted.frame),
-                  (
-                    fatal_idle (length (active_in s)) (standing_in s noted.frame.id) (judged (completed_in s.block noted.frame) noted.frame),
-                    (
-                      fatal_if _ flow_control_error,
-                      (fatal_if _ compression_error, tt),
-                    ),
-                  ),
+                  fatal_update (frame.id == 0 && grants_nothing frame) (frame.id == 0 && grants_past s.window frame),
+                  (fatal_idle (length (active_in s)) (standing_in s frame.id) (judged (completed_in s.block frame) frame), (fatal_if _ flow_control_error, tt)),
                 ),
               ),
             ),
@@ -137,6 +129,32 @@ early_fatal s noted = (
     ),
   ),
 )
+
+-- where one of such rows is a fault, the entry is an error of the connection
+first_fatal : (rows more : List (Option Fault)) (last : Option Fault) → AreFatal rows → is_some (first_of rows) ≡ true → is_fatal (or_else (first_of (rows ++ more)) last) ≡ true
+first_fatal [] more last fatal is = absurd (let no : false ≡ true = is in cc)
+first_fatal (None ∷ rows) more last fatal is = first_fatal rows more last fatal.1 is
+first_fatal (Some (Connection code) ∷ rows) more last fatal is = refl
+first_fatal (Some (Stream code) ∷ rows) more last fatal is = absurd fatal.0
+first_fatal (Some Discarded ∷ rows) more last fatal is = absurd fatal.0
+
+-- An error before a header block is read is one of the connection.
+pub fatal_before_block : (s : Summary) (noted : Noted) → is_some (first_of (rows_before_block_in s noted.frame)) ≡ true → is_fatal (fault_in s (Came noted)) ≡ true
+fatal_before_block s noted is =
+    first_fatal (rows_before_block_in s noted.frame) (rows_behind_block_in s noted) (malformed_in (s.stream noted.frame.id).brief s (Came noted)) (before_fatal s noted.frame) is
+
+-- rows and rows behind them
+both_fatal : (rows more : List (Option Fault)) → AreFatal rows → AreFatal more → AreFatal (rows ++ more)
+both_fatal [] more fatal later = later
+both_fatal (row ∷ rows) more fatal later = (fatal.0, both_fatal rows more fatal.1 later)
+
+-- these rows, and that of header blocks that can't be read
+abbrev pub early_rows : Summary → Noted → List (Option Fault)
+early_rows s noted = rows_before_block_in s noted.frame ++ fault_if (is_undecodable noted.note) (Connection compression_error) ∷ []
+
+early_fatal : (s : Summary) (noted : Noted) → AreFatal (early_rows s noted)
+early_fatal s noted =
+    both_fatal (rows_before_block_in s noted.frame) (fault_if (is_undecodable noted.note) (Connection compression_error) ∷ []) (before_fatal s noted.frame) (fatal_if _ compression_error, tt)
 
 -- ---- the standing of a stream that may be opened
 

@@ -1,0 +1,14 @@
+use Rattle.conduct.proofs.Telling as laws
+use Rattle.conduct.proofs.book_tells.Goals as goal
+
+pub returns-clause-told : goal.returns-clause-told
+returns-clause-told c = laws.book_told
+
+pub returns-clause-active : goal.returns-clause-active
+returns-clause-active c = laws.active_told
+
+pub returns-clause-live : goal.returns-clause-live
+returns-clause-live c = laws.live_told
+
+pub returns-clause-fault : goal.returns-clause-fault
+returns-clause-fault c = laws.fault_told

@@ -19,7 +19,7 @@ use Rattle.model.specs.Maxima.{Maxima}
 use Rattle.model.specs.Synchrony.{InStep}
 use Rattle.header_blocks.specs.Encoding.{first_encoding}
 use Rattle.header_blocks.specs.Chosen.{GoesAsIndex, GoesIn}
-use Rattle.header_blocks.specs.Encodes.{Encodes}
+use Rattle.header_blocks.specs.Encodes.{IsWrittenBy}
 use Rattle.conduct.specs.Turn.{Conducted}
 use Rattle.offering.specs.Outbox.{replied}
 use Rattle.offering.specs.Outbox.Part.{Final}
@@ -171,10 +171,8 @@ length_inserted = record {
     lower zero other lt is same = let clash : ◌≡◌ {A = Option Field} None (Some other) = is in cc
     lower (suc place) other lt is same = absent_below (λ (e : Field). is_length_name e.name) other (ap is_length_name same) 27 (static_table ++ []) refl place (omega (arith, lt)) is
 
-answer_encoded : Encodes (first_encoding true) (encoding_after (Some (record { id = 1; ends = true; fragments = [] })) encoded (first_encoding true)) (missing ∷ empty ∷ []) [] (141 ∷ 92 ∷ 1 ∷ 48 ∷ [])
+answer_encoded : IsWrittenBy (first_encoding true) (missing ∷ empty ∷ []) encoded (141 ∷ 92 ∷ 1 ∷ 48 ∷ [])
 answer_encoded = record {
-  written = 141 ∷ 92 ∷ 1 ∷ 48 ∷ [];
-  added = refl;
   maxima = [];
   is_block = record {
     front = [];

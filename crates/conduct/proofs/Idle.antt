@@ -33,7 +33,6 @@ use Rattle.conduct.specs.Rows.{fresh}
 use Rattle.conduct.specs.Book.{IsSound}
 use Rattle.conduct.proofs.Wanted.{bears}
 use Rattle.conduct.proofs.Seen.{idle_cause}
-
 use Rattle.conduct.proofs.Calm.{IsIdleFrame, idle_frame_is}
 
 -- ---- what tells nothing

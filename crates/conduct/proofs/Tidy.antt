@@ -1,5 +1,5 @@
 -- Rows hold what they should behind any entries; and a connection that rests and isn't closed goes on.
-use Rattle.std.proofs.Common.{◌≡◌, ℕ, ◌%◌, Bool, true, false, ◌&&◌, ◌==◌, nat_lt, if◌then◌else◌, List, [], ◌∷◌, map, length, refl, sym, ◌∙◌, ap, arith}
+use Rattle.std.proofs.Common.{◌≡◌, ℕ, ◌%◌, Bool, true, false, ◌&&◌, ◌==◌, nat_lt, if◌then◌else◌, List, [], ◌∷◌, map, length, refl, sym, ◌∙◌, ap}
 use Rattle.std.proofs.lemmas.Bool.{and_parts, or_parts}
 use Rattle.std.specs.List.{list_any, list_all}
 use Rattle.model.specs.Setup.{Setup}
@@ -11,10 +11,10 @@ use Rattle.model.proofs.OpenedLaws.{none_equal, not_zero}
 use Rattle.conduct.specs.Summary.{Summary}
 use Rattle.conduct.specs.Judging.{completed_in, fault_for}
 use Rattle.conduct.specs.Owing.{must_end_in}
-use Rattle.conduct.specs.Rows.{Row, fresh, kept_in, ids_of, row_behind, row_opened, rows_after}
+use Rattle.conduct.specs.Rows.{Row, fresh, kept_in, ids_of, row_behind, row_opened}
 use Rattle.conduct.specs.Rule.{Move}
 use Rattle.conduct.specs.Book.{Book, Desk, summary_in, book_after, desk_of, Rests}
-use Rattle.conduct.specs.Tidy.{IsRow, is_above_all, AreKept}
+use Rattle.conduct.specs.Tidy.{is_above_all, AreKept}
 use Rattle.conduct.proofs.Rows.{ids_changed}
 use Rattle.conduct.proofs.RowsKept.{opens_own}
 use Rattle.conduct.proofs.Elsewhere.{tidy_behind}

@@ -1,10 +1,9 @@
 -- Whoever keeps the book by the rule of conduct keeps the clause on errors.
-use Rattle.std.proofs.Common.{◌≡◌, ℕ, Bool, true, false, not, ◌&&◌, if◌then◌else◌, List, [], ◌∷◌, ◌++◌, Option, Some, None, refl, sym, ◌∙◌, ap, subst, arith, inl, inr}
+use Rattle.std.proofs.Common.{◌≡◌, ℕ, Bool, true, false, ◌&&◌, if◌then◌else◌, List, [], ◌∷◌, ◌++◌, Option, Some, None, refl, sym, ◌∙◌, ap, subst, arith, inl, inr}
 use Rattle.std.proofs.lemmas.Bool.{or_left, cases_Bool}
-use Rattle.std.specs.Prelude.{is_none}
 use Rattle.model.specs.Frames.{Frame}
 use Rattle.model.specs.Setup.{Setup}
-use Rattle.model.specs.SettingValues.{settings_in, settings_fault, initial_window_after}
+use Rattle.model.specs.SettingValues.{settings_in, initial_window_after}
 use Rattle.model.specs.Logs.Event.{Client, ClientEnd, ClientTook, Up, UpEnd, UpFailed, UpTook}
 use Rattle.model.specs.Logs.Act.{Open, ToUp, Close, CloseClient}
 use Rattle.model.specs.Tapes.{Entry}
@@ -13,7 +12,6 @@ use Rattle.model.specs.Tapes.Entry.{Came, Breached, Happened, Sent, Did}
 use Rattle.model.specs.Errors.{Fault, first_of, or_else}
 use Rattle.model.specs.Errors.Fault.{Stream}
 use Rattle.model.specs.FrameErrors.{fault_if}
-use Rattle.model.specs.WindowsOnTape.{has_settings}
 use Rattle.model.specs.Known.{Known}
 use Rattle.model.specs.ErrorClause.{is_fatal, ErrorsHold}
 use Rattle.conduct.specs.Turn.{rest_of, IsDue}

@@ -20,6 +20,7 @@ use Rattle.model.specs.WindowsOnTape.{has_settings, increment, is_past}
 use Rattle.model.specs.Lifetimes.{may_open, opens_by}
 use Rattle.model.specs.ErrorTable.{fault_of, judged, grants, grants_nothing, grants_past, is_idle, is_headers, is_undecodable, unless_of_stream}
 use Rattle.model.specs.ErrorClause.{is_fatal}
+use Rattle.model.proofs.OpenedLaws.{not_opened}
 use Rattle.conduct.specs.Summary.{Brief, Stream as Kept, Summary}
 use Rattle.conduct.specs.Judging.{active_in, is_active_in, standing_in, window_in, completed_in, state_in, fault_on_in, fault_by_standing_in, stream_update_in, stream_data_in, malformed_in, rows_before_block_in, rows_behind_block_in, fault_for}
 use Rattle.conduct.specs.Owing.{fault_in}
@@ -27,7 +28,7 @@ use Rattle.conduct.specs.Book.{is_told}
 use Rattle.conduct.proofs.Standings.{states}
 use Rattle.conduct.proofs.Wanted.{above_told, count_told, bears}
 use Rattle.conduct.proofs.Seen.{none_at, idle_frame}
-use Rattle.conduct.proofs.RowsKept.{completed_own, unopened_yet}
+use Rattle.conduct.proofs.RowsKept.{completed_own}
 
 -- ---- rows that are errors of the connection
 
@@ -175,7 +176,7 @@ idle_standing s id may =
     let not_zero : (id == 0) ≡ false = ne_eqb id 0 (λ same. let other : 0 % 2 ≡ 1 = subst (λ n. n % 2 ≡ 1) same odd in omega (arith, other)) in
     let not_even : (id % 2 == 0) ≡ false = ne_eqb (id % 2) 0 (λ same. omega (arith, same, odd)) in
     ap (λ b. if b then WholeConnection else opened_or (state_of id (states s.stream s.opened)) (unopened (is_above id (states s.stream s.opened)) (length (states s.stream s.opened) == most_streams) id)) not_zero
-    ∙ ap (λ (o : Option StreamState). opened_or o (unopened (is_above id (states s.stream s.opened)) (length (states s.stream s.opened) == most_streams) id)) (looked_none s.stream s.opened id (unopened_yet s.opened id may))
+    ∙ ap (λ (o : Option StreamState). opened_or o (unopened (is_above id (states s.stream s.opened)) (length (states s.stream s.opened) == most_streams) id)) (looked_none s.stream s.opened id (not_opened s.opened id may))
     ∙ ap (λ b. unopened b (length (states s.stream s.opened) == most_streams) id) above
     ∙ ap (λ b. unopened true b id) not_full
     ∙ ap (λ b. if b then ServerIdle else Idle) not_even

@@ -24,6 +24,7 @@ use Rattle.model.specs.Causes.{Cause, cause_if}
 use Rattle.model.specs.Causes.Cause.{BadAnswer}
 use Rattle.model.specs.Courses.{interrupts, is_final}
 use Rattle.model.specs.ErrorClause.{is_fatal}
+use Rattle.model.proofs.OpenedLaws.{not_opened}
 use Rattle.conduct.specs.Summary.{Stream as Kept, Summary}
 use Rattle.conduct.specs.Judging.{completed_in, fault_for}
 use Rattle.conduct.specs.Owing.{about_in, items_in, cause_in, new_cause_in, brief_behind, brief_from, opened_after}
@@ -32,7 +33,6 @@ use Rattle.conduct.specs.Rows.{fresh}
 use Rattle.conduct.specs.Book.{IsSound}
 use Rattle.conduct.proofs.Wanted.{bears}
 use Rattle.conduct.proofs.Seen.{idle_cause}
-use Rattle.conduct.proofs.RowsKept.{unopened_yet}
 use Rattle.conduct.proofs.Calm.{IsIdleFrame, idle_frame_is}
 
 -- ---- what tells nothing
@@ -196,6 +196,6 @@ module _ (setup : Setup) (fails : Bool) (s : Summary) (idle : (id : ℕ) → may
     | inr none ↦ from_fresh (Happened event) id may (no_failure setup fails s id event none)
     | inl fell ↦ from_fresh (Happened event) id may (other_event setup fails s id event (ne_eqb (about_in s (Happened event)) id (λ same.
         let found : list_any (λ other. other == about_in s (Happened event)) s.opened ≡ true = (and_parts (list_any (λ other. other == about_in s (Happened event)) s.opened) _ (fit fell)).0 in
-        let isnt : list_any (λ other. other == about_in s (Happened event)) s.opened ≡ false = ap (λ (i : ℕ). list_any (λ other. other == i) s.opened) same ∙ unopened_yet s.opened id may in
+        let isnt : list_any (λ other. other == about_in s (Happened event)) s.opened ≡ false = ap (λ (i : ℕ). list_any (λ other. other == i) s.opened) same ∙ not_opened s.opened id may in
         absurd (let no : true ≡ false = sym found ∙ isnt in cc))))
   ]

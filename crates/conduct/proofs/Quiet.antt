@@ -5,7 +5,7 @@ use Rattle.std.proofs.lemmas.Bool.{and_right}
 use Rattle.std.specs.Prelude.{pos, ◌+ℤ◌, is_some, is_none, option_map, int_lt}
 use Rattle.model.specs.Messages.{Item}
 use Rattle.model.specs.Messages.Item.{Content}
-use Rattle.model.specs.Frames.{Frame, data_kind, headers_kind, rst_stream_kind, window_update_kind, continuation_kind, ends_headers, ends_stream, content, protocol_error, flow_control_error, no_error, goaway}
+use Rattle.model.specs.Frames.{Frame, data_kind, headers_kind, rst_stream_kind, window_update_kind, ends_headers, ends_stream, content, protocol_error, flow_control_error, no_error, goaway}
 use Rattle.model.specs.Setup.{Setup}
 use Rattle.model.specs.Tapes.Note.{NoBlock}
 use Rattle.model.specs.Decoding.{Partial, joined}

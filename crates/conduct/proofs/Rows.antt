@@ -1,7 +1,7 @@
 -- The rows that a program keeps of the streams will do, and go on to do.
-use Rattle.std.proofs.Common.{◌≡◌, ℕ, Bool, true, false, ◌&&◌, ◌||◌, ◌==◌, nat_lt, if◌then◌else◌, List, [], ◌∷◌, map, Option, refl, sym, ◌∙◌, ap, arith}
-use Rattle.std.proofs.lemmas.Bool.{and_parts, and_from, or_parts, or_from, or_right, eqb-true, ne_eqb, ltb-true}
-use Rattle.std.specs.List.{list_any, list_all}
+use Rattle.std.proofs.Common.{◌≡◌, ℕ, Bool, true, false, ◌&&◌, ◌||◌, ◌==◌, if◌then◌else◌, List, [], ◌∷◌, map, Option, refl, sym, ◌∙◌, ap}
+use Rattle.std.proofs.lemmas.Bool.{and_parts, and_from, or_parts, or_right, eqb-true}
+use Rattle.std.specs.List.{list_any}
 use Rattle.model.specs.Setup.{Setup}
 use Rattle.model.specs.Tapes.{Entry}
 use Rattle.model.specs.Tapes.Entry.{Came, Breached, Happened, Sent, Did}
@@ -80,10 +80,3 @@ find_none (row ∷ rows) id none =
 pub ids_changed : (setup : Setup) (fails : Bool) (v : Summary) (e : Entry) (rows : List Row) → ids_of (map (row_behind setup fails v e) rows) ≡ ids_of rows
 ids_changed setup fails v e [] = refl
 ids_changed setup fails v e (row ∷ rows) = ap (λ (ids : List ℕ). row.id ∷ ids) (ids_changed setup fails v e rows)
-
--- a stream that may be opened wasn't
-pub not_opened : (ids : List ℕ) (id : ℕ) → list_all (λ other. nat_lt other id) ids ≡ true → list_any (λ other. other == id) ids ≡ false
-not_opened [] id above = refl
-not_opened (other ∷ ids) id above =
-    let parts = and_parts (nat_lt other id) (list_all (λ o. nat_lt o id) ids) above in
-    or_from (other == id) (list_any (λ o. o == id) ids) (ne_eqb other id (λ same. let below = ltb-true other id parts.0 in omega (arith, below, same))) (not_opened ids id parts.1)

@@ -1,57 +1,39 @@
 -- The rows behind an entry stand for the streams behind it, where no stream that may be opened yet was told anything.
-use Rattle.std.proofs.Common.{◌≡◌, ℕ, ◌≤◌, ◌%◌, Bool, true, false, ◌&&◌, ◌||◌, ◌==◌, nat_lt, if◌then◌else◌, List, ◌∷◌, ◌++◌, map, length, Option, Some, None, refl, sym, ◌∙◌, ap, subst, arith, inl, inr}
+use Rattle.std.proofs.Common.{◌≡◌, ℕ, ◌≤◌, ◌%◌, Bool, true, false, ◌&&◌, ◌||◌, ◌==◌, nat_lt, if◌then◌else◌, List, ◌∷◌, map, length, Option, Some, None, refl, sym, ◌∙◌, ap, subst, arith, inl, inr}
 use Rattle.std.proofs.lemmas.Bool.{and_parts, cases_Bool, eqb-true, ltb-true}
 use Rattle.std.specs.List.{list_any, list_all}
-use Rattle.model.specs.Frames.{Frame, headers_kind, continuation_kind, ends_headers, ends_stream, content}
+use Rattle.model.specs.Frames.{Frame, ends_headers}
 use Rattle.model.specs.Setup.{Setup}
 use Rattle.model.specs.Tapes.{Note, Noted, Entry}
-use Rattle.model.specs.Tapes.Note.{NoBlock, Fields, Undecodable, Unread}
 use Rattle.model.specs.Tapes.Entry.{Came, Breached, Happened, Sent, Did}
 use Rattle.model.specs.Decoding.{Partial, joined}
 use Rattle.model.specs.StreamStates.{most_streams}
 use Rattle.model.specs.Errors.{Fault}
 use Rattle.model.specs.Lifetimes.{may_open, opens_by}
+use Rattle.model.proofs.OpenedLaws.{joined_own, not_opened, may_open_by}
 use Rattle.conduct.specs.Summary.{Stream as Kept, Summary}
 use Rattle.conduct.specs.Judging.{is_over_in, completed_in, fault_for}
 use Rattle.conduct.specs.Owing.{opened_after}
 use Rattle.conduct.specs.After.{stream_from, kept_behind, after}
 use Rattle.conduct.specs.Rows.{fresh, kept_in, slot_of, Row, ids_of, find, with_streams, row_behind, row_opened, rows_after, IsAlike, WillDo, StandFor}
 use Rattle.conduct.proofs.Alike.{fault_for_seen}
-use Rattle.conduct.proofs.Rows.{alike_through, alike_itself, slot_alike, over_stays, by_us_after, find_changed, find_none, ids_changed, not_opened}
-
--- a stream that may be opened is above all others, and wasn't opened
-pub unopened_yet : (ids : List ℕ) (id : ℕ) → may_open ids id ≡ true → list_any (λ other. other == id) ids ≡ false
-unopened_yet ids id may =
-    let both = and_parts (id % 2 == 1 && list_all (λ other. nat_lt other id) ids) (nat_lt (length ids) most_streams) may in
-    not_opened ids id (and_parts (id % 2 == 1) (list_all (λ other. nat_lt other id) ids) both.0).1
+use Rattle.conduct.proofs.Rows.{alike_through, alike_itself, slot_alike, over_stays, by_us_after, find_changed, find_none, ids_changed}
 
 -- A stream that was opened may not be opened again: so a frame to the client on it is fit.
 pub not_again : (ids : List ℕ) (id : ℕ) → list_any (λ other. other == id) ids ≡ true → may_open ids id ≡ false
 not_again ids id opened = elim (cases_Bool (may_open ids id)) [
   | inr is ↦ is
-  | inl may ↦ absurd (let no : true ≡ false = sym opened ∙ unopened_yet ids id may in cc)
+  | inl may ↦ absurd (let no : true ≡ false = sym opened ∙ not_opened ids id may in cc)
 ]
 
 -- Rows that stand for the streams will do.
 pub will_do : (rows : List Row) (s : Summary) → StandFor rows s → WillDo (find rows) s
 will_do rows s stand = record {
   alike = stand.alike;
-  idle = λ id may. find_none rows id (ap (λ (ids : List ℕ). list_any (λ other. other == id) ids) stand.ids ∙ unopened_yet s.opened id may) ∙ sym (stand.idle id may);
+  idle = λ id may. find_none rows id (ap (λ (ids : List ℕ). list_any (λ other. other == id) ids) stand.ids ∙ not_opened s.opened id may) ∙ sym (stand.idle id may);
 }
 
 -- ---- a header block is on its frame's stream
-
-joined_own : (begun : Option Partial) (frame : Frame) (block : Partial) → joined begun frame ≡ Some block → block.id ≡ frame.id
-joined_own None frame block is = cases (frame.kind == headers_kind) is
-  where
-    cases : (b : Bool) → (if b then Some (record { id = frame.id; ends = ends_stream frame; fragments = content frame }) else None) ≡ Some block → block.id ≡ frame.id
-    cases true same = cc
-    cases false same = absurd (cc)
-joined_own (Some begun) frame block is = cases (frame.kind == continuation_kind && frame.id == begun.id) refl is
-  where
-    cases : (b : Bool) → (frame.kind == continuation_kind && frame.id == begun.id) ≡ b → (if b then Some (record { id = begun.id; ends = begun.ends; fragments = begun.fragments ++ content frame }) else None) ≡ Some block → block.id ≡ frame.id
-    cases true same made = let own = eqb-true frame.id begun.id (and_parts (frame.kind == continuation_kind) (frame.id == begun.id) same).1 in cc
-    cases false same made = absurd (cc)
 
 pub completed_own : (begun : Option Partial) (frame : Frame) (block : Partial) → completed_in begun frame ≡ Some block → block.id ≡ frame.id
 completed_own begun frame block is = cases (ends_headers frame) is
@@ -62,14 +44,7 @@ completed_own begun frame block is = cases (ends_headers frame) is
 
 -- a stream is opened only where it may be
 pub opens_own : (opened : List ℕ) (begun : Option Partial) (frame : Frame) (note : Note) → opens_by opened (completed_in begun frame) note ≡ true → may_open opened frame.id ≡ true
-opens_own opened begun frame note opens = cases (completed_in begun frame) refl note opens
-  where
-    cases : (block : Option Partial) → completed_in begun frame ≡ block → (n : Note) → opens_by opened block n ≡ true → may_open opened frame.id ≡ true
-    cases (Some block) is (Fields fields) so = ap (λ (id : ℕ). may_open opened id) (sym (completed_own begun frame block is)) ∙ so
-    cases (Some block) is NoBlock so = absurd (let no : false ≡ true = so in cc)
-    cases (Some block) is Undecodable so = absurd (let no : false ≡ true = so in cc)
-    cases (Some block) is Unread so = absurd (let no : false ≡ true = so in cc)
-    cases None is n so = absurd (let no : false ≡ true = so in cc)
+opens_own opened begun frame note opens = may_open_by opened (completed_in begun frame) note frame.id opens (completed_own begun frame)
 
 -- ---- one entry more
 

@@ -15,7 +15,7 @@ use Rattle.model.specs.Known.{Known}
 use Rattle.model.specs.Lifetimes.{opened, highest, ends_by, is_ended_by_client}
 use Rattle.model.specs.Causes.{Cause}
 use Rattle.model.specs.Courses.{Course, course, about, fault, new_cause, first_of_both}
-use Rattle.model.specs.ErrorClause.{last_farewell, owed_first, acks, reset_for, resets, reset_behind, rst_stream, owed_by, is_passing}
+use Rattle.model.specs.ErrorClause.{last_farewell, acks, reset_for, resets, reset_behind, rst_stream, owed_by, is_passing}
 
 -- ---- no farewell for want of streams
 

@@ -1,18 +1,16 @@
 -- What a book tells is what the tape tells that it was kept along, as long as nothing calls for the end.
-use Rattle.std.proofs.Common.{◌≡◌, ℕ, Bool, true, false, ◌&&◌, List, Option, refl, sym, ◌∙◌, ap, subst, inl}
+use Rattle.std.proofs.Common.{◌≡◌, ℕ, Bool, true, false, ◌&&◌, List, refl, sym, ◌∙◌, ap, subst, inl}
 use Rattle.model.specs.Frames.{Frame}
-use Rattle.model.specs.Setup.{Setup}
 use Rattle.model.specs.Tapes.{Entry}
-use Rattle.model.specs.Errors.{Fault}
 use Rattle.model.specs.Lifetimes.{is_active}
 use Rattle.model.specs.Known.{Known}
 use Rattle.model.specs.Courses.{fault}
 use Rattle.conduct.specs.Summary.{Summary, summary_of, stream_of}
 use Rattle.conduct.specs.Judging.{is_active_in, rows_before_block_in}
-use Rattle.conduct.specs.Owing.{fault_in, must_end_in}
+use Rattle.conduct.specs.Owing.{fault_in}
 use Rattle.conduct.specs.After.{are_taken_in}
 use Rattle.conduct.specs.Rows.{find, WillDo}
-use Rattle.conduct.specs.Rule.{Move, Point, tape_of, AreKnown, point_of}
+use Rattle.conduct.specs.Rule.{Move, Point, tape_of, AreKnown}
 use Rattle.conduct.specs.Book.{Book, summary_in, desk_of, AllMoved}
 use Rattle.conduct.specs.Told.{IsTold}
 use Rattle.conduct.proofs.Owed.{fault_same}

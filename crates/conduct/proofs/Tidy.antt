@@ -1,20 +1,21 @@
 -- Rows hold what they should behind any entries; and a connection that rests and isn't closed goes on.
-use Rattle.std.proofs.Common.{◌≡◌, ℕ, ◌%◌, Bool, true, false, ◌&&◌, ◌==◌, nat_lt, if◌then◌else◌, List, [], ◌∷◌, map, length, refl, sym, ◌∙◌, ap, arith}
-use Rattle.std.proofs.lemmas.Bool.{and_parts, or_parts, ne_eqb, eqb-true}
+use Rattle.std.proofs.Common.{◌≡◌, ℕ, ◌%◌, Bool, true, false, ◌&&◌, ◌==◌, nat_lt, if◌then◌else◌, List, [], ◌∷◌, map, length, refl, sym, ◌∙◌, ap}
+use Rattle.std.proofs.lemmas.Bool.{and_parts, or_parts}
 use Rattle.std.specs.List.{list_any, list_all}
 use Rattle.model.specs.Setup.{Setup}
 use Rattle.model.specs.Tapes.{Entry}
 use Rattle.model.specs.Tapes.Entry.{Came, Breached, Happened, Sent, Did}
 use Rattle.model.specs.StreamStates.{most_streams}
 use Rattle.model.specs.Lifetimes.{opens_by, may_open}
+use Rattle.model.proofs.OpenedLaws.{none_equal, not_zero}
 use Rattle.conduct.specs.Summary.{Summary}
 use Rattle.conduct.specs.Judging.{completed_in, fault_for}
 use Rattle.conduct.specs.Owing.{must_end_in}
-use Rattle.conduct.specs.Rows.{Row, fresh, kept_in, ids_of, row_behind, row_opened, rows_after}
+use Rattle.conduct.specs.Rows.{Row, fresh, kept_in, ids_of, row_behind, row_opened}
 use Rattle.conduct.specs.Rule.{Move}
 use Rattle.conduct.specs.Book.{Book, Desk, summary_in, book_after, desk_of, Rests}
-use Rattle.conduct.specs.Tidy.{IsRow, is_above_all, AreKept}
-use Rattle.conduct.proofs.Rows.{ids_changed, not_opened}
+use Rattle.conduct.specs.Tidy.{is_above_all, AreKept}
+use Rattle.conduct.proofs.Rows.{ids_changed}
 use Rattle.conduct.proofs.RowsKept.{opens_own}
 use Rattle.conduct.proofs.Elsewhere.{tidy_behind}
 
@@ -32,9 +33,8 @@ module _ (setup : Setup) (fails : Bool) (s : Summary) (e : Entry) where
   opened_kept : (rows : List Row) (id : ℕ) → may_open (ids_of rows) id ≡ true → AreKept rows → AreKept (row_opened setup fails s e id ∷ map (row_behind setup fails s e) rows)
   opened_kept rows id may kept =
       let parts = and_parts (id % 2 == 1 && is_above_all id rows) (nat_lt (length (ids_of rows)) most_streams) may in
-      let both = and_parts (id % 2 == 1) (is_above_all id rows) parts.0 in
-      let odd = eqb-true (id % 2) 1 both.0 in (
-        record { tidy = tidy_behind setup fails s e id fresh (fault_for fresh.brief s e); of_stream = ne_eqb id 0 (λ zero. let even : 0 % 2 ≡ 1 = sym (ap (λ n. n % 2) zero) ∙ odd in omega (arith, even)) },
+      let both = and_parts (id % 2 == 1) (is_above_all id rows) parts.0 in (
+        record { tidy = tidy_behind setup fails s e id fresh (fault_for fresh.brief s e); of_stream = not_zero (ids_of rows) id may },
         ap (λ (ids : List ℕ). list_all (λ other. nat_lt other id) ids) (ids_changed setup fails s e rows) ∙ both.1,
         changed_kept rows kept,
       )
@@ -59,7 +59,7 @@ desk_kept setup (m ∷ moves) = kept_behind_entry setup m.fails (desk_of setup m
 
 -- An id stands once.
 pub stands_once : (row : Row) (rows : List Row) → AreKept (row ∷ rows) → list_any (λ other. other == row.id) (ids_of rows) ≡ false
-stands_once row rows kept = not_opened (ids_of rows) row.id kept.1
+stands_once row rows kept = none_equal (ids_of rows) row.id kept.1
 
 -- ---- where a program rests
 

@@ -1,5 +1,5 @@
 -- Frames by what they change: those that change no stream and no window, on each side.
-use Rattle.std.specs.Prelude.{◌≡◌, true, false, ◌==◌, List, length, ◌+◌, None}
+use Rattle.std.specs.Prelude.{◌≡◌, true, false, ◌==◌, length, ◌+◌, None}
 use Rattle.model.specs.Frames.{Frame, data_kind, headers_kind, rst_stream_kind, window_update_kind, continuation_kind, spell}
 use Rattle.model.specs.Tapes.{Noted, Entry}
 use Rattle.model.specs.Tapes.Note.{NoBlock}

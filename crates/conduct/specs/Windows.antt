@@ -1,5 +1,5 @@
 -- DATA that may go by the summary: it is at most both windows.
-use Rattle.std.specs.Prelude.{List, length, pos, ◌≤ℤ◌}
+use Rattle.std.specs.Prelude.{length, pos, ◌≤ℤ◌}
 use Rattle.model.specs.Frames.{Frame}
 use Rattle.conduct.specs.Summary.{Summary}
 use Rattle.conduct.specs.Judging.{window_in}

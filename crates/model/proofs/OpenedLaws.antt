@@ -13,7 +13,8 @@ use Rattle.model.specs.Lifetimes.{may_open, opens_by, opened, is_opened}
 
 -- ---- a header block is its frame's stream's
 
-joined_own : (before : Option Partial) (frame : Frame) (block : Partial) → joined before frame ≡ Some block → block.id ≡ frame.id
+-- with a frame more
+pub joined_own : (before : Option Partial) (frame : Frame) (block : Partial) → joined before frame ≡ Some block → block.id ≡ frame.id
 joined_own None frame block is = cases (frame.kind == headers_kind) is
   where
     cases : (b : Bool) → (if b then Some (record { id = frame.id; ends = ends_stream frame; fragments = content frame }) else None) ≡ Some block → block.id ≡ frame.id
@@ -34,20 +35,21 @@ block_own before frame block is = cases (ends_headers frame) is
 
 -- ---- a stream that opens is new
 
-none_equal : (ids : List ℕ) (id : ℕ) → list_all (λ other. nat_lt other id) ids ≡ true → list_any (λ other. other == id) ids ≡ false
+-- an id above all others is none of them
+pub none_equal : (ids : List ℕ) (id : ℕ) → list_all (λ other. nat_lt other id) ids ≡ true → list_any (λ other. other == id) ids ≡ false
 none_equal [] id above = refl
 none_equal (other ∷ ids) id above =
     let parts = and_parts (nat_lt other id) (list_all (λ o. nat_lt o id) ids) above in
     or_from (other == id) (list_any (λ o. o == id) ids) (ne_eqb other id (λ same. let below = ltb-true other id parts.0 in omega (arith, below, same))) (none_equal ids id parts.1)
 
 -- an id that may open is above those of all streams, so none of them has it
-not_opened : (ids : List ℕ) (id : ℕ) → may_open ids id ≡ true → list_any (λ other. other == id) ids ≡ false
+pub not_opened : (ids : List ℕ) (id : ℕ) → may_open ids id ≡ true → list_any (λ other. other == id) ids ≡ false
 not_opened ids id may =
     let both = and_parts (id % 2 == 1 && list_all (λ other. nat_lt other id) ids) (nat_lt (length ids) most_streams) may in
     none_equal ids id (and_parts (id % 2 == 1) (list_all (λ other. nat_lt other id) ids) both.0).1
 
 -- a block that opens a stream has an id that may open
-may_open_by : (ids : List ℕ) (block : Option Partial) (note : Note) (id : ℕ) → opens_by ids block note ≡ true → ((b : Partial) → block ≡ Some b → b.id ≡ id) → may_open ids id ≡ true
+pub may_open_by : (ids : List ℕ) (block : Option Partial) (note : Note) (id : ℕ) → opens_by ids block note ≡ true → ((b : Partial) → block ≡ Some b → b.id ≡ id) → may_open ids id ≡ true
 may_open_by ids None note id by own = absurd (let no : false ≡ true = by in cc)
 may_open_by ids (Some block) NoBlock id by own = absurd (let no : false ≡ true = by in cc)
 may_open_by ids (Some block) Undecodable id by own = absurd (let no : false ≡ true = by in cc)
@@ -64,7 +66,8 @@ opens_new t noted by = not_opened (opened t) noted.frame.id (opens_own t noted b
 
 -- ---- no stream has the id 0
 
-not_zero : (ids : List ℕ) (id : ℕ) → may_open ids id ≡ true → (id == 0) ≡ false
+-- an id that may open isn't 0
+pub not_zero : (ids : List ℕ) (id : ℕ) → may_open ids id ≡ true → (id == 0) ≡ false
 not_zero ids id may = ne_eqb id 0 (λ zero. absurd (let no : false ≡ true = ap (λ i. may_open ids i) (sym zero) ∙ may in cc))
 
 pub none_zero : (t : List Entry) → is_opened 0 t ≡ false

@@ -44,14 +44,15 @@ first_right known = record {
   active = λ id. refl;
   ended = λ id on. refl;
   cause = λ id on. refl;
-  new = λ id may. (refl, refl);
-  room = λ id may. refl;
+  new = λ on id may. (refl, refl);
+  room = λ on id may. refl;
   has_items = λ id on some none. let clash : false ≡ true = on in cc;
   own = λ id on. let clash : false ≡ true = on in cc;
   shared = refl;
   given = refl;
   last = refl;
   block = refl;
+  ends = refl;
 }
 
 -- ---- what holds beside the outboxes behind a move
@@ -141,7 +142,7 @@ completed_same known t sight noted right = ap (λ b. if ends_headers noted.frame
 module _ (known : Known) (t : List Entry) (s : State) (p : Placed known t s) (before behind : Sight) (right : IsRightOf known t before) where
   -- What the rule by states allows is allowed by the tape.
   allowed_by : (m : Move) → IsRightOf known (entry_of m ∷ t) behind → IsTold known t m → MayCome before behind s m → Holds known t s m
-  allowed_by (Takes noted change) now told may = subst (MayTake known t s noted) (sym may) (takes_by known t s p noted before behind right now)
+  allowed_by (Takes noted change) now told may = subst (MayTake known t s noted) (sym may.1) (takes_by known t s p noted before behind right may.0 now)
   allowed_by (Breaks breach) now told may = tt
   allowed_by (Notes event) now told may = may
   allowed_by (Hears event stream news) now told may =

@@ -154,7 +154,7 @@ none_there : {A : Type 0} (o : Option A) → is_some o ≡ false → o ≡ None
 none_there None e = refl
 none_there (Some x) e = let clash : true ≡ false = e in cc
 
-module _ (known : Known) (t : List Entry) (s : State) (p : Placed known t s) (noted : Noted) (before behind : Sight) (right : IsRightOf known t before) (now : IsRightOf known (Came noted ∷ t) behind) where
+module _ (known : Known) (t : List Entry) (s : State) (p : Placed known t s) (noted : Noted) (before behind : Sight) (right : IsRightOf known t before) (goes_on : before.ends ≡ false) (now : IsRightOf known (Came noted ∷ t) behind) where
   -- a stream that opens is new
   is_new : is_active noted.frame.id t ≡ false → is_active noted.frame.id (Came noted ∷ t) ≡ true → IsNew known t s noted.frame.id
   is_new off on =
@@ -164,7 +164,7 @@ module _ (known : Known) (t : List Entry) (s : State) (p : Placed known t s) (no
         not_kept = none_there (find noted.frame.id s.kept) (p.offering.lives noted.frame.id ∙ off);
         unsent = p.unsent noted.frame.id out;
         not_given = p.not_given noted.frame.id out;
-        no_cause = (right.new noted.frame.id (opens_own t noted by)).1;
+        no_cause = (right.new goes_on noted.frame.id (opens_own t noted by)).1;
       }
 
   -- what is read of its life is what the tape says
@@ -180,7 +180,7 @@ module _ (known : Known) (t : List Entry) (s : State) (p : Placed known t s) (no
     where
       by : (a : Bool) → is_active noted.frame.id t ≡ a → before.cause noted.frame.id ≡ (course known noted.frame.id t).cause
       by true was = right.cause noted.frame.id was
-      by false off = let new = right.new noted.frame.id (opens_own t noted (opened_by_it t noted off on)) in new.0 ∙ sym new.1
+      by false off = let new = right.new goes_on noted.frame.id (opens_own t noted (opened_by_it t noted off on)) in new.0 ∙ sym new.1
 
   -- What the frame changes is what the tape says.
   pub takes_by : MayTake known t s noted (change_by before behind noted.frame.id)

@@ -81,7 +81,7 @@ MayAct before _ = Unit {0}
 
 -- The move may come.
 abbrev pub MayCome : Sight → Sight → State → Move → Type 0
-MayCome before behind s (Takes noted change) = change ≡ change_by before behind noted.frame.id
+MayCome before behind s (Takes noted change) = (before.ends ≡ false) × (change ≡ change_by before behind noted.frame.id)
 MayCome before behind s (Breaks breach) = Unit {0}
 MayCome before behind s (Notes event) = upstream_of event ≡ 0
 MayCome before behind s (Hears event stream news) = IsEventOf before event stream × (behind.cause stream ≡ None)

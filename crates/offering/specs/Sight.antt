@@ -1,6 +1,7 @@
 -- What this concern and the ones above it read of the others' states: which streams are active, why the gateway answers one
 -- itself, the sending windows, the upstream connections, and the header block that goes out.
-use Rattle.std.specs.Prelude.{◌≡◌, ℕ, Bool, true, false, List, [], Option, None, ℤ, pos}
+use Rattle.std.specs.List.{list_any}
+use Rattle.std.specs.Prelude.{◌≡◌, ℕ, Bool, true, false, ◌==◌, List, [], Option, None, ℤ, pos}
 use Rattle.model.specs.Tapes.{Entry, sent}
 use Rattle.model.specs.Decoding.{Partial, begun}
 use Rattle.model.specs.Openings.{Opened, opens, last_stream}
@@ -11,6 +12,9 @@ use Rattle.model.specs.Lifetimes.{may_open, is_opened, is_active, is_ended_by_cl
 use Rattle.model.specs.Windows.{first_window}
 use Rattle.model.specs.WindowsOnTape.{stream_window, connection_window, room_on}
 use Rattle.model.specs.Courses.{course, items}
+use Rattle.model.specs.ErrorClause.{calls_for_end}
+use Rattle.conduct.specs.Summary.{Summary}
+use Rattle.conduct.specs.Judging.{is_active_in, window_in}
 
 -- What is read.
 pub record Sight : Type 0 where
@@ -29,6 +33,8 @@ pub record Sight : Type 0 where
   pub last : ℕ
   -- the header block to the client that isn't complete
   pub block : Option Partial
+  -- the last that came in calls for the end of the connection
+  pub ends : Bool
 
 -- nothing came yet
 abbrev pub first_sight : Sight
@@ -43,6 +49,7 @@ first_sight = record {
   given = [];
   last = 0;
   block = None;
+  ends = false;
 }
 
 -- It is right of a tape. Of streams that are over nothing is asked but that they are.
@@ -51,13 +58,32 @@ pub record IsRightOf (known : Known) (t : List Entry) (sight : Sight) : Type 0 w
   pub active : (id : ℕ) → sight.active id ≡ is_active id t
   pub ended : (id : ℕ) → is_active id t ≡ true → sight.ended id ≡ is_ended_by_client id t
   pub cause : (id : ℕ) → is_active id t ≡ true → sight.cause id ≡ (course known id t).cause
-  -- nothing was said of a stream that may be opened yet
-  pub new : (id : ℕ) → may_open (lives.opened t) id ≡ true → (sight.cause id ≡ None) × ((course known id t).cause ≡ None)
+  -- nothing was said of a stream that may be opened yet, as long as the connection goes on
+  pub new : sight.ends ≡ false → (id : ℕ) → may_open (lives.opened t) id ≡ true → (sight.cause id ≡ None) × ((course known id t).cause ≡ None)
   -- and its receiving window is as at first
-  pub room : (id : ℕ) → may_open (lives.opened t) id ≡ true → room_on id t ≡ pos first_window
+  pub room : sight.ends ≡ false → (id : ℕ) → may_open (lives.opened t) id ≡ true → room_on id t ≡ pos first_window
   pub has_items : (id : ℕ) → is_active id t ≡ true → sight.has_items id ≡ true → items known id t ≡ [] → ⊥
   pub own : (id : ℕ) → is_active id t ≡ true → sight.own id ≡ stream_window id t
   pub shared : sight.shared ≡ connection_window t
   pub given : sight.given ≡ opens t
   pub last : sight.last ≡ last_stream t
   pub block : sight.block ≡ begun (sent t)
+  pub ends : sight.ends ≡ calls_for_end known t
+
+-- ---- what the summary of a tape tells
+
+-- what is read of it
+abbrev pub sight_in : Summary → Sight
+sight_in s = record {
+  opened = λ id. list_any (λ other. other == id) s.opened;
+  active = λ id. is_active_in id s;
+  ended = λ id. (s.stream id).ended_by_client;
+  cause = λ id. (s.stream id).brief.cause;
+  has_items = λ id. (s.stream id).brief.begun;
+  own = λ id. window_in s.first_size (s.stream id);
+  shared = s.window;
+  given = s.given;
+  last = s.last;
+  block = s.block_out;
+  ends = s.ends;
+}

@@ -49,11 +49,11 @@ module _ (known : Known) (t : List Entry) (s : State) (noted : Noted) (before be
   opens_read now opens is = opens_told t noted ∙ sym (ap (λ b. not b && is_opened noted.frame.id (Came noted ∷ t)) (right.opened noted.frame.id)) ∙ sym (ap (λ b. not (before.opened noted.frame.id) && b) (now.opened noted.frame.id)) ∙ sym is
 
   -- its life, where it opens its stream
-  opened_new : IsRightOf known (Came noted ∷ t) behind → opens_by (opened t) (completed (came t) noted.frame) noted.note ≡ true → (over : Bool) → over ≡ is_over_by before behind noted.frame.id → behind.active noted.frame.id ≡ true → IsOpened t noted true over
-  opened_new now by over is on = (
+  opened_new : before.ends ≡ false → IsRightOf known (Came noted ∷ t) behind → opens_by (opened t) (completed (came t) noted.frame) noted.note ≡ true → (over : Bool) → over ≡ is_over_by before behind noted.frame.id → behind.active noted.frame.id ≡ true → IsOpened t noted true over
+  opened_new goes_on now by over is on = (
     is ∙ ap (λ b. before.active noted.frame.id && not b) on ∙ and_right (before.active noted.frame.id) false refl,
     sym (now.active noted.frame.id) ∙ on,
-    right.room noted.frame.id (opens_own t noted by),
+    right.room goes_on noted.frame.id (opens_own t noted by),
   )
 
   -- and where it doesn't
@@ -70,7 +70,7 @@ module _ (known : Known) (t : List Entry) (s : State) (noted : Noted) (before be
   takes_by : (opens over : Bool) → IsRightOf known (Came noted ∷ t) behind → TakesFrame before behind s noted opens over → MayTake t s noted opens over
   takes_by true over now may =
       let by = opens_read now true may.opens_it in
-      record { settled = may.settled; opens = by; opened = opened_new now by over may.over_with_it (may.lives refl); was = λ e. sym (right.active noted.frame.id) ∙ was_active (before.active noted.frame.id) (behind.active noted.frame.id) (sym may.over_with_it ∙ e) }
+      record { settled = may.settled; opens = by; opened = opened_new may.goes_on now by over may.over_with_it (may.lives refl); was = λ e. sym (right.active noted.frame.id) ∙ was_active (before.active noted.frame.id) (behind.active noted.frame.id) (sym may.over_with_it ∙ e) }
   takes_by false over now may =
       let by = opens_read now false may.opens_it in
       record { settled = may.settled; opens = by; opened = opened_old now by over may.over_with_it; was = λ e. sym (right.active noted.frame.id) ∙ was_active (before.active noted.frame.id) (behind.active noted.frame.id) (sym may.over_with_it ∙ e) }

@@ -15,10 +15,11 @@ use Rattle.receiving.specs.Policy.{MayHear, MayDo}
 abbrev pub is_over_by : Sight → Sight → ℕ → Bool
 is_over_by before behind id = before.active id && not (behind.active id)
 
--- A frame of the client, before which the effect of the last is over: whether it opens its stream, which is active then, and
+-- A frame of the client, before which the effect of the last is over and the connection goes on: whether it opens its stream, which is active then, and
 -- whether that is over with it, is what is read.
 pub record TakesFrame (before behind : Sight) (s : State) (noted : Noted) (opens over : Bool) : Type 0 where
   pub settled : s.count ≡ 0
+  pub goes_on : before.ends ≡ false
   pub opens_it : opens ≡ (not (before.opened noted.frame.id) && behind.opened noted.frame.id)
   pub lives : opens ≡ true → behind.active noted.frame.id ≡ true
   pub over_with_it : over ≡ is_over_by before behind noted.frame.id

@@ -1,11 +1,10 @@
 -- A worked run, where requests are passed on whole: each of its moves is allowed and says what is so, by computation, and the clauses
 -- hold at its end.
-use Rattle.std.proofs.Common.{◌≡◌, ℕ, ◌<◌, Bool, true, false, not, List, [], ◌∷◌, ◌++◌, length, refl, sym, ap, ◌∙◌, subst, inl, inr, arith, append_assoc, append-nil}
+use Rattle.std.proofs.Common.{◌≡◌, ℕ, ◌<◌, true, false, not, List, [], ◌∷◌, ◌++◌, length, refl, sym, ap, ◌∙◌, subst, inl, arith, append_assoc, append-nil}
 use Rattle.std.specs.Prelude.{codes}
 use Rattle.std.specs.List.{list_any, list_all, flat_map, concat}
 use Rattle.model.specs.Tables.{total_size}
 use Rattle.model.specs.Octets.{is_empty}
-use Rattle.model.specs.Messages.Item.{Block, Content}
 use Rattle.model.specs.Http2.{HasLength}
 use Rattle.model.specs.Setup.{IsFirstMatch}
 use Rattle.model.specs.Tapes.{Noted}
@@ -15,7 +14,7 @@ use Rattle.h1_writer.specs.Sending.{Sending, Continues, head_of, content_of, chu
 use Rattle.h1_writer.specs.Sending.Stage.{Whole, Chunking}
 use Rattle.h1_writer.proofs.Stages.{adds_chunk}
 use Rattle.serving.specs.Told.{Told}
-use Rattle.serving.specs.State.{Live, State, Turn, state_of, tape_of}
+use Rattle.serving.specs.State.{State, tape_of}
 use Rattle.serving.specs.State.Due.{Nothing}
 use Rattle.serving.specs.Rule.{is_done, MayCome, IsServing, AreAllowed}
 use Rattle.serving.specs.Meaning.{AreSo, KeepClauses}

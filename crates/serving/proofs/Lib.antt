@@ -16,6 +16,8 @@ pub mod Hearing
 pub mod Opening
 pub mod Reading
 pub mod Clauses
-pub mod RunMoves
+pub mod Sources
+pub mod Calling
 pub mod Telling
+pub mod RunMoves
 mod Examples

@@ -20,4 +20,5 @@ pub mod Sources
 pub mod Calling
 pub mod Telling
 pub mod RunMoves
-mod Examples
+pub mod Examples
+mod StreamedExample

@@ -22,3 +22,4 @@ pub mod Telling
 pub mod RunMoves
 pub mod Examples
 mod StreamedExample
+mod Refusals

@@ -1,6 +1,6 @@
 -- A worked run, where requests are passed on as they come: the head of a POST goes out on a connection of its own, then the first octets
 -- of its body.
-use Rattle.std.proofs.Common.{ℕ, false, List, [], ◌∷◌, refl, arith}
+use Rattle.std.proofs.Common.{false, List, [], ◌∷◌, refl, arith}
 use Rattle.std.specs.Prelude.{codes}
 use Rattle.model.specs.Tables.{total_size}
 use Rattle.model.specs.Messages.Item.{Content}

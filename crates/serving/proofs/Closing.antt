@@ -1,11 +1,11 @@
 -- Connections that are closed, or fail, and the end of the client's.
-use Rattle.std.proofs.Common.{◌≡◌, ℕ, ◌<◌, Bool, true, false, not, ◌==◌, ◌&&◌, ◌||◌, List, [], ◌∷◌, ◌++◌, map, refl, sym, ap, ◌∙◌, subst, inl, inr, if◌then◌else◌, arith}
+use Rattle.std.proofs.Common.{◌≡◌, ℕ, Bool, true, false, not, ◌==◌, ◌&&◌, ◌||◌, List, ◌∷◌, map, refl, sym, ap, ◌∙◌, subst, inl, inr, if◌then◌else◌, arith}
 use Rattle.std.specs.Prelude.{Option, Some, None, is_none, option_map}
 use Rattle.std.proofs.lemmas.Bool.{or_parts, and_from}
 use Rattle.std.proofs.lemmas.Bool.Decides.{eqb_tells}
 use Rattle.model.specs.Logs.Event.{UpFailed}
 use Rattle.model.specs.Logs.Act.{Close, CloseClient}
-use Rattle.model.specs.Tapes.{Entry, sent_up, is_closed}
+use Rattle.model.specs.Tapes.{Entry, sent_up}
 use Rattle.model.specs.Tapes.Entry.{Happened, Did}
 use Rattle.model.specs.Openings.{Opened, opens}
 use Rattle.model.specs.Admission.{is_open}
@@ -14,7 +14,6 @@ use Rattle.model.specs.Known.{Known}
 use Rattle.model.specs.Lifetimes.{is_active}
 use Rattle.model.specs.Causes.{Cause}
 use Rattle.model.specs.Courses.{items, cause}
-use Rattle.model.specs.ErrorClause.{must_end}
 use Rattle.model.specs.ProgressClause.{Reason}
 use Rattle.model.specs.ProgressClause.Reason.{Over, Complete, Answered, ClientClosed}
 use Rattle.h1_writer.specs.Sending.{Stage}
@@ -24,11 +23,11 @@ use Rattle.serving.specs.State.Way.{Waiting, Going, Dropped}
 use Rattle.serving.specs.State.Due.{Nothing}
 use Rattle.serving.specs.State.Move.{Fails, Acts}
 use Rattle.serving.specs.Rule.{is_done, IsKept, MayCome, MayClose, MayShut}
-use Rattle.serving.specs.Meaning.{Verdict, IsAllHeard}
+use Rattle.serving.specs.Meaning.{Verdict}
 use Rattle.serving.proofs.Courses.{items_stay}
 use Rattle.serving.proofs.Lists.{find_map, find_gone, find_other}
-use Rattle.serving.proofs.Standing.{text_of, IsLive, Lives, IsOnWay, IsGoing, Given, Stands, way_stays}
-use Rattle.serving.proofs.Passing.{Passing, lives_found, reason_on, open_same, text_same}
+use Rattle.serving.proofs.Standing.{IsLive, Lives, IsOnWay, Given, Stands, way_stays}
+use Rattle.serving.proofs.Passing.{Passing, lives_found, reason_on, text_same}
 use Rattle.serving.proofs.Framing.{held_kept, within, still_shut, not_to_end}
 
 -- ---- lists
@@ -108,9 +107,6 @@ module _ (known : Known) (t : List Entry) (s : State) (h : Stands known t s) whe
       | inl same ↦ inr (record { missing = subst (λ n. live_of n u.live ≡ None) (sym same.1) gone_now; shut = shut o ∙ ap (λ b. if b then false else is_open o.k t) same.0 })
       | inr apart ↦ lives_found known t e s u o g (other o apart.1) (shut o ∙ ap (λ b. if b then false else is_open o.k t) apart.0) (others o.k (λ e. apart.1 (sym e))) g.lives
     ]
-
-    pub missing_stays : (j : ℕ) → live_of j s.live ≡ None → live_of j u.live ≡ None
-    missing_stays = missing
 
   -- ---- why a connection is done with
 

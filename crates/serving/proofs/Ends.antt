@@ -14,8 +14,8 @@ use Rattle.model.specs.Decoding.{Partial, completed}
 use Rattle.model.specs.Streams.{frame_items, items_of}
 use Rattle.model.specs.Known.{Known}
 use Rattle.model.specs.Lifetimes.{ends_by, is_ended_by_client}
-use Rattle.model.specs.ErrorTable.{fault_with}
-use Rattle.model.specs.Courses.{course, carried, items, cause_of, interrupts}
+use Rattle.model.specs.Courses.{items}
+use Rattle.serving.proofs.Courses.{is_interrupted}
 
 -- an item that ends the stream came with a frame that does
 pub ends_tell : (block : Option Partial) (noted : Noted) → list_any ends_with (frame_items block noted) ≡ true → ends_by block noted.frame ≡ true
@@ -65,11 +65,6 @@ ended_by_entry t (Breached breach) stream ends = absurd (cc)
 ended_by_entry t (Happened event) stream ends = absurd (cc)
 ended_by_entry t (Sent noted) stream ends = absurd (cc)
 ended_by_entry t (Did act) stream ends = absurd (cc)
-
--- whether the items of a stream were over, or an entry interrupts them
-abbrev pub is_interrupted : Known → ℕ → List Entry → Entry → Bool
-is_interrupted known stream t e =
-    let before = course known stream t in before.over || interrupts stream e (fault_with (carried before) t e) (cause_of known stream t e)
 
 -- items that come to an end: the client ended the stream
 pub ended_by_items : (known : Known) (stream : ℕ) (t : List Entry) → list_any ends_with (items known stream t) ≡ true → is_ended_by_client stream t ≡ true

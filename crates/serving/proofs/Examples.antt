@@ -1,11 +1,10 @@
 -- A worked run, where requests are passed on whole: each of its moves is allowed and says what is so, by computation, and the clauses
 -- hold at its end.
-use Rattle.std.proofs.Common.{◌≡◌, ℕ, ◌<◌, Bool, true, false, not, List, [], ◌∷◌, ◌++◌, length, refl, sym, ap, ◌∙◌, subst, inl, inr, arith, append_assoc, append-nil}
+use Rattle.std.proofs.Common.{◌≡◌, ℕ, ◌<◌, true, false, not, List, [], ◌∷◌, ◌++◌, length, refl, sym, ap, ◌∙◌, subst, inl, arith, append_assoc, append-nil}
 use Rattle.std.specs.Prelude.{codes}
 use Rattle.std.specs.List.{list_any, list_all, flat_map, concat}
 use Rattle.model.specs.Tables.{total_size}
 use Rattle.model.specs.Octets.{is_empty}
-use Rattle.model.specs.Messages.Item.{Block, Content}
 use Rattle.model.specs.Http2.{HasLength}
 use Rattle.model.specs.Setup.{IsFirstMatch}
 use Rattle.model.specs.Tapes.{Noted}
@@ -15,7 +14,7 @@ use Rattle.h1_writer.specs.Sending.{Sending, Continues, head_of, content_of, chu
 use Rattle.h1_writer.specs.Sending.Stage.{Whole, Chunking}
 use Rattle.h1_writer.proofs.Stages.{adds_chunk}
 use Rattle.serving.specs.Told.{Told}
-use Rattle.serving.specs.State.{Live, State, Turn, state_of, tape_of}
+use Rattle.serving.specs.State.{State, tape_of}
 use Rattle.serving.specs.State.Due.{Nothing}
 use Rattle.serving.specs.Rule.{is_done, MayCome, IsServing, AreAllowed}
 use Rattle.serving.specs.Meaning.{AreSo, KeepClauses}
@@ -28,25 +27,25 @@ use Rattle.serving.proofs.RunMoves.{known, get, post, get_text, post_text, post_
 -- ---- they are allowed
 
 -- something may come where this can be seen of what is kept
-calm : (told : Told) (s : State) → s.due ≡ Nothing → list_any (is_done told) s.live ≡ false → told.ends ≡ false → MayCome told s
+pub calm : (told : Told) (s : State) → s.due ≡ Nothing → list_any (is_done told) s.live ≡ false → told.ends ≡ false → MayCome told s
 calm told s a b c = record { nothing = a; none_done = b; goes_on = c }
 
 -- the one route matches
-first_route : IsFirstMatch known.setup.routes (codes "a.example") (codes "/") 0
+pub first_route : IsFirstMatch known.setup.routes (codes "a.example") (codes "/") 0
 first_route = record { route = record { authority = []; path = codes "/" }; found = refl; matches = (inl refl, inl (record { rest = []; is = refl })); none_before = λ earlier before. absurd (omega (arith, before)) }
 
 a1 : AreAllowed known.setup m1
 a1 = (((tt, record { open_yet = refl; may = refl }), record { open_yet = refl; may = calm _ _ refl refl refl }), record { open_yet = refl; may = refl })
 
 -- the head of the POST, and each piece of its body
-post_begun : Sending (parts_of post) false (post_text []) [] Chunking
+pub post_begun : Sending (parts_of post) false (post_text []) [] Chunking
 post_begun = record { not_ended = refl; full = refl; undeclared = refl; is = refl }
 
 get_sent : Sending (parts_of get) true get_text [] Whole
 get_sent = record { none_ended = λ e. refl; full = refl; has_length = tt; is = refl }
 
 -- octets go as a chunk
-chunk_goes : (octets : List ℕ) → 0 < length octets → Continues Chunking (chunk_text octets) octets Chunking
+pub chunk_goes : (octets : List ℕ) → 0 < length octets → Continues Chunking (chunk_text octets) octets Chunking
 chunk_goes octets some = adds_chunk Chunking octets refl some
 
 -- the last chunk ends the text
@@ -67,7 +66,7 @@ body_ends : Continues Chunking (chunk_text (codes "llo") ++ last_chunk) (codes "
 body_ends = ends_behind Chunking Chunking Whole (chunk_text (codes "llo")) last_chunk (codes "llo") (chunk_goes (codes "llo") (omega arith)) text_ends
 
 -- the frame's stream is served behind a move with these
-serving_on : (told : Told) (noted : Noted) → 0 < noted.frame.id → told.served noted.frame.id ≡ true → told.ends ≡ false → IsServing told noted
+pub serving_on : (told : Told) (noted : Noted) → 0 < noted.frame.id → told.served noted.frame.id ≡ true → told.ends ≡ false → IsServing told noted
 serving_on told noted counted served goes_on = record { counted = counted; served = served; goes_on = goes_on }
 
 a2 : AreAllowed known.setup m2

@@ -5,23 +5,22 @@ use Rattle.std.specs.List.{concat}
 use Rattle.std.proofs.lemmas.Bool.{leb-true, eqb-true}
 use Rattle.model.specs.Messages.{Field, Item}
 use Rattle.model.specs.Messages.Item.{Block}
-use Rattle.model.specs.Http2.{WellFormedHead, WellFormedTrailers, HasLength, is_connect, declared_length, body_of}
+use Rattle.model.specs.Http2.{WellFormedTrailers, HasLength, is_connect, declared_length, body_of}
 use Rattle.model.specs.Malformed.{Carried, carried_by, is_well_formed, are_trailers, declared, has_length, is_within, is_malformed_block, is_malformed_content}
 use Rattle.model.specs.Setup.{Setup}
 use Rattle.model.specs.Tapes.{Noted, Entry, came}
-use Rattle.model.specs.Tapes.Note.{Fields}
 use Rattle.model.specs.Tapes.Entry.{Came}
 use Rattle.model.specs.Decoding.{completed}
 use Rattle.model.specs.Errors.{Fault, or_else}
 use Rattle.model.specs.FrameErrors.{fault_if}
 use Rattle.model.specs.Causes.{Cause, are_large, cause_if, first_cause, cause_of_head, is_routed}
-use Rattle.model.specs.ErrorTable.{is_bad_block, is_malformed, row_malformed, fault_of_rows, fault_with}
+use Rattle.model.specs.ErrorTable.{is_malformed, row_malformed, fault_of_rows, fault_with}
 use Rattle.model.proofs.MalformedLaws.{head_holds, trailers_hold}
 use Rattle.request_rules.specs.Heads.{parts_of}
 use Rattle.h1_writer.specs.Sending.{Stage, HasRoom, MayPush, MayFinish}
 use Rattle.h1_writer.specs.Sending.Stage.{Whole}
 use Rattle.h1_writer.proofs.Wholes.{room_to_push, end_to_finish}
-use Rattle.serving.specs.Written.{IsWritten}
+use Rattle.serving.specs.Written.{IsWritten, IsTaken}
 
 -- ---- no fault
 
@@ -65,13 +64,6 @@ no_cause true cause later e = absurd (cc)
 no_cause false cause later e = (refl, e)
 
 -- ---- heads
-
--- A head that is taken: well-formed, no tunnel, with a route, and of no body where it ends the stream.
-pub record IsTaken (setup : Setup) (head : List Field) (ends : Bool) : Type 0 where
-  pub well_formed : WellFormedHead head
-  pub no_connect : is_connect head ≡ false
-  pub routed : is_routed setup.routes head ≡ true
-  pub no_body : ends ≡ true → HasLength (declared_length head) []
 
 -- the test of a length tells it
 length_told : (declared : Option ℕ) (body : List ℕ) → has_length declared (length body) ≡ true → HasLength declared body

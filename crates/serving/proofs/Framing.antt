@@ -1,6 +1,6 @@
 -- Entries that leave every connection as it is: frames that add no item, frames that are sent, breaches, and events of no upstream.
-use Rattle.std.proofs.Common.{◌≡◌, ℕ, suc, ◌<◌, ◌≤◌, Bool, true, false, not, ◌==◌, ◌&&◌, ◌||◌, List, [], ◌∷◌, length, refl, sym, ap, ◌∙◌, subst, inl, inr, if◌then◌else◌, arith}
-use Rattle.std.specs.Prelude.{Option, Some, None, filter}
+use Rattle.std.proofs.Common.{◌≡◌, ℕ, suc, ◌≤◌, Bool, true, false, not, ◌==◌, ◌||◌, List, [], ◌∷◌, length, refl, sym, ap, ◌∙◌, subst, inl, inr, if◌then◌else◌, arith}
+use Rattle.std.specs.Prelude.{Some, filter}
 use Rattle.std.proofs.lemmas.Bool.{cases_Bool, and_parts, and_from, eqb-true, eq-eqb}
 use Rattle.std.proofs.lemmas.Bool.Decides.{eqb_tells}
 use Rattle.model.specs.Logs.{Event}
@@ -22,7 +22,7 @@ use Rattle.serving.specs.State.Move.{Takes, Breaks, Notes, Sends}
 use Rattle.serving.specs.Rule.{MayCome}
 use Rattle.serving.proofs.Courses.{items_stay}
 use Rattle.serving.proofs.Reasons.{over_stays}
-use Rattle.serving.proofs.Standing.{IsOnWay, Given, Stands, way_stays}
+use Rattle.serving.proofs.Standing.{IsOnWay, Stands, way_stays}
 use Rattle.serving.proofs.Passing.{Passing, lives_found, reason_on, open_same, items_where, text_same}
 
 -- ---- what is held

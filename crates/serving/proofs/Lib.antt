@@ -16,6 +16,10 @@ pub mod Hearing
 pub mod Opening
 pub mod Reading
 pub mod Clauses
-pub mod RunMoves
+pub mod Sources
+pub mod Calling
 pub mod Telling
-mod Examples
+pub mod RunMoves
+pub mod Examples
+mod StreamedExample
+mod Refusals

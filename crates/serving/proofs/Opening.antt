@@ -1,6 +1,6 @@
 -- A connection is opened, and its text goes out.
 use Rattle.std.proofs.Common.{◌≡◌, ℕ, suc, ◌<◌, Bool, true, false, ◌==◌, ◌&&◌, not, List, [], ◌∷◌, ◌++◌, refl, sym, ap, ◌∙◌, subst, inl, inr, if◌then◌else◌, arith, append-nil}
-use Rattle.std.specs.Prelude.{Option, Some, None}
+use Rattle.std.specs.Prelude.{Some, None}
 use Rattle.std.proofs.lemmas.Bool.{eq-eqb, ne_eqb}
 use Rattle.std.proofs.lemmas.Bool.Decides.{eqb_tells}
 use Rattle.model.specs.Http2.{HasHead, WellFormedHead}
@@ -13,10 +13,9 @@ use Rattle.model.specs.Admission.{is_open}
 use Rattle.model.specs.Available.{heard, IsIn}
 use Rattle.model.specs.Known.{Known}
 use Rattle.model.specs.Lifetimes.{is_opened, is_over, is_active}
-use Rattle.model.specs.Courses.{items, cause}
+use Rattle.model.specs.Courses.{items}
 use Rattle.model.specs.Offers.{is_to_head}
 use Rattle.model.specs.RequestClause.{MayBeServed}
-use Rattle.model.specs.ProgressClause.{Reason}
 use Rattle.model.proofs.OfferLemmas.{nothing_complete}
 use Rattle.h1_writer.specs.Sending.{Stage}
 use Rattle.serving.specs.Written.{IsWritten}

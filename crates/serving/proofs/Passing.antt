@@ -1,7 +1,7 @@
 -- Entries with which nothing is due, nothing is opened, and no stream's items change.
-use Rattle.std.proofs.Common.{◌≡◌, ℕ, ◌<◌, Bool, true, false, ◌==◌, List, [], ◌∷◌, ◌++◌, refl, sym, ap, ◌∙◌, subst, inl, inr, if◌then◌else◌}
-use Rattle.std.specs.Prelude.{Some, None, ◌⊎◌}
-use Rattle.std.proofs.lemmas.Bool.{eq-eqb, ne_eqb, cases_Bool}
+use Rattle.std.proofs.Common.{◌≡◌, ℕ, ◌<◌, Bool, true, false, List, [], ◌∷◌, ◌++◌, refl, sym, ap, ◌∙◌, subst, inl, inr, if◌then◌else◌}
+use Rattle.std.specs.Prelude.{Some, None}
+use Rattle.std.proofs.lemmas.Bool.{ne_eqb, cases_Bool}
 use Rattle.std.proofs.lemmas.Bool.Decides.{eqb_tells}
 use Rattle.model.specs.Http2.{H2Request}
 use Rattle.model.specs.Logs.{Event}
@@ -19,14 +19,14 @@ use Rattle.model.specs.ErrorClause.{must_end}
 use Rattle.model.specs.RequestClause.{IsSentWhole, IsSentInPart, OpenInTime}
 use Rattle.model.specs.ProgressClause.{Reason, AllStreamed, AreStreamedInTurn}
 use Rattle.serving.specs.Written.{IsWritten}
-use Rattle.serving.specs.State.{Way, Held, held_of, live_of, State}
+use Rattle.serving.specs.State.{Held, held_of, live_of, State}
 use Rattle.serving.specs.State.Due.{Nothing}
 use Rattle.serving.specs.Rule.{IsKept}
 use Rattle.serving.specs.Meaning.{Verdict}
 use Rattle.serving.proofs.Courses.{items_stay}
 use Rattle.serving.proofs.Reasons.{IsOf, heard_same, ended_same, reason_stays, all_heard_back, all_heard_there}
 use Rattle.serving.proofs.Streamed.{all_streamed}
-use Rattle.serving.proofs.Standing.{text_of, owed, IsLive, Lives, IsSent, Given, IsDueFor, Fares, IsDue, IsOnWay, Closes, IsFresh, Stands, Steps, unread_same, some_items, had_closed_in, cut_stays}
+use Rattle.serving.proofs.Standing.{text_of, owed, Lives, IsSent, Given, IsDueFor, Fares, IsDue, IsOnWay, Closes, IsFresh, Stands, Steps, unread_same, some_items, had_closed_in, cut_stays}
 
 -- ---- the connections that are kept
 

@@ -2,13 +2,13 @@
 use Rattle.std.proofs.Common.{append-nil, ◌≡◌, ℕ, Bool, true, false, not, ◌==◌, ◌||◌, ◌&&◌, List, [], ◌∷◌, ◌++◌, refl, sym, ap, ◌∙◌, subst, inl, inr, if◌then◌else◌, append_assoc}
 use Rattle.std.specs.Prelude.{Option, Some, None, ◌⊎◌, is_none}
 use Rattle.std.specs.List.{list_any}
-use Rattle.std.proofs.lemmas.Bool.{eq-eqb, ne_eqb, cases_Bool, and_from, and_parts, or_parts}
+use Rattle.std.proofs.lemmas.Bool.{eq-eqb, ne_eqb, cases_Bool, and_from, and_parts}
 use Rattle.std.proofs.lemmas.Bool.Decides.{eqb_tells}
 use Rattle.model.specs.Messages.{Field, Item, Request, ends_with}
 use Rattle.model.specs.Messages.Item.{Block, Content}
 use Rattle.model.specs.Http2.{HasHead, body_of, H2Request, MayBecome, authority_of, path_of}
 use Rattle.model.specs.Malformed.{carried_by}
-use Rattle.model.specs.Setup.{Setup, Passing, IsFirstMatch}
+use Rattle.model.specs.Setup.{Passing, IsFirstMatch}
 use Rattle.model.specs.Setup.Passing.{Whole as WholePassing, Streaming}
 use Rattle.model.specs.Tapes.{Noted, Entry, came, sent_up}
 use Rattle.model.specs.Tapes.Entry.{Came}
@@ -30,17 +30,17 @@ use Rattle.serving.specs.Written.{IsWritten}
 use Rattle.serving.specs.Told.{Told, IsTold}
 use Rattle.serving.specs.State.{Way, Held, held_of, held_with, waits_from, unless_whole, goes_now, is_streaming, is_whole, to_open, to_send, Live, live_of, Due, State, after}
 use Rattle.serving.specs.State.Way.{Waiting, Going, Dropped}
-use Rattle.serving.specs.State.Due.{Nothing, ToOpen, ToSend}
 use Rattle.serving.specs.State.Move.{Begins, Gathers, Passes, Drops}
 use Rattle.serving.specs.Rule.{MayCome, IsServing, MayBegin, MayAdd, MayDrop}
 use Rattle.serving.specs.Meaning.{Brings}
-use Rattle.serving.proofs.Ends.{ends_tell, added_ends, is_interrupted, none_ended}
+use Rattle.serving.proofs.Ends.{ends_tell, added_ends, none_ended}
+use Rattle.serving.proofs.Courses.{is_interrupted}
 use Rattle.serving.proofs.Lists.{held_now, held_beside}
 use Rattle.serving.proofs.Texts.{no_request, part_told}
 use Rattle.serving.proofs.Bringing.{IsGood, is_good}
 use Rattle.serving.proofs.Writing.{body_append, head_written, item_written, may_go_on}
 use Rattle.serving.proofs.Streamed.{all_streamed}
-use Rattle.serving.proofs.Standing.{owed, text_of, IsInPart, IsSent, Given, IsDueFor, Fares, IsDue, IsOnWay, IsWaiting, IsGoing, IsDropped, Stands, Steps, had_closed_in, has_head_stays, way_stays}
+use Rattle.serving.proofs.Standing.{owed, text_of, IsInPart, IsSent, Given, Fares, IsDue, IsOnWay, IsWaiting, IsGoing, IsDropped, Stands, Steps, had_closed_in, has_head_stays, way_stays}
 use Rattle.serving.proofs.Passing.{items_beside, sent_same, fares_same, fresh_same, lives_found, reason_on}
 use Rattle.serving.proofs.Framing.{not_to_end}
 use Rattle.serving.proofs.Opening.{sent_written}

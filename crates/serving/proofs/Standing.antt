@@ -1,11 +1,10 @@
 -- How what is kept stands to the tape, and that it stands so behind an entry.
 use Rattle.std.proofs.Common.{◌≡◌, ℕ, ◌<◌, Bool, true, false, ◌==◌, ◌&&◌, ◌||◌, not, List, [], ◌∷◌, ◌++◌, length, refl, sym, ap, ◌∙◌, subst, inl, inr, if◌then◌else◌}
 use Rattle.std.specs.Prelude.{Some, None, ◌⊎◌}
-use Rattle.std.specs.List.{list_any}
 use Rattle.std.proofs.lemmas.Bool.{eq-eqb}
-use Rattle.model.specs.Messages.{Field, Item, Request, ends_with}
+use Rattle.model.specs.Messages.{Field, Item, Request}
 use Rattle.model.specs.Messages.Item.{Block, Content}
-use Rattle.model.specs.Http2.{HasHead, WellFormedHead, H2Request, EndsWithLast, authority_of, path_of}
+use Rattle.model.specs.Http2.{HasHead, WellFormedHead, H2Request, authority_of, path_of}
 use Rattle.model.specs.Setup.{IsFirstMatch}
 use Rattle.model.specs.Setup.Passing.{Whole as WholePassing, Streaming}
 use Rattle.model.specs.Logs.Act.{Open, ToUp, Close, CloseClient}
@@ -16,9 +15,9 @@ use Rattle.model.specs.Openings.{Opened, opens, last_stream, AreNumbered, AreApa
 use Rattle.model.specs.Admission.{is_open}
 use Rattle.model.specs.Available.{heard, has_ended, IsIn}
 use Rattle.model.specs.Known.{Known}
-use Rattle.model.specs.Lifetimes.{is_opened, is_active}
+use Rattle.model.specs.Lifetimes.{is_opened}
 use Rattle.model.specs.ErrorTable.{fault_with}
-use Rattle.model.specs.Courses.{course, carried, items, cause, interrupts}
+use Rattle.model.specs.Courses.{course, carried, items, interrupts}
 use Rattle.model.specs.Offers.{IsGiven}
 use Rattle.model.specs.ErrorClause.{must_end}
 use Rattle.model.specs.RequestClause.{IsSentWhole, IsSentInPart, MayBeServed, OpenInTime}

@@ -41,12 +41,6 @@ cases_stage (Holding octet) = inr (λ e. cc)
 cases_stage Chunking = inr (λ e. cc)
 
 -- so the test of a stage tells it
-pub whole_told : (stage : Stage) → is_whole stage ≡ true → stage ≡ Whole
-whole_told Whole e = refl
-whole_told (Counting left) e = cc
-whole_told (Holding octet) e = cc
-whole_told Chunking e = cc
-
 pub part_told : (stage : Stage) → is_whole stage ≡ false → stage ≡ Whole → ⊥
 part_told stage e whole = let clash : true ≡ false = sym (ap is_whole whole) ∙ e in cc
 

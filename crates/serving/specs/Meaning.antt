@@ -1,5 +1,5 @@
 -- What the moves say of their entries, and what holds of the tape then.
-use Rattle.std.specs.Prelude.{◌≡◌, ℕ, Bool, true, false, List, [], ◌∷◌, ◌++◌}
+use Rattle.std.specs.Prelude.{◌≡◌, Bool, true, false, List, [], ◌∷◌, ◌++◌}
 use Rattle.model.specs.Messages.{Item}
 use Rattle.model.specs.Messages.Item.{Block}
 use Rattle.model.specs.Tapes.{Noted, Entry}
@@ -15,7 +15,7 @@ use Rattle.model.specs.RequestClause.{RequestsHold}
 use Rattle.model.specs.ProgressClause.{AllForwarded, AllStreamed, AreStreamedInTurn, AreClosed, ClosesRightly}
 use Rattle.serving.specs.Told.{IsTold}
 use Rattle.serving.specs.State.{Move, Turn, tape_of}
-use Rattle.serving.specs.State.Move.{Takes, Begins, Gathers, Passes, Drops, Breaks, Notes, Hears, Fails, Sends, Acts}
+use Rattle.serving.specs.State.Move.{Takes, Begins, Gathers, Passes, Drops, Hears}
 
 -- ---- what the moves say
 

@@ -1,9 +1,11 @@
--- The text that was written for the items of a stream.
+-- The text that was written for the items of a stream, and the heads of which one may be.
 use Rattle.std.specs.Prelude.{◌≡◌, ℕ, Bool, true, false, List, [], ◌∷◌}
 use Rattle.std.specs.List.{concat, list_any, list_all}
 use Rattle.model.specs.Messages.{Field, Item, ends_with}
 use Rattle.model.specs.Messages.Item.{Block, Content}
-use Rattle.model.specs.Http2.{WellFormedHead, is_connect, body_of, AreContents, EndsWithLast}
+use Rattle.model.specs.Http2.{WellFormedHead, HasLength, is_connect, declared_length, body_of, AreContents, EndsWithLast}
+use Rattle.model.specs.Setup.{Setup}
+use Rattle.model.specs.Causes.{is_routed}
 use Rattle.request_rules.specs.Heads.{parts_of}
 use Rattle.h1_writer.specs.Sending.{Stage, Sending}
 use Rattle.h1_writer.specs.Sending.Stage.{Whole}
@@ -33,3 +35,10 @@ pub record IsWritten (items : List Item) (text : List ℕ) (stage : Stage) : Typ
   pub ends : stage ≡ Whole → EndsWithLast items
   pub plain : (stage ≡ Whole → ⊥) → list_all is_content more ≡ true
   pub goes_on : (stage ≡ Whole → ⊥) → list_any ends_with items ≡ false
+
+-- A head that is taken: well-formed, no tunnel, with a route, and of no body where it ends the stream.
+pub record IsTaken (setup : Setup) (head : List Field) (ends : Bool) : Type 0 where
+  pub well_formed : WellFormedHead head
+  pub no_connect : is_connect head ≡ false
+  pub routed : is_routed setup.routes head ≡ true
+  pub no_body : ends ≡ true → HasLength (declared_length head) []

@@ -1,0 +1,40 @@
+-- Moves that the rule refuses.
+use Rattle.std.proofs.Common.{◌≡◌, ℕ, true, false, List, [], ◌∷◌, ap, ◌∙◌, inl, inr}
+use Rattle.std.specs.Prelude.{Some}
+use Rattle.model.specs.Setup.{Setup}
+use Rattle.h1_writer.specs.Sending.Stage.{Whole}
+use Rattle.serving.specs.Told.{Told}
+use Rattle.serving.specs.State.{Live, state_of}
+use Rattle.serving.specs.State.Due.{Nothing, ToOpen}
+use Rattle.serving.specs.Rule.{is_done, MayCome, MayBegin, MayOpen, MayClose}
+use Rattle.serving.proofs.Telling.{serving}
+use Rattle.serving.proofs.RunMoves.{known, get, get_text, get_head, m3, m4, m5}
+
+-- a connection isn't closed while its response isn't whole and its stream is served
+closes_early : MayClose (serving (3 ∷ 1 ∷ [])) (state_of known.setup m5) 1 → ⊥
+closes_early may = elim may.why [
+  | inl done ↦ (let clash : false ≡ true = ap (is_done (serving (3 ∷ 1 ∷ []))) same ∙ done in cc)
+  | inr ends ↦ (let clash : false ≡ true = ends in cc)
+]
+  where
+    both : Some (record { k = 1; stream = 3; whole = false }) ≡ Some may.live
+    both = may.found
+
+    same : ◌≡◌ {A = Live} (record { k = 1; stream = 3; whole = false }) may.live
+    same = let found = both in cc
+
+-- none is opened for a request that waits
+opens_early : (k route : ℕ) → MayOpen (state_of known.setup m3) k route → ⊥
+opens_early k route may = let clash : Nothing ≡ ToOpen may.stream route may.text may.stage = may.due in cc
+
+-- nothing comes in while one is due
+comes_early : (told : Told) → MayCome told (state_of known.setup m4) → ⊥
+comes_early told may = let clash : ToOpen 3 0 get_text Whole ≡ Nothing = may.nothing in cc
+
+-- nothing comes in while one is open whose stream isn't served any more
+leaves_open : MayCome (serving (1 ∷ [])) (state_of known.setup m5) → ⊥
+leaves_open may = let clash : true ≡ false = may.none_done in cc
+
+-- a request isn't begun whose stream is lost with its head
+begins_lost : (setup : Setup) (route : ℕ) (text : List ℕ) → MayBegin setup (serving (1 ∷ [])) get_head get true route text Whole → ⊥
+begins_lost setup route text may = let clash : false ≡ true = may.serving.served in cc

@@ -38,7 +38,7 @@ pub record Running (setup : Setup) (events : List Event) (outs : List (Vec Outpu
   pub same_setup : g.kept.state.setup ≡ setup
 
 pub running_none : (setup : Setup) (g : Standing) → IsServable setup → g ≡ fresh setup → Running setup [] [] g
-running_none setup g servable e = record { count = refl; tape = []; stands = subst (λ x. Stands x [] []) (sym e) (stands_none setup servable); same_setup = ap (λ (x : Standing). x.kept.state.setup) e }
+running_none setup g servable e = record { count = refl; tape = []; stands = subst (λ x. Stands x [] []) (sym e) (stands_none setup (fresh setup).octets servable); same_setup = ap (λ (x : Standing). x.kept.state.setup) e }
 
 -- one more event
 pub running_more : (setup : Setup) (events : List Event) (n : ℕ) (outs outs' : List (Vec Output Global)) (g g' : Standing) (event : Event) (old out : Vec Output Global) → n < length events → event ≡ get_or events n event → old.items ≡ [] → outs' ≡ outs ++ out ∷ []

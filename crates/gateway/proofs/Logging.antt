@@ -2,7 +2,7 @@
 use Rattle.std.proofs.Common.{◌≡◌, ℕ, zero, suc, ◌+◌, ◌<◌, List, [], ◌∷◌, ◌++◌, length, length-append, take, get_or, map, reverse, refl, sym, ◌∙◌, ap, subst, arith, Some, false}
 use Rattle.std.specs.declared.vec.Vec.{Vec}
 use Rattle.std.specs.declared.alloc.Global.{Global}
-use Rattle.std.specs.Prelude.{slice_get}
+use Rattle.std.specs.Prelude.{slice_get, not, ◌&&◌}
 use Rattle.std.proofs.lemmas.List.{take_more, reverse-append}
 use Rattle.std.specs.List.{take-map}
 use Rattle.model.specs.Logs as logs
@@ -15,7 +15,7 @@ use Rattle.gateway.specs.Setups.{known_of, IsServable}
 use Rattle.gateway.specs.Views.{event_of, outputs_of}
 use Rattle.gateway.specs.Runs.{log_of}
 use Rattle.gateway.specs.Policy.{is_admitted}
-use Rattle.gateway.specs.Stands.{Standing, Stands, StandsNext, IsRefusedAt, fresh}
+use Rattle.gateway.specs.Stands.{Standing, admits, Stands, StandsNext, IsRefusedAt, fresh}
 use Rattle.gateway.proofs.Steps.{stands_none, admits_by_tape}
 
 pub log_more : (events : List Event) (outs : List (Vec Output Global)) (event : Event) (out : Vec Output Global) → length outs ≡ length events
@@ -38,7 +38,7 @@ pub record Running (setup : Setup) (events : List Event) (outs : List (Vec Outpu
   pub same_setup : g.kept.state.setup ≡ setup
 
 pub running_none : (setup : Setup) (g : Standing) → IsServable setup → g ≡ fresh setup → Running setup [] [] g
-running_none setup g servable e = record { count = refl; tape = []; stands = subst (λ x. Stands x [] []) (sym e) (stands_none setup servable); same_setup = ap (λ (x : Standing). x.kept.state.setup) e }
+running_none setup g servable e = record { count = refl; tape = []; stands = subst (λ x. Stands x [] []) (sym e) (stands_none setup (fresh setup).octets servable); same_setup = ap (λ (x : Standing). x.kept.state.setup) e }
 
 -- one more event
 pub running_more : (setup : Setup) (events : List Event) (n : ℕ) (outs outs' : List (Vec Output Global)) (g g' : Standing) (event : Event) (old out : Vec Output Global) → n < length events → event ≡ get_or events n event → old.items ≡ [] → outs' ≡ outs ++ out ∷ []
@@ -72,7 +72,7 @@ get_mapped [] n event lt at = absurd (omega arith)
 get_mapped (x ∷ events) zero event lt at = ap (λ e. Some (event_of e)) (sym at)
 get_mapped (x ∷ events) (suc n) event lt at = get_mapped events n event (omega arith) at
 
-pub running_refused : (setup : Setup) (events : List Event) (n : ℕ) (outs : List (Vec Output Global)) (g : Standing) (event : Event) → n < length events → event ≡ get_or events n event → is_admitted g.kept.state (event_of event) ≡ false → Running setup (take n events) outs g → IsRefusedAt setup (map event_of events) n
+pub running_refused : (setup : Setup) (events : List Event) (n : ℕ) (outs : List (Vec Output Global)) (g : Standing) (event : Event) → n < length events → event ≡ get_or events n event → admits g (event_of event) ≡ false → Running setup (take n events) outs g → IsRefusedAt setup (map event_of events) n
 running_refused setup events n outs g event lt at turned r = record {
   event = event_of event;
   found = get_mapped events n event lt at;
@@ -82,5 +82,5 @@ running_refused setup events n outs g event lt at turned r = record {
   gateway = g;
   same_setup = r.same_setup;
   stands = r.stands;
-  refused = sym (admits_by_tape g (reverse (log_of (take n events) outs)) r.tape (event_of event) r.stands) ∙ turned;
+  refused = sym (admits_by_tape g (reverse (log_of (take n events) outs)) r.tape (event_of event) r.stands) ∙ sym (ap (λ b. not b && is_admitted g.kept.state (event_of event)) r.stands.alive) ∙ turned;
 }

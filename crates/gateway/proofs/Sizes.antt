@@ -14,8 +14,8 @@ use Rattle.header_blocks.specs.Chosen.{HasShortStrings}
 use Rattle.gateway.specs.Exchanges.{Awaited, gathered, head_after, body_of, is_interim, has_interim, awaited, section_of, status_field, text_size, head_size, IsSmall, awaited_size, exchanges_size, SmallIfSome, AreSmall, with_exchange}
 use Rattle.model.specs.Setup.{Setup}
 use Rattle.gateway.specs.State.{State}
-use Rattle.gateway.specs.Stands.{Standing, held, held_bound}
-use Rattle.gateway.specs.Connections.{IsSmallState, without_exchange, awaiting}
+use Rattle.gateway.specs.Stands.{record_bound, IsHeldWithin}
+use Rattle.gateway.specs.Connections.{IsSmallState, held_by, without_exchange, awaiting}
 use Rattle.gateway.proofs.Awaiting.{with_size}
 use Rattle.gateway.proofs.Responding.{head_more, body_more, interim_more}
 
@@ -127,13 +127,22 @@ awaiting_small s s' k a h small e = subst IsSmallState (sym e) (record { decodin
 pub more_small : (es : List (Option Awaited)) (stream : ℕ) (to_head : Bool) → AreSmall es → AreSmall (es ++ Some (awaited stream to_head) ∷ [])
 more_small es stream to_head all = small_push es (Some (awaited stream to_head)) all (record { held = omega arith; head = omega arith; body = omega arith })
 
-pub held_small : (g : Standing) (setup : Setup) → length g.kept.partial < 16393 → IsSmallState g.kept.state → held g ≤ held_bound setup
-held_small g setup short h =
-    let all = all_small g.kept.state.exchanges h.exchanges in
+-- ---- what a gateway holds
+
+small_records : (setup : Setup) (es : List (Option Awaited)) → AreSmall es → All (λ e. awaited_size e ≤ record_bound setup) es
+small_records setup [] all = All-nil (λ e. awaited_size e ≤ record_bound setup)
+small_records setup (e ∷ es) all = All-cons (λ e. awaited_size e ≤ record_bound setup) e es (let a = one_small e all.0 in omega (arith, a)) (small_records setup es all.1)
+
+pub held_small : (setup : Setup) (partial : List ℕ) (begun : Bool) (s : State) (dead : Bool) → length partial < 16393 → IsSmallState s → IsHeldWithin setup (record { kept = record { partial = partial; begun = begun; state = s }; dead = dead; octets = length partial + held_by s })
+held_small setup partial begun s dead short h =
+    let all = all_small s.exchanges h.exchanges in
     let few = h.few in
     let a = h.decoding.sizes in
-    let b = h.encoding.sizes in
-    omega (arith, short, all, few, a, b)
+    let b = h.encoding.sizes in record {
+      all = omega (arith, short, all, few, a, b);
+      outside = omega (arith, short, a, b);
+      records = record { few = few; each = small_records setup s.exchanges h.exchanges };
+    }
 
 -- the section of a head that is short
 pub section_short : (found : Option Head) (head : Head) → found ≡ Some head → head_size found ≤ 16384 → All HasShortStrings (section_of head)

@@ -338,9 +338,9 @@ stands_next g g' log tape event o h admitted alive s =
       same_setup = ap (λ (p : Point). p.state.setup) next.stepped.leads.point ∙ setup_stays (resting g.kept.state) next.stepped.segment;
     }
 
--- before any step
-pub stands_none : (setup : Setup) → IsServable setup → Stands (fresh setup) [] []
-stands_none setup servable = record {
+-- before any step, whatever is counted
+pub stands_none : (setup : Setup) (octets : ℕ) → IsServable setup → Stands (record (fresh setup) { octets = octets }) [] []
+stands_none setup octets servable = record {
   kept = record {
     has_tape = refl;
     servable = servable;

@@ -20,7 +20,7 @@ use Rattle.model.specs.ResponseHeads.{Head}
 use Rattle.model.specs.Blocks as blocks
 use Rattle.gateway.specs.Moves.{head_frame, last_data}
 use Rattle.gateway.specs.Moves.Move.{Acts}
-use Rattle.gateway.specs.Exchanges.{Awaited, awaited, with_exchange, section_of, AreSmall}
+use Rattle.gateway.specs.Exchanges.{Awaited, awaited, with_exchange, section_of, AreSmall, exchanges_size}
 use Rattle.gateway.specs.declared.connection.Connection.TheInside.{Inside}
 use Rattle.gateway.specs.Setups.{setup_of}
 use Rattle.gateway.specs.Closing.{put_closes}
@@ -41,9 +41,20 @@ state_of c = record {
   window = c.window;
 }
 
+-- what all lists of octets of a connection sum to, the configuration aside: the fields of both tables, each with the 32 by which
+-- RFC 7541, section 4.1, counts it, and the responses that are awaited
+abbrev pub held_by : State → ℕ
+held_by s = total_size s.table.fields + total_size s.encoding.fields + exchanges_size s.exchanges
+
+-- what the fields of a Connection hold of octets, the configuration aside; the pattern names each of them
+abbrev pub octets_in : Inside → ℕ
+octets_in = λ record { config = config; greeted = greeted; settled = settled; closed = closed; high = high; untaken = untaken; upstreams = upstreams; decoder = decoder; exchanges = exchanges; encoder = encoder; window = window }.
+    total_size decoder.table.fields + total_size encoder.table.fields + exchanges_size exchanges.items
+
 -- How many octets for the client there can be: a response begins only while fewer than 65,536 aren't taken, and a farewell
--- comes once.
+-- comes once. No field holds octets that aren't counted.
 pub record IsBounded (c : Inside) : Type 0 where
+  pub counted : octets_in c ≡ held_by (state_of c)
   pub unbegun : c.greeted ≡ false → c.untaken ≡ 0
   pub unsettled : c.settled ≡ false → c.closed ≡ false → c.untaken ≤ 98380
   pub unclosed : c.closed ≡ false → c.untaken ≤ 98400

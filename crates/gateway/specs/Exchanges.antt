@@ -93,7 +93,7 @@ abbrev pub exchanges_size : List (Option Awaited) → ℕ
 exchanges_size [] = 0
 exchanges_size (e ∷ es) = awaited_size e + exchanges_size es
 
--- No response that is awaited holds more than its part.
+-- No response that is awaited holds more than these.
 pub record IsSmall (e : Awaited) : Type 0 where
   pub held : length e.reader.held ≤ 16384
   pub head : head_size e.head ≤ 16384

@@ -1,6 +1,6 @@
 -- Where a gateway stands: for which log, and for which tape of it.
-use Rattle.std.specs.Prelude.{◌≡◌, ℕ, ◌+◌, ◌*◌, Bool, true, false, List, [], ◌∷◌, ◌++◌, length, reverse, map, take, slice_get, Some}
-use Rattle.model.specs.Tables.{total_size}
+use Rattle.std.specs.Prelude.{◌≡◌, ℕ, ◌+◌, ◌*◌, ◌≤◌, Bool, true, false, not, ◌&&◌, List, [], ◌∷◌, ◌++◌, length, reverse, map, take, slice_get, Option, Some}
+use Rattle.std.specs.List.{All}
 use Rattle.model.specs.Octets.{IsFront, IsStrictFront}
 use Rattle.model.specs.Frames.{Reading, preface}
 use Rattle.model.specs.Logs.{Event, Output, Step, client_in}
@@ -14,8 +14,9 @@ use Rattle.gateway.specs.declared.preface.Start.TheVariants.{Whole, Part, Wrong}
 use Rattle.gateway.specs.Moves.{Move, tape_of, after_all}
 use Rattle.gateway.specs.Moves.Input.{OfEvent}
 use Rattle.gateway.specs.State.{start}
-use Rattle.gateway.specs.Exchanges.{exchanges_size}
-use Rattle.gateway.specs.Policy.{resting, point_after, AllAllowed, Answers, Begins}
+use Rattle.gateway.specs.Exchanges.{Awaited, awaited_size, exchanges_size}
+use Rattle.gateway.specs.Connections.{held_by}
+use Rattle.gateway.specs.Policy.{resting, point_after, AllAllowed, Answers, Begins, is_admitted}
 use Rattle.gateway.specs.Setups.{known_of, IsServable}
 use Rattle.gateway.specs.Receiving.{Kept, IsRest, Receives}
 
@@ -25,25 +26,38 @@ IsStart text Whole = IsFront preface text
 IsStart text Part = IsStrictFront text preface
 IsStart text Wrong = IsNoPreface text
 
--- what a gateway is seen as: what it keeps, and whether memory was refused to it
+-- what a gateway is seen as: what it keeps, whether memory was refused to it, and the octets that all its fields hold, the
+-- configuration aside
 pub record Standing : Type 0 where
   pub kept : Kept
   pub dead : Bool
+  pub octets : ℕ
 
--- what all lists of octets that the gateway holds sum to, the configuration and the responses aside: the client's octets
--- that aren't a whole frame, and the fields of both tables, each with the 32 by which RFC 7541, section 4.1, counts it
-abbrev pub held_outside : Standing → ℕ
-held_outside g = length g.kept.partial + total_size g.kept.state.table.fields + total_size g.kept.state.encoding.fields
+-- the event may come, as far as the gateway tells: none may, once memory was refused to it
+abbrev pub admits : Standing → Event → Bool
+admits g event = not g.dead && is_admitted g.kept.state event
 
--- and those of the responses that are awaited
-abbrev pub held : Standing → ℕ
-held g = held_outside g + exchanges_size g.kept.state.exchanges
+-- the most that each response may hold that is awaited
+abbrev pub record_bound : Setup → ℕ
+record_bound setup = setup.max_body + setup.max_response + 400000
 
 abbrev pub held_bound : Setup → ℕ
-held_bound setup = 200000 + 100 * (setup.max_body + setup.max_response + 400000)
+held_bound setup = 200000 + 100 * record_bound setup
+
+-- At most 100 responses are awaited, and none holds more than its part.
+pub record AreWithin (setup : Setup) (exchanges : List (Option Awaited)) : Type 0 where
+  pub few : length exchanges ≤ 100
+  pub each : All (λ e. awaited_size e ≤ record_bound setup) exchanges
+
+-- The octets that a gateway holds with this setup are within the bound: at most 200,000, and those of the responses that are
+-- awaited.
+pub record IsHeldWithin (setup : Setup) (g : Standing) : Type 0 where
+  pub all : g.octets ≤ held_bound setup
+  pub outside : g.octets ≤ 200000 + exchanges_size g.kept.state.exchanges
+  pub records : AreWithin setup g.kept.state.exchanges
 
 abbrev pub fresh : Setup → Standing
-fresh setup = record { kept = record { partial = []; begun = false; state = start setup }; dead = false }
+fresh setup = record { kept = record { partial = []; begun = false; state = start setup }; dead = false; octets = 0 + held_by (start setup) }
 
 -- What an event comes to, once the gateway's settings are sent.
 abbrev pub Happens : Kept → Kept → List Output → List Output → Event → Type 0

@@ -8,7 +8,7 @@ ghost use Rattle.gateway.specs.Setups.{setup_of, IsServable};
 ghost use Rattle.model.specs.Admission.{is_admitted as is_admitted_by_tape, room};
 ghost use Rattle.gateway.specs.Policy.{is_admitted};
 ghost use Rattle.gateway.specs.Receiving.{Receives, TakesBehind};
-ghost use Rattle.gateway.specs.Stands.{Happens, StepsTo, Stands, StandsNext, held, held_outside, held_bound, fresh};
+ghost use Rattle.gateway.specs.Stands.{Happens, StepsTo, Stands, StandsNext, IsHeldWithin, admits, fresh};
 
 use crate::config::Config;
 use crate::connection::Connection;
@@ -43,10 +43,11 @@ impl Model for Gateway {
 
     ghost Value = { Standing };
 
-    ghost view = { λ g. record { kept = record { partial = g.partial.items; begun = g.begun; state = g.connection }; dead = g.dead } };
+    ghost use Rattle.std.specs.Prelude.{◌+◌, ◌<◌, length};
+    ghost use Rattle.gateway.specs.Connections.{IsSmallState, held_by};
 
-    ghost use Rattle.std.specs.Prelude.{◌<◌, length};
-    ghost use Rattle.gateway.specs.Connections.{IsSmallState};
+    // Each field is named, and what it holds of octets is counted.
+    ghost view = { λ record { alloc = alloc; partial = partial; begun = begun; connection = connection; dead = dead }. record { kept = record { partial = partial.items; begun = begun; state = connection }; dead = dead; octets = length partial.items + held_by connection } };
 
     ghost invariant = { λ g. (length g.partial.items < 16393) × IsSmallState g.connection };
 }
@@ -76,28 +77,33 @@ impl Gateway {
         }
     }
 
-    /// Whether an event may come now: never once the client is closed; octets of the client at most 65,536 at a time, and
-    /// while at most 1,073,741,824 octets for it aren't taken; octets of an upstream that is open as far as there is room;
-    /// of octets only those as taken that were put out and aren't yet.
+    /// Whether an event may come now: never once the client is closed or memory was refused; octets of the client at most 65,536
+    /// at a time, and while at most 1,073,741,824 octets for it aren't taken; octets of an upstream that is open as far as
+    /// there is room; of octets only those as taken that were put out and aren't yet.
     pub fn admits(&self, event: &Event) -> bool
-        ensures state { result ≡ is_admitted self.now.kept.state (event_of event.now) }
+        ensures state { result ≡ admits self.now (event_of event.now) }
         // It is what the log tells that the gateway stands for.
         ensures log { (log : List Step) (tape : List Entry) → Stands self.now log tape → result ≡ is_admitted_by_tape tape (event_of event.now) }
     {
-        self.connection.is_admitted(event)
+        !self.dead && self.connection.is_admitted(event)
     }
 
-    /// How many octets of an upstream may come in one event: 65,536 where its connection is open, else none.
+    /// How many octets of an upstream may come in one event: 65,536 where its connection is open, else none; none once memory
+    /// was refused.
     pub fn room(&self, k: u32) -> usize
-        ensures { (log : List Step) (tape : List Entry) → Stands self.now log tape → result ≡ room k tape }
+        ensures log { (log : List Step) (tape : List Entry) → Stands self.now log tape → result ≡ room k tape }
+        ensures dead { self.now.dead ≡ true → result ≡ 0 }
     {
+        if self.dead {
+            return 0;
+        }
         if self.connection.is_up(k) { 65536 } else { 0 }
     }
 
     /// Takes an event that may come, and puts out at the end of `out` all that it causes. A refused step puts out nothing,
     /// and after a refusal for want of memory every step answers `Closed`.
     pub fn step(&mut self, event: &Event, out: &mut Vec<Output>) -> Result<(), Fault>
-        requires { is_admitted self.old.kept.state (event_of event.now) ≡ true }
+        requires { self.old.dead ≡ false → is_admitted self.old.kept.state (event_of event.now) ≡ true }
         // For whatever log and tape the gateway stood, it stands afterwards for the same with this step behind them.
         ensures stands { OnOk result ((outputs : List Put) × (outputs_of out.new.items ≡ outputs_of out.old.items ++ outputs)
             × ((log : List Step) (tape : List Entry) → Stands self.old log tape → StandsNext self.old self.new log tape (event_of event.now) outputs)) }
@@ -105,9 +111,8 @@ impl Gateway {
         ensures alive { OnOk result (self.new.dead ≡ false) }
         ensures dead { OnErr result (self.new.dead ≡ true) }
         ensures closed { IsErrOf result Fault.Closed ↔ (self.old.dead ≡ true) }
-        ensures held { held self.new ≤ held_bound self.old.kept.state.setup }
-        // What is held beside the responses stays below a part of the bound.
-        ensures outside { held_outside self.new ≤ 200000 }
+        // What is held beside the responses stays below a part of the bound, and that of each response below its part.
+        ensures held { IsHeldWithin self.old.kept.state.setup self.new }
     {
         if self.dead {
             return Err(Fault::Closed);

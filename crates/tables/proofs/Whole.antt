@@ -211,7 +211,7 @@ allowed = (
       (
         (tt, no_neighbours [] refl, record { no_block = refl; no_data = refl }),
         no_neighbours (map offered (Gives (plain settings_frame) ∷ [])) refl,
-        record { opened = refl; caused = record { cause = refl; out = refl; heads = refl }; shared = refl; owns = λ stream a. let clash : false ≡ true = a in cc },
+        record { opened = refl; caused = λ active. record { cause = refl; out = refl; heads = refl }; shared = refl; owns = λ stream a. let clash : false ≡ true = a in cc },
       ),
       no_neighbours (map offered (Hears (plain (frame settings_kind 0 0 [])) no_change ∷ Gives (plain settings_frame) ∷ [])) refl,
       record { no_block = refl; no_data = refl },
@@ -219,7 +219,7 @@ allowed = (
     no_neighbours (map offered greeted) refl,
     record {
       opened = (record { not_kept = refl; unsent = refl; not_given = λ o g. g.is_opened; no_cause = refl }, refl, refl);
-      caused = record { no_cause = refl; now = refl };
+      caused = λ active. record { no_cause = refl; now = refl };
       shared = refl;
       owns = λ stream a. refl;
     },

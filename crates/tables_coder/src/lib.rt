@@ -1,16 +1,14 @@
-//! The calls of a decoder, an encoder and a joiner of header blocks, in the words of the rule of the tables.
+//! The calls of a decoder and an encoder of header blocks, in the words of the rule of the tables. A joiner is seen in the model's
+//! words already.
 #![tactic(auto)]
 
-ghost use Rattle.std.specs.Prelude.{◌≡◌, Bool, true, false, Some, None, IfOk, IfErr, OnOk, OnErr, option_map};
+ghost use Rattle.std.specs.Prelude.{◌≡◌, false, Some, None, IfOk, IfErr, OnOk, OnErr};
 ghost use Rattle.std.specs.List.{All};
-ghost use Rattle.model.specs.Decoding.{Partial};
-ghost use Rattle.model.specs.Frames.{Frame, headers_kind, continuation_kind, ends_headers, content};
 ghost use Rattle.header_blocks.specs.Chosen.{HasShortStrings};
-ghost use Rattle.header_blocks.specs.Joining.{failed};
 ghost use Rattle.tables.specs.State.{limits_and};
-ghost use Rattle.tables.specs.Answers.{IsReadAs, IsUnreadAs, IsWrittenAs, IsJoined, IsJoinedBy};
+ghost use Rattle.tables.specs.Answers.{IsReadAs, IsUnreadAs, IsWrittenAs};
 
-use header_blocks::{DecodeFault, Decoded, Decoder, Encoder, Field, JoinFault, Joiner};
+use header_blocks::{DecodeFault, Decoded, Decoder, Encoder, Field};
 use std::alloc::{AllocError, Global};
 
 #[cfg(test)]
@@ -57,32 +55,4 @@ pub fn note_limits(encoder: &mut Encoder, limits: &[u32])
     for limit in limits {
         encoder.peer_limit(*limit);
     }
-}
-
-/// Takes the fragment of a HEADERS frame on the stream `id`, and answers the block if the frame ends it. A fault says that the frame
-/// may not come here, that the block is too long, or that memory was refused; the joiner keeps it.
-pub fn join_first(
-    joiner: &mut Joiner,
-    id: u32,
-    fragment: &[u8],
-    end: bool,
-) -> Result<Option<Vec<u8>>, JoinFault>
-    ensures goes_on { IfOk result (λ answer. (frame : Frame) → frame.kind ≡ headers_kind → frame.id ≡ id → content frame ≡ fragment.now → ends_headers frame ≡ end → IsJoinedBy None frame joiner.new.begun (option_map (λ octets. octets.items) answer)) }
-    ensures stays { IfErr result (λ fault. joiner.new ≡ failed fault) }
-{
-    joiner.first(id, fragment, end)
-}
-
-/// Takes the fragment of a CONTINUATION frame on the stream `id`, and answers the block if the frame ends it. The faults are those of
-/// `join_first`.
-pub fn join_more(
-    joiner: &mut Joiner,
-    id: u32,
-    fragment: &[u8],
-    end: bool,
-) -> Result<Option<Vec<u8>>, JoinFault>
-    ensures goes_on { IfOk result (λ answer. (partial : Partial) (frame : Frame) → IsJoined joiner.old.begun (Some partial) → frame.kind ≡ continuation_kind → frame.id ≡ id → content frame ≡ fragment.now → ends_headers frame ≡ end → IsJoinedBy (Some partial) frame joiner.new.begun (option_map (λ octets. octets.items) answer)) }
-    ensures stays { IfErr result (λ fault. joiner.new ≡ failed fault) }
-{
-    joiner.more(id, fragment, end)
 }

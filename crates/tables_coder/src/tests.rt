@@ -52,12 +52,3 @@ fn a_status_is_written_behind_due_maxima(rt: HostRuntime) -> Result<(), Fail> {
     assert!(rt; is_same(&block, &[7, 0x20, 0x3e, 0x88]));
     Ok(())
 }
-
-#[test]
-fn fragments_are_joined(rt: HostRuntime) -> Result<(), Fail> {
-    let mut joiner = Joiner::new(rt.alloc());
-    assert!(rt; join_first(&mut joiner, 3, b"ab", false)?.is_none());
-    let block = join_more(&mut joiner, 3, b"c", true)?;
-    assert!(rt; block.is_some_and(|octets| is_same(&octets, b"abc")));
-    Ok(())
-}

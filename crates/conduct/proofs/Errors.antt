@@ -15,7 +15,7 @@ use Rattle.model.specs.Lifetimes.{is_spent}
 use Rattle.model.specs.Courses.{course, fault, new_cause}
 use Rattle.model.specs.ErrorClause.{owed_first, owed_by, owed, controls, is_passing, is_rightly_sent, is_fatal, calls_for_end, must_end, IsFollowed, AreFollowed, ErrorsHold}
 use Rattle.conduct.specs.Turn.{rest_of, queue_after, queue_of, MayCome, MayPass, MayClose, MayStand, Conducted, Holds}
-use Rattle.conduct.proofs.Silences.{no_farewell, did_nothing, control_owes_nothing, later_owed, nothing_besides, no_cause_of_fault}
+use Rattle.model.proofs.OwedSteps.{no_farewell, did_nothing, control_owes_nothing, later_owed, nothing_besides, no_cause_of_fault}
 
 -- the frames of notes
 abbrev pub frames_in : List Noted → List Frame

@@ -33,7 +33,7 @@ use Rattle.conduct.specs.Tidy.{IsSteady, IsTidy, IsRow, AreKept}
 use Rattle.conduct.specs.Quiet.{IsQuiet, IsInOrder, noted_of, coming, heard}
 use Rattle.conduct.proofs.Elsewhere.{kept_same, course_same, none_more, none_less, over_again}
 use Rattle.conduct.proofs.Idle.{no_cause_if}
-use Rattle.conduct.proofs.Silences.{neither, no_reset_for}
+use Rattle.model.proofs.OwedSteps.{neither, no_reset_for}
 use Rattle.conduct.proofs.Seen.{idle_frame, idle_cause}
 use Rattle.conduct.proofs.Turns.{completes_none}
 use Rattle.conduct.proofs.Wanted.{bears}

@@ -19,13 +19,6 @@ use Rattle.conduct.specs.Rows.{fresh, kept_in, slot_of, Row, ids_of, find, with_
 use Rattle.conduct.proofs.Alike.{fault_for_seen}
 use Rattle.conduct.proofs.Rows.{alike_through, alike_itself, slot_alike, over_stays, by_us_after, find_changed, find_none, ids_changed}
 
--- A stream that was opened may not be opened again: so a frame to the client on it is fit.
-pub not_again : (ids : List ℕ) (id : ℕ) → list_any (λ other. other == id) ids ≡ true → may_open ids id ≡ false
-not_again ids id opened = elim (cases_Bool (may_open ids id)) [
-  | inr is ↦ is
-  | inl may ↦ absurd (let no : true ≡ false = sym opened ∙ not_opened ids id may in cc)
-]
-
 -- Rows that stand for the streams will do.
 pub will_do : (rows : List Row) (s : Summary) → StandFor rows s → WillDo (find rows) s
 will_do rows s stand = record {

@@ -27,7 +27,7 @@ use Rattle.conduct.specs.Summary.{Brief, carried_in, Stream as Kept, Summary}
 use Rattle.conduct.specs.Judging.{is_over_in, is_active_in, completed_in, malformed_in, rows_in, fault_for}
 use Rattle.conduct.specs.Owing.{about_in, fault_in, new_cause_in, brief_from, next_brief, owed_first_in, resets_in, reset_behind_in, owes_in, is_given_back_in, is_part_in, is_rightly_sent_in, must_end_in}
 use Rattle.conduct.specs.Rows.{WillDo, with_streams}
-use Rattle.conduct.proofs.Silences.{no_reset_for}
+use Rattle.model.proofs.OwedSteps.{no_reset_for}
 use Rattle.conduct.proofs.Alike.{active_same, when_active, fault_for_seen}
 use Rattle.conduct.proofs.Wanted.{IsWanted, bears, wanted}
 

@@ -1,6 +1,6 @@
 -- A run by the rule with a stream: it is opened, granted octets and sent some; a response ends it before its request, which
 -- calls for its reset; what comes on it behind that is discarded, and nothing is kept of it but that the gateway reset it.
-use Rattle.std.proofs.Common.{◌≡◌, ℕ, true, false, List, [], ◌∷◌, refl, inl, inr}
+use Rattle.std.proofs.Common.{◌≡◌, ℕ, true, false, List, [], ◌∷◌, drop, refl, inl, inr}
 use Rattle.std.specs.Prelude.{codes}
 use Rattle.model.specs.Messages.{Field}
 use Rattle.model.specs.Tables.{total_size}
@@ -14,7 +14,9 @@ use Rattle.model.specs.Tapes.Entry.{Came, Sent}
 use Rattle.model.specs.ErrorClause.{rst_stream, ErrorsHold}
 use Rattle.conduct.specs.Rows.Slot.{Over}
 use Rattle.conduct.specs.Rule.{Move, tape_of, known_of}
-use Rattle.conduct.specs.Book.{Rests, desk_of, AllMoved}
+use Rattle.conduct.specs.Summary.{Summary}
+use Rattle.conduct.specs.Owing.{is_rightly_sent_in}
+use Rattle.conduct.specs.Book.{summary_in, Rests, desk_of, AllMoved}
 use Rattle.conduct.proofs.Knowing.{known_so}
 use Rattle.conduct.proofs.Book.{errors_hold_by_book}
 
@@ -101,6 +103,29 @@ run_moved = (
 row_left : (desk_of setup run).book.rows ≡ record { id = 1; slot = Over true } ∷ []
 unfolding total_size
 row_left = refl
+
+-- ---- what might not be sent in place of the response's head: one without octets, one that is padded, and any while as many octets are
+-- untaken as the high water
+
+-- what is kept before the head
+abbrev before_head : Summary
+before_head = summary_in (desk_of setup (drop 3 run)).book
+
+head_goes : is_rightly_sent_in before_head (frame headers_kind 5 1 (136 ∷ [])) ≡ true
+unfolding total_size
+head_goes = refl
+
+no_empty_head : is_rightly_sent_in before_head (frame headers_kind 5 1 []) ≡ false
+unfolding total_size
+no_empty_head = refl
+
+no_padded_head : is_rightly_sent_in before_head (frame headers_kind 13 1 (0 ∷ 136 ∷ [])) ≡ false
+unfolding total_size
+no_padded_head = refl
+
+no_head_at_high_water : is_rightly_sent_in (record before_head { untaken = 65536 }) (frame headers_kind 5 1 (136 ∷ [])) ≡ false
+unfolding total_size
+no_head_at_high_water = refl
 
 run_rests : Rests (desk_of setup run)
 unfolding total_size

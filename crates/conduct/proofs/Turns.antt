@@ -18,7 +18,7 @@ use Rattle.conduct.specs.Owing.{about_in, next_brief, highest_in, resets_in, res
 use Rattle.conduct.specs.Rows.{WillDo, with_streams}
 use Rattle.conduct.specs.Rule.{Move, queue_behind, IsInTurn, Allowed}
 use Rattle.conduct.specs.Book.{IsFit}
-use Rattle.conduct.proofs.Silences.{neither, no_reset_for}
+use Rattle.model.proofs.OwedSteps.{neither, no_reset_for}
 use Rattle.conduct.proofs.Alike.{when_active}
 use Rattle.conduct.proofs.Seen.{EndsActive, FailsActive, fault_seen, owes_seen, end_seen, rightly_seen}
 

@@ -34,6 +34,7 @@ pub mod RouteLaws
 pub mod FailureLaws
 pub mod DeliveryReadings
 pub mod OpenedLaws
+pub mod OwedSteps
 pub mod OfferLemmas
 pub mod OfferLaws
 mod HeadlineExamples

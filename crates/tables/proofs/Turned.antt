@@ -44,10 +44,6 @@ none_begun : {A : Type 0} (ends : Bool) (block : Partial) → ◌≡◌ {A = Opt
 none_begun true block e = let clash : ◌≡◌ {A = Option Partial} None (Some block) = e in cc
 none_begun false block e = let clash : ◌≡◌ {A = Option Partial} None (Some block) = e in cc
 
-no_whole : (ends : Bool) → ◌≡◌ {A = Option Partial} (if ends then None else None) None
-no_whole true = refl
-no_whole false = refl
-
 -- a CONTINUATION begins no part
 no_part : (frame : Frame) → (frame.kind == continuation_kind) ≡ true → begins_part frame ≡ false
 no_part frame e = ap (λ kind. kind == data_kind || kind == headers_kind) (eqb-true frame.kind continuation_kind e)

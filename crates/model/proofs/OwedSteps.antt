@@ -1,6 +1,6 @@
 -- What calls for nothing: acts, and the frames that are sent beside responses. And what an error of the connection calls for
 -- beside its farewell: nothing.
-use Rattle.std.proofs.Common.{◌≡◌, ℕ, Bool, true, false, not, ◌&&◌, ◌||◌, ◌==◌, nat_lt, if◌then◌else◌, List, [], ◌∷◌, ◌++◌, length, Option, Some, None, refl, ◌∙◌, ap, arith, inl, inr}
+use Rattle.std.proofs.Common.{◌≡◌, ℕ, Bool, true, false, not, ◌&&◌, ◌||◌, ◌==◌, nat_lt, if◌then◌else◌, List, [], ◌∷◌, ◌++◌, length, Option, Some, None, refl, sym, ◌∙◌, ap, arith, inl, inr}
 use Rattle.std.proofs.lemmas.Bool.{or_parts, and_left, and_right, le-ltb}
 use Rattle.std.proofs.lemmas.Bool.Decides.{eqb_tells}
 use Rattle.model.specs.Frames.{Frame, data_kind, headers_kind, continuation_kind, window_update_kind, has_flag, ends_stream, goaway, no_error}
@@ -12,7 +12,9 @@ use Rattle.model.specs.StreamStates.{most_streams}
 use Rattle.model.specs.Errors.{Fault}
 use Rattle.model.specs.Errors.Fault.{Connection}
 use Rattle.model.specs.Known.{Known}
-use Rattle.model.specs.Lifetimes.{opened, highest, ends_by, is_ended_by_client}
+use Rattle.std.specs.List.{list_any}
+use Rattle.model.proofs.OpenedLaws.{not_opened}
+use Rattle.model.specs.Lifetimes.{may_open, opened, highest, ends_by, is_ended_by_client}
 use Rattle.model.specs.Causes.{Cause}
 use Rattle.model.specs.Courses.{Course, course, about, fault, new_cause, first_of_both}
 use Rattle.model.specs.ErrorClause.{last_farewell, acks, reset_for, resets, reset_behind, rst_stream, owed_by, is_passing}
@@ -110,3 +112,13 @@ no_cause_of_fault known stream t noted c found = cases (noted.frame.id == stream
     cases : (b : Bool) → (if b then nothing else nothing) ≡ nothing
     cases true = refl
     cases false = refl
+
+-- ---- streams
+
+-- a stream that was opened may not be opened again
+pub not_again : (ids : List ℕ) (id : ℕ) → list_any (λ other. other == id) ids ≡ true → may_open ids id ≡ false
+not_again ids id opened = cases (may_open ids id) refl
+  where
+    cases : (b : Bool) → may_open ids id ≡ b → may_open ids id ≡ false
+    cases false is = is
+    cases true may = absurd (let no : true ≡ false = sym opened ∙ not_opened ids id may in cc)

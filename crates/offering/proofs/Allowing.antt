@@ -1,9 +1,8 @@
 -- Runs that the rule by states alone allows are runs that are allowed by the tape: so they keep the clauses.
-use Rattle.std.proofs.Common.{◌≡◌, ℕ, suc, ◌<◌, ◌≤◌, Bool, true, false, not, ◌==◌, List, [], ◌∷◌, ◌++◌, length, map, refl, sym, ap, ◌∙◌, subst, inl, inr, arith, if◌then◌else◌}
-use Rattle.std.specs.Prelude.{Option, Some, None, is_some}
-use Rattle.model.specs.Messages.{Item}
+use Rattle.std.proofs.Common.{◌≡◌, ℕ, suc, ◌<◌, true, false, List, [], ◌∷◌, length, refl, sym, ap, ◌∙◌, subst, inl, inr, arith, if◌then◌else◌}
+use Rattle.std.specs.Prelude.{None, is_some}
 use Rattle.model.specs.Frames.{ends_headers}
-use Rattle.model.specs.Logs.{Event, Act}
+use Rattle.model.specs.Logs.{Event}
 use Rattle.model.specs.Logs.Act.{Open, ToUp, Close, CloseClient}
 use Rattle.model.specs.Tapes.{Noted, Entry, sent}
 use Rattle.model.specs.Tapes.Entry.{Came, Breached, Happened, Sent, Did}
@@ -13,15 +12,13 @@ use Rattle.model.specs.Openings.{Opened, opens, last_stream, IsGivenNone, AreNum
 use Rattle.model.specs.Available.{heard, has_ended, items_on, IsIn}
 use Rattle.model.specs.Known.{Known}
 use Rattle.model.specs.Lifetimes.{is_opened, is_active}
-use Rattle.model.specs.Courses.{course, items, upstream_of}
-use Rattle.model.specs.Offers.{IsGiven}
+use Rattle.model.specs.Courses.{items, upstream_of}
 use Rattle.model.proofs.DeliveryReadings.{number_within}
-use Rattle.offering.specs.Outbox.{Part}
-use Rattle.offering.specs.State.{State, Move, start, find, entry_of, after, state_of}
+use Rattle.offering.specs.State.{State, Move, start, entry_of, after, state_of}
 use Rattle.offering.specs.State.Move.{Takes, Breaks, Notes, Hears, Fails, Goes, Sends, Acts}
-use Rattle.offering.specs.Policy.{Neighbours, MayTake, MayOpen, Holds, AreAllowed, IsFlushed, KeepClauses}
+use Rattle.offering.specs.Policy.{MayTake, MayOpen, Holds, AreAllowed, IsFlushed, KeepClauses}
 use Rattle.offering.specs.Sight.{Sight, first_sight, IsRightOf}
-use Rattle.offering.specs.Rule.{IsEventOf, OpensNext, completed_by, BringsOne, BringsNothing, MayAct, MayCome, Seen, moves_of, tape_of, sight_of, AllMayCome, AreRight, IsTold, AreTold}
+use Rattle.offering.specs.Rule.{OpensNext, completed_by, MayCome, Seen, moves_of, tape_of, sight_of, AllMayCome, AreRight, IsTold, AreTold}
 use Rattle.offering.proofs.Entries.{heard_same, ended_same}
 use Rattle.offering.proofs.Living.{brought_other, brought_none, none_brought}
 use Rattle.offering.proofs.Offering.{Offering}

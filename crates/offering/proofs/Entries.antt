@@ -272,10 +272,3 @@ none_elsewhere known stream t event o numbered is_in k other =
     let about_is : about t (Happened event) ≡ o.stream = ap (λ n. given n (opens t)) (sym k) ∙ given_is (opens t) o numbered is_in in
     ap (λ n. if n == stream && nat_lt 0 stream then cause_if (fails_behind known t) BadAnswer else None) about_is
     ∙ ap (λ b. if b && nat_lt 0 stream then cause_if (fails_behind known t) BadAnswer else None) (ne_eqb o.stream stream other)
-
--- the events that are of an upstream's answer
-abbrev pub is_answer : Event → Bool
-is_answer (Up k piece) = true
-is_answer (UpEnd k) = true
-is_answer (UpFailed k) = true
-is_answer _ = false

@@ -20,7 +20,10 @@ use Rattle.offering.specs.Outbox.Outbox.{Behind}
 use Rattle.offering.specs.Outbox.Part.{Final}
 use Rattle.offering.specs.State.{Kept, State, Change, Move, ready, entry_of, state_of}
 use Rattle.offering.specs.State.Move.{Takes, Goes, Sends}
+use Rattle.conduct.specs.Summary.{summary_of}
 use Rattle.offering.specs.Policy.{Neighbours, AreAllowed, IsFlushed, KeepClauses}
+use Rattle.offering.specs.Sight.{sight_in}
+use Rattle.offering.specs.Rule.{Seen, AllMayCome}
 use Rattle.offering.proofs.Flushing.{clauses_hold}
 
 -- ---- who is ready
@@ -153,3 +156,15 @@ all_flushed = record { none_cut = λ stream kept found. let clash : ◌≡◌ {A
 -- The clauses hold behind it.
 pub not_found_holds : KeepClauses elsewhere (map entry_of answered)
 not_found_holds = clauses_hold elsewhere answered all_allowed (no_neighbours (map entry_of answered) refl) all_flushed
+
+-- ---- the same by states alone
+
+-- a run with what the summary of its tape tells
+abbrev pub seen : List Move → List Seen
+seen [] = []
+seen (m ∷ ms) = record { move = m; sight = sight_in (summary_of elsewhere (map entry_of (m ∷ ms))) } ∷ seen ms
+
+-- Its moves may come by the rule by states.
+may_come : AllMayCome (seen answered)
+unfolding total_size
+may_come = (((((tt, record { no_block = refl; no_data = refl }), (refl, refl)), record { no_block = refl; no_data = refl }), (refl, refl)), (all_allowed.2.0, record { active = refl; brings = refl }))

@@ -1,6 +1,6 @@
 -- Which streams are active behind an entry, and what it leaves of the sending windows.
-use Rattle.std.proofs.Common.{◌≡◌, ℕ, ◌+◌, Bool, true, false, not, ◌==◌, ◌&&◌, ◌||◌, List, [], ◌∷◌, ◌++◌, length, refl, sym, ap, ◌∙◌, arith, if◌then◌else◌, ℤ, pos, ◌-ℤ◌, ◌+ℤ◌}
-use Rattle.std.specs.Prelude.{Option, None, is_none}
+use Rattle.std.proofs.Common.{◌≡◌, ℕ, ◌+◌, Bool, true, false, not, ◌==◌, ◌&&◌, ◌||◌, List, [], ◌∷◌, ◌++◌, length, refl, sym, ap, ◌∙◌, arith, if◌then◌else◌, ℤ, pos, ◌-ℤ◌}
+use Rattle.std.specs.Prelude.{Option, None}
 use Rattle.std.specs.List.{list_any}
 use Rattle.std.proofs.lemmas.Int.{ints}
 use Rattle.std.proofs.lemmas.List.{append-nil}
@@ -8,16 +8,16 @@ use Rattle.std.proofs.lemmas.Bool.{and_parts, and_from, and_right, eq-eqb, ne_eq
 use Rattle.std.proofs.Math.Bool.{and-true}
 use Rattle.model.specs.Messages.{Item}
 use Rattle.model.specs.Messages.Item.{Content}
-use Rattle.model.specs.Frames.{content, data_kind, window_update_kind, rst_stream_kind, ends_stream}
+use Rattle.model.specs.Frames.{content, data_kind, rst_stream_kind, ends_stream}
 use Rattle.model.specs.Tapes.{Noted, Entry, came, sent}
 use Rattle.model.specs.Tapes.Entry.{Came, Sent}
 use Rattle.model.specs.Decoding.{Partial, completed}
 use Rattle.model.specs.Streams.{frame_items}
 use Rattle.model.specs.Available.{items_on}
-use Rattle.model.specs.FrameErrors.{frame_fault, sound}
+use Rattle.model.specs.FrameErrors.{sound}
 use Rattle.model.specs.Lifetimes.{opened, opens_by, is_opened, is_over, is_active, ends_by, is_ended_by_client, is_ended_by_gateway, is_reset_by_client, is_reset_by_gateway}
-use Rattle.model.specs.Windows.{first_window, sending_window, size_difference}
-use Rattle.model.specs.WindowsOnTape.{is_on, is_any, data_length, data_octets, increment, increments, first_size, stream_window, connection_window}
+use Rattle.model.specs.Windows.{first_window, sending_window}
+use Rattle.model.specs.WindowsOnTape.{is_on, is_any, data_length, data_octets, increments, first_size, stream_window, connection_window}
 
 -- ---- active streams
 
@@ -142,33 +142,3 @@ own_control t noted stream no_data =
 pub shared_control : (t : List Entry) (noted : Noted) → (noted.frame.kind == data_kind) ≡ false → connection_window (Sent noted ∷ t) ≡ connection_window t
 shared_control t noted no_data =
     shared_sent t noted ∙ ap (λ b. connection_window t -ℤ pos (if b && is_any noted.frame.id then length noted.frame.payload else 0)) no_data ∙ sym (none_less (connection_window t))
-
--- ---- the sending windows behind a frame of the client
-
--- what it grants a stream, or the connection by the id 0
-abbrev pub grant : ℕ → List Entry → Noted → ℕ
-grant id t noted =
-    if is_none (frame_fault t (Came noted)) then (if noted.frame.kind == window_update_kind && noted.frame.id == id then increment noted.frame else 0) else 0
-
-granted_more : (id : ℕ) (t : List Entry) (noted : Noted) → increments id (sound (Came noted ∷ t)) ≡ increments id (sound t) + grant id t noted
-granted_more id t noted = by (is_none (frame_fault t (Came noted)))
-  where
-    by : (b : Bool) → increments id (if b then noted ∷ sound t else sound t) ≡ increments id (sound t) + (if b then (if noted.frame.kind == window_update_kind && noted.frame.id == id then increment noted.frame else 0) else 0)
-    by true = refl
-    by false = omega arith
-
--- A stream's window grows by what is granted, and by what a new first size adds.
-pub own_came : (t : List Entry) (noted : Noted) (stream : ℕ) → stream_window stream (Came noted ∷ t) ≡ (stream_window stream t +ℤ pos (grant stream t noted)) +ℤ size_difference (first_size t) (first_size (Came noted ∷ t))
-own_came t noted stream =
-    let more = granted_more stream t noted in
-    ap (λ n. sending_window (first_size (Came noted ∷ t)) n (data_octets (is_on stream) (sent t))) more
-    ∙ sum (first_size t) (first_size (Came noted ∷ t)) (increments stream (sound t)) (grant stream t noted) (data_octets (is_on stream) (sent t))
-  where
-    sum : (old new granted more sent : ℕ) → sending_window new (granted + more) sent ≡ (sending_window old granted sent +ℤ pos more) +ℤ size_difference old new
-    sum old new granted more sent = omega (arith, ints)
-
-pub shared_came : (t : List Entry) (noted : Noted) → connection_window (Came noted ∷ t) ≡ connection_window t +ℤ pos (grant 0 t noted)
-shared_came t noted = ap (λ n. sending_window first_window n (data_octets is_any (sent t))) (granted_more 0 t noted) ∙ sum first_window (increments 0 (sound t)) (grant 0 t noted) (data_octets is_any (sent t))
-  where
-    sum : (first granted more sent : ℕ) → sending_window first (granted + more) sent ≡ sending_window first granted sent +ℤ pos more
-    sum first granted more sent = omega (arith, ints)

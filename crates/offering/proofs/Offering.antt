@@ -1,20 +1,18 @@
 -- The invariant of all streams and their outboxes, and that each move that is allowed keeps it.
-use Rattle.std.proofs.Common.{◌≡◌, ℕ, ◌+◌, ◌-◌, Bool, true, false, not, ◌==◌, ◌&&◌, List, [], ◌∷◌, length, refl, sym, ap, ◌∙◌, subst, inl, inr, arith, if◌then◌else◌}
+use Rattle.std.proofs.Common.{◌≡◌, ℕ, ◌+◌, ◌-◌, Bool, true, false, not, ◌==◌, ◌&&◌, List, [], ◌∷◌, length, refl, sym, ap, ◌∙◌, subst, inl, inr, if◌then◌else◌}
 use Rattle.std.specs.Prelude.{Option, Some, None, is_some, option_map}
 use Rattle.std.specs.List.{list_any}
 use Rattle.std.proofs.lemmas.Bool.{eq-eqb, not-true, and_parts}
 use Rattle.std.proofs.lemmas.Bool.Decides.{eqb_tells}
-use Rattle.model.specs.Messages.Item.{Content}
-use Rattle.model.specs.Frames.{spell, data_kind, rst_stream_kind, ends_stream, content}
+use Rattle.model.specs.Frames.{spell, data_kind, rst_stream_kind}
 use Rattle.model.specs.Logs.{Event}
 use Rattle.model.specs.Logs.Event.{Client, ClientEnd, ClientTook, Up, UpEnd, UpFailed, UpTook}
 use Rattle.model.specs.Tapes.{Noted, Breach, Entry, sent}
 use Rattle.model.specs.Tapes.Entry.{Breached, Happened, Sent}
-use Rattle.model.specs.Decoding.{Partial, completed}
-use Rattle.model.specs.Streams.{frame_items}
+use Rattle.model.specs.Decoding.{completed}
 use Rattle.model.specs.Admission.{untaken}
-use Rattle.model.specs.Openings.{Opened, opens, AreNumbered}
-use Rattle.model.specs.Available.{items_on, IsIn}
+use Rattle.model.specs.Openings.{opens}
+use Rattle.model.specs.Available.{items_on}
 use Rattle.model.specs.Known.{Known}
 use Rattle.model.specs.Causes.{Cause}
 use Rattle.model.specs.Lifetimes.{is_active}

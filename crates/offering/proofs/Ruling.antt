@@ -1,29 +1,26 @@
 -- The rule by states alone leads to the one by the tape, where what is read is right and what is told is news.
-use Rattle.std.proofs.Common.{◌≡◌, ℕ, zero, suc, ◌+◌, ◌<◌, ◌≤◌, Bool, true, false, not, ◌==◌, ◌&&◌, ◌||◌, List, [], ◌∷◌, ◌++◌, length, map, refl, sym, ap, ◌∙◌, subst, inl, inr, arith, if◌then◌else◌}
+use Rattle.std.proofs.Common.{◌≡◌, ℕ, zero, suc, ◌<◌, Bool, true, false, not, ◌==◌, ◌&&◌, ◌||◌, List, [], ◌∷◌, ◌++◌, length, refl, sym, ap, ◌∙◌, subst, arith, if◌then◌else◌}
 use Rattle.std.specs.Prelude.{Option, Some, None, is_some}
 use Rattle.std.specs.List.{list_any}
-use Rattle.std.proofs.lemmas.Bool.{and_parts, and_from, ne_eqb}
+use Rattle.std.proofs.lemmas.Bool.{and_parts, and_from}
 use Rattle.model.specs.Messages.{Item}
-use Rattle.model.specs.Frames.{ends_headers}
-use Rattle.model.specs.Logs.{Event, Act}
-use Rattle.model.specs.Logs.Event.{Client, ClientEnd, ClientTook, Up, UpEnd, UpFailed, UpTook}
-use Rattle.model.specs.Logs.Act.{Open, ToUp, Close, CloseClient}
+use Rattle.model.specs.Logs.{Event}
+use Rattle.model.specs.Logs.Event.{ClientTook}
 use Rattle.model.specs.Tapes.{Noted, Entry, came, sent}
-use Rattle.model.specs.Tapes.Entry.{Came, Breached, Happened, Sent, Did}
-use Rattle.model.specs.Decoding.{begun, joined, completed}
-use Rattle.model.specs.Streams.{frame_items, items_of}
-use Rattle.model.specs.Openings.{Opened, opens, last_stream, IsGivenNone, AreNumbered, AreApart}
+use Rattle.model.specs.Tapes.Entry.{Came, Happened}
+use Rattle.model.specs.Decoding.{completed}
+use Rattle.model.specs.Streams.{items_of}
+use Rattle.model.specs.Openings.{Opened, opens}
 use Rattle.model.specs.Available.{heard, has_ended, items_on, IsIn}
 use Rattle.model.specs.Known.{Known, fails_behind}
 use Rattle.model.specs.Causes.{Cause}
 use Rattle.model.specs.Causes.Cause.{BadAnswer}
 use Rattle.model.specs.ErrorTable.{fault_with}
-use Rattle.model.specs.Lifetimes.{opened, opens_by, is_opened, is_over, is_active, ends_by, is_ended_by_client, is_ended_by_gateway, is_reset_by_client, is_reset_by_gateway}
+use Rattle.model.specs.Lifetimes.{opened, opens_by, is_opened, is_over, is_active, is_ended_by_client, is_ended_by_gateway, is_reset_by_client, is_reset_by_gateway}
 use Rattle.model.specs.Courses.{course, carried, items, cause_of, interrupts, upstream_of, first_of_both}
 use Rattle.model.specs.Offers.{IsGiven}
 use Rattle.model.proofs.OpenedLaws.{opens_own, opens_new, none_zero}
-use Rattle.offering.specs.State.{State, find, entry_of, after}
-use Rattle.offering.specs.State.Move.{Takes, Breaks, Notes, Hears, Fails, Goes, Sends, Acts}
+use Rattle.offering.specs.State.{State, find}
 use Rattle.offering.specs.Policy.{Neighbours, IsOf, IsNew, IsCaused, LeavesCause, IsOpened, MayTake}
 use Rattle.offering.specs.Sight.{Sight, IsRightOf}
 use Rattle.offering.specs.Rule.{found_by, change_by, IsEventOf}

@@ -1,19 +1,18 @@
 -- What is read of a summary is right of its tape, and so is what is read of a book, as long as the connection goes on.
-use Rattle.std.proofs.Common.{◌≡◌, ℕ, Bool, true, false, not, ◌&&◌, ◌==◌, List, [], refl, sym, ap, ◌∙◌, subst}
-use Rattle.std.specs.List.{list_any}
+use Rattle.std.proofs.Common.{◌≡◌, ℕ, Bool, true, false, not, ◌&&◌, List, [], refl, sym, ap, ◌∙◌, subst}
 use Rattle.std.proofs.lemmas.Bool.{and_parts, not-true}
 use Rattle.model.specs.Messages.{Item}
 use Rattle.model.specs.Malformed.{is_begun}
 use Rattle.model.specs.Tapes.{Entry}
 use Rattle.model.specs.Known.{Known}
-use Rattle.model.specs.Lifetimes.{may_open, opened, is_opened, is_over, is_active}
+use Rattle.model.specs.Lifetimes.{may_open, is_opened, is_over, is_active}
 use Rattle.model.specs.WindowsOnTape.{first_size}
 use Rattle.conduct.specs.Summary.{Stream as Kept, Summary, stream_of, summary_of}
 use Rattle.conduct.specs.Judging.{is_over_in, window_in}
 use Rattle.conduct.specs.Rows.{fresh, Row, find, with_streams, StandFor}
 use Rattle.conduct.specs.Rule.{Move, Point, tape_of, point_of, AreKnown}
-use Rattle.conduct.specs.Book.{Book, summary_in, desk_of, AllMoved}
-use Rattle.conduct.proofs.Rule.{point_on, point_same}
+use Rattle.conduct.specs.Book.{summary_in, desk_of, AllMoved}
+use Rattle.conduct.proofs.Rule.{point_same}
 use Rattle.conduct.proofs.RowsKept.{will_do}
 use Rattle.conduct.proofs.Book.{IsTold, has_kept}
 use Rattle.offering.specs.Sight.{IsRightOf, sight_in}

@@ -16,7 +16,6 @@ use Rattle.model.specs.Causes.{Cause}
 use Rattle.model.specs.Causes.Cause.{BadAnswer}
 use Rattle.model.specs.Courses.{items, upstream_of}
 use Rattle.model.specs.Offers.{is_to_head, IsGiven}
-use Rattle.offering.specs.Outbox.{Part}
 use Rattle.offering.specs.Shown.{Tells}
 use Rattle.offering.specs.State.{State, Change, Move, entry_of, state_of}
 use Rattle.offering.specs.State.Move.{Takes, Breaks, Notes, Hears, Fails, Goes, Sends, Acts}

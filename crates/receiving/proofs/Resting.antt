@@ -10,7 +10,7 @@ use Rattle.model.specs.Setup.Passing.{Whole, Streaming}
 use Rattle.model.specs.Tapes.{Noted, Entry, came, sent, sent_up}
 use Rattle.model.specs.Tapes.Entry.{Sent}
 use Rattle.model.specs.Known.{Known}
-use Rattle.model.specs.Openings.{connection_of, route_of, exchange_for, opens}
+use Rattle.model.specs.Openings.{connection_of, route_of, opens}
 use Rattle.model.specs.Windows.{first_window, sending_window}
 use Rattle.model.specs.Lifetimes.{is_active}
 use Rattle.model.specs.WindowsOnTape.{is_on, is_any, data_octets, increments, room_on, room_on_connection}

@@ -1,7 +1,7 @@
 -- Runs that the rule by states alone allows are runs that are allowed by the tape: so windows go back.
-use Rattle.std.proofs.Common.{◌≡◌, ℕ, Bool, true, false, not, ◌==◌, ◌&&◌, ◌||◌, List, [], ◌∷◌, ◌++◌, refl, sym, ap, ◌∙◌, subst, if◌then◌else◌}
+use Rattle.std.proofs.Common.{◌≡◌, ℕ, Bool, true, false, not, ◌==◌, ◌&&◌, ◌||◌, List, [], ◌∷◌, ◌++◌, refl, sym, ap, ◌∙◌, if◌then◌else◌}
 use Rattle.std.specs.List.{list_any}
-use Rattle.std.proofs.lemmas.Bool.{and_parts, and_right, eq-eqb}
+use Rattle.std.proofs.lemmas.Bool.{and_right, eq-eqb}
 use Rattle.model.specs.Tapes.{Noted, Entry, came}
 use Rattle.model.specs.Tapes.Entry.{Came, Sent}
 use Rattle.model.specs.Setup.{Passing}
@@ -10,7 +10,7 @@ use Rattle.model.specs.Known.{Known}
 use Rattle.model.specs.Lifetimes.{opened, opens_by, is_opened, is_active}
 use Rattle.model.specs.WindowClause.{GivesBack}
 use Rattle.model.proofs.OpenedLaws.{opens_own, opens_new}
-use Rattle.offering.specs.Sight.{Sight, first_sight, IsRightOf}
+use Rattle.offering.specs.Sight.{Sight, IsRightOf}
 use Rattle.offering.proofs.Living.{active_sent}
 use Rattle.offering.proofs.Ruling.{opened_by_it}
 use Rattle.offering.proofs.Allowing.{first_right}

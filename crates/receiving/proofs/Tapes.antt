@@ -1,16 +1,15 @@
 -- What an entry leaves of the active streams, and of the octets that wait.
 use Rattle.std.proofs.Common.{◌≡◌, ℕ, ◌+◌, Bool, true, false, not, ◌&&◌, ◌||◌, ◌==◌, List, [], ◌∷◌, ◌++◌, length, refl, sym, ap, ◌∙◌, arith, length-append, if◌then◌else◌, inl, inr}
 use Rattle.std.specs.Prelude.{Option, Some, None, filter, nat_lt}
-use Rattle.std.proofs.lemmas.Bool.{and_right, eq-eqb, ne_eqb, le-ltb}
+use Rattle.std.proofs.lemmas.Bool.{and_right, eq-eqb, le-ltb}
 use Rattle.std.proofs.Math.Bool.{and-true}
 use Rattle.std.proofs.lemmas.Bool.Decides.{eqb_tells}
 use Rattle.model.specs.Frames.{Frame, data_kind, headers_kind, continuation_kind, window_update_kind, ends_headers, ends_stream, content, rst_stream_kind}
 use Rattle.model.specs.Logs.Act.{Open, ToUp, Close, CloseClient}
-use Rattle.model.specs.Tapes.{Note, Noted, Entry, came, sent, sent_up}
-use Rattle.model.specs.Tapes.Note.{NoBlock, Fields, Undecodable, Unread}
+use Rattle.model.specs.Tapes.{Noted, Entry, came, sent, sent_up}
 use Rattle.model.specs.Tapes.Entry.{Came, Breached, Happened, Sent, Did}
 use Rattle.model.specs.Decoding.{Partial, begun, joined, completed}
-use Rattle.model.specs.Lifetimes.{may_open, opens_by, opened, is_opened, is_over, is_active, active}
+use Rattle.model.specs.Lifetimes.{opens_by, opened, is_over, is_active, active}
 use Rattle.model.specs.WindowsOnTape.{is_on, is_any, data_length}
 use Rattle.model.specs.WindowClause.{waiting}
 use Rattle.model.proofs.OpenedLaws.{opens_new, none_zero}

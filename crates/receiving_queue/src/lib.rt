@@ -1,29 +1,71 @@
 //! The octets of a stream's DATA that wait for its upstream's side, in a queue.
 #![tactic(auto)]
 
-ghost use Rattle.std.specs.Prelude.{◌≡◌, ◌+◌, ◌<◌, ◌≤◌, ◌^◌, ℕ, length, MatchOption, OnOk, OnErr};
+ghost use Rattle.std.specs.Prelude.{◌≡◌, ◌+◌, ◌<◌, ◌^◌, [], length, MatchOption, OnOk, OnErr};
 ghost use Rattle.receiving.specs.Marks.{total, pop, released, push};
 ghost use Rattle.receiving_queue.specs.Waiting.{marks_of};
 
 use std::alloc::{AllocError, Global};
 use std::collections::VecDeque;
+use std::marker::Model;
 
 /// So many octets wait until so many are taken.
 #[derive(Clone, Copy, Debug)]
-pub struct Mark {
+struct Mark {
     /// How many have to be taken.
-    pub mark: u64,
+    mark: u64,
     /// How many wait.
-    pub count: u64,
+    count: u64,
 }
 
-/// Octets wait behind a mark.
-pub fn wait(marks: &mut VecDeque<Mark>, mark: u64, count: u64) -> Result<(), AllocError>
-    ensures added { OnOk result (marks_of marks.new.items ≡ push (marks_of marks.old.items) mark count) }
-    ensures unchanged { OnErr result (marks.new.items ≡ marks.old.items) }
-{
-    marks.push_back(Mark { mark, count })?;
-    Ok(())
+/// The octets of a stream's DATA that wait for its upstream's side. A clause sees their marks, the oldest first; all octets together
+/// are fewer than 2^64.
+#[derive(Drop)]
+pub struct Waiting {
+    marks: VecDeque<Mark>,
+}
+
+impl Model for Waiting {
+    ghost use Rattle.std.specs.Prelude.{List, ◌<◌, ◌^◌};
+    ghost use Rattle.receiving.specs.Marks.{Mark as MarkOfOctets, total};
+    ghost use Rattle.receiving_queue.specs.Waiting.{marks_of};
+
+    ghost Value = { List MarkOfOctets };
+
+    ghost view = { λ waiting. marks_of waiting.marks.items };
+
+    ghost invariant = { λ waiting. total (marks_of waiting.marks.items) < 2 ^ 64 };
+}
+
+impl Waiting {
+    /// Nothing waits.
+    pub fn new(alloc: Global) -> Waiting
+        ensures { result ≡ [] }
+    {
+        Waiting {
+            marks: VecDeque::new(alloc),
+        }
+    }
+
+    /// So many octets more wait until so many are taken. An `Err` says that memory was refused; it changes nothing.
+    #[tactic(auto, using(crate::proofs::Marked::marks_behind, crate::proofs::Marked::total_behind))]
+    pub fn wait(&mut self, mark: u64, count: u64) -> Result<(), AllocError>
+        requires { total self.now + count < 2 ^ 64 }
+        ensures added { OnOk result (self.new ≡ push self.old mark count) }
+        ensures unchanged { OnErr result (self.new ≡ self.old) }
+    {
+        self.marks.push_back(Mark { mark, count })?;
+        Ok(())
+    }
+
+    /// So many are taken: the octets whose marks are reached, which no longer wait. Each mark is dropped once, so that over all
+    /// calls this costs no more than there are marks.
+    pub fn reach(&mut self, taken: u64) -> u64
+        ensures released { result ≡ released taken self.old }
+        ensures left { self.new ≡ pop taken self.old }
+    {
+        drop_all(&mut self.marks, taken)
+    }
 }
 
 // The first of them, if its mark is reached.
@@ -41,12 +83,12 @@ fn drop_reached(marks: &mut VecDeque<Mark>, taken: u64) -> Option<u64>
     Some(mark.count)
 }
 
-/// So many are taken: the octets whose marks are reached, which no longer wait. Each mark is dropped once, so that over all
-/// calls this costs no more than there are marks.
-pub fn reach(marks: &mut VecDeque<Mark>, taken: u64) -> u64
+// All of them whose marks are reached.
+fn drop_all(marks: &mut VecDeque<Mark>, taken: u64) -> u64
     requires { total (marks_of marks.now.items) < 2 ^ 64 }
     ensures released { result ≡ released taken (marks_of marks.old.items) }
     ensures left { marks_of marks.new.items ≡ pop taken (marks_of marks.old.items) }
+    ensures all { result + total (marks_of marks.new.items) ≡ total (marks_of marks.old.items) }
 {
     let mut sum: u64 = 0;
     while let Some(count) = drop_reached(marks, taken) {
@@ -62,16 +104,15 @@ mod tests {
 
     #[test]
     fn marks_are_reached_in_turn(rt: HostRuntime) -> Result<(), Fail> {
-        let mut marks = VecDeque::new(rt.alloc());
-        wait(&mut marks, 10, 4)?;
-        wait(&mut marks, 10, 2)?;
-        wait(&mut marks, 25, 9)?;
-        assert_eq!(rt; reach(&mut marks, 9), 0);
-        assert_eq!(rt; reach(&mut marks, 10), 6);
-        assert_eq!(rt; reach(&mut marks, 24), 0);
-        assert_eq!(rt; marks.len(), 1);
-        assert_eq!(rt; reach(&mut marks, 40), 9);
-        assert_eq!(rt; reach(&mut marks, 50), 0);
+        let mut waiting = Waiting::new(rt.alloc());
+        waiting.wait(10, 4)?;
+        waiting.wait(10, 2)?;
+        waiting.wait(25, 9)?;
+        assert_eq!(rt; waiting.reach(9), 0);
+        assert_eq!(rt; waiting.reach(10), 6);
+        assert_eq!(rt; waiting.reach(24), 0);
+        assert_eq!(rt; waiting.reach(40), 9);
+        assert_eq!(rt; waiting.reach(50), 0);
         Ok(())
     }
 }

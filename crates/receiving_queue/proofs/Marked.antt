@@ -1,0 +1,13 @@
+-- The marks of a queue with one more.
+use Rattle.std.proofs.Common.{◌≡◌, ◌+◌, List, [], ◌∷◌, ◌++◌, map, refl, ap, ◌∙◌}
+use Rattle.receiving.specs.Marks.{Mark, total}
+use Rattle.receiving.proofs.Queues.{pushed_total}
+use Rattle.receiving_queue.specs.declared.Mark.{Mark as Kept}
+use Rattle.receiving_queue.specs.Waiting.{marks_of}
+
+pub marks_behind : (kept : List Kept) (last : Kept) → marks_of (kept ++ last ∷ []) ≡ marks_of kept ++ record { mark = last.mark; count = last.count } ∷ []
+marks_behind [] last = refl
+marks_behind (first ∷ kept) last = ap (λ ms. record { mark = first.mark; count = first.count } ∷ ms) (marks_behind kept last)
+
+pub total_behind : (kept : List Kept) (last : Kept) → total (marks_of (kept ++ last ∷ [])) ≡ total (marks_of kept) + last.count
+total_behind kept last = ap total (marks_behind kept last) ∙ pushed_total last.mark last.count (marks_of kept)

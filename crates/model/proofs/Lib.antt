@@ -33,6 +33,8 @@ pub mod RouteLaws
 pub mod FailureLaws
 pub mod DeliveryReadings
 pub mod OfferLemmas
+pub mod LifeLaws
+pub mod ItemLaws
 mod HeadlineExamples
 mod AnswerTexts
 mod AnswerExamples

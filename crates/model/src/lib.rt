@@ -9,3 +9,4 @@ pub mod http1;
 pub mod http2;
 pub mod layers;
 pub mod responses;
+pub mod streams;

@@ -37,6 +37,8 @@ pub mod OpenedLaws
 pub mod OwedSteps
 pub mod OfferLemmas
 pub mod OfferLaws
+pub mod LifeLaws
+pub mod ItemLaws
 mod HeadlineExamples
 mod AnswerTexts
 mod AnswerExamples

@@ -9,4 +9,8 @@ pub mod http1;
 pub mod http2;
 pub mod layers;
 pub mod responses;
+<<<<<<< HEAD
 pub mod steps;
+=======
+pub mod streams;
+>>>>>>> serving

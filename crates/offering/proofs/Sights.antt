@@ -14,7 +14,8 @@ use Rattle.conduct.specs.Rule.{Move, Point, tape_of, point_of, AreKnown}
 use Rattle.conduct.specs.Book.{summary_in, desk_of, AllMoved}
 use Rattle.conduct.proofs.Rule.{point_same}
 use Rattle.conduct.proofs.RowsKept.{will_do}
-use Rattle.conduct.proofs.Book.{IsTold, has_kept}
+use Rattle.conduct.proofs.Book.{has_kept}
+use Rattle.conduct.specs.Told.{IsTold}
 use Rattle.offering.specs.Sight.{IsRightOf, sight_in}
 
 -- items that begin with one aren't none

@@ -21,7 +21,7 @@ use Rattle.model.specs.Causes.Cause.{LargeFields}
 use Rattle.model.specs.ErrorTable.{is_bad_block, is_malformed, fault_with}
 use Rattle.model.specs.Courses.{course, carried, items, cause, cause_of, cause_of_block, cause_of_frame, cause_at, first_of_both, interrupts}
 use Rattle.serving.specs.Meaning.{Brings}
-use Rattle.serving.proofs.Courses.{is_interrupted}
+use Rattle.model.proofs.ItemLaws.{is_interrupted}
 use Rattle.serving.proofs.Fitting.{not_malformed, no_cause}
 
 -- The item is as it has to be behind what the stream carried: no fault, and no cause.

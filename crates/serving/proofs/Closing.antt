@@ -24,7 +24,7 @@ use Rattle.serving.specs.State.Due.{Nothing}
 use Rattle.serving.specs.State.Move.{Fails, Acts}
 use Rattle.serving.specs.Rule.{is_done, IsKept, MayCome, MayClose, MayShut}
 use Rattle.serving.specs.Meaning.{Verdict}
-use Rattle.serving.proofs.Courses.{items_stay}
+use Rattle.model.proofs.ItemLaws.{items_stay}
 use Rattle.serving.proofs.Lists.{find_map, find_gone, find_other}
 use Rattle.serving.proofs.Standing.{IsLive, Lives, IsOnWay, Given, Stands, way_stays}
 use Rattle.serving.proofs.Passing.{Passing, lives_found, reason_on, text_same}

@@ -18,7 +18,7 @@ use Rattle.serving.specs.State.{State, tape_of}
 use Rattle.serving.specs.State.Due.{Nothing}
 use Rattle.serving.specs.Rule.{is_done, MayCome, IsServing, AreAllowed}
 use Rattle.serving.specs.Meaning.{AreSo, KeepClauses}
-use Rattle.serving.proofs.Courses.{items_stay}
+use Rattle.model.proofs.ItemLaws.{items_stay}
 use Rattle.serving.proofs.Telling.{told_by}
 use Rattle.serving.proofs.Writing.{ends_behind}
 use Rattle.serving.proofs.Clauses.{clauses_hold}

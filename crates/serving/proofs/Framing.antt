@@ -1,27 +1,24 @@
 -- Entries that leave every connection as it is: frames that add no item, frames that are sent, breaches, and events of no upstream.
-use Rattle.std.proofs.Common.{◌≡◌, ℕ, suc, ◌≤◌, Bool, true, false, not, ◌==◌, ◌||◌, List, [], ◌∷◌, length, refl, sym, ap, ◌∙◌, subst, inl, inr, if◌then◌else◌, arith}
-use Rattle.std.specs.Prelude.{Some, filter}
-use Rattle.std.proofs.lemmas.Bool.{cases_Bool, and_parts, and_from, eqb-true, eq-eqb}
+use Rattle.std.proofs.Common.{◌≡◌, ℕ, suc, ◌≤◌, Bool, true, false, ◌==◌, List, [], ◌∷◌, length, refl, sym, ap, ◌∙◌, subst, inl, inr, if◌then◌else◌, arith}
+use Rattle.std.specs.Prelude.{Some}
 use Rattle.std.proofs.lemmas.Bool.Decides.{eqb_tells}
 use Rattle.model.specs.Logs.{Event}
 use Rattle.model.specs.Logs.Event.{Client, ClientEnd, ClientTook, Up, UpEnd, UpFailed, UpTook}
 use Rattle.model.specs.Tapes.{Noted, Breach, Entry, is_closed}
 use Rattle.model.specs.Tapes.Entry.{Came, Breached, Happened, Sent, Did}
-use Rattle.model.specs.StreamStates.{most_streams}
 use Rattle.model.specs.Openings.{Opened, opens, AreNumbered}
 use Rattle.model.specs.Admission.{is_open}
 use Rattle.model.specs.Available.{IsIn}
 use Rattle.model.specs.Known.{Known}
-use Rattle.model.specs.Lifetimes.{opened, active, is_over, is_spent}
 use Rattle.model.specs.Courses.{items, upstream_of}
-use Rattle.model.specs.ErrorClause.{calls_for_end, must_end}
+use Rattle.model.specs.ErrorClause.{must_end}
 use Rattle.serving.specs.Told.{Told, IsTold}
 use Rattle.serving.specs.State.{Held, held_of, kept, State, after}
 use Rattle.serving.specs.State.Due.{Nothing}
 use Rattle.serving.specs.State.Move.{Takes, Breaks, Notes, Sends}
 use Rattle.serving.specs.Rule.{MayCome}
-use Rattle.serving.proofs.Courses.{items_stay}
-use Rattle.serving.proofs.Reasons.{over_stays}
+use Rattle.model.proofs.ItemLaws.{items_stay}
+use Rattle.model.proofs.LifeLaws.{ends_sent}
 use Rattle.serving.proofs.Standing.{IsOnWay, Stands, way_stays}
 use Rattle.serving.proofs.Passing.{Passing, lives_found, reason_on, open_same, items_where, text_same}
 
@@ -46,38 +43,6 @@ held_kept told stream (h ∷ hs) x e = by (held_kept told stream hs x) (told.ser
           | inl same ↦ absurd (let clash : true ≡ false = sym more.1 ∙ sym (ap told.served same.1) ∙ lost in cc)
           | inr apart ↦ (ap (λ b. if b then Some h else held_of stream hs) apart.0 ∙ more.0, more.1)
         ]
-
--- ---- the end of the connection
-
--- with fewer that pass a test none does
-none_left : (p q : ℕ → Bool) → ((id : ℕ) → q id ≡ true → p id ≡ true) → (ids : List ℕ) → length (filter p ids) ≡ 0 → length (filter q ids) ≡ 0
-none_left p q fewer [] none = refl
-none_left p q fewer (id ∷ ids) none = by (none_left p q fewer ids) (p id) (q id) (fewer id) none
-  where
-    by : (length (filter p ids) ≡ 0 → length (filter q ids) ≡ 0) → (a b : Bool) → (b ≡ true → a ≡ true) → length (if a then id ∷ filter p ids else filter p ids) ≡ 0 → length (if b then id ∷ filter q ids else filter q ids) ≡ 0
-    by again true b less none = absurd (cc)
-    by again false true less none = let clash : false ≡ true = less refl in cc
-    by again false false less none = again none
-
--- a connection that is to end still is when a frame is sent
-pub ends_sent : (known : Known) (t : List Entry) (noted : Noted) → must_end known t ≡ true → must_end known (Sent noted ∷ t) ≡ true
-ends_sent known t noted ends = by (calls_for_end known t) (is_spent t) (is_spent (Sent noted ∷ t)) spent ends
-  where
-    by : (a b c : Bool) → (b ≡ true → c ≡ true) → (a || b) ≡ true → (a || c) ≡ true
-    by true b c more e = refl
-    by false b c more e = more e
-
-    going : (id : ℕ) → not (is_over id (Sent noted ∷ t)) ≡ true → not (is_over id t) ≡ true
-    going id e = elim (cases_Bool (is_over id t)) [
-      | inl over ↦ absurd (let clash : false ≡ true = sym (ap not (over_stays t (Sent noted) id over)) ∙ e in cc)
-      | inr goes_on ↦ ap not goes_on
-    ]
-
-    spent : is_spent t ≡ true → is_spent (Sent noted ∷ t) ≡ true
-    spent e =
-        let parts = and_parts (length (opened t) == most_streams) (length (active t) == 0) e in
-        and_from (length (opened t) == most_streams) (length (active (Sent noted ∷ t)) == 0) parts.0
-        (eq-eqb (length (active (Sent noted ∷ t))) 0 (none_left (λ id. not (is_over id t)) (λ id. not (is_over id (Sent noted ∷ t))) going (opened t) (eqb-true (length (active t)) 0 parts.1)))
 
 -- ---- numbers of connections
 

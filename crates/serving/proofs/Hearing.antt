@@ -16,7 +16,7 @@ use Rattle.serving.specs.State.{Live, live_of, k_of, answered, State, after}
 use Rattle.serving.specs.State.Move.{Hears}
 use Rattle.serving.specs.Rule.{IsAnswer, IsKept, MayCome}
 use Rattle.serving.specs.Meaning.{Verdict, IsSo}
-use Rattle.serving.proofs.Courses.{items_stay}
+use Rattle.model.proofs.ItemLaws.{items_stay}
 use Rattle.serving.proofs.Lists.{found_key, find_map}
 use Rattle.serving.proofs.Standing.{IsLive, Lives, Given, Stands, way_stays}
 use Rattle.serving.proofs.Passing.{Passing, lives_found, reason_on, text_same}

@@ -1,5 +1,3 @@
-pub mod Courses
-pub mod Ends
 pub mod Lists
 pub mod Texts
 pub mod Coming

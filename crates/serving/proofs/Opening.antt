@@ -26,10 +26,10 @@ use Rattle.serving.specs.State.Due.{Nothing, ToOpen, ToSend}
 use Rattle.serving.specs.State.Move.{Acts}
 use Rattle.serving.specs.Rule.{MayOpen}
 use Rattle.serving.specs.Meaning.{IsAllHeard}
-use Rattle.serving.proofs.Courses.{items_stay}
+use Rattle.model.proofs.ItemLaws.{items_stay}
 use Rattle.serving.proofs.Lists.{find_first, find_past, held_now, held_beside}
 use Rattle.serving.proofs.Texts.{sent_either, no_request, one_head}
-use Rattle.serving.proofs.Reasons.{opened_stays}
+use Rattle.model.proofs.LifeLaws.{opened_stays}
 use Rattle.serving.proofs.Standing.{owed, text_of, IsSent, Given, IsDueFor, Fares, IsOpening, IsDue, IsOnWay, IsLetGo, IsFresh, Stands, unread_same, has_head_stays, way_stays, closes_stay, stands_next}
 use Rattle.serving.proofs.Passing.{sent_same, fresh_same, lives_found, reason_on}
 use Rattle.serving.proofs.Framing.{within}

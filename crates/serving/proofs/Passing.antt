@@ -23,7 +23,7 @@ use Rattle.serving.specs.State.{Held, held_of, live_of, State}
 use Rattle.serving.specs.State.Due.{Nothing}
 use Rattle.serving.specs.Rule.{IsKept}
 use Rattle.serving.specs.Meaning.{Verdict}
-use Rattle.serving.proofs.Courses.{items_stay}
+use Rattle.model.proofs.ItemLaws.{items_stay}
 use Rattle.serving.proofs.Reasons.{IsOf, heard_same, ended_same, reason_stays, all_heard_back, all_heard_there}
 use Rattle.serving.proofs.Streamed.{all_streamed}
 use Rattle.serving.proofs.Standing.{text_of, owed, Lives, IsSent, Given, IsDueFor, Fares, IsDue, IsOnWay, Closes, IsFresh, Stands, Steps, unread_same, some_items, had_closed_in, cut_stays}

@@ -33,8 +33,8 @@ use Rattle.serving.specs.State.Way.{Waiting, Going, Dropped}
 use Rattle.serving.specs.State.Move.{Begins, Gathers, Passes, Drops}
 use Rattle.serving.specs.Rule.{MayCome, IsServing, MayBegin, MayAdd, MayDrop}
 use Rattle.serving.specs.Meaning.{Brings}
-use Rattle.serving.proofs.Ends.{ends_tell, added_ends, none_ended}
-use Rattle.serving.proofs.Courses.{is_interrupted}
+use Rattle.model.proofs.ItemLaws.{ends_tell, added_ends, none_ended}
+use Rattle.model.proofs.ItemLaws.{is_interrupted}
 use Rattle.serving.proofs.Lists.{held_now, held_beside}
 use Rattle.serving.proofs.Texts.{no_request, part_told}
 use Rattle.serving.proofs.Bringing.{IsGood, is_good}

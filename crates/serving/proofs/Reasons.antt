@@ -1,86 +1,25 @@
 -- Why a connection is done with, and which entries leave that as it is.
-use Rattle.std.proofs.Common.{◌≡◌, ℕ, Bool, true, false, not, ◌==◌, ◌&&◌, ◌||◌, List, [], ◌∷◌, ◌++◌, refl, sym, ap, subst, if◌then◌else◌}
+use Rattle.std.proofs.Common.{◌≡◌, ℕ, true, List, [], ◌∷◌, ◌++◌, refl, sym, ap, subst, if◌then◌else◌}
 use Rattle.std.specs.Prelude.{Some}
 use Rattle.std.proofs.lemmas.Bool.{ne_eqb}
-use Rattle.model.specs.Frames.{rst_stream_kind}
 use Rattle.model.specs.Responses.{IsComplete}
 use Rattle.model.specs.Logs.Event.{Client, ClientEnd, ClientTook, Up, UpEnd, UpFailed, UpTook}
 use Rattle.model.specs.Logs.Act.{Open, ToUp, Close, CloseClient}
-use Rattle.model.specs.Tapes.{Entry, came, sent, is_closed}
+use Rattle.model.specs.Tapes.{Entry, is_closed}
 use Rattle.model.specs.Tapes.Entry.{Came, Breached, Happened, Sent, Did}
-use Rattle.model.specs.Decoding.{completed}
 use Rattle.model.specs.Openings.{Opened}
 use Rattle.model.specs.Available.{heard, has_ended}
 use Rattle.model.specs.Known.{Known}
 use Rattle.model.specs.Causes.{Cause}
-use Rattle.model.specs.Lifetimes.{opened, opens_by, ends_by, is_opened, is_over, is_active, is_ended_by_client, is_ended_by_gateway, is_reset_by_client, is_reset_by_gateway}
+use Rattle.model.specs.Lifetimes.{opened, is_opened}
 use Rattle.model.specs.Courses.{items, cause, first_of_both, upstream_of}
 use Rattle.model.specs.Offers.{is_to_head}
 use Rattle.model.specs.ProgressClause.{Reason}
 use Rattle.model.specs.ProgressClause.Reason.{Over, Complete, Answered, ClientClosed}
 use Rattle.model.specs.Courses.{cause_of}
 use Rattle.serving.specs.Meaning.{IsAllHeard}
-use Rattle.serving.proofs.Courses.{head_stays}
-
--- ---- streams that are over
-
--- a stream that was opened stays so
-pub opened_stays : (t : List Entry) (e : Entry) (stream : ℕ) → is_opened stream t ≡ true → is_opened stream (e ∷ t) ≡ true
-opened_stays t (Came noted) stream is = by (opens_by (opened t) (completed (came t) noted.frame) noted.note)
-  where
-    or_true : (b : Bool) → (b || is_opened stream t) ≡ true
-    or_true true = refl
-    or_true false = is
-
-    by : (b : Bool) → Rattle.std.specs.List.list_any (λ id. id == stream) (if b then noted.frame.id ∷ opened t else opened t) ≡ true
-    by true = or_true (noted.frame.id == stream)
-    by false = is
-opened_stays t (Breached breach) stream is = is
-opened_stays t (Happened event) stream is = is
-opened_stays t (Sent noted) stream is = is
-opened_stays t (Did act) stream is = is
-
--- a stream that is over stays so
-pub over_stays : (t : List Entry) (e : Entry) (stream : ℕ) → is_over stream t ≡ true → is_over stream (e ∷ t) ≡ true
-over_stays t (Came noted) stream is =
-    by (noted.frame.kind == rst_stream_kind && noted.frame.id == stream) (noted.frame.id == stream && ends_by (completed (came t) noted.frame) noted.frame) (is_reset_by_gateway stream t) (is_reset_by_client stream t) (is_ended_by_client stream t) (is_ended_by_gateway stream t) is
-  where
-    by : (x y a b c d : Bool) → (a || b || c && d) ≡ true → (a || (x || b) || (y || c) && d) ≡ true
-    by x y true b c d e = refl
-    by true y false b c d e = refl
-    by false y false true c d e = refl
-    by false true false false true d e = e
-    by false true false false false d e = cc
-    by false false false false c d e = e
-over_stays t (Breached breach) stream is = is
-over_stays t (Happened event) stream is = is
-over_stays t (Sent noted) stream is =
-    by (noted.frame.kind == rst_stream_kind && noted.frame.id == stream) (noted.frame.id == stream && ends_by (completed (sent t) noted.frame) noted.frame) (is_reset_by_gateway stream t) (is_reset_by_client stream t) (is_ended_by_client stream t) (is_ended_by_gateway stream t) is
-  where
-    by : (x y a b c d : Bool) → (a || b || c && d) ≡ true → ((x || a) || b || c && (y || d)) ≡ true
-    by true y a b c d e = refl
-    by false y true b c d e = refl
-    by false y false true c d e = refl
-    by false true false false true d e = refl
-    by false true false false false d e = e
-    by false false false false c d e = e
-over_stays t (Did act) stream is = is
-
--- a stream that was opened and isn't active never is again
-pub lost_stays : (t : List Entry) (e : Entry) (stream : ℕ) → is_opened stream t ≡ true → is_active stream t ≡ false → is_active stream (e ∷ t) ≡ false
-lost_stays t e stream opened lost = by (is_opened stream (e ∷ t)) (is_over stream (e ∷ t)) (over_stays t e stream (was (is_opened stream t) (is_over stream t) opened lost))
-  where
-    was : (a b : Bool) → a ≡ true → (a && not b) ≡ false → b ≡ true
-    was true true e f = refl
-    was true false e f = cc
-    was false b e f = cc
-
-    by : (a b : Bool) → b ≡ true → (a && not b) ≡ false
-    by true true e = refl
-    by false true e = refl
-    by a false e = cc
-
--- ---- what else stays
+use Rattle.model.proofs.LifeLaws.{lost_stays}
+use Rattle.model.proofs.ItemLaws.{head_stays}
 
 -- a cause that came stays
 pub cause_stays : (known : Known) (t : List Entry) (e : Entry) (stream : ℕ) (found : Cause) → cause known stream t ≡ Some found → cause known stream (e ∷ t) ≡ Some found

@@ -1,14 +1,12 @@
 -- What the errors' concern tells of a frame and of its stream, as this concern reads it.
 use Rattle.std.proofs.Common.{◌≡◌, ℕ, Bool, true, false, ◌==◌, ◌&&◌, ◌||◌, List, [], ◌∷◌, ◌++◌, refl, sym, ap, ◌∙◌, inl, inr, if◌then◌else◌}
-use Rattle.std.specs.Prelude.{Option, Some, None, is_some, is_none}
+use Rattle.std.specs.Prelude.{Option, None, is_some, is_none}
 use Rattle.std.proofs.lemmas.Bool.{cases_Bool, eq-eqb, or_from}
 use Rattle.model.specs.Messages.{Item}
 use Rattle.model.specs.Frames.{rst_stream_kind}
 use Rattle.model.specs.Tapes.{Noted, Entry, came}
 use Rattle.model.specs.Tapes.Entry.{Came}
 use Rattle.model.specs.Decoding.{completed}
-use Rattle.model.specs.Errors.{Fault}
-use Rattle.model.specs.Errors.Fault.{Connection, Stream, Discarded}
 use Rattle.model.specs.Streams.{frame_items, items_of, is_reset, is_ended_by}
 use Rattle.model.specs.Known.{Known}
 use Rattle.model.specs.Causes.{Cause}
@@ -16,7 +14,7 @@ use Rattle.model.specs.Lifetimes.{is_active, is_ended_by_client}
 use Rattle.model.specs.Courses.{course, items, cause, cause_of, fault, interrupts}
 use Rattle.serving.specs.Told.{is_served}
 use Rattle.serving.specs.Meaning.{Brings}
-use Rattle.serving.proofs.Courses.{is_interrupted, items_stay}
+use Rattle.model.proofs.ItemLaws.{is_interrupted}
 
 -- Where it is told which streams are active, and of active ones why the gateway answers them, it is told which are served.
 pub served_by_parts : (known : Known) (t : List Entry) (active : ℕ → Bool) (why : ℕ → Option Cause) → ((stream : ℕ) → active stream ≡ is_active stream t) → ((stream : ℕ) → is_active stream t ≡ true → why stream ≡ cause known stream t) → (stream : ℕ) → (active stream && is_none (why stream)) ≡ is_served known stream t
@@ -41,30 +39,3 @@ brings_by known t noted item not_over no_fault no_reset no_cause is goes_on = re
         (or_from (is_ended_by (noted.frame.id == noted.frame.id) (fault known t (Came noted)) || is_reset noted.frame.id (Came noted)) (is_some (cause_of known noted.frame.id t (Came noted)))
         (or_from (is_ended_by (noted.frame.id == noted.frame.id) (fault known t (Came noted))) (is_reset noted.frame.id (Came noted)) (ap (is_ended_by (noted.frame.id == noted.frame.id)) no_fault) (ap (λ b. b && noted.frame.id == noted.frame.id) no_reset))
         (ap is_some no_cause))
-
--- a frame that has a fault adds none
-pub none_by_fault : (known : Known) (t : List Entry) (noted : Noted) (found : Fault) → fault known t (Came noted) ≡ Some found → items known noted.frame.id (Came noted ∷ t) ≡ items known noted.frame.id t
-none_by_fault known t noted found is = ap (λ b. if b then items known noted.frame.id t else items known noted.frame.id t ++ items_of noted.frame.id t (Came noted)) over
-  where
-    ended : (found : Fault) → is_ended_by true (Some found) ≡ true
-    ended (Connection code) = refl
-    ended (Stream code) = refl
-    ended Discarded = refl
-
-    or_true : (a b c d : Bool) → b ≡ true → (a || (b || c || d)) ≡ true
-    or_true true b c d e = refl
-    or_true false true c d e = refl
-    or_true false false c d e = cc
-
-    over : is_interrupted known noted.frame.id t (Came noted) ≡ true
-    over =
-        or_true (course known noted.frame.id t).over (is_ended_by (noted.frame.id == noted.frame.id) (fault known t (Came noted))) (is_reset noted.frame.id (Came noted)) (is_some (cause_of known noted.frame.id t (Came noted)))
-        (ap (λ b. is_ended_by b (fault known t (Came noted))) (eq-eqb noted.frame.id noted.frame.id refl) ∙ ap (is_ended_by true) is ∙ ended found)
-
--- nor does one on a stream whose items were over, or one that has none
-pub none_over : (known : Known) (t : List Entry) (noted : Noted) → (course known noted.frame.id t).over ≡ true → items known noted.frame.id (Came noted ∷ t) ≡ items known noted.frame.id t
-none_over known t noted over = ap (λ b. if b || interrupts noted.frame.id (Came noted) (fault known t (Came noted)) (cause_of known noted.frame.id t (Came noted)) then items known noted.frame.id t else items known noted.frame.id t ++ items_of noted.frame.id t (Came noted)) over
-
-pub none_brought : (known : Known) (t : List Entry) (noted : Noted) → frame_items (completed (came t) noted.frame) noted ≡ [] → items known noted.frame.id (Came noted ∷ t) ≡ items known noted.frame.id t
-none_brought known t noted none =
-    sym (items_stay known noted.frame.id t (Came noted) (ap (λ b. if b then frame_items (completed (came t) noted.frame) noted else []) (eq-eqb noted.frame.id noted.frame.id refl) ∙ none))

@@ -30,7 +30,7 @@ use Rattle.serving.specs.State.Way.{Waiting, Going, Dropped}
 use Rattle.serving.specs.Rule.{IsKept}
 use Rattle.serving.specs.Meaning.{Verdict}
 use Rattle.serving.specs.State.Due.{Nothing, ToOpen, ToSend}
-use Rattle.serving.proofs.Reasons.{opened_stays}
+use Rattle.model.proofs.LifeLaws.{opened_stays}
 
 -- ---- one connection
 

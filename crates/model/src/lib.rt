@@ -9,8 +9,5 @@ pub mod http1;
 pub mod http2;
 pub mod layers;
 pub mod responses;
-<<<<<<< HEAD
 pub mod steps;
-=======
 pub mod streams;
->>>>>>> serving

@@ -36,7 +36,7 @@ pub mod OfferLemmas
 pub mod LifeLaws
 pub mod ItemLaws
 mod HeadlineExamples
-mod AnswerTexts
+pub mod AnswerTexts
 mod AnswerExamples
 mod RowTapes
 mod ErrorExamples

@@ -40,7 +40,7 @@ pub mod OfferLaws
 pub mod LifeLaws
 pub mod ItemLaws
 mod HeadlineExamples
-mod AnswerTexts
+pub mod AnswerTexts
 mod AnswerExamples
 mod RowTapes
 mod ErrorExamples

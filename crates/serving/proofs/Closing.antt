@@ -27,7 +27,7 @@ use Rattle.serving.specs.Meaning.{Verdict}
 use Rattle.model.proofs.ItemLaws.{items_stay}
 use Rattle.serving.proofs.Lists.{find_map, find_gone, find_other}
 use Rattle.serving.proofs.Standing.{IsLive, Lives, IsOnWay, Given, Stands, way_stays}
-use Rattle.serving.proofs.Passing.{Passing, lives_found, reason_on, text_same}
+use Rattle.serving.proofs.Passing.{IsPassing, lives_found, reason_on, text_same}
 use Rattle.serving.proofs.Framing.{held_kept, within, still_shut, not_to_end}
 
 -- ---- lists
@@ -154,7 +154,7 @@ module _ (known : Known) (t : List Entry) (s : State) (h : Stands known t s) whe
     -- ---- closes
 
     -- a connection is closed
-    pub closes : (k : ℕ) → MayClose told s k → Passing known t (Did (Close k)) s (after known.setup behind s (Acts (Close k)))
+    pub closes : (k : ℕ) → MayClose told s k → IsPassing known t (Did (Close k)) s (after known.setup behind s (Acts (Close k)))
     closes k may =
         let u = after known.setup behind s (Acts (Close k)) in
         let it = found_live k may.live may.found in record {
@@ -199,7 +199,7 @@ module _ (known : Known) (t : List Entry) (s : State) (h : Stands known t s) whe
         same stream = sym (items_stay known stream t (Did (Close k)) refl)
 
     -- the client is closed
-    pub shuts : MayShut s → Passing known t (Did CloseClient) s (after known.setup behind s (Acts CloseClient))
+    pub shuts : MayShut s → IsPassing known t (Did CloseClient) s (after known.setup behind s (Acts CloseClient))
     shuts may = record {
       nothing = may.nothing;
       nothing_after = may.nothing;
@@ -227,7 +227,7 @@ module _ (known : Known) (t : List Entry) (s : State) (h : Stands known t s) whe
     -- ---- failures
 
     -- a connection fails
-    pub fails : (k : ℕ) → MayCome told s → IsKept s k → Passing known t (Happened (UpFailed k)) s (after known.setup behind s (Fails k))
+    pub fails : (k : ℕ) → MayCome told s → IsKept s k → IsPassing known t (Happened (UpFailed k)) s (after known.setup behind s (Fails k))
     fails k come there =
         let u = after known.setup behind s (Fails k) in
         let e = Happened (UpFailed k) in record {

@@ -20,7 +20,7 @@ use Rattle.serving.specs.Rule.{MayCome}
 use Rattle.model.proofs.ItemLaws.{items_stay}
 use Rattle.model.proofs.LifeLaws.{ends_sent}
 use Rattle.serving.proofs.Standing.{IsOnWay, Stands, way_stays}
-use Rattle.serving.proofs.Passing.{Passing, lives_found, reason_on, open_same, items_where, text_same}
+use Rattle.serving.proofs.Passing.{IsPassing, lives_found, reason_on, open_same, items_where, text_same}
 
 -- ---- what is held
 
@@ -86,7 +86,7 @@ module _ (known : Known) (t : List Entry) (s : State) (h : Stands known t s) (to
   -- ---- frames
 
   -- a frame that adds no item
-  pub takes : (noted : Noted) → MayCome told s → items known noted.frame.id (Came noted ∷ t) ≡ items known noted.frame.id t → Passing known t (Came noted) s (after known.setup behind s (Takes noted))
+  pub takes : (noted : Noted) → MayCome told s → items known noted.frame.id (Came noted ∷ t) ≡ items known noted.frame.id t → IsPassing known t (Came noted) s (after known.setup behind s (Takes noted))
   takes noted come same =
       let u = after known.setup behind s (Takes noted) in record {
         nothing = come.nothing;
@@ -110,7 +110,7 @@ module _ (known : Known) (t : List Entry) (s : State) (h : Stands known t s) (to
       }
 
   -- a frame is sent
-  pub sends : (noted : Noted) → s.due ≡ Nothing → Passing known t (Sent noted) s (after known.setup behind s (Sends noted))
+  pub sends : (noted : Noted) → s.due ≡ Nothing → IsPassing known t (Sent noted) s (after known.setup behind s (Sends noted))
   sends noted nothing =
       let u = after known.setup behind s (Sends noted) in
       let same : (stream : ℕ) → items known stream (Sent noted ∷ t) ≡ items known stream t = λ stream. sym (items_stay known stream t (Sent noted) refl) in record {
@@ -137,7 +137,7 @@ module _ (known : Known) (t : List Entry) (s : State) (h : Stands known t s) (to
   -- ---- breaches, and events of no upstream
 
   -- a breach
-  pub breaks : (breach : Breach) → MayCome told s → Passing known t (Breached breach) s (after known.setup behind s (Breaks breach))
+  pub breaks : (breach : Breach) → MayCome told s → IsPassing known t (Breached breach) s (after known.setup behind s (Breaks breach))
   breaks breach come =
       let u = after known.setup behind s (Breaks breach) in
       let same : (stream : ℕ) → items known stream (Breached breach ∷ t) ≡ items known stream t = λ stream. sym (items_stay known stream t (Breached breach) refl) in record {
@@ -162,7 +162,7 @@ module _ (known : Known) (t : List Entry) (s : State) (h : Stands known t s) (to
       }
 
   -- an event of no upstream
-  pub notes : (event : Event) → MayCome told s → upstream_of event ≡ 0 → Passing known t (Happened event) s (after known.setup behind s (Notes event))
+  pub notes : (event : Event) → MayCome told s → upstream_of event ≡ 0 → IsPassing known t (Happened event) s (after known.setup behind s (Notes event))
   notes event come zero =
       let u = after known.setup behind s (Notes event) in record {
         nothing = come.nothing;

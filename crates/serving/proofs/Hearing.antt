@@ -19,7 +19,7 @@ use Rattle.serving.specs.Meaning.{Verdict, IsSo}
 use Rattle.model.proofs.ItemLaws.{items_stay}
 use Rattle.serving.proofs.Lists.{found_key, find_map}
 use Rattle.serving.proofs.Standing.{IsLive, Lives, Given, Stands, way_stays}
-use Rattle.serving.proofs.Passing.{Passing, lives_found, reason_on, text_same}
+use Rattle.serving.proofs.Passing.{IsPassing, lives_found, reason_on, text_same}
 use Rattle.serving.proofs.Framing.{held_kept, within, still_shut, not_to_end}
 use Rattle.serving.proofs.Closing.{found_live}
 
@@ -91,7 +91,7 @@ module _ (known : Known) (t : List Entry) (s : State) (h : Stands known t s) (to
   same : (stream : ℕ) → items known stream (Happened event ∷ t) ≡ items known stream t
   same stream = sym (items_stay known stream t (Happened event) refl)
 
-  pub hears : Passing known t (Happened event) s u
+  pub hears : IsPassing known t (Happened event) s u
   hears = record {
     nothing = come.nothing;
     nothing_after = come.nothing;

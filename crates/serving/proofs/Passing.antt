@@ -70,7 +70,7 @@ items_where known t noted same stream = elim (eqb_tells noted.frame.id stream) [
 -- ---- entries that pass
 
 -- What such an entry leaves as it is.
-pub record Passing (known : Known) (t : List Entry) (e : Entry) (s u : State) : Type 0 where
+pub record IsPassing (known : Known) (t : List Entry) (e : Entry) (s u : State) : Type 0 where
   pub nothing : s.due ≡ Nothing
   pub nothing_after : u.due ≡ Nothing
   pub same_opens : opens (e ∷ t) ≡ opens t
@@ -126,7 +126,7 @@ pub text_same : (t : List Entry) (e : Entry) (s u : State) → s.due ≡ Nothing
 text_same t e s u nothing after same k = ap (λ x. x ++ owed k u.due) (same k) ∙ ap (λ d. sent_up k t ++ owed k d) (after ∙ sym nothing)
 
 -- an entry that passes is a step
-pub passes : (known : Known) (t : List Entry) (e : Entry) (s u : State) → Stands known t s → Passing known t e s u → Steps known t e s u
+pub passes : (known : Known) (t : List Entry) (e : Entry) (s u : State) → Stands known t s → IsPassing known t e s u → Steps known t e s u
 passes known t e s u h p = record {
   same_opens = p.same_opens;
   count = p.count;

@@ -1,21 +1,26 @@
 -- A worked run, where requests are passed on as they come: the head of a POST goes out on a connection of its own, then the first octets
--- of its body.
-use Rattle.std.proofs.Common.{false, List, [], ◌∷◌, refl, arith}
+-- of its body. The upstream answers before the rest has come, which is dropped then.
+use Rattle.std.proofs.Common.{true, false, List, [], ◌∷◌, refl, sym, subst, inl, inr, arith}
 use Rattle.std.specs.Prelude.{codes}
 use Rattle.model.specs.Tables.{total_size}
 use Rattle.model.specs.Messages.Item.{Content}
 use Rattle.model.specs.Setup.Passing.{Streaming}
-use Rattle.model.specs.Logs.Act.{Open, ToUp}
+use Rattle.model.specs.Logs.Event.{Up}
+use Rattle.model.specs.Logs.Act.{Open, ToUp, Close}
+use Rattle.model.specs.Tapes.Entry.{Happened}
+use Rattle.model.specs.Openings.{Opened, opens}
+use Rattle.model.specs.Available.{IsIn}
 use Rattle.model.specs.Known.{Known}
+use Rattle.model.proofs.AnswerTexts.{answer, response, answered}
 use Rattle.h1_writer.specs.Sending.{chunk_text}
 use Rattle.h1_writer.specs.Sending.Stage.{Chunking}
 use Rattle.serving.specs.State.{Turn, tape_of}
-use Rattle.serving.specs.State.Move.{Begins, Passes, Acts}
+use Rattle.serving.specs.State.Move.{Begins, Passes, Drops, Hears, Acts}
 use Rattle.serving.specs.Rule.{AreAllowed}
-use Rattle.serving.specs.Meaning.{AreSo, KeepClauses}
+use Rattle.serving.specs.Meaning.{IsAllHeard, AreSo, KeepClauses}
 use Rattle.serving.proofs.Telling.{told_by}
 use Rattle.serving.proofs.Clauses.{clauses_hold}
-use Rattle.serving.proofs.RunMoves.{known, post, post_text, post_head, first_data, turn, m1}
+use Rattle.serving.proofs.RunMoves.{known, post, post_text, post_head, first_data, last_data, turn, m1}
 use Rattle.serving.proofs.Examples.{calm, serving_on, first_route, post_begun, chunk_goes}
 
 abbrev streaming : Known
@@ -70,6 +75,41 @@ t3 = (
   told_by streaming _ (1 ∷ []) (refl, tt) refl refl refl,
 )
 
+-- the upstream answers before the request is whole, and its connection is closed
+abbrev s4 : List Turn
+s4 = turn (Acts (Close 1)) (1 ∷ []) ∷ turn (Hears (Up 1 answer) true) (1 ∷ []) ∷ s3
+
+b4 : AreAllowed streaming.setup s4
+b4 = (
+  (b3, record { open_yet = refl; may = (calm _ _ refl refl refl, tt, (record { k = 1; stream = 1; whole = false }, refl)) }),
+  record { open_yet = refl; may = record { nothing = refl; live = record { k = 1; stream = 1; whole = true }; found = refl; why = inl refl } },
+)
+
+-- what came is a whole response
+all_heard : (o : Opened) → IsIn o (opens (tape_of s3)) → IsAllHeard streaming (Happened (Up 1 answer) ∷ tape_of s3) o
+unfolding total_size
+all_heard o (inl is) = subst (IsAllHeard streaming (Happened (Up 1 answer) ∷ tape_of s3)) (sym is) (response, answered)
+all_heard o (inr i) = absurd i
+
+t4 : AreSo streaming s4
+unfolding total_size
+t4 = (
+  (t3, λ o i k. all_heard o i, told_by streaming _ (1 ∷ []) (refl, tt) refl refl refl),
+  tt,
+  told_by streaming _ (1 ∷ []) (refl, tt) refl refl refl,
+)
+
+-- the end of the body is dropped
+abbrev s5 : List Turn
+s5 = turn (Drops last_data (Content (codes "llo") true)) (1 ∷ []) ∷ s4
+
+b5 : AreAllowed streaming.setup s5
+b5 = (b4, record { open_yet = refl; may = (calm _ _ refl refl refl, record { serving = serving_on _ _ (omega arith) refl refl; found = refl }) })
+
+t5 : AreSo streaming s5
+unfolding total_size
+t5 = (t4, record { adds = refl; goes_on = refl }, told_by streaming _ (1 ∷ []) (refl, tt) refl refl refl)
+
 -- so the clauses hold at its end
-at_end : KeepClauses streaming [] (tape_of s3)
-at_end = clauses_hold streaming s3 [] (tape_of s3) b3 t3 refl (record { nothing = refl; none_done = refl; ended = λ e. cc })
+at_end : KeepClauses streaming [] (tape_of s5)
+at_end = clauses_hold streaming s5 [] (tape_of s5) b5 t5 refl (record { nothing = refl; none_done = refl; ended = λ e. cc })

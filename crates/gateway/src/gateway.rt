@@ -85,7 +85,10 @@ impl Gateway {
         // It is what the log tells that the gateway stands for.
         ensures log { (log : List Step) (tape : List Entry) → Stands self.now log tape → result ≡ is_admitted_by_tape tape (event_of event.now) }
     {
-        !self.dead && self.connection.is_admitted(event)
+        if self.dead {
+            return false;
+        }
+        self.connection.is_admitted(event)
     }
 
     /// How many octets of an upstream may come in one event: 65,536 where its connection is open, else none; none once memory

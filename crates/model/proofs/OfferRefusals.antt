@@ -102,8 +102,8 @@ invents_hints d =
     elim d.offered [
       | inl none ↦ (let clash : ◌≡◌ {A = List Head} (hinted ∷ []) [] = ap (λ (x : Delivery). x.interims) (sym same ∙ none) in cc)
       | inr was ↦ (let source = reply_alone was.source (offered_there failed 1 _ invented d.delivery (omega arith) was) in
-        let part : IsPartOf with_hints was.source = subst (λ (x : Delivery). IsPartOf x was.source) same was.part in
-        let clash : ◌≡◌ {A = List Head} (hinted ∷ []) [] = part.interims ∙ source in cc)
+          let part : IsPartOf with_hints was.source = subst (λ (x : Delivery). IsPartOf x was.source) same was.part in
+          let clash : ◌≡◌ {A = List Head} (hinted ∷ []) [] = part.interims ∙ source in cc)
     ]
 
 -- ---- what waited, in place of the reply
@@ -151,9 +151,9 @@ sends_what_waited d =
     elim d.offered [
       | inl none ↦ (let clash : ◌≡◌ {A = Option Head} late.head None = ap (λ (x : Delivery). x.head) (sym same ∙ none) in cc)
       | inr was ↦ (let source = reply_then was.source (offered_there failed_later 1 _ (Happened (UpFailed 1) ∷ waits) d.delivery (omega arith) was) in
-        let part : IsPartOf late was.source = subst (λ (x : Delivery). IsPartOf x was.source) same was.part in
-        let clash : (reply [] BadAnswer).head ≡ late.head = sym source ∙ part.head_is in
-        let status : 502 ≡ 200 = ap (λ (h : Option Head). status_in h) clash in omega (arith, status))
+          let part : IsPartOf late was.source = subst (λ (x : Delivery). IsPartOf x was.source) same was.part in
+          let clash : (reply [] BadAnswer).head ≡ late.head = sym source ∙ part.head_is in
+          let status : 502 ≡ 200 = ap (λ (h : Option Head). status_in h) clash in omega (arith, status))
     ]
   where
     status_in : Option Head → ℕ

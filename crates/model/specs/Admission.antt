@@ -14,7 +14,7 @@ untaken (Sent noted ∷ t) = untaken t + length (spell noted.frame)
 untaken (Happened (ClientTook count) ∷ t) = untaken t - count
 untaken (_ ∷ t) = untaken t
 
--- from this many octets on that the client hasn't taken, no part of a response goes out (this project's profile)
+-- from this many octets on that the client hasn't taken, no part of a response is begun (this project's profile)
 abbrev pub high_water : ℕ
 high_water = 65536
 

@@ -19,7 +19,7 @@ use Rattle.model.specs.Tapes.Entry.{Happened, Sent, Did}
 use Rattle.model.specs.Decoding.{Decodes}
 use Rattle.model.specs.ResponseHeads.{Head}
 use Rattle.model.specs.Responses.{StandsIn, Seen}
-use Rattle.model.specs.Deliveries.{Delivery, nothing, IsSection, ReadsAs}
+use Rattle.model.specs.Deliveries.{Delivery, IsSection, ReadsAs}
 use Rattle.model.specs.Available.{IsIn, items_on}
 use Rattle.model.specs.Courses.{items}
 use Rattle.model.specs.Offers.{IsOffered, IsDelivered}
@@ -40,7 +40,7 @@ use Rattle.model.proofs.FirstLog as first
 use Rattle.model.proofs.FirstLog.{setup, field, short, indexed, text, request, well_formed, nothing_begins_none, settings_fits, ack_fits}
 use Rattle.model.proofs.AnswerTexts.{answer, head, fields, block, is_block, response, answered, one_framing, not_plain}
 use Rattle.model.proofs.HeadlineExamples as before
-use Rattle.model.proofs.HeadlineExamples.{known}
+use Rattle.model.proofs.BeginningExamples.{known, not_streaming, no_request, nothing_either, none_read}
 
 abbrev headers : Noted
 headers = record { frame = record { kind = 1; flags = 4; id = 1; payload = block }; note = Fields fields }
@@ -76,7 +76,7 @@ limits = (
       fields = fields;
       next = first_table;
       is_block = is_block;
-      within = record { come_down = λ k d lt. absurd (omega arith); named = λ k d lt. absurd (omega arith); stands = omega arith };
+      within = record { come_down = λ k d lt. absurd (omega arith); named = λ k d lt. absurd (omega arith); stands = omega arith; few = omega arith };
     },
     (tt, (tt, tt)),
   ),
@@ -135,11 +135,7 @@ delivered : (stream : ℕ) → IsDelivered known tape stream
 delivered stream = elim (eqb_tells 1 stream) [
   | inl same ↦ subst (λ s. IsDelivered known tape s) same.1 delivered_first
   | inr apart ↦ (let none : items_on stream (sent tape) ≡ [] = ap (λ b. shape (0 == stream) b) apart.0 ∙ shape_beside (0 == stream) in
-      record {
-        delivery = nothing;
-        reads = subst (λ (x : List Item). ReadsAs x nothing) (sym none) (record { interim_items = []; rest = []; is = refl; interims = tt; answer = (refl, refl, refl) });
-        offered = inl refl;
-      })
+      none_read tape stream none)
 ]
 
 responses : ResponsesHold known tape
@@ -183,7 +179,7 @@ nothing_beside : (of_first : Bool) → of_first ≡ false → (if of_first then 
 nothing_beside of_first e = ap (λ b. if b then Block first.head true ∷ [] else []) e
 
 brings_none : (stream : ℕ) → (1 == stream) ≡ false → BringNone stream tape
-brings_none stream apart = (refl, (refl, (refl, (refl, (refl, (refl, (nothing_beside (1 == stream) apart, (refl, (before.nothing_either (0 == stream), (refl, tt))))))))))
+brings_none stream apart = (refl, (refl, (refl, (refl, (refl, (refl, (nothing_beside (1 == stream) apart, (refl, (nothing_either (0 == stream), (refl, tt))))))))))
 
 forwarded_first : (r : Request) → H2Request (items known 1 tape) r → IsForwarded tape 1 r
 forwarded_first r m =
@@ -196,7 +192,7 @@ forwarded_first r m =
 forwarded : AllForwarded known tape
 forwarded stream r place m routed cut = elim (eqb_tells 1 stream) [
   | inl same ↦ subst (λ s. IsForwarded tape s r) same.1 (forwarded_first r (subst (λ s. H2Request (items known s tape) r) (sym same.1) m))
-  | inr apart ↦ absurd (before.no_request (items known stream tape) r (no_items known stream tape (brings_none stream apart.0)) m)
+  | inr apart ↦ absurd (no_request (items known stream tape) r (no_items known stream tape (brings_none stream apart.0)) m)
 ]
 
 -- stream 1 was ended by both sides, and no other was opened
@@ -211,11 +207,10 @@ all_closed : AreClosed known tape
 all_closed o (inl same) on reason = let clash : false ≡ true = subst (λ (p : Opened). is_open p.k tape ≡ true) same on in cc
 all_closed o (inr none) on reason = none
 
-progress : ProgressHolds known first.tape segment
+progress : ProgressHolds known tape
 progress = record {
   forwarded = forwarded;
-  streamed = before.not_streaming;
-  in_turn = (before.not_streaming, (before.not_streaming, (before.not_streaming, tt)));
+  streamed = not_streaming;
   none_ready = λ room stream ready. none_active stream ready.is_active;
   closed = all_closed;
   closes = (refl, record { o = record { k = 1; route = 0; stream = 1 }; is_opened = inl refl; number = refl; reason = Over refl }, tt);
@@ -308,6 +303,7 @@ taped = record {
   admitted = record { in_order = refl; fits = λ count room. subst (λ n. length answer ≤ n) (sym room) (omega arith) };
   step_is = record { spelled = (content_fits, (headers_fits, tt)); put_out = refl; event = refl; acts_follow = refl };
   told = told;
+  in_turn = (inr before.clauses, before.in_turn);
   clauses = record { requests = requests; responses = responses; errors = errors; progress = progress; windows = windows };
 }
 

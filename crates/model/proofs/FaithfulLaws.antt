@@ -1,5 +1,5 @@
 -- A faithful log keeps the whole headline, unless the gateway gave the connection up.
-use Rattle.std.proofs.Common.{◌≡◌, ◌||◌, false, List, [], ◌∷◌, ◌++◌, reverse, refl, sym, ◌∙◌, ap}
+use Rattle.std.proofs.Common.{◌≡◌, ◌||◌, false, List, [], ◌∷◌, ◌++◌, reverse, refl, sym, ◌∙◌, ap, inl, inr}
 use Rattle.std.specs.List.{list_any}
 use Rattle.std.proofs.lemmas.Bool.{or_parts}
 use Rattle.std.proofs.lemmas.List.Folds.{list_any-append}
@@ -9,8 +9,8 @@ use Rattle.model.specs.Tapes.{Noted, Entry, sent}
 use Rattle.model.specs.Tapes.Entry.{Came, Breached, Happened, Sent, Did}
 use Rattle.model.specs.Known.{Known}
 use Rattle.model.specs.Headline as whole
-use Rattle.model.specs.Headline.{Headline}
-use Rattle.model.specs.Faithful.{gives_up, is_given_up, HasTape, Faithful}
+use Rattle.model.specs.Headline.{HoldsInTurn, Headline}
+use Rattle.model.specs.Faithful.{gives_up, is_given_up, Clauses, HasTape, Faithful}
 
 sent-append : (a b : List Entry) → sent (a ++ b) ≡ sent a ++ sent b
 sent-append [] b = refl
@@ -26,6 +26,18 @@ not_before segment before e =
     let parts : (is_given_up segment || is_given_up before) ≡ false =
     sym (list_any-append (λ (noted : Noted). gives_up noted.frame) (sent segment) (sent before)) ∙ sym (ap (λ xs. list_any (λ noted. gives_up noted.frame) xs) (sent-append segment before)) ∙ e in
     (or_parts (is_given_up segment) (is_given_up before) parts).1
+
+-- where it wasn't given up, all clauses hold
+all_of : (known : Known) (t : List Entry) → Clauses known t → is_given_up t ≡ false → whole.ClausesHold known t
+all_of known t c e = let others = c.others e in record { requests = c.requests; responses = c.responses; errors = others.errors; progress = others.progress; windows = c.windows }
+
+in_turn : (known : Known) (t : List Entry) → HoldsInTurn (Clauses known) t → is_given_up t ≡ false → HoldsInTurn (whole.ClausesHold known) t
+in_turn known [] h e = tt
+in_turn known (Came noted ∷ t) h e = (elim h.0 [ inl none ↦ inl none | inr c ↦ inr (all_of known t c e) ], in_turn known t h.1 e)
+in_turn known (Breached breach ∷ t) h e = (elim h.0 [ inl none ↦ inl none | inr c ↦ inr (all_of known t c e) ], in_turn known t h.1 e)
+in_turn known (Happened event ∷ t) h e = (elim h.0 [ inl none ↦ inl none | inr c ↦ inr (all_of known t c e) ], in_turn known t h.1 e)
+in_turn known (Sent noted ∷ t) h e = in_turn known t h (or_parts (gives_up noted.frame) (is_given_up t) e).1
+in_turn known (Did act ∷ t) h e = in_turn known t h e
 
 has_tape : (known : Known) (steps : List Step) (tape : List Entry) → HasTape known steps tape → is_given_up tape ≡ false → whole.HasTape known steps tape
 has_tape known [] tape h e = h
@@ -49,13 +61,8 @@ has_tape known (step ∷ earlier) tape h e =
           failures = others.failures;
           ends = taped.told.ends;
         };
-        clauses = record {
-          requests = taped.clauses.requests;
-          responses = taped.clauses.responses;
-          errors = others.errors;
-          progress = others.progress;
-          windows = taped.clauses.windows;
-        };
+        in_turn = in_turn known (segment ++ before) taped.in_turn here;
+        clauses = all_of known (segment ++ before) taped.clauses here;
       },
       has_tape known earlier before h.4 (not_before segment before here),
     )

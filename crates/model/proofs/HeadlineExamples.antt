@@ -1,37 +1,33 @@
 -- The log of a first request keeps the headline: that of `FirstLog`, with its tape.
-use Rattle.std.proofs.Common.{◌≡◌, ℕ, Bool, true, false, not, ◌&&◌, ◌||◌, ◌==◌, List, [], ◌∷◌, ◌++◌, refl, sym, ap, ◌∙◌, subst, inl, inr, arith, if◌then◌else◌}
+use Rattle.std.proofs.Common.{◌≡◌, ℕ, true, false, not, ◌&&◌, ◌||◌, ◌==◌, [], ◌∷◌, ◌++◌, refl, sym, ap, ◌∙◌, subst, inl, inr, arith, if◌then◌else◌}
 use Rattle.std.specs.Prelude.{Option, Some, None, codes}
 use Rattle.std.proofs.lemmas.Bool.Decides.{eqb_tells}
-use Rattle.model.specs.Messages.{Item, Request}
+use Rattle.model.specs.Messages.{Request}
 use Rattle.model.specs.Messages.Item.{Block}
 use Rattle.model.specs.Tables.{total_size, first_table}
 use Rattle.model.specs.Frames.{preface, spell, settings_ack}
 use Rattle.model.specs.Http2.{H2Request}
 use Rattle.model.specs.Setup.{IsFirstMatch}
-use Rattle.model.specs.Setup.Passing.{Whole, Streaming}
+use Rattle.model.specs.Setup.Passing.{Whole}
 use Rattle.model.specs.Openings.{Opened, opens}
-use Rattle.model.specs.Deliveries.{Delivery, nothing, ReadsAs}
+use Rattle.model.specs.Deliveries.{Delivery}
 use Rattle.model.specs.Available.{heard_by, ended_by, IsIn, IsShown}
-use Rattle.model.specs.Tapes.{Entry}
-use Rattle.model.specs.Known.{Known}
 use Rattle.model.specs.Lifetimes.{is_active, is_over}
 use Rattle.model.specs.Causes.{Cause}
 use Rattle.model.specs.Courses.{items}
-use Rattle.model.specs.Offers.{is_to_head, IsDelivered, IsOffered}
+use Rattle.model.specs.Offers.{is_to_head, IsOffered}
 use Rattle.model.specs.RequestClause.{IsServed, OpenInTime, RequestsHold}
 use Rattle.model.specs.ResponseClause.{ResponsesHold}
 use Rattle.model.specs.ErrorClause.{ErrorsHold}
 use Rattle.model.specs.ProgressClause.{AllForwarded, AllStreamed, NoneReady, Reason, AreClosed, ProgressHolds, IsForwarded}
 use Rattle.model.specs.ProgressClause.Reason.{Over, Complete, Answered, ClientClosed}
 use Rattle.model.specs.WindowClause.{WindowsHold}
-use Rattle.model.specs.Headline.{IsTold, IsTaped, Headline}
+use Rattle.model.specs.Headline.{ClausesHold, HoldsInTurn, IsTold, IsTaped, Headline}
 use Rattle.model.proofs.FirstLog as first
 use Rattle.model.proofs.FirstLog.{setup, head, text, step, tape, request, reading, decodes, well_formed, reads, nothing_begins_none, nothing_on, settings_fits, ack_fits}
+use Rattle.model.proofs.BeginningExamples.{known, not_streaming, no_request, nothing_either, none_read, settled_holds, settled_in_turn}
 use Rattle.model.proofs.Http2Readings.{one_meaning}
 use Rattle.model.proofs.OfferLemmas.{OffersNothing, nothing_begun, nothing_offered, nothing_complete, nothing_goes, BringNone, no_items}
-
-abbrev pub known : Known
-known = record { setup = setup; failures = [] }
 
 -- ---- requests
 
@@ -58,16 +54,12 @@ all_served o (inr none) = absurd none
 
 in_time : OpenInTime known tape
 unfolding total_size
-in_time = (record { active = refl; no_cause = refl; goes_on = refl }, tt)
+in_time = (record { active = refl; no_cause = refl; goes_on = refl; whole = λ passing. refl }, tt)
 
 pub requests : RequestsHold known tape
 requests = record { numbered = (refl, tt); apart = (tt, tt); in_time = in_time; served = all_served }
 
 -- ---- streams beside the first
-
-pub nothing_either : (b : Bool) → (if b then (let none : List Item = [] in none) else []) ≡ []
-nothing_either true = refl
-nothing_either false = refl
 
 brings_none : (stream : ℕ) → (1 == stream) ≡ false → BringNone stream tape
 brings_none stream apart = (refl, (refl, (ap (λ b. if b then Block head true ∷ [] else []) apart, (refl, (nothing_either (0 == stream), (refl, tt))))))
@@ -85,19 +77,11 @@ forwarded_first r m =
       reads = record { front = text; is = refl; are_requests = reads; no_more = nothing_begins_none };
     })
 
-pub no_request : (list : List Item) (r : Request) → list ≡ [] → H2Request list r → ⊥
-no_request [] r e m = m.has_head
-no_request (item ∷ list) r e m = cc
-
 forwarded : AllForwarded known tape
 forwarded stream r place m routed cut = elim (eqb_tells 1 stream) [
   | inl same ↦ subst (λ s. IsForwarded tape s r) same.1 (forwarded_first r (subst (λ s. H2Request (items known s tape) r) (sym same.1) m))
   | inr apart ↦ absurd (no_request (items known stream tape) r (no_items known stream tape (brings_none stream apart.0)) m)
 ]
-
--- whole requests are passed on
-pub not_streaming : {t : List Entry} → AllStreamed known t
-not_streaming passing = let clash : Whole ≡ Streaming = passing in cc
 
 streamed : AllStreamed known tape
 streamed = not_streaming
@@ -133,11 +117,10 @@ all_closed : AreClosed known tape
 all_closed o (inl same) on reason = no_reason (subst (λ p. Reason known tape p) same reason)
 all_closed o (inr none) on reason = none
 
-progress : ProgressHolds known [] tape
+progress : ProgressHolds known tape
 progress = record {
   forwarded = forwarded;
   streamed = streamed;
-  in_turn = (not_streaming, (not_streaming, tt));
   none_ready = none_ready;
   closed = all_closed;
   closes = tt;
@@ -145,13 +128,6 @@ progress = record {
 }
 
 -- ---- responses
-
-nothing_delivered : (stream : ℕ) → IsDelivered known tape stream
-nothing_delivered stream = record {
-  delivery = nothing;
-  reads = subst (λ x. ReadsAs x nothing) (sym (nothing_on stream)) (record { interim_items = []; rest = []; is = refl; interims = tt; answer = (refl, refl, refl) });
-  offered = inl refl;
-}
 
 pub responses : ResponsesHold known tape
 responses = record {
@@ -161,7 +137,7 @@ responses = record {
   together = (refl, (refl, tt));
   none_begun = refl;
   limits = (tt, (tt, tt));
-  delivered = nothing_delivered;
+  delivered = λ stream. none_read tape stream (nothing_on stream);
 }
 
 -- ---- errors and windows
@@ -196,12 +172,19 @@ told = record {
   ends = first.told.ends;
 }
 
+pub clauses : ClausesHold known tape
+clauses = record { requests = requests; responses = responses; errors = errors; progress = progress; windows = windows }
+
+pub in_turn : HoldsInTurn (ClausesHold known) tape
+in_turn = (inr settled_holds, settled_in_turn)
+
 pub taped : IsTaped known [] step [] tape
 taped = record {
   admitted = record { in_order = refl; fits = tt };
   step_is = record { spelled = (ack_fits, (settings_fits, tt)); put_out = refl; event = refl; acts_follow = tt };
   told = told;
-  clauses = record { requests = requests; responses = responses; errors = errors; progress = progress; windows = windows };
+  in_turn = in_turn;
+  clauses = clauses;
 }
 
 pub first_log : Headline setup (step ∷ [])

@@ -39,6 +39,7 @@ pub mod OfferLemmas
 pub mod OfferLaws
 pub mod LifeLaws
 pub mod ItemLaws
+mod BeginningExamples
 mod HeadlineExamples
 pub mod AnswerTexts
 mod AnswerExamples

@@ -1,10 +1,8 @@
 -- One thing is shown of what an upstream answered, and one thing is on offer for a stream.
-use Rattle.std.proofs.Common.{◌≡◌, ℕ, Bool, true, false, List, [], sym, ap, ◌∙◌, subst, inl, inr}
+use Rattle.std.proofs.Common.{◌≡◌, ℕ, Bool, true, false, List, sym, ap, ◌∙◌, subst, inl, inr}
 use Rattle.std.specs.Prelude.{Option, Some, None}
-use Rattle.model.specs.ResponseHeads.{Head}
 use Rattle.model.specs.Responses.{Response}
 use Rattle.model.specs.Setup.{Passing}
-use Rattle.model.specs.Setup.Passing.{Whole, Streaming}
 use Rattle.model.specs.Tapes.{Entry}
 use Rattle.model.specs.Openings.{Opened, opens, AreApart}
 use Rattle.model.specs.Deliveries.{Delivery}

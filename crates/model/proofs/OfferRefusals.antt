@@ -6,7 +6,7 @@ use Rattle.model.specs.Tables.{total_size}
 use Rattle.model.specs.Messages.{Field, Item}
 use Rattle.model.specs.Messages.Item.{Block}
 use Rattle.model.specs.Logs.Event.{Up, UpFailed}
-use Rattle.model.specs.Tapes.{Entry, sent}
+use Rattle.model.specs.Tapes.{Noted, Entry, sent}
 use Rattle.model.specs.Tapes.Entry.{Came, Breached, Happened, Sent, Did}
 use Rattle.model.specs.ResponseHeads.{Head}
 use Rattle.model.specs.Deliveries.{Delivery, ReadsAs, IsPartOf}
@@ -18,8 +18,10 @@ use Rattle.model.specs.Known.{Known}
 use Rattle.model.specs.Causes.{Cause, reply}
 use Rattle.model.specs.Causes.Cause.{BadAnswer}
 use Rattle.model.specs.Offers.{IsOffered, WasOffered, IsDelivered}
+use Rattle.model.specs.Headline.{ClausesHold, HoldsInTurn}
+use Rattle.model.proofs.ResponseRefusals.{IsUnanswered, no_interims}
 use Rattle.model.proofs.DeliveryReadings.{one_delivery}
-use Rattle.model.proofs.RowTapes.{whole, frame, out_headed, field, got}
+use Rattle.model.proofs.RowTapes.{by_whole, whole, frame, out_headed, field, got}
 
 -- ---- where what was delivered was on offer
 
@@ -105,6 +107,36 @@ invents_hints d =
           let part : IsPartOf with_hints was.source = subst (λ (x : Delivery). IsPartOf x was.source) same was.part in
           let clash : ◌≡◌ {A = List Head} (hinted ∷ []) [] = part.interims ∙ source in cc)
     ]
+
+-- ---- interim heads before the cause
+
+-- Heads that nobody answered are told as sent before the frame that causes the reply behind them.
+abbrev hinted_first : List Entry
+hinted_first = out_headed (frame 1 4 1 (codes "hints")) hints ∷ got
+
+abbrev hints_alone : Delivery
+hints_alone = record { interims = hinted ∷ []; head = None; body = []; whole = false }
+
+reads_alone : ReadsAs (items_at 1 hinted_first) hints_alone
+reads_alone = record {
+  interim_items = Block hints false ∷ [];
+  rest = [];
+  is = refl;
+  interims = (record { digits = codes "103"; is = refl; three = refl; are_digits = refl; status = refl; no_other = refl }, omega arith, tt);
+  answer = (refl, refl, refl);
+}
+
+unanswered : IsUnanswered by_whole hinted_first 1
+unfolding total_size
+unanswered = record { no_cause = refl; silent = λ o is given. refl }
+
+pub invents_before : (noted : Noted) → HoldsInTurn (ClausesHold by_whole) (Came noted ∷ hinted_first) → ⊥
+invents_before noted c = elim c.0 [
+  | inl none ↦ cc
+  | inr holds ↦ (let d = holds.responses.delivered 1 in
+      let same = one_delivery (items_at 1 hinted_first) d.delivery hints_alone d.reads reads_alone in
+      let clash : ◌≡◌ {A = List Head} (hinted ∷ []) [] = ap (λ (x : Delivery). x.interims) (sym same) ∙ no_interims by_whole hinted_first 1 unanswered d in cc)
+]
 
 -- ---- what waited, in place of the reply
 

@@ -78,7 +78,7 @@ unfolding total_size
 waits_for_all c = let given = c refl 1 (post ++ field (codes "content-length") (codes "5") ∷ []) refl refl refl in given.given.is_opened
 
 -- It closes an upstream once the request is sent: nothing is done with.
-pub closes_at_once : ProgressHolds by_whole [] (Did (Close 1) ∷ got) → ⊥
+pub closes_at_once : ProgressHolds by_whole (Did (Close 1) ∷ got) → ⊥
 unfolding total_size
 closes_at_once c = let done = c.closes.1 in of_opened done.o done.is_opened done.reason
   where

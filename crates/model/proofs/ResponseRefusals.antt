@@ -96,6 +96,24 @@ no_head known t stream u d = elim d.offered [
   | inr was ↦ no_head_of_nothing d.delivery was.source (none_offered known was.earlier stream was.source (unanswered_earlier known was.later was.earlier stream (subst (λ (x : List Entry). IsUnanswered known x stream) was.is u)) was.offered) was.part
 ]
 
+no_interims_of_nothing : (part all : Delivery) → OffersNothing all → IsPartOf part all → part.interims ≡ []
+no_interims_of_nothing part all none is = at part.head is
+  where
+    none_in : (xs ys : List Head) → [] ≡ xs ++ ys → xs ≡ []
+    none_in [] ys e = refl
+    none_in (x ∷ xs) ys e = cc
+
+    at : (head : Option Head) → IsPart head part all → part.interims ≡ []
+    at None is = none_in part.interims is.more (sym none.0 ∙ is.interims)
+    at (Some head) is = is.interims ∙ none.0
+
+-- Nor has it interim heads.
+pub no_interims : (known : Known) (t : List Entry) (stream : ℕ) → IsUnanswered known t stream → (d : IsDelivered known t stream) → d.delivery.interims ≡ []
+no_interims known t stream u d = elim d.offered [
+  | inl none ↦ ap (λ (x : Delivery). x.interims) none
+  | inr was ↦ no_interims_of_nothing d.delivery was.source (none_offered known was.earlier stream was.source (unanswered_earlier known was.later was.earlier stream (subst (λ (x : List Entry). IsUnanswered known x stream) was.is u)) was.offered) was.part
+]
+
 -- ---- wrong gateways
 
 -- items that are one whole head are no interim heads

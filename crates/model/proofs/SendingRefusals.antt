@@ -14,8 +14,10 @@ use Rattle.model.specs.Admission.{is_open}
 use Rattle.model.specs.Openings.{Opened, opens, sent_for}
 use Rattle.model.specs.Available.{IsIn}
 use Rattle.model.specs.ErrorClause.{ErrorsHold}
-use Rattle.model.specs.ProgressClause.{HasBody, HasCome, AllStreamed, ProgressHolds}
+use Rattle.model.specs.ResponseClause.{AreWithin}
+use Rattle.model.specs.ProgressClause.{HasBody, HasCome, AllStreamed}
 use Rattle.model.specs.WindowClause.{WindowsHold}
+use Rattle.model.specs.Headline.{ClausesHold, HoldsInTurn}
 use Rattle.model.proofs.Http1Readings.{one_head}
 use Rattle.model.proofs.RowTapes.{by_whole, by_streaming, frame, plain, headed, out, out_headed, post, post_block, begun, getting, got, ok_two, update}
 use Rattle.model.proofs.RequestRefusals.{five, five_text, five_head, has_five_head}
@@ -87,8 +89,17 @@ not_streamed all = let s = all refl 1 five refl refl refl in at s.o s.given.is_o
     at o (inr none) come = none
 
 -- Two frames of DATA come in one piece, and what both bring is put out behind the second: octets would go back at once that nobody took.
-pub held_until_both : ProgressHolds by_streaming [] (Did (ToUp 1 (codes "hell")) ∷ plain (frame 0 0 1 (codes "lo")) ∷ three_came) → ⊥
-held_until_both c = not_streamed c.in_turn.0
+pub held_until_both : HoldsInTurn (ClausesHold by_streaming) (Did (ToUp 1 (codes "hell")) ∷ plain (frame 0 0 1 (codes "lo")) ∷ three_came) → ⊥
+held_until_both c = elim c.0 [ inl none ↦ cc | inr holds ↦ not_streamed holds.progress.streamed ]
+
+-- It sends a header block in fragments that would fit one frame.
+pub shredded : ErrorsHold by_whole (out_headed (frame 9 4 1 (15 ∷ 13 ∷ 1 ∷ 50 ∷ [])) ok_two ∷ out (frame 1 0 1 (136 ∷ [])) ∷ got) → ⊥
+unfolding total_size
+shredded c = let clash : false ≡ true = c.rightly_sent.1.0 in cc
+
+-- It begins a block with more maxima than limits can call for.
+pub many_maxima : (maximum now a b c : ℕ) (limits more : List ℕ) → AreWithin maximum limits now (a ∷ b ∷ c ∷ more) → ⊥
+many_maxima maximum now a b c limits more w = let few = w.few in omega (arith, few)
 
 -- ---- acts before their event
 

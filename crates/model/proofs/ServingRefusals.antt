@@ -9,7 +9,7 @@ use Rattle.model.specs.Octets.{some_of, is_token_octet, is_value, lower}
 use Rattle.model.specs.Http1.{Line, crlf, Head, is_target, H1Head, values_of, is_close, asks_to_close, AreRequests, BeginsNoRequest, forward}
 use Rattle.model.specs.Http2.{H2Request}
 use Rattle.model.specs.Logs.Event.{UpEnd}
-use Rattle.model.specs.Logs.Act.{Open, Close}
+use Rattle.model.specs.Logs.Act.{Open, ToUp, Close}
 use Rattle.model.specs.Tapes.{Entry}
 use Rattle.model.specs.Tapes.Entry.{Happened, Did}
 use Rattle.model.specs.Openings.{Opened, opens, sent_for}
@@ -19,9 +19,13 @@ use Rattle.model.specs.Causes.Cause.{Expects}
 use Rattle.model.specs.Courses.{items}
 use Rattle.model.specs.RequestClause.{RequestsHold}
 use Rattle.model.specs.ProgressClause.{was_cut, AllForwarded}
+use Rattle.model.specs.Headline.{ClausesHold, HoldsInTurn}
 use Rattle.model.proofs.Http1Readings.{one_head}
-use Rattle.model.proofs.RowTapes.{by_whole, frame, plain, headed, field, get, get_block, begun, reset}
+use Rattle.model.proofs.RowTapes.{by_whole, by_streaming, frame, plain, headed, field, get, get_block, post, post_block, begun, got, reset}
+use Rattle.model.proofs.RequestRefusals.{five, five_text, invents}
+use Rattle.model.proofs.Refusals.{closes_at_once}
 use Rattle.model.proofs.FirstLog as first
+use Rattle.model.proofs.BeginningExamples.{known}
 use Rattle.model.proofs.HeadlineExamples as example
 
 -- ---- connections for streams that want none
@@ -52,11 +56,11 @@ unsent = plain (frame 0 1 1 (codes "x")) ∷ Did (Close 1) ∷ Happened (UpEnd 1
 pub not_cut : was_cut 1 unsent ≡ false
 not_cut = refl
 
-means : H2Request (items example.known 1 unsent) first.request
+means : H2Request (items known 1 unsent) first.request
 unfolding total_size
 means = record { head = first.head; has_head = refl; well_formed = first.well_formed; no_connect = refl; contents = tt; ends = refl; length_holds = tt; is = refl }
 
-pub never_sent : AllForwarded example.known unsent → ⊥
+pub never_sent : AllForwarded known unsent → ⊥
 never_sent all = let f = all 1 first.request 0 means example.by_route refl in none f.o f.given.is_opened (λ empty. first.nothing_begins_none f.reads.front [] (forward first.request) f.reads.are_requests (sym empty ∙ f.reads.is))
   where
     none : (o : Opened) → IsIn o (opens unsent) → (sent_for o unsent ≡ [] → ⊥) → ⊥
@@ -120,3 +124,36 @@ goes_on_behind_close r s p =
 -- A target of another form is none that is read: the whole resource's name, as a proxy is sent it.
 pub proxy_form : (lines rest : List ℕ) (head : Head) → H1Head (codes "GET http://a/ HTTP/1.1\r\n" ++ lines) head → head.target ≡ codes "http://a/" → ⊥
 proxy_form lines rest head h e = let clash : false ≡ true = ap is_target (sym e) ∙ h.target in false≢true clash
+
+-- ---- what a frame causes, told at another place of its step
+
+-- It opens a connection where requests are passed on whole, though the client may still send more of this one.
+pub opens_before_whole : RequestsHold by_whole (Did (Open 1 0) ∷ headed (frame 1 4 1 post_block) post ∷ begun) → ⊥
+unfolding total_size
+opens_before_whole c = let may = c.in_time.0 in let clash : false ≡ true = may.whole refl in cc
+
+-- It closes a connection before the frame of the client that it closes it for.
+pub closes_before_reset : HoldsInTurn (ClausesHold by_whole) (plain (reset 1 8) ∷ Did (Close 1) ∷ got) → ⊥
+closes_before_reset c = elim c.0 [ inl none ↦ cc | inr holds ↦ closes_at_once holds.progress ]
+
+-- A whole request comes, and something else behind it, before it is put out.
+abbrev waiting : List Entry
+waiting = headed (frame 1 5 1 []) first.head ∷ begun
+
+waiting_means : H2Request (items known 1 waiting) first.request
+unfolding total_size
+waiting_means = record { head = first.head; has_head = refl; well_formed = first.well_formed; no_connect = refl; contents = tt; ends = refl; length_holds = tt; is = refl }
+
+pub forwards_late : HoldsInTurn (ClausesHold known) (plain (frame 6 0 0 (codes "hellohoy")) ∷ waiting) → ⊥
+forwards_late c = elim c.0 [
+  | inl none ↦ cc
+  | inr holds ↦ (let f = holds.progress.forwarded 1 first.request 0 waiting_means example.by_route refl in f.given.is_opened)
+]
+
+-- It puts out octets of a body before they came.
+pub sends_before : HoldsInTurn (ClausesHold by_streaming) (plain (frame 0 0 1 (codes "z")) ∷ Did (ToUp 1 (five_text ++ codes "z")) ∷ Did (Open 1 0) ∷ headed (frame 1 4 1 []) five ∷ begun) → ⊥
+unfolding total_size
+sends_before c = elim c.0 [
+  | inl none ↦ cc
+  | inr holds ↦ (let s = holds.requests.served (record { k = 1; route = 0; stream = 1 }) (inl refl) in elim s.sent [ inl whole ↦ (let ends = whole.means.ends in let clash : false ≡ true = ends in cc) | inr part ↦ invents part ])
+]

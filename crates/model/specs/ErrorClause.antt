@@ -4,7 +4,7 @@
 use Rattle.std.specs.Prelude.{◌≡◌, ℕ, Bool, true, false, not, ◌&&◌, ◌||◌, ◌==◌, nat_lt, if◌then◌else◌, List, [], ◌∷◌, ◌++◌, length, map, filter, reverse, Option, Some, None}
 use Rattle.std.specs.List.{list_any}
 use Rattle.model.specs.Octets.{is_empty}
-use Rattle.model.specs.Frames.{Frame, data_kind, headers_kind, rst_stream_kind, ping_kind, window_update_kind, continuation_kind, is_ack, ends_stream, spell_number, settings_frame, settings_ack, goaway, no_error}
+use Rattle.model.specs.Frames.{Frame, data_kind, headers_kind, rst_stream_kind, ping_kind, window_update_kind, continuation_kind, is_ack, ends_stream, ends_headers, spell_number, settings_frame, settings_ack, goaway, no_error}
 use Rattle.model.specs.Logs.Event.{ClientEnd}
 use Rattle.model.specs.Tapes.{Noted, Entry, sent, is_closed}
 use Rattle.model.specs.Tapes.Entry.{Came, Breached, Happened, Sent, Did}
@@ -121,12 +121,16 @@ abbrev pub is_given_back : List Entry → Frame → Bool
 is_given_back t frame =
     length frame.payload == 4 && nat_lt 0 (increment frame) && (frame.id == 0 || is_active frame.id t && not (is_ended_by_client frame.id t))
 
--- A part of a response goes to an active stream that the gateway hasn't ended. It has octets, unless it is the stream's end alone; and
--- it is begun while fewer octets than the high water are untaken.
+-- a header block goes on in another frame only where this one is full (section 6.10)
+abbrev pub is_filled : Frame → Bool
+is_filled frame = frame.kind == data_kind || (ends_headers frame || length frame.payload == 16384)
+
+-- A part of a response goes to an active stream that the gateway hasn't ended. It has octets, unless it is the stream's end alone; it
+-- is begun while fewer octets than the high water are untaken; and it is a whole header block where that fits one frame.
 abbrev pub is_part : List Entry → Frame → Bool
 is_part t frame =
     is_active frame.id t && not (is_ended_by_gateway frame.id t) && (not (is_empty frame.payload) || frame.kind == data_kind && ends_stream frame)
-    && (frame.kind == continuation_kind || nat_lt (untaken t) high_water)
+    && (frame.kind == continuation_kind || nat_lt (untaken t) high_water) && is_filled frame
 
 abbrev pub is_rightly_sent : List Entry → Frame → Bool
 is_rightly_sent t frame =

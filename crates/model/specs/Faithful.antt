@@ -17,7 +17,7 @@ use Rattle.model.specs.Failures.{AreJudged}
 use Rattle.model.specs.ErrorClause.{ErrorsHold}
 use Rattle.model.specs.ProgressClause.{ProgressHolds}
 use Rattle.model.specs.WindowClause.{WindowsHold}
-use Rattle.model.specs.Headline.{OthersAreRead}
+use Rattle.model.specs.Headline.{OthersAreRead, HoldsInTurn}
 
 -- a farewell with INTERNAL_ERROR, which no row of the error table has
 abbrev pub gives_up : Frame → Bool
@@ -28,21 +28,20 @@ abbrev pub is_given_up : List Entry → Bool
 is_given_up t = list_any (λ noted. gives_up noted.frame) (sent t)
 
 -- What holds besides, where it didn't.
-pub record OthersHold (known : Known) (before segment : List Entry) : Type 0 where
-  pub others_are_read : OthersAreRead (segment ++ before)
-  pub failures : AreJudged known (segment ++ before)
-  pub errors : ErrorsHold known (segment ++ before)
-  pub progress : ProgressHolds known before segment
+pub record OthersHold (known : Known) (t : List Entry) : Type 0 where
+  pub others_are_read : OthersAreRead t
+  pub failures : AreJudged known t
+  pub errors : ErrorsHold known t
+  pub progress : ProgressHolds known t
 
--- The clauses that hold at the end of each step, which added this segment to the tape before it: those of the headline on
--- requests, on responses and on windows, and of the one on progress that octets go to connections that are open. All of the
--- headline holds unless the gateway gave the connection up.
-pub record Clauses (known : Known) (before segment : List Entry) : Type 0 where
-  pub requests : RequestsHold known (segment ++ before)
-  pub responses : ResponsesHold known (segment ++ before)
-  pub windows : WindowsHold known (segment ++ before)
-  pub go_to_open : GoToOpen (segment ++ before)
-  pub others : is_given_up (segment ++ before) ≡ false → OthersHold known before segment
+-- The clauses: those of the headline on requests, on responses and on windows, and of the one on progress that octets go to connections
+-- that are open. All of the headline holds unless the gateway gave the connection up.
+pub record Clauses (known : Known) (t : List Entry) : Type 0 where
+  pub requests : RequestsHold known t
+  pub responses : ResponsesHold known t
+  pub windows : WindowsHold known t
+  pub go_to_open : GoToOpen t
+  pub others : is_given_up t ≡ false → OthersHold known t
 
 -- A tape tells the octets that the client sent so far: its frames are read off them, and the notes of their blocks are
 -- right. Where a block wasn't read, the client is closed. Nothing comes behind the client's close.
@@ -54,12 +53,13 @@ pub record IsTold (text : List ℕ) (t : List Entry) : Type 0 where
   pub ends : EndsWithClose t
 
 -- The step, behind the steps before it, has this segment of the tape: its event might come, the segment is the step's, the
--- tape tells all that the client sent, and the clauses hold.
+-- tape tells all that the client sent, and the clauses hold, as they did before each thing that came in.
 pub record IsTaped (known : Known) (earlier : List Step) (step : Step) (before segment : List Entry) : Type 0 where
   pub admitted : IsAdmitted known before step.event
   pub step_is : IsStep step segment
   pub told : IsTold (client_in (step ∷ earlier)) (segment ++ before)
-  pub clauses : Clauses known before segment
+  pub in_turn : HoldsInTurn (Clauses known) (segment ++ before)
+  pub clauses : Clauses known (segment ++ before)
 
 -- The steps, the newest first, have this tape, at the end of each.
 abbrev pub HasTape : Known → List Step → List Entry → Type 0
@@ -67,7 +67,7 @@ HasTape known [] tape = tape ≡ []
 HasTape known (step ∷ earlier) tape =
     (segment before : List Entry) × (tape ≡ segment ++ before) × IsTaped known earlier step before segment × HasTape known earlier before
 
--- The log, the oldest step first, has a tape for which the clauses hold at the end of each step.
+-- The log, the oldest step first, has a tape for which the clauses hold wherever something may come in: within a step, and at its end.
 pub record Faithful (setup : Setup) (log : List Step) : Type 0 where
   pub known : Known
   pub of_setup : known.setup ≡ setup

@@ -3,12 +3,12 @@
 -- upstream's, or a reply of the gateway's own for which there was a cause; every fault is answered as the error table says, and
 -- a stream with a fault becomes no request; and what could go on does, unless there is no room for it. `Faithful` says
 -- how much of it `run` is proved of so far.
-use Rattle.std.specs.Prelude.{◌≡◌, ℕ, Bool, not, ◌&&◌, List, [], ◌∷◌, ◌++◌, reverse, is_some}
+use Rattle.std.specs.Prelude.{◌≡◌, ℕ, Bool, not, ◌&&◌, ◌⊎◌, List, [], ◌∷◌, ◌++◌, reverse, is_some}
 use Rattle.model.specs.Tables.{Table}
 use Rattle.model.specs.Logs.{Step, client_in}
 use Rattle.model.specs.Setup.{Setup}
-use Rattle.model.specs.Tapes.{Noted, Entry, came, EndsWithClose, IsStep, IsRead}
-use Rattle.model.specs.Tapes.Entry.{Came}
+use Rattle.model.specs.Tapes.{Noted, Entry, came, sent, EndsWithClose, IsStep, IsRead}
+use Rattle.model.specs.Tapes.Entry.{Came, Sent, Did}
 use Rattle.model.specs.Decoding.{completed, Decodes, is_read}
 use Rattle.model.specs.Errors.{first_of}
 use Rattle.model.specs.Known.{Known}
@@ -21,13 +21,21 @@ use Rattle.model.specs.ErrorClause.{ErrorsHold}
 use Rattle.model.specs.ProgressClause.{ProgressHolds}
 use Rattle.model.specs.WindowClause.{WindowsHold}
 
--- The five clauses at the end of a step, which added this segment to the tape before it.
-pub record ClausesHold (known : Known) (before segment : List Entry) : Type 0 where
-  pub requests : RequestsHold known (segment ++ before)
-  pub responses : ResponsesHold known (segment ++ before)
-  pub errors : ErrorsHold known (segment ++ before)
-  pub progress : ProgressHolds known before segment
-  pub windows : WindowsHold known (segment ++ before)
+-- the five clauses
+pub record ClausesHold (known : Known) (t : List Entry) : Type 0 where
+  pub requests : RequestsHold known t
+  pub responses : ResponsesHold known t
+  pub errors : ErrorsHold known t
+  pub progress : ProgressHolds known t
+  pub windows : WindowsHold known t
+
+-- It holds of the tape before each thing that comes in, unless nothing was sent yet: so all that an entry causes stands behind it, and
+-- before the next thing that comes in.
+abbrev pub HoldsInTurn : (List Entry → Type 0) → List Entry → Type 0
+HoldsInTurn Holds [] = Unit {0}
+HoldsInTurn Holds (Sent noted ∷ t) = HoldsInTurn Holds t
+HoldsInTurn Holds (Did act ∷ t) = HoldsInTurn Holds t
+HoldsInTurn Holds (e ∷ t) = ((sent t ≡ []) ⊎ Holds t) × HoldsInTurn Holds t
 
 -- the frame completes a header block, and is an error of the connection before the block is read
 abbrev pub is_unread : List Entry → Noted → Bool
@@ -50,12 +58,13 @@ pub record IsTold (known : Known) (text : List ℕ) (t : List Entry) : Type 0 wh
   pub ends : EndsWithClose t
 
 -- The step, behind the steps before it, has this segment of the tape: its event might come, the segment is the step's, the
--- tape tells all that the client sent, and the clauses hold.
+-- tape tells all that the client sent, and the clauses hold, as they did before each thing that came in.
 pub record IsTaped (known : Known) (earlier : List Step) (step : Step) (before segment : List Entry) : Type 0 where
   pub admitted : IsAdmitted known before step.event
   pub step_is : IsStep step segment
   pub told : IsTold known (client_in (step ∷ earlier)) (segment ++ before)
-  pub clauses : ClausesHold known before segment
+  pub in_turn : HoldsInTurn (ClausesHold known) (segment ++ before)
+  pub clauses : ClausesHold known (segment ++ before)
 
 -- The steps, the newest first, have this tape, at the end of each.
 abbrev pub HasTape : Known → List Step → List Entry → Type 0
@@ -63,7 +72,7 @@ HasTape known [] tape = tape ≡ []
 HasTape known (step ∷ earlier) tape =
     (segment before : List Entry) × (tape ≡ segment ++ before) × IsTaped known earlier step before segment × HasTape known earlier before
 
--- The log, the oldest step first, has a tape for which the clauses hold at the end of each step.
+-- The log, the oldest step first, has a tape for which the clauses hold wherever something may come in: within a step, and at its end.
 pub record Headline (setup : Setup) (log : List Step) : Type 0 where
   pub known : Known
   pub of_setup : known.setup ≡ setup

@@ -10,7 +10,7 @@ use Rattle.model.specs.Logs.Act.{Close}
 use Rattle.model.specs.Setup.{IsFirstMatch}
 use Rattle.model.specs.Setup.Passing.{Streaming}
 use Rattle.model.specs.Tapes.{Noted, Entry, came, is_closed}
-use Rattle.model.specs.Tapes.Entry.{Came, Sent, Did}
+use Rattle.model.specs.Tapes.Entry.{Came, Did}
 use Rattle.model.specs.Decoding.{completed}
 use Rattle.model.specs.Responses.{IsComplete}
 use Rattle.model.specs.Admission.{untaken, high_water, is_open}
@@ -91,13 +91,6 @@ abbrev pub AllStreamed : Known → List Entry → Type 0
 AllStreamed known t =
     known.setup.passing ≡ Streaming → (stream : ℕ) (head : List Field) → is_active stream t ≡ true → HasHead (items known stream t) head → list_any ends_with (items known stream t) ≡ false → IsStreamed known t stream
 
--- So it is before each thing that comes in: what one frame brings is passed on before the next is looked at.
-abbrev pub AreStreamedInTurn : Known → List Entry → Type 0
-AreStreamedInTurn known [] = Unit {0}
-AreStreamedInTurn known (Sent noted ∷ t) = AreStreamedInTurn known t
-AreStreamedInTurn known (Did act ∷ t) = AreStreamedInTurn known t
-AreStreamedInTurn known (e ∷ t) = AllStreamed known t × AreStreamedInTurn known t
-
 -- ---- responses
 
 -- While fewer octets are untaken, no stream is ready.
@@ -118,27 +111,24 @@ pub data Reason (known : Known) (t : List Entry) (o : Opened) : Type 0 where
 abbrev pub AreClosed : Known → List Entry → Type 0
 AreClosed known t = (o : Opened) → IsIn o (opens t) → is_open o.k t ≡ true → Reason known t o → ⊥
 
--- A connection is closed by a reason that holds at the end of the step.
+-- A connection is done with.
 pub record IsDoneWith (known : Known) (t : List Entry) (k : ℕ) : Type 0 where
   pub o : Opened
   pub is_opened : IsIn o (opens t)
   pub number : o.k ≡ k
   pub reason : Reason known t o
 
--- Each connection that the step closes was open, and is done with; the step's entries stand before the others of the tape.
-abbrev pub ClosesRightly : Known → List Entry → List Entry → List Entry → Type 0
-ClosesRightly known t before [] = Unit {0}
-ClosesRightly known t before (Did (Close k) ∷ segment) =
-    (is_open k (segment ++ before) ≡ true) × IsDoneWith known t k × ClosesRightly known t before segment
-ClosesRightly known t before (_ ∷ segment) = ClosesRightly known t before segment
+-- Each connection that was closed was open where it was, and is done with.
+abbrev pub ClosesRightly : Known → List Entry → List Entry → Type 0
+ClosesRightly known t [] = Unit {0}
+ClosesRightly known t (Did (Close k) ∷ earlier) = (is_open k earlier ≡ true) × IsDoneWith known t k × ClosesRightly known t earlier
+ClosesRightly known t (_ ∷ earlier) = ClosesRightly known t earlier
 
--- At the end of a step nothing is due, connections that are done with are closed, and others aren't. Octets go to connections
--- that are open.
-pub record ProgressHolds (known : Known) (before segment : List Entry) : Type 0 where
-  pub forwarded : AllForwarded known (segment ++ before)
-  pub streamed : AllStreamed known (segment ++ before)
-  pub in_turn : AreStreamedInTurn known (segment ++ before)
-  pub none_ready : NoneReady known (segment ++ before)
-  pub closed : AreClosed known (segment ++ before)
-  pub closes : ClosesRightly known (segment ++ before) before segment
-  pub go_to_open : GoToOpen (segment ++ before)
+-- Nothing is due, connections that are done with are closed, and others aren't. Octets go to connections that are open.
+pub record ProgressHolds (known : Known) (t : List Entry) : Type 0 where
+  pub forwarded : AllForwarded known t
+  pub streamed : AllStreamed known t
+  pub none_ready : NoneReady known t
+  pub closed : AreClosed known t
+  pub closes : ClosesRightly known t t
+  pub go_to_open : GoToOpen t

@@ -1,11 +1,13 @@
 -- The clause on requests: what each upstream connection was sent reads as just the request of the stream that it was given to.
 use Rattle.std.specs.Prelude.{◌≡◌, ℕ, true, false, ◌⊎◌, List, [], ◌∷◌, None}
+use Rattle.std.specs.List.{list_any}
 use Rattle.model.specs.Octets.{IsStrictFront}
-use Rattle.model.specs.Messages.{Field, Request, Item}
+use Rattle.model.specs.Messages.{Field, Request, Item, ends_with}
 use Rattle.model.specs.Http1.{H1Request, H1Requests, forward}
 use Rattle.model.specs.Http2.{HasHead, WellFormedHead, H2Request, MayBecome, authority_of, path_of}
 use Rattle.model.specs.Logs.Act.{Open}
 use Rattle.model.specs.Setup.{IsFirstMatch}
+use Rattle.model.specs.Setup.Passing.{Whole}
 use Rattle.model.specs.Tapes.{Entry}
 use Rattle.model.specs.Tapes.Entry.{Did}
 use Rattle.model.specs.Lifetimes.{is_active}
@@ -37,11 +39,12 @@ pub record IsServed (known : Known) (t : List Entry) (o : Opened) : Type 0 where
   pub sent : IsSentWhole (sent_for o t) (items known o.stream t) ⊎ IsSentInPart (sent_for o t) (items known o.stream t)
 
 -- A connection may be opened for a stream that is active and that the gateway doesn't answer itself, while the connection with the
--- client isn't to end.
+-- client isn't to end; and where requests are passed on whole, once the client has ended the stream.
 pub record MayBeServed (known : Known) (t : List Entry) (stream : ℕ) : Type 0 where
   pub active : is_active stream t ≡ true
   pub no_cause : cause known stream t ≡ None
   pub goes_on : must_end known t ≡ false
+  pub whole : known.setup.passing ≡ Whole → list_any ends_with (items known stream t) ≡ true
 
 -- Each connection was opened where it might be.
 abbrev pub OpenInTime : Known → List Entry → Type 0

@@ -1,6 +1,6 @@
 -- The clause on responses: what the client reads on each stream is what its upstream answered, or a reply of the gateway's own
 -- whose cause occurred. Header blocks keep within the client's limits, and aren't torn apart.
-use Rattle.std.specs.Prelude.{◌≡◌, ℕ, ◌≤◌, true, false, if◌then◌else◌, List, [], ◌∷◌, ◌++◌, Option, Some, None, is_some, All, Any, unwrap_or, is_none, ◌&&◌}
+use Rattle.std.specs.Prelude.{◌≡◌, ℕ, ◌≤◌, true, false, if◌then◌else◌, List, [], ◌∷◌, ◌++◌, length, Option, Some, None, is_some, All, Any, unwrap_or, is_none, ◌&&◌}
 use Rattle.std.specs.List.{last_or}
 use Rattle.model.specs.Messages.{Field}
 use Rattle.model.specs.Tables.{Table}
@@ -29,12 +29,13 @@ limits_since (Sent noted ∷ t) = if is_some (completed (sent t) noted.frame) th
 limits_since (_ ∷ t) = limits_since t
 
 -- A block begins with these maxima, where the table had this one, the client named these limits since the block before, and the
--- last that it ever named is the limit now: behind each limit that was named the table came down to it, and neither a maximum
--- nor the table's own passes the limit now.
+-- last that it ever named is the limit now: behind each limit that was named the table came down to it, neither a maximum
+-- nor the table's own passes the limit now, and there are no more than two.
 pub record AreWithin (maximum : ℕ) (limits : List ℕ) (now : ℕ) (maxima : List ℕ) : Type 0 where
   pub come_down : All (λ limit. Any (λ reached. reached ≤ limit) (maximum ∷ maxima)) limits
   pub named : All (λ named. named ≤ now) maxima
   pub stands : unwrap_or (last_or None maxima) maximum ≤ now
+  pub few : length maxima ≤ 2
 
 -- A block that is sent begins with maxima that keep within the client's limits.
 pub record KeepsLimits (t : List Entry) (block : Partial) : Type 0 where

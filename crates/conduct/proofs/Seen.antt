@@ -22,7 +22,7 @@ use Rattle.model.specs.WindowsOnTape.{increment}
 use Rattle.model.specs.Courses.{cause_of_frame, first_of_both}
 use Rattle.model.specs.Octets.{is_empty}
 use Rattle.model.specs.Admission.{high_water}
-use Rattle.model.specs.ErrorClause.{rst_stream, acks, reset_for, is_plainly_flagged}
+use Rattle.model.specs.ErrorClause.{rst_stream, acks, reset_for, is_plainly_flagged, is_filled}
 use Rattle.conduct.specs.Summary.{Brief, carried_in, Stream as Kept, Summary}
 use Rattle.conduct.specs.Judging.{is_over_in, is_active_in, completed_in, malformed_in, rows_in, fault_for}
 use Rattle.conduct.specs.Owing.{about_in, fault_in, new_cause_in, brief_from, next_brief, owed_first_in, resets_in, reset_behind_in, owes_in, is_given_back_in, is_part_in, is_rightly_sent_in, must_end_in}
@@ -216,7 +216,7 @@ module _ (setup : Setup) (fails : Bool) (f : ℕ → Kept) (s : Summary) (will :
 
   part_seen : (frame : Frame) → is_part_in view frame ≡ is_part_in s frame
   part_seen frame =
-      ap (λ b. b && (not (is_empty frame.payload) || frame.kind == data_kind && ends_stream frame) && (frame.kind == continuation_kind || nat_lt s.untaken high_water))
+      ap (λ b. b && (not (is_empty frame.payload) || frame.kind == data_kind && ends_stream frame) && (frame.kind == continuation_kind || nat_lt s.untaken high_water) && is_filled frame)
       (when_active f s will (λ kept. not kept.ended_by_gateway) frame.id)
 
   pub rightly_seen : (frame : Frame) → is_rightly_sent_in view frame ≡ is_rightly_sent_in s frame

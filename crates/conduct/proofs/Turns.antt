@@ -9,7 +9,8 @@ use Rattle.model.specs.Tapes.Entry.{Came, Breached, Happened, Sent, Did}
 use Rattle.model.specs.Decoding.{Partial, joined}
 use Rattle.model.specs.StreamStates.{most_streams}
 use Rattle.model.specs.Lifetimes.{ends_by}
-use Rattle.model.specs.ErrorClause.{is_fatal, is_passing, is_plainly_flagged, rst_stream}
+use Rattle.model.specs.Admission.{high_water}
+use Rattle.model.specs.ErrorClause.{is_fatal, is_passing, is_plainly_flagged, is_filled, rst_stream}
 use Rattle.model.specs.Octets.{is_empty}
 use Rattle.conduct.specs.Turn.{rest_of}
 use Rattle.conduct.specs.Summary.{Stream as Kept, Summary}
@@ -68,8 +69,11 @@ ends_active s queue (Sent noted) (inr may) = λ ends. cases (noted.frame.kind ==
     sent_so true rightly is = absurd (let no : true ≡ false = is in cc)
     sent_so false rightly is =
         let part : is_part_in s noted.frame ≡ true = (and_parts (is_plainly_flagged noted.frame) (is_part_in s noted.frame) rightly).1 in
-        let last = and_parts (is_active_in noted.frame.id s && not (s.stream noted.frame.id).ended_by_gateway && (not (is_empty noted.frame.payload) || noted.frame.kind == data_kind && ends_stream noted.frame)) _ part in
-        let both = and_parts (is_active_in noted.frame.id s && not (s.stream noted.frame.id).ended_by_gateway) _ last.0 in
+        let begun : Bool = noted.frame.kind == continuation_kind || nat_lt s.untaken high_water in
+        let some : Bool = not (is_empty noted.frame.payload) || noted.frame.kind == data_kind && ends_stream noted.frame in
+        let own : Bool = is_active_in noted.frame.id s && not (s.stream noted.frame.id).ended_by_gateway in
+        let all = and_parts (own && some && begun) (is_filled noted.frame) part in
+        let both = and_parts own some (and_parts (own && some) begun all.0).0 in
         (and_parts (is_active_in noted.frame.id s) (not (s.stream noted.frame.id).ended_by_gateway) both.0).0
 
     cases : (b : Bool) → (noted.frame.kind == window_update_kind) ≡ b → is_rightly_sent_in s noted.frame ≡ true → ends_by (completed_in s.block_out noted.frame) noted.frame ≡ true → is_active_in noted.frame.id s ≡ true

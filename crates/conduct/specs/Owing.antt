@@ -20,7 +20,7 @@ use Rattle.model.specs.Openings.{given}
 use Rattle.model.specs.Causes.{Cause, cause_if}
 use Rattle.model.specs.Causes.Cause.{BadAnswer}
 use Rattle.model.specs.Courses.{upstream_of, cause_of_frame, first_of_both, interrupts}
-use Rattle.model.specs.ErrorClause.{rst_stream, acks, reset_for, is_plainly_flagged}
+use Rattle.model.specs.ErrorClause.{rst_stream, acks, reset_for, is_plainly_flagged, is_filled}
 use Rattle.conduct.specs.Summary.{Brief, carried_in, Stream as Kept, Summary}
 use Rattle.conduct.specs.Judging.{active_in, is_active_in, completed_in, fault_for}
 
@@ -136,12 +136,12 @@ abbrev pub is_given_back_in : Summary → Frame → Bool
 is_given_back_in s frame =
     length frame.payload == 4 && nat_lt 0 (increment frame) && (frame.id == 0 || is_active_in frame.id s && not (s.stream frame.id).ended_by_client)
 
--- a part of a response to an active stream that the gateway hasn't ended, which may go out now
+-- a part of a response to an active stream that the gateway hasn't ended, which may go out now and fills its frame where its block goes on
 abbrev pub is_part_in : Summary → Frame → Bool
 is_part_in s frame =
     is_active_in frame.id s && not (s.stream frame.id).ended_by_gateway
     && (not (is_empty frame.payload) || frame.kind == data_kind && ends_stream frame)
-    && (frame.kind == continuation_kind || nat_lt s.untaken high_water)
+    && (frame.kind == continuation_kind || nat_lt s.untaken high_water) && is_filled frame
 
 -- a part of a response, or octets given back, as they may be sent
 abbrev pub is_rightly_sent_in : Summary → Frame → Bool

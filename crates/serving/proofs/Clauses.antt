@@ -1,5 +1,5 @@
 -- Moves that are allowed leave what is kept in order, and at rest the clauses hold.
-use Rattle.std.proofs.Common.{◌≡◌, ℕ, true, false, List, [], ◌∷◌, ◌++◌, refl, sym, ap, ◌∙◌, subst, inl, inr, if◌then◌else◌}
+use Rattle.std.proofs.Common.{◌≡◌, ℕ, true, false, List, [], ◌∷◌, refl, sym, ap, ◌∙◌, subst, inl, inr, if◌then◌else◌}
 use Rattle.std.specs.Prelude.{Some}
 use Rattle.std.specs.List.{list_any}
 use Rattle.std.proofs.lemmas.Bool.{or_parts}
@@ -102,7 +102,6 @@ at_first known = record {
   due = tt;
   goes = tt;
   in_time = tt;
-  in_turn = tt;
   closes = tt;
   shut = λ closed. refl;
 }
@@ -163,31 +162,29 @@ module _ (known : Known) (t : List Entry) (s : State) (h : Stands known t s) (to
   done_with k l = record { o = l.o; is_opened = l.is_opened; number = l.number; reason = elim l.why [ inl reason ↦ reason | inr ending ↦ ClientClosed (sym is_told.closed ∙ rests.ended (is_told.ends ∙ ending)) ] }
 
   -- and no others
-  pub closes_rightly : (before segment : List Entry) → Closes known t s (segment ++ before) → ClosesRightly known t before segment
-  closes_rightly before [] c = tt
-  closes_rightly before (Did (Close k) ∷ segment) c = (c.0, done_with k c.1, closes_rightly before segment c.2)
-  closes_rightly before (Did (Open k route) ∷ segment) c = closes_rightly before segment c
-  closes_rightly before (Did (ToUp k octets) ∷ segment) c = closes_rightly before segment c
-  closes_rightly before (Did CloseClient ∷ segment) c = closes_rightly before segment c
-  closes_rightly before (Came noted ∷ segment) c = closes_rightly before segment c
-  closes_rightly before (Breached breach ∷ segment) c = closes_rightly before segment c
-  closes_rightly before (Happened event ∷ segment) c = closes_rightly before segment c
-  closes_rightly before (Sent noted ∷ segment) c = closes_rightly before segment c
+  pub closes_rightly : (earlier : List Entry) → Closes known t s earlier → ClosesRightly known t earlier
+  closes_rightly [] c = tt
+  closes_rightly (Did (Close k) ∷ earlier) c = (c.0, done_with k c.1, closes_rightly earlier c.2)
+  closes_rightly (Did (Open k route) ∷ earlier) c = closes_rightly earlier c
+  closes_rightly (Did (ToUp k octets) ∷ earlier) c = closes_rightly earlier c
+  closes_rightly (Did CloseClient ∷ earlier) c = closes_rightly earlier c
+  closes_rightly (Came noted ∷ earlier) c = closes_rightly earlier c
+  closes_rightly (Breached breach ∷ earlier) c = closes_rightly earlier c
+  closes_rightly (Happened event ∷ earlier) c = closes_rightly earlier c
+  closes_rightly (Sent noted ∷ earlier) c = closes_rightly earlier c
 
--- what holds at the end of a step
-clauses_of : (known : Known) (before segment : List Entry) (s : State) (told : Told) → Stands known (segment ++ before) s → IsTold known (segment ++ before) told → Rests told s → KeepClauses known before segment
-clauses_of known before segment s told h is_told rests = record {
-  requests = requests_hold known (segment ++ before) s h told is_told rests;
-  forwarded = all_forwarded known (segment ++ before) s h told is_told rests;
-  streamed = all_streamed known (segment ++ before) s h rests.nothing;
-  in_turn = h.in_turn;
-  closed = are_closed known (segment ++ before) s h told is_told rests;
-  closes = closes_rightly known (segment ++ before) s h told is_told rests before segment h.closes;
-  go_to_open = h.goes;
-}
+  -- what holds at rest
+  clauses_of : KeepClauses known t
+  clauses_of = record {
+    requests = requests_hold;
+    forwarded = all_forwarded;
+    streamed = all_streamed known t s h rests.nothing;
+    closed = are_closed;
+    closes = closes_rightly t h.closes;
+    go_to_open = h.goes;
+  }
 
 -- Moves that are allowed, and that say what is so, keep the clauses where they rest.
-pub clauses_hold : (known : Known) (turns : List Turn) (before segment : List Entry) → AreAllowed known.setup turns → AreSo known turns → tape_of turns ≡ segment ++ before → Rests (told_of turns) (state_of known.setup turns) → KeepClauses known before segment
-clauses_hold known turns before segment all so is rests =
-    let s = state_of known.setup turns in
-    clauses_of known before segment s (told_of turns) (subst (λ t. Stands known t s) is (all_stand known turns all so)) (subst (λ t. IsTold known t (told_of turns)) is (all_told known turns so)) rests
+pub clauses_hold : (known : Known) (turns : List Turn) → AreAllowed known.setup turns → AreSo known turns → Rests (told_of turns) (state_of known.setup turns) → KeepClauses known (tape_of turns)
+clauses_hold known turns all so rests =
+    clauses_of known (tape_of turns) (state_of known.setup turns) (all_stand known turns all so) (told_of turns) (all_told known turns so) rests

@@ -172,7 +172,6 @@ module _ (known : Known) (t : List Entry) (s : State) (h : Stands known t s) whe
           held = held_dropped k may.live may.found (Did (Close k)) u may.nothing may.nothing refl refl (λ j. refl) same;
           goes = λ x. x;
           in_time = λ x. x;
-          in_turn = λ here before. before;
           ends = λ e. e;
           closes = λ c. (
             ap (λ n. is_open n t) (sym it.2) ∙ it.3.opened,
@@ -215,7 +214,6 @@ module _ (known : Known) (t : List Entry) (s : State) (h : Stands known t s) whe
       held = λ stream x found. way_stays known t (Did CloseClient) s s stream x.way (same stream) refl (λ o g. text_same t (Did CloseClient) s s may.nothing may.nothing (λ j. refl) o.k) (λ j stage is there. there) (λ j none. none) (h.held stream x found);
       goes = λ x. x;
       in_time = λ x. x;
-      in_turn = λ here before. before;
       ends = λ e. e;
       closes = λ c. c;
       shut = λ closed. may.none;
@@ -245,7 +243,6 @@ module _ (known : Known) (t : List Entry) (s : State) (h : Stands known t s) whe
           held = λ stream x found. held_dropped k there.0 there.1 e u come.nothing come.nothing refl refl (λ j. refl) same stream x (held_kept behind stream (map (drop_from k) s.held) x found).0;
           goes = λ x. x;
           in_time = λ x. x;
-          in_turn = λ here before. (here, before);
           ends = λ ends. absurd (not_to_end known t s h told behind is_told come ends);
           closes = λ x. x;
           shut = λ closed. ap (without k_of k) (h.shut closed);

@@ -128,5 +128,5 @@ unfolding total_size
 so8 = ((so7, sym (items_stay known 3 (tape_of m7) (Came reset) refl), told_by known _ (1 ∷ []) (refl, (refl, tt)) refl refl refl), tt, told_by known _ (1 ∷ []) (refl, (refl, tt)) refl refl refl)
 
 -- so the clauses hold at its end
-at_end : KeepClauses known [] (tape_of m8)
-at_end = clauses_hold known m8 [] (tape_of m8) a8 so8 refl (record { nothing = refl; none_done = refl; ended = λ e. cc })
+at_end : KeepClauses known (tape_of m8)
+at_end = clauses_hold known m8 a8 so8 (record { nothing = refl; none_done = refl; ended = λ e. cc })

@@ -103,7 +103,6 @@ module _ (known : Known) (t : List Entry) (s : State) (h : Stands known t s) (to
         held = λ stream x found. on_way (Came noted) u come.nothing come.nothing (items_where known t noted same) refl (λ k. refl) refl stream x (held_kept behind stream s.held x found).0;
         goes = λ x. x;
         in_time = λ x. x;
-        in_turn = λ here before. (here, before);
         ends = λ ends. absurd (not_to_end come ends);
         closes = λ x. x;
         shut = h.shut;
@@ -128,7 +127,6 @@ module _ (known : Known) (t : List Entry) (s : State) (h : Stands known t s) (to
         held = λ stream x found. on_way (Sent noted) u nothing nothing same refl (λ k. refl) refl stream x (held_kept behind stream s.held x found).0;
         goes = λ x. x;
         in_time = λ x. x;
-        in_turn = λ here before. before;
         ends = ends_sent known t noted;
         closes = λ x. x;
         shut = h.shut;
@@ -155,7 +153,6 @@ module _ (known : Known) (t : List Entry) (s : State) (h : Stands known t s) (to
         held = on_way (Breached breach) u come.nothing come.nothing same refl (λ k. refl) refl;
         goes = λ x. x;
         in_time = λ x. x;
-        in_turn = λ here before. (here, before);
         ends = λ ends. absurd (not_to_end come ends);
         closes = λ x. x;
         shut = h.shut;
@@ -179,7 +176,6 @@ module _ (known : Known) (t : List Entry) (s : State) (h : Stands known t s) (to
         held = on_way (Happened event) u come.nothing come.nothing same refl (λ k. refl) refl;
         goes = λ x. x;
         in_time = λ x. x;
-        in_turn = λ here before. (here, before);
         ends = λ ends. absurd (not_to_end come ends);
         closes = λ x. x;
         shut = h.shut;

@@ -107,7 +107,6 @@ module _ (known : Known) (t : List Entry) (s : State) (h : Stands known t s) (to
     held = λ stream x found. way_stays known t (Happened event) s u stream x.way (same stream) refl (λ o g. text_same t (Happened event) s u come.nothing come.nothing (λ k. refl) o.k) (λ k stage is kept. (change kept.0, live_is k ∙ ap (option_map change) kept.1)) missing (h.held stream x (held_kept behind stream s.held x found).0);
     goes = λ x. x;
     in_time = λ x. x;
-    in_turn = λ here before. (here, before);
     ends = λ ends. absurd (not_to_end known t s h told behind is_told come ends);
     closes = λ x. x;
     shut = λ closed. ap (map change) (h.shut closed);

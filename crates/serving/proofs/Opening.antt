@@ -251,7 +251,6 @@ module _ (known : Known) (t : List Entry) (s : State) (h : Stands known t s) (to
       due = subst (IsDue known (e ∷ t) u) (sym u_due) (new_live, new_live_is);
       goes = h.goes;
       in_time = (subst (MayBeServed known t) (sym last) due.in_time, h.in_time);
-      in_turn = h.in_turn;
       closes = closes_stay known t e s u let_go t h.closes;
       shut = λ closed. absurd (let clash : true ≡ false = sym closed ∙ sym is_told.closed ∙ open_yet in cc);
     }
@@ -305,7 +304,6 @@ module _ (known : Known) (t : List Entry) (s : State) (h : Stands known t s) (to
       due = tt;
       goes = (let it = found_live known t s h k kept.0 kept.1 in (ap (λ n. is_open n t) (sym it.2) ∙ it.3.opened, h.goes));
       in_time = h.in_time;
-      in_turn = h.in_turn;
       ends = λ e. e;
       closes = λ c. c;
       shut = h.shut;

@@ -17,7 +17,7 @@ use Rattle.model.specs.Known.{Known}
 use Rattle.model.specs.Courses.{items, upstream_of}
 use Rattle.model.specs.ErrorClause.{must_end}
 use Rattle.model.specs.RequestClause.{IsSentWhole, IsSentInPart, OpenInTime}
-use Rattle.model.specs.ProgressClause.{Reason, AllStreamed, AreStreamedInTurn}
+use Rattle.model.specs.ProgressClause.{Reason}
 use Rattle.serving.specs.Written.{IsWritten}
 use Rattle.serving.specs.State.{Held, held_of, live_of, State}
 use Rattle.serving.specs.State.Due.{Nothing}
@@ -25,7 +25,6 @@ use Rattle.serving.specs.Rule.{IsKept}
 use Rattle.serving.specs.Meaning.{Verdict}
 use Rattle.model.proofs.ItemLaws.{items_stay}
 use Rattle.serving.proofs.Reasons.{IsOf, heard_same, ended_same, reason_stays, all_heard_back, all_heard_there}
-use Rattle.serving.proofs.Streamed.{all_streamed}
 use Rattle.serving.proofs.Standing.{text_of, owed, Lives, IsSent, Given, IsDueFor, Fares, IsDue, IsOnWay, Closes, IsFresh, Stands, Steps, unread_same, some_items, had_closed_in, cut_stays}
 
 -- ---- the connections that are kept
@@ -85,7 +84,6 @@ pub record IsPassing (known : Known) (t : List Entry) (e : Entry) (s u : State) 
   pub held : (stream : ℕ) (h : Held) → held_of stream u.held ≡ Some h → IsOnWay known (e ∷ t) u stream h.way
   pub goes : GoToOpen t → GoToOpen (e ∷ t)
   pub in_time : OpenInTime known t → OpenInTime known (e ∷ t)
-  pub in_turn : AllStreamed known t → AreStreamedInTurn known t → AreStreamedInTurn known (e ∷ t)
   pub ends : must_end known t ≡ true → must_end known (e ∷ t) ≡ true
   pub closes : Closes known (e ∷ t) u t → Closes known (e ∷ t) u (e ∷ t)
   pub shut : is_closed (e ∷ t) ≡ true → u.live ≡ []
@@ -140,7 +138,6 @@ passes known t e s u h p = record {
   due = subst (IsDue known (e ∷ t) u) (sym p.nothing_after) tt;
   goes = p.goes h.goes;
   in_time = p.in_time h.in_time;
-  in_turn = p.in_turn (all_streamed known t s h p.nothing) h.in_turn;
   ends = p.ends;
   closes = p.closes;
   shut = p.shut;

@@ -36,10 +36,9 @@ use Rattle.serving.specs.Meaning.{Brings}
 use Rattle.model.proofs.ItemLaws.{ends_tell, added_ends, none_ended}
 use Rattle.model.proofs.ItemLaws.{is_interrupted}
 use Rattle.serving.proofs.Lists.{held_now, held_beside}
-use Rattle.serving.proofs.Texts.{no_request, part_told}
+use Rattle.serving.proofs.Texts.{no_request, part_told, whole_told, one_ends}
 use Rattle.serving.proofs.Bringing.{IsGood, is_good}
 use Rattle.serving.proofs.Writing.{body_append, head_written, item_written, may_go_on}
-use Rattle.serving.proofs.Streamed.{all_streamed}
 use Rattle.serving.proofs.Standing.{owed, text_of, IsInPart, IsSent, Given, Fares, IsDue, IsOnWay, IsWaiting, IsGoing, IsDropped, Stands, Steps, had_closed_in, has_head_stays, way_stays}
 use Rattle.serving.proofs.Passing.{items_beside, sent_same, fares_same, fresh_same, lives_found, reason_on}
 use Rattle.serving.proofs.Framing.{not_to_end}
@@ -80,6 +79,11 @@ waits_whole : (passing : Passing) (b : Bool) → (is_streaming passing || b) ≡
 waits_whole WholePassing b e = (refl, e)
 waits_whole Streaming b e = absurd (cc)
 
+-- requests that go out where they are passed on whole are whole
+goes_whole : (passing : Passing) (b : Bool) → (is_streaming passing || b) ≡ true → passing ≡ WholePassing → b ≡ true
+goes_whole WholePassing b e same = e
+goes_whole Streaming b e same = absurd (cc)
+
 -- a stream that is served is active, and isn't answered
 none_answered : (c : Option Cause) → is_none c ≡ true → c ≡ None
 none_answered None e = refl
@@ -92,13 +96,22 @@ module _ (known : Known) (t : List Entry) (s : State) (h : Stands known t s) (to
   abbrev pub id : ℕ
   id = noted.frame.id
 
-  in_time : MayBeServed known (e ∷ t) id
-  in_time =
+  served : (is_active id (e ∷ t) ≡ true) × (cause known id (e ∷ t) ≡ None)
+  served =
       let parts = and_parts (is_active id (e ∷ t)) (is_none (cause known id (e ∷ t))) (sym (is_behind.served id) ∙ serving.served) in
-      record { active = parts.0; no_cause = none_answered (cause known id (e ∷ t)) parts.1; goes_on = sym is_behind.ends ∙ serving.goes_on }
+      (parts.0, none_answered (cause known id (e ∷ t)) parts.1)
+
+  -- a connection may be opened for it, once its text is whole or where requests are passed on as they come
+  in_time : (text : List ℕ) (stage : Stage) → IsWritten (items known id (e ∷ t)) text stage → (known.setup.passing ≡ WholePassing → is_whole stage ≡ true) → MayBeServed known (e ∷ t) id
+  in_time text stage written ready = record {
+    active = served.0;
+    no_cause = served.1;
+    goes_on = sym is_behind.ends ∙ serving.goes_on;
+    whole = λ passing. one_ends (items known id (e ∷ t)) (written.ends (whole_told stage (ready passing)));
+  }
 
   good : IsGood known.setup (carried_by (items known id t) false) item
-  good = is_good known t noted item brings serving.counted in_time.no_cause
+  good = is_good known t noted item brings serving.counted served.1
 
   -- what is due is due to no connection of another stream
   abbrev pub IsBeside : Due → Type 0
@@ -142,7 +155,6 @@ module _ (known : Known) (t : List Entry) (s : State) (h : Stands known t s) (to
     due = p.is_due;
     goes = h.goes;
     in_time = h.in_time;
-    in_turn = (all_streamed known t s h come.nothing, h.in_turn);
     ends = λ ends. absurd (not_to_end known t s h told behind is_told come ends);
     closes = λ c. c;
     shut = λ closed. p.same_live ∙ h.shut closed;
@@ -157,8 +169,8 @@ module _ (known : Known) (t : List Entry) (s : State) (h : Stands known t s) (to
     none_of_id : (o : Opened) → IsIn o (opens t) → id ≡ o.stream → ⊥
     none_of_id o i same = none_given o (record { is_opened = i; is_given = sym same })
 
-    opens_now : Steps known t e s (waiting_or true)
-    opens_now = own_step (waiting_or true) (record {
+    opens_now : (known.setup.passing ≡ WholePassing → is_whole stage ≡ true) → Steps known t e s (waiting_or true)
+    opens_now ready = own_step (waiting_or true) (record {
       same_count = refl;
       same_live = refl;
       beside = λ o i apart. refl;
@@ -166,7 +178,7 @@ module _ (known : Known) (t : List Entry) (s : State) (h : Stands known t s) (to
       held = λ x found. absurd (let none : ◌≡◌ {A = Option Way} None (Some x.way) = held_now id None s.held x found in cc);
       held_others = λ stream apart. held_beside id stream None s.held apart;
       fares = inr (inl refl);
-      is_due = record { last = refl; none_given = λ o g. none_given o (record { is_opened = g.is_opened; is_given = g.is_given }); written = written; head = head; has_head = has_head; by_route = by_route; in_time = in_time };
+      is_due = record { last = refl; none_given = λ o g. none_given o (record { is_opened = g.is_opened; is_given = g.is_given }); written = written; head = head; has_head = has_head; by_route = by_route; in_time = in_time text stage written ready };
     })
 
     waits : known.setup.passing ≡ WholePassing → is_whole stage ≡ false → Steps known t e s (waiting_or false)
@@ -190,15 +202,15 @@ module _ (known : Known) (t : List Entry) (s : State) (h : Stands known t s) (to
             let same : Waiting route text stage ≡ x.way = cc in
             subst (IsOnWay known (e ∷ t) (waiting_or false) id) same on_way
 
-    either : (goes : Bool) → (goes ≡ false → (known.setup.passing ≡ WholePassing) × (is_whole stage ≡ false)) → Steps known t e s (waiting_or goes)
-    either true fine = opens_now
-    either false fine = waits (fine refl).0 (fine refl).1
+    either : (goes : Bool) → (goes ≡ false → (known.setup.passing ≡ WholePassing) × (is_whole stage ≡ false)) → (goes ≡ true → known.setup.passing ≡ WholePassing → is_whole stage ≡ true) → Steps known t e s (waiting_or goes)
+    either true fine ready = opens_now (ready refl)
+    either false fine ready = waits (fine refl).0 (fine refl).1
 
   -- ---- a head
 
   pub begins : (head : List Field) (ended : Bool) (route : ℕ) (text : List ℕ) (stage : Stage) → items known id t ≡ [] → item ≡ Block head ended → MayBegin known.setup behind noted head ended route text stage → Steps known t e s (after known.setup behind s (Begins noted head ended route text stage))
   begins head ended route text stage empty is may =
-      either route text stage written head has_head may.by_route none_given (goes_now known.setup stage) (waits_whole known.setup.passing (is_whole stage))
+      either route text stage written head has_head may.by_route none_given (goes_now known.setup stage) (waits_whole known.setup.passing (is_whole stage)) (goes_whole known.setup.passing (is_whole stage))
     where
       now : items known id (e ∷ t) ≡ Block head ended ∷ []
       now = brings.adds ∙ ap (λ xs. xs ++ item ∷ []) empty ∙ ap (λ x. x ∷ []) is
@@ -221,7 +233,7 @@ module _ (known : Known) (t : List Entry) (s : State) (h : Stands known t s) (to
       let w : IsWaiting known t id route text old = h.held id (record { id = id; way = Waiting route text old }) may.found in
       either route (text ++ written) stage
       (subst (λ xs. IsWritten xs (text ++ written) stage) (sym brings.adds) (item_written known.setup (items known id t) text old item written stage w.written w.part good may.continues may.whole))
-      w.head (has_head_stays known t e id w.head w.has_head) w.by_route w.none_given (is_whole stage) (λ part. (w.whole_passing, part))
+      w.head (has_head_stays known t e id w.head w.has_head) w.by_route w.none_given (is_whole stage) (λ part. (w.whole_passing, part)) (λ whole passing. whole)
 
   -- ---- an item of a request that goes out
 

@@ -21,7 +21,7 @@ use Rattle.model.specs.Courses.{course, carried, items, interrupts}
 use Rattle.model.specs.Offers.{IsGiven}
 use Rattle.model.specs.ErrorClause.{must_end}
 use Rattle.model.specs.RequestClause.{IsSentWhole, IsSentInPart, MayBeServed, OpenInTime}
-use Rattle.model.specs.ProgressClause.{Reason, had_closed, is_first_end, was_cut, AreStreamedInTurn}
+use Rattle.model.specs.ProgressClause.{Reason, had_closed, is_first_end, was_cut}
 use Rattle.h1_writer.specs.Sending.{Stage}
 use Rattle.model.specs.Courses.{cause_of}
 use Rattle.serving.specs.Written.{IsWritten}
@@ -186,7 +186,6 @@ pub record Stands (known : Known) (t : List Entry) (s : State) : Type 0 where
   pub due : IsDue known t s s.due
   pub goes : GoToOpen t
   pub in_time : OpenInTime known t
-  pub in_turn : AreStreamedInTurn known t
   pub closes : Closes known t s t
   pub shut : is_closed t ≡ true → s.live ≡ []
 
@@ -293,7 +292,6 @@ pub record Steps (known : Known) (t : List Entry) (e : Entry) (s u : State) : Ty
   pub due : IsDue known (e ∷ t) u u.due
   pub goes : GoToOpen (e ∷ t)
   pub in_time : OpenInTime known (e ∷ t)
-  pub in_turn : AreStreamedInTurn known (e ∷ t)
   pub ends : must_end known t ≡ true → must_end known (e ∷ t) ≡ true
   pub closes : Closes known (e ∷ t) u t → Closes known (e ∷ t) u (e ∷ t)
   pub shut : is_closed (e ∷ t) ≡ true → u.live ≡ []
@@ -312,7 +310,6 @@ stands_next known t e s u h p = record {
   due = p.due;
   goes = p.goes;
   in_time = p.in_time;
-  in_turn = p.in_turn;
   closes = p.closes (closes_stay known t e s u let_go t h.closes);
   shut = p.shut;
 }

@@ -111,5 +111,5 @@ unfolding total_size
 t5 = (t4, record { adds = refl; goes_on = refl }, told_by streaming _ (1 ∷ []) (refl, tt) refl refl refl)
 
 -- so the clauses hold at its end
-at_end : KeepClauses streaming [] (tape_of s5)
-at_end = clauses_hold streaming s5 [] (tape_of s5) b5 t5 refl (record { nothing = refl; none_done = refl; ended = λ e. cc })
+at_end : KeepClauses streaming (tape_of s5)
+at_end = clauses_hold streaming s5 b5 t5 (record { nothing = refl; none_done = refl; ended = λ e. cc })

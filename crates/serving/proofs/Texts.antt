@@ -2,6 +2,7 @@
 use Rattle.std.proofs.Common.{◌≡◌, ℕ, ◌+◌, true, false, ◌||◌, List, [], ◌∷◌, ◌++◌, length, refl, sym, ap, ◌∙◌, subst, append-nil, arith, inl, inr, length-append}
 use Rattle.std.specs.Prelude.{◌⊎◌, replicate}
 use Rattle.std.specs.List.{concat, list_any}
+use Rattle.std.proofs.lemmas.Bool.{cases_Bool}
 use Rattle.std.proofs.lemmas.List.{length-replicate}
 use Rattle.model.specs.Octets.{IsFront}
 use Rattle.model.specs.Messages.{Field, Request, Item, ends_with}
@@ -50,6 +51,12 @@ part_tells (Counting left) part = refl
 part_tells (Holding octet) part = refl
 part_tells Chunking part = refl
 
+pub whole_told : (stage : Stage) → is_whole stage ≡ true → stage ≡ Whole
+whole_told Whole e = refl
+whole_told (Counting left) e = absurd (cc)
+whole_told (Holding octet) e = absurd (cc)
+whole_told Chunking e = absurd (cc)
+
 -- items of which none ends the stream don't end with the last
 pub none_end : (items : List Item) → list_any ends_with items ≡ false → EndsWithLast items → ⊥
 none_end [] none ends = ends
@@ -57,6 +64,10 @@ none_end (Block fields b ∷ []) none ends = let clash : true ≡ false = sym (a
 none_end (Content octets b ∷ []) none ends = let clash : true ≡ false = sym (ap (λ x. x || false) ends) ∙ none in cc
 none_end (Block fields b ∷ next ∷ items) none ends = none_end (next ∷ items) (sym (ap (λ x. x || list_any ends_with (next ∷ items)) ends.0) ∙ none) ends.1
 none_end (Content octets b ∷ next ∷ items) none ends = none_end (next ∷ items) (sym (ap (λ x. x || list_any ends_with (next ∷ items)) ends.0) ∙ none) ends.1
+
+-- of items that end with the last one ends the stream
+pub one_ends : (items : List Item) → EndsWithLast items → list_any ends_with items ≡ true
+one_ends items ends = elim (cases_Bool (list_any ends_with items)) [ inl one ↦ one | inr none ↦ absurd (none_end items none ends) ]
 
 -- so they are no request
 pub no_request : (items : List Item) (request : Request) → list_any ends_with items ≡ false → H2Request items request → ⊥

@@ -12,7 +12,7 @@ use Rattle.model.specs.Lifetimes.{is_ended_by_client}
 use Rattle.model.specs.Courses.{items, upstream_of}
 use Rattle.model.specs.Offers.{is_to_head}
 use Rattle.model.specs.RequestClause.{RequestsHold}
-use Rattle.model.specs.ProgressClause.{AllForwarded, AllStreamed, AreStreamedInTurn, AreClosed, ClosesRightly}
+use Rattle.model.specs.ProgressClause.{AllForwarded, AllStreamed, AreClosed, ClosesRightly}
 use Rattle.serving.specs.Told.{IsTold}
 use Rattle.serving.specs.State.{Move, Turn, tape_of}
 use Rattle.serving.specs.State.Move.{Takes, Begins, Gathers, Passes, Drops, Hears}
@@ -51,12 +51,11 @@ AreSo known (turn ∷ turns) = AreSo known turns × IsSo known (tape_of turns) t
 
 -- ---- what holds then
 
--- What the clauses on requests and on progress ask of requests and connections, at the end of a step.
-pub record KeepClauses (known : Known) (before segment : List Entry) : Type 0 where
-  pub requests : RequestsHold known (segment ++ before)
-  pub forwarded : AllForwarded known (segment ++ before)
-  pub streamed : AllStreamed known (segment ++ before)
-  pub in_turn : AreStreamedInTurn known (segment ++ before)
-  pub closed : AreClosed known (segment ++ before)
-  pub closes : ClosesRightly known (segment ++ before) before segment
-  pub go_to_open : GoToOpen (segment ++ before)
+-- What the clauses on requests and on progress ask of requests and connections.
+pub record KeepClauses (known : Known) (t : List Entry) : Type 0 where
+  pub requests : RequestsHold known t
+  pub forwarded : AllForwarded known t
+  pub streamed : AllStreamed known t
+  pub closed : AreClosed known t
+  pub closes : ClosesRightly known t t
+  pub go_to_open : GoToOpen t

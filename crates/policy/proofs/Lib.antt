@@ -1,0 +1,5 @@
+pub mod Tapes
+pub mod Telling
+pub mod Adding
+pub mod Placing
+pub mod Keeping

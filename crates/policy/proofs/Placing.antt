@@ -1,0 +1,209 @@
+-- Each concern's moves came by its own rule, and what they were told is so.
+use Rattle.std.proofs.Common.{◌≡◌, ℕ, Bool, true, false, ◌&&◌, ◌==◌, List, [], ◌∷◌, ◌++◌, map, refl, sym, ◌∙◌, ap, subst}
+use Rattle.model.specs.Frames.{window_update_kind}
+use Rattle.model.specs.Messages.{Item}
+use Rattle.model.specs.Messages.Item.{Block}
+use Rattle.model.specs.Setup.{Setup}
+use Rattle.model.specs.Logs.{Event}
+use Rattle.model.specs.Logs.Event.{Client, ClientEnd, ClientTook, Up, UpEnd, UpFailed, UpTook}
+use Rattle.model.specs.Tapes.{Noted, Entry}
+use Rattle.model.specs.Known.{Known}
+use Rattle.conduct.specs.Summary.{Summary, summary_of, stream_of}
+use Rattle.conduct.specs.Rule.{AreKnown}
+use Rattle.conduct.specs.Turn.{Conducted}
+use Rattle.conduct.proofs.Rule.{conducted}
+use Rattle.conduct.proofs.Book.{has_kept}
+use Rattle.conduct.proofs.Telling.{book_told}
+use Rattle.offering.specs.Rule as offers
+use Rattle.offering.specs.Sight.{Sight, first_sight, IsRightOf, sight_in}
+use Rattle.offering.specs.State as offering
+use Rattle.receiving.specs.Rule as windows
+use Rattle.receiving.specs.State as receiving
+use Rattle.serving.specs.Meaning.{IsSo, AreSo, Brings}
+use Rattle.serving.specs.Rule as requests
+use Rattle.serving.specs.State as serving
+use Rattle.serving.specs.Told.{IsTold, nothing_told}
+use Rattle.tables.specs.Kept.{IsJudgedIf, AllJudged}
+use Rattle.tables.specs.Rule as tables
+use Rattle.tables.specs.State as tabled
+use Rattle.tables.specs.Turns.{MayBeginIf, AllBegan}
+use Rattle.policy.specs.Moves.{Gain, Deed, Move, entry_of, offer_of, gained, failed, request_of, table_of, window_of, told_in}
+use Rattle.policy.specs.Moves.Gain.{Nothing, Begins, Gathers, Passes, Drops}
+use Rattle.policy.specs.Moves.Deed.{Takes, Breaks, Notes, Hears, Fails, Sends, Goes, Acts}
+use Rattle.policy.specs.Moves.Move.{Does, Settles}
+use Rattle.policy.specs.State.{conducts, tape_of, summary_at, offers_of, turns_of, tables_of, windows_of, state_of}
+use Rattle.policy.specs.Rule.{added_in, Gains, AllAllowed}
+use Rattle.policy.specs.Answered.{IsWholeBy, IsAnswered, AreAnswered}
+use Rattle.policy.proofs.Tapes.{offer_entry, request_entry, table_entry, offers_tape, requests_tape, tables_tape, windows_tape}
+use Rattle.policy.proofs.Telling.{all_moved, told_by, moves_same, sight_right, told_right, verdict_told}
+use Rattle.policy.proofs.Adding.{none_added, one_added, first_added, added_by_book, right_by_book}
+
+-- ---- what is told before a move
+
+pub offers_sight : (setup : Setup) (run : List Move) → offers.sight_of (offers_of setup run) ≡ sight_in (summary_at setup run)
+offers_sight setup [] = refl
+offers_sight setup (Does d ∷ run) = refl
+offers_sight setup (Settles ∷ run) = offers_sight setup run
+
+pub windows_sight : (setup : Setup) (run : List Move) → windows.sight_of (windows_of setup run) ≡ sight_in (summary_at setup run)
+windows_sight setup [] = refl
+windows_sight setup (Does d ∷ run) = refl
+windows_sight setup (Settles ∷ run) = refl
+
+pub turns_told : (setup : Setup) (run : List Move) → requests.told_of (turns_of setup run) ≡ told_in (summary_at setup run)
+turns_told setup [] = refl
+turns_told setup (Does d ∷ run) = refl
+turns_told setup (Settles ∷ run) = turns_told setup run
+
+-- ---- each came by its rule
+
+pub offers_may : (setup : Setup) (run : List Move) → AllAllowed setup run → offers.AllMayCome (offers_of setup run)
+offers_may setup [] all = tt
+offers_may setup (Does d ∷ run) all = (
+  offers_may setup run all.0,
+  subst (λ (s : Sight). offers.MayCome s (sight_in (summary_at setup (Does d ∷ run))) (offering.state_of (offers.moves_of (offers_of setup run))) (offer_of (sight_in (summary_at setup run)) (sight_in (summary_at setup (Does d ∷ run))) d)) (sym (offers_sight setup run)) all.1.offer,
+)
+offers_may setup (Settles ∷ run) all = offers_may setup run all
+
+pub windows_may : (setup : Setup) (run : List Move) → AllAllowed setup run → windows.AllMayCome setup.passing (windows_of setup run)
+windows_may setup [] all = tt
+windows_may setup (Does d ∷ run) all = (
+  windows_may setup run all.0,
+  subst (λ (s : Sight). windows.MayCome setup.passing s (sight_in (summary_at setup (Does d ∷ run))) (receiving.state_of setup.passing (windows.moves_of (windows_of setup run))) (window_of (sight_in (summary_at setup run)) (sight_in (summary_at setup (Does d ∷ run))) d)) (sym (windows_sight setup run)) all.1.window,
+)
+windows_may setup (Settles ∷ run) all = (windows_may setup run all, tt)
+
+pub turns_may : (setup : Setup) (run : List Move) → AllAllowed setup run → requests.AreAllowed setup (turns_of setup run)
+turns_may setup [] all = tt
+turns_may setup (Does d ∷ run) all = (
+  turns_may setup run all.0,
+  subst (λ told. requests.IsAllowed setup told (told_in (summary_at setup (Does d ∷ run))) (serving.state_of setup (turns_of setup run)) (request_of d)) (sym (turns_told setup run)) all.1.request,
+)
+turns_may setup (Settles ∷ run) all = turns_may setup run all
+
+pub tables_fit : (setup : Setup) (run : List Move) → AllAllowed setup run → tables.AllFit setup.policy (tables_of setup run)
+tables_fit setup [] all = tt
+tables_fit setup (Does d ∷ run) all = (tables_fit setup run all.0, all.1.table)
+tables_fit setup (Settles ∷ run) all = tables_fit setup run all
+
+pub parts_begin : (setup : Setup) (run : List Move) → AllAllowed setup run → AllBegan (offers.moves_of (offers_of setup run))
+parts_begin setup [] all = tt
+parts_begin setup (Does d ∷ run) all = (
+  parts_begin setup run all.0,
+  subst (MayBeginIf (offering.state_of (offers.moves_of (offers_of setup run)))) (sym (offer_entry (sight_in (summary_at setup run)) (sight_in (summary_at setup (Does d ∷ run))) d)) all.1.in_turn,
+)
+parts_begin setup (Settles ∷ run) all = parts_begin setup run all
+
+-- the tape came in the turns of conduct
+pub in_turns : (known : Known) (run : List Move) → AreKnown known (conducts run) → AllAllowed known.setup run → Conducted known (tape_of run)
+in_turns known run knows all = conducted known (conducts run) knows (has_kept known.setup (conducts run) (all_moved known run all)).allowed
+
+-- ---- what was told is so
+
+pub offers_right : (known : Known) (run : List Move) → AreKnown known (conducts run) → AllAllowed known.setup run → offers.AreRight known (offers_of known.setup run)
+offers_right known [] knows all = tt
+offers_right known (Does d ∷ run) knows all = (
+  offers_right known run knows.0 all.0,
+  subst (λ (t : List Entry). IsRightOf known t (sight_in (summary_at known.setup (Does d ∷ run)))) (sym (offers_tape known.setup (Does d ∷ run))) (sight_right known (Does d ∷ run) knows (all_moved known (Does d ∷ run) all)),
+)
+offers_right known (Settles ∷ run) knows all = offers_right known run knows all
+
+pub windows_right : (known : Known) (run : List Move) → AreKnown known (conducts run) → AllAllowed known.setup run → windows.AreRight known (windows_of known.setup run)
+windows_right known [] knows all = tt
+windows_right known (Does d ∷ run) knows all = (
+  windows_right known run knows.0 all.0,
+  subst (λ (t : List Entry). IsRightOf known t (sight_in (summary_at known.setup (Does d ∷ run)))) (sym (windows_tape known.setup (Does d ∷ run))) (sight_right known (Does d ∷ run) knows (all_moved known (Does d ∷ run) all)),
+)
+windows_right known (Settles ∷ run) knows all = (
+  windows_right known run knows all,
+  subst (λ (t : List Entry). IsRightOf known t (sight_in (summary_at known.setup run))) (sym (windows_tape known.setup run)) (sight_right known run knows (all_moved known run all)),
+)
+
+-- what a deed tells of an answer
+told_one : (known : Known) (s u : Sight) (t : List Entry) (d : Deed) → IsAnswered known t d → offers.IsTold known t (offer_of s u d)
+told_one known s u t (Takes noted next gain) so = tt
+told_one known s u t (Breaks breach) so = tt
+told_one known s u t (Notes event) so = tt
+told_one known s u t (Hears event stream news whole) so = so.0
+told_one known s u t (Fails event stream whole) so = tt
+told_one known s u t (Sends noted next) so = tt
+told_one known s u t (Goes noted item part next) so = tt
+told_one known s u t (Acts act) so = tt
+
+pub offers_told : (known : Known) (run : List Move) → AreAnswered known run → offers.AreTold known (offers_of known.setup run)
+offers_told known [] so = tt
+offers_told known (Does d ∷ run) so = (
+  offers_told known run so.0,
+  subst (λ (t : List Entry). offers.IsTold known t (offer_of (sight_in (summary_at known.setup run)) (sight_in (summary_at known.setup (Does d ∷ run))) d)) (sym (offers_tape known.setup run))
+      (told_one known (sight_in (summary_at known.setup run)) (sight_in (summary_at known.setup (Does d ∷ run))) (tape_of run) d so.1),
+)
+offers_told known (Settles ∷ run) so = offers_told known run so
+
+-- the verdicts on frames
+judged_one : (known : Known) (run : List Move) → AreKnown known (conducts run) → AllAllowed known.setup run → (d : Deed) → IsJudgedIf (tape_of run) (table_of (summary_at known.setup run) d)
+judged_one known run knows all (Takes noted next gain) = verdict_told known run knows (all_moved known run all) noted
+judged_one known run knows all (Breaks breach) = tt
+judged_one known run knows all (Notes event) = tt
+judged_one known run knows all (Hears event stream news whole) = tt
+judged_one known run knows all (Fails event stream whole) = tt
+judged_one known run knows all (Sends noted next) = tt
+judged_one known run knows all (Goes noted item part next) = tt
+judged_one known run knows all (Acts act) = tt
+
+pub tables_judged : (known : Known) (run : List Move) → AreKnown known (conducts run) → AllAllowed known.setup run → AllJudged (tables_of known.setup run)
+tables_judged known [] knows all = tt
+tables_judged known (Does d ∷ run) knows all = (
+  tables_judged known run knows.0 all.0,
+  subst (λ (t : List Entry). IsJudgedIf t (table_of (summary_at known.setup run) d)) (sym (tables_tape known.setup run)) (judged_one known run knows.0 all.0 d),
+)
+tables_judged known (Settles ∷ run) knows all = tables_judged known run knows all
+
+-- ---- what frames add
+
+-- What is told of a frame's gain is so of the tape, and of its stream where it gains something.
+record TellsGain (known : Known) (t : List Entry) (noted : Noted) (s : Summary) : Type 0 where
+  pub same : added_in known.setup s noted ≡ added_in known.setup (summary_of known t) noted
+  pub right : (item : Item) → added_in known.setup (summary_of known t) noted ≡ item ∷ [] → s.stream noted.frame.id ≡ stream_of known t noted.frame.id
+
+gain_told : (known : Known) (run : List Move) → AreKnown known (conducts run) → AllAllowed known.setup run → (noted : Noted) → TellsGain known (tape_of run) noted (summary_at known.setup run)
+gain_told known run knows all noted =
+    let moved = all_moved known run all in
+    told_by known run knows moved (TellsGain known (tape_of run) noted)
+    (λ goes_on. let told = book_told known (conducts run) knows moved goes_on in record { same = added_by_book known (tape_of run) _ told noted; right = right_by_book known (tape_of run) _ told noted })
+    (subst (TellsGain known (tape_of run) noted) (sym (moves_same known run knows moved)) (record { same = refl; right = λ item adds. refl }))
+
+gained_so : (known : Known) (t : List Entry) (s : Summary) (noted : Noted) (gain : Gain) → TellsGain known t noted s → Gains known.setup s noted gain → IsSo known t (gained noted gain)
+gained_so known t s noted Nothing tells gains = none_added known t noted s tells.same tells.right gains
+gained_so known t s noted (Begins head ended route text stage) tells gains =
+    (first_added known t noted s tells.same tells.right (Block head ended) gains, one_added known t noted s tells.same tells.right (Block head ended) gains.adds)
+gained_so known t s noted (Gathers item route text old written stage) tells gains = one_added known t noted s tells.same tells.right item gains
+gained_so known t s noted (Passes item k old written stage) tells gains = one_added known t noted s tells.same tells.right item gains
+gained_so known t s noted (Drops item) tells gains = one_added known t noted s tells.same tells.right item gains
+
+failed_so : (known : Known) (t : List Entry) (event : Event) (whole : Bool) → IsWholeBy known t event whole → IsSo known t (failed event whole)
+failed_so known t (UpFailed k) whole so = tt
+failed_so known t (Client piece) whole so = so
+failed_so known t ClientEnd whole so = so
+failed_so known t (ClientTook count) whole so = so
+failed_so known t (Up k piece) whole so = so
+failed_so known t (UpEnd k) whole so = so
+failed_so known t (UpTook k count) whole so = so
+
+request_so : (known : Known) (run : List Move) → AreKnown known (conducts run) → (all : AllAllowed known.setup run) → (d : Deed) → Rattle.policy.specs.Rule.GainsIf known.setup (summary_at known.setup run) d → IsAnswered known (tape_of run) d → IsSo known (tape_of run) (request_of d)
+request_so known run knows all (Takes noted next gain) gains so = gained_so known (tape_of run) (summary_at known.setup run) noted gain (gain_told known run knows all noted) gains
+request_so known run knows all (Breaks breach) gains so = tt
+request_so known run knows all (Notes event) gains so = tt
+request_so known run knows all (Hears event stream news whole) gains so = so.1
+request_so known run knows all (Fails event stream whole) gains so = failed_so known (tape_of run) event whole so.0
+request_so known run knows all (Sends noted next) gains so = tt
+request_so known run knows all (Goes noted item part next) gains so = tt
+request_so known run knows all (Acts act) gains so = tt
+
+pub turns_so : (known : Known) (run : List Move) → AreKnown known (conducts run) → AllAllowed known.setup run → AreAnswered known run → AreSo known (turns_of known.setup run)
+turns_so known [] knows all so = tt
+turns_so known (Does d ∷ run) knows all so = (
+  turns_so known run knows.0 all.0 so.0,
+  subst (λ (t : List Entry). IsSo known t (request_of d)) (sym (requests_tape known.setup run)) (request_so known run knows.0 all.0 d all.1.gains so.1),
+  subst (λ (t : List Entry). IsTold known t (told_in (summary_at known.setup (Does d ∷ run)))) (sym (requests_tape known.setup (Does d ∷ run))) (told_right known (Does d ∷ run) knows (all_moved known (Does d ∷ run) all)),
+)
+turns_so known (Settles ∷ run) knows all so = turns_so known run knows all so

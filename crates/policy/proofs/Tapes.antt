@@ -1,0 +1,110 @@
+-- The moves of all concerns have one tape.
+use Rattle.std.proofs.Common.{◌≡◌, Bool, true, false, ◌==◌, List, [], ◌∷◌, ◌++◌, map, refl, ◌∙◌, ap}
+use Rattle.model.specs.Frames.{window_update_kind}
+use Rattle.model.specs.Setup.{Setup}
+use Rattle.model.specs.Logs.{Event}
+use Rattle.model.specs.Logs.Event.{Client, ClientEnd, ClientTook, Up, UpEnd, UpFailed, UpTook}
+use Rattle.model.specs.Tapes.{Noted, Entry}
+use Rattle.model.specs.Tapes.Entry.{Happened, Sent}
+use Rattle.offering.specs.Rule as offers
+use Rattle.offering.specs.Sight.{Sight, sight_in}
+use Rattle.offering.specs.State as offering
+use Rattle.receiving.specs.Rule as windows
+use Rattle.receiving.specs.State as receiving
+use Rattle.serving.specs.State as serving
+use Rattle.tables.specs.State as tables
+use Rattle.conduct.specs.Summary.{Summary}
+use Rattle.policy.specs.Moves.{Gain, Deed, Move, entry_of, offer_of, gained, failed, request_of, table_of, given_or_sent, window_of}
+use Rattle.policy.specs.Moves.Gain.{Nothing, Begins, Gathers, Passes, Drops}
+use Rattle.policy.specs.Moves.Deed.{Takes, Breaks, Notes, Hears, Fails, Sends, Goes, Acts}
+use Rattle.policy.specs.Moves.Move.{Does, Settles}
+use Rattle.policy.specs.State.{tape_of, summary_at, offers_of, turns_of, tables_of, windows_of}
+
+-- ---- of one deed
+
+pub offer_entry : (s u : Sight) (d : Deed) → offering.entry_of (offer_of s u d) ≡ entry_of d
+offer_entry s u (Takes noted next gain) = refl
+offer_entry s u (Breaks breach) = refl
+offer_entry s u (Notes event) = refl
+offer_entry s u (Hears event stream news whole) = refl
+offer_entry s u (Fails event stream whole) = refl
+offer_entry s u (Sends noted next) = refl
+offer_entry s u (Goes noted item part next) = refl
+offer_entry s u (Acts act) = refl
+
+gained_entry : (noted : Noted) (gain : Gain) → serving.entry_of (gained noted gain) ≡ Entry.Came noted
+gained_entry noted Nothing = refl
+gained_entry noted (Begins head ended route text stage) = refl
+gained_entry noted (Gathers item route text old written stage) = refl
+gained_entry noted (Passes item k old written stage) = refl
+gained_entry noted (Drops item) = refl
+
+failed_entry : (event : Event) (whole : Bool) → serving.entry_of (failed event whole) ≡ Happened event
+failed_entry (Client piece) whole = refl
+failed_entry ClientEnd whole = refl
+failed_entry (ClientTook count) whole = refl
+failed_entry (Up k piece) whole = refl
+failed_entry (UpEnd k) whole = refl
+failed_entry (UpFailed k) whole = refl
+failed_entry (UpTook k count) whole = refl
+
+pub request_entry : (d : Deed) → serving.entry_of (request_of d) ≡ entry_of d
+request_entry (Takes noted next gain) = gained_entry noted gain
+request_entry (Breaks breach) = refl
+request_entry (Notes event) = refl
+request_entry (Hears event stream news whole) = refl
+request_entry (Fails event stream whole) = failed_entry event whole
+request_entry (Sends noted next) = refl
+request_entry (Goes noted item part next) = refl
+request_entry (Acts act) = refl
+
+pub table_entry : (s : Summary) (d : Deed) → tables.entry_of (table_of s d) ≡ entry_of d
+table_entry s (Takes noted next gain) = refl
+table_entry s (Breaks breach) = refl
+table_entry s (Notes event) = refl
+table_entry s (Hears event stream news whole) = refl
+table_entry s (Fails event stream whole) = refl
+table_entry s (Sends noted next) = refl
+table_entry s (Goes noted item part next) = refl
+table_entry s (Acts act) = refl
+
+given_entry : (b : Bool) (s u : Sight) (noted : Noted) → receiving.entries_of (given_or_sent b s u noted) ≡ Sent noted ∷ []
+given_entry true s u noted = refl
+given_entry false s u noted = refl
+
+pub window_entry : (s u : Sight) (d : Deed) → receiving.entries_of (window_of s u d) ≡ entry_of d ∷ []
+window_entry s u (Takes noted next gain) = refl
+window_entry s u (Breaks breach) = refl
+window_entry s u (Notes event) = refl
+window_entry s u (Hears event stream news whole) = refl
+window_entry s u (Fails event stream whole) = refl
+window_entry s u (Sends noted next) = given_entry (noted.frame.kind == window_update_kind) s u noted
+window_entry s u (Goes noted item part next) = given_entry (noted.frame.kind == window_update_kind) s u noted
+window_entry s u (Acts act) = refl
+
+-- ---- of all
+
+pub offers_tape : (setup : Setup) (run : List Move) → offers.tape_of (offers_of setup run) ≡ tape_of run
+offers_tape setup [] = refl
+offers_tape setup (Does d ∷ run) =
+    ap (λ (e : Entry). e ∷ offers.tape_of (offers_of setup run)) (offer_entry (sight_in (summary_at setup run)) (sight_in (summary_at setup (Does d ∷ run))) d)
+    ∙ ap (λ (t : List Entry). entry_of d ∷ t) (offers_tape setup run)
+offers_tape setup (Settles ∷ run) = offers_tape setup run
+
+pub requests_tape : (setup : Setup) (run : List Move) → serving.tape_of (turns_of setup run) ≡ tape_of run
+requests_tape setup [] = refl
+requests_tape setup (Does d ∷ run) = ap (λ (e : Entry). e ∷ serving.tape_of (turns_of setup run)) (request_entry d) ∙ ap (λ (t : List Entry). entry_of d ∷ t) (requests_tape setup run)
+requests_tape setup (Settles ∷ run) = requests_tape setup run
+
+pub tables_tape : (setup : Setup) (run : List Move) → tables.tape_of (tables_of setup run) ≡ tape_of run
+tables_tape setup [] = refl
+tables_tape setup (Does d ∷ run) =
+    ap (λ (e : Entry). e ∷ tables.tape_of (tables_of setup run)) (table_entry (summary_at setup run) d) ∙ ap (λ (t : List Entry). entry_of d ∷ t) (tables_tape setup run)
+tables_tape setup (Settles ∷ run) = tables_tape setup run
+
+pub windows_tape : (setup : Setup) (run : List Move) → receiving.tape_of (windows.moves_of (windows_of setup run)) ≡ tape_of run
+windows_tape setup [] = refl
+windows_tape setup (Does d ∷ run) =
+    ap (λ (es : List Entry). es ++ receiving.tape_of (windows.moves_of (windows_of setup run))) (window_entry (sight_in (summary_at setup run)) (sight_in (summary_at setup (Does d ∷ run))) d)
+    ∙ ap (λ (t : List Entry). entry_of d ∷ t) (windows_tape setup run)
+windows_tape setup (Settles ∷ run) = windows_tape setup run

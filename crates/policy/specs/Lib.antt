@@ -1,0 +1,4 @@
+pub mod Moves
+pub mod State
+pub mod Rule
+pub mod Answered

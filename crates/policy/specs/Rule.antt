@@ -1,0 +1,99 @@
+-- Which move may come next: by what is kept, and by what is told before the move and behind it. No tape is named here.
+use Rattle.std.specs.Prelude.{◌≡◌, Bool, true, false, ◌||◌, if◌then◌else◌, List, [], ◌∷◌, Option, None}
+use Rattle.model.specs.Messages.{Item}
+use Rattle.model.specs.Messages.Item.{Block}
+use Rattle.model.specs.Setup.{Setup}
+use Rattle.model.specs.Tapes.{Noted}
+use Rattle.model.specs.Tapes.Entry.{Came}
+use Rattle.model.specs.Streams.{frame_items}
+use Rattle.model.specs.Errors.{Fault}
+use Rattle.model.specs.Causes.{Cause}
+use Rattle.model.specs.Courses.{interrupts}
+use Rattle.conduct.specs.Summary.{Stream as Kept, Summary}
+use Rattle.conduct.specs.Judging.{completed_in, fault_for}
+use Rattle.conduct.specs.Owing.{new_cause_in}
+use Rattle.conduct.specs.Book as conduct
+use Rattle.conduct.specs.Book.{MayMove}
+use Rattle.offering.specs.Sight.{sight_in}
+use Rattle.offering.specs.Policy.{IsFlushed}
+use Rattle.offering.specs.Rule as offers
+use Rattle.receiving.specs.Rule as windows
+use Rattle.receiving.specs.Rule.{OwesNothing}
+use Rattle.serving.specs.Rule as requests
+use Rattle.tables.specs.Rule as tables
+use Rattle.tables.specs.Turns.{MayBeginIf}
+use Rattle.policy.specs.Moves.{Gain, Deed, Move, entry_of, comes_in, conduct_of, offer_of, request_of, table_of, window_of, told_in}
+use Rattle.policy.specs.Moves.Gain.{Nothing, Begins, Gathers, Passes, Drops}
+use Rattle.policy.specs.Moves.Deed.{Takes}
+use Rattle.policy.specs.Moves.Move.{Does, Settles}
+use Rattle.policy.specs.State.{State, summary_at, state_of}
+
+-- ---- what a frame adds to its stream's request
+
+-- the item that a frame adds, if it adds one: none where the items are over, or end with it
+abbrev pub added_to : Setup → Kept → Summary → Noted → List Item
+added_to setup kept s noted =
+    let found = fault_for kept.brief s (Came noted) in
+    if kept.brief.over || interrupts noted.frame.id (Came noted) found (new_cause_in setup false noted.frame.id s (Came noted) kept.brief found)
+    then []
+    else frame_items (completed_in s.block noted.frame) noted
+
+abbrev pub added_in : Setup → Summary → Noted → List Item
+added_in setup s noted = added_to setup (s.stream noted.frame.id) s noted
+
+-- The frame adds this item, and the client hadn't ended the stream.
+pub record Adds (setup : Setup) (s : Summary) (noted : Noted) (item : Item) : Type 0 where
+  pub adds : added_in setup s noted ≡ item ∷ []
+  pub goes_on : (s.stream noted.frame.id).ended_by_client ≡ false
+
+-- The frame adds a request's head, its first item.
+pub record AddsHead (setup : Setup) (s : Summary) (noted : Noted) (item : Item) : Type 0 where
+  pub first : (s.stream noted.frame.id).brief.begun ≡ false
+  pub adds : Adds setup s noted item
+
+-- What is said of a frame's gain is so.
+abbrev pub Gains : Setup → Summary → Noted → Gain → Type 0
+Gains setup s noted Nothing = added_in setup s noted ≡ []
+Gains setup s noted (Begins head ended route text stage) = AddsHead setup s noted (Block head ended)
+Gains setup s noted (Gathers item route text old written stage) = Adds setup s noted item
+Gains setup s noted (Passes item k old written stage) = Adds setup s noted item
+Gains setup s noted (Drops item) = Adds setup s noted item
+
+abbrev pub GainsIf : Setup → Summary → Deed → Type 0
+GainsIf setup s (Takes noted next gain) = Gains setup s noted gain
+GainsIf setup s d = Unit {0}
+
+-- ---- rest
+
+-- The gateway rests: nothing is owed, nothing can go on, connections that are done with are closed, header blocks are whole and were read,
+-- and what goes back was given back; and the client is closed if the connection is to end.
+pub record Rests (s : Summary) (state : State) : Type 0 where
+  pub conduct : conduct.Rests state.desk
+  pub flushed : IsFlushed state.offers
+  pub served : requests.Rests (told_in s) state.requests
+  pub whole : state.tables.begun_out ≡ None
+  pub read : state.tables.lost ≡ false
+  pub given_back : s.closed ≡ false → OwesNothing (sight_in s) state.windows
+
+-- ---- deeds
+
+-- The deed may be done: each concern allows it, and what comes in comes where the gateway rests.
+pub record MayDo (setup : Setup) (before behind : Summary) (state : State) (d : Deed) : Type 0 where
+  pub rests : comes_in (entry_of d) ≡ true → Rests before state
+  pub conduct : MayMove state.desk (conduct_of d)
+  pub offer : offers.MayCome (sight_in before) (sight_in behind) state.offers (offer_of (sight_in before) (sight_in behind) d)
+  pub in_turn : MayBeginIf state.offers (entry_of d)
+  pub request : requests.IsAllowed setup (told_in before) (told_in behind) state.requests (request_of d)
+  pub gains : GainsIf setup before d
+  pub table : tables.IsFit state.tables (table_of before d)
+  pub window : windows.MayCome setup.passing (sight_in before) (sight_in behind) state.windows (window_of (sight_in before) (sight_in behind) d)
+
+-- Each move might come where it came; the newest stands first. The effect of what came last may be over at any time.
+abbrev pub AllAllowed : Setup → List Move → Type 0
+AllAllowed setup [] = Unit {0}
+AllAllowed setup (Does d ∷ run) = AllAllowed setup run × MayDo setup (summary_at setup run) (summary_at setup (Does d ∷ run)) (state_of setup run) d
+AllAllowed setup (Settles ∷ run) = AllAllowed setup run
+
+-- The gateway rests behind the moves.
+abbrev pub RestsBehind : Setup → List Move → Type 0
+RestsBehind setup run = Rests (summary_at setup run) (state_of setup run)

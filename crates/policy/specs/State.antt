@@ -1,0 +1,77 @@
+-- What a gateway keeps: a field for each concern, and what is told behind moves.
+use Rattle.std.specs.Prelude.{Bool, true, false, if◌then◌else◌, List, [], ◌∷◌}
+use Rattle.model.specs.Setup.{Setup}
+use Rattle.model.specs.Tapes.{Entry}
+use Rattle.conduct.specs.Summary.{Summary}
+use Rattle.conduct.specs.Rule as conduct
+use Rattle.conduct.specs.Book.{Desk, summary_in, desk_of}
+use Rattle.offering.specs.Sight.{sight_in}
+use Rattle.offering.specs.Rule as offers
+use Rattle.offering.specs.State as offering
+use Rattle.receiving.specs.Rule as windows
+use Rattle.receiving.specs.State as receiving
+use Rattle.serving.specs.State as serving
+use Rattle.tables.specs.State as tables
+use Rattle.policy.specs.Moves.{Deed, Move, conduct_of, offer_of, request_of, table_of, window_of, told_in}
+use Rattle.policy.specs.Moves.Move.{Does, Settles}
+
+-- What is kept: of errors and of the connection's end, of responses, of requests and upstream connections, of header tables, and
+-- of receiving windows.
+pub record State : Type 0 where
+  pub desk : Desk
+  pub offers : offering.State
+  pub requests : serving.State
+  pub tables : tables.State
+  pub windows : receiving.State
+
+-- ---- moves, the newest first
+
+-- the moves of conduct
+abbrev pub conducts : List Move → List conduct.Move
+conducts [] = []
+conducts (Does d ∷ run) = conduct_of d ∷ conducts run
+conducts (Settles ∷ run) = conducts run
+
+abbrev pub tape_of : List Move → List Entry
+tape_of run = conduct.tape_of (conducts run)
+
+-- What is told behind moves: what the book says; and once the connection is to end, when the book isn't kept any more, what follows
+-- from the moves.
+abbrev pub summary_at : Setup → List Move → Summary
+summary_at setup run =
+    if (desk_of setup (conducts run)).book.ends
+    then (conduct.point_of setup (conducts run)).summary
+    else summary_in (desk_of setup (conducts run)).book
+
+-- the moves of the other concerns, with what is told behind them
+abbrev pub offers_of : Setup → List Move → List offers.Seen
+offers_of setup [] = []
+offers_of setup (Does d ∷ run) =
+    record { move = offer_of (sight_in (summary_at setup run)) (sight_in (summary_at setup (Does d ∷ run))) d; sight = sight_in (summary_at setup (Does d ∷ run)) } ∷ offers_of setup run
+offers_of setup (Settles ∷ run) = offers_of setup run
+
+abbrev pub turns_of : Setup → List Move → List serving.Turn
+turns_of setup [] = []
+turns_of setup (Does d ∷ run) = record { move = request_of d; told = told_in (summary_at setup (Does d ∷ run)) } ∷ turns_of setup run
+turns_of setup (Settles ∷ run) = turns_of setup run
+
+abbrev pub tables_of : Setup → List Move → List tables.Move
+tables_of setup [] = []
+tables_of setup (Does d ∷ run) = table_of (summary_at setup run) d ∷ tables_of setup run
+tables_of setup (Settles ∷ run) = tables_of setup run
+
+abbrev pub windows_of : Setup → List Move → List windows.Seen
+windows_of setup [] = []
+windows_of setup (Does d ∷ run) =
+    record { move = window_of (sight_in (summary_at setup run)) (sight_in (summary_at setup (Does d ∷ run))) d; sight = sight_in (summary_at setup (Does d ∷ run)) } ∷ windows_of setup run
+windows_of setup (Settles ∷ run) = record { move = receiving.Move.Settles; sight = sight_in (summary_at setup run) } ∷ windows_of setup run
+
+-- what is kept behind moves
+abbrev pub state_of : Setup → List Move → State
+state_of setup run = record {
+  desk = desk_of setup (conducts run);
+  offers = offering.state_of (offers.moves_of (offers_of setup run));
+  requests = serving.state_of setup (turns_of setup run);
+  tables = tables.state_of setup.policy (tables_of setup run);
+  windows = receiving.state_of setup.passing (windows.moves_of (windows_of setup run));
+}

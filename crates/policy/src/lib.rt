@@ -1,0 +1,42 @@
+//! The rule of the whole gateway: what it keeps, which move may come, and that whoever keeps the rule keeps the headline.
+//!
+//! What is kept is a field for each concern (`State`). A move is an entry of the tape with what is decided there, or the end of the
+//! effect of what came last (`Move`); from it follows the move of each concern, so nothing is decided twice. `MayDo` says which move
+//! may come, by the state and by what the book tells before and behind it, and names no tape. Something comes in only where the
+//! gateway rests (`Rests`).
+//!
+//! The law is [`headline_holds`]. Its premises, and where each comes from:
+//! - `AllAllowed`: each move came by the rule, which whoever performs a move shows there;
+//! - `AreKnown`: what is known of failures is what the moves say; `conduct::errors_hold` gives it of what they say themselves;
+//! - `AreAnswered`: what moves say of upstreams' answers is so, by the contract of the reader that the octets go through
+//!   (`read_answers`);
+//! - `RestsBehind`: the step ends where the gateway rests.
+#![tactic(auto)]
+
+ghost use Rattle.std.specs.Prelude.{List};
+ghost use Rattle.model.specs.Known.{Known};
+ghost use Rattle.model.specs.Tapes.{EndsWithClose};
+ghost use Rattle.model.specs.Failures.{AreJudged};
+ghost use Rattle.model.specs.Headline.{ClausesHold, HoldsInTurn};
+ghost use Rattle.model.specs.Synchrony.{InStep};
+ghost use Rattle.conduct.specs.Rule.{AreKnown};
+ghost use Rattle.policy.specs.Moves.{Move};
+ghost use Rattle.policy.specs.State.{conducts, tape_of, state_of};
+ghost use Rattle.policy.specs.Rule.{AllAllowed, RestsBehind};
+ghost use Rattle.policy.specs.Answered.{AreAnswered};
+
+/// Whoever keeps the rule keeps the headline: its five clauses wherever the gateway rests, and before each thing that comes in;
+/// what is known of failures is right, and nothing stands behind the client's close. So it is for both policies, and however
+/// requests and responses are passed on.
+pub fn headline_holds()
+    ensures clauses { (known : Known) (run : List Move) → AreKnown known (conducts run) → AllAllowed known.setup run → AreAnswered known run → RestsBehind known.setup run → ClausesHold known (tape_of run) }
+    ensures in_turn { (known : Known) (run : List Move) → AreKnown known (conducts run) → AllAllowed known.setup run → AreAnswered known run → HoldsInTurn (ClausesHold known) (tape_of run) }
+    ensures judged { (known : Known) (run : List Move) → AreKnown known (conducts run) → AreAnswered known run → AreJudged known (tape_of run) }
+    ensures ends { (known : Known) (run : List Move) → AreKnown known (conducts run) → AllAllowed known.setup run → EndsWithClose (tape_of run) }
+{}
+
+/// Wherever the gateway rests, its header tables are those of the other side, blocks are written as the policy says, each block
+/// that came was read or is one that needs no reading, and turns were fair.
+pub fn in_step()
+    ensures { (known : Known) (run : List Move) → AreKnown known (conducts run) → AllAllowed known.setup run → AreAnswered known run → RestsBehind known.setup run → InStep known (tape_of run) (state_of known.setup run).tables.encoding.table (state_of known.setup run).tables.decoding }
+{}

@@ -6,9 +6,10 @@ use Rattle.model.specs.Setup.{Setup}
 use Rattle.model.specs.SettingValues.{settings_in, initial_window_after}
 use Rattle.model.specs.Logs.Event.{Client, ClientEnd, ClientTook, Up, UpEnd, UpFailed, UpTook}
 use Rattle.model.specs.Logs.Act.{Open, ToUp, Close, CloseClient}
-use Rattle.model.specs.Tapes.{Entry}
+use Rattle.model.specs.Tapes.{Entry, sent}
 use Rattle.model.specs.Tapes.Breach.{WrongPreface, TooLong}
 use Rattle.model.specs.Tapes.Entry.{Came, Breached, Happened, Sent, Did}
+use Rattle.model.specs.Decoding.{begun}
 use Rattle.model.specs.Errors.{Fault, first_of, or_else}
 use Rattle.model.specs.Errors.Fault.{Stream}
 use Rattle.model.specs.FrameErrors.{fault_if}
@@ -18,7 +19,7 @@ use Rattle.conduct.specs.Turn.{rest_of, IsDue}
 use Rattle.conduct.specs.Summary.{Brief, Stream as Kept, Summary}
 use Rattle.conduct.specs.Judging.{rows_in, fault_for}
 use Rattle.conduct.specs.Owing.{must_end_in}
-use Rattle.conduct.specs.After.{is_sound, first_size_after, ends_after, after}
+use Rattle.conduct.specs.After.{begun_after, is_sound, first_size_after, ends_after, after}
 use Rattle.conduct.specs.Rows.{Row, fresh, find, with_streams, rows_after, WillDo, StandFor}
 use Rattle.conduct.specs.Rule.{Move, Point, queue_behind, point_after, IsInTurn, Allowed, tape_of, point_of, AllAllowed, AreKnown}
 use Rattle.conduct.specs.Told.{IsTold}
@@ -28,7 +29,7 @@ use Rattle.conduct.proofs.Seen.{fault_seen, end_seen}
 use Rattle.conduct.proofs.RowsKept.{will_do, rows_stand}
 use Rattle.conduct.proofs.Idle.{still_idle}
 use Rattle.conduct.proofs.Turns.{control_owes, fit_told, allowed_told, queue_told}
-use Rattle.conduct.proofs.Rule.{errors_hold_at_rest}
+use Rattle.conduct.proofs.Rule.{point_same, errors_hold_at_rest}
 
 -- ---- whether an error is one of the connection doesn't depend on a stream's course
 
@@ -103,6 +104,7 @@ pub record Tells (desk : Desk) (p : Point) : Type 0 where
   pub queue : desk.queue ≡ p.queue
   pub ends : desk.book.ends ≡ p.summary.ends
   pub closed : desk.book.closed ≡ p.summary.closed
+  pub block_out : desk.book.block_out ≡ p.summary.block_out
   pub told : p.summary.ends ≡ false → IsTold desk.book p.summary
 
 -- what a move is and leads to, by the summary
@@ -126,6 +128,7 @@ goes_on setup rows s queue m stand may fit_seen = record {
     queue = queue_told setup m.fails (find rows) s will stand.few queue m.entry fit allowed.turn;
     ends = ends_seen setup m.fails rows s stand m.entry;
     closed = refl;
+    block_out = refl;
     told = λ on.
         let idle = still_idle setup m.fails s stand.idle m.entry (sound_if m.fails s m.entry on fit) (no_end s m.entry on) in
         let now : StandFor later (after setup m.fails s m.entry) = rows_stand setup m.fails rows s stand m.entry idle in
@@ -177,24 +180,25 @@ ends_on setup desk p m tells ended may = by_entry m.entry m.fails may.turn
             ∙ sym (ap (λ (fs : List Frame). rest_of p.queue ++ fs) (control_owes setup fails p.summary noted due.control));
         ends = tells.ends;
         closed = tells.closed;
+        block_out = ap (λ b. begun_after b noted.frame) tells.block_out;
         told = λ on. absurd (let no : true ≡ false = sym ended ∙ on in cc);
       };
     }
     by_entry (Did (Open k route)) fails turn = record {
       allowed = record { open_yet = open_yet; turn = tt };
-      tells = record { queue = tells.queue; ends = tells.ends; closed = tells.closed; told = λ on. absurd (let no : true ≡ false = sym ended ∙ on in cc) };
+      tells = record { queue = tells.queue; ends = tells.ends; closed = tells.closed; block_out = tells.block_out; told = λ on. absurd (let no : true ≡ false = sym ended ∙ on in cc) };
     }
     by_entry (Did (ToUp k octets)) fails turn = record {
       allowed = record { open_yet = open_yet; turn = tt };
-      tells = record { queue = tells.queue; ends = tells.ends; closed = tells.closed; told = λ on. absurd (let no : true ≡ false = sym ended ∙ on in cc) };
+      tells = record { queue = tells.queue; ends = tells.ends; closed = tells.closed; block_out = tells.block_out; told = λ on. absurd (let no : true ≡ false = sym ended ∙ on in cc) };
     }
     by_entry (Did (Close k)) fails turn = record {
       allowed = record { open_yet = open_yet; turn = tt };
-      tells = record { queue = tells.queue; ends = tells.ends; closed = tells.closed; told = λ on. absurd (let no : true ≡ false = sym ended ∙ on in cc) };
+      tells = record { queue = tells.queue; ends = tells.ends; closed = tells.closed; block_out = tells.block_out; told = λ on. absurd (let no : true ≡ false = sym ended ∙ on in cc) };
     }
     by_entry (Did CloseClient) fails turn = record {
       allowed = record { open_yet = open_yet; turn = record { nothing = sym tells.queue ∙ turn.nothing; to_end = or_left p.summary.ends _ ended } };
-      tells = record { queue = tells.queue; ends = tells.ends; closed = refl; told = λ on. absurd (let no : true ≡ false = sym ended ∙ on in cc) };
+      tells = record { queue = tells.queue; ends = tells.ends; closed = refl; block_out = tells.block_out; told = λ on. absurd (let no : true ≡ false = sym ended ∙ on in cc) };
     }
 
 -- ---- any move
@@ -218,7 +222,7 @@ pub record HasKept (setup : Setup) (moves : List Move) : Type 0 where
   pub allowed : AllAllowed setup moves
 
 pub has_kept : (setup : Setup) (moves : List Move) → AllMoved setup moves → HasKept setup moves
-has_kept setup [] all = record { tells = record { queue = refl; ends = refl; closed = refl; told = λ on. record { same = refl; stand = record { ids = refl; alike = λ id there. absurd (let no : false ≡ true = there in cc); idle = λ id may. refl; few = omega arith } } }; allowed = tt }
+has_kept setup [] all = record { tells = record { queue = refl; ends = refl; closed = refl; block_out = refl; told = λ on. record { same = refl; stand = record { ids = refl; alike = λ id there. absurd (let no : false ≡ true = there in cc); idle = λ id may. refl; few = omega arith } } }; allowed = tt }
 has_kept setup (m ∷ moves) all =
     let before : HasKept setup moves = has_kept setup moves all.0 in
     let next : Follows setup (desk_after setup (desk_of setup moves) m) (point_of setup moves) m = one_move setup (desk_of setup moves) (point_of setup moves) m before.tells all.1 in
@@ -238,3 +242,11 @@ pub errors_hold_by_book : (known : Known) (moves : List Move) → AreKnown known
 errors_hold_by_book known moves knows all rests =
     let kept : HasKept known.setup moves = has_kept known.setup moves all in
     errors_hold_at_rest known moves knows kept.allowed (record { nothing = sym kept.tells.queue ∙ rests.nothing; ended = λ ends. sym kept.tells.closed ∙ rests.ended (end_told known.setup (desk_of known.setup moves) (point_of known.setup moves) kept.tells ∙ ends) })
+
+-- The book has the header block to the client that isn't complete, whatever came.
+pub block_out_told : (known : Known) (moves : List Move) → AreKnown known moves → AllMoved known.setup moves → (desk_of known.setup moves).book.block_out ≡ begun (sent (tape_of moves))
+block_out_told known moves knows all = (has_kept known.setup moves all).tells.block_out ∙ ap (λ (p : Point). p.summary.block_out) (point_same known moves knows)
+
+-- Where the program rests none is begun.
+pub blocks_are_whole : (known : Known) (moves : List Move) → AreKnown known moves → AllMoved known.setup moves → Rests (desk_of known.setup moves) → begun (sent (tape_of moves)) ≡ None
+blocks_are_whole known moves knows all rests = sym (block_out_told known moves knows all) ∙ rests.none_begun

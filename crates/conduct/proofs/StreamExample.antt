@@ -80,15 +80,15 @@ run_moved = (
                     tt,
                     record { allowed = record { open_yet = refl; turn = inl (record { front = refl; control = refl }) }; fit = refl },
                   ),
-                  record { allowed = record { open_yet = refl; turn = record { nothing = refl; goes_on = refl } }; fit = no_block },
+                  record { allowed = record { open_yet = refl; turn = record { nothing = refl; none_begun = refl; goes_on = refl } }; fit = no_block },
                 ),
                 record { allowed = record { open_yet = refl; turn = inl (record { front = refl; control = refl }) }; fit = refl },
               ),
-              record { allowed = record { open_yet = refl; turn = record { nothing = refl; goes_on = refl } }; fit = has_block },
+              record { allowed = record { open_yet = refl; turn = record { nothing = refl; none_begun = refl; goes_on = refl } }; fit = has_block },
             ),
-            record { allowed = record { open_yet = refl; turn = record { nothing = refl; goes_on = refl } }; fit = no_block },
+            record { allowed = record { open_yet = refl; turn = record { nothing = refl; none_begun = refl; goes_on = refl } }; fit = no_block },
           ),
-          record { allowed = record { open_yet = refl; turn = record { nothing = refl; goes_on = refl } }; fit = no_block },
+          record { allowed = record { open_yet = refl; turn = record { nothing = refl; none_begun = refl; goes_on = refl } }; fit = no_block },
         ),
         record { allowed = record { open_yet = refl; turn = inr (record { nothing = refl; goes_on = refl; passing = refl; rightly = refl }) }; fit = refl },
       ),
@@ -96,7 +96,7 @@ run_moved = (
     ),
     record { allowed = record { open_yet = refl; turn = inl (record { front = refl; control = refl }) }; fit = refl },
   ),
-  record { allowed = record { open_yet = refl; turn = record { nothing = refl; goes_on = refl } }; fit = no_block },
+  record { allowed = record { open_yet = refl; turn = record { nothing = refl; none_begun = refl; goes_on = refl } }; fit = no_block },
 )
 
 -- what is left of the stream
@@ -129,7 +129,7 @@ no_head_at_high_water = refl
 
 run_rests : Rests (desk_of setup run)
 unfolding total_size
-run_rests = record { nothing = refl; ended = λ ends. absurd (let no : false ≡ true = ends in cc) }
+run_rests = record { nothing = refl; none_begun = refl; ended = λ ends. absurd (let no : false ≡ true = ends in cc) }
 
 -- The clause on errors holds behind them.
 pub run_holds : ErrorsHold (known_of setup run) (tape_of run)

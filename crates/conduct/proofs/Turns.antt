@@ -104,9 +104,9 @@ module _ (setup : Setup) (fails : Bool) (f : ℕ → Kept) (s : Summary) (will :
   fit_told (Did act) fit = fit
 
   turn_told : (queue : List Frame) (e : Entry) → IsInTurn (record { summary = seen; queue = queue }) e → IsInTurn (record { summary = s; queue = queue }) e
-  turn_told queue (Came noted) turn = record { nothing = turn.nothing; goes_on = sym (end_seen setup fails f s will few) ∙ turn.goes_on }
-  turn_told queue (Breached breach) turn = record { nothing = turn.nothing; goes_on = sym (end_seen setup fails f s will few) ∙ turn.goes_on }
-  turn_told queue (Happened event) turn = record { nothing = turn.nothing; goes_on = sym (end_seen setup fails f s will few) ∙ turn.goes_on }
+  turn_told queue (Came noted) turn = record { nothing = turn.nothing; none_begun = turn.none_begun; goes_on = sym (end_seen setup fails f s will few) ∙ turn.goes_on }
+  turn_told queue (Breached breach) turn = record { nothing = turn.nothing; none_begun = turn.none_begun; goes_on = sym (end_seen setup fails f s will few) ∙ turn.goes_on }
+  turn_told queue (Happened event) turn = record { nothing = turn.nothing; none_begun = turn.none_begun; goes_on = sym (end_seen setup fails f s will few) ∙ turn.goes_on }
   turn_told queue (Sent noted) (inl due) = inl due
   turn_told queue (Sent noted) (inr may) = inr (record { nothing = may.nothing; goes_on = sym (end_seen setup fails f s will few) ∙ may.goes_on; passing = may.passing; rightly = sym (rightly_seen setup fails f s will few noted.frame) ∙ may.rightly })
   turn_told queue (Did CloseClient) turn = record { nothing = turn.nothing; to_end = sym (end_seen setup fails f s will few) ∙ turn.to_end }

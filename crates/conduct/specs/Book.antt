@@ -1,5 +1,5 @@
 -- The book: all that a program keeps, and the rule of conduct over it. It names no tape, and no function of ids but its rows.
-use Rattle.std.specs.Prelude.{◌≡◌, ℕ, Bool, true, false, List, [], ◌∷◌, Option, ℤ, is_some}
+use Rattle.std.specs.Prelude.{◌≡◌, ℕ, Bool, true, false, List, [], ◌∷◌, Option, None, ℤ, is_some}
 use Rattle.model.specs.Frames.{Frame, settings_frame}
 use Rattle.model.specs.Setup.{Setup}
 use Rattle.model.specs.Tapes.{Note, Entry}
@@ -133,7 +133,8 @@ abbrev pub AllMoved : Setup → List Move → Type 0
 AllMoved setup [] = Unit {0}
 AllMoved setup (m ∷ moves) = AllMoved setup moves × MayMove (desk_of setup moves) m
 
--- The program rests: nothing is owed, and the client is closed if the connection is to end.
+-- The program rests: nothing is owed, no header block to the client is begun, and the client is closed if the connection is to end.
 pub record Rests (desk : Desk) : Type 0 where
   pub nothing : desk.queue ≡ []
+  pub none_begun : desk.book.block_out ≡ None
   pub ended : must_end_in (summary_in desk.book) ≡ true → desk.book.closed ≡ true

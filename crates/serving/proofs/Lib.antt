@@ -14,6 +14,7 @@ pub mod Hearing
 pub mod Opening
 pub mod Reading
 pub mod Clauses
+pub mod InTurn
 pub mod Sources
 pub mod Calling
 pub mod Telling

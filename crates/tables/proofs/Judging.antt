@@ -7,6 +7,7 @@ use Rattle.model.specs.Known.{Known}
 use Rattle.model.specs.Errors.{Fault, first_of}
 use Rattle.model.specs.FrameErrors.{frame_fault}
 use Rattle.conduct.specs.Summary.{Summary, summary_of}
+use Rattle.conduct.specs.Judging.{completed_in}
 use Rattle.conduct.specs.After.{is_sound, are_taken_in}
 use Rattle.conduct.specs.Book.{Book, summary_in}
 use Rattle.conduct.specs.Told.{IsTold}
@@ -19,6 +20,7 @@ pub verdict_right : (known : Known) (t : List Entry) (noted : Noted) → IsJudge
 verdict_right known t noted = record {
   error = refl;
   taken = ap (λ b. is_none (frame_fault t (Came noted)) && b) (taken_same known t noted.frame);
+  block = refl;
 }
 
 -- The verdict by a book that tells what the tape leaves.
@@ -28,4 +30,5 @@ verdict_by_book known t book told noted = record {
   taken =
       ap (λ (s : Summary). is_sound s noted.frame && are_taken_in (summary_in book) noted.frame) told.same
       ∙ ap (λ b. is_none (frame_fault t (Came noted)) && b) (taken_told known t book told noted.frame ∙ taken_same known t noted.frame);
+  block = ap (λ (s : Summary). completed_in s.block noted.frame) told.same;
 }

@@ -57,7 +57,7 @@ stops_step known t s (Takes noted verdict next) j on kept h =
     }
 stops_step known t s (Breaks breach) j on kept h = record { ends = λ unread same. refl }
 stops_step known t s (Hears event) j on kept h = record { ends = λ unread same. absurd (let clash : true ≡ false = sym unread ∙ all_read_by known t s h on same in cc) }
-stops_step known t s (Sends noted next) j on kept h = record { ends = h.ends }
+stops_step known t s (Sends noted before next) j on kept h = record { ends = h.ends }
 stops_step known t s (Acts act) j on kept h = record { ends = h.ends }
 
 -- ---- the rule, where conduct's holds
@@ -72,7 +72,7 @@ goes_on_by known t (Did act) may = tt
 -- what wasn't lost behind a move wasn't before it
 kept_before : (s : State) (m : Move) → (after s m).lost ≡ false → s.lost ≡ false
 kept_before s (Takes noted verdict next) e = (or_parts s.lost (not (is_read noted.note) && not verdict.is_error) e).0
-kept_before s (Sends noted next) e = e
+kept_before s (Sends noted before next) e = e
 kept_before s (Breaks breach) e = e
 kept_before s (Hears event) e = e
 kept_before s (Acts act) e = e
@@ -85,7 +85,7 @@ stops_run known policy (m ∷ moves) c j kept =
 
 may_come_by : (known : Known) (t : List Entry) (s : State) (m : Move) → Stops known t s → s.lost ≡ false → GoesOn known t (entry_of m) → IsFit s m → MayCome s m
 may_come_by known t s (Takes noted verdict next) h kept on fit = record { all_read = all_read_by known t s h on kept; is_taken = fit }
-may_come_by known t s (Sends noted next) h kept on fit = fit
+may_come_by known t s (Sends noted before next) h kept on fit = fit
 may_come_by known t s (Breaks breach) h kept on fit = fit
 may_come_by known t s (Hears event) h kept on fit = fit
 may_come_by known t s (Acts act) h kept on fit = fit

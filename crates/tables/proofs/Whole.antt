@@ -26,13 +26,14 @@ use Rattle.offering.specs.Outbox.Part.{Final}
 use Rattle.offering.specs.State.{Kept, Change, Move as Offer, entry_of as offered, state_of as offer_of, find}
 use Rattle.offering.specs.State.Move.{Takes as Hears, Goes, Sends as Gives}
 use Rattle.offering.specs.Policy.{Neighbours, AreAllowed}
-use Rattle.tables.specs.State.{Move, encoding_after, tape_of}
+use Rattle.tables.specs.Spelling.{block_of}
+use Rattle.tables.specs.State.{Move, tape_of}
 use Rattle.tables.specs.State.Move.{Takes, Sends}
 use Rattle.tables.specs.Rule.{AllFit}
 use Rattle.tables.specs.Kept.{AllJudged}
 use Rattle.tables.specs.Turns.{AllBegan}
 use Rattle.tables.proofs.Searching.{absent, absent_below}
-use Rattle.tables.proofs.Requests.{frame, request, decoded, request_read}
+use Rattle.tables.proofs.Requests.{frame, completes, settled, request, decoded, request_read}
 use Rattle.tables.proofs.Synced.{in_step_by}
 
 -- one route, for another authority
@@ -73,11 +74,11 @@ encoded = added empty first_table
 -- the moves of the tables, the newest first
 abbrev moves : List Move
 moves =
-    Sends answers encoded
-    ∷ Takes asks (record { is_error = false; is_taken = false }) decoded
-    ∷ Sends (plain settings_ack) first_table
-    ∷ Takes (plain (frame settings_kind 0 0 [])) (record { is_error = false; is_taken = true }) first_table
-    ∷ Sends (plain settings_frame) first_table
+    Sends answers None encoded
+    ∷ Takes asks (completes (block_of 1 true (130 ∷ 134 ∷ 132 ∷ 65 ∷ 1 ∷ 97 ∷ []))) decoded
+    ∷ Sends (plain settings_ack) None first_table
+    ∷ Takes (plain (frame settings_kind 0 0 [])) settled first_table
+    ∷ Sends (plain settings_frame) None first_table
     ∷ []
 
 -- a frame that changes nothing of what is on offer
@@ -108,11 +109,11 @@ conducted = (
     (
       (
         (tt, record { open_yet = refl; turn = inl (record { front = refl; control = refl }) }),
-        record { open_yet = refl; turn = record { nothing = refl; goes_on = refl } },
+        record { open_yet = refl; turn = record { nothing = refl; none_begun = refl; goes_on = refl } },
       ),
       record { open_yet = refl; turn = inl (record { front = refl; control = refl }) },
     ),
-    record { open_yet = refl; turn = record { nothing = refl; goes_on = refl } },
+    record { open_yet = refl; turn = record { nothing = refl; none_begun = refl; goes_on = refl } },
   ),
   record { open_yet = refl; turn = inr (record { nothing = refl; goes_on = refl; passing = refl; rightly = refl }) },
 )
@@ -120,7 +121,7 @@ conducted = (
 -- ---- by the tables
 
 judged : AllJudged moves
-judged = (((((tt, tt), record { error = refl; taken = refl }), tt), record { error = refl; taken = refl }), tt)
+judged = (((((tt, refl), record { error = refl; taken = refl; block = refl }), refl), record { error = refl; taken = refl; block = refl }), refl)
 
 -- the status begins and ends with a 4
 abbrev is_missing : Field → Bool
@@ -189,8 +190,8 @@ answer_encoded = record {
 fit : AllFit Indexing moves
 fit = (
   (
-    (((tt, record { together = refl; is_given = refl }), record { none_begun = refl; is_noted = refl }), record { together = refl; is_given = refl }),
-    record { none_begun = refl; is_noted = request_read },
+    (((tt, record { together = refl; is_given = refl }), record { is_noted = refl }), record { together = refl; is_given = refl }),
+    record { is_noted = request_read },
   ),
   record { together = refl; is_given = record { fields = missing ∷ empty ∷ []; is_noted = refl; encodes = answer_encoded } },
 )

@@ -1,4 +1,5 @@
 use Rattle.conduct.proofs.Telling as laws
+use Rattle.conduct.proofs.Book as book
 use Rattle.conduct.proofs.book_tells.Goals as goal
 
 pub returns-clause-told : goal.returns-clause-told
@@ -12,3 +13,6 @@ returns-clause-live c = laws.live_told
 
 pub returns-clause-fault : goal.returns-clause-fault
 returns-clause-fault c = laws.fault_told
+
+pub returns-clause-block_out : goal.returns-clause-block_out
+returns-clause-block_out c = book.block_out_told

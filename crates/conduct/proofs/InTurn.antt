@@ -1,0 +1,34 @@
+-- Something comes in only where the program rests: so what holds there holds before each thing that comes in.
+use Rattle.std.proofs.Common.{◌≡◌, true, false, List, [], ◌∷◌, None, sym, ◌∙◌, subst, inr}
+use Rattle.model.specs.Setup.{Setup}
+use Rattle.model.specs.Logs.Act.{Open, ToUp, Close, CloseClient}
+use Rattle.model.specs.Tapes.{Entry, sent}
+use Rattle.model.specs.Tapes.Entry.{Came, Breached, Happened, Sent, Did}
+use Rattle.model.specs.Decoding.{begun}
+use Rattle.model.specs.Known.{Known}
+use Rattle.model.specs.Headline.{HoldsInTurn}
+use Rattle.conduct.specs.Rule.{Move, MayComeIn, IsInTurn, tape_of, AreKnown}
+use Rattle.conduct.specs.Book.{Desk, as_point, desk_of, AllMoved, Rests}
+use Rattle.conduct.specs.InTurn.{KeepErrors}
+use Rattle.conduct.proofs.Book.{errors_hold_by_book, blocks_are_whole}
+
+-- where something may come in, the program rests
+pub comes_at_rest : (desk : Desk) → MayComeIn (as_point desk) → Rests desk
+comes_at_rest desk may = record { nothing = may.nothing; none_begun = may.none_begun; ended = λ ends. absurd (let no : true ≡ false = sym ends ∙ may.goes_on in cc) }
+
+-- what holds at rest
+keeps : (known : Known) (moves : List Move) → AreKnown known moves → AllMoved known.setup moves → Rests (desk_of known.setup moves) → KeepErrors known (tape_of moves)
+keeps known moves knows all rests = record { errors = errors_hold_by_book known moves knows all rests; none_begun = blocks_are_whole known moves knows all rests }
+
+-- one entry more
+one_more : (known : Known) (moves : List Move) (e : Entry) → IsInTurn (as_point (desk_of known.setup moves)) e → (Rests (desk_of known.setup moves) → KeepErrors known (tape_of moves)) → HoldsInTurn (KeepErrors known) (tape_of moves) → HoldsInTurn (KeepErrors known) (e ∷ tape_of moves)
+one_more known moves (Came noted) may at before = (inr (at (comes_at_rest (desk_of known.setup moves) may)), before)
+one_more known moves (Breached breach) may at before = (inr (at (comes_at_rest (desk_of known.setup moves) may)), before)
+one_more known moves (Happened event) may at before = (inr (at (comes_at_rest (desk_of known.setup moves) may)), before)
+one_more known moves (Sent noted) may at before = before
+one_more known moves (Did act) may at before = before
+
+-- It holds before each thing that comes in.
+pub errors_in_turn : (known : Known) (moves : List Move) → AreKnown known moves → AllMoved known.setup moves → HoldsInTurn (KeepErrors known) (tape_of moves)
+errors_in_turn known [] knows all = tt
+errors_in_turn known (m ∷ moves) knows all = one_more known moves m.entry all.1.allowed.turn (keeps known moves knows.0 all.0) (errors_in_turn known moves knows.0 all.0)

@@ -1,9 +1,10 @@
 -- Whoever keeps the rule keeps the headline: at rest, and before each thing that comes in.
-use Rattle.std.proofs.Common.{◌≡◌, ℕ, Bool, true, false, List, [], ◌∷◌, map, refl, sym, ◌∙◌, ap, subst, inl, inr}
+use Rattle.std.proofs.Common.{◌≡◌, ℕ, Bool, true, false, List, [], ◌∷◌, map, None, refl, sym, ◌∙◌, ap, subst, inl, inr}
 use Rattle.model.specs.Logs.{Event}
 use Rattle.model.specs.Tables.{Table}
 use Rattle.model.specs.Tapes.{Entry, sent, is_closed, EndsWithClose}
 use Rattle.model.specs.Tapes.Entry.{Came, Breached, Happened, Sent, Did}
+use Rattle.model.specs.Decoding.{begun}
 use Rattle.model.specs.Known.{Known, fails_behind}
 use Rattle.model.specs.Failures.{IsJudged, AreJudged}
 use Rattle.model.specs.ErrorClause.{ErrorsHold}
@@ -13,7 +14,7 @@ use Rattle.model.specs.WindowClause.{GivesBack, GivesNoMore}
 use Rattle.conduct.specs.Rule.{AreKnown, Point}
 use Rattle.conduct.specs.Book.{desk_of}
 use Rattle.conduct.proofs.Rule.{point_same}
-use Rattle.conduct.proofs.Book.{has_kept, errors_hold_by_book}
+use Rattle.conduct.proofs.Book.{has_kept, errors_hold_by_book, block_out_told}
 use Rattle.offering.specs.Policy as offering
 use Rattle.offering.specs.Rule as offers
 use Rattle.offering.specs.Sight.{Sight, sight_in}
@@ -79,6 +80,9 @@ module _ (known : Known) (run : List Move) (k : IsKnown known run) (rests : Rest
   errors : ErrorsHold known t
   errors = errors_hold_by_book known (conducts run) k.knows (all_moved known run k.all) rests.conduct
 
+  none_begun : begun (sent t) ≡ None
+  none_begun = sym (block_out_told known (conducts run) k.knows (all_moved known run k.all)) ∙ rests.conduct.none_begun
+
   no_more : GivesNoMore t
   no_more =
       subst GivesNoMore (windows_tape known.setup run)
@@ -100,7 +104,7 @@ module _ (known : Known) (run : List Move) (k : IsKnown known run) (rests : Rest
       decodes = of_tables.of_sent;
       decoded = of_tables.decoded;
       together = of_tables.together;
-      none_begun = of_tables.block_out ∙ rests.whole;
+      none_begun = none_begun;
       limits = of_tables.limits;
       delivered = of_offers.delivered;
     };

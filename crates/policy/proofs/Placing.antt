@@ -146,8 +146,8 @@ judged_one known run knows all (Breaks breach) = tt
 judged_one known run knows all (Notes event) = tt
 judged_one known run knows all (Hears event stream news whole) = tt
 judged_one known run knows all (Fails event stream whole) = tt
-judged_one known run knows all (Sends noted next) = tt
-judged_one known run knows all (Goes noted item part next) = tt
+judged_one known run knows all (Sends noted next) = (sight_right known run knows (all_moved known run all)).block
+judged_one known run knows all (Goes noted item part next) = (sight_right known run knows (all_moved known run all)).block
 judged_one known run knows all (Acts act) = tt
 
 pub tables_judged : (known : Known) (run : List Move) → AreKnown known (conducts run) → AllAllowed known.setup run → AllJudged (tables_of known.setup run)

@@ -123,8 +123,8 @@ table_of s (Breaks breach) = tables.Move.Breaks breach
 table_of s (Notes event) = tables.Move.Hears event
 table_of s (Hears event stream news whole) = tables.Move.Hears event
 table_of s (Fails event stream whole) = tables.Move.Hears event
-table_of s (Sends noted next) = tables.Move.Sends noted next
-table_of s (Goes noted item part next) = tables.Move.Sends noted next
+table_of s (Sends noted next) = tables.Move.Sends noted s.block_out next
+table_of s (Goes noted item part next) = tables.Move.Sends noted s.block_out next
 table_of s (Acts act) = tables.Move.Acts act
 
 -- a frame to the client by whether it gives octets back

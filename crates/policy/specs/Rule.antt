@@ -1,5 +1,5 @@
 -- Which move may come next: by what is kept, and by what is told before the move and behind it. No tape is named here.
-use Rattle.std.specs.Prelude.{◌≡◌, Bool, true, false, ◌||◌, if◌then◌else◌, List, [], ◌∷◌, Option, None}
+use Rattle.std.specs.Prelude.{◌≡◌, Bool, true, false, ◌||◌, if◌then◌else◌, List, [], ◌∷◌, Option}
 use Rattle.model.specs.Messages.{Item}
 use Rattle.model.specs.Messages.Item.{Block}
 use Rattle.model.specs.Setup.{Setup}
@@ -65,13 +65,12 @@ GainsIf setup s d = Unit {0}
 
 -- ---- rest
 
--- The gateway rests: nothing is owed, nothing can go on, connections that are done with are closed, header blocks are whole and were read,
--- and what goes back was given back; and the client is closed if the connection is to end.
+-- The gateway rests: nothing is owed, nothing can go on, header blocks to the client are whole, those of the client were read,
+-- connections that are done with are closed, what goes back was given back, and the client is closed if the connection is to end.
 pub record Rests (s : Summary) (state : State) : Type 0 where
   pub conduct : conduct.Rests state.desk
   pub flushed : IsFlushed state.offers
   pub served : requests.Rests (told_in s) state.requests
-  pub whole : state.tables.begun_out ≡ None
   pub read : state.tables.lost ≡ false
   pub given_back : s.closed ≡ false → OwesNothing (sight_in s) state.windows
 

@@ -3,3 +3,4 @@ pub mod Telling
 pub mod Adding
 pub mod Placing
 pub mod Keeping
+pub mod Stepping

@@ -2,3 +2,4 @@ pub mod Moves
 pub mod State
 pub mod Rule
 pub mod Answered
+pub mod Steps

@@ -13,17 +13,20 @@
 //! - `RestsBehind`: the step ends where the gateway rests.
 #![tactic(auto)]
 
-ghost use Rattle.std.specs.Prelude.{List};
+ghost use Rattle.std.specs.Prelude.{◌++◌, List, ◌∷◌, reverse};
+ghost use Rattle.model.specs.Setup.{Setup};
+ghost use Rattle.model.specs.Logs.{Step};
 ghost use Rattle.model.specs.Known.{Known};
 ghost use Rattle.model.specs.Tapes.{EndsWithClose};
 ghost use Rattle.model.specs.Failures.{AreJudged};
-ghost use Rattle.model.specs.Headline.{ClausesHold, HoldsInTurn};
+ghost use Rattle.model.specs.Headline.{ClausesHold, HoldsInTurn, Headline};
 ghost use Rattle.model.specs.Synchrony.{InStep};
 ghost use Rattle.conduct.specs.Rule.{AreKnown};
 ghost use Rattle.policy.specs.Moves.{Move};
-ghost use Rattle.policy.specs.State.{conducts, tape_of, state_of};
+ghost use Rattle.policy.specs.State.{State, conducts, tape_of, state_of};
 ghost use Rattle.policy.specs.Rule.{AllAllowed, RestsBehind};
 ghost use Rattle.policy.specs.Answered.{AreAnswered};
+ghost use Rattle.policy.specs.Steps.{next, MayGoOn, Leads, Stands, AreAnsweredBy};
 
 /// Whoever keeps the rule keeps the headline: its five clauses wherever the gateway rests, and before each thing that comes in;
 /// what is known of failures is right, and nothing stands behind the client's close. So it is for both policies, and however
@@ -39,4 +42,18 @@ pub fn headline_holds()
 /// that came was read or is one that needs no reading, and turns were fair.
 pub fn in_step()
     ensures { (known : Known) (run : List Move) → AreKnown known (conducts run) → AllAllowed known.setup run → AreAnswered known run → RestsBehind known.setup run → InStep known (tape_of run) (state_of known.setup run).tables.encoding.table (state_of known.setup run).tables.decoding }
+{}
+
+/// A log each of whose steps is answered by moves that came by the rule has the headline, and with it tables are in step at the end of
+/// each step ([`in_step`]).
+pub fn log_has_headline()
+    ensures { (known : Known) (log : List Step) (run : List Move) → AreKnown known (conducts run) → AllAllowed known.setup run → AreAnswered known run → AreAnsweredBy known (reverse log) run → Headline known.setup log }
+{}
+
+/// While the connection goes on a move may come by what is kept alone, and what is kept behind it follows from that. So whoever
+/// performs moves shows them one by one, and stands where they lead.
+pub fn states_lead()
+    ensures one { (setup : Setup) (run : List Move) (s : State) (m : Move) → Stands setup run s → MayGoOn setup s m → Stands setup (m ∷ run) (next setup s m) }
+    ensures all { (setup : Setup) (run : List Move) (old new : State) (moves : List Move) → Stands setup run old → Leads setup old moves new → Stands setup (moves ++ run) new }
+    ensures further { (setup : Setup) (old s new : State) (first later : List Move) → Leads setup old first s → Leads setup s later new → Leads setup old (later ++ first) new }
 {}

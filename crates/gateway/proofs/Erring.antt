@@ -194,8 +194,8 @@ closed_idle t s i = cases s.closed refl (is_closed t) refl
     cases false e true f = f ∙ sym (i.shutting.later f).0
     cases false e false f = f ∙ sym e
 
-pub errors_hold : (t : List Entry) (s : State) → Inv t (idle s) → Erring t s [] → s.greeted ≡ true → is_given_up t ≡ false → ErrorsHold (known_of s.setup) t
-errors_hold t s i x greeted kept =
+pub errors_hold : (t : List Entry) (s : State) → Inv t (idle s) → Erring t s [] → is_given_up t ≡ false → ErrorsHold (known_of s.setup) t
+errors_hold t s i x kept =
     let h : Held t s [] = x.held (or_from (is_given_up t) false kept refl) in
     let no_more : must_end (known_of s.setup) t ≡ calls_for_end (known_of s.setup) t = ap (λ b. calls_for_end (known_of s.setup) t || b) (spent t x.few) ∙ or-false (calls_for_end (known_of s.setup) t) in record {
       begins = begun_first t x.begins;

@@ -1,5 +1,5 @@
 -- Where an event stands in the segment of its step: nothing is done before it.
-use Rattle.std.proofs.Common.{◌≡◌, Bool, true, false, List, [], ◌∷◌, refl, sym, ◌∙◌, ap, if◌then◌else◌}
+use Rattle.std.proofs.Common.{◌≡◌, Bool, true, false, List, [], ◌∷◌, refl, if◌then◌else◌}
 use Rattle.model.specs.Frames.{settings_frame}
 use Rattle.model.specs.Logs.{Event}
 use Rattle.model.specs.Tapes.{acts, ActsFollow}

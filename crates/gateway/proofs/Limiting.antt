@@ -67,6 +67,7 @@ limiting_head t noted block fields next s s' h on decodes whole is_block ec en =
         come_down = subst (λ limits. All (λ limit. Any (λ reached. reached ≤ limit) (s.encoding.maximum ∷ [])) limits) (sym (h.unlimited on)) (λ k d lt. absurd (omega arith));
         named = λ k d lt. absurd (omega arith);
         stands = let m = h.maximum on in let l : table_limit t ≡ 4096 = ap (λ settings. unwrap_or (last_value header_table_size settings) first_maximum) (h.unset on) in omega (arith, m, l);
+        few = omega arith;
       };
     } in record {
       keeps = (subst (KeepsIfBlock t) (sym whole) kept, h.keeps);

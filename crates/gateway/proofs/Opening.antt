@@ -1,10 +1,10 @@
--- Concern: a connection is opened for a stream that is active and that the gateway doesn't answer itself, while the connection
--- with the client isn't to end.
-use Rattle.std.proofs.Common.{◌≡◌, ℕ, suc, false, ◌==◌, List, [], ◌∷◌, ◌++◌, length, refl, sym, ◌∙◌, ap, subst, append-nil, arith}
+-- Concern: a connection is opened for a stream that is active, that the client has ended and that the gateway doesn't answer itself,
+-- while the connection with the client isn't to end.
+use Rattle.std.proofs.Common.{◌≡◌, ℕ, suc, false, ◌==◌, List, [], ◌∷◌, length, refl, sym, ◌∙◌, ap, subst, append-nil, arith}
 use Rattle.std.specs.Prelude.{None}
 use Rattle.std.specs.List.{list_any}
 use Rattle.std.proofs.lemmas.Bool.{or_from, or_left, eq-eqb}
-use Rattle.model.specs.Messages.{Request}
+use Rattle.model.specs.Messages.{Request, ends_with}
 use Rattle.model.specs.Tables.{Table}
 use Rattle.model.specs.Frames.{settings_frame}
 use Rattle.model.specs.Setup.{Setup}
@@ -12,7 +12,7 @@ use Rattle.model.specs.Logs.Act.{Open, ToUp, Close, CloseClient}
 use Rattle.model.specs.Tapes.{Noted, Entry, sent}
 use Rattle.model.specs.Tapes.Entry.{Came, Did}
 use Rattle.model.specs.Known.{Known}
-use Rattle.model.specs.Openings.{Opened, last_stream}
+use Rattle.model.specs.Openings.{last_stream}
 use Rattle.model.specs.Available.{items_on}
 use Rattle.model.specs.Lifetimes.{opened, is_spent}
 use Rattle.model.specs.Malformed.{is_begun}
@@ -79,7 +79,7 @@ later_due known t (ToAct CloseClient) ds h = h
 -- ---- a request
 
 module _ (t : List Entry) (s : State) (noted : Noted) (route : ℕ) (text : List ℕ) (request : Request) (next : Table) (g : Giving t s []) (l : Living t s []) (r : Responding t s []) (on : s.closed ≡ false) (note : IsNoted s.table noted (Served route text request next)) (may : MayServe s noted route text request) where
-  -- its stream is active, and waits for no reply of the gateway's own
+  -- its stream is active and ended by the client, and waits for no reply of the gateway's own
   served_due : MayBeServed (known_of s.setup) (Came noted ∷ t) noted.frame.id
   served_due =
       let new : IsNewHead t noted may.fields = is_new t s noted route text request next g l on note may in
@@ -94,6 +94,7 @@ module _ (t : List Entry) (s : State) (noted : Noted) (route : ℕ) (text : List
           ours = l.not_ours noted.frame.id;
         });
         no_cause = ap (λ (c : Course). c.cause) (told_here t s noted route text request next g l on note may);
+        whole = λ _. ap (λ (c : Course). list_any ends_with c.items) (told_here t s noted route text request next g l on note may);
         goes_on = or_from (calls_for_end (known_of s.setup) (Came noted ∷ t)) (is_spent (Came noted ∷ t)) (ap is_fatal none)
             (spent (Came noted ∷ t) (let size : length (opened (Came noted ∷ t)) ≡ suc (length (opened t)) = ap length ids in let few = new.new.few in omega (arith, size, few)));
       }

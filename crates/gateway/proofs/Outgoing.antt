@@ -85,20 +85,24 @@ active_ready t stream r =
 may_send : (t : List Entry) (stream : ℕ) → IsReady t stream → (is_active stream t && not (is_ended_by_gateway stream t)) ≡ true
 may_send t stream r = and_from (is_active stream t) (not (is_ended_by_gateway stream t)) (active_ready t stream r) (ap not r.unended)
 
+-- A part of a response that isn't cut is rightly begun below the high water.
+uncut : (t : List Entry) (id : ℕ) (some : Bool) → IsReady t id → some ≡ true → untaken t < high_water → (is_active id t && not (is_ended_by_gateway id t) && some && nat_lt (untaken t) high_water && true) ≡ true
+uncut t id some r e below =
+    let may : (is_active id t && not (is_ended_by_gateway id t) && some) ≡ true = and_from (is_active id t && not (is_ended_by_gateway id t)) some (may_send t id r) e in
+    let begun : (is_active id t && not (is_ended_by_gateway id t) && some && nat_lt (untaken t) high_water) ≡ true =
+    and_from (is_active id t && not (is_ended_by_gateway id t) && some) (nat_lt (untaken t) high_water) may (lt-ltb (untaken t) high_water below) in
+    and_from (is_active id t && not (is_ended_by_gateway id t) && some && nat_lt (untaken t) high_water) true begun refl
+
 -- DATA with END_STREAM alone is rightly sent
 last_rightly : (t : List Entry) (id : ℕ) (octets : List ℕ) → IsReady t id → untaken t < high_water → is_rightly_sent t (last_data id octets) ≡ true
-last_rightly t id octets r below =
-    and_from (is_active id t && not (is_ended_by_gateway id t) && (not (is_empty octets) || true)) (nat_lt (untaken t) high_water)
-    (and_from (is_active id t && not (is_ended_by_gateway id t)) (not (is_empty octets) || true) (may_send t id r) (or_right (not (is_empty octets)) true refl)) (lt-ltb (untaken t) high_water below)
+last_rightly t id octets r below = uncut t id (not (is_empty octets) || true) r (or_right (not (is_empty octets)) true refl) below
 
--- and so is a header block that isn't empty
+-- and so is a whole header block that isn't empty
 head_rightly : (t : List Entry) (id : ℕ) (ends : Bool) (block : List ℕ) → IsReady t id → is_empty block ≡ false → untaken t < high_water → is_rightly_sent t (head_frame id ends block) ≡ true
 head_rightly t id ends block r some below = by ends
   where
-    part : (is_active id t && not (is_ended_by_gateway id t) && (not (is_empty block) || false) && nat_lt (untaken t) high_water) ≡ true
-    part =
-        and_from (is_active id t && not (is_ended_by_gateway id t) && (not (is_empty block) || false)) (nat_lt (untaken t) high_water)
-        (and_from (is_active id t && not (is_ended_by_gateway id t)) (not (is_empty block) || false) (may_send t id r) (or_left (not (is_empty block)) false (ap not some))) (lt-ltb (untaken t) high_water below)
+    part : (is_active id t && not (is_ended_by_gateway id t) && (not (is_empty block) || false) && nat_lt (untaken t) high_water && true) ≡ true
+    part = uncut t id (not (is_empty block) || false) r (or_left (not (is_empty block)) false (ap not some)) below
 
     by : (b : Bool) → is_rightly_sent t (head_frame id b block) ≡ true
     by true = part

@@ -1,6 +1,6 @@
 -- The clause on progress, of each tape whose connection wasn't given up.
 use Rattle.std.proofs.Common.{◌≡◌, ℕ, true, false, Bool, not, ◌==◌, ◌&&◌, ◌||◌, List, [], ◌∷◌, ◌++◌, map, refl, sym, ◌∙◌, ap, subst, append_assoc, append-nil, inl, inr}
-use Rattle.std.specs.Prelude.{Option, None, Some, ◌⊎◌}
+use Rattle.std.specs.Prelude.{Option, None, Some}
 use Rattle.std.specs.List.{list_any}
 use Rattle.std.proofs.lemmas.Bool.{or_right, eq-eqb}
 use Rattle.model.specs.Octets.{Joined}
@@ -19,10 +19,9 @@ use Rattle.model.specs.Admission.{is_open}
 use Rattle.model.specs.Available.{heard, heard_by, ended_by, shown, IsIn, IsShown}
 use Rattle.model.specs.Deliveries.{Delivery}
 use Rattle.model.specs.Lifetimes.{opened, is_opened, is_active, is_ended_by_client, is_ended_by_gateway, is_reset_by_client, is_reset_by_gateway}
-use Rattle.model.specs.Known.{Known}
 use Rattle.model.specs.Courses.{items}
 use Rattle.model.specs.Offers.{is_to_head}
-use Rattle.model.specs.ProgressClause.{IsForwarded, AllForwarded, AllStreamed, AreStreamedInTurn, NoneReady, Reason, IsDoneWith, ClosesRightly, ProgressHolds}
+use Rattle.model.specs.ProgressClause.{IsForwarded, AllForwarded, AllStreamed, NoneReady, Reason, IsDoneWith, ClosesRightly, ProgressHolds}
 use Rattle.model.specs.ProgressClause.Reason.{Over, Complete, Answered, ClientClosed}
 use Rattle.model.proofs.Http1Runs.{BeginsNone, one_joined}
 use Rattle.model.proofs.Http2Readings.{one_meaning}
@@ -203,19 +202,19 @@ module _ (t : List Entry) (s : State) (i : Inv t (idle s)) (h : Kept t s []) whe
         | inr f ↦ Over (finished_over there.o there.is_opened f)
       ]
 
-  closes_rightly : (before segment : List Entry) → AreOpenBefore (segment ++ before) → ((k : ℕ) → has_close k (segment ++ before) ≡ true → has_close k t ≡ true) → ClosesRightly (known_of s.setup) t before segment
-  closes_rightly before [] opened all = tt
-  closes_rightly before (Came noted ∷ segment) opened all = closes_rightly before segment opened all
-  closes_rightly before (Breached breach ∷ segment) opened all = closes_rightly before segment opened all
-  closes_rightly before (Happened event ∷ segment) opened all = closes_rightly before segment opened all
-  closes_rightly before (Sent noted ∷ segment) opened all = closes_rightly before segment opened all
-  closes_rightly before (Did (Open k route) ∷ segment) opened all = closes_rightly before segment opened all
-  closes_rightly before (Did (ToUp k octets) ∷ segment) opened all = closes_rightly before segment opened all
-  closes_rightly before (Did CloseClient ∷ segment) opened all = closes_rightly before segment opened all
-  closes_rightly before (Did (Close k) ∷ segment) opened all = (
-    opened.0,
-    done_with k (all k (ap (λ b. b || has_close k (segment ++ before)) (eq-eqb k k refl))),
-    closes_rightly before segment opened.1 (λ j e. all j (or_right (j == k) (has_close j (segment ++ before)) e)),
+  closes_rightly : (earlier : List Entry) → AreOpenBefore earlier → ((k : ℕ) → has_close k earlier ≡ true → has_close k t ≡ true) → ClosesRightly (known_of s.setup) t earlier
+  closes_rightly [] was_open all = tt
+  closes_rightly (Came noted ∷ earlier) was_open all = closes_rightly earlier was_open all
+  closes_rightly (Breached breach ∷ earlier) was_open all = closes_rightly earlier was_open all
+  closes_rightly (Happened event ∷ earlier) was_open all = closes_rightly earlier was_open all
+  closes_rightly (Sent noted ∷ earlier) was_open all = closes_rightly earlier was_open all
+  closes_rightly (Did (Open k route) ∷ earlier) was_open all = closes_rightly earlier was_open all
+  closes_rightly (Did (ToUp k octets) ∷ earlier) was_open all = closes_rightly earlier was_open all
+  closes_rightly (Did CloseClient ∷ earlier) was_open all = closes_rightly earlier was_open all
+  closes_rightly (Did (Close k) ∷ earlier) was_open all = (
+    was_open.0,
+    done_with k (all k (ap (λ b. b || has_close k earlier) (eq-eqb k k refl))),
+    closes_rightly earlier was_open.1 (λ j e. all j (or_right (j == k) (has_close j earlier) e)),
   )
 
 -- ---- the clause
@@ -224,25 +223,13 @@ module _ (t : List Entry) (s : State) (i : Inv t (idle s)) (h : Kept t s []) whe
 none_streamed : (setup : Setup) → IsServable setup → (t : List Entry) → AllStreamed (known_of setup) t
 none_streamed setup servable t passing = absurd (let clash : Whole ≡ Streaming = sym servable.whole ∙ passing in cc)
 
-in_turn : (setup : Setup) → IsServable setup → (t : List Entry) → AreStreamedInTurn (known_of setup) t
-in_turn setup servable [] = tt
-in_turn setup servable (Came noted ∷ t) = (none_streamed setup servable t, in_turn setup servable t)
-in_turn setup servable (Breached breach ∷ t) = (none_streamed setup servable t, in_turn setup servable t)
-in_turn setup servable (Happened event ∷ t) = (none_streamed setup servable t, in_turn setup servable t)
-in_turn setup servable (Sent noted ∷ t) = in_turn setup servable t
-in_turn setup servable (Did act ∷ t) = in_turn setup servable t
-
-pub progress_holds : (t before segment : List Entry) (s : State) → t ≡ segment ++ before → GoToOpen (segment ++ before) → IsServable s.setup → Inv t (idle s) → Progressing t s [] → is_given_up t ≡ false → ProgressHolds (known_of s.setup) before segment
-progress_holds t before segment s is go servable inv progressing on =
-    let i : Inv (segment ++ before) (idle s) = subst (λ x. Inv x (idle s)) is inv in
-    let p : Progressing (segment ++ before) s [] = subst (λ x. Progressing x s []) is progressing in
-    let up : is_given_up (segment ++ before) ≡ false = ap is_given_up (sym is) ∙ on in
-    let h : Kept (segment ++ before) s [] = p.kept (ap (λ b. b || false) up) in record {
-      forwarded = all_forwarded (segment ++ before) s i h;
-      streamed = none_streamed s.setup servable (segment ++ before);
-      in_turn = in_turn s.setup servable (segment ++ before);
-      none_ready = none_ready (segment ++ before) s i h servable;
-      closed = none_done (segment ++ before) s i h;
-      closes = closes_rightly (segment ++ before) s i h before segment h.open_before (λ k e. e);
+pub progress_holds : (t : List Entry) (s : State) → GoToOpen t → IsServable s.setup → Inv t (idle s) → Progressing t s [] → is_given_up t ≡ false → ProgressHolds (known_of s.setup) t
+progress_holds t s go servable i p on =
+    let h : Kept t s [] = p.kept (ap (λ b. b || false) on) in record {
+      forwarded = all_forwarded t s i h;
+      streamed = none_streamed s.setup servable t;
+      none_ready = none_ready t s i h servable;
+      closed = none_done t s i h;
+      closes = closes_rightly t s i h t h.open_before (λ k e. e);
       go_to_open = go;
     }

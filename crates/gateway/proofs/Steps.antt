@@ -15,10 +15,8 @@ use Rattle.model.specs.Decoding.{are_read}
 use Rattle.model.specs.Admission as admission
 use Rattle.model.specs.Openings.{GoToOpen}
 use Rattle.model.specs.Rooms.{IsRoom, FitsRoom}
-use Rattle.model.specs.RequestClause.{RequestsHold}
-use Rattle.model.specs.ResponseClause.{ResponsesHold}
-use Rattle.model.specs.WindowClause.{WindowsHold}
-use Rattle.model.specs.Faithful.{OthersHold, is_given_up, IsTaped, HasTape}
+use Rattle.model.specs.Headline.{HoldsInTurn}
+use Rattle.model.specs.Faithful.{OthersHold, is_given_up, Clauses, IsTaped, HasTape}
 use Rattle.gateway.specs.Moves.{Move, inputs, tape_of, entry_of, after_all}
 use Rattle.gateway.specs.Moves.Input.{OfBreach, OfEvent}
 use Rattle.gateway.specs.Moves.Move.{Takes, Breaks, Hears, Sends, SendsHead, Acts}
@@ -82,15 +80,6 @@ admitted_same t s event i =
 
 -- ---- the clauses
 
--- all else of the headline, unless the connection was given up
-others_hold : (before segment : List Entry) (s : State) → IsServable s.setup → s.greeted ≡ true → Inv (segment ++ before) (idle s) → Holding (segment ++ before) s [] → GoToOpen (segment ++ before) → is_given_up (segment ++ before) ≡ false → OthersHold (known_of s.setup) before segment
-others_hold before segment s servable greeted i h to_open kept = record {
-  others_are_read = others_read (segment ++ before) s i h.noting kept;
-  failures = all_judged (segment ++ before) s i h.judging kept;
-  errors = errors_hold (segment ++ before) s i h.erring greeted kept;
-  progress = progress_holds (segment ++ before) before segment s refl to_open servable i h.progressing kept;
-}
-
 -- octets go to connections that are open
 pub go_to_open : (setup : Setup) (moves : List Move) → AllAllowed (resting (start setup)) moves → GoToOpen (tape_of moves)
 go_to_open setup [] a = tt
@@ -103,6 +92,44 @@ go_to_open setup (Acts (Open k route) ∷ moves) a = go_to_open setup moves a.0
 go_to_open setup (Acts (ToUp k octets) ∷ moves) a = (sym ((inv_all setup moves a.0).admitting.opened k) ∙ a.1.holds.1, go_to_open setup moves a.0)
 go_to_open setup (Acts (Close k) ∷ moves) a = go_to_open setup moves a.0
 go_to_open setup (Acts CloseClient ∷ moves) a = go_to_open setup moves a.0
+
+-- all else of the headline, unless the connection was given up
+others_hold : (t : List Entry) (s : State) → IsServable s.setup → Inv t (idle s) → Holding t s [] → GoToOpen t → is_given_up t ≡ false → OthersHold (known_of s.setup) t
+others_hold t s servable i h to_open kept = record {
+  others_are_read = others_read t s i h.noting kept;
+  failures = all_judged t s i h.judging kept;
+  errors = errors_hold t s i h.erring kept;
+  progress = progress_holds t s to_open servable i h.progressing kept;
+}
+
+-- all that holds at a state that owes nothing
+clauses_of : (t : List Entry) (s : State) → IsServable s.setup → Inv t (idle s) → Holding t s [] → GoToOpen t → Clauses (known_of s.setup) t
+clauses_of t s servable i h to_open = record {
+  requests = requests_hold t s i h.opening;
+  responses = responses_hold t s i.responding i.limiting.keeps;
+  windows = windows_hold t s servable i h.windowing;
+  go_to_open = to_open;
+  others = others_hold t s servable i h to_open;
+}
+
+-- Behind moves that leave nothing owed the clauses hold.
+clauses_hold : (setup : Setup) → IsServable setup → (moves : List Move) → AllAllowed (resting (start setup)) moves → (after_all point_after (resting (start setup)) moves).owes ≡ [] → Clauses (known_of setup) (tape_of moves)
+clauses_hold setup servable moves a none =
+    let p : Point = after_all point_after (resting (start setup)) moves in
+    let same : p.state.setup ≡ setup = setup_stays (resting (start setup)) moves in
+    let i : Inv (tape_of moves) (idle p.state) = subst (λ ds. Inv (tape_of moves) (record { state = p.state; owes = ds })) none (inv_all setup moves a) in
+    let h : Holding (tape_of moves) p.state [] = subst (Holding (tape_of moves) p.state) none (holds_all setup servable moves a) in
+    subst (λ x. Clauses (known_of x) (tape_of moves)) same (clauses_of (tape_of moves) p.state (subst IsServable (sym same) servable) i h (go_to_open setup moves a))
+
+-- So they do before each thing that comes in, since nothing comes in where anything is owed.
+clauses_in_turn : (setup : Setup) → IsServable setup → (moves : List Move) → AllAllowed (resting (start setup)) moves → HoldsInTurn (Clauses (known_of setup)) (tape_of moves)
+clauses_in_turn setup servable [] a = tt
+clauses_in_turn setup servable (Takes noted outcome ∷ moves) a = (inr (clauses_hold setup servable moves a.0 a.1.turn.nothing), clauses_in_turn setup servable moves a.0)
+clauses_in_turn setup servable (Breaks breach ∷ moves) a = (inr (clauses_hold setup servable moves a.0 a.1.turn.nothing), clauses_in_turn setup servable moves a.0)
+clauses_in_turn setup servable (Hears event hearing ∷ moves) a = (inr (clauses_hold setup servable moves a.0 a.1.turn.nothing), clauses_in_turn setup servable moves a.0)
+clauses_in_turn setup servable (Sends frame ∷ moves) a = clauses_in_turn setup servable moves a.0
+clauses_in_turn setup servable (SendsHead stream fields ends block next ∷ moves) a = clauses_in_turn setup servable moves a.0
+clauses_in_turn setup servable (Acts act ∷ moves) a = clauses_in_turn setup servable moves a.0
 
 -- nothing stands behind the client's close
 still_open : (t : List Entry) (p : Point) (m : Move) → Inv t p → Allowed p m → is_closed t ≡ false
@@ -204,21 +231,13 @@ stands_then k k' log tape event o h admitted greeted s =
     let before : Inv tape (resting k.state) = subst (λ t. Inv t (resting k.state)) (sym h.is_tape) (subst (Inv (tape_of h.moves)) (sym h.point) (inv_all setup h.moves h.allowed)) in
     let open_yet : is_closed (tape_of s.segment ++ tape) ≡ false → k'.state.closed ≡ false = λ e. closed_same (tape_of s.segment ++ tape) k'.state (subst (Inv (tape_of s.segment ++ tape)) (sym rests) i) ∙ e in
     let tells : Tells k' (client_in log ++ client_octets event) (tape_of s.segment ++ tape) = s.tells open_yet in
-    let besides : Holding (tape_of s.segment ++ tape) k'.state [] =
-    subst (λ t. Holding t k'.state []) (sym same_tape) (subst (λ (p : Point). Holding (tape_of all) p.state p.owes) (sym whole) (holds_all setup h.servable all allowed)) in
-    let to_open : GoToOpen (tape_of s.segment ++ tape) = subst GoToOpen (sym same_tape) (go_to_open setup all allowed) in
     let by_tape : admission.is_admitted tape event ≡ true = sym (admitted_same tape k.state event before) ∙ admitted in
     let taped : IsTaped (known_of setup) log (record { event = event; outputs = reverse o }) tape (tape_of s.segment) = record {
       admitted = record { in_order = by_tape; fits = fits_room setup tape event h.servable.whole by_tape };
       step_is = record { spelled = spelled_frames (resting k.state) s.segment s.leads.allowed; put_out = ap reverse (s.leads.outputs ∙ outputs_by s.segment); event = happened_by s.segment ∙ s.events; acts_follow = s.acts_follow };
       told = record { read = tells.read; table = i.giving.decodes.0; decodes = i.giving.decodes.1; unread = unread_ends (tape_of s.segment ++ tape) k'.state i; ends = subst EndsWithClose (sym same_tape) (ends_with_close setup all allowed) };
-      clauses = record {
-        requests = subst (λ x. RequestsHold (known_of x) (tape_of s.segment ++ tape)) same_setup (requests_hold (tape_of s.segment ++ tape) k'.state i besides.opening);
-        responses = subst (λ x. ResponsesHold (known_of x) (tape_of s.segment ++ tape)) same_setup (responses_hold (tape_of s.segment ++ tape) k'.state i.responding i.limiting.keeps);
-        windows = subst (λ x. WindowsHold (known_of x) (tape_of s.segment ++ tape)) same_setup (windows_hold (tape_of s.segment ++ tape) k'.state (subst IsServable (sym same_setup) h.servable) i besides.windowing);
-        go_to_open = to_open;
-        others = λ kept. subst (λ x. OthersHold (known_of x) tape (tape_of s.segment)) same_setup (others_hold tape (tape_of s.segment) k'.state (subst IsServable (sym same_setup) h.servable) greeted i besides to_open kept);
-      };
+      in_turn = subst (HoldsInTurn (Clauses (known_of setup))) (sym same_tape) (clauses_in_turn setup h.servable all allowed);
+      clauses = subst (Clauses (known_of setup)) (sym same_tape) (clauses_hold setup h.servable all allowed (ap (λ (p : Point). p.owes) (sym whole)));
     } in
     stood k' log tape event o k (client_in log ++ client_octets event) s setup same_setup h.servable all same_tape (rests ∙ whole) allowed taped h.has_tape tells refl
 

@@ -1,7 +1,7 @@
 //! Bits that aren't decoded yet, with the next one on top.
 
-ghost use Rattle.std.specs.Prelude.{◌≡◌, ◌+◌, ◌-◌, ◌/◌, ◌^◌, ◌≤◌, ◌++◌};
-ghost use Rattle.model.specs.Huffman.{bits};
+ghost use Rattle.std.specs.Prelude.{◌≡◌, ◌+◌, ◌-◌, ◌/◌, ◌^◌, ◌≤◌, [], ◌∷◌, ◌++◌};
+ghost use Rattle.model.specs.Huffman.{bits, octet_bits};
 ghost use Rattle.huffman.specs.Upcoming.{IsAligned, upcoming_bits};
 
 /// Bits that wait: so many high bits of a number of 64, below which it has zeros.
@@ -25,12 +25,24 @@ pub fn and_octet(coming: Upcoming, octet: u8) -> Upcoming
     requires aligned { IsAligned coming }
     requires few { coming.width ≤ 56 }
     ensures aligned { IsAligned result }
+    ensures width { result.width ≡ coming.width + 8 }
     ensures bits { upcoming_bits result ≡ upcoming_bits coming ++ bits 8 octet }
 {
     Upcoming {
         number: coming.number + (u64::from(octet) << (ROOM_FOR_OCTET - coming.width)),
         width: coming.width + 8,
     }
+}
+
+/// The bits that wait, and those of four octets behind them.
+pub fn and_four(coming: Upcoming, first: u8, second: u8, third: u8, fourth: u8) -> Upcoming
+    requires aligned { IsAligned coming }
+    requires few { coming.width ≤ 32 }
+    ensures aligned { IsAligned result }
+    ensures bits { upcoming_bits result ≡ upcoming_bits coming ++ octet_bits (first ∷ second ∷ third ∷ fourth ∷ []) }
+{
+    let two = and_octet(and_octet(coming, first), second);
+    and_octet(and_octet(two, third), fourth)
 }
 
 /// The bits that wait behind the first so many.

@@ -18,7 +18,10 @@ pub const NO_BITS: Upcoming = Upcoming {
 };
 
 /// The most bits that leave room for an octet.
-pub const ROOM_FOR_OCTET: u32 = 56;
+const ROOM_FOR_OCTET: u32 = 56;
+
+/// The most bits that leave room for four octets.
+const ROOM_FOR_FOUR: u32 = 32;
 
 /// The bits that wait, and those of an octet behind them.
 pub fn and_octet(coming: Upcoming, octet: u8) -> Upcoming
@@ -41,8 +44,12 @@ pub fn and_four(coming: Upcoming, first: u8, second: u8, third: u8, fourth: u8) 
     ensures aligned { IsAligned result }
     ensures bits { upcoming_bits result ≡ upcoming_bits coming ++ octet_bits (first ∷ second ∷ third ∷ fourth ∷ []) }
 {
-    let two = and_octet(and_octet(coming, first), second);
-    and_octet(and_octet(two, third), fourth)
+    let front = u32::from(first) * 256 + u32::from(second);
+    let word = (front * 256 + u32::from(third)) * 256 + u32::from(fourth);
+    Upcoming {
+        number: coming.number + (u64::from(word) << (ROOM_FOR_FOUR - coming.width)),
+        width: coming.width + 32,
+    }
 }
 
 /// The bits that wait behind the first so many.

@@ -1,21 +1,24 @@
 -- Codes are taken off bits.
-use Rattle.std.proofs.Common.{◌≡◌, ℕ, zero, suc, ◌+◌, ◌-◌, ◌/◌, ◌%◌, ◌^◌, ◌*◌, ◌<◌, ◌≤◌, Bool, true, false, nat_eq, nat_le, List, [], ◌∷◌, ◌++◌, length, take, drop, get_or, refl, ap, sym, ◌∙◌, subst, arith, append_assoc, eqb-true, eq-eqb}
+use Rattle.std.proofs.Common.{◌≡◌, ℕ, ◌+◌, ◌-◌, ◌/◌, ◌%◌, ◌^◌, ◌*◌, ◌<◌, ◌≤◌, Bool, true, false, nat_eq, nat_le, List, [], ◌∷◌, ◌++◌, length, take, drop, get_or, refl, ap, sym, ◌∙◌, subst, arith, append_assoc, length-drop, eqb-true, eq-eqb}
 use Rattle.std.specs.Bool.{OnTrue, OnFalse}
 use Rattle.std.proofs.Math.Nat.{div-div-eq-div-mul}
 use Rattle.std.proofs.lemmas.Grind.{flat_map-append}
-use Rattle.std.proofs.lemmas.List.{append-nil, take-append-drop}
+use Rattle.std.proofs.lemmas.List.{append-nil, take_rest}
 use Rattle.std.proofs.lemmas.Nat.{pow-add}
 use Rattle.model.specs.Huffman.{bits, octet_bits, IsCode, AreCodes}
 use Rattle.model.proofs.HuffmanLemmas.{one_code}
 use Rattle.huffman.specs.Decoding.{EndsString, IsBadlyPadded, IsPadding, Decodes, IsFaultOf, Adds}
-use Rattle.huffman.specs.Fronts.{IsUnended}
-use Rattle.huffman.specs.Taking.{Stops, Takes}
+use Rattle.huffman.specs.Fronts.{IsFront, IsUnended}
+use Rattle.huffman.specs.Taking.{Joins, Stops, Takes}
 use Rattle.huffman.specs.Upcoming.{IsAligned, upcoming_bits}
 use Rattle.huffman.specs.declared.decoder.HuffFault.{HuffFault}
 use Rattle.huffman.specs.declared.decoder.HuffFault.TheVariants.{Eos, Padding, Memory}
 use Rattle.huffman.specs.declared.upcoming.Upcoming.{Upcoming}
 use Rattle.huffman.proofs.BitLemmas.{all_ones, ones, one_shifted}
+use Rattle.huffman.specs.declared.codes.Symbol.TheVariants.{Octet}
+use Rattle.huffman.proofs.TableLemmas.{short_front}
 use Rattle.huffman.proofs.UpcomingLemmas.{is_raised, low_below, low_number}
+use Rattle.huffman.proofs.WindowLemmas.{unended}
 
 pub codes_more : (coded string code : List ℕ) (octet : ℕ) → AreCodes coded string → octet < 256 → IsCode octet code → AreCodes (coded ++ code) (string ++ octet ∷ [])
 codes_more coded [] code octet p small is_code = (code, [], small, is_code, ap (λ c. c ++ code) p ∙ sym (append-nil code), refl)
@@ -78,17 +81,6 @@ stops_at_end all rest width more old mid t is_code split =
     let code : List ℕ = bits width (rest.number / 2 ^ (64 - width)) in
     record { string = t.string; added = t.added; stands = end_here t.coded t.string code more (upcoming_bits all) t.are_codes is_code (t.is ∙ ap (λ b. t.coded ++ b) split) }
 
--- one octet more
-octet_bits_more : (octets : List ℕ) (i : ℕ) → i < length octets → octet_bits (take (i + 1) octets) ≡ octet_bits (take i octets) ++ bits 8 (get_or octets i 0)
-octet_bits_more [] i h = absurd (omega arith)
-octet_bits_more (octet ∷ octets) zero h = append-nil (bits 8 octet)
-octet_bits_more (octet ∷ octets) (suc i) h =
-    let far : suc i + 1 ≡ suc (i + 1) = omega arith in
-    rw far (ap (λ r. bits 8 octet ++ r) (octet_bits_more octets i (omega arith)) ∙ sym (append_assoc (bits 8 octet) (octet_bits (take i octets)) (bits 8 (get_or octets i 0))))
-
-octet_bits_split : (octets : List ℕ) (i : ℕ) → octet_bits octets ≡ octet_bits (take i octets) ++ octet_bits (drop i octets)
-octet_bits_split octets i = ap octet_bits (sym (take-append-drop i octets)) ∙ flat_map-append (bits 8) (take i octets) (drop i octets)
-
 -- what the loop of the octets keeps
 pub record Reading (octets : List ℕ) (coming : Upcoming) (old new : List ℕ) : Type 0 where
   pub string : List ℕ
@@ -114,29 +106,94 @@ reading_takes octets coming rest old mid new r t = record {
   aligned = t.aligned;
 }
 
-pub reading_octet : (octets : List ℕ) (i : ℕ) (coming next : Upcoming) (old new : List ℕ) → i < length octets → Reading (take i octets) coming old new → IsAligned next
-    → upcoming_bits next ≡ upcoming_bits coming ++ bits 8 (get_or octets i 0) → Reading (take (i + 1) octets) next old new
-reading_octet octets i coming next old new h r aligned joins =
-    let octet : List ℕ = bits 8 (get_or octets i 0) in
+-- the first octets, and the others
+split_one : (octets : List ℕ) → 1 ≤ length octets → octets ≡ (get_or octets 0 0 ∷ []) ++ drop 1 octets
+split_one [] some = absurd (omega arith)
+split_one (octet ∷ more) some = refl
+
+split_four : (octets : List ℕ) → 4 ≤ length octets → octets ≡ (get_or octets 0 0 ∷ get_or octets 1 0 ∷ get_or octets 2 0 ∷ get_or octets 3 0 ∷ []) ++ drop 4 octets
+split_four [] some = absurd (omega arith)
+split_four (a ∷ []) some = absurd (omega arith)
+split_four (a ∷ b ∷ []) some = absurd (omega arith)
+split_four (a ∷ b ∷ c ∷ []) some = absurd (omega arith)
+split_four (a ∷ b ∷ c ∷ d ∷ more) some = refl
+
+joins_front : (count : ℕ) (coming all : Upcoming) (octets taken : List ℕ) → 0 < count → count ≤ length octets → octets ≡ taken ++ drop count octets → IsAligned all → upcoming_bits all ≡ upcoming_bits coming ++ octet_bits taken
+    → Joins coming octets all (take (length octets - count) (drop count octets))
+joins_front count coming all octets taken some few split aligned is =
+    let rest : take (length octets - count) (drop count octets) ≡ drop count octets = take_rest octets count in
+    let shorter : length (take (length octets - count) (drop count octets)) ≡ length octets - count = ap length rest ∙ length-drop count octets in
+    record { taken = taken; some = omega (arith, shorter); split = split ∙ ap (λ more. taken ++ more) (sym rest); bits = is; aligned = aligned }
+
+pub joins_one : (coming all : Upcoming) (octets : List ℕ) → 1 ≤ length octets → IsAligned all → upcoming_bits all ≡ upcoming_bits coming ++ bits 8 (get_or octets 0 0)
+    → Joins coming octets all (take (length octets - 1) (drop 1 octets))
+joins_one coming all octets some aligned is =
+    joins_front 1 coming all octets (get_or octets 0 0 ∷ []) (omega arith) some (split_one octets some) aligned (is ∙ ap (λ b. upcoming_bits coming ++ b) (sym (append-nil (bits 8 (get_or octets 0 0)))))
+
+pub joins_four : (coming all : Upcoming) (octets : List ℕ) → 4 ≤ length octets → IsAligned all
+    → upcoming_bits all ≡ upcoming_bits coming ++ octet_bits (get_or octets 0 0 ∷ get_or octets 1 0 ∷ get_or octets 2 0 ∷ get_or octets 3 0 ∷ []) → Joins coming octets all (take (length octets - 4) (drop 4 octets))
+joins_four coming all octets some aligned is =
+    joins_front 4 coming all octets (get_or octets 0 0 ∷ get_or octets 1 0 ∷ get_or octets 2 0 ∷ get_or octets 3 0 ∷ []) (omega arith) some (split_four octets some) aligned is
+
+-- The octets before the rest are read, and their bits that wait begin no code.
+pub record ReadingOn (octets left : List ℕ) (coming : Upcoming) (old new : List ℕ) : Type 0 where
+  pub front : List ℕ
+  pub split : octets ≡ front ++ left
+  pub reading : Reading front coming old new
+  pub unended : IsUnended coming
+
+zero_front : (number : ℕ) → number ≡ 0 → IsFront 38 (number / 2 ^ 26) (record { symbol = Octet 48; width = 5 })
+zero_front number none = subst (λ w. IsFront 38 w (record { symbol = Octet 48; width = 5 })) (sym (ap (λ n. n / 2 ^ 26) none)) (short_front 0 48 5 refl)
+
+pub reading_begins : (octets : List ℕ) (coming : Upcoming) (old : List ℕ) → coming.number ≡ 0 → coming.width ≡ 0 → ReadingOn octets octets coming old old
+reading_begins octets coming old no_number no_width =
+    let none = reading_none coming old no_number no_width in
     record {
-      string = r.string;
-      coded = r.coded;
-      added = r.added;
-      are_codes = r.are_codes;
-      is = octet_bits_more octets i h ∙ ap (λ b. b ++ octet) r.is ∙ append_assoc r.coded (upcoming_bits coming) octet ∙ ap (λ b. r.coded ++ b) (sym joins);
-      aligned = aligned;
+      front = [];
+      split = refl;
+      reading = none;
+      unended = unended coming (record { symbol = Octet 48; width = 5 }) none.aligned (omega arith) (zero_front coming.number no_number);
     }
 
-pub reading_stops : (octets : List ℕ) (i : ℕ) (coming : Upcoming) (old mid new : List ℕ) (fault : HuffFault) → Reading (take i octets) coming old mid → Stops coming mid new fault → IsFaultOf octets fault
-reading_stops octets i coming old mid new Eos r t =
-    let later : List ℕ = octet_bits (drop i octets) in
-    let whole : octet_bits octets ≡ r.coded ++ (upcoming_bits coming ++ later) = octet_bits_split octets i ∙ ap (λ b. b ++ later) r.is ∙ append_assoc r.coded (upcoming_bits coming) later in
-    end_within r.coded r.string (upcoming_bits coming) later (octet_bits octets) r.are_codes t.stands whole
-reading_stops octets i coming old mid new Padding r t = absurd t.stands
-reading_stops octets i coming old mid new Memory r t = tt
+reading_joins : (front octets more old new : List ℕ) (coming all : Upcoming) → Reading front coming old new → (j : Joins coming octets all more) → Reading (front ++ j.taken) all old new
+reading_joins front octets more old new coming all r j = record {
+  string = r.string;
+  coded = r.coded;
+  added = r.added;
+  are_codes = r.are_codes;
+  is = flat_map-append (bits 8) front j.taken ∙ ap (λ b. b ++ octet_bits j.taken) r.is ∙ append_assoc r.coded (upcoming_bits coming) (octet_bits j.taken) ∙ ap (λ b. r.coded ++ b) (sym j.bits);
+  aligned = j.aligned;
+}
 
-pub reading_adds : (octets : List ℕ) (coming : Upcoming) (old mid new : List ℕ) (fault : HuffFault) → Reading octets coming old mid → Stops coming mid new fault → Adds old new
-reading_adds octets coming old mid new fault r t = record { string = r.string ++ t.string; added = t.added ∙ ap (λ m. m ++ t.string) r.added ∙ append_assoc old r.string t.string }
+joined_split : (octets front left taken more : List ℕ) → octets ≡ front ++ left → left ≡ taken ++ more → octets ≡ (front ++ taken) ++ more
+joined_split octets front left taken more e f = e ∙ ap (λ l. front ++ l) f ∙ sym (append_assoc front taken more)
+
+pub reading_goes_on : (octets left more old mid new : List ℕ) (coming all rest : Upcoming) → ReadingOn octets left coming old mid → Joins coming left all more → Takes all rest mid new → IsUnended rest
+    → ReadingOn octets more rest old new
+reading_goes_on octets left more old mid new coming all rest r j t u = record {
+  front = r.front ++ j.taken;
+  split = joined_split octets r.front left j.taken more r.split j.split;
+  reading = reading_takes (r.front ++ j.taken) all rest old mid new (reading_joins r.front left more old mid coming all r.reading j) t;
+  unended = u;
+}
+
+pub reading_stops : (octets left more old mid new : List ℕ) (coming all : Upcoming) (fault : HuffFault) → ReadingOn octets left coming old mid → Joins coming left all more → Stops all mid new fault → IsFaultOf octets fault
+reading_stops octets left more old mid new coming all Eos r j t =
+    let front : List ℕ = r.front ++ j.taken in
+    let read : Reading front all old mid = reading_joins r.front left more old mid coming all r.reading j in
+    let later : List ℕ = octet_bits more in
+    let whole : octet_bits octets ≡ read.coded ++ (upcoming_bits all ++ later) =
+    ap octet_bits (joined_split octets r.front left j.taken more r.split j.split) ∙ flat_map-append (bits 8) front more ∙ ap (λ b. b ++ later) read.is ∙ append_assoc read.coded (upcoming_bits all) later in
+    end_within read.coded read.string (upcoming_bits all) later (octet_bits octets) read.are_codes t.stands whole
+reading_stops octets left more old mid new coming all Padding r j t = absurd t.stands
+reading_stops octets left more old mid new coming all Memory r j t = tt
+
+pub reading_adds : (octets left old mid new : List ℕ) (coming all : Upcoming) (fault : HuffFault) → ReadingOn octets left coming old mid → Stops all mid new fault → Adds old new
+reading_adds octets left old mid new coming all fault r t =
+    record { string = r.reading.string ++ t.string; added = t.added ∙ ap (λ m. m ++ t.string) r.reading.added ∙ append_assoc old r.reading.string t.string }
+
+pub all_read : (octets left : List ℕ) (coming : Upcoming) (old new : List ℕ) → ReadingOn octets left coming old new → left ≡ [] → Reading octets coming old new
+all_read octets left coming old new r e = subst (λ o. Reading o coming old new) (sym (r.split ∙ ap (λ l. r.front ++ l) e ∙ append-nil r.front)) r.reading
 
 pub reading_ends : (octets : List ℕ) (coming : Upcoming) (old new : List ℕ) → Reading octets coming old new → Adds old new
 reading_ends octets coming old new r = record { string = r.string; added = r.added }

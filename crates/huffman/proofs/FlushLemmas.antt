@@ -1,7 +1,6 @@
 -- Whole octets leave the bits that wait.
-use Rattle.std.proofs.Common.{◌≡◌, ℕ, ◌+◌, ◌-◌, ◌*◌, ◌/◌, ◌%◌, ◌^◌, ◌<◌, ◌≤◌, List, [], ◌∷◌, ◌++◌, refl, ap, sym, ◌∙◌, subst, arith, append_assoc}
-use Rattle.std.proofs.Math.Nat.{mod-lt, div-lt_iff_lt-mul}
-use Rattle.std.proofs.Math.Pow.{shl_exact}
+use Rattle.std.proofs.Common.{◌≡◌, ℕ, ◌+◌, ◌-◌, ◌*◌, ◌/◌, ◌^◌, ◌<◌, ◌≤◌, List, [], ◌∷◌, ◌++◌, refl, ap, sym, ◌∙◌, subst, arith, append_assoc}
+use Rattle.std.proofs.Math.Nat.{div-lt_iff_lt-mul}
 use Rattle.std.proofs.lemmas.Nat.{pow_pos, pow-add}
 use Rattle.std.proofs.lemmas.List.{append-nil}
 use Rattle.std.proofs.lemmas.Grind.{flat_map-append}
@@ -9,7 +8,6 @@ use Rattle.model.specs.Huffman.{bits, octet_bits}
 use Rattle.huffman.specs.Waiting.{Flushes, pending_bits}
 use Rattle.huffman.specs.Decoding.{Adds}
 use Rattle.huffman.specs.declared.pending.Pending.{Pending}
-use Rattle.huffman.proofs.BitLemmas.{split_eight}
 
 -- what the loop of the octets keeps
 pub record Flushing (all : Pending) (number width : ℕ) (old new : List ℕ) : Type 0 where

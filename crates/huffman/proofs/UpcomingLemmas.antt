@@ -1,9 +1,10 @@
 -- Octets come to the bits that wait, and codes leave them.
-use Rattle.std.proofs.Common.{◌≡◌, ℕ, ◌+◌, ◌-◌, ◌*◌, ◌/◌, ◌%◌, ◌^◌, ◌<◌, ◌≤◌, List, ◌++◌, refl, ap, sym, ◌∙◌, subst, arith}
+use Rattle.std.proofs.Common.{◌≡◌, ℕ, ◌+◌, ◌-◌, ◌*◌, ◌/◌, ◌%◌, ◌^◌, ◌<◌, ◌≤◌, List, [], ◌∷◌, ◌++◌, ap, sym, ◌∙◌, subst, arith, append_assoc}
 use Rattle.std.proofs.Math.Nat.{div-div-eq-div-mul, div-lt_iff_lt-mul, mod-lt, mul-div_cancel, mul_assoc}
 use Rattle.std.proofs.Math.Pow.{shl_exact}
 use Rattle.std.proofs.lemmas.Nat.{div-add-mod', mod-mul-add, pow-add, pow_pos}
-use Rattle.model.specs.Huffman.{bits}
+use Rattle.std.proofs.lemmas.List.{append-nil}
+use Rattle.model.specs.Huffman.{bits, octet_bits}
 use Rattle.huffman.specs.Upcoming.{IsAligned, upcoming_bits}
 use Rattle.huffman.specs.declared.upcoming.Upcoming.{Upcoming}
 use Rattle.huffman.proofs.BitLemmas.{bits_append, joined_below, split_at}
@@ -64,6 +65,55 @@ pub octet_joins : (coming next : Upcoming) (octet : ℕ) → IsAligned coming �
 octet_joins coming next octet a few small number width =
     let raised = is_raised next (low_number coming * 256 + octet) (coming.width + 8) (octet_below coming octet a small) (omega (arith, few)) (number ∙ octet_raised coming octet a few) width in
     (raised.1, ap (λ w. bits w (low_number next)) width ∙ ap (bits (coming.width + 8)) raised.0 ∙ bits_append coming.width 8 (low_number coming) octet small)
+
+-- ---- four octets at once
+
+-- the number of four octets
+abbrev pub four_number : ℕ → ℕ → ℕ → ℕ → ℕ
+four_number a b c d = ((a * 256 + b) * 256 + c) * 256 + d
+
+four_bits : (a b c d : ℕ) → a < 256 → b < 256 → c < 256 → d < 256 → bits 32 (four_number a b c d) ≡ octet_bits (a ∷ b ∷ c ∷ d ∷ [])
+four_bits a b c d sa sb sc sd =
+    bits_append 24 8 ((a * 256 + b) * 256 + c) d sd
+    ∙ ap (λ t. t ++ bits 8 d) (bits_append 16 8 (a * 256 + b) c sc ∙ ap (λ t. t ++ bits 8 c) (bits_append 8 8 a b sb))
+    ∙ joined (bits 8 a) (bits 8 b) (bits 8 c) (bits 8 d)
+  where
+    joined : (p q r s : List ℕ) → ((p ++ q) ++ r) ++ s ≡ p ++ (q ++ (r ++ (s ++ [])))
+    joined p q r s = simp (append_assoc, append-nil)
+
+word_raised : (coming : Upcoming) (word : ℕ) → IsAligned coming → coming.width ≤ 32 → coming.number + word * 2 ^ (32 - coming.width) ≡ (low_number coming * 4294967296 + word) * 2 ^ (64 - (coming.width + 32))
+word_raised coming word a few =
+    let low : ℕ = 32 - coming.width in
+    let high : 64 - coming.width ≡ 32 + low = omega arith in
+    let rest : 64 - (coming.width + 32) ≡ low = omega arith in
+    let power : 2 ^ (64 - coming.width) ≡ 4294967296 * 2 ^ low = ap (λ e. 2 ^ e) high ∙ pow-add 2 32 low in
+    let number : coming.number ≡ low_number coming * (4294967296 * 2 ^ low) = a.zeros ∙ ap (λ p. low_number coming * p) power in
+    let sum : low_number coming * (4294967296 * 2 ^ low) + word * 2 ^ low ≡ (low_number coming * 4294967296 + word) * 2 ^ low = omega arith in
+    ap (λ n. n + word * 2 ^ low) number ∙ sum ∙ ap (λ e. (low_number coming * 4294967296 + word) * 2 ^ e) (sym rest)
+
+word_below : (coming : Upcoming) (word : ℕ) → IsAligned coming → word < 4294967296 → low_number coming * 4294967296 + word < 2 ^ (coming.width + 32)
+word_below coming word a small = joined_below (low_number coming) coming.width word 32 (low_below coming a) small
+
+pub word_fits : (coming : Upcoming) (word : ℕ) → IsAligned coming → coming.width ≤ 32 → word < 4294967296 → coming.number + word * 2 ^ (32 - coming.width) < 18446744073709551616
+word_fits coming word a few small =
+    let less = raised_below (low_number coming * 4294967296 + word) (coming.width + 32) (word_below coming word a small) (omega (arith, few)) in
+    subst (λ n. n < 18446744073709551616) (sym (word_raised coming word a few)) less
+
+pub four_join : (coming next : Upcoming) (a b c d : ℕ) → IsAligned coming → coming.width ≤ 32 → a < 256 → b < 256 → c < 256 → d < 256
+    → next.number ≡ coming.number + four_number a b c d * 2 ^ (32 - coming.width) → next.width ≡ coming.width + 32
+    → IsAligned next × (upcoming_bits next ≡ upcoming_bits coming ++ octet_bits (a ∷ b ∷ c ∷ d ∷ []))
+four_join coming next a b c d al few sa sb sc sd number width =
+    let word : ℕ = four_number a b c d in
+    let small : word < 4294967296 = omega (arith, sa, sb, sc, sd) in
+    let raised = is_raised next (low_number coming * 4294967296 + word) (coming.width + 32) (word_below coming word al small) (omega (arith, few)) (number ∙ word_raised coming word al few) width in (
+      raised.1,
+      ap (λ w. bits w (low_number next)) width ∙ ap (bits (coming.width + 32)) raised.0 ∙ bits_append coming.width 32 (low_number coming) word small
+          ∙ ap (λ t. upcoming_bits coming ++ t) (four_bits a b c d sa sb sc sd),
+    )
+
+-- a number of four octets brought up behind the bits is as the code has it
+pub word_shifted : (word width : ℕ) → word < 4294967296 → width ≤ 32 → word * 2 ^ (32 - width) % 18446744073709551616 ≡ word * 2 ^ (32 - width)
+word_shifted word width small few = shl_exact 32 (32 - width) 64 small (omega arith)
 
 -- the bits behind the first so many
 abbrev pub bits_past : Upcoming → ℕ → List ℕ

@@ -1,15 +1,15 @@
 //! Decoding: a whole code at a step, off the front of the bits that wait.
 
-ghost use Rattle.std.specs.Prelude.{◌≡◌, ◌≤◌, IfOk, IfErr, OnOk, OnErr};
+ghost use Rattle.std.specs.Prelude.{◌≡◌, ◌≤◌, [], IfOk, IfErr, IfSome, IfNone, OnOk, OnErr};
 ghost use Rattle.std.specs.Bool.{OnTrue, OnFalse};
 ghost use Rattle.huffman.specs.Decoding.{Adds, Decodes, IsFaultOf, IsPadding};
 ghost use Rattle.huffman.specs.Fronts.{IsUnended};
-ghost use Rattle.huffman.specs.Taking.{Stops, Takes};
+ghost use Rattle.huffman.specs.Taking.{Joins, Stops, Takes};
 ghost use Rattle.huffman.specs.Upcoming.{IsAligned, upcoming_bits};
 ghost use Rattle.huffman.specs.declared.decoder.HuffFault.TheVariants.{Memory};
 
 use crate::codes::{Symbol, next_code};
-use crate::upcoming::{NO_BITS, ROOM_FOR_OCTET, Upcoming, and_octet, past};
+use crate::upcoming::{NO_BITS, Upcoming, and_four, and_octet, past};
 use std::alloc::{AllocError, AllocFailed};
 
 /// Why octets aren't Huffman text.
@@ -64,26 +64,32 @@ fn decode_onto(octets: &[u8], out: &mut Vec<u8>) -> Result<(), HuffFault>
     ensures err { OnErr result (Adds out.old.items out.new.items) }
 {
     let mut coming = NO_BITS;
-    for octet in octets {
-        coming = and_octet(make_room(coming, out)?, *octet);
+    let mut left = octets;
+    while let Some((all, more)) = with_next(coming, left) {
+        coming = take_codes(all, out)?;
+        left = more;
     }
-    if is_padding(take_codes(coming, out)?) {
+    if is_padding(coming) {
         Ok(())
     } else {
         Err(HuffFault::Padding)
     }
 }
 
-/// Takes codes off bits where there is no room for an octet behind them, and adds their octets.
-fn make_room(all: Upcoming, out: &mut Vec<u8>) -> Result<Upcoming, HuffFault>
-    requires { IsAligned all }
-    ensures ok { IfOk result (λ rest. Takes all rest out.old.items out.new.items × (rest.width ≤ 56)) }
-    ensures stops { IfErr result (λ fault. Stops all out.old.items out.new.items fault) }
+/// The bits that wait and those of the next octets behind them, of four where there are so many; and the octets behind.
+fn with_next(coming: Upcoming, octets: &[u8]) -> Option<(Upcoming, &[u8])>
+    requires aligned { IsAligned coming }
+    requires few { coming.width ≤ 32 }
+    ensures some { IfSome result (λ p. Joins coming octets.now p.0 p.1.now) }
+    ensures none { IfNone result (octets.now ≡ []) }
 {
-    if all.width <= ROOM_FOR_OCTET {
-        Ok(all)
-    } else {
-        take_codes(all, out)
+    match octets {
+        [first, second, third, fourth, more @ ..] => {
+            let all = and_four(coming, *first, *second, *third, *fourth);
+            Some((all, more))
+        }
+        [octet, more @ ..] => Some((and_octet(coming, *octet), more)),
+        [] => None,
     }
 }
 

@@ -1,7 +1,7 @@
 //! Bits that aren't decoded yet, with the next one on top.
 
-ghost use Rattle.std.specs.Prelude.{◌≡◌, ◌+◌, ◌-◌, ◌/◌, ◌^◌, ◌≤◌, ◌++◌};
-ghost use Rattle.model.specs.Huffman.{bits};
+ghost use Rattle.std.specs.Prelude.{◌≡◌, ◌+◌, ◌-◌, ◌/◌, ◌^◌, ◌≤◌, [], ◌∷◌, ◌++◌};
+ghost use Rattle.model.specs.Huffman.{bits, octet_bits};
 ghost use Rattle.huffman.specs.Upcoming.{IsAligned, upcoming_bits};
 
 /// Bits that wait: so many high bits of a number of 64, below which it has zeros.
@@ -18,18 +18,37 @@ pub const NO_BITS: Upcoming = Upcoming {
 };
 
 /// The most bits that leave room for an octet.
-pub const ROOM_FOR_OCTET: u32 = 56;
+const ROOM_FOR_OCTET: u32 = 56;
+
+/// The most bits that leave room for four octets.
+const ROOM_FOR_FOUR: u32 = 32;
 
 /// The bits that wait, and those of an octet behind them.
 pub fn and_octet(coming: Upcoming, octet: u8) -> Upcoming
     requires aligned { IsAligned coming }
     requires few { coming.width ≤ 56 }
     ensures aligned { IsAligned result }
+    ensures width { result.width ≡ coming.width + 8 }
     ensures bits { upcoming_bits result ≡ upcoming_bits coming ++ bits 8 octet }
 {
     Upcoming {
         number: coming.number + (u64::from(octet) << (ROOM_FOR_OCTET - coming.width)),
         width: coming.width + 8,
+    }
+}
+
+/// The bits that wait, and those of four octets behind them.
+pub fn and_four(coming: Upcoming, first: u8, second: u8, third: u8, fourth: u8) -> Upcoming
+    requires aligned { IsAligned coming }
+    requires few { coming.width ≤ 32 }
+    ensures aligned { IsAligned result }
+    ensures bits { upcoming_bits result ≡ upcoming_bits coming ++ octet_bits (first ∷ second ∷ third ∷ fourth ∷ []) }
+{
+    let front = u32::from(first) * 256 + u32::from(second);
+    let word = (front * 256 + u32::from(third)) * 256 + u32::from(fourth);
+    Upcoming {
+        number: coming.number + (u64::from(word) << (ROOM_FOR_FOUR - coming.width)),
+        width: coming.width + 32,
     }
 }
 

@@ -5,3 +5,4 @@ pub mod Heads
 pub mod Rules
 pub mod Sent
 pub mod Counts
+pub mod Ordinary

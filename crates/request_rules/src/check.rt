@@ -34,8 +34,19 @@ fn length_holds(head: &[Field], ended: bool) -> bool
     matches!(declared_length(head), None | Some(0))
 }
 
-/// The first rule that a head breaks.
+/// The first rule that a head breaks. Ordinary fields at its end break none, so that mostly the rules are asked of a short
+/// front alone.
 fn first_broken(head: &[Field], ended: bool) -> Option<Rule>
+    ensures { MatchOption result (Keeps (take 11 in_order) head.now ended) (λ rule. IsFirstBroken rule head.now ended) }
+{
+    match first_in_order(fields::before_ordinary(head), ended) {
+        None => None,
+        Some(_) => first_in_order(head, ended),
+    }
+}
+
+/// The first rule that a head breaks, by asking one rule after another.
+fn first_in_order(head: &[Field], ended: bool) -> Option<Rule>
     ensures { MatchOption result (Keeps (take 11 in_order) head.now ended) (λ rule. IsFirstBroken rule head.now ended) }
 {
     if !rules::pseudo_fields_hold(head) {

@@ -5,6 +5,7 @@ ghost use Rattle.std.specs.List.{list_all, list_any};
 ghost use Rattle.model.specs.Octets.{some_of, is_value, is_digit, lower};
 ghost use Rattle.model.specs.Http1.{values_of, without};
 ghost use Rattle.model.specs.Http2.{first_of, is_pseudo, pseudo_fields, regular_fields, is_path_for, known_names, is_connect, method_of, is_name_octet, connection_names, NamesHold, ValuesHold, HasNoConnectionField, TeHolds, SchemeHolds};
+ghost use Rattle.request_rules.specs.Ordinary.{judged_names, is_ordinary, EndsOrdinary};
 
 use crate::octets;
 use hpack_table::Field;
@@ -75,6 +76,37 @@ fn is_of_connection(field: &Field) -> bool
         || is_named(field, b"keep-alive")
         || is_named(field, b"transfer-encoding")
         || is_named(field, b"upgrade")
+}
+
+/// Whether a rule of a whole head speaks of the field's name.
+fn is_judged(field: &Field) -> bool
+    ensures { result ≡ list_any (bytes_eq field.now.name) judged_names }
+{
+    is_named(field, b"te")
+        || is_named(field, b"host")
+        || is_named(field, b"content-length")
+        || is_of_connection(field)
+}
+
+/// Whether the field breaks no rule of its own, and no rule of a whole head speaks of it.
+fn is_ordinary(field: &Field) -> bool
+    ensures { result ≡ is_ordinary field.now }
+{
+    octets::is_name(field.name()) && octets::is_value(field.value()) && !is_judged(field)
+}
+
+/// The head without the ordinary fields at its end.
+pub fn before_ordinary(head: &[Field]) -> &[Field]
+    ensures { EndsOrdinary result.now head.now }
+{
+    let mut front = head;
+    while let [more @ .., last] = front {
+        if !is_ordinary(last) {
+            return front;
+        }
+        front = more;
+    }
+    front
 }
 
 /// Whether no field speaks of the connection.

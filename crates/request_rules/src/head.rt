@@ -173,7 +173,7 @@ fn joined_cookies(alloc: Global, first: &[u8], others: &[Field]) -> Result<Vec<u
 fn sent_fields(alloc: Global, head: &[Field]) -> Result<Vec<Field>, AllocError>
     ensures { IfOk result (λ fields. fields.items ≡ fields_of head.now) }
 {
-    let mut fields = Vec::new(alloc);
+    let mut fields = Vec::with_capacity(alloc, head.len())?;
     let (front, rest) = head.split_at(first_cookie(head));
     push_plain(alloc, front, &mut fields)?;
     if let [first, others @ ..] = rest {

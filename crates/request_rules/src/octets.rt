@@ -1,4 +1,5 @@
-//! Octets and texts: tokens, values, paths and authorities.
+//! Octets and texts: tokens, values, paths and authorities. Tests of all octets of a text don't stop early, so that many
+//! octets are tested at once.
 
 ghost use Rattle.std.specs.Prelude.{◌≡◌, ◌≤◌, ℕ, true, length, bytes_eq};
 ghost use Rattle.std.specs.Str.Parse.{digits_value};
@@ -87,7 +88,11 @@ pub fn is_token(text: &[u8]) -> bool
 fn are_name_octets(text: &[u8]) -> bool
     ensures { result ≡ list_all is_name_octet text.now }
 {
-    text.iter().all(|octet| is_name_octet(*octet))
+    let mut all = true;
+    for octet in text {
+        all &= is_name_octet(*octet);
+    }
+    all
 }
 
 /// Whether the text is a token without upper-case letters (RFC 9113, section 8.2.1).
@@ -117,7 +122,11 @@ pub fn is_number(text: &[u8]) -> bool
 fn are_authority_octets(text: &[u8]) -> bool
     ensures { result ≡ list_all is_authority_octet text.now }
 {
-    text.iter().all(|octet| is_authority_octet(*octet))
+    let mut all = true;
+    for octet in text {
+        all &= is_authority_octet(*octet);
+    }
+    all
 }
 
 /// Whether the text is octets of an authority, one or more.
@@ -132,14 +141,22 @@ pub fn is_authority(text: &[u8]) -> bool
 fn are_visible(text: &[u8]) -> bool
     ensures { result ≡ list_all is_visible text.now }
 {
-    text.iter().all(|octet| is_visible(*octet))
+    let mut all = true;
+    for octet in text {
+        all &= is_visible(*octet);
+    }
+    all
 }
 
 /// Whether all octets may stand in a value.
 fn are_value_octets(text: &[u8]) -> bool
     ensures { result ≡ list_all is_value_octet text.now }
 {
-    text.iter().all(|octet| is_value_octet(*octet))
+    let mut all = true;
+    for octet in text {
+        all &= is_value_octet(*octet);
+    }
+    all
 }
 
 /// Whether the first octet is a space or a tab.

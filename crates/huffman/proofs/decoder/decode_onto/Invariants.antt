@@ -1,6 +1,9 @@
-use Rattle.std.proofs.Common.{take}
-use Rattle.huffman.proofs.DecodeLemmas.{Reading}
+use Rattle.std.proofs.Common.{length}
+use Rattle.huffman.proofs.DecodeLemmas.{ReadingOn}
 use Rattle.huffman.proofs.decoder.decode_onto.Given as goal
 
-abbrev pub invariant-loop-octet : goal.invariant-loop-octet
-invariant-loop-octet l = Reading (take l.octet-index l.octets) l.coming l.fn.out.items l.out.items
+abbrev pub invariant-loop-all : goal.invariant-loop-all
+invariant-loop-all l = ReadingOn l.octets l.left l.coming l.fn.out.items l.out.items
+
+abbrev pub decreases-loop-all : goal.decreases-loop-all
+decreases-loop-all l = length l.left

@@ -21,6 +21,7 @@ use Rattle.conduct.specs.Book.{as_point}
 use Rattle.conduct.specs.Rule.{MayComeIn}
 use Rattle.offering.specs.Sight.{sight_in}
 use Rattle.receiving.specs.Policy.{may_come}
+use Rattle.receiving.specs.Rule.{OwesNothing}
 use Rattle.serving.specs.Rule as requests
 use Rattle.policy.specs.Moves.{Gain, Deed, told_in, gained}
 use Rattle.policy.specs.Moves.Gain.{Nothing, Begins, Gathers, Passes, Drops}
@@ -37,8 +38,8 @@ module _ (setup : Setup) (behind : Summary) (s : State) (ready : IsReady s) wher
   requests_come : requests.MayCome (told_in (told_by s)) s.requests
   requests_come = record { nothing = ready.rests.served.nothing; none_done = ready.rests.served.none_done; goes_on = ready.goes_on }
 
-  settled : s.windows.count ≡ 0
-  settled = (ready.rests.given_back ready.open_yet).settled
+  owes_none : OwesNothing (sight_in (told_by s)) s.windows
+  owes_none = ready.rests.given_back ready.open_yet
 
   ends_not : s.desk.book.ends ≡ false
   ends_not = first_false s.desk.book.ends _ ready.goes_on
@@ -52,12 +53,12 @@ module _ (setup : Setup) (behind : Summary) (s : State) (ready : IsReady s) wher
   may_break breach = record {
     rests = λ e. ready.rests;
     conduct = record { allowed = record { open_yet = ready.open_yet; turn = comes }; fit = tt };
-    offer = tt;
+    offer = ready.rests.flushed;
     in_turn = tt;
     request = record { open_yet = ready.open_yet; may = requests_come };
     gains = tt;
     table = tt;
-    window = settled;
+    window = owes_none;
   }
 
   -- an event of no upstream's answer, that may come by its numbers
@@ -65,12 +66,12 @@ module _ (setup : Setup) (behind : Summary) (s : State) (ready : IsReady s) wher
   may_note event none may = record {
     rests = λ e. ready.rests;
     conduct = record { allowed = record { open_yet = ready.open_yet; turn = comes }; fit = λ fails. absurd (let no : false ≡ true = fails in cc) };
-    offer = none;
+    offer = (ready.rests.flushed, none);
     in_turn = tt;
     request = record { open_yet = ready.open_yet; may = (requests_come, none) };
     gains = tt;
     table = tt;
-    window = record { settled = settled; admitted = may };
+    window = (owes_none, record { settled = owes_none.settled; admitted = may });
   }
 
   request_may : (noted : Noted) (gain : Gain) → IsGained setup behind s noted gain → requests.MayMove setup (told_in (told_by s)) (told_in behind) s.requests (gained noted gain)
@@ -93,12 +94,12 @@ module _ (setup : Setup) (behind : Summary) (s : State) (ready : IsReady s) wher
   may_take noted next gain may lives = record {
     rests = λ e. ready.rests;
     conduct = record { allowed = record { open_yet = ready.open_yet; turn = comes }; fit = may.fit };
-    offer = (ends_not, refl);
+    offer = (ready.rests.flushed, ends_not, refl);
     in_turn = tt;
     request = record { open_yet = ready.open_yet; may = request_may noted gain may.gained };
     gains = gains_of noted gain may.gained;
     table = may.noted_right;
-    window = record { settled = settled; goes_on = ends_not; opens_it = refl; lives = lives; over_with_it = refl };
+    window = record { nothing = owes_none; goes_on = ends_not; opens_it = refl; lives = lives; over_with_it = refl };
   }
 
 -- ---- a stream that a frame opens is active behind it

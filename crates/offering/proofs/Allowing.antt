@@ -13,16 +13,18 @@ use Rattle.model.specs.Available.{heard, has_ended, items_on, IsIn}
 use Rattle.model.specs.Known.{Known}
 use Rattle.model.specs.Lifetimes.{is_opened, is_active}
 use Rattle.model.specs.Courses.{items, upstream_of}
+use Rattle.model.specs.Headline.{HoldsInTurn}
 use Rattle.model.proofs.DeliveryReadings.{number_within}
 use Rattle.offering.specs.State.{State, Move, start, entry_of, after, state_of}
 use Rattle.offering.specs.State.Move.{Takes, Breaks, Notes, Hears, Fails, Goes, Sends, Acts}
 use Rattle.offering.specs.Policy.{MayTake, MayOpen, Holds, AreAllowed, IsFlushed, KeepClauses}
-use Rattle.offering.specs.Sight.{Sight, first_sight, IsRightOf}
+use Rattle.offering.specs.Sight.{Sight, first_sight, IsRightOf, windows_in}
 use Rattle.offering.specs.Rule.{OpensNext, completed_by, MayCome, Seen, moves_of, tape_of, sight_of, AllMayCome, AreRight, IsTold, AreTold}
 use Rattle.offering.proofs.Entries.{heard_same, ended_same}
 use Rattle.offering.proofs.Living.{brought_other, brought_none, none_brought}
 use Rattle.offering.proofs.Offering.{Offering}
-use Rattle.offering.proofs.Ruling.{Placed, items_kept, not_unopened, unopened_before, takes_by, of_stream, not_took, sound, fails}
+use Rattle.offering.proofs.Windows.{flushed_by, goes_by}
+use Rattle.offering.proofs.Ruling.{Placed, items_kept, not_unopened, unopened_before, takes_by, of_stream, sound, fails}
 use Rattle.offering.proofs.Flushing.{moves_keep, start_holds, clauses_hold}
 
 -- nothing came yet
@@ -46,6 +48,7 @@ first_right known = record {
   has_items = λ id on some none. let clash : false ≡ true = on in cc;
   own = λ id on. let clash : false ≡ true = on in cc;
   shared = refl;
+  untaken = refl;
   given = refl;
   last = refl;
   block = refl;
@@ -139,24 +142,22 @@ completed_same known t sight noted right = ap (λ b. if ends_headers noted.frame
 module _ (known : Known) (t : List Entry) (s : State) (p : Placed known t s) (before behind : Sight) (right : IsRightOf known t before) where
   -- What the rule by states allows is allowed by the tape.
   allowed_by : (m : Move) → IsRightOf known (entry_of m ∷ t) behind → IsTold known t m → MayCome before behind s m → Holds known t s m
-  allowed_by (Takes noted change) now told may = subst (MayTake known t s noted) (sym may.1) (takes_by known t s p noted before behind right may.0 now)
+  allowed_by (Takes noted change) now told may = subst (MayTake known t s noted) (sym may.2) (takes_by known t s p noted before behind right may.1 now)
   allowed_by (Breaks breach) now told may = tt
-  allowed_by (Notes event) now told may = may
+  allowed_by (Notes event) now told may = may.1
   allowed_by (Hears event stream news) now told may =
-      let of = of_stream known t s p event stream before behind right now may.0 in
+      let of = of_stream known t s p event stream before behind right now may.1 in
       record {
         of = of;
-        sound = sound known t s p event stream before behind right now may.0 may.1;
-        not_took = not_took known t s p event stream before behind right now may.0;
+        sound = sound known t s p event stream before behind right now may.1 may.2;
         tells = told of.o of.given;
       }
   allowed_by (Fails event stream) now told may = record {
-    of = of_stream known t s p event stream before behind right now may.0;
-    fails = fails known t s p event stream before behind right now may.0 may.1;
-    not_took = not_took known t s p event stream before behind right now may.0;
+    of = of_stream known t s p event stream before behind right now may.1;
+    fails = fails known t s p event stream before behind right now may.1 may.2;
   }
   allowed_by (Goes noted item part over) now told may = (
-    may.0,
+    goes_by known t s p.offering before right noted item part may.0,
     record { active = sym (now.active noted.frame.id) ∙ may.1.active; brings = ap (λ b. frame_items b noted) (sym (completed_same known t before noted right)) ∙ may.1.brings },
   )
   allowed_by (Sends noted) now told may = record { no_block = sym (completed_same known t before noted right) ∙ may.no_block; no_data = may.no_data }
@@ -169,7 +170,7 @@ module _ (known : Known) (t : List Entry) (s : State) (p : Placed known t s) (be
   placed_by : (m : Move) → IsRightOf known (entry_of m ∷ t) behind → MayCome before behind s m → Holds known t s m → Offering known (entry_of m ∷ t) (after s m) → Placed known (entry_of m ∷ t) (after s m)
   placed_by (Takes noted change) now may holds o = placed_same known t s (after s (Takes noted change)) (Came noted) p refl (unopened_before t noted) (λ id out. refl) (λ k far. (refl, refl)) o
   placed_by (Breaks breach) now may holds o = placed_same known t s (after s (Breaks breach)) (Breached breach) p refl (λ id out. out) (λ id out. refl) (λ k far. (refl, refl)) o
-  placed_by (Notes event) now may holds o = placed_event known t s (after s (Notes event)) event p (λ k far same. let none : k ≡ 0 = same ∙ may in omega (arith, far, none)) o
+  placed_by (Notes event) now may holds o = placed_event known t s (after s (Notes event)) event p (λ k far same. let none : k ≡ 0 = same ∙ may.1 in omega (arith, far, none)) o
   placed_by (Hears event stream news) now may holds o = placed_answer known t s (after s (Hears event stream news)) event p holds.of.o holds.of.given.is_opened holds.of.number o
   placed_by (Fails event stream) now may holds o = placed_answer known t s (after s (Fails event stream)) event p holds.of.o holds.of.given.is_opened holds.of.number o
   placed_by (Goes noted item part over) now may holds o =
@@ -185,7 +186,7 @@ module _ (known : Known) (t : List Entry) (s : State) (p : Placed known t s) (be
 -- ---- runs
 
 -- what is read last is right
-last_right : (known : Known) (run : List Seen) → AreRight known run → IsRightOf known (tape_of run) (sight_of run)
+pub last_right : (known : Known) (run : List Seen) → AreRight known run → IsRightOf known (tape_of run) (sight_of run)
 last_right known [] right = first_right known
 last_right known (x ∷ run) right = right.1
 
@@ -201,5 +202,26 @@ placed known (x ∷ run) may right told =
     ((old.0, old.1.neighbours, holds), placed_by known (tape_of run) s old.1 (sight_of run) x.sight sees x.move right.1 may.1 holds offering)
 
 -- Such a run keeps the clauses, once the flush is done.
-pub run_keeps : (known : Known) (run : List Seen) → AllMayCome run → AreRight known run → AreTold known run → IsFlushed (state_of (moves_of run)) → KeepClauses known (tape_of run)
-run_keeps known run may right told done = let all = placed known run may right told in clauses_hold known (moves_of run) all.0 all.1.neighbours done
+pub run_keeps : (known : Known) (run : List Seen) → AllMayCome run → AreRight known run → AreTold known run → IsFlushed (windows_in (sight_of run)) (state_of (moves_of run)) → KeepClauses known (tape_of run)
+run_keeps known run may right told done =
+    let all = placed known run may right told in
+    clauses_hold known (moves_of run) all.0 all.1.neighbours (flushed_by known (tape_of run) (state_of (moves_of run)) all.1.offering (sight_of run) (last_right known run right) done)
+
+-- ---- before each thing that comes in
+
+module _ (known : Known) (run : List Seen) (at : IsFlushed (windows_in (sight_of run)) (state_of (moves_of run)) → KeepClauses known (tape_of run)) (before : HoldsInTurn (KeepClauses known) (tape_of run)) where
+  -- one move more
+  one_more : (behind : Sight) (m : Move) → MayCome (sight_of run) behind (state_of (moves_of run)) m → HoldsInTurn (KeepClauses known) (entry_of m ∷ tape_of run)
+  one_more behind (Takes noted change) may = (inr (at may.0), before)
+  one_more behind (Breaks breach) may = (inr (at may), before)
+  one_more behind (Notes event) may = (inr (at may.0), before)
+  one_more behind (Hears event stream news) may = (inr (at may.0), before)
+  one_more behind (Fails event stream) may = (inr (at may.0), before)
+  one_more behind (Goes noted item part over) may = before
+  one_more behind (Sends noted) may = before
+  one_more behind (Acts act) may = before
+
+-- Something comes in only where the flush is done: so the clauses hold before it.
+pub keeps_in_turn : (known : Known) (run : List Seen) → AllMayCome run → AreRight known run → AreTold known run → HoldsInTurn (KeepClauses known) (tape_of run)
+keeps_in_turn known [] may right told = tt
+keeps_in_turn known (x ∷ run) may right told = one_more known run (run_keeps known run may.0 right.0 told.0) (keeps_in_turn known run may.0 right.0 told.0) x.sight x.move may.1

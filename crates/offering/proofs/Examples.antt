@@ -1,7 +1,7 @@
 -- A worked run: a GET that no route takes is answered with 404 in its turn, and all clauses hold behind it. And who is ready of
 -- four streams.
-use Rattle.std.proofs.Common.{◌≡◌, ℕ, ◌<◌, ◌≤◌, true, false, List, [], ◌∷◌, map, refl, sym, subst, inl, arith, pos}
-use Rattle.std.specs.Prelude.{Option, Some, None, codes, slice_index}
+use Rattle.std.proofs.Common.{◌≡◌, ℕ, ◌<◌, ◌≤◌, true, false, List, [], ◌∷◌, map, refl, sym, ap, ◌∙◌, subst, inl, arith, pos, nat_lt, if◌then◌else◌}
+use Rattle.std.specs.Prelude.{Option, Some, None, filter, codes, slice_index}
 use Rattle.model.specs.Tables.{total_size}
 use Rattle.model.specs.Messages.{Field}
 use Rattle.model.specs.Messages.Item.{Block}
@@ -18,12 +18,12 @@ use Rattle.model.specs.Causes.Cause.{NoRoute}
 use Rattle.offering.specs.Outbox.{silent, replied}
 use Rattle.offering.specs.Outbox.Outbox.{Behind}
 use Rattle.offering.specs.Outbox.Part.{Final}
-use Rattle.offering.specs.State.{Kept, State, Change, Move, ready, entry_of, state_of}
+use Rattle.offering.specs.State.{Kept, State, Windows, Change, Move, find, can_turn, ready, entry_of, state_of}
 use Rattle.offering.specs.State.Move.{Takes, Goes, Sends}
 use Rattle.conduct.specs.Summary.{summary_of}
-use Rattle.offering.specs.Policy.{Neighbours, AreAllowed, IsFlushed, KeepClauses}
-use Rattle.offering.specs.Sight.{sight_in}
-use Rattle.offering.specs.Rule.{Seen, AllMayCome}
+use Rattle.offering.specs.Policy.{Neighbours, windows_on, AreAllowed, MayGo, IsFlushed, KeepClauses}
+use Rattle.offering.specs.Sight.{sight_in, windows_in}
+use Rattle.offering.specs.Rule.{Seen, sight_of, AllMayCome}
 use Rattle.offering.proofs.Flushing.{clauses_hold}
 
 -- ---- who is ready
@@ -31,17 +31,19 @@ use Rattle.offering.proofs.Flushing.{clauses_hold}
 -- One stream has a head to send, one octets and no window, one octets and a window, one nothing.
 abbrev pub four : State
 four = record {
-  kept = record { id = 1; box = replied NoRoute; own = pos 0; cut = false }
-      ∷ record { id = 3; box = Behind (7 ∷ []) false; own = pos 0; cut = false }
-      ∷ record { id = 5; box = Behind (7 ∷ 8 ∷ []) true; own = pos 9; cut = false }
-      ∷ record { id = 7; box = silent; own = pos 9; cut = false }
+  kept = record { id = 1; box = replied NoRoute; cut = false }
+      ∷ record { id = 3; box = Behind (7 ∷ []) false; cut = false }
+      ∷ record { id = 5; box = Behind (7 ∷ 8 ∷ []) true; cut = false }
+      ∷ record { id = 7; box = silent; cut = false }
       ∷ [];
-  shared = pos 5;
-  untaken = 0;
   last = 1;
 }
 
-two_ready : ready four ≡ 1 ∷ 5 ∷ []
+-- the windows of the last two are above 0, and the connection's is
+abbrev pub windows : Windows
+windows = record { own = λ id. if nat_lt 3 id then pos 9 else pos 0; shared = pos 5; untaken = 0 }
+
+two_ready : ready windows four ≡ 1 ∷ 5 ∷ []
 two_ready = refl
 
 -- ---- a run
@@ -69,9 +71,9 @@ get = field (codes ":method") (codes "GET") ∷ field (codes ":scheme") (codes "
 abbrev pub plain : Frame → Noted
 plain f = record { frame = f; note = NoBlock }
 
--- a frame that changes nothing, with the windows as at first
+-- a frame that changes nothing
 abbrev pub no_change : Change
-no_change = record { opens = false; over = false; caused = None; shared = pos 65535; owns = λ id. pos 65535 }
+no_change = record { opens = false; over = false; caused = None }
 
 -- the fields of the reply
 abbrev pub not_found : List Field
@@ -83,11 +85,15 @@ greeted = Sends (plain settings_ack) ∷ Takes (plain (frame 4 0 0 [])) no_chang
 
 -- the request opens stream 1, and no route takes it
 abbrev pub asked : List Move
-asked = Takes (record { frame = frame 1 5 1 []; note = Fields get }) (record { opens = true; over = false; caused = Some NoRoute; shared = pos 65535; owns = λ id. pos 65535 }) ∷ greeted
+asked = Takes (record { frame = frame 1 5 1 []; note = Fields get }) (record { opens = true; over = false; caused = Some NoRoute }) ∷ greeted
 
--- its reply goes out, and the stream is over
+-- its reply
+abbrev pub reply_noted : Noted
+reply_noted = record { frame = frame 1 5 1 []; note = Fields not_found }
+
+-- that goes out, and the stream is over
 abbrev pub answered : List Move
-answered = Goes (record { frame = frame 1 5 1 []; note = Fields not_found }) (Block not_found true) (Final (reply_head NoRoute) true) true ∷ asked
+answered = Goes reply_noted (Block not_found true) (Final (reply_head NoRoute) true) true ∷ asked
 
 no_neighbours : (t : List Entry) → opens t ≡ [] → Neighbours elsewhere t
 no_neighbours t e = record { numbered = subst AreNumbered (sym e) tt; apart = subst AreApart (sym e) tt; begun = λ o i. absurd (subst (IsIn o) e i) }
@@ -102,8 +108,6 @@ greeted_allowed = (
     record {
       opened = refl;
       caused = λ a. record { cause = refl; out = refl; heads = refl };
-      shared = refl;
-      owns = λ stream a. let clash : false ≡ true = a in cc;
     },
   ),
   no_neighbours (map entry_of (Takes (plain (frame 4 0 0 [])) no_change ∷ Sends (plain settings_frame) ∷ [])) refl,
@@ -119,37 +123,31 @@ asked_allowed = (
   record {
     opened = (record { not_kept = refl; unsent = refl; not_given = λ o g. g.is_opened; no_cause = refl }, refl, refl);
     caused = λ a. record { no_cause = refl; now = refl };
-    shared = refl;
-    owns = λ stream a. refl;
   },
 )
 
 -- and its reply, whose turn it is
-all_allowed : AreAllowed elsewhere answered
+reply_goes : (windows : Windows) → MayGo windows (state_of asked) reply_noted (Block not_found true) (Final (reply_head NoRoute) true)
 unfolding total_size
-all_allowed = (
-  asked_allowed,
-  no_neighbours (map entry_of asked) refl,
-  (
-    record {
-      kept = record { id = 1; box = replied NoRoute; own = pos 65535; cut = false };
-      found = refl;
-      not_cut = refl;
-      next = (refl, (refl, refl));
-      is = (refl, record { digits = codes "404"; is = refl; three = refl; are_digits = refl; status = refl; no_other = refl }, omega arith);
-      low = omega arith;
-      turn = inl (record { is_ready = (0, omega arith, refl); above = omega arith; least = least });
-      own = λ is_data. let clash : 1 ≡ 0 = is_data in absurd (omega (arith, clash));
-      shared = λ is_data. let clash : 1 ≡ 0 = is_data in absurd (omega (arith, clash));
-    },
-    record { active = refl; brings = refl },
-  ),
-)
+reply_goes windows = record {
+  kept = record { id = 1; box = replied NoRoute; cut = false };
+  found = refl;
+  not_cut = refl;
+  next = (refl, (refl, refl));
+  is = (refl, record { digits = codes "404"; is = refl; three = refl; are_digits = refl; status = refl; no_other = refl }, omega arith);
+  turn = inl (record { is_ready = (0, omega arith, refl); above = omega arith; least = least });
+  own = λ is_data. let clash : 1 ≡ 0 = is_data in absurd (omega (arith, clash));
+  shared = λ is_data. let clash : 1 ≡ 0 = is_data in absurd (omega (arith, clash));
+}
   where
     least : (k : ℕ) → k < 1 → 0 < slice_index (1 ∷ []) k → 1 ≤ slice_index (1 ∷ []) k
     least k lt some = some
 
-all_flushed : IsFlushed (state_of answered)
+all_allowed : AreAllowed elsewhere answered
+unfolding total_size
+all_allowed = (asked_allowed, no_neighbours (map entry_of asked) refl, (reply_goes (windows_on (map entry_of asked)), record { active = refl; brings = refl }))
+
+all_flushed : IsFlushed (windows_on (map entry_of answered)) (state_of answered)
 unfolding total_size
 all_flushed = record { none_cut = λ stream kept found. let clash : ◌≡◌ {A = Option Kept} None (Some kept) = found in cc; none_ready = λ low. refl }
 
@@ -164,7 +162,24 @@ abbrev pub seen : List Move → List Seen
 seen [] = []
 seen (m ∷ ms) = record { move = m; sight = sight_in (summary_of elsewhere (map entry_of (m ∷ ms))) } ∷ seen ms
 
+-- where nobody is kept the flush is done
+nobody_waits : (ms : List Move) → (state_of ms).kept ≡ [] → IsFlushed (windows_in (sight_of (seen ms))) (state_of ms)
+nobody_waits ms none = record {
+  none_cut = λ stream kept found. let clash : ◌≡◌ {A = Option Kept} None (Some kept) = ap (find stream) (sym none) ∙ found in cc;
+  none_ready = λ low. by (state_of ms).kept none;
+}
+  where
+    by : (ks : List Kept) → ks ≡ [] → filter (can_turn (windows_in (sight_of (seen ms))) (state_of ms)) (map (λ (k : Kept). k.id) ks) ≡ []
+    by [] e = refl
+    by (k ∷ ks) e = cc
+
 -- Its moves may come by the rule by states.
 may_come : AllMayCome (seen answered)
 unfolding total_size
-may_come = (((((tt, record { no_block = refl; no_data = refl }), (refl, refl)), record { no_block = refl; no_data = refl }), (refl, refl)), (all_allowed.2.0, record { active = refl; brings = refl }))
+may_come = (
+  (
+    (((tt, record { no_block = refl; no_data = refl }), (nobody_waits (Sends (plain settings_frame) ∷ []) refl, refl, refl)), record { no_block = refl; no_data = refl }),
+    (nobody_waits greeted refl, refl, refl),
+  ),
+  (reply_goes (windows_in (sight_of (seen asked))), record { active = refl; brings = refl }),
+)

@@ -1,34 +1,30 @@
 -- Each move that is allowed keeps the invariant of the outboxes: those that change a stream's outbox.
-use Rattle.std.proofs.Common.{◌≡◌, ℕ, ◌+◌, Bool, true, not, ◌&&◌, List, [], ◌∷◌, length, refl, sym, ap, ◌∙◌, subst, inl, inr, if◌then◌else◌, pos, ◌-ℤ◌, ◌≤ℤ◌}
+use Rattle.std.proofs.Common.{◌≡◌, ℕ, Bool, true, not, ◌&&◌, List, [], ◌∷◌, refl, sym, ap, ◌∙◌, subst, inl, inr, if◌then◌else◌}
 use Rattle.std.specs.Prelude.{Some, None, is_some, nat_lt}
 use Rattle.std.proofs.lemmas.Bool.{eq-eqb, not-true, lt-ltb}
 use Rattle.std.proofs.lemmas.Bool.Decides.{eqb_tells}
 use Rattle.model.specs.Messages.{Item}
-use Rattle.model.specs.Frames.{spell}
 use Rattle.model.specs.Logs.{Event, Act}
-use Rattle.model.specs.Logs.Event.{Client, ClientEnd, ClientTook, Up, UpEnd, UpFailed, UpTook}
 use Rattle.model.specs.Logs.Act.{Open, ToUp, Close, CloseClient}
 use Rattle.model.specs.Tapes.{Noted, Entry}
 use Rattle.model.specs.Tapes.Entry.{Happened, Sent, Did}
-use Rattle.model.specs.Admission.{untaken}
 use Rattle.model.specs.Openings.{Opened, opens, given, last_stream, AreNumbered}
 use Rattle.model.specs.Known.{Known, fails_behind}
 use Rattle.model.specs.Causes.{cause_if}
 use Rattle.model.specs.Causes.Cause.{BadAnswer}
 use Rattle.model.specs.Lifetimes.{is_active}
-use Rattle.model.specs.WindowsOnTape.{is_any, data_length}
 use Rattle.model.specs.Courses.{about, cause_of}
 use Rattle.model.specs.Offers.{is_to_head, IsDelivered}
 use Rattle.model.proofs.DeliveryReadings.{one_number}
 use Rattle.offering.specs.Outbox.{Part, News, IsNext}
 use Rattle.offering.specs.State.{Kept, State, find, change, told, gone, answered, after}
 use Rattle.offering.specs.State.Move.{Hears, Fails, Goes, Acts}
-use Rattle.offering.specs.Policy.{Neighbours, MayGo, Brings, IsOf, MayHear, MayGiveUp, MayOpen, MayDo}
+use Rattle.offering.specs.Policy.{Neighbours, windows_on, MayGo, Brings, IsOf, MayHear, MayGiveUp, MayOpen, MayDo}
 use Rattle.offering.proofs.Standing.{SameOffer, stands_sent, delivered_sent, stands_told, stands_given, delivered_same}
 use Rattle.offering.proofs.Entries.{cause_stays, out_stays, items_stay, none_by_did, sent_quiet, act_quiet, IsElsewhere, event_quiet, given_is, none_unless_fails, none_elsewhere}
 use Rattle.offering.proofs.Keeping.{KeepsId, answered_id, find_changed, find_other, some_mapped}
-use Rattle.offering.proofs.Living.{active_sent, active_beside, brought, brought_other, shared_sent, own_sent, own_other}
-use Rattle.offering.proofs.Offering.{IsKept, IsKeptIf, Offering, kept_unless, lives_unless, kept_same, kept_still, kept_by, held_answered, answered_own, caused_now, out_now, heads_now, offering_quiet}
+use Rattle.offering.proofs.Living.{active_sent, active_beside, brought, brought_other}
+use Rattle.offering.proofs.Offering.{IsHeld, IsKeptIf, Offering, kept_unless, lives_unless, kept_same, kept_still, kept_by, held_answered, caused_now, out_now, heads_now, offering_quiet}
 
 -- the same streams are kept
 some_changed : (stream : ℕ) (f : Kept → Kept) (ks : List Kept) → KeepsId f → (other : ℕ) → is_some (find other (change stream f ks)) ≡ is_some (find other ks)
@@ -41,7 +37,7 @@ some_changed stream f ks keeps other = elim (eqb_tells stream other) [
 
 -- one stream's record changes, and the others' stay
 module _ (known : Known) (t : List Entry) (e : Entry) (stream : ℕ) (f : Kept → Kept) (ks : List Kept) (keeps : KeepsId f) where
-  pub kept_changed : (here : (k : Kept) → find stream ks ≡ Some k → IsKept known t stream k → IsKept known (e ∷ t) stream (f k)) → (there : (other : ℕ) → (stream ≡ other → ⊥) → is_active other (e ∷ t) ≡ true → IsKeptIf known t other (find other ks) → IsKeptIf known (e ∷ t) other (find other ks))
+  pub kept_changed : (here : (k : Kept) → find stream ks ≡ Some k → IsHeld known t stream k → IsHeld known (e ∷ t) stream (f k)) → (there : (other : ℕ) → (stream ≡ other → ⊥) → is_active other (e ∷ t) ≡ true → IsKeptIf known t other (find other ks) → IsKeptIf known (e ∷ t) other (find other ks))
       → (other : ℕ) → is_active other (e ∷ t) ≡ true → IsKeptIf known t other (find other ks) → IsKeptIf known (e ∷ t) other (find other (change stream f ks))
   kept_changed here there other a h = elim (eqb_tells stream other) [
     | inl x ↦ subst (λ n. IsKeptIf known (e ∷ t) n (find n (change stream f ks))) x.1
@@ -59,27 +55,13 @@ module _ (known : Known) (t : List Entry) (event : Event) (stream : ℕ) (n : Ne
   others_quiet : (other : ℕ) → (stream ≡ other → ⊥) → SameOffer known t (Happened event ∷ t) other
   others_quiet other apart = event_quiet known t event other (none_elsewhere known other t event of.o n.numbered of.given.is_opened of.number (λ e. apart (sym of.given.is_given ∙ e))) (elsewhere other apart)
 
-  event_count : ((count : ℕ) → event ≡ ClientTook count → ⊥) → untaken (Happened event ∷ t) ≡ untaken t
-  event_count = by event
-    where
-      by : (event : Event) → ((count : ℕ) → event ≡ ClientTook count → ⊥) → untaken (Happened event ∷ t) ≡ untaken t
-      by (ClientTook some) not = absurd (not some refl)
-      by (Client piece) not = refl
-      by ClientEnd not = refl
-      by (Up k piece) not = refl
-      by (UpEnd k) not = refl
-      by (UpFailed k) not = refl
-      by (UpTook k some) not = refl
-
   -- the outbox of the event's stream changes
-  pub event_keeps : (s s' : State) (f : Kept → Kept) → KeepsId f → Offering known t s → s'.kept ≡ change stream f s.kept → s'.shared ≡ s.shared → s'.untaken ≡ s.untaken → ((count : ℕ) → event ≡ ClientTook count → ⊥)
-      → ((k : Kept) → IsKept known t stream k → IsKept known (Happened event ∷ t) stream (f k)) → Offering known (Happened event ∷ t) s'
-  event_keeps s s' f keeps h ek es eu not_took here = record {
+  pub event_keeps : (s s' : State) (f : Kept → Kept) → KeepsId f → Offering known t s → s'.kept ≡ change stream f s.kept
+      → ((k : Kept) → IsHeld known t stream k → IsHeld known (Happened event ∷ t) stream (f k)) → Offering known (Happened event ∷ t) s'
+  event_keeps s s' f keeps h ek here = record {
     lives = λ other. ap (λ ks. is_some (find other ks)) ek ∙ some_changed stream f s.kept keeps other ∙ h.lives other;
     kept = λ other a. subst (λ ks. IsKeptIf known (Happened event ∷ t) other (find other ks)) (sym ek)
-        (kept_changed known t (Happened event) stream f s.kept keeps (λ k is. here k) (λ other apart a. kept_same known t (Happened event) other (find other s.kept) (others_quiet other apart) refl refl) other a (h.kept other a));
-    shared = es ∙ h.shared;
-    untaken = eu ∙ h.untaken ∙ sym (event_count not_took);
+        (kept_changed known t (Happened event) stream f s.kept keeps (λ k is. here k) (λ other apart a. kept_same known t (Happened event) other (find other s.kept) (others_quiet other apart) refl) other a (h.kept other a));
     keeps = h.keeps;
     delivered = λ other. delivered_same known (Happened event) t other refl (h.delivered other);
   }
@@ -88,13 +70,10 @@ module _ (known : Known) (t : List Entry) (event : Event) (stream : ℕ) (n : Ne
 pub hears_keep : (known : Known) (t : List Entry) (s : State) (event : Event) (stream : ℕ) (news : News) → Neighbours known t → Offering known t s → MayHear known t event stream news → Offering known (Happened event ∷ t) (after s (Hears event stream news))
 hears_keep known t s event stream news n h may =
     let none : cause_of known stream t (Happened event) ≡ None = none_unless_fails known stream t event may.sound in
-    event_keeps known t event stream n may.of s (after s (Hears event stream news)) (told news) (λ k. refl) h refl refl refl may.not_took (λ k kept. record {
-      held = record {
-        named = kept.held.named;
-        stands = λ c. stands_told known t (Happened event ∷ t) stream may.of.o news k.box refl (cause_stays known stream t (Happened event) none) (out_stays known stream t (Happened event) none)
-            (ap is_to_head (items_stay known stream t (Happened event) refl)) n.apart may.of.given (record { is_opened = may.of.given.is_opened; is_given = may.of.given.is_given }) (inl may.of.no_cause) may.tells (kept.held.stands c);
-      };
-      own = kept.own;
+    event_keeps known t event stream n may.of s (after s (Hears event stream news)) (told news) (λ k. refl) h refl (λ k kept. record {
+      named = kept.named;
+      stands = λ c. stands_told known t (Happened event ∷ t) stream may.of.o news k.box refl (cause_stays known stream t (Happened event) none) (out_stays known stream t (Happened event) none)
+          (ap is_to_head (items_stay known stream t (Happened event) refl)) n.apart may.of.given (record { is_opened = may.of.given.is_opened; is_given = may.of.given.is_given }) (inl may.of.no_cause) may.tells (kept.stands c);
     })
 
 -- a failure is the cause for the stream of its connection
@@ -112,26 +91,24 @@ fails_keep known t s event stream n h may =
     let now = caused_now known stream t (Happened event) BadAnswer of.no_cause new in
     let out = out_now known stream t (Happened event) BadAnswer of.no_cause now in
     let heads = heads_now known stream t (Happened event) BadAnswer of.no_cause now in
-    event_keeps known t event stream n of s (after s (Fails event stream)) (answered BadAnswer) (answered_id BadAnswer) h refl refl refl may.not_took
-    (λ k kept. record { held = held_answered known t (Happened event ∷ t) stream BadAnswer k k.box refl now out heads kept.held.named kept.held.stands; own = answered_own BadAnswer k k.box ∙ kept.own })
+    event_keeps known t event stream n of s (after s (Fails event stream)) (answered BadAnswer) (answered_id BadAnswer) h refl
+    (λ k kept. held_answered known t (Happened event ∷ t) stream BadAnswer k k.box refl now out heads kept.named kept.stands)
 
 -- ---- a part goes
 
-pub goes_keep : (known : Known) (t : List Entry) (s : State) (noted : Noted) (item : Item) (part : Part) (over : Bool) → Offering known t s → MayGo s noted item part → Brings t noted item over → Offering known (Sent noted ∷ t) (after s (Goes noted item part over))
+pub goes_keep : (known : Known) (t : List Entry) (s : State) (noted : Noted) (item : Item) (part : Part) (over : Bool) → Offering known t s → MayGo (windows_on t) s noted item part → Brings t noted item over → Offering known (Sent noted ∷ t) (after s (Goes noted item part over))
 goes_keep known t s noted item part over h may brings = record {
-  lives = lives_unless known (Sent noted ∷ t) stream (change stream (gone part count) s.kept) over
-      (ap (λ b. b && not over) (some_changed stream (gone part count) s.kept (λ k. refl) stream ∙ ap (λ o. is_some o) may.found) ∙ sym brings.active)
-      (λ other apart. some_changed stream (gone part count) s.kept (λ k. refl) other ∙ h.lives other ∙ sym (active_beside t noted other apart));
-  kept = kept_unless known (Sent noted ∷ t) stream (change stream (gone part count) s.kept) over (λ a. not-true over (sym brings.active ∙ a)) (λ other a.
-      kept_changed known t (Sent noted) stream (gone part count) s.kept (λ k. refl) here
-      (λ other apart a. kept_same known t (Sent noted) other (find other s.kept) (sent_quiet known t noted other) (brought_other t noted other apart) (own_other t noted other apart))
+  lives = lives_unless known (Sent noted ∷ t) stream (change stream (gone part) s.kept) over
+      (ap (λ b. b && not over) (some_changed stream (gone part) s.kept (λ k. refl) stream ∙ ap (λ o. is_some o) may.found) ∙ sym brings.active)
+      (λ other apart. some_changed stream (gone part) s.kept (λ k. refl) other ∙ h.lives other ∙ sym (active_beside t noted other apart));
+  kept = kept_unless known (Sent noted ∷ t) stream (change stream (gone part) s.kept) over (λ a. not-true over (sym brings.active ∙ a)) (λ other a.
+      kept_changed known t (Sent noted) stream (gone part) s.kept (λ k. refl) here
+      (λ other apart a. kept_same known t (Sent noted) other (find other s.kept) (sent_quiet known t noted other) (brought_other t noted other apart))
       other a (h.kept other (active_sent t noted other a)));
-  shared = ap (λ z. z -ℤ pos count) h.shared ∙ sym (shared_sent t noted);
-  untaken = ap (λ n. n + length (spell noted.frame)) h.untaken;
-  keeps = ((λ is_data some. record { own = subst (λ z. pos (length noted.frame.payload) ≤ℤ z) kept.own (may.own is_data some); shared = subst (λ z. pos (length noted.frame.payload) ≤ℤ z) h.shared (may.shared is_data some) }), h.keeps);
+  keeps = ((λ is_data some. record { own = may.own is_data some; shared = may.shared is_data some }), h.keeps);
   delivered = λ other. elim (eqb_tells stream other) [
     | inl x ↦ subst (IsDelivered known (Sent noted ∷ t)) x.1
-        (delivered_sent known t (Sent noted ∷ t) stream (sent_quiet known t noted stream) item may.kept.box part (brought t noted (item ∷ []) brings.brings) may.next may.is (kept.held.stands may.not_cut))
+        (delivered_sent known t (Sent noted ∷ t) stream (sent_quiet known t noted stream) item may.kept.box part (brought t noted (item ∷ []) brings.brings) may.next may.is (kept.stands may.not_cut))
     | inr x ↦ delivered_same known (Sent noted) t other (brought_other t noted other x.1) (h.delivered other)
   ];
 }
@@ -139,22 +116,16 @@ goes_keep known t s noted item part over h may brings = record {
     stream : ℕ
     stream = noted.frame.id
 
-    count : ℕ
-    count = data_length is_any noted.frame
-
-    kept : IsKept known t stream may.kept
+    kept : IsHeld known t stream may.kept
     kept = subst (IsKeptIf known t stream) may.found (h.kept stream (sym (h.lives stream) ∙ ap (λ o. is_some o) may.found))
 
-    here : (k : Kept) → find stream s.kept ≡ Some k → IsKept known t stream k → IsKept known (Sent noted ∷ t) stream (gone part count k)
+    here : (k : Kept) → find stream s.kept ≡ Some k → IsHeld known t stream k → IsHeld known (Sent noted ∷ t) stream (gone part k)
     here k is old =
         let both : Some may.kept ≡ Some k = sym may.found ∙ is in
         let same : may.kept ≡ k = cc in
         record {
-          held = record {
-            named = old.held.named;
-            stands = λ c. stands_sent known t (Sent noted ∷ t) stream (sent_quiet known t noted stream) item k.box part (brought t noted (item ∷ []) brings.brings) (subst (λ (x : Kept). IsNext x.box part) same may.next) may.is (old.held.stands c);
-          };
-          own = ap (λ z. z -ℤ pos count) old.own ∙ sym (own_sent t noted);
+          named = old.named;
+          stands = λ c. stands_sent known t (Sent noted ∷ t) stream (sent_quiet known t noted stream) item k.box part (brought t noted (item ∷ []) brings.brings) (subst (λ (x : Kept). IsNext x.box part) same may.next) may.is (old.stands c);
         }
 
 -- ---- an act
@@ -165,10 +136,8 @@ opens_keep known t s k route h may = record {
   lives = h.lives;
   kept = λ stream a. elim (eqb_tells (last_stream t) stream) [
     | inl x ↦ subst (λ n. IsKeptIf known u n (find n s.kept)) x.1 (kept_still known t u (last_stream t) (find (last_stream t) s.kept) here (subst (λ n. IsKeptIf known t n (find n s.kept)) (sym x.1) (h.kept stream a)))
-    | inr x ↦ kept_same known t (Did (Open k route)) stream (find stream s.kept) (act_quiet known t (Open k route) stream x.1) refl refl (h.kept stream a)
+    | inr x ↦ kept_same known t (Did (Open k route)) stream (find stream s.kept) (act_quiet known t (Open k route) stream x.1) refl (h.kept stream a)
   ];
-  shared = h.shared;
-  untaken = h.untaken;
   keeps = h.keeps;
   delivered = λ stream. delivered_same known (Did (Open k route)) t stream refl (h.delivered stream);
 }
@@ -176,18 +145,15 @@ opens_keep known t s k route h may = record {
     u : List Entry
     u = Did (Open k route) ∷ t
 
-    here : (r : Kept) → IsKept known t (last_stream t) r → IsKept known u (last_stream t) r
+    here : (r : Kept) → IsHeld known t (last_stream t) r → IsHeld known u (last_stream t) r
     here r old = record {
-      held = record {
-        named = old.held.named;
-        stands = λ c. stands_given known t u (last_stream t) (record { k = k; route = route; stream = last_stream t }) r.box refl (sym (cause_stays known (last_stream t) t (Did (Open k route)) (none_by_did known (last_stream t) t (Open k route))) ∙ may.no_cause)
-            (record { is_opened = inl refl; is_given = refl }) may.unheard may.not_ended may.none_before may.no_cause (old.held.stands c);
-      };
-      own = old.own;
+      named = old.named;
+      stands = λ c. stands_given known t u (last_stream t) (record { k = k; route = route; stream = last_stream t }) r.box refl (sym (cause_stays known (last_stream t) t (Did (Open k route)) (none_by_did known (last_stream t) t (Open k route))) ∙ may.no_cause)
+          (record { is_opened = inl refl; is_given = refl }) may.unheard may.not_ended may.none_before may.no_cause (old.stands c);
     }
 
 pub acts_keep : (known : Known) (t : List Entry) (s : State) (act : Act) → Offering known t s → MayDo known t act → Offering known (Did act ∷ t) (after s (Acts act))
 acts_keep known t s (Open k route) h may = opens_keep known t s k route h may
-acts_keep known t s (ToUp k octets) h may = offering_quiet known t (Did (ToUp k octets)) s s h (λ stream. refl) (λ stream. act_quiet known t (ToUp k octets) stream (λ x. x)) (λ stream. refl) (λ stream. refl) refl refl refl h.untaken h.keeps
-acts_keep known t s (Close k) h may = offering_quiet known t (Did (Close k)) s s h (λ stream. refl) (λ stream. act_quiet known t (Close k) stream (λ x. x)) (λ stream. refl) (λ stream. refl) refl refl refl h.untaken h.keeps
-acts_keep known t s CloseClient h may = offering_quiet known t (Did CloseClient) s s h (λ stream. refl) (λ stream. act_quiet known t CloseClient stream (λ x. x)) (λ stream. refl) (λ stream. refl) refl refl refl h.untaken h.keeps
+acts_keep known t s (ToUp k octets) h may = offering_quiet known t (Did (ToUp k octets)) s s h (λ stream. refl) (λ stream. act_quiet known t (ToUp k octets) stream (λ x. x)) (λ stream. refl) refl h.keeps
+acts_keep known t s (Close k) h may = offering_quiet known t (Did (Close k)) s s h (λ stream. refl) (λ stream. act_quiet known t (Close k) stream (λ x. x)) (λ stream. refl) refl h.keeps
+acts_keep known t s CloseClient h may = offering_quiet known t (Did CloseClient) s s h (λ stream. refl) (λ stream. act_quiet known t CloseClient stream (λ x. x)) (λ stream. refl) refl h.keeps

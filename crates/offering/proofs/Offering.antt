@@ -1,77 +1,66 @@
 -- The invariant of all streams and their outboxes, and that each move that is allowed keeps it.
-use Rattle.std.proofs.Common.{◌≡◌, ℕ, ◌+◌, ◌-◌, Bool, true, false, not, ◌==◌, ◌&&◌, List, [], ◌∷◌, length, refl, sym, ap, ◌∙◌, subst, inl, inr, if◌then◌else◌}
+use Rattle.std.proofs.Common.{◌≡◌, ℕ, Bool, true, false, not, ◌==◌, ◌&&◌, List, [], ◌∷◌, refl, sym, ap, ◌∙◌, subst, inl, inr, if◌then◌else◌}
 use Rattle.std.specs.Prelude.{Option, Some, None, is_some, option_map}
 use Rattle.std.specs.List.{list_any}
 use Rattle.std.proofs.lemmas.Bool.{eq-eqb, not-true, and_parts}
 use Rattle.std.proofs.lemmas.Bool.Decides.{eqb_tells}
-use Rattle.model.specs.Frames.{spell, data_kind, rst_stream_kind}
+use Rattle.model.specs.Frames.{data_kind, rst_stream_kind}
 use Rattle.model.specs.Logs.{Event}
-use Rattle.model.specs.Logs.Event.{Client, ClientEnd, ClientTook, Up, UpEnd, UpFailed, UpTook}
 use Rattle.model.specs.Tapes.{Noted, Breach, Entry, sent}
 use Rattle.model.specs.Tapes.Entry.{Breached, Happened, Sent}
 use Rattle.model.specs.Decoding.{completed}
-use Rattle.model.specs.Admission.{untaken}
 use Rattle.model.specs.Openings.{opens}
 use Rattle.model.specs.Available.{items_on}
 use Rattle.model.specs.Known.{Known}
 use Rattle.model.specs.Causes.{Cause}
 use Rattle.model.specs.Lifetimes.{is_active}
-use Rattle.model.specs.WindowsOnTape.{stream_window, connection_window}
 use Rattle.model.specs.WindowClause.{KeepsWindows}
 use Rattle.model.specs.Deliveries.{heads_in}
 use Rattle.model.specs.Courses.{course, cause_of, upstream_of, is_final, first_of_both}
 use Rattle.model.specs.Offers.{IsDelivered}
 use Rattle.offering.specs.Outbox.{Outbox}
 use Rattle.offering.specs.Outbox.Outbox.{Before, Behind, Over}
-use Rattle.offering.specs.State.{Kept, State, find, unless_over, answered_box, untaken_by, after}
+use Rattle.offering.specs.State.{Kept, State, find, unless_over, answered_box, after}
 use Rattle.offering.specs.State.Move.{Breaks, Notes, Sends}
 use Rattle.offering.specs.Policy.{Neighbours, BringsNone}
 use Rattle.offering.proofs.Standing.{SameOffer, Stands, stands_same, stands_replied, delivered_same}
 use Rattle.offering.proofs.Heads.{out_by_read}
 use Rattle.offering.proofs.Entries.{sent_quiet, breach_quiet, event_quiet, none_of_nobody, number_above}
 use Rattle.offering.proofs.Keeping.{find_without, find_beside, some_unless}
-use Rattle.offering.proofs.Living.{active_sent, active_beside, active_control, brought_none, none_brought, own_control, shared_control}
+use Rattle.offering.proofs.Living.{active_sent, active_beside, active_control, brought_none, none_brought}
 
 -- The record is the stream's, and unless a reset is owed its outbox is what is on offer behind what was read.
 pub record IsHeld (known : Known) (t : List Entry) (stream : ℕ) (k : Kept) : Type 0 where
   pub named : k.id ≡ stream
   pub stands : k.cut ≡ false → Stands known t stream k.box
 
--- The same, and its window is that of the tape.
-pub record IsKept (known : Known) (t : List Entry) (stream : ℕ) (k : Kept) : Type 0 where
-  pub held : IsHeld known t stream k
-  pub own : k.own ≡ stream_window stream t
-
 -- The stream has such a record.
 abbrev pub IsKeptIf : Known → List Entry → ℕ → Option Kept → Type 0
 IsKeptIf known t stream None = ⊥
-IsKeptIf known t stream (Some k) = IsKept known t stream k
+IsKeptIf known t stream (Some k) = IsHeld known t stream k
 
--- Just the active streams are kept; the numbers are those of the tape; what was sent was within the windows, and on offer.
+-- Just the active streams are kept; what was sent was within the windows, and on offer.
 pub record Offering (known : Known) (t : List Entry) (s : State) : Type 0 where
   pub lives : (stream : ℕ) → is_some (find stream s.kept) ≡ is_active stream t
   pub kept : (stream : ℕ) → is_active stream t ≡ true → IsKeptIf known t stream (find stream s.kept)
-  pub shared : s.shared ≡ connection_window t
-  pub untaken : s.untaken ≡ untaken t
   pub keeps : KeepsWindows t
   pub delivered : (stream : ℕ) → IsDelivered known t stream
 
 -- ---- one stream
 
 -- nothing of the stream's happens
-pub kept_same : (known : Known) (t : List Entry) (e : Entry) (stream : ℕ) (o : Option Kept) → SameOffer known t (e ∷ t) stream → items_on stream (sent (e ∷ t)) ≡ items_on stream (sent t) → stream_window stream (e ∷ t) ≡ stream_window stream t
+pub kept_same : (known : Known) (t : List Entry) (e : Entry) (stream : ℕ) (o : Option Kept) → SameOffer known t (e ∷ t) stream → items_on stream (sent (e ∷ t)) ≡ items_on stream (sent t)
     → IsKeptIf known t stream o → IsKeptIf known (e ∷ t) stream o
-kept_same known t e stream None q i w h = absurd h
-kept_same known t e stream (Some k) q i w h =
-    record { held = record { named = h.held.named; stands = λ c. stands_same known t (e ∷ t) stream q k.box i (h.held.stands c) }; own = h.own ∙ sym w }
+kept_same known t e stream None q i h = absurd h
+kept_same known t e stream (Some k) q i h = record { named = h.named; stands = λ c. stands_same known t (e ∷ t) stream q k.box i (h.stands c) }
 
 -- the stream's record changes
-pub kept_by : (known : Known) (t u : List Entry) (stream : ℕ) (f : Kept → Kept) (o : Option Kept) → ((k : Kept) → o ≡ Some k → IsKept known t stream k → IsKept known u stream (f k)) → IsKeptIf known t stream o → IsKeptIf known u stream (option_map f o)
+pub kept_by : (known : Known) (t u : List Entry) (stream : ℕ) (f : Kept → Kept) (o : Option Kept) → ((k : Kept) → o ≡ Some k → IsHeld known t stream k → IsHeld known u stream (f k)) → IsKeptIf known t stream o → IsKeptIf known u stream (option_map f o)
 kept_by known t u stream f None by h = absurd h
 kept_by known t u stream f (Some k) by h = by k refl h
 
 -- the stream's record stays
-pub kept_still : (known : Known) (t u : List Entry) (stream : ℕ) (o : Option Kept) → ((k : Kept) → IsKept known t stream k → IsKept known u stream k) → IsKeptIf known t stream o → IsKeptIf known u stream o
+pub kept_still : (known : Known) (t u : List Entry) (stream : ℕ) (o : Option Kept) → ((k : Kept) → IsHeld known t stream k → IsHeld known u stream k) → IsKeptIf known t stream o → IsKeptIf known u stream o
 kept_still known t u stream None by h = absurd h
 kept_still known t u stream (Some k) by h = by k h
 
@@ -87,11 +76,6 @@ held_answered known t u stream cause k (Before interims head body whole) same no
 }
 held_answered known t u stream cause k (Behind body whole) same now out heads named stands = record { named = named; stands = λ c. let clash : true ≡ false = c in cc }
 held_answered known t u stream cause k Over same now out heads named stands = record { named = named; stands = λ c. let clash : true ≡ false = c in cc }
-
-pub answered_own : (cause : Cause) (k : Kept) (box : Outbox) → (answered_box cause k box).own ≡ k.own
-answered_own cause k (Before interims head body whole) = refl
-answered_own cause k (Behind body whole) = refl
-answered_own cause k Over = refl
 
 -- the course with its first cause
 pub caused_now : (known : Known) (stream : ℕ) (t : List Entry) (e : Entry) (cause : Cause) → (course known stream t).cause ≡ None → cause_of known stream t e ≡ Some cause → (course known stream (e ∷ t)).cause ≡ Some cause
@@ -129,12 +113,10 @@ module _ (known : Known) (u : List Entry) (id : ℕ) (ks : List Kept) where
 
 module _ (known : Known) (t : List Entry) (e : Entry) (s s' : State) (h : Offering known t s) where
   pub offering_quiet : ((stream : ℕ) → is_active stream (e ∷ t) ≡ is_active stream t) → ((stream : ℕ) → SameOffer known t (e ∷ t) stream) → ((stream : ℕ) → items_on stream (sent (e ∷ t)) ≡ items_on stream (sent t))
-      → ((stream : ℕ) → stream_window stream (e ∷ t) ≡ stream_window stream t) → connection_window (e ∷ t) ≡ connection_window t → s'.kept ≡ s.kept → s'.shared ≡ s.shared → s'.untaken ≡ untaken (e ∷ t) → KeepsWindows (e ∷ t) → Offering known (e ∷ t) s'
-  offering_quiet live quiet same_items same_own same_shared ek es eu keeps = record {
+      → s'.kept ≡ s.kept → KeepsWindows (e ∷ t) → Offering known (e ∷ t) s'
+  offering_quiet live quiet same_items ek keeps = record {
     lives = λ stream. ap (λ ks. is_some (find stream ks)) ek ∙ h.lives stream ∙ sym (live stream);
-    kept = λ stream a. subst (λ ks. IsKeptIf known (e ∷ t) stream (find stream ks)) (sym ek) (kept_same known t e stream (find stream s.kept) (quiet stream) (same_items stream) (same_own stream) (h.kept stream (sym (live stream) ∙ a)));
-    shared = es ∙ h.shared ∙ sym same_shared;
-    untaken = eu;
+    kept = λ stream a. subst (λ ks. IsKeptIf known (e ∷ t) stream (find stream ks)) (sym ek) (kept_same known t e stream (find stream s.kept) (quiet stream) (same_items stream) (h.kept stream (sym (live stream) ∙ a)));
     keeps = keeps;
     delivered = λ stream. delivered_same known e t stream (same_items stream) (h.delivered stream);
   }
@@ -145,28 +127,17 @@ notes_keep known t s event n h may =
     offering_quiet known t (Happened event) s (after s (Notes event)) h
     (λ stream. refl)
     (λ stream. event_quiet known t event stream (none_of_nobody known stream t event n.numbered may) (λ o g k. number_above (opens t) o n.numbered g.is_opened (k ∙ may)))
-    (λ stream. refl) (λ stream. refl) refl refl refl (numbers event) h.keeps
-  where
-    numbers : (event : Event) → untaken_by s.untaken event ≡ untaken (Happened event ∷ t)
-    numbers (Client piece) = h.untaken
-    numbers ClientEnd = h.untaken
-    numbers (ClientTook some) = ap (λ n. n - some) h.untaken
-    numbers (Up k piece) = h.untaken
-    numbers (UpEnd k) = h.untaken
-    numbers (UpFailed k) = h.untaken
-    numbers (UpTook k some) = h.untaken
+    (λ stream. refl) refl h.keeps
 
 pub breaks_keep : (known : Known) (t : List Entry) (s : State) (breach : Breach) → Offering known t s → Offering known (Breached breach ∷ t) (after s (Breaks breach))
 breaks_keep known t s breach h =
-    offering_quiet known t (Breached breach) s (after s (Breaks breach)) h (λ stream. refl) (λ stream. breach_quiet known t breach stream) (λ stream. refl) (λ stream. refl) refl refl refl h.untaken h.keeps
+    offering_quiet known t (Breached breach) s (after s (Breaks breach)) h (λ stream. refl) (λ stream. breach_quiet known t breach stream) (λ stream. refl) refl h.keeps
 
 pub sends_keep : (known : Known) (t : List Entry) (s : State) (noted : Noted) → Offering known t s → BringsNone t noted → Offering known (Sent noted ∷ t) (after s (Sends noted))
 sends_keep known t s noted h may = record {
   lives = lives_unless known (Sent noted ∷ t) noted.frame.id s.kept resets (ap (λ b. b && not resets) (h.lives noted.frame.id) ∙ sym live) (λ stream other. h.lives stream ∙ sym (active_beside t noted stream other));
   kept = kept_unless known (Sent noted ∷ t) noted.frame.id s.kept resets (λ a. not-true resets (and_parts (is_active noted.frame.id t) (not resets) (sym live ∙ a)).1)
-      (λ stream a. kept_same known t (Sent noted) stream (find stream s.kept) (sent_quiet known t noted stream) (none stream) (own_control t noted stream may.no_data) (h.kept stream (active_sent t noted stream a)));
-  shared = h.shared ∙ sym (shared_control t noted may.no_data);
-  untaken = ap (λ n. n + length (spell noted.frame)) h.untaken;
+      (λ stream a. kept_same known t (Sent noted) stream (find stream s.kept) (sent_quiet known t noted stream) (none stream) (h.kept stream (active_sent t noted stream a)));
   keeps = ((λ is. absurd (let clash : false ≡ true = sym may.no_data ∙ eq-eqb noted.frame.kind data_kind is in cc)), h.keeps);
   delivered = λ stream. delivered_same known (Sent noted) t stream (none stream) (h.delivered stream);
 }

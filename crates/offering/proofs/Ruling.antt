@@ -5,7 +5,6 @@ use Rattle.std.specs.List.{list_any}
 use Rattle.std.proofs.lemmas.Bool.{and_parts, and_from}
 use Rattle.model.specs.Messages.{Item}
 use Rattle.model.specs.Logs.{Event}
-use Rattle.model.specs.Logs.Event.{ClientTook}
 use Rattle.model.specs.Tapes.{Noted, Entry, came, sent}
 use Rattle.model.specs.Tapes.Entry.{Came, Happened}
 use Rattle.model.specs.Decoding.{completed}
@@ -17,14 +16,14 @@ use Rattle.model.specs.Causes.{Cause}
 use Rattle.model.specs.Causes.Cause.{BadAnswer}
 use Rattle.model.specs.ErrorTable.{fault_with}
 use Rattle.model.specs.Lifetimes.{opened, opens_by, is_opened, is_over, is_active, is_ended_by_client, is_ended_by_gateway, is_reset_by_client, is_reset_by_gateway}
-use Rattle.model.specs.Courses.{course, carried, items, cause_of, interrupts, upstream_of, first_of_both}
+use Rattle.model.specs.Courses.{course, carried, items, cause_of, interrupts, first_of_both}
 use Rattle.model.specs.Offers.{IsGiven}
 use Rattle.model.proofs.OpenedLaws.{opens_own, opens_new, none_zero}
 use Rattle.offering.specs.State.{State, find}
 use Rattle.offering.specs.Policy.{Neighbours, IsOf, IsNew, IsCaused, LeavesCause, IsOpened, MayTake}
 use Rattle.offering.specs.Sight.{Sight, IsRightOf}
 use Rattle.offering.specs.Rule.{found_by, change_by, IsEventOf}
-use Rattle.offering.proofs.Entries.{cause_stays, out_stays, heads_stay, out_with_cause, heads_with_cause, none_unless_fails, number_above}
+use Rattle.offering.proofs.Entries.{cause_stays, out_stays, heads_stay, out_with_cause, heads_with_cause, none_unless_fails}
 use Rattle.offering.proofs.Offering.{Offering, caused_now}
 use Rattle.offering.proofs.Moving.{caused_by_failure}
 
@@ -184,8 +183,6 @@ module _ (known : Known) (t : List Entry) (s : State) (p : Placed known t s) (no
   takes_by = record {
     opened = opened_by (before.active noted.frame.id) (behind.active noted.frame.id) (right.active noted.frame.id) (now.active noted.frame.id);
     caused = λ on. caused_by known t noted (before.cause noted.frame.id) (behind.cause noted.frame.id) (cause_read on) (now.cause noted.frame.id on);
-    shared = now.shared;
-    owns = now.own;
   }
 
 -- ---- events
@@ -203,10 +200,6 @@ module _ (known : Known) (t : List Entry) (s : State) (p : Placed known t s) (ev
     no_cause = sym (right.cause stream active) ∙ of.no_cause;
     counted = above_zero stream t active;
   }
-
-  -- it is none of the client's
-  pub not_took : (count : ℕ) → event ≡ ClientTook count → ⊥
-  not_took count is = number_above (opens t) of.o p.neighbours.numbered (subst (IsIn of.o) right.given of.there) (of.number ∙ ap upstream_of is)
 
   -- where no cause is read behind it, no answer failed
   pub sound : behind.cause stream ≡ None → fails_behind known t ≡ false

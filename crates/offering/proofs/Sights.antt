@@ -38,6 +38,7 @@ of_summary known t idle = record {
   has_items = λ id on some. some_begun _ some;
   own = λ id on. refl;
   shared = refl;
+  untaken = refl;
   given = refl;
   last = refl;
   block = refl;
@@ -74,6 +75,7 @@ module _ (known : Known) (t : List Entry) (rows : List Row) (stand : StandFor ro
     has_items = λ id on some. some_begun _ (sym (ap (λ (kept : Kept). kept.brief.begun) (row_is id on)) ∙ some);
     own = λ id on. ap (λ (kept : Kept). window_in (first_size t) kept) (row_is id on);
     shared = refl;
+    untaken = refl;
     given = refl;
     last = refl;
     block = refl;

@@ -3,7 +3,6 @@ use Rattle.std.specs.Prelude.{◌≡◌, ℕ, ◌<◌, Bool, true, false, not, �
 use Rattle.model.specs.Messages.{Item}
 use Rattle.model.specs.Frames.{data_kind}
 use Rattle.model.specs.Logs.{Event, Act}
-use Rattle.model.specs.Logs.Event.{ClientTook}
 use Rattle.model.specs.Logs.Act.{Open}
 use Rattle.model.specs.Tapes.{Noted, Entry, sent}
 use Rattle.model.specs.Tapes.Entry.{Came, Happened, Sent}
@@ -16,14 +15,14 @@ use Rattle.model.specs.Causes.{Cause}
 use Rattle.model.specs.Lifetimes.{is_active}
 use Rattle.model.specs.WindowsOnTape.{stream_window, connection_window}
 use Rattle.model.specs.Courses.{course, items, upstream_of}
-use Rattle.model.specs.Admission.{high_water}
+use Rattle.model.specs.Admission.{untaken, high_water}
 use Rattle.model.specs.ProgressClause.{NoneReady}
 use Rattle.model.specs.WindowClause.{KeepsWindows}
 use Rattle.model.specs.Turns.{IsNextTurn}
 use Rattle.model.specs.Offers.{is_to_head, IsGiven, IsDelivered}
 use Rattle.offering.specs.Outbox.{Part, IsNext, IsItemOf, News}
 use Rattle.offering.specs.Shown.{Tells}
-use Rattle.offering.specs.State.{Kept, State, Change, Move, find, ready, entry_of, state_of}
+use Rattle.offering.specs.State.{Kept, State, Windows, Change, Move, find, ready, entry_of, state_of}
 use Rattle.offering.specs.State.Move.{Takes, Breaks, Notes, Hears, Fails, Goes, Sends, Acts}
 
 -- What other concerns know of every tape: connections are numbered, no stream has two, and something came on its stream.
@@ -34,17 +33,20 @@ pub record Neighbours (known : Known) (t : List Entry) : Type 0 where
 
 -- ---- the flush: a part goes
 
--- The part may go by the state: the stream has the next turn, and fewer octets are untaken than the high water.
-pub record MayGo (s : State) (noted : Noted) (item : Item) (part : Part) : Type 0 where
+-- the windows of a tape
+abbrev pub windows_on : List Entry → Windows
+windows_on t = record { own = λ stream. stream_window stream t; shared = connection_window t; untaken = untaken t }
+
+-- The part may go by the state and by the windows: the stream has the next turn, and DATA fits both windows.
+pub record MayGo (windows : Windows) (s : State) (noted : Noted) (item : Item) (part : Part) : Type 0 where
   pub kept : Kept
   pub found : find noted.frame.id s.kept ≡ Some kept
   pub not_cut : kept.cut ≡ false
   pub next : IsNext kept.box part
   pub is : IsItemOf item part
-  pub low : s.untaken < high_water
-  pub turn : IsNextTurn s.last (ready s) (Some noted.frame.id)
-  pub own : noted.frame.kind ≡ data_kind → 0 < length noted.frame.payload → pos (length noted.frame.payload) ≤ℤ kept.own
-  pub shared : noted.frame.kind ≡ data_kind → 0 < length noted.frame.payload → pos (length noted.frame.payload) ≤ℤ s.shared
+  pub turn : IsNextTurn s.last (ready windows s) (Some noted.frame.id)
+  pub own : noted.frame.kind ≡ data_kind → 0 < length noted.frame.payload → pos (length noted.frame.payload) ≤ℤ windows.own noted.frame.id
+  pub shared : noted.frame.kind ≡ data_kind → 0 < length noted.frame.payload → pos (length noted.frame.payload) ≤ℤ windows.shared
 
 -- The frame, or the last frame of a block, brings its stream this item, and the stream is over with it or isn't.
 pub record Brings (t : List Entry) (noted : Noted) (item : Item) (over : Bool) : Type 0 where
@@ -70,14 +72,12 @@ pub record IsOf (known : Known) (t : List Entry) (event : Event) (stream : ℕ) 
 pub record MayHear (known : Known) (t : List Entry) (event : Event) (stream : ℕ) (news : News) : Type 0 where
   pub of : IsOf known t event stream
   pub sound : fails_behind known t ≡ false
-  pub not_took : (count : ℕ) → event ≡ ClientTook count → ⊥
   pub tells : Tells known.setup.passing (heard of.o.k t) (has_ended of.o.k t) (heard of.o.k (Happened event ∷ t)) (has_ended of.o.k (Happened event ∷ t)) (is_to_head (items known stream t)) news
 
 -- The answer of the stream's upstream fails with the event.
 pub record MayGiveUp (known : Known) (t : List Entry) (event : Event) (stream : ℕ) : Type 0 where
   pub of : IsOf known t event stream
   pub fails : fails_behind known t ≡ true
-  pub not_took : (count : ℕ) → event ≡ ClientTook count → ⊥
 
 -- ---- acts and frames of the client
 
@@ -125,8 +125,6 @@ IsOpened known t s noted false over = is_active noted.frame.id (Came noted ∷ t
 pub record MayTake (known : Known) (t : List Entry) (s : State) (noted : Noted) (change : Change) : Type 0 where
   pub opened : IsOpened known t s noted change.opens change.over
   pub caused : is_active noted.frame.id (Came noted ∷ t) ≡ true → IsCaused known t noted change.caused
-  pub shared : change.shared ≡ connection_window (Came noted ∷ t)
-  pub owns : (stream : ℕ) → is_active stream (Came noted ∷ t) ≡ true → change.owns stream ≡ stream_window stream (Came noted ∷ t)
 
 -- ---- the policy
 
@@ -137,7 +135,7 @@ Holds known t s (Breaks breach) = Unit {0}
 Holds known t s (Notes event) = upstream_of event ≡ 0
 Holds known t s (Hears event stream news) = MayHear known t event stream news
 Holds known t s (Fails event stream) = MayGiveUp known t event stream
-Holds known t s (Goes noted item part over) = MayGo s noted item part × Brings t noted item over
+Holds known t s (Goes noted item part over) = MayGo (windows_on t) s noted item part × Brings t noted item over
 Holds known t s (Sends noted) = BringsNone t noted
 Holds known t s (Acts act) = MayDo known t act
 
@@ -147,9 +145,9 @@ AreAllowed known [] = Unit {0}
 AreAllowed known (m ∷ ms) = AreAllowed known ms × Neighbours known (map entry_of ms) × Holds known (map entry_of ms) (state_of ms) m
 
 -- The flush is done: no reset is owed, and while few octets are untaken no stream has the next turn.
-pub record IsFlushed (s : State) : Type 0 where
+pub record IsFlushed (windows : Windows) (s : State) : Type 0 where
   pub none_cut : (stream : ℕ) (kept : Kept) → find stream s.kept ≡ Some kept → kept.cut ≡ false
-  pub none_ready : s.untaken < high_water → ready s ≡ []
+  pub none_ready : windows.untaken < high_water → ready windows s ≡ []
 
 -- What was to be shown: each stream was sent a front of what is or was on offer for it, DATA went within the windows, and no
 -- stream is ready.

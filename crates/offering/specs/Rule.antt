@@ -19,8 +19,8 @@ use Rattle.model.specs.Offers.{is_to_head, IsGiven}
 use Rattle.offering.specs.Shown.{Tells}
 use Rattle.offering.specs.State.{State, Change, Move, entry_of, state_of}
 use Rattle.offering.specs.State.Move.{Takes, Breaks, Notes, Hears, Fails, Goes, Sends, Acts}
-use Rattle.offering.specs.Policy.{MayGo}
-use Rattle.offering.specs.Sight.{Sight, first_sight, IsRightOf}
+use Rattle.offering.specs.Policy.{MayGo, IsFlushed}
+use Rattle.offering.specs.Sight.{Sight, first_sight, IsRightOf, windows_in}
 
 -- ---- what a frame of the client changes
 
@@ -35,8 +35,6 @@ change_by before behind id = record {
   opens = not (before.active id) && behind.active id;
   over = before.active id && not (behind.active id);
   caused = found_by (before.cause id) (behind.cause id);
-  shared = behind.shared;
-  owns = behind.own;
 }
 
 -- ---- which move may come
@@ -78,14 +76,18 @@ abbrev pub MayAct : Sight → Act → Type 0
 MayAct before (Open k route) = OpensNext before k
 MayAct before _ = Unit {0}
 
--- The move may come.
+-- The effect of what came before is over: the flush is done.
+abbrev pub IsDone : Sight → State → Type 0
+IsDone before s = IsFlushed (windows_in before) s
+
+-- The move may come; something comes in only where the flush is done.
 abbrev pub MayCome : Sight → Sight → State → Move → Type 0
-MayCome before behind s (Takes noted change) = (before.ends ≡ false) × (change ≡ change_by before behind noted.frame.id)
-MayCome before behind s (Breaks breach) = Unit {0}
-MayCome before behind s (Notes event) = upstream_of event ≡ 0
-MayCome before behind s (Hears event stream news) = IsEventOf before event stream × (behind.cause stream ≡ None)
-MayCome before behind s (Fails event stream) = IsEventOf before event stream × (behind.cause stream ≡ Some BadAnswer)
-MayCome before behind s (Goes noted item part over) = MayGo s noted item part × BringsOne before behind noted item over
+MayCome before behind s (Takes noted change) = IsDone before s × (before.ends ≡ false) × (change ≡ change_by before behind noted.frame.id)
+MayCome before behind s (Breaks breach) = IsDone before s
+MayCome before behind s (Notes event) = IsDone before s × (upstream_of event ≡ 0)
+MayCome before behind s (Hears event stream news) = IsDone before s × IsEventOf before event stream × (behind.cause stream ≡ None)
+MayCome before behind s (Fails event stream) = IsDone before s × IsEventOf before event stream × (behind.cause stream ≡ Some BadAnswer)
+MayCome before behind s (Goes noted item part over) = MayGo (windows_in before) s noted item part × BringsOne before behind noted item over
 MayCome before behind s (Sends noted) = BringsNothing before noted
 MayCome before behind s (Acts act) = MayAct before act
 

@@ -4,6 +4,7 @@ use Rattle.std.specs.List.{list_any}
 use Rattle.std.specs.Prelude.{◌≡◌, ℕ, Bool, true, false, ◌==◌, List, [], Option, None, ℤ, pos}
 use Rattle.model.specs.Tapes.{Entry, sent}
 use Rattle.model.specs.Decoding.{Partial, begun}
+use Rattle.model.specs.Admission.{untaken}
 use Rattle.model.specs.Openings.{Opened, opens, last_stream}
 use Rattle.model.specs.Known.{Known}
 use Rattle.model.specs.Causes.{Cause}
@@ -15,6 +16,7 @@ use Rattle.model.specs.Courses.{course, items}
 use Rattle.model.specs.ErrorClause.{calls_for_end}
 use Rattle.conduct.specs.Summary.{Summary}
 use Rattle.conduct.specs.Judging.{is_active_in, window_in}
+use Rattle.offering.specs.State.{Windows}
 
 -- What is read.
 pub record Sight : Type 0 where
@@ -26,8 +28,9 @@ pub record Sight : Type 0 where
   pub cause : ℕ → Option Cause
   pub has_items : ℕ → Bool
   pub own : ℕ → ℤ
-  -- the connection's sending window
+  -- the connection's sending window, and how many octets for the client aren't taken
   pub shared : ℤ
+  pub untaken : ℕ
   -- the upstream connections, the newest first, and the stream of the client's last frame, to which the next is given
   pub given : List Opened
   pub last : ℕ
@@ -46,6 +49,7 @@ first_sight = record {
   has_items = λ id. false;
   own = λ id. pos first_window;
   shared = pos first_window;
+  untaken = 0;
   given = [];
   last = 0;
   block = None;
@@ -65,10 +69,15 @@ pub record IsRightOf (known : Known) (t : List Entry) (sight : Sight) : Type 0 w
   pub has_items : (id : ℕ) → is_active id t ≡ true → sight.has_items id ≡ true → items known id t ≡ [] → ⊥
   pub own : (id : ℕ) → is_active id t ≡ true → sight.own id ≡ stream_window id t
   pub shared : sight.shared ≡ connection_window t
+  pub untaken : sight.untaken ≡ untaken t
   pub given : sight.given ≡ opens t
   pub last : sight.last ≡ last_stream t
   pub block : sight.block ≡ begun (sent t)
   pub ends : sight.ends ≡ calls_for_end known t
+
+-- the windows that are read
+abbrev pub windows_in : Sight → Windows
+windows_in sight = record { own = sight.own; shared = sight.shared; untaken = sight.untaken }
 
 -- ---- what the summary of a tape tells
 
@@ -82,6 +91,7 @@ sight_in s = record {
   has_items = λ id. (s.stream id).brief.begun;
   own = λ id. window_in s.first_size (s.stream id);
   shared = s.window;
+  untaken = s.untaken;
   given = s.given;
   last = s.last;
   block = s.block_out;

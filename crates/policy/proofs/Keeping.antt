@@ -17,7 +17,7 @@ use Rattle.conduct.proofs.Rule.{point_same}
 use Rattle.conduct.proofs.Book.{has_kept, errors_hold_by_book, block_out_told}
 use Rattle.offering.specs.Policy as offering
 use Rattle.offering.specs.Rule as offers
-use Rattle.offering.specs.Sight.{Sight, sight_in}
+use Rattle.offering.specs.Sight.{Sight, sight_in, windows_in}
 use Rattle.offering.specs.State as offered
 use Rattle.offering.proofs.Allowing.{placed, run_keeps}
 use Rattle.receiving.specs.Rule as windows
@@ -33,7 +33,7 @@ use Rattle.tables.specs.Kept.{KeepTables}
 use Rattle.tables.specs.State as tabling
 use Rattle.tables.proofs.Tables.{run_holds, tables_kept}
 use Rattle.tables.proofs.Reading.{all_came}
-use Rattle.tables.proofs.Synced.{in_step_by}
+use Rattle.tables.proofs.Synced.{in_step_by_states}
 use Rattle.policy.specs.Moves.{Deed, Move, entry_of, fails_in, comes_in, told_in}
 use Rattle.policy.specs.Moves.Deed.{Takes, Breaks, Notes, Hears, Fails, Sends, Goes, Acts}
 use Rattle.policy.specs.Moves.Move.{Does, Settles}
@@ -42,7 +42,7 @@ use Rattle.policy.specs.Rule.{AllAllowed, RestsBehind}
 use Rattle.policy.specs.Answered.{IsAnswered, AreAnswered}
 use Rattle.policy.proofs.Tapes.{offers_tape, requests_tape, tables_tape, windows_tape}
 use Rattle.policy.proofs.Telling.{all_moved, closed_told}
-use Rattle.policy.proofs.Placing.{offers_may, offers_right, offers_told, parts_begin, windows_sight, windows_may, windows_right, turns_told, turns_may, turns_so, tables_fit, tables_judged, in_turns}
+use Rattle.policy.proofs.Placing.{offers_sight, offers_may, offers_right, offers_told, parts_begin, windows_sight, windows_may, windows_right, turns_told, turns_may, turns_so, tables_fit, tables_judged, in_turns}
 
 -- A run that is allowed, and what is known of answers.
 pub record IsKnown (known : Known) (run : List Move) : Type 0 where
@@ -62,7 +62,8 @@ module _ (known : Known) (run : List Move) (k : IsKnown known run) (rests : Rest
   of_offers : offering.KeepClauses known t
   of_offers =
       subst (offering.KeepClauses known) (offers_tape known.setup run)
-      (run_keeps known (offers_of known.setup run) (offers_may known.setup run k.all) (offers_right known run k.knows k.all) (offers_told known run k.answered) rests.flushed)
+      (run_keeps known (offers_of known.setup run) (offers_may known.setup run k.all) (offers_right known run k.knows k.all) (offers_told known run k.answered)
+      (subst (λ (s : Sight). offering.IsFlushed (windows_in s) (state_of known.setup run).offers) (sym (offers_sight known.setup run)) rests.flushed))
 
   of_requests : serving.KeepClauses known t
   of_requests =
@@ -125,11 +126,9 @@ module _ (known : Known) (run : List Move) (k : IsKnown known run) (rests : Rest
   pub in_step : InStep known t tables.encoding.table tables.decoding
   in_step =
       subst (λ (x : List Entry). InStep known x tables.encoding.table tables.decoding) (tables_tape known.setup run)
-      (in_step_by known (tables_of known.setup run) (offers.moves_of (offers_of known.setup run)) (tables_tape known.setup run ∙ sym (offers_tape known.setup run))
-      (subst (λ (x : List Entry). Rattle.conduct.specs.Turn.Conducted known x) (sym (tables_tape known.setup run)) (in_turns known run k.knows k.all))
-      (tables_judged known run k.knows k.all) (tables_fit known.setup run k.all) rests.read
-      (placed known (offers_of known.setup run) (offers_may known.setup run k.all) (offers_right known run k.knows k.all) (offers_told known run k.answered)).0
-      (parts_begin known.setup run k.all))
+      (in_step_by_states known (tables_of known.setup run) (offers_of known.setup run) (tables_tape known.setup run ∙ sym (offers_tape known.setup run))
+      (subst (λ (x : List Entry). Rattle.conduct.specs.Turn.Conducted known x) (sym (tables_tape known.setup run)) (in_turns known run k.knows k.all)) (tables_judged known run k.knows k.all)
+      (tables_fit known.setup run k.all) rests.read (offers_may known.setup run k.all) (offers_right known run k.knows k.all) (offers_told known run k.answered) (parts_begin known.setup run k.all))
 
 -- ---- before each thing that comes in
 

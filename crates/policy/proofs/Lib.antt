@@ -4,3 +4,4 @@ pub mod Adding
 pub mod Placing
 pub mod Keeping
 pub mod Stepping
+pub mod Coming

@@ -15,7 +15,7 @@ use Rattle.conduct.proofs.Rule.{conducted}
 use Rattle.conduct.proofs.Book.{has_kept}
 use Rattle.conduct.proofs.Telling.{book_told}
 use Rattle.offering.specs.Rule as offers
-use Rattle.offering.specs.Sight.{Sight, first_sight, IsRightOf, sight_in}
+use Rattle.offering.specs.Sight.{Sight, IsRightOf, sight_in, windows_in}
 use Rattle.offering.specs.State as offering
 use Rattle.receiving.specs.Rule as windows
 use Rattle.receiving.specs.State as receiving
@@ -86,11 +86,12 @@ tables_fit setup [] all = tt
 tables_fit setup (Does d ∷ run) all = (tables_fit setup run all.0, all.1.table)
 tables_fit setup (Settles ∷ run) all = tables_fit setup run all
 
-pub parts_begin : (setup : Setup) (run : List Move) → AllAllowed setup run → AllBegan (offers.moves_of (offers_of setup run))
+pub parts_begin : (setup : Setup) (run : List Move) → AllAllowed setup run → AllBegan (offers_of setup run)
 parts_begin setup [] all = tt
 parts_begin setup (Does d ∷ run) all = (
   parts_begin setup run all.0,
-  subst (MayBeginIf (offering.state_of (offers.moves_of (offers_of setup run)))) (sym (offer_entry (sight_in (summary_at setup run)) (sight_in (summary_at setup (Does d ∷ run))) d)) all.1.in_turn,
+  subst (λ (s : Sight). MayBeginIf (windows_in s) (offering.state_of (offers.moves_of (offers_of setup run))) (offering.entry_of (offer_of (sight_in (summary_at setup run)) (sight_in (summary_at setup (Does d ∷ run))) d))) (sym (offers_sight setup run))
+      (subst (MayBeginIf (windows_in (sight_in (summary_at setup run))) (offering.state_of (offers.moves_of (offers_of setup run)))) (sym (offer_entry (sight_in (summary_at setup run)) (sight_in (summary_at setup (Does d ∷ run))) d)) all.1.in_turn),
 )
 parts_begin setup (Settles ∷ run) all = parts_begin setup run all
 

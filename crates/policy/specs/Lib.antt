@@ -3,3 +3,4 @@ pub mod State
 pub mod Rule
 pub mod Answered
 pub mod Steps
+pub mod Coming

@@ -14,7 +14,7 @@ use Rattle.conduct.specs.Judging.{completed_in, fault_for}
 use Rattle.conduct.specs.Owing.{new_cause_in}
 use Rattle.conduct.specs.Book as conduct
 use Rattle.conduct.specs.Book.{MayMove}
-use Rattle.offering.specs.Sight.{sight_in}
+use Rattle.offering.specs.Sight.{sight_in, windows_in}
 use Rattle.offering.specs.Policy.{IsFlushed}
 use Rattle.offering.specs.Rule as offers
 use Rattle.receiving.specs.Rule as windows
@@ -69,7 +69,7 @@ GainsIf setup s d = Unit {0}
 -- connections that are done with are closed, what goes back was given back, and the client is closed if the connection is to end.
 pub record Rests (s : Summary) (state : State) : Type 0 where
   pub conduct : conduct.Rests state.desk
-  pub flushed : IsFlushed state.offers
+  pub flushed : IsFlushed (windows_in (sight_in s)) state.offers
   pub served : requests.Rests (told_in s) state.requests
   pub read : state.tables.lost ≡ false
   pub given_back : s.closed ≡ false → OwesNothing (sight_in s) state.windows
@@ -81,7 +81,7 @@ pub record MayDo (setup : Setup) (before behind : Summary) (state : State) (d : 
   pub rests : comes_in (entry_of d) ≡ true → Rests before state
   pub conduct : MayMove state.desk (conduct_of d)
   pub offer : offers.MayCome (sight_in before) (sight_in behind) state.offers (offer_of (sight_in before) (sight_in behind) d)
-  pub in_turn : MayBeginIf state.offers (entry_of d)
+  pub in_turn : MayBeginIf (windows_in (sight_in before)) state.offers (entry_of d)
   pub request : requests.IsAllowed setup (told_in before) (told_in behind) state.requests (request_of d)
   pub gains : GainsIf setup before d
   pub table : tables.IsFit state.tables (table_of before d)

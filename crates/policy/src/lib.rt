@@ -13,20 +13,25 @@
 //! - `RestsBehind`: the step ends where the gateway rests.
 #![tactic(auto)]
 
-ghost use Rattle.std.specs.Prelude.{◌++◌, List, ◌∷◌, reverse};
+ghost use Rattle.std.specs.Prelude.{◌≡◌, true, ◌++◌, List, ◌∷◌, reverse};
 ghost use Rattle.model.specs.Setup.{Setup};
-ghost use Rattle.model.specs.Logs.{Step};
+ghost use Rattle.model.specs.Logs.{Event, Step};
+ghost use Rattle.model.specs.Tables.{Table};
+ghost use Rattle.model.specs.Courses.{upstream_of};
+ghost use Rattle.receiving.specs.Policy.{may_come};
 ghost use Rattle.model.specs.Known.{Known};
-ghost use Rattle.model.specs.Tapes.{EndsWithClose};
+ghost use Rattle.model.specs.Tapes.{Noted, Breach, EndsWithClose};
 ghost use Rattle.model.specs.Failures.{AreJudged};
 ghost use Rattle.model.specs.Headline.{ClausesHold, HoldsInTurn, Headline};
 ghost use Rattle.model.specs.Synchrony.{InStep};
 ghost use Rattle.conduct.specs.Rule.{AreKnown};
-ghost use Rattle.policy.specs.Moves.{Move};
+ghost use Rattle.policy.specs.Moves.{Gain, Deed, Move};
+ghost use Rattle.policy.specs.Moves.Deed.{Takes, Breaks, Notes};
 ghost use Rattle.policy.specs.State.{State, conducts, tape_of, state_of};
-ghost use Rattle.policy.specs.Rule.{AllAllowed, RestsBehind};
+ghost use Rattle.policy.specs.Rule.{MayDo, AllAllowed, RestsBehind};
 ghost use Rattle.policy.specs.Answered.{AreAnswered};
-ghost use Rattle.policy.specs.Steps.{next, MayGoOn, Leads, Stands, AreAnsweredBy};
+ghost use Rattle.policy.specs.Steps.{told_by, told_behind, next, MayGoOn, Leads, Stands, AreAnsweredBy};
+ghost use Rattle.policy.specs.Coming.{IsReady, MayTake};
 
 /// Whoever keeps the rule keeps the headline: its five clauses wherever the gateway rests, and before each thing that comes in;
 /// what is known of failures is right, and nothing stands behind the client's close. So it is for both policies, and however
@@ -56,4 +61,13 @@ pub fn states_lead()
     ensures one { (setup : Setup) (run : List Move) (s : State) (m : Move) → Stands setup run s → MayGoOn setup s m → Stands setup (m ∷ run) (next setup s m) }
     ensures all { (setup : Setup) (run : List Move) (old new : State) (moves : List Move) → Stands setup run old → Leads setup old moves new → Stands setup (moves ++ run) new }
     ensures further { (setup : Setup) (old s new : State) (first later : List Move) → Leads setup old first s → Leads setup s later new → Leads setup old (later ++ first) new }
+{}
+
+/// Where the gateway rests and its connection goes on, what comes in has its move: octets that depart from the preface or a length that
+/// is too long; an event of no upstream's answer that may come by its numbers; a frame, where its note is right, and what it gains
+/// is so.
+pub fn inputs_have_moves()
+    ensures breach { (setup : Setup) (s : State) (breach : Breach) → IsReady s → MayDo setup (told_by s) (told_behind setup s (Breaks breach)) s (Breaks breach) }
+    ensures event { (setup : Setup) (s : State) (event : Event) → IsReady s → upstream_of event ≡ 0 → may_come s.windows event ≡ true → MayDo setup (told_by s) (told_behind setup s (Notes event)) s (Notes event) }
+    ensures frame { (setup : Setup) (s : State) (noted : Noted) (next : Table) (gain : Gain) → IsReady s → MayTake setup (told_behind setup s (Takes noted next gain)) s noted next gain → MayDo setup (told_by s) (told_behind setup s (Takes noted next gain)) s (Takes noted next gain) }
 {}

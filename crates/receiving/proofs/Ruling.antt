@@ -1,5 +1,5 @@
 -- Runs that the rule by states alone allows are runs that are allowed by the tape: so windows go back.
-use Rattle.std.proofs.Common.{◌≡◌, ℕ, Bool, true, false, not, ◌==◌, ◌&&◌, ◌||◌, List, [], ◌∷◌, ◌++◌, refl, sym, ap, ◌∙◌, if◌then◌else◌}
+use Rattle.std.proofs.Common.{◌≡◌, ℕ, Bool, true, false, not, ◌==◌, ◌&&◌, ◌||◌, List, [], ◌∷◌, ◌++◌, refl, sym, ap, ◌∙◌, if◌then◌else◌, inr}
 use Rattle.std.specs.List.{list_any}
 use Rattle.std.proofs.lemmas.Bool.{and_right, eq-eqb}
 use Rattle.model.specs.Tapes.{Noted, Entry, came}
@@ -9,6 +9,7 @@ use Rattle.model.specs.Decoding.{completed}
 use Rattle.model.specs.Known.{Known}
 use Rattle.model.specs.Lifetimes.{opened, opens_by, is_opened, is_active}
 use Rattle.model.specs.WindowClause.{GivesBack}
+use Rattle.model.specs.Headline.{HoldsInTurn}
 use Rattle.model.proofs.OpenedLaws.{opens_own, opens_new}
 use Rattle.offering.specs.Sight.{Sight, IsRightOf}
 use Rattle.offering.proofs.Living.{active_sent}
@@ -16,9 +17,9 @@ use Rattle.offering.proofs.Ruling.{opened_by_it}
 use Rattle.offering.proofs.Allowing.{first_right}
 use Rattle.receiving.specs.State.{State, Move, entries_of, tape_of, state_of}
 use Rattle.receiving.specs.State.Move.{Takes, Breaks, Hears, Settles, Gives, Sends, Acts}
-use Rattle.receiving.specs.Policy.{IsOpened, MayTake, IsOwed, MayGive, MaySend, Holds, AreAllowed, IsPaid}
+use Rattle.receiving.specs.Policy.{IsOpened, MayTake, IsOwed, MayGive, MaySend, Holds, AreAllowed, IsPaid, KeepRooms}
 use Rattle.receiving.specs.Rule.{is_over_by, TakesFrame, OwesAll, GivesAll, SendsOther, MayCome, OwesNothing, Seen, moves_of, sight_of, AllMayCome, AreRight}
-use Rattle.receiving.proofs.Resting.{gives_back_at_rest}
+use Rattle.receiving.proofs.Resting.{gives_back_at_rest, gives_no_more}
 
 -- a frame opens its stream just where that wasn't opened before and is behind it
 opens_told : (t : List Entry) (noted : Noted) → opens_by (opened t) (completed (came t) noted.frame) noted.note ≡ (not (is_opened noted.frame.id t) && is_opened noted.frame.id (Came noted ∷ t))
@@ -70,10 +71,10 @@ module _ (known : Known) (t : List Entry) (s : State) (noted : Noted) (before be
   takes_by : (opens over : Bool) → IsRightOf known (Came noted ∷ t) behind → TakesFrame before behind s noted opens over → MayTake t s noted opens over
   takes_by true over now may =
       let by = opens_read now true may.opens_it in
-      record { settled = may.settled; opens = by; opened = opened_new may.goes_on now by over may.over_with_it (may.lives refl); was = λ e. sym (right.active noted.frame.id) ∙ was_active (before.active noted.frame.id) (behind.active noted.frame.id) (sym may.over_with_it ∙ e) }
+      record { settled = may.nothing.settled; opens = by; opened = opened_new may.goes_on now by over may.over_with_it (may.lives refl); was = λ e. sym (right.active noted.frame.id) ∙ was_active (before.active noted.frame.id) (behind.active noted.frame.id) (sym may.over_with_it ∙ e) }
   takes_by false over now may =
       let by = opens_read now false may.opens_it in
-      record { settled = may.settled; opens = by; opened = opened_old now by over may.over_with_it; was = λ e. sym (right.active noted.frame.id) ∙ was_active (before.active noted.frame.id) (behind.active noted.frame.id) (sym may.over_with_it ∙ e) }
+      record { settled = may.nothing.settled; opens = by; opened = opened_old now by over may.over_with_it; was = λ e. sym (right.active noted.frame.id) ∙ was_active (before.active noted.frame.id) (behind.active noted.frame.id) (sym may.over_with_it ∙ e) }
 
   -- ---- frames to the client
 
@@ -104,8 +105,8 @@ module _ (known : Known) (t : List Entry) (s : State) (noted : Noted) (before be
 -- What the rule by states allows is allowed by the tape.
 allowed_by : (known : Known) (passing : Passing) (t : List Entry) (s : State) (before behind : Sight) (m : Move) → IsRightOf known t before → IsRightOf known (entries_of m ++ t) behind → MayCome passing before behind s m → Holds passing t s m
 allowed_by known passing t s before behind (Takes noted opens over) right now may = takes_by known t s noted before behind right opens over now may
-allowed_by known passing t s before behind (Breaks breach) right now may = may
-allowed_by known passing t s before behind (Hears event) right now may = may
+allowed_by known passing t s before behind (Breaks breach) right now may = may.settled
+allowed_by known passing t s before behind (Hears event) right now may = may.1
 allowed_by known passing t s before behind Settles right now may = tt
 allowed_by known passing t s before behind (Gives noted) right now may = gives_by known t s noted before behind right may
 allowed_by known passing t s before behind (Sends noted over) right now may = sends_by known t s noted before behind right over now may
@@ -132,3 +133,25 @@ paid_by known t s sight right none = record { settled = none.settled; shared = n
 pub run_gives_back : (known : Known) (run : List Seen) → AllMayCome known.setup.passing run → AreRight known run → OwesNothing (sight_of run) (state_of known.setup.passing (moves_of run)) → GivesBack known (tape_of (moves_of run))
 run_gives_back known run may right none =
     gives_back_at_rest known (moves_of run) (all_allowed known known.setup.passing run may right) (paid_by known (tape_of (moves_of run)) (state_of known.setup.passing (moves_of run)) (sight_of run) (last_right known run right) none)
+
+-- ---- before each thing that comes in
+
+-- what is given back, and no more
+keeps : (known : Known) (run : List Seen) → AllMayCome known.setup.passing run → AreRight known run → OwesNothing (sight_of run) (state_of known.setup.passing (moves_of run)) → KeepRooms known (tape_of (moves_of run))
+keeps known run may right none = record { gives_back = run_gives_back known run may right none; no_more = gives_no_more known.setup.passing (moves_of run) (all_allowed known known.setup.passing run may right) }
+
+module _ (known : Known) (run : List Seen) (at : OwesNothing (sight_of run) (state_of known.setup.passing (moves_of run)) → KeepRooms known (tape_of (moves_of run))) (before : HoldsInTurn (KeepRooms known) (tape_of (moves_of run))) where
+  -- one move more
+  one_more : (behind : Sight) (m : Move) → MayCome known.setup.passing (sight_of run) behind (state_of known.setup.passing (moves_of run)) m → HoldsInTurn (KeepRooms known) (entries_of m ++ tape_of (moves_of run))
+  one_more behind (Takes noted opens over) may = (inr (at may.nothing), before)
+  one_more behind (Breaks breach) may = (inr (at may), before)
+  one_more behind (Hears event) may = (inr (at may.0), before)
+  one_more behind Settles may = before
+  one_more behind (Gives noted) may = before
+  one_more behind (Sends noted over) may = before
+  one_more behind (Acts act) may = before
+
+-- Something comes in only where nothing is owed: so each window is then as at first, but for what is kept.
+pub rooms_in_turn : (known : Known) (run : List Seen) → AllMayCome known.setup.passing run → AreRight known run → HoldsInTurn (KeepRooms known) (tape_of (moves_of run))
+rooms_in_turn known [] may right = tt
+rooms_in_turn known (x ∷ run) may right = one_more known run (keeps known run may.0 right.0) (rooms_in_turn known run may.0 right.0) x.sight x.move may.1

@@ -13,6 +13,8 @@ use Rattle.model.specs.Windows.{first_window}
 use Rattle.model.specs.Openings.{opens}
 use Rattle.model.specs.Lifetimes.{opens_by, opened, is_active, is_ended_by_client}
 use Rattle.model.specs.WindowsOnTape.{increment, room_on}
+use Rattle.model.specs.Known.{Known}
+use Rattle.model.specs.WindowClause.{GivesBack, GivesNoMore}
 use Rattle.receiving.specs.State.{State, is_live, Move, tape_of, state_of}
 use Rattle.receiving.specs.State.Move.{Takes, Breaks, Hears, Settles, Gives, Sends, Acts}
 
@@ -117,3 +119,8 @@ pub record IsPaid (t : List Entry) (s : State) : Type 0 where
   pub settled : s.count ≡ 0
   pub shared : s.debt ≡ 0
   pub own : (stream : ℕ) → is_active stream t ≡ true → is_ended_by_client stream t ≡ false → (s.row stream).debt ≡ 0
+
+-- What was to be shown: each window is as at first, but for what is kept, and no more was given back than came.
+pub record KeepRooms (known : Known) (t : List Entry) : Type 0 where
+  pub gives_back : GivesBack known t
+  pub no_more : GivesNoMore t

@@ -15,10 +15,16 @@ use Rattle.receiving.specs.Policy.{MayHear, MayDo}
 abbrev pub is_over_by : Sight → Sight → ℕ → Bool
 is_over_by before behind id = before.active id && not (behind.active id)
 
+-- Nothing is owed: the last frame's effect is over, and all is given back that goes back.
+pub record OwesNothing (sight : Sight) (s : State) : Type 0 where
+  pub settled : s.count ≡ 0
+  pub shared : s.debt ≡ 0
+  pub own : (stream : ℕ) → sight.active stream ≡ true → sight.ended stream ≡ false → (s.row stream).debt ≡ 0
+
 -- A frame of the client, before which the effect of the last is over and the connection goes on: whether it opens its stream, which is active then, and
 -- whether that is over with it, is what is read.
 pub record TakesFrame (before behind : Sight) (s : State) (noted : Noted) (opens over : Bool) : Type 0 where
-  pub settled : s.count ≡ 0
+  pub nothing : OwesNothing before s
   pub goes_on : before.ends ≡ false
   pub opens_it : opens ≡ (not (before.opened noted.frame.id) && behind.opened noted.frame.id)
   pub lives : opens ≡ true → behind.active noted.frame.id ≡ true
@@ -39,21 +45,15 @@ pub record SendsOther (before behind : Sight) (noted : Noted) (over : Bool) : Ty
   pub kind : (noted.frame.kind == window_update_kind) ≡ false
   pub over_with_it : over ≡ is_over_by before behind noted.frame.id
 
--- The move may come.
+-- The move may come; something comes in only where nothing is owed.
 abbrev pub MayCome : Passing → Sight → Sight → State → Move → Type 0
 MayCome passing before behind s (Takes noted opens over) = TakesFrame before behind s noted opens over
-MayCome passing before behind s (Breaks breach) = s.count ≡ 0
-MayCome passing before behind s (Hears event) = MayHear s event
+MayCome passing before behind s (Breaks breach) = OwesNothing before s
+MayCome passing before behind s (Hears event) = OwesNothing before s × MayHear s event
 MayCome passing before behind s Settles = Unit {0}
 MayCome passing before behind s (Gives noted) = GivesAll before s noted.frame
 MayCome passing before behind s (Sends noted over) = SendsOther before behind noted over
 MayCome passing before behind s (Acts act) = MayDo passing s act
-
--- Nothing is owed: the last frame's effect is over, and all is given back that goes back.
-pub record OwesNothing (sight : Sight) (s : State) : Type 0 where
-  pub settled : s.count ≡ 0
-  pub shared : s.debt ≡ 0
-  pub own : (stream : ℕ) → sight.active stream ≡ true → sight.ended stream ≡ false → (s.row stream).debt ≡ 0
 
 -- ---- runs
 

@@ -14,12 +14,13 @@ ghost use Rattle.model.specs.Openings.{Opened, exchange_on, opens, AreNumbered};
 ghost use Rattle.model.specs.Windows.{first_window};
 ghost use Rattle.model.specs.WindowsOnTape.{room_on, room_on_connection};
 ghost use Rattle.model.specs.Known.{Known};
+ghost use Rattle.model.specs.Headline.{HoldsInTurn};
 ghost use Rattle.model.specs.Admission.{is_admitted, room};
 ghost use Rattle.model.specs.Rooms.{IsAdmitted};
 ghost use Rattle.model.specs.Lifetimes.{is_active};
 ghost use Rattle.model.specs.WindowClause.{GivesBack, GivesNoMore, waiting};
 ghost use Rattle.receiving.specs.State.{Move, tape_of, state_of, held, fresh_of, with_taken, add};
-ghost use Rattle.receiving.specs.Policy.{AreAllowed, IsPaid, admits, room_in};
+ghost use Rattle.receiving.specs.Policy.{AreAllowed, IsPaid, KeepRooms, admits, room_in};
 ghost use Rattle.receiving.specs.Rule.{Seen, moves_of, sight_of, AllMayCome, AreRight, OwesNothing};
 ghost use Rattle.receiving.specs.Rooms.{HoldsBody, AreHeld, admits_beside};
 ghost use Rattle.offering.specs.Outbox.{Outbox};
@@ -35,10 +36,12 @@ pub fn windows_go_back()
 {}
 
 /// Moves that are allowed by the states alone, where what is read of other concerns is right, are allowed by their tape; and where
-/// nothing is owed each receiving window is as at first, but for what is kept.
+/// nothing is owed each receiving window is as at first, but for what is kept. Something comes in only there: so it holds before each thing
+/// that comes in.
 pub fn states_give_back()
     ensures allowed { (known : Known) (passing : Passing) (run : List Seen) → AllMayCome passing run → AreRight known run → AreAllowed passing (moves_of run) }
     ensures at_rest { (known : Known) (run : List Seen) → AllMayCome known.setup.passing run → AreRight known run → OwesNothing (sight_of run) (state_of known.setup.passing (moves_of run)) → GivesBack known (tape_of (moves_of run)) }
+    ensures in_turn { (known : Known) (run : List Seen) → AllMayCome known.setup.passing run → AreRight known run → HoldsInTurn (KeepRooms known) (tape_of (moves_of run)) }
 {}
 
 /// The octets of a stream that wait on a tape are those behind marks that aren't reached.

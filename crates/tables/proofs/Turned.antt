@@ -15,11 +15,11 @@ use Rattle.model.specs.Synchrony.{AreFair}
 use Rattle.model.specs.Turns.{IsNextTurn}
 use Rattle.offering.specs.State.{Move, entry_of, ready, state_of}
 use Rattle.offering.specs.State.Move.{Takes, Breaks, Notes, Hears, Fails, Goes, Sends, Acts}
-use Rattle.offering.specs.Policy.{Neighbours, AreAllowed, Brings, BringsNone}
+use Rattle.offering.specs.Policy.{Neighbours, windows_on, AreAllowed, Brings, BringsNone}
 use Rattle.offering.proofs.Flushing.{listed, run_holds}
 use Rattle.conduct.specs.After.{begun_after}
 use Rattle.conduct.specs.Judging.{completed_in}
-use Rattle.tables.specs.Turns.{begins_part, last_turn, HasTurn, EachInTurn, MayBegin, MayBeginIf, AllBegan}
+use Rattle.tables.specs.Turns.{begins_part, last_turn, HasTurn, EachInTurn, MayBegin, MayBeginIf, EachBegan}
 use Rattle.tables.proofs.Fairness.{fair}
 
 -- Outside a block the last turn is the one that is kept, and inside it is that of its stream.
@@ -183,17 +183,17 @@ outside noted (Some block) together begins = absurd (by (noted.frame.kind == con
     by true e = let clash : true ≡ false = sym begins ∙ no_part noted.frame e in cc
     by false e = let clash : true ≡ false = ap (λ c. not (c && noted.frame.id == block.id)) (sym e) ∙ together in cc
 
-turn_had : (known : Known) (ms : List Move) (noted : Noted) → AreAllowed known ms → Neighbours known (map entry_of ms) → AreTogether (sent (Sent noted ∷ map entry_of ms)) → MayBeginIf (state_of ms) (Sent noted) → begins_part noted.frame ≡ true → HasTurn known (map entry_of ms) noted.frame.id
+turn_had : (known : Known) (ms : List Move) (noted : Noted) → AreAllowed known ms → Neighbours known (map entry_of ms) → AreTogether (sent (Sent noted ∷ map entry_of ms)) → MayBeginIf (windows_on (map entry_of ms)) (state_of ms) (Sent noted) → begins_part noted.frame ≡ true → HasTurn known (map entry_of ms) noted.frame.id
 turn_had known ms noted a n g may begins =
     let t : List Entry = map entry_of ms in
-    let m : MayBegin (state_of ms) noted.frame.id = may begins in
+    let m : MayBegin (windows_on t) (state_of ms) noted.frame.id = may begins in
     let same : (state_of ms).last ≡ last_turn t = (moves_follow known ms a g.1).at_rest (outside noted (begun (sent t)) g.0 begins) in record {
-      ready = ready (state_of ms);
-      turn = subst (λ last. IsNextTurn last (ready (state_of ms)) (Some noted.frame.id)) same m.turn;
+      ready = ready (windows_on t) (state_of ms);
+      turn = subst (λ last. IsNextTurn last (ready (windows_on t) (state_of ms)) (Some noted.frame.id)) same m.turn;
       listed = listed known t (state_of ms) n (run_holds known ms a) m.none_cut;
     }
 
-pub each_in_turn : (known : Known) (ms : List Move) → AreAllowed known ms → AreTogether (sent (map entry_of ms)) → AllBegan ms → EachInTurn known (map entry_of ms)
+pub each_in_turn : (known : Known) (ms : List Move) → AreAllowed known ms → AreTogether (sent (map entry_of ms)) → EachBegan ms → EachInTurn known (map entry_of ms)
 each_in_turn known [] a g b = tt
 each_in_turn known (Takes noted change ∷ ms) a g b = each_in_turn known ms a.0 g b.0
 each_in_turn known (Breaks breach ∷ ms) a g b = each_in_turn known ms a.0 g b.0
@@ -205,5 +205,5 @@ each_in_turn known (Goes noted item part over ∷ ms) a g b = (turn_had known ms
 each_in_turn known (Sends noted ∷ ms) a g b = (turn_had known ms noted a.0 a.1 g b.1, each_in_turn known ms a.0 g.1 b.0)
 
 -- So turns are fair.
-pub turns_fair : (known : Known) (ms : List Move) → AreAllowed known ms → AreTogether (sent (map entry_of ms)) → AllBegan ms → AreFair known (map entry_of ms)
+pub turns_fair : (known : Known) (ms : List Move) → AreAllowed known ms → AreTogether (sent (map entry_of ms)) → EachBegan ms → AreFair known (map entry_of ms)
 turns_fair known ms a g b = fair known (map entry_of ms) (each_in_turn known ms a g b)

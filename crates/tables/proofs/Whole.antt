@@ -1,6 +1,6 @@
 -- A run by the rules of conduct, of what is on offer and of the tables at once: a GET that no route takes is answered with 404,
 -- which inserts a field, and the connection is in step behind it.
-use Rattle.std.proofs.Common.{◌≡◌, ℕ, zero, suc, ◌<◌, ◌≤◌, ◌==◌, ◌&&◌, Bool, true, false, if◌then◌else◌, List, [], ◌∷◌, ◌++◌, map, length, Some, None, Option, refl, ap, sym, ◌∙◌, subst, inl, inr, arith, pos, get_or}
+use Rattle.std.proofs.Common.{◌≡◌, ℕ, zero, suc, ◌<◌, ◌≤◌, ◌==◌, ◌&&◌, Bool, true, false, if◌then◌else◌, List, [], ◌∷◌, ◌++◌, map, length, Some, None, Option, refl, ap, sym, ◌∙◌, subst, inl, inr, arith, get_or}
 use Rattle.std.specs.Prelude.{codes, slice_index}
 use Rattle.model.specs.Messages.{Field}
 use Rattle.model.specs.Messages.Item.{Block}
@@ -31,7 +31,7 @@ use Rattle.tables.specs.State.{Move, tape_of}
 use Rattle.tables.specs.State.Move.{Takes, Sends}
 use Rattle.tables.specs.Rule.{AllFit}
 use Rattle.tables.specs.Kept.{AllJudged}
-use Rattle.tables.specs.Turns.{AllBegan}
+use Rattle.tables.specs.Turns.{EachBegan}
 use Rattle.tables.proofs.Searching.{absent, absent_below}
 use Rattle.tables.proofs.Requests.{frame, completes, settled, request, decoded, request_read}
 use Rattle.tables.proofs.Synced.{in_step_by}
@@ -83,7 +83,7 @@ moves =
 
 -- a frame that changes nothing of what is on offer
 abbrev no_change : Change
-no_change = record { opens = false; over = false; caused = None; shared = pos 65535; owns = λ id. pos 65535 }
+no_change = record { opens = false; over = false; caused = None }
 
 -- the same moves, as what is on offer has them: settings, and their acknowledgement
 abbrev greeted : List Offer
@@ -91,7 +91,7 @@ greeted = Gives (plain settings_ack) ∷ Hears (plain (frame settings_kind 0 0 [
 
 -- the request, which no route takes
 abbrev asked : List Offer
-asked = Hears asks (record { opens = true; over = false; caused = Some NoRoute; shared = pos 65535; owns = λ id. pos 65535 }) ∷ greeted
+asked = Hears asks (record { opens = true; over = false; caused = Some NoRoute }) ∷ greeted
 
 -- and its answer
 abbrev offers : List Offer
@@ -212,7 +212,7 @@ allowed = (
       (
         (tt, no_neighbours [] refl, record { no_block = refl; no_data = refl }),
         no_neighbours (map offered (Gives (plain settings_frame) ∷ [])) refl,
-        record { opened = refl; caused = λ active. record { cause = refl; out = refl; heads = refl }; shared = refl; owns = λ stream a. let clash : false ≡ true = a in cc },
+        record { opened = refl; caused = λ active. record { cause = refl; out = refl; heads = refl } },
       ),
       no_neighbours (map offered (Hears (plain (frame settings_kind 0 0 [])) no_change ∷ Gives (plain settings_frame) ∷ [])) refl,
       record { no_block = refl; no_data = refl },
@@ -221,19 +221,16 @@ allowed = (
     record {
       opened = (record { not_kept = refl; unsent = refl; not_given = λ o g. g.is_opened; no_cause = refl }, refl, refl);
       caused = λ active. record { no_cause = refl; now = refl };
-      shared = refl;
-      owns = λ stream a. refl;
     },
   ),
   no_neighbours (map offered asked) refl,
   (
     record {
-      kept = record { id = 1; box = replied NoRoute; own = pos 65535; cut = false };
+      kept = record { id = 1; box = replied NoRoute; cut = false };
       found = refl;
       not_cut = refl;
       next = (refl, (refl, refl));
       is = (refl, record { digits = codes "404"; is = refl; three = refl; are_digits = refl; status = refl; no_other = refl }, omega arith);
-      low = omega arith;
       turn = inl (record { is_ready = (0, omega arith, refl); above = omega arith; least = least });
       own = λ is_data. let clash : 1 ≡ 0 = is_data in absurd (omega (arith, clash));
       shared = λ is_data. let clash : 1 ≡ 0 = is_data in absurd (omega (arith, clash));
@@ -242,7 +239,7 @@ allowed = (
   ),
 )
 
-began : AllBegan offers
+began : EachBegan offers
 unfolding total_size
 began = (
   (
@@ -257,7 +254,7 @@ began = (
     by false one kept whole is = let clash : ◌≡◌ {A = Option Kept} None (Some kept) = is in cc
 
     none_cut : (stream : ℕ) (kept : Kept) → find stream (offer_of asked).kept ≡ Some kept → kept.cut ≡ false
-    none_cut stream kept is = by (1 == stream) (record { id = 1; box = replied NoRoute; own = pos 65535; cut = false }) kept refl is
+    none_cut stream kept is = by (1 == stream) (record { id = 1; box = replied NoRoute; cut = false }) kept refl is
 
 -- ---- so the connection is in step
 

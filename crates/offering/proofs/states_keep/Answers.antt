@@ -6,3 +6,6 @@ returns-clause-allowed c known run may right told = (allowing.placed known run m
 
 pub returns-clause-keeps : goal.returns-clause-keeps
 returns-clause-keeps c = allowing.run_keeps
+
+pub returns-clause-in_turn : goal.returns-clause-in_turn
+returns-clause-in_turn c = allowing.keeps_in_turn

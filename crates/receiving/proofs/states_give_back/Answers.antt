@@ -6,3 +6,6 @@ returns-clause-allowed c = ruling.all_allowed
 
 pub returns-clause-at_rest : goal.returns-clause-at_rest
 returns-clause-at_rest c = ruling.run_gives_back
+
+pub returns-clause-in_turn : goal.returns-clause-in_turn
+returns-clause-in_turn c = ruling.rooms_in_turn

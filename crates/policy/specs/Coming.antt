@@ -1,0 +1,42 @@
+-- What is left to show of a move that brings something in, where the gateway rests and its connection goes on.
+use Rattle.std.specs.Prelude.{◌≡◌, Bool, true, false}
+use Rattle.model.specs.Setup.{Setup}
+use Rattle.model.specs.Tables.{Table}
+use Rattle.model.specs.Tapes.{Noted}
+use Rattle.model.specs.Tapes.Entry.{Came}
+use Rattle.conduct.specs.Summary.{Summary}
+use Rattle.conduct.specs.Owing.{must_end_in}
+use Rattle.conduct.specs.Book as conduct
+use Rattle.serving.specs.State as serving
+use Rattle.serving.specs.Rule.{MayBegin, MayAdd, MayDrop}
+use Rattle.serving.specs.State.Way.{Waiting, Going}
+use Rattle.tables.specs.Rule as tables
+use Rattle.tables.specs.Verdicts.{verdict_in}
+use Rattle.policy.specs.Moves.{Gain, told_in}
+use Rattle.policy.specs.Moves.Gain.{Nothing, Begins, Gathers, Passes, Drops}
+use Rattle.policy.specs.State.{State}
+use Rattle.policy.specs.Rule.{Gains, Rests}
+use Rattle.policy.specs.Steps.{told_by}
+
+-- Something may come in: the gateway rests, and neither closed the client nor is to.
+pub record IsReady (s : State) : Type 0 where
+  pub rests : Rests (told_by s) s
+  pub open_yet : s.desk.book.closed ≡ false
+  pub goes_on : must_end_in (told_by s) ≡ false
+
+-- What a frame gains is so, and what was written for it is right.
+abbrev pub IsGained : Setup → Summary → State → Noted → Gain → Type 0
+IsGained setup behind s noted Nothing = Gains setup (told_by s) noted Nothing
+IsGained setup behind s noted (Begins head ended route text stage) =
+    Gains setup (told_by s) noted (Begins head ended route text stage) × MayBegin setup (told_in behind) noted head ended route text stage
+IsGained setup behind s noted (Gathers item route text old written stage) =
+    Gains setup (told_by s) noted (Gathers item route text old written stage) × MayAdd (told_in behind) s.requests noted (Waiting route text old) item old written stage
+IsGained setup behind s noted (Passes item k old written stage) =
+    Gains setup (told_by s) noted (Passes item k old written stage) × MayAdd (told_in behind) s.requests noted (Going k old) item old written stage
+IsGained setup behind s noted (Drops item) = Gains setup (told_by s) noted (Drops item) × MayDrop (told_in behind) s.requests noted
+
+-- A frame may come: its note is that of its header block, and what it gains is so.
+pub record MayTake (setup : Setup) (behind : Summary) (s : State) (noted : Noted) (next : Table) (gain : Gain) : Type 0 where
+  pub fit : conduct.IsFit false (told_by s) (Came noted)
+  pub noted_right : tables.IsTaken s.tables noted (verdict_in (told_by s) noted.frame) next
+  pub gained : IsGained setup behind s noted gain

@@ -212,9 +212,8 @@ pub fn section_of(alloc: Global, head: ResponseHead) -> Result<Vec<Field>, Alloc
         48 + (status / 10 % 10) as u8,
         48 + (status % 10) as u8,
     ];
-    let name = Vec::from_slice(alloc, b":status")?;
-    let value = Vec::from_slice(alloc, &digits)?;
+    let status = Field::of(alloc, b":status", &digits)?;
     let mut fields = head.into_fields();
-    fields.insert(0, Field::new(name, value))?;
+    fields.insert(0, status)?;
     Ok(fields)
 }

@@ -33,9 +33,9 @@ fn field_at(alloc: Global, text: &[u8], line: HeaderSpan) -> Result<Field, Alloc
     requires { IsHeaderWithin (length text.now) line }
     ensures { IfOk result (λ field. field ≡ field_from text.now line) }
 {
-    let name = octets::lowered(alloc, line.name.of(text))?;
-    let value = Vec::from_slice(alloc, line.value.of(text))?;
-    Ok(Field::new(name, value))
+    let value = line.value.of(text);
+    let name = octets::lowered(alloc, line.name.of(text), value.len())?;
+    Field::new(name, value)
 }
 
 /// The fields of lines.

@@ -20,11 +20,12 @@ fn lower_octet(octet: u8) -> u8
     }
 }
 
-/// The text in lower case.
-pub fn lowered(alloc: Global, text: &[u8]) -> Result<Vec<u8>, AllocError>
+/// The text in lower case, with room for so many octets behind it.
+pub fn lowered(alloc: Global, text: &[u8], room: usize) -> Result<Vec<u8>, AllocError>
     ensures { IfOk result (λ low. low.items ≡ lower text.now) }
 {
-    let mut low = Vec::from_slice(alloc, text)?;
+    let mut low = Vec::with_capacity(alloc, text.len().saturating_add(room))?;
+    low.extend_from_slice(text)?;
     low.make_ascii_lowercase();
     Ok(low)
 }

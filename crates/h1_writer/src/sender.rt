@@ -43,6 +43,9 @@ impl Model for Sender {
     ghost view = { λ sender. stage_of sender.waiting };
 }
 
+/// Room for most heads, in octets.
+const ROOM: usize = 1024;
+
 /// Adds the head (RFC 9112, section 2.1).
 fn push_head(head: &RequestHead, ended: bool, out: &mut Vec<u8>) -> Result<(), AllocError>
     ensures { OnOk result (out.new.items ≡ out.old.items ++ head_of head.now ended) }
@@ -122,7 +125,7 @@ impl Sender {
         ensures goes_on { IfOk result (λ sender. ended ≡ false → sender ≡ Whole → ⊥) }
         ensures refused { OnErr result (out.new.items ≡ out.old.items) }
     {
-        let mut text = Vec::new(*out.allocator());
+        let mut text = Vec::with_capacity(*out.allocator(), ROOM)?;
         push_head(head, ended, &mut text)?;
         let waiting = begin(head.length(), ended, &mut text);
         out.extend_from_slice(&text)?;

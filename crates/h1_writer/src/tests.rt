@@ -15,9 +15,7 @@ fn head_of(
 ) -> Result<RequestHead, AllocError> {
     let mut fields = Vec::new(alloc);
     for line in lines {
-        let name = Vec::from_slice(alloc, line.0)?;
-        let value = Vec::from_slice(alloc, line.1)?;
-        fields.push(Field::new(name, value))?;
+        fields.push(Field::of(alloc, line.0, line.1)?)?;
     }
     Ok(check_head(alloc, &fields, ended).expect(rt, "a head"))
 }

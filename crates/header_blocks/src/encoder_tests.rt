@@ -13,10 +13,7 @@ fn field(alloc: Global, name: &[u8], value: &[u8]) -> Result<Field, Fail>
     if name.len() > 65536 || value.len() > 65536 {
         return Err(Fail::from("too long"));
     }
-    Ok(Field::new(
-        Vec::from_slice(alloc, name)?,
-        Vec::from_slice(alloc, value)?,
-    ))
+    Ok(Field::of(alloc, name, value)?)
 }
 
 /// The fields of these names and values.

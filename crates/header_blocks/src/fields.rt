@@ -57,7 +57,8 @@ fn take_literal(
     let (name, name_length) = take_name(alloc, table, index, &octets[start..])?;
     let value_start = start + name_length;
     let (value, value_length) = take_string(alloc, &octets[value_start..])?;
-    Ok((Field::new(name, value), value_start + value_length))
+    let field = Field::new(name, &value)?;
+    Ok((field, value_start + value_length))
 }
 
 /// The indexed field at the front of octets (RFC 7541, section 6.1).
@@ -72,10 +73,7 @@ fn take_indexed(alloc: Global, table: &Table, octets: &[u8]) -> Result<Taken, De
     let Some((name, value)) = table.get(index) else {
         return Err(DecodeFault::Index);
     };
-    let field = Field::new(
-        Vec::from_slice(alloc, name)?,
-        Vec::from_slice(alloc, value)?,
-    );
+    let field = Field::of(alloc, name, value)?;
     Ok(Taken {
         field,
         used,

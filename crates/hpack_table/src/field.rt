@@ -6,42 +6,60 @@ ghost use Rattle.model.specs.Tables.{field_size};
 use std::alloc::{AllocError, Global};
 use std::marker::Model;
 
-/// A header field (RFC 9110, section 5): a name and a value, each of any octets.
+/// A header field (RFC 9110, section 5): a name and a value, each of any octets, in one piece of memory.
 #[derive(Drop)]
 pub struct Field {
-    name: Vec<u8>,
-    value: Vec<u8>,
+    /// The name, and the value behind it.
+    text: Vec<u8>,
+    /// Where the value begins.
+    split: usize,
 }
 
 impl Model for Field {
+    ghost use Rattle.std.specs.Prelude.{◌≤◌, length, take, drop};
     ghost use Rattle.model.specs.Messages.{Field as Meaning};
 
     ghost Value = { Meaning };
 
-    ghost view = { λ field. record { name = field.name.items; value = field.value.items } };
+    ghost view = { λ field. record { name = take field.split field.text.items; value = drop field.split field.text.items } };
+
+    ghost invariant = { λ field. field.split ≤ length field.text.items };
 }
 
 impl Field {
-    /// The field of this name and this value.
-    pub fn new(name: Vec<u8>, value: Vec<u8>) -> Self
-        ensures name { result.name ≡ name.items }
-        ensures value { result.value ≡ value.items }
+    /// The field of this name and this value. It takes no more memory where the name has room for the value behind it.
+    pub fn new(name: Vec<u8>, value: &[u8]) -> Result<Field, AllocError>
+        ensures name { IfOk result (λ field. field.name ≡ name.items) }
+        ensures value { IfOk result (λ field. field.value ≡ value.now) }
     {
-        Field { name, value }
+        let split = name.len();
+        let mut text = name;
+        text.extend_from_slice(value)?;
+        Ok(Field { text, split })
+    }
+
+    /// The field whose name and value have these octets.
+    pub fn of(alloc: Global, name: &[u8], value: &[u8]) -> Result<Field, AllocError>
+        ensures name { IfOk result (λ field. field.name ≡ name.now) }
+        ensures value { IfOk result (λ field. field.value ≡ value.now) }
+    {
+        let mut text = Vec::with_capacity(alloc, name.len().saturating_add(value.len()))?;
+        text.extend_from_slice(name)?;
+        Field::new(text, value)
     }
 
     /// The octets of the name.
     pub fn name(&self) -> &[u8]
         ensures { result.now ≡ self.now.name }
     {
-        &self.name
+        &self.text[..self.split]
     }
 
     /// The octets of the value.
     pub fn value(&self) -> &[u8]
         ensures { result.now ≡ self.now.value }
     {
-        &self.value
+        &self.text[self.split..]
     }
 
     /// A copy of the field.
@@ -49,8 +67,8 @@ impl Field {
         ensures { IfOk result (λ field. field ≡ self.now) }
     {
         Ok(Field {
-            name: Vec::from_slice(alloc, &self.name)?,
-            value: Vec::from_slice(alloc, &self.value)?,
+            text: Vec::from_slice(alloc, &self.text)?,
+            split: self.split,
         })
     }
 
@@ -59,8 +77,6 @@ impl Field {
     pub fn room_behind(&self, room: usize) -> Option<usize>
         ensures { SomeIff result (field_size self.now ≤ room) (room - field_size self.now) }
     {
-        room.checked_sub(self.name.len())?
-            .checked_sub(self.value.len())?
-            .checked_sub(32)
+        room.checked_sub(self.text.len())?.checked_sub(32)
     }
 }

@@ -3,10 +3,7 @@ use std::alloc::{AllocError, Global};
 use std::test::Fail;
 
 fn field(alloc: Global, name: &[u8], value: &[u8]) -> Result<Field, AllocError> {
-    Ok(Field::new(
-        Vec::from_slice(alloc, name)?,
-        Vec::from_slice(alloc, value)?,
-    ))
+    Field::of(alloc, name, value)
 }
 
 /// Whether the table has this entry at the index.
@@ -57,7 +54,7 @@ fn fields_are_found(rt: HostRuntime) -> Result<(), Fail> {
 #[test]
 fn fields_are_copied(rt: HostRuntime) -> Result<(), Fail> {
     let alloc = rt.alloc();
-    let original = field(alloc, b"x-a", b"1")?;
+    let original = Field::new(Vec::from_slice(alloc, b"x-a")?, b"1")?;
     let copy = original.copy(alloc)?;
     assert_eq!(rt; copy.name(), b"x-a".as_slice());
     assert_eq!(rt; copy.value(), b"1".as_slice());

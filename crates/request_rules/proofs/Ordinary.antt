@@ -186,17 +186,37 @@ keeps_behind : (front rest : List Field) (ended : Bool) → AllOrdinary rest →
 keeps_behind front rest ended p (pseudo, (names, (values, (connection, (te, (method, (scheme, (path, (authority, (length_field, (declared, t))))))))))) =
     let a = all_alone front rest p in (
       pseudo_hold front rest p a pseudo,
-      (names_hold front rest p names,
-      (values_hold front rest p values,
-      (connection_hold front rest p connection,
-      (ap (list_all (λ value. bytes_eq value (codes "trailers"))) a.te ∙ te,
-      (ap (λ (vs : List (List ℕ)). some_of is_token_octet (first_of vs)) a.method ∙ method,
-      (ap (list_all (λ scheme. bytes_eq scheme (codes "http") || bytes_eq scheme (codes "https"))) a.scheme ∙ scheme,
-      (path_hold front rest a path,
-      (authority_hold front rest a authority,
-      (length_hold front rest a length_field,
-      ((λ e. subst (λ (vs : List (List ℕ)). HasLength (promised vs) []) (sym a.length) (declared e)),
-      t))))))))))
+      (
+        names_hold front rest p names,
+        (
+          values_hold front rest p values,
+          (
+            connection_hold front rest p connection,
+            (
+              ap (list_all (λ value. bytes_eq value (codes "trailers"))) a.te ∙ te,
+              (
+                ap (λ (vs : List (List ℕ)). some_of is_token_octet (first_of vs)) a.method ∙ method,
+                (
+                  ap (list_all (λ scheme. bytes_eq scheme (codes "http") || bytes_eq scheme (codes "https"))) a.scheme ∙ scheme,
+                  (
+                    path_hold front rest a path,
+                    (
+                      authority_hold front rest a authority,
+                      (
+                        length_hold front rest a length_field,
+                        (
+                          (λ e. subst (λ (vs : List (List ℕ)). HasLength (promised vs) []) (sym a.length) (declared e)),
+                          t,
+                        ),
+                      ),
+                    ),
+                  ),
+                ),
+              ),
+            ),
+          ),
+        ),
+      ),
     )
 
 pub keeps_all : (front head : List Field) (ended : Bool) → EndsOrdinary front head → Keeps (take 11 in_order) front ended → Keeps (take 11 in_order) head ended

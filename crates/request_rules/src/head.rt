@@ -119,7 +119,7 @@ fn is_empty(text: &[u8]) -> bool
 fn is_full_cookie(field: &Field) -> bool
     ensures { result ≡ is_full_cookie field.now }
 {
-    is_sent(field) && fields::is_named(field, b"cookie")
+    fields::is_named(field, b"cookie") && is_sent(field)
 }
 
 /// Whether the field goes on as it is.
@@ -178,7 +178,8 @@ fn sent_fields(alloc: Global, head: &[Field]) -> Result<Vec<Field>, AllocError>
     push_plain(alloc, front, &mut fields)?;
     if let [first, others @ ..] = rest {
         let joined = joined_cookies(alloc, first.value(), others)?;
-        fields.push(Field::new(Vec::from_slice(alloc, b"cookie")?, joined))?;
+        let cookie = Field::of(alloc, b"cookie", &joined)?;
+        fields.push(cookie)?;
         push_plain(alloc, others, &mut fields)?;
     }
     Ok(fields)

@@ -38,6 +38,9 @@ fn is_token_octet(octet: u8) -> bool
 fn is_name_octet(octet: u8) -> bool
     ensures { result ≡ is_name_octet octet }
 {
+    if matches!(octet, b'a'..=b'z') {
+        return true;
+    }
     is_token_octet(octet) && !matches!(octet, b'A'..=b'Z')
 }
 

@@ -13,9 +13,7 @@ pub(crate) const HEAD: [Line; 4] = [METHOD, SCHEME, PATH, AUTHORITY];
 pub(crate) type Row = (&'static [Line], bool, Option<Rule>);
 
 pub(crate) fn field(alloc: Global, name: &[u8], value: &[u8]) -> Result<Field, AllocError> {
-    let name = Vec::from_slice(alloc, name)?;
-    let value = Vec::from_slice(alloc, value)?;
-    Ok(Field::new(name, value))
+    Field::of(alloc, name, value)
 }
 
 fn told_of(alloc: Global, fields: &[Field], ended: bool) -> Option<Rule> {

@@ -6,9 +6,7 @@ use std::test::*;
 pub(crate) type Line = (&'static [u8], &'static [u8]);
 
 fn field(alloc: Global, line: Line) -> Result<Field, AllocError> {
-    let name = Vec::from_slice(alloc, line.0)?;
-    let value = Vec::from_slice(alloc, line.1)?;
-    Ok(Field::new(name, value))
+    Field::of(alloc, line.0, line.1)
 }
 
 pub(crate) fn head(alloc: Global, lines: &[Line]) -> Result<Vec<Field>, AllocError> {

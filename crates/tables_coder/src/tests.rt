@@ -34,10 +34,7 @@ fn status(alloc: Global) -> Result<Vec<Field>, Fail>
     ensures { IfOk result (λ fields. All HasShortStrings fields.items) }
 {
     let mut fields = Vec::new(alloc);
-    fields.push(Field::new(
-        Vec::from_slice(alloc, b":status")?,
-        Vec::from_slice(alloc, b"200")?,
-    ))?;
+    fields.push(Field::of(alloc, b":status", b"200")?)?;
     Ok(fields)
 }
 

@@ -76,9 +76,7 @@ fn fields_of(alloc: Global, number: usize, count: usize) -> Result<Vec<Field>, F
     let mut rest = number;
     for _ in 0..count {
         let (name, value) = lines[rest % 10];
-        let name = Vec::from_slice(alloc, name)?;
-        let value = Vec::from_slice(alloc, value)?;
-        fields.push(Field::new(name, value))?;
+        fields.push(Field::of(alloc, name, value)?)?;
         rest = rest / 10;
     }
     Ok(fields)
@@ -110,7 +108,7 @@ fn octets_in_lower_case(rt: HostRuntime) -> Result<(), Fail> {
     for octet in 0..=255u8 {
         text.push(octet)?;
     }
-    let low = octets::lowered(alloc, &text)?;
+    let low = octets::lowered(alloc, &text, 0)?;
     assert_eq!(&rt; low.len(), text.len());
     for (one, other) in low.iter().zip(text.iter()) {
         assert_eq!(&rt; *one, plain_lower(*other));

@@ -1,5 +1,5 @@
 use Rattle.std.proofs.lemmas.Result.{err_from_is_err_and}
-use Rattle.std.proofs.Common.{◌+◌, ◌-◌, length, take, drop}
+use Rattle.std.proofs.Common.{◌+◌, ◌-◌, ◌∙◌, length, take, drop}
 use Rattle.header_blocks.specs.Faults.{IsNameFault, IsStringFault, IsLiteralFault}
 use Rattle.header_blocks.proofs.Faulted.{unless_then, literal_int, literal_name, literal_value}
 use Rattle.header_blocks.proofs.Refused.{if_err, unless, unless_weaker, no_index, no_literal_name, no_literal_value}
@@ -8,8 +8,8 @@ use Rattle.header_blocks.proofs.fields.take_literal.Goals as goal
 
 pub returns-clause-taken : goal.returns-clause-taken
 returns-clause-taken c =
-    taken_literal c.args.table.now c.args.prefix c.args.octets.now c.in_ok-index.index c.in_ok-index.start c.in_ok-name.name.items c.in_ok-name.name_length c.in_ok-value.value.items c.in_ok-value.value_length c.new.result
-    c.in_ok-index.ensures.taken c.in_ok-name.ensures.taken c.in_ok-value.ensures.taken c.new.ensures.name c.new.ensures.value
+    taken_literal c.args.table.now c.args.prefix c.args.octets.now c.in_ok-index.index c.in_ok-index.start c.in_ok-name.name.items c.in_ok-name.name_length c.in_ok-value.value.items c.in_ok-value.value_length c.in_ok-field.field
+    c.in_ok-index.ensures.taken c.in_ok-name.ensures.taken c.in_ok-value.ensures.taken c.in_ok-field.ensures.name (c.in_ok-field.ensures.value ∙ c.deref.ensures.value)
 
 pub returns-in_err-index-clause-none : goal.returns-in_err-index-clause-none
 returns-in_err-index-clause-none c = if_err c.from_residual.result _ (no_index c.args.table.now c.args.prefix c.args.octets.now c.in_err-index.ensures.none)

@@ -1,0 +1,3 @@
+pub mod TablesLemmas
+pub mod RoutesLemmas
+pub mod ConfigsLemmas

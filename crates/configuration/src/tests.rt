@@ -1,0 +1,158 @@
+use super::*;
+use gateway::{Config, Passing, Policy};
+use std::alloc::Global;
+use std::process::Abort;
+use std::test::*;
+
+/// The keys of a route that are right.
+const ROUTE: &str = "[[route]]\nprefix = \"/\"\nupstream = \"127.0.0.1:80\"\n";
+
+/// The text is refused for this reason.
+fn assert_refuses(rt: &impl Abort, alloc: Global, text: &str, fault: ConfigFault) {
+    match read_config(alloc, text) {
+        Ok(_) => panic!(rt; "taken"),
+        Err(found) => assert_eq!(rt; found, fault),
+    }
+}
+
+/// The text is refused for a wrong value of this key.
+fn assert_bad(rt: &impl Abort, alloc: Global, text: &str, key: Key) {
+    assert_refuses(rt, alloc, text, ConfigFault::Bad(key));
+}
+
+fn taken(rt: &impl Abort, alloc: Global, text: &str) -> Config {
+    match read_config(alloc, text) {
+        Ok(config) => config,
+        Err(_) => panic!(rt; "refused"),
+    }
+}
+
+#[test]
+fn defaults(rt: HostRuntime) -> Result<(), Fail> {
+    let config = taken(&rt, rt.alloc(), "");
+    assert!(rt; config.routes.is_empty());
+    assert!(rt; matches!(config.policy, Policy::Plain));
+    assert!(rt; matches!(config.passing, Passing::Whole));
+    assert_eq!(rt; config.max_body, 1_048_576);
+    assert_eq!(rt; config.max_response, 1_048_576);
+    Ok(())
+}
+
+#[test]
+fn all_keys(rt: HostRuntime) -> Result<(), Fail> {
+    let text =
+        "policy = \"plain\"\npassing = \"whole\"\nmax_body = 0\nmax_response = 1_073_741_824\n\
+        [[route]]\nauthority = \"a.example\"\nprefix = \"/a\"\nupstream = \"127.0.0.1:8080\"\n\
+        [[route]]\nprefix = \"/\"\nupstream = \"[::1]:80\"\n";
+    let config = taken(&rt, rt.alloc(), text);
+    assert_eq!(rt; config.max_body, 0);
+    assert_eq!(rt; config.max_response, 1_073_741_824);
+    assert_eq!(rt; config.routes.len(), 2);
+    assert_eq!(rt;
+        config.routes[0].authority.as_slice(),
+        b"a.example".as_slice()
+    );
+    assert_eq!(rt; config.routes[0].prefix.as_slice(), b"/a".as_slice());
+    assert_eq!(rt; config.routes[0].upstream.as_str(), "127.0.0.1:8080");
+    assert!(rt; config.routes[1].authority.is_empty());
+    assert_eq!(rt; config.routes[1].prefix.as_slice(), b"/".as_slice());
+    assert_eq!(rt; config.routes[1].upstream.as_str(), "[::1]:80");
+    Ok(())
+}
+
+#[test]
+fn wrong_keys(rt: HostRuntime) -> Result<(), Fail> {
+    let alloc = rt.alloc();
+    for text in ["policy = \"x\"", "policy = \"indexing\"", "policy = 1"] {
+        assert_bad(&rt, alloc, text, Key::Policy);
+    }
+    for text in ["passing = \"x\"", "passing = \"streaming\"", "passing = []"] {
+        assert_bad(&rt, alloc, text, Key::Passing);
+    }
+    for text in [
+        "max_body = -1",
+        "max_body = 1_073_741_825",
+        "max_body = 1.0",
+    ] {
+        assert_bad(&rt, alloc, text, Key::MaxBody);
+    }
+    for text in [
+        "max_response = -1",
+        "max_response = 1_073_741_825",
+        "max_response = \"1\"",
+    ] {
+        assert_bad(&rt, alloc, text, Key::MaxResponse);
+    }
+    for text in ["route = 1", "[route]\nprefix = \"/\"", "route = [1]"] {
+        assert_bad(&rt, alloc, text, Key::Route);
+    }
+    Ok(())
+}
+
+#[test]
+fn wrong_keys_of_routes(rt: HostRuntime) -> Result<(), Fail> {
+    let alloc = rt.alloc();
+    assert_bad(&rt, alloc, "[[route]]\nauthority = 1", Key::Authority);
+    for text in [
+        "[[route]]",
+        "[[route]]\nprefix = 1",
+        "[[route]]\nprefix = \"\"",
+        "[[route]]\nprefix = \"a\"",
+    ] {
+        assert_bad(&rt, alloc, text, Key::Prefix);
+    }
+    for text in [
+        "[[route]]\nprefix = \"/\"",
+        "[[route]]\nprefix = \"/\"\nupstream = 80",
+        "[[route]]\nprefix = \"/\"\nupstream = \"127.0.0.1\"",
+        "[[route]]\nprefix = \"/\"\nupstream = \"localhost:80\"",
+        "[[route]]\nprefix = \"/\"\nupstream = \"127.0.0.1:65536\"",
+    ] {
+        assert_bad(&rt, alloc, text, Key::Upstream);
+    }
+    Ok(())
+}
+
+#[test]
+fn the_first_wrong_key(rt: HostRuntime) -> Result<(), Fail> {
+    let alloc = rt.alloc();
+    assert_bad(
+        &rt,
+        alloc,
+        "max_body = -1\npassing = 1\npolicy = 1",
+        Key::Policy,
+    );
+    assert_bad(&rt, alloc, "max_response = -1\nmax_body = -1", Key::MaxBody);
+    assert_bad(&rt, alloc, "colour = 1\nroute = 1", Key::Route);
+    let routes = format!(in alloc;
+        "{ROUTE}[[route]]\nprefix = 1\nauthority = 1\n[[route]]\nauthority = 1"
+    )?;
+    assert_bad(&rt, alloc, &routes, Key::Authority);
+    let later = format!(in alloc; "{ROUTE}colour = 1\n[[route]]\nprefix = \"/\"")?;
+    assert_bad(&rt, alloc, &later, Key::Upstream);
+    Ok(())
+}
+
+#[test]
+fn unknown_keys(rt: HostRuntime) -> Result<(), Fail> {
+    let alloc = rt.alloc();
+    assert_refuses(&rt, alloc, "colour = 1", ConfigFault::UnknownKey);
+    assert_refuses(&rt, alloc, "prefix = \"/\"", ConfigFault::UnknownKey);
+    let routes = format!(in alloc; "{ROUTE}policy = \"plain\"\n")?;
+    assert_refuses(&rt, alloc, &routes, ConfigFault::UnknownKey);
+    Ok(())
+}
+
+#[test]
+fn no_toml(rt: HostRuntime) -> Result<(), Fail> {
+    for text in [
+        "policy",
+        "policy = ",
+        "max_body = 1\nmax_body = 1",
+        "[route",
+        "\u{0}",
+    ] {
+        assert_refuses(&rt, rt.alloc(), text, ConfigFault::NotToml);
+    }
+    Ok(())
+}

@@ -22,9 +22,9 @@ keeps known moves knows all rests = record { errors = errors_hold_by_book known 
 
 -- one entry more
 one_more : (known : Known) (moves : List Move) (e : Entry) → IsInTurn (as_point (desk_of known.setup moves)) e → (Rests (desk_of known.setup moves) → KeepErrors known (tape_of moves)) → HoldsInTurn (KeepErrors known) (tape_of moves) → HoldsInTurn (KeepErrors known) (e ∷ tape_of moves)
-one_more known moves (Came noted) may at before = (inr (at (comes_at_rest (desk_of known.setup moves) may)), before)
-one_more known moves (Breached breach) may at before = (inr (at (comes_at_rest (desk_of known.setup moves) may)), before)
-one_more known moves (Happened event) may at before = (inr (at (comes_at_rest (desk_of known.setup moves) may)), before)
+one_more known moves (Came noted) may at before = (at (comes_at_rest (desk_of known.setup moves) may), before)
+one_more known moves (Breached breach) may at before = (at (comes_at_rest (desk_of known.setup moves) may), before)
+one_more known moves (Happened event) may at before = (at (comes_at_rest (desk_of known.setup moves) may), before)
 one_more known moves (Sent noted) may at before = before
 one_more known moves (Did act) may at before = before
 

@@ -124,9 +124,9 @@ clauses_hold setup servable moves a none =
 -- So they do before each thing that comes in, since nothing comes in where anything is owed.
 clauses_in_turn : (setup : Setup) → IsServable setup → (moves : List Move) → AllAllowed (resting (start setup)) moves → HoldsInTurn (Clauses (known_of setup)) (tape_of moves)
 clauses_in_turn setup servable [] a = tt
-clauses_in_turn setup servable (Takes noted outcome ∷ moves) a = (inr (clauses_hold setup servable moves a.0 a.1.turn.nothing), clauses_in_turn setup servable moves a.0)
-clauses_in_turn setup servable (Breaks breach ∷ moves) a = (inr (clauses_hold setup servable moves a.0 a.1.turn.nothing), clauses_in_turn setup servable moves a.0)
-clauses_in_turn setup servable (Hears event hearing ∷ moves) a = (inr (clauses_hold setup servable moves a.0 a.1.turn.nothing), clauses_in_turn setup servable moves a.0)
+clauses_in_turn setup servable (Takes noted outcome ∷ moves) a = (clauses_hold setup servable moves a.0 a.1.turn.nothing, clauses_in_turn setup servable moves a.0)
+clauses_in_turn setup servable (Breaks breach ∷ moves) a = (clauses_hold setup servable moves a.0 a.1.turn.nothing, clauses_in_turn setup servable moves a.0)
+clauses_in_turn setup servable (Hears event hearing ∷ moves) a = (clauses_hold setup servable moves a.0 a.1.turn.nothing, clauses_in_turn setup servable moves a.0)
 clauses_in_turn setup servable (Sends frame ∷ moves) a = clauses_in_turn setup servable moves a.0
 clauses_in_turn setup servable (SendsHead stream fields ends block next ∷ moves) a = clauses_in_turn setup servable moves a.0
 clauses_in_turn setup servable (Acts act ∷ moves) a = clauses_in_turn setup servable moves a.0

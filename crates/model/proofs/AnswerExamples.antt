@@ -303,7 +303,7 @@ taped = record {
   admitted = record { in_order = refl; fits = λ count room. subst (λ n. length answer ≤ n) (sym room) (omega arith) };
   step_is = record { spelled = (content_fits, (headers_fits, tt)); put_out = refl; event = refl; acts_follow = refl };
   told = told;
-  in_turn = (inr before.clauses, before.in_turn);
+  in_turn = (before.clauses, before.in_turn);
   clauses = record { requests = requests; responses = responses; errors = errors; progress = progress; windows = windows };
 }
 

@@ -1,5 +1,5 @@
 -- Before the first request the clauses hold: behind the gateway's settings, and once the client's are acknowledged.
-use Rattle.std.proofs.Common.{◌≡◌, ℕ, Bool, false, true, ◌==◌, if◌then◌else◌, List, [], ◌∷◌, refl, sym, subst, inl, inr, arith}
+use Rattle.std.proofs.Common.{◌≡◌, ℕ, Bool, false, true, ◌==◌, if◌then◌else◌, List, [], ◌∷◌, refl, sym, subst, inl, arith}
 use Rattle.model.specs.Messages.{Item, Request}
 use Rattle.model.specs.Tables.{total_size, first_table}
 use Rattle.model.specs.Frames.{settings_frame, settings_ack}
@@ -123,4 +123,4 @@ settled_holds = record {
 
 -- so they do before the client's settings, and before its first request
 pub settled_in_turn : HoldsInTurn (ClausesHold known) settled
-settled_in_turn = (inr greeted_holds, tt)
+settled_in_turn = (greeted_holds, tt)

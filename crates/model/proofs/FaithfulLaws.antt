@@ -1,5 +1,5 @@
 -- A faithful log keeps the whole headline, unless the gateway gave the connection up.
-use Rattle.std.proofs.Common.{◌≡◌, ◌||◌, false, List, [], ◌∷◌, ◌++◌, reverse, refl, sym, ◌∙◌, ap, inl, inr}
+use Rattle.std.proofs.Common.{◌≡◌, ◌||◌, false, List, [], ◌∷◌, ◌++◌, reverse, refl, sym, ◌∙◌, ap}
 use Rattle.std.specs.List.{list_any}
 use Rattle.std.proofs.lemmas.Bool.{or_parts}
 use Rattle.std.proofs.lemmas.List.Folds.{list_any-append}
@@ -33,9 +33,9 @@ all_of known t c e = let others = c.others e in record { requests = c.requests; 
 
 in_turn : (known : Known) (t : List Entry) → HoldsInTurn (Clauses known) t → is_given_up t ≡ false → HoldsInTurn (whole.ClausesHold known) t
 in_turn known [] h e = tt
-in_turn known (Came noted ∷ t) h e = (elim h.0 [ inl none ↦ inl none | inr c ↦ inr (all_of known t c e) ], in_turn known t h.1 e)
-in_turn known (Breached breach ∷ t) h e = (elim h.0 [ inl none ↦ inl none | inr c ↦ inr (all_of known t c e) ], in_turn known t h.1 e)
-in_turn known (Happened event ∷ t) h e = (elim h.0 [ inl none ↦ inl none | inr c ↦ inr (all_of known t c e) ], in_turn known t h.1 e)
+in_turn known (Came noted ∷ t) h e = (all_of known t h.0 e, in_turn known t h.1 e)
+in_turn known (Breached breach ∷ t) h e = (all_of known t h.0 e, in_turn known t h.1 e)
+in_turn known (Happened event ∷ t) h e = (all_of known t h.0 e, in_turn known t h.1 e)
 in_turn known (Sent noted ∷ t) h e = in_turn known t h (or_parts (gives_up noted.frame) (is_given_up t) e).1
 in_turn known (Did act ∷ t) h e = in_turn known t h e
 

@@ -176,7 +176,7 @@ pub clauses : ClausesHold known tape
 clauses = record { requests = requests; responses = responses; errors = errors; progress = progress; windows = windows }
 
 pub in_turn : HoldsInTurn (ClausesHold known) tape
-in_turn = (inr settled_holds, settled_in_turn)
+in_turn = (settled_holds, settled_in_turn)
 
 pub taped : IsTaped known [] step [] tape
 taped = record {

@@ -131,12 +131,11 @@ unfolding total_size
 unanswered = record { no_cause = refl; silent = λ o is given. refl }
 
 pub invents_before : (noted : Noted) → HoldsInTurn (ClausesHold by_whole) (Came noted ∷ hinted_first) → ⊥
-invents_before noted c = elim c.0 [
-  | inl none ↦ cc
-  | inr holds ↦ (let d = holds.responses.delivered 1 in
-      let same = one_delivery (items_at 1 hinted_first) d.delivery hints_alone d.reads reads_alone in
-      let clash : ◌≡◌ {A = List Head} (hinted ∷ []) [] = ap (λ (x : Delivery). x.interims) (sym same) ∙ no_interims by_whole hinted_first 1 unanswered d in cc)
-]
+invents_before noted c =
+    let holds = c.0 in
+    let d = holds.responses.delivered 1 in
+    let same = one_delivery (items_at 1 hinted_first) d.delivery hints_alone d.reads reads_alone in
+    let clash : ◌≡◌ {A = List Head} (hinted ∷ []) [] = ap (λ (x : Delivery). x.interims) (sym same) ∙ no_interims by_whole hinted_first 1 unanswered d in cc
 
 -- ---- what waited, in place of the reply
 

@@ -90,7 +90,7 @@ not_streamed all = let s = all refl 1 five refl refl refl in at s.o s.given.is_o
 
 -- Two frames of DATA come in one piece, and what both bring is put out behind the second: octets would go back at once that nobody took.
 pub held_until_both : HoldsInTurn (ClausesHold by_streaming) (Did (ToUp 1 (codes "hell")) ∷ plain (frame 0 0 1 (codes "lo")) ∷ three_came) → ⊥
-held_until_both c = elim c.0 [ inl none ↦ cc | inr holds ↦ not_streamed holds.progress.streamed ]
+held_until_both c = let holds = c.0 in not_streamed holds.progress.streamed
 
 -- It sends a header block in fragments that would fit one frame.
 pub shredded : ErrorsHold by_whole (out_headed (frame 9 4 1 (15 ∷ 13 ∷ 1 ∷ 50 ∷ [])) ok_two ∷ out (frame 1 0 1 (136 ∷ [])) ∷ got) → ⊥

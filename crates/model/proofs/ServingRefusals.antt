@@ -134,7 +134,7 @@ opens_before_whole c = let may = c.in_time.0 in let clash : false ≡ true = may
 
 -- It closes a connection before the frame of the client that it closes it for.
 pub closes_before_reset : HoldsInTurn (ClausesHold by_whole) (plain (reset 1 8) ∷ Did (Close 1) ∷ got) → ⊥
-closes_before_reset c = elim c.0 [ inl none ↦ cc | inr holds ↦ closes_at_once holds.progress ]
+closes_before_reset c = let holds = c.0 in closes_at_once holds.progress
 
 -- A whole request comes, and something else behind it, before it is put out.
 abbrev waiting : List Entry
@@ -145,15 +145,11 @@ unfolding total_size
 waiting_means = record { head = first.head; has_head = refl; well_formed = first.well_formed; no_connect = refl; contents = tt; ends = refl; length_holds = tt; is = refl }
 
 pub forwards_late : HoldsInTurn (ClausesHold known) (plain (frame 6 0 0 (codes "hellohoy")) ∷ waiting) → ⊥
-forwards_late c = elim c.0 [
-  | inl none ↦ cc
-  | inr holds ↦ (let f = holds.progress.forwarded 1 first.request 0 waiting_means example.by_route refl in f.given.is_opened)
-]
+forwards_late c = let holds = c.0 in let f = holds.progress.forwarded 1 first.request 0 waiting_means example.by_route refl in f.given.is_opened
 
 -- It puts out octets of a body before they came.
 pub sends_before : HoldsInTurn (ClausesHold by_streaming) (plain (frame 0 0 1 (codes "z")) ∷ Did (ToUp 1 (five_text ++ codes "z")) ∷ Did (Open 1 0) ∷ headed (frame 1 4 1 []) five ∷ begun) → ⊥
 unfolding total_size
-sends_before c = elim c.0 [
-  | inl none ↦ cc
-  | inr holds ↦ (let s = holds.requests.served (record { k = 1; route = 0; stream = 1 }) (inl refl) in elim s.sent [ inl whole ↦ (let ends = whole.means.ends in let clash : false ≡ true = ends in cc) | inr part ↦ invents part ])
-]
+sends_before c =
+    let holds = c.0 in
+    let s = holds.requests.served (record { k = 1; route = 0; stream = 1 }) (inl refl) in elim s.sent [ inl whole ↦ (let ends = whole.means.ends in let clash : false ≡ true = ends in cc) | inr part ↦ invents part ]

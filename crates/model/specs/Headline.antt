@@ -3,11 +3,11 @@
 -- upstream's, or a reply of the gateway's own for which there was a cause; every fault is answered as the error table says, and
 -- a stream with a fault becomes no request; and what could go on does, unless there is no room for it. `Faithful` says
 -- how much of it `run` is proved of so far.
-use Rattle.std.specs.Prelude.{◌≡◌, ℕ, Bool, not, ◌&&◌, ◌⊎◌, List, [], ◌∷◌, ◌++◌, reverse, is_some}
+use Rattle.std.specs.Prelude.{◌≡◌, ℕ, Bool, not, ◌&&◌, List, [], ◌∷◌, ◌++◌, reverse, is_some}
 use Rattle.model.specs.Tables.{Table}
 use Rattle.model.specs.Logs.{Step, client_in}
 use Rattle.model.specs.Setup.{Setup}
-use Rattle.model.specs.Tapes.{Noted, Entry, came, sent, EndsWithClose, IsStep, IsRead}
+use Rattle.model.specs.Tapes.{Noted, Entry, came, EndsWithClose, IsStep, IsRead}
 use Rattle.model.specs.Tapes.Entry.{Came, Sent, Did}
 use Rattle.model.specs.Decoding.{completed, Decodes, is_read}
 use Rattle.model.specs.Errors.{first_of}
@@ -29,13 +29,13 @@ pub record ClausesHold (known : Known) (t : List Entry) : Type 0 where
   pub progress : ProgressHolds known t
   pub windows : WindowsHold known t
 
--- It holds of the tape before each thing that comes in, unless nothing was sent yet: so all that an entry causes stands behind it, and
--- before the next thing that comes in.
+-- It holds of the tape before each thing that comes in: so the gateway's settings stand before all else, and all that an entry causes
+-- stands behind it and before the next thing that comes in.
 abbrev pub HoldsInTurn : (List Entry → Type 0) → List Entry → Type 0
 HoldsInTurn Holds [] = Unit {0}
 HoldsInTurn Holds (Sent noted ∷ t) = HoldsInTurn Holds t
 HoldsInTurn Holds (Did act ∷ t) = HoldsInTurn Holds t
-HoldsInTurn Holds (e ∷ t) = ((sent t ≡ []) ⊎ Holds t) × HoldsInTurn Holds t
+HoldsInTurn Holds (e ∷ t) = Holds t × HoldsInTurn Holds t
 
 -- the frame completes a header block, and is an error of the connection before the block is read
 abbrev pub is_unread : List Entry → Noted → Bool

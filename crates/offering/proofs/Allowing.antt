@@ -212,11 +212,11 @@ run_keeps known run may right told done =
 module _ (known : Known) (run : List Seen) (at : IsFlushed (windows_in (sight_of run)) (state_of (moves_of run)) → KeepClauses known (tape_of run)) (before : HoldsInTurn (KeepClauses known) (tape_of run)) where
   -- one move more
   one_more : (behind : Sight) (m : Move) → MayCome (sight_of run) behind (state_of (moves_of run)) m → HoldsInTurn (KeepClauses known) (entry_of m ∷ tape_of run)
-  one_more behind (Takes noted change) may = (inr (at may.0), before)
-  one_more behind (Breaks breach) may = (inr (at may), before)
-  one_more behind (Notes event) may = (inr (at may.0), before)
-  one_more behind (Hears event stream news) may = (inr (at may.0), before)
-  one_more behind (Fails event stream) may = (inr (at may.0), before)
+  one_more behind (Takes noted change) may = (at may.0, before)
+  one_more behind (Breaks breach) may = (at may, before)
+  one_more behind (Notes event) may = (at may.0, before)
+  one_more behind (Hears event stream news) may = (at may.0, before)
+  one_more behind (Fails event stream) may = (at may.0, before)
   one_more behind (Goes noted item part over) may = before
   one_more behind (Sends noted) may = before
   one_more behind (Acts act) may = before

@@ -137,9 +137,9 @@ before_one : (known : Known) (run : List Move) (d : Deed) → IsKnown known run 
 before_one known run d k rests before = by (entry_of d) rests
   where
     by : (e : Entry) → (comes_in e ≡ true → RestsBehind known.setup run) → HoldsInTurn (ClausesHold known) (e ∷ tape_of run)
-    by (Came noted) rests = (inr (clauses known run k (rests refl)), before)
-    by (Breached breach) rests = (inr (clauses known run k (rests refl)), before)
-    by (Happened event) rests = (inr (clauses known run k (rests refl)), before)
+    by (Came noted) rests = (clauses known run k (rests refl), before)
+    by (Breached breach) rests = (clauses known run k (rests refl), before)
+    by (Happened event) rests = (clauses known run k (rests refl), before)
     by (Sent noted) rests = before
     by (Did act) rests = before
 

@@ -143,9 +143,9 @@ keeps known run may right none = record { gives_back = run_gives_back known run 
 module _ (known : Known) (run : List Seen) (at : OwesNothing (sight_of run) (state_of known.setup.passing (moves_of run)) → KeepRooms known (tape_of (moves_of run))) (before : HoldsInTurn (KeepRooms known) (tape_of (moves_of run))) where
   -- one move more
   one_more : (behind : Sight) (m : Move) → MayCome known.setup.passing (sight_of run) behind (state_of known.setup.passing (moves_of run)) m → HoldsInTurn (KeepRooms known) (entries_of m ++ tape_of (moves_of run))
-  one_more behind (Takes noted opens over) may = (inr (at may.nothing), before)
-  one_more behind (Breaks breach) may = (inr (at may), before)
-  one_more behind (Hears event) may = (inr (at may.0), before)
+  one_more behind (Takes noted opens over) may = (at may.nothing, before)
+  one_more behind (Breaks breach) may = (at may, before)
+  one_more behind (Hears event) may = (at may.0, before)
   one_more behind Settles may = before
   one_more behind (Gives noted) may = before
   one_more behind (Sends noted over) may = before

@@ -1,6 +1,6 @@
 //! What a gateway is set up with.
 
-ghost use Rattle.std.specs.Prelude.{◌≡◌, ◌≤◌, IfOk, string_bytes};
+ghost use Rattle.std.specs.Prelude.{◌≡◌, ◌≤◌, map, IfOk, string_bytes};
 ghost use Rattle.gateway.specs.Setups.{route_of, setup_of};
 ghost use Rattle.gateway.specs.Stands.{held_bound};
 
@@ -79,8 +79,9 @@ impl Config {
     }
 
     /// The same configuration once more. The only error is that memory was refused.
-    pub(crate) fn copy(&self, alloc: Global) -> Result<Config, AllocError>
-        ensures { IfOk result (λ config. setup_of config ≡ setup_of self.now) }
+    pub fn copy(&self, alloc: Global) -> Result<Config, AllocError>
+        ensures setup { IfOk result (λ config. setup_of config ≡ setup_of self.now) }
+        ensures upstreams { IfOk result (λ config. map (λ route. string_bytes route.upstream) config.routes.items ≡ map (λ route. string_bytes route.upstream) self.now.routes.items) }
     {
         let mut routes = Vec::new(alloc);
         for route in &self.routes {

@@ -1,0 +1,55 @@
+//! Worlds: where events come from, and where outputs go.
+
+ghost use Rattle.std.specs.Prelude.{◌≡◌, ◌+◌, ◌<◌, ◌^◌, ◌∷◌, ◌++◌, [], ℕ, Bool, true, List, Option, Some, is_ok, IfOk, OnOk, OnErr, if◌then◌else◌};
+ghost use Rattle.model.specs.Logs.{Step};
+ghost use Rattle.gateway.specs.Views.{output_of};
+ghost use Rattle.worlds.specs.Worlds.{AddsEvent, SaysOver, with_outputs};
+
+use gateway::{Event, Output};
+
+/// A call of a world failed.
+#[derive(Clone, Copy, Debug, PartialEq, Eq, Drop)]
+pub struct WorldFault {}
+
+/// What comes next.
+#[derive(Drop)]
+pub enum Next {
+    /// An event.
+    Happened(Event),
+    /// Nothing as yet.
+    Nothing,
+    /// Nothing any more.
+    Over,
+}
+
+/// Where events come from, and where outputs go. What it tells of itself is for contracts alone.
+pub trait World {
+    /// How often `next` was called.
+    ghost calls: { Self → ℕ };
+
+    /// How many calls failed.
+    ghost failures: { Self → ℕ };
+
+    /// Whether it said that nothing comes any more.
+    ghost over: { Self → Bool };
+
+    /// The events that came and what was put out for each, the oldest first, where a world stores them.
+    ghost log: { Self → Option (List Step) };
+
+    /// What comes next. `rooms` are the numbers of the open connections to upstreams, each with the most octets of it that may
+    /// come in one event.
+    fn next(&mut self, rooms: &[(u32, usize)]) -> Result<Next, WorldFault>
+        requires { calls self.old + 1 < 2 ^ 64 }
+        ensures calls { calls self.new ≡ calls self.old + 1 }
+        ensures failures { failures self.new ≡ (if is_ok result then failures self.old else failures self.old + 1) }
+        ensures over { IfOk result (λ next. SaysOver next (over self.new)) }
+        ensures log { IfOk result (λ next. AddsEvent (log self.old) next (log self.new)) }
+        ensures err { OnErr result (log self.new ≡ log self.old) };
+
+    /// Takes an output.
+    fn apply(&mut self, output: &Output) -> Result<(), WorldFault>
+        ensures calls { calls self.new ≡ calls self.old }
+        ensures failures { failures self.new ≡ (if is_ok result then failures self.old else failures self.old + 1) }
+        ensures log { OnOk result ((before : List Step) (step : Step) → log self.old ≡ Some (before ++ step ∷ []) → log self.new ≡ Some (before ++ with_outputs step (output_of output.now ∷ []) ∷ [])) }
+        ensures err { OnErr result (log self.new ≡ log self.old) };
+}

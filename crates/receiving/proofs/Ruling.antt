@@ -12,7 +12,7 @@ use Rattle.model.specs.WindowClause.{GivesBack}
 use Rattle.model.specs.Headline.{HoldsInTurn}
 use Rattle.model.proofs.OpenedLaws.{opens_own, opens_new}
 use Rattle.offering.specs.Sight.{Sight, IsRightOf}
-use Rattle.offering.proofs.Living.{active_sent}
+use Rattle.model.proofs.ActiveLaws.{active_sent}
 use Rattle.offering.proofs.Ruling.{opened_by_it}
 use Rattle.offering.proofs.Allowing.{first_right}
 use Rattle.receiving.specs.State.{State, Move, entries_of, tape_of, state_of}

@@ -1,9 +1,15 @@
 //! What of the client's DATA is kept and what goes back, and which event may come.
 //!
-//! The main theorem is `states_give_back`, beside `windows_go_back` on what goes back at each place. Its premises, and where each
-//! comes from: that each move may come by the states (`AllMayCome`) is what the methods of the gateway show; that what is read of
-//! the other concerns' states is right (`AreRight`) is the theorem on the summary of a tape; that nothing is owed
-//! (`OwesNothing`) is where a step ends. What is held of a response (`AreHeld`) is what its stream's outbox has (`held_is_told`).
+//! The main theorem is `states_give_back`, beside `windows_go_back` on what goes back at each place. Its premises, and where each comes
+//! from:
+//! - `AllMayCome`: each move may come by the states, which whoever performs a move shows there. That an event may come by the state is
+//!   `admission_is_told`, from the event's being admitted; octets that wait are the queue's (`receiving_queue`);
+//! - `AreRight`: what is read of `conduct`'s summary is right (`sights_are_right` of `offering`);
+//! - `OwesNothing`: nothing is owed, where a step ends. Something comes in only there (`MayCome`).
+//!
+//! What is held of a response (`AreHeld`) is what its stream's outbox has (`held_is_told`). Which connections are open (`is_up`), how many
+//! octets the client hasn't taken and whether it is closed are kept here once more: `serving` and `conduct` have them too, as the active
+//! streams (`live`), which the sum of what waits goes over.
 #![tactic(auto)]
 
 ghost use Rattle.std.specs.Prelude.{◌≡◌, ◌≢◌, ◌+◌, ◌≤◌, ℕ, Bool, true, List, length, sum_by, pos, ◌-ℤ◌};

@@ -15,7 +15,7 @@ use Rattle.model.specs.Errors.Fault.{Stream}
 use Rattle.model.specs.FrameErrors.{fault_if}
 use Rattle.model.specs.Known.{Known}
 use Rattle.model.specs.ErrorClause.{is_fatal, ErrorsHold}
-use Rattle.conduct.specs.Turn.{rest_of, IsDue}
+use Rattle.conduct.specs.Turn.{rest_of, IsDue, Conducted}
 use Rattle.conduct.specs.Summary.{Brief, Stream as Kept, Summary}
 use Rattle.conduct.specs.Judging.{rows_in, fault_for}
 use Rattle.conduct.specs.Owing.{must_end_in}
@@ -29,7 +29,7 @@ use Rattle.conduct.proofs.Seen.{fault_seen, end_seen}
 use Rattle.conduct.proofs.RowsKept.{will_do, rows_stand}
 use Rattle.conduct.proofs.Idle.{still_idle}
 use Rattle.conduct.proofs.Turns.{control_owes, fit_told, allowed_told, queue_told}
-use Rattle.conduct.proofs.Rule.{point_same, errors_hold_at_rest}
+use Rattle.conduct.proofs.Rule.{point_same, conducted, errors_hold_at_rest}
 
 -- ---- whether an error is one of the connection doesn't depend on a stream's course
 
@@ -250,3 +250,7 @@ block_out_told known moves knows all = (has_kept known.setup moves all).tells.bl
 -- Where the program rests none is begun.
 pub blocks_are_whole : (known : Known) (moves : List Move) → AreKnown known moves → AllMoved known.setup moves → Rests (desk_of known.setup moves) → begun (sent (tape_of moves)) ≡ None
 blocks_are_whole known moves knows all rests = sym (block_out_told known moves knows all) ∙ rests.none_begun
+
+-- Moves that came by the rule came in their turn.
+pub conducted_by_book : (known : Known) (moves : List Move) → AreKnown known moves → AllMoved known.setup moves → Conducted known (tape_of moves)
+conducted_by_book known moves knows all = conducted known moves knows (has_kept known.setup moves all).allowed

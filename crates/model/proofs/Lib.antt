@@ -37,6 +37,10 @@ pub mod OpenedLaws
 pub mod OwedSteps
 pub mod OfferLemmas
 pub mod OfferLaws
+pub mod GivenLaws
+pub mod InTurnLaws
+pub mod ActiveLaws
+pub mod HeadLaws
 pub mod LifeLaws
 pub mod ItemLaws
 mod BeginningExamples

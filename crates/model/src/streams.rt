@@ -13,6 +13,9 @@ ghost use Rattle.model.specs.Lifetimes.{is_opened, is_over, is_active, is_ended_
 ghost use Rattle.model.specs.ErrorClause.{must_end};
 ghost use Rattle.model.specs.Courses.{course, items, fault};
 ghost use Rattle.model.specs.Offers.{is_to_head};
+ghost use Rattle.model.specs.Openings.{Opened, opens, given, AreNumbered};
+ghost use Rattle.model.specs.Available.{IsIn};
+ghost use Rattle.model.specs.Admission.{is_open};
 
 /// What has become of a stream stays, whatever comes: it was opened, it is over, it isn't active any more, the client ended it.
 pub fn lives_stay()
@@ -40,4 +43,18 @@ pub fn items_stay()
 /// The client ended a stream whose items come to an end.
 pub fn ended_items()
     ensures { (known : Known) (stream : ℕ) (t : List Entry) → list_any ends_with (items known stream t) ≡ true → is_ended_by_client stream t ≡ true }
+{}
+
+/// A frame on another stream leaves a stream active or not; one that is sent makes none active.
+pub fn active_streams()
+    ensures sent { (t : List Entry) (noted : Noted) (stream : ℕ) → is_active stream (Sent noted ∷ t) ≡ true → is_active stream t ≡ true }
+    ensures beside { (t : List Entry) (noted : Noted) (stream : ℕ) → (noted.frame.id ≡ stream → ⊥) → is_active stream (Sent noted ∷ t) ≡ is_active stream t }
+    ensures came { (t : List Entry) (noted : Noted) (stream : ℕ) → (noted.frame.id ≡ stream → ⊥) → is_active stream (Came noted ∷ t) ≡ is_active stream t }
+{}
+
+/// A connection's number tells the stream that it was given to, and is above 0; an open connection was opened.
+pub fn connections_given()
+    ensures stream { (opens : List Opened) (o : Opened) → AreNumbered opens → IsIn o opens → given o.k opens ≡ o.stream }
+    ensures above { (opens : List Opened) (o : Opened) → AreNumbered opens → IsIn o opens → o.k ≡ 0 → ⊥ }
+    ensures open { (k : ℕ) (t : List Entry) → is_open k t ≡ true → (o : Opened) × IsIn o (opens t) × (o.k ≡ k) }
 {}

@@ -21,7 +21,7 @@ use Rattle.offering.specs.Policy.{MayTake, MayOpen, Holds, AreAllowed, IsFlushed
 use Rattle.offering.specs.Sight.{Sight, first_sight, IsRightOf, windows_in}
 use Rattle.offering.specs.Rule.{OpensNext, completed_by, MayCome, Seen, moves_of, tape_of, sight_of, AllMayCome, AreRight, IsTold, AreTold}
 use Rattle.offering.proofs.Entries.{heard_same, ended_same}
-use Rattle.offering.proofs.Living.{brought_other, brought_none, none_brought}
+use Rattle.model.proofs.ActiveLaws.{brought_other, brought_none, none_brought}
 use Rattle.offering.proofs.Offering.{Offering}
 use Rattle.offering.proofs.Windows.{flushed_by, goes_by}
 use Rattle.offering.proofs.Ruling.{Placed, items_kept, not_unopened, unopened_before, takes_by, of_stream, sound, fails}

@@ -23,7 +23,7 @@ use Rattle.model.specs.Causes.Cause.{BadAnswer}
 use Rattle.model.specs.ErrorTable.{fault_with}
 use Rattle.model.specs.Courses.{Course, course, carried, items, about, upstream_of, cause_at, cause_of, first_of_both, interrupts, is_final}
 use Rattle.model.specs.Offers.{is_to_head, IsGiven}
-use Rattle.model.proofs.DeliveryReadings.{one_number}
+use Rattle.model.proofs.GivenLaws.{given_is, number_above, given_zero}
 use Rattle.offering.proofs.Standing.{SameOffer}
 
 -- ---- the course of a stream, where the entry is no cause for it
@@ -228,28 +228,6 @@ event_quiet known t event stream none other = record {
   heard = λ o g. heard_same t event o.k (other o g);
   ended = λ o g. ended_same t event o.k (other o g);
 }
-
--- the stream that a connection was given to
-pub given_is : (os : List Opened) (o : Opened) → AreNumbered os → IsIn o os → given o.k os ≡ o.stream
-given_is [] o n i = absurd i
-given_is (p ∷ os) o n i = elim (eqb_tells p.k o.k) [
-  | inl x ↦ ap (λ b. if b then p.stream else given o.k os) x.0 ∙ ap (λ (z : Opened). z.stream) (one_number (p ∷ os) p o n (inl refl) i x.1)
-  | inr x ↦ ap (λ b. if b then p.stream else given o.k os) x.0 ∙ (elim i [
-    | inl same ↦ absurd (x.1 (sym (ap (λ (z : Opened). z.k) same)))
-    | inr rest ↦ given_is os o n.1 rest
-  ])
-]
-
--- a connection's number is above 0
-pub number_above : (os : List Opened) (o : Opened) → AreNumbered os → IsIn o os → o.k ≡ 0 → ⊥
-number_above [] o n i z = i
-number_above (p ∷ os) o n (inl same) z = let first = n.0 in let k : o.k ≡ p.k = ap (λ (x : Opened). x.k) same in omega (arith, first, k, z)
-number_above (p ∷ os) o n (inr rest) z = number_above os o n.1 rest z
-
--- so the number 0 was given to no stream
-given_zero : (os : List Opened) → AreNumbered os → given 0 os ≡ 0
-given_zero [] n = refl
-given_zero (p ∷ os) n = ap (λ b. if b then p.stream else given 0 os) (ne_eqb p.k 0 (number_above (p ∷ os) p n (inl refl))) ∙ given_zero os n.1
 
 -- the event is of no connection
 pub none_of_nobody : (known : Known) (stream : ℕ) (t : List Entry) (event : Event) → AreNumbered (opens t) → upstream_of event ≡ 0 → cause_of known stream t (Happened event) ≡ None

@@ -22,7 +22,7 @@ use Rattle.offering.specs.Outbox.{offered_by, can_go}
 use Rattle.offering.specs.State.{Kept, State, Move, start, find, are_open, is_ready, is_ready_if, can_turn, ready, entry_of, after, state_of}
 use Rattle.offering.specs.State.Move.{Takes, Breaks, Notes, Hears, Fails, Goes, Sends, Acts}
 use Rattle.offering.specs.Policy.{Neighbours, windows_on, Holds, AreAllowed, IsFlushed, KeepClauses}
-use Rattle.offering.proofs.Heads.{nothing_reads}
+use Rattle.model.proofs.HeadLaws.{nothing_reads}
 use Rattle.offering.proofs.Listing.{filter_in, filter_out, found_among}
 use Rattle.offering.proofs.Going.{goes_by_outbox, outbox_goes}
 use Rattle.offering.proofs.Offering.{IsHeld, IsKeptIf, Offering, breaks_keep, notes_keep, sends_keep}

@@ -21,9 +21,10 @@ use Rattle.offering.specs.State.{Kept, State, find, change, told, gone, answered
 use Rattle.offering.specs.State.Move.{Hears, Fails, Goes, Acts}
 use Rattle.offering.specs.Policy.{Neighbours, windows_on, MayGo, Brings, IsOf, MayHear, MayGiveUp, MayOpen, MayDo}
 use Rattle.offering.proofs.Standing.{SameOffer, stands_sent, delivered_sent, stands_told, stands_given, delivered_same}
-use Rattle.offering.proofs.Entries.{cause_stays, out_stays, items_stay, none_by_did, sent_quiet, act_quiet, IsElsewhere, event_quiet, given_is, none_unless_fails, none_elsewhere}
+use Rattle.offering.proofs.Entries.{cause_stays, out_stays, items_stay, none_by_did, sent_quiet, act_quiet, IsElsewhere, event_quiet, none_unless_fails, none_elsewhere}
+use Rattle.model.proofs.GivenLaws.{given_is}
 use Rattle.offering.proofs.Keeping.{KeepsId, answered_id, find_changed, find_other, some_mapped}
-use Rattle.offering.proofs.Living.{active_sent, active_beside, brought, brought_other}
+use Rattle.model.proofs.ActiveLaws.{active_sent, active_beside, brought, brought_other}
 use Rattle.offering.proofs.Offering.{IsHeld, IsKeptIf, Offering, kept_unless, lives_unless, kept_same, kept_still, kept_by, held_answered, caused_now, out_now, heads_now, offering_quiet}
 
 -- the same streams are kept

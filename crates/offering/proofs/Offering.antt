@@ -24,10 +24,11 @@ use Rattle.offering.specs.State.{Kept, State, find, unless_over, answered_box, a
 use Rattle.offering.specs.State.Move.{Breaks, Notes, Sends}
 use Rattle.offering.specs.Policy.{Neighbours, BringsNone}
 use Rattle.offering.proofs.Standing.{SameOffer, Stands, stands_same, stands_replied, delivered_same}
-use Rattle.offering.proofs.Heads.{out_by_read}
-use Rattle.offering.proofs.Entries.{sent_quiet, breach_quiet, event_quiet, none_of_nobody, number_above}
+use Rattle.model.proofs.HeadLaws.{out_by_read}
+use Rattle.offering.proofs.Entries.{sent_quiet, breach_quiet, event_quiet, none_of_nobody}
+use Rattle.model.proofs.GivenLaws.{number_above}
 use Rattle.offering.proofs.Keeping.{find_without, find_beside, some_unless}
-use Rattle.offering.proofs.Living.{active_sent, active_beside, active_control, brought_none, none_brought}
+use Rattle.model.proofs.ActiveLaws.{active_sent, active_beside, active_control, brought_none, none_brought}
 
 -- The record is the stream's, and unless a reset is owed its outbox is what is on offer behind what was read.
 pub record IsHeld (known : Known) (t : List Entry) (stream : ℕ) (k : Kept) : Type 0 where

@@ -16,7 +16,7 @@ use Rattle.model.specs.Offers.{is_to_head, IsGiven, HasNoReply, IsReplied, IsPas
 use Rattle.offering.specs.Outbox.{Outbox, silent, replied, offered_by, Fits, Part, IsNext, left, read_more, IsItemOf, News, with_news, grown}
 use Rattle.offering.specs.Shown.{Tells}
 use Rattle.model.proofs.DeliveryReadings.{one_connection}
-use Rattle.offering.proofs.Heads.{out_by_read, heads_by_read, nothing_reads, nothing_shown}
+use Rattle.model.proofs.HeadLaws.{out_by_read, heads_by_read, nothing_reads, nothing_shown}
 use Rattle.offering.proofs.Parts.{no_next, same_delivery, offer_stays, fits_left, reads_more, is_part, news_join, fits_grown}
 
 -- Nothing is on offer for the stream: no connection was given to it, and the gateway doesn't answer it.

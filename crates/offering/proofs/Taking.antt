@@ -17,7 +17,7 @@ use Rattle.offering.specs.Policy.{Neighbours, IsNew, IsCaused, IsOpened, MayTake
 use Rattle.offering.proofs.Standing.{stands_same, stands_new, stands_new_replied, delivered_same}
 use Rattle.offering.proofs.Entries.{cause_stays, out_stays, heads_stay, came_quiet, none_by_other}
 use Rattle.offering.proofs.Keeping.{answered_if_id, find_changed, find_other, find_new, find_old, some_mapped}
-use Rattle.offering.proofs.Living.{active_came}
+use Rattle.model.proofs.ActiveLaws.{active_came}
 use Rattle.offering.proofs.Offering.{IsHeld, IsKeptIf, Offering, kept_unless, lives_unless, held_answered, out_now, heads_now}
 
 module _ (known : Known) (t : List Entry) (s : State) (noted : Noted) (effect : Change) (n : Neighbours known t) (h : Offering known t s) (may : MayTake known t s noted effect) where

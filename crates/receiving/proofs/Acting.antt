@@ -11,7 +11,7 @@ use Rattle.model.specs.Openings.{connection_of, opens, last_stream}
 use Rattle.model.specs.Lifetimes.{is_opened, is_over, is_active}
 use Rattle.receiving.specs.Marks.{total}
 use Rattle.receiving.specs.State.{fresh_of, Row, State, held, add, given, with_act}
-use Rattle.receiving.specs.Policy.{MayOpen, MayPut}
+use Rattle.receiving.specs.Policy.{gates_on, MayOpen, MayPut}
 use Rattle.receiving.proofs.Sums.{same_sum}
 use Rattle.receiving.proofs.Counting.{Counting}
 use Rattle.receiving.proofs.Incoming.{live_among}
@@ -19,7 +19,7 @@ use Rattle.receiving.proofs.Keeping.{IsQueue, Stands, Keeping, waits_put, waits_
 
 module _ (passing : Passing) (t : List Entry) (s : State) (c : Counting t s) (h : Keeping passing t s) where
   -- octets are put out
-  queue_put : (p : Passing) (k : ℕ) (octets : List ℕ) (id : ℕ) → MayPut p s k → IsQueue p t id (s.row id) s.took s.out s.settled (fresh_of s id) → IsQueue p (Did (ToUp k octets) ∷ t) id (s.row id) s.took (add k (length octets) s.out) s.settled (fresh_of s id)
+  queue_put : (p : Passing) (k : ℕ) (octets : List ℕ) (id : ℕ) → MayPut p (gates_on t) s k → IsQueue p t id (s.row id) s.took s.out s.settled (fresh_of s id) → IsQueue p (Did (ToUp k octets) ∷ t) id (s.row id) s.took (add k (length octets) s.out) s.settled (fresh_of s id)
   queue_put Whole k octets id may q = q
   queue_put Streaming k octets id may q = waits_put t id (s.row id) s.took s.out s.settled (fresh_of s id) q k octets (add k (length octets) s.out) (may.in_effect refl) (by ((s.row id).k == k))
     where
@@ -28,7 +28,7 @@ module _ (passing : Passing) (t : List Entry) (s : State) (c : Counting t s) (h 
       by false = omega arith
 
   -- octets are put out: the invariant stays
-  pub keeping_put : (k : ℕ) (octets : List ℕ) → MayPut passing s k → Keeping passing (Did (ToUp k octets) ∷ t) (record s { out = add k (length octets) s.out })
+  pub keeping_put : (k : ℕ) (octets : List ℕ) → MayPut passing (gates_on t) s k → Keeping passing (Did (ToUp k octets) ∷ t) (record s { out = add k (length octets) s.out })
   keeping_put k octets may = record {
     live = h.live;
     unopened = h.unopened;
@@ -50,11 +50,11 @@ module _ (passing : Passing) (t : List Entry) (s : State) (c : Counting t s) (h 
   queue_beside Streaming k route id q = record { counts = q.counts; above = q.above; rise = q.rise }
 
   -- each stream, where one gets a connection
-  stands_opened : (k route id : ℕ) → MayOpen s k → is_active id t ≡ true → Stands passing (Did (Open k route) ∷ t) id (if s.last == id then given k (s.row id) else s.row id) s.took s.out s.settled (fresh_of s id)
+  stands_opened : (k route id : ℕ) → MayOpen s k → is_active id t ≡ true → Stands passing (Did (Open k route) ∷ t) id (if s.stream == id then given k (s.row id) else s.row id) s.took s.out s.settled (fresh_of s id)
   stands_opened k route id may on =
       let old = h.streams id on in
-      let there : (last_stream t == id) ≡ (s.last == id) = ap (λ n. n == id) (sym c.last) in
-      elim (eqb_tells s.last id) [
+      let there : (last_stream t == id) ≡ (s.stream == id) = ap (λ n. n == id) (sym c.last) in
+      elim (eqb_tells s.stream id) [
         | inl is ↦ subst (λ (b : Bool). Stands passing (Did (Open k route) ∷ t) id (if b then given k (s.row id) else s.row id) s.took s.out s.settled (fresh_of s id)) (sym is.0) (record {
           own = old.own;
           connection = sym (ap (λ b. if b then k else connection_of id (opens t)) (there ∙ is.0));
@@ -76,7 +76,7 @@ module _ (passing : Passing) (t : List Entry) (s : State) (c : Counting t s) (h 
   unopened_yet : (k route : ℕ) → MayOpen s k → (id : ℕ) → is_opened id t ≡ false → (if last_stream t == id then k else connection_of id (opens t)) ≡ 0
   unopened_yet k route may id out =
       ap (λ b. if b then k else connection_of id (opens t)) (ne_eqb (last_stream t) id (λ same.
-      let on : is_active id t ≡ true = ap (λ n. is_active n t) (sym (c.last ∙ same)) ∙ sym (live_among passing t s s.last h) ∙ may.active in
+      let on : is_active id t ≡ true = ap (λ n. is_active n t) (sym (c.last ∙ same)) ∙ sym (live_among passing t s s.stream h) ∙ may.active in
       let there : is_opened id t ≡ true = (and_parts (is_opened id t) (not (is_over id t)) on).0 in
       absurd (let no : true ≡ false = sym there ∙ out in cc)))
       ∙ h.unopened id out
@@ -88,7 +88,7 @@ module _ (passing : Passing) (t : List Entry) (s : State) (c : Counting t s) (h 
     unopened = unopened_yet k route may;
     shared =
         let before = h.shared in
-        let same = same_sum (held (with_act s (Open k route))) (held s) s.live (λ id among. held_given (s.last == id) k (s.row id)) in
+        let same = same_sum (held (with_act s (Open k route))) (held s) s.live (λ id among. held_given (s.stream == id) k (s.row id)) in
         omega (arith, before, same);
     streams = λ id on. stands_opened k route id may on;
   }

@@ -16,7 +16,7 @@ use Rattle.model.specs.Lifetimes.{opened, opens_by, is_opened, is_over, is_activ
 use Rattle.model.specs.Windows.{first_window, sending_window}
 use Rattle.model.specs.WindowsOnTape.{is_on, is_any, data_length, data_octets, increments}
 use Rattle.model.proofs.OpenedLaws.{opens_new}
-use Rattle.offering.proofs.Living.{active_came}
+use Rattle.model.proofs.ActiveLaws.{active_came}
 use Rattle.receiving.specs.Marks.{total, pop, released}
 use Rattle.receiving.specs.State.{fresh_of, Row, State, held, dropped, unless_over, add, reached, blank, with_frame, with_event, with_taken}
 use Rattle.receiving.specs.Policy.{MayTake, IsNew}

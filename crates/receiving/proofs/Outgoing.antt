@@ -11,7 +11,7 @@ use Rattle.model.specs.Tapes.Entry.{Sent}
 use Rattle.model.specs.Openings.{connection_of, opens}
 use Rattle.model.specs.Lifetimes.{active, is_active}
 use Rattle.model.specs.WindowsOnTape.{increment}
-use Rattle.offering.proofs.Living.{active_beside}
+use Rattle.model.proofs.ActiveLaws.{active_beside}
 use Rattle.receiving.specs.Marks.{total, push}
 use Rattle.receiving.specs.State.{fresh_of, Row, State, held, unless_over, owing, waits, paid, is_live, must_wait, settle_by, with_settled, with_given, with_sent}
 use Rattle.receiving.specs.Policy.{MayGive, MaySend, IsOwed}

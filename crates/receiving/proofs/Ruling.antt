@@ -4,6 +4,8 @@ use Rattle.std.specs.List.{list_any}
 use Rattle.std.proofs.lemmas.Bool.{and_right, eq-eqb}
 use Rattle.model.specs.Tapes.{Noted, Entry, came}
 use Rattle.model.specs.Tapes.Entry.{Came, Sent}
+use Rattle.model.specs.Logs.{Act}
+use Rattle.model.specs.Logs.Act.{Open, ToUp, Close, CloseClient}
 use Rattle.model.specs.Setup.{Passing}
 use Rattle.model.specs.Decoding.{completed}
 use Rattle.model.specs.Known.{Known}
@@ -12,13 +14,14 @@ use Rattle.model.specs.WindowClause.{GivesBack}
 use Rattle.model.specs.Headline.{HoldsInTurn}
 use Rattle.model.proofs.OpenedLaws.{opens_own, opens_new}
 use Rattle.offering.specs.Sight.{Sight, IsRightOf}
-use Rattle.offering.proofs.Living.{active_sent}
+use Rattle.model.proofs.ActiveLaws.{active_sent}
 use Rattle.offering.proofs.Ruling.{opened_by_it}
 use Rattle.offering.proofs.Allowing.{first_right}
 use Rattle.receiving.specs.State.{State, Move, entries_of, tape_of, state_of}
 use Rattle.receiving.specs.State.Move.{Takes, Breaks, Hears, Settles, Gives, Sends, Acts}
-use Rattle.receiving.specs.Policy.{IsOpened, MayTake, IsOwed, MayGive, MaySend, Holds, AreAllowed, IsPaid, KeepRooms}
-use Rattle.receiving.specs.Rule.{is_over_by, TakesFrame, OwesAll, GivesAll, SendsOther, MayCome, OwesNothing, Seen, moves_of, sight_of, AllMayCome, AreRight}
+use Rattle.receiving.specs.Policy.{IsOpened, MayTake, IsOwed, MayGive, MaySend, Holds, AreAllowed, IsPaid, KeepRooms, Gates, AreGates, gates_on, MayDo}
+use Rattle.receiving.specs.Rule.{is_over_by, TakesFrame, OwesAll, GivesAll, SendsOther, MayCome, OwesNothing, Seen, moves_of, sight_of, gates_of, AllMayCome, AreRight}
+use Rattle.receiving.proofs.Admitting.{come_same}
 use Rattle.receiving.proofs.Resting.{gives_back_at_rest, gives_no_more}
 
 -- a frame opens its stream just where that wasn't opened before and is behind it
@@ -102,27 +105,39 @@ module _ (known : Known) (t : List Entry) (s : State) (noted : Noted) (before be
 
 -- ---- runs
 
+-- an act that may be done by what is told may be by the tape
+acts_by : (passing : Passing) (t : List Entry) (s : State) (gates : Gates) → AreGates t gates → (act : Act) → MayDo passing gates s act → MayDo passing (gates_on t) s act
+acts_by passing t s gates told (Open k route) may = may
+acts_by passing t s gates told (ToUp k octets) may = record { opened = sym (told.is_up k) ∙ may.opened; in_effect = may.in_effect }
+acts_by passing t s gates told (Close k) may = may
+acts_by passing t s gates told CloseClient may = may
+
 -- What the rule by states allows is allowed by the tape.
-allowed_by : (known : Known) (passing : Passing) (t : List Entry) (s : State) (before behind : Sight) (m : Move) → IsRightOf known t before → IsRightOf known (entries_of m ++ t) behind → MayCome passing before behind s m → Holds passing t s m
-allowed_by known passing t s before behind (Takes noted opens over) right now may = takes_by known t s noted before behind right opens over now may
-allowed_by known passing t s before behind (Breaks breach) right now may = may.settled
-allowed_by known passing t s before behind (Hears event) right now may = may.1
-allowed_by known passing t s before behind Settles right now may = tt
-allowed_by known passing t s before behind (Gives noted) right now may = gives_by known t s noted before behind right may
-allowed_by known passing t s before behind (Sends noted over) right now may = sends_by known t s noted before behind right over now may
-allowed_by known passing t s before behind (Acts act) right now may = may
+allowed_by : (known : Known) (passing : Passing) (t : List Entry) (s : State) (gates : Gates) (before behind : Sight) (m : Move) → AreGates t gates → IsRightOf known t before → IsRightOf known (entries_of m ++ t) behind → MayCome passing gates before behind s m → Holds passing t s m
+allowed_by known passing t s gates before behind (Takes noted opens over) told right now may = takes_by known t s noted before behind right opens over now may
+allowed_by known passing t s gates before behind (Breaks breach) told right now may = may.settled
+allowed_by known passing t s gates before behind (Hears event) told right now may = record { settled = may.1.settled; admitted = sym (come_same t s gates told event) ∙ may.1.admitted }
+allowed_by known passing t s gates before behind Settles told right now may = tt
+allowed_by known passing t s gates before behind (Gives noted) told right now may = gives_by known t s noted before behind right may
+allowed_by known passing t s gates before behind (Sends noted over) told right now may = sends_by known t s noted before behind right over now may
+allowed_by known passing t s gates before behind (Acts act) told right now may = acts_by passing t s gates told act may
 
 -- what is read last is right
 last_right : (known : Known) (run : List Seen) → AreRight known run → IsRightOf known (tape_of (moves_of run)) (sight_of run)
 last_right known [] right = first_right known
 last_right known (x ∷ run) right = right.1
 
+-- and so is what is told
+last_told : (known : Known) (run : List Seen) → AreRight known run → AreGates (tape_of (moves_of run)) (gates_of run)
+last_told known [] right = record { is_up = λ k. refl; untaken = refl; closed = refl }
+last_told known (x ∷ run) right = right.2
+
 -- so a run is allowed
 pub all_allowed : (known : Known) (passing : Passing) (run : List Seen) → AllMayCome passing run → AreRight known run → AreAllowed passing (moves_of run)
 all_allowed known passing [] may right = tt
 all_allowed known passing (x ∷ run) may right = (
   all_allowed known passing run may.0 right.0,
-  allowed_by known passing (tape_of (moves_of run)) (state_of passing (moves_of run)) (sight_of run) x.sight x.move (last_right known run right.0) right.1 may.1,
+  allowed_by known passing (tape_of (moves_of run)) (state_of passing (moves_of run)) (gates_of run) (sight_of run) x.sight x.move (last_told known run right.0) (last_right known run right.0) right.1 may.1,
 )
 
 -- nothing is owed by the tape where nothing is by the states
@@ -142,7 +157,7 @@ keeps known run may right none = record { gives_back = run_gives_back known run 
 
 module _ (known : Known) (run : List Seen) (at : OwesNothing (sight_of run) (state_of known.setup.passing (moves_of run)) → KeepRooms known (tape_of (moves_of run))) (before : HoldsInTurn (KeepRooms known) (tape_of (moves_of run))) where
   -- one move more
-  one_more : (behind : Sight) (m : Move) → MayCome known.setup.passing (sight_of run) behind (state_of known.setup.passing (moves_of run)) m → HoldsInTurn (KeepRooms known) (entries_of m ++ tape_of (moves_of run))
+  one_more : (behind : Sight) (m : Move) → MayCome known.setup.passing (gates_of run) (sight_of run) behind (state_of known.setup.passing (moves_of run)) m → HoldsInTurn (KeepRooms known) (entries_of m ++ tape_of (moves_of run))
   one_more behind (Takes noted opens over) may = (at may.nothing, before)
   one_more behind (Breaks breach) may = (at may, before)
   one_more behind (Hears event) may = (at may.0, before)

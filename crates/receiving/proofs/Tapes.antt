@@ -13,7 +13,7 @@ use Rattle.model.specs.Lifetimes.{opens_by, opened, is_over, is_active, active}
 use Rattle.model.specs.WindowsOnTape.{is_on, is_any, data_length}
 use Rattle.model.specs.WindowClause.{waiting}
 use Rattle.model.proofs.OpenedLaws.{opens_new, none_zero}
-use Rattle.offering.proofs.Living.{active_control, active_beside}
+use Rattle.model.proofs.ActiveLaws.{active_control, active_beside}
 use Rattle.receiving.specs.State.{exchange, unless_over}
 use Rattle.receiving.proofs.Sums.{is_among, AreApart}
 

@@ -6,7 +6,8 @@ use Rattle.model.specs.Logs.Event.{Client, ClientEnd, ClientTook, Up, UpEnd, UpF
 use Rattle.model.specs.Logs.Act.{Open, ToUp}
 use Rattle.model.specs.Setup.{Passing}
 use Rattle.model.specs.Setup.Passing.{Streaming}
-use Rattle.model.specs.Tapes.{Noted, Entry, came}
+use Rattle.model.specs.Tapes.{Noted, Entry, came, is_closed}
+use Rattle.model.specs.Admission.{untaken, is_open}
 use Rattle.model.specs.Tapes.Entry.{Came, Sent}
 use Rattle.model.specs.Decoding.{completed}
 use Rattle.model.specs.Windows.{first_window}
@@ -20,23 +21,40 @@ use Rattle.receiving.specs.State.Move.{Takes, Breaks, Hears, Settles, Gives, Sen
 
 -- ---- admission
 
+-- What is told of connections: whether an upstream's is open (serving), and, by the book of conduct, how many octets for the client aren't
+-- taken, and whether its connection was closed.
+pub record Gates : Type 0 where
+  pub is_up : ℕ → Bool
+  pub untaken : ℕ
+  pub closed : Bool
+
+-- It is so.
+pub record AreGates (t : List Entry) (gates : Gates) : Type 0 where
+  pub is_up : (k : ℕ) → gates.is_up k ≡ is_open k t
+  pub untaken : gates.untaken ≡ untaken t
+  pub closed : gates.closed ≡ is_closed t
+
+-- what a tape tells of them
+abbrev pub gates_on : List Entry → Gates
+gates_on t = record { is_up = λ k. is_open k t; untaken = untaken t; closed = is_closed t }
+
 -- how many octets of an upstream may come, but for what is held of its response
-abbrev pub room_in : State → ℕ → ℕ
-room_in s k = if s.is_up k then 65536 else 0
+abbrev pub room_in : Gates → ℕ → ℕ
+room_in gates k = if gates.is_up k then 65536 else 0
 
 -- the event may come as far as its own numbers go
-abbrev pub may_come : State → Event → Bool
-may_come s (Client piece) = nat_le (length piece) 65536 && nat_le s.untaken 1073741824
-may_come s ClientEnd = true
-may_come s (ClientTook count) = nat_le count s.untaken
-may_come s (Up k piece) = s.is_up k && nat_le (length piece) (room_in s k)
-may_come s (UpEnd k) = s.is_up k
-may_come s (UpFailed k) = s.is_up k
-may_come s (UpTook k count) = s.is_up k && nat_le (s.took k + count) (s.out k)
+abbrev pub may_come : Gates → State → Event → Bool
+may_come gates s (Client piece) = nat_le (length piece) 65536 && nat_le gates.untaken 1073741824
+may_come gates s ClientEnd = true
+may_come gates s (ClientTook count) = nat_le count gates.untaken
+may_come gates s (Up k piece) = gates.is_up k && nat_le (length piece) (room_in gates k)
+may_come gates s (UpEnd k) = gates.is_up k
+may_come gates s (UpFailed k) = gates.is_up k
+may_come gates s (UpTook k count) = gates.is_up k && nat_le (s.took k + count) (s.out k)
 
 -- the event may come: once the client is closed none may
-abbrev pub admits : State → Event → Bool
-admits s event = not s.closed && may_come s event
+abbrev pub admits : Gates → State → Event → Bool
+admits gates s event = not gates.closed && may_come gates s event
 
 -- ---- what other concerns know
 
@@ -58,9 +76,9 @@ pub record MayTake (t : List Entry) (s : State) (noted : Noted) (news over : Boo
   pub was : over ≡ true → is_active noted.frame.id t ≡ true
 
 -- An event is one that may come.
-pub record MayHear (s : State) (event : Event) : Type 0 where
+pub record MayHear (gates : Gates) (s : State) (event : Event) : Type 0 where
   pub settled : s.count ≡ 0
-  pub admitted : may_come s event ≡ true
+  pub admitted : may_come gates s event ≡ true
 
 -- what is owed on the connection, or on an active stream that the client hasn't ended
 abbrev pub IsOwed : List Entry → State → Frame → Bool → Type 0
@@ -80,22 +98,22 @@ pub record MaySend (t : List Entry) (noted : Noted) (over : Bool) : Type 0 where
 
 -- A connection is opened for the stream of the last frame, which is active and has none, under a number that was never used.
 pub record MayOpen (s : State) (k : ℕ) : Type 0 where
-  pub active : is_live s s.last ≡ true
+  pub active : is_live s s.stream ≡ true
   pub counted : 0 < k
-  pub first : (s.row s.last).k ≡ 0
+  pub first : (s.row s.stream).k ≡ 0
   pub unused : s.out k ≡ 0
   pub untaken : s.took k ≡ 0
 
 -- Octets go to a connection that is open; where requests are passed on as they come, before the frame's effect is over.
-pub record MayPut (passing : Passing) (s : State) (k : ℕ) : Type 0 where
-  pub opened : s.is_up k ≡ true
+pub record MayPut (passing : Passing) (gates : Gates) (s : State) (k : ℕ) : Type 0 where
+  pub opened : gates.is_up k ≡ true
   pub in_effect : passing ≡ Streaming → s.settled ≡ false
 
 -- The act may be done.
-abbrev pub MayDo : Passing → State → Act → Type 0
-MayDo passing s (Open k route) = MayOpen s k
-MayDo passing s (ToUp k octets) = MayPut passing s k
-MayDo passing s act = Unit {0}
+abbrev pub MayDo : Passing → Gates → State → Act → Type 0
+MayDo passing gates s (Open k route) = MayOpen s k
+MayDo passing gates s (ToUp k octets) = MayPut passing gates s k
+MayDo passing gates s act = Unit {0}
 
 -- ---- the policy
 
@@ -103,11 +121,11 @@ MayDo passing s act = Unit {0}
 abbrev pub Holds : Passing → List Entry → State → Move → Type 0
 Holds passing t s (Takes noted opens over) = MayTake t s noted opens over
 Holds passing t s (Breaks breach) = s.count ≡ 0
-Holds passing t s (Hears event) = MayHear s event
+Holds passing t s (Hears event) = MayHear (gates_on t) s event
 Holds passing t s Settles = Unit {0}
 Holds passing t s (Gives noted) = MayGive t s noted.frame
 Holds passing t s (Sends noted over) = MaySend t noted over
-Holds passing t s (Acts act) = MayDo passing s act
+Holds passing t s (Acts act) = MayDo passing (gates_on t) s act
 
 -- Each move is allowed where it stands; the newest stands first.
 abbrev pub AreAllowed : Passing → List Move → Type 0

@@ -14,7 +14,7 @@ use Rattle.model.specs.Available.{heard_by}
 use Rattle.model.specs.WindowsOnTape.{is_on, data_octets}
 use Rattle.model.specs.Failures.{is_asked_for_head}
 use Rattle.receiving.specs.State.{State}
-use Rattle.receiving.specs.Policy.{room_in, admits}
+use Rattle.receiving.specs.Policy.{Gates, room_in, admits}
 
 -- So many octets of an exchange's response were seen and not sent on.
 pub record HoldsBody (known : Known) (o : Opened) (t : List Entry) (count : ℕ) : Type 0 where
@@ -30,17 +30,17 @@ IsHeld Whole known t k count = count ≡ 0
 IsHeld Streaming known t k count = HoldsBody known (exchange_on k t) t count
 
 -- the room that is left
-abbrev pub room_left : State → (ℕ → ℕ) → ℕ → ℕ
-room_left s held k = room_in s k - held k
+abbrev pub room_left : Gates → (ℕ → ℕ) → ℕ → ℕ
+room_left gates held k = room_in gates k - held k
 
 -- octets of an upstream fit the room that is left
-abbrev pub fits : State → (ℕ → ℕ) → Event → Bool
-fits s held (Up k piece) = nat_le (length piece) (room_left s held k)
-fits s held event = true
+abbrev pub fits : Gates → (ℕ → ℕ) → Event → Bool
+fits gates held (Up k piece) = nat_le (length piece) (room_left gates held k)
+fits gates held event = true
 
 -- the event may come, where so much is held of each response
-abbrev pub admits_beside : State → (ℕ → ℕ) → Event → Bool
-admits_beside s held event = admits s event && fits s held event
+abbrev pub admits_beside : Gates → State → (ℕ → ℕ) → Event → Bool
+admits_beside gates s held event = admits gates s event && fits gates held event
 
 -- What is held is known for the upstream of the event, if that is open.
 abbrev pub AreHeld : Known → List Entry → (ℕ → ℕ) → Event → Type 0

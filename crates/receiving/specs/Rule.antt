@@ -9,7 +9,7 @@ use Rattle.model.specs.WindowsOnTape.{increment}
 use Rattle.offering.specs.Sight.{Sight, first_sight, IsRightOf}
 use Rattle.receiving.specs.State.{State, Move, tape_of, state_of}
 use Rattle.receiving.specs.State.Move.{Takes, Breaks, Hears, Settles, Gives, Sends, Acts}
-use Rattle.receiving.specs.Policy.{MayHear, MayDo}
+use Rattle.receiving.specs.Policy.{Gates, AreGates, gates_on, MayHear, MayDo}
 
 -- a stream is over with a move
 abbrev pub is_over_by : Sight → Sight → ℕ → Bool
@@ -46,21 +46,22 @@ pub record SendsOther (before behind : Sight) (noted : Noted) (over : Bool) : Ty
   pub over_with_it : over ≡ is_over_by before behind noted.frame.id
 
 -- The move may come; something comes in only where nothing is owed.
-abbrev pub MayCome : Passing → Sight → Sight → State → Move → Type 0
-MayCome passing before behind s (Takes noted opens over) = TakesFrame before behind s noted opens over
-MayCome passing before behind s (Breaks breach) = OwesNothing before s
-MayCome passing before behind s (Hears event) = OwesNothing before s × MayHear s event
-MayCome passing before behind s Settles = Unit {0}
-MayCome passing before behind s (Gives noted) = GivesAll before s noted.frame
-MayCome passing before behind s (Sends noted over) = SendsOther before behind noted over
-MayCome passing before behind s (Acts act) = MayDo passing s act
+abbrev pub MayCome : Passing → Gates → Sight → Sight → State → Move → Type 0
+MayCome passing gates before behind s (Takes noted opens over) = TakesFrame before behind s noted opens over
+MayCome passing gates before behind s (Breaks breach) = OwesNothing before s
+MayCome passing gates before behind s (Hears event) = OwesNothing before s × MayHear gates s event
+MayCome passing gates before behind s Settles = Unit {0}
+MayCome passing gates before behind s (Gives noted) = GivesAll before s noted.frame
+MayCome passing gates before behind s (Sends noted over) = SendsOther before behind noted over
+MayCome passing gates before behind s (Acts act) = MayDo passing gates s act
 
 -- ---- runs
 
--- A move, and what is read behind it.
+-- A move, and what is read and told behind it.
 pub record Seen : Type 0 where
   pub move : Move
   pub sight : Sight
+  pub gates : Gates
 
 -- the moves of a run, the newest first
 abbrev pub moves_of : List Seen → List Move
@@ -71,12 +72,17 @@ abbrev pub sight_of : List Seen → Sight
 sight_of [] = first_sight
 sight_of (x ∷ run) = x.sight
 
+-- what is told behind it
+abbrev pub gates_of : List Seen → Gates
+gates_of [] = gates_on []
+gates_of (x ∷ run) = x.gates
+
 -- Each move might come where it came.
 abbrev pub AllMayCome : Passing → List Seen → Type 0
 AllMayCome passing [] = Unit {0}
-AllMayCome passing (x ∷ run) = AllMayCome passing run × MayCome passing (sight_of run) x.sight (state_of passing (moves_of run)) x.move
+AllMayCome passing (x ∷ run) = AllMayCome passing run × MayCome passing (gates_of run) (sight_of run) x.sight (state_of passing (moves_of run)) x.move
 
--- What was read is right behind each move.
+-- What was read and told is right behind each move.
 abbrev pub AreRight : Known → List Seen → Type 0
 AreRight known [] = Unit {0}
-AreRight known (x ∷ run) = AreRight known run × IsRightOf known (tape_of (moves_of (x ∷ run))) x.sight
+AreRight known (x ∷ run) = AreRight known run × IsRightOf known (tape_of (moves_of (x ∷ run))) x.sight × AreGates (tape_of (moves_of (x ∷ run))) x.gates

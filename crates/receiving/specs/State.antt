@@ -1,9 +1,8 @@
 -- What is kept of the client's DATA and of what was put out, and how each move changes it.
-use Rattle.std.specs.Prelude.{ℕ, ◌+◌, ◌-◌, Bool, true, false, not, ◌&&◌, ◌==◌, nat_lt, if◌then◌else◌, List, [], ◌∷◌, ◌++◌, length, sum_by, filter}
+use Rattle.std.specs.Prelude.{ℕ, ◌+◌, Bool, true, false, not, ◌&&◌, ◌==◌, nat_lt, if◌then◌else◌, List, [], ◌∷◌, ◌++◌, length, sum_by, filter}
 use Rattle.std.specs.List.{list_any}
-use Rattle.model.specs.Frames.{spell}
 use Rattle.model.specs.Logs.{Event, Act}
-use Rattle.model.specs.Logs.Event.{ClientTook, UpFailed, UpTook}
+use Rattle.model.specs.Logs.Event.{UpTook}
 use Rattle.model.specs.Logs.Act.{Open, ToUp, Close, CloseClient}
 use Rattle.model.specs.Setup.{Passing}
 use Rattle.model.specs.Setup.Passing.{Whole, Streaming}
@@ -28,23 +27,16 @@ pub record State : Type 0 where
   -- the active streams, the newest first, and what is kept of each
   pub live : List ℕ
   pub row : ℕ → Row
-  -- octets of DATA that came with the last frame, on this stream, while its effect isn't over
+  -- the stream of the last frame, to which a connection is given, and the octets of DATA that came with it while its effect isn't over
   pub stream : ℕ
   pub count : ℕ
   -- its effect is over: octets that it sent upstream are counted
   pub settled : Bool
   -- octets that are to be given back on the connection
   pub debt : ℕ
-  -- the stream of the last frame, to which a connection is given
-  pub last : ℕ
-  -- of each connection: whether it is open, how many octets were put out for it, and how many of them its side took
-  pub is_up : ℕ → Bool
+  -- of each connection: how many octets were put out for it, and how many of them its side took
   pub out : ℕ → ℕ
   pub took : ℕ → ℕ
-  -- octets for the client that its side hasn't taken
-  pub untaken : ℕ
-  -- the client's connection was closed
-  pub closed : Bool
 
 -- nothing came
 abbrev pub start : State
@@ -55,12 +47,8 @@ start = record {
   count = 0;
   settled = false;
   debt = 0;
-  last = 0;
-  is_up = λ k. false;
   out = λ k. 0;
   took = λ k. 0;
-  untaken = 0;
-  closed = false;
 }
 
 -- ---- moves
@@ -95,10 +83,6 @@ tape_of [] = []
 tape_of (m ∷ ms) = entries_of m ++ tape_of ms
 
 -- ---- parts of a step
-
--- one value of a function changes
-abbrev pub set : {A : Type 0} → ℕ → A → (ℕ → A) → ℕ → A
-set k new f other = if other == k then new else f other
 
 -- so much more at one place
 abbrev pub add : ℕ → ℕ → (ℕ → ℕ) → ℕ → ℕ
@@ -163,7 +147,6 @@ with_frame s noted opens over = record s {
   count = data_length is_any noted.frame;
   settled = false;
   debt = s.debt + dropped over s noted.frame.id;
-  last = noted.frame.id;
 }
 
 -- An upstream's side took so many octets more: what waits behind marks that are reached goes back. On other streams none is.
@@ -178,8 +161,6 @@ with_taken s k count = record s {
 -- any other event
 abbrev pub with_event : State → Event → State
 with_event s (UpTook k count) = with_taken s k count
-with_event s (ClientTook count) = record s { settled = false; untaken = s.untaken - count }
-with_event s (UpFailed k) = record s { settled = false; is_up = set k false s.is_up }
 with_event s event = record s { settled = false }
 
 -- the stream is active
@@ -202,23 +183,22 @@ with_settled passing s = settle_by (must_wait passing s) s
 
 -- what is owed on an id is given back; 0 is that of the connection
 abbrev pub with_given : Bool → State → Noted → State
-with_given true s noted = record s { debt = 0; untaken = s.untaken + length (spell noted.frame) }
-with_given false s noted = record s { row = change noted.frame.id paid s.row; untaken = s.untaken + length (spell noted.frame) }
+with_given true s noted = record s { debt = 0 }
+with_given false s noted = record s { row = change noted.frame.id paid s.row }
 
 -- any other frame to the client
 abbrev pub with_sent : State → Noted → Bool → State
 with_sent s noted over = record s {
   live = unless_over over noted.frame.id s.live;
   debt = s.debt + dropped over s noted.frame.id;
-  untaken = s.untaken + length (spell noted.frame);
 }
 
 -- an act
 abbrev pub with_act : State → Act → State
-with_act s (Open k route) = record s { row = change s.last (given k) s.row; is_up = set k true s.is_up }
+with_act s (Open k route) = record s { row = change s.stream (given k) s.row }
 with_act s (ToUp k octets) = record s { out = add k (length octets) s.out }
-with_act s (Close k) = record s { is_up = set k false s.is_up }
-with_act s CloseClient = record s { closed = true }
+with_act s (Close k) = s
+with_act s CloseClient = s
 
 -- the state behind a move
 abbrev pub after : Passing → State → Move → State

@@ -1,9 +1,16 @@
 //! What of the client's DATA is kept and what goes back, and which event may come.
 //!
-//! The main theorem is `states_give_back`, beside `windows_go_back` on what goes back at each place. Its premises, and where each
-//! comes from: that each move may come by the states (`AllMayCome`) is what the methods of the gateway show; that what is read of
-//! the other concerns' states is right (`AreRight`) is the theorem on the summary of a tape; that nothing is owed
-//! (`OwesNothing`) is where a step ends. What is held of a response (`AreHeld`) is what its stream's outbox has (`held_is_told`).
+//! The main theorem is `states_give_back`, beside `windows_go_back` on what goes back at each place. Its premises, and where each comes
+//! from:
+//! - `AllMayCome`: each move may come by the states, which whoever performs a move shows there. That an event may come by the state is
+//!   `admission_is_told`, from the event's being admitted; octets that wait are the queue's (`receiving_queue`);
+//! - `AreRight`: what is read of `conduct`'s summary is right (`sights_are_right` of `offering`); how many octets the client hasn't taken and
+//!   whether it is closed are fields of it too, and which connections are open is `connections_are_told` of `serving`, clause `up`;
+//! - `OwesNothing`: nothing is owed, where a step ends. Something comes in only there (`MayCome`).
+//!
+//! What is held of a response (`AreHeld`) is what its stream's outbox has (`held_is_told`). The active streams (`live`) and the stream of the
+//! last frame (`stream`) are kept here once more, though `conduct` has them: the sum of what waits goes over the one, and the end of a
+//! frame's effect, which is no entry, is about the other.
 #![tactic(auto)]
 
 ghost use Rattle.std.specs.Prelude.{◌≡◌, ◌≢◌, ◌+◌, ◌≤◌, ℕ, Bool, true, List, length, sum_by, pos, ◌-ℤ◌};
@@ -20,7 +27,7 @@ ghost use Rattle.model.specs.Rooms.{IsAdmitted};
 ghost use Rattle.model.specs.Lifetimes.{is_active};
 ghost use Rattle.model.specs.WindowClause.{GivesBack, GivesNoMore, waiting};
 ghost use Rattle.receiving.specs.State.{Move, tape_of, state_of, held, fresh_of, with_taken, add};
-ghost use Rattle.receiving.specs.Policy.{AreAllowed, IsPaid, KeepRooms, admits, room_in};
+ghost use Rattle.receiving.specs.Policy.{AreAllowed, IsPaid, KeepRooms, Gates, AreGates, admits, room_in};
 ghost use Rattle.receiving.specs.Rule.{Seen, moves_of, sight_of, AllMayCome, AreRight, OwesNothing};
 ghost use Rattle.receiving.specs.Rooms.{HoldsBody, AreHeld, admits_beside};
 ghost use Rattle.offering.specs.Outbox.{Outbox};
@@ -63,10 +70,10 @@ pub fn one_stream_returns()
 /// Which event may come by the state is which may by the tape, and so is the room of an upstream; where responses are passed on
 /// as they come, with what is held of them.
 pub fn admission_is_told()
-    ensures admits { (passing : Passing) (moves : List Move) (event : Event) → AreAllowed passing moves → admits (state_of passing moves) event ≡ is_admitted (tape_of moves) event }
-    ensures room { (passing : Passing) (moves : List Move) (k : ℕ) → AreAllowed passing moves → room_in (state_of passing moves) k ≡ room k (tape_of moves) }
-    ensures beside { (known : Known) (passing : Passing) (moves : List Move) (held : ℕ → ℕ) (event : Event) → AreAllowed passing moves → AreHeld known (tape_of moves) held event → admits_beside (state_of passing moves) held event ≡ true → IsAdmitted known (tape_of moves) event }
-    ensures only { (known : Known) (passing : Passing) (moves : List Move) (held : ℕ → ℕ) (event : Event) → AreAllowed passing moves → AreHeld known (tape_of moves) held event → IsAdmitted known (tape_of moves) event → admits_beside (state_of passing moves) held event ≡ true }
+    ensures admits { (passing : Passing) (moves : List Move) (gates : Gates) (event : Event) → AreAllowed passing moves → AreGates (tape_of moves) gates → admits gates (state_of passing moves) event ≡ is_admitted (tape_of moves) event }
+    ensures room { (passing : Passing) (moves : List Move) (gates : Gates) (k : ℕ) → AreAllowed passing moves → AreGates (tape_of moves) gates → room_in gates k ≡ room k (tape_of moves) }
+    ensures beside { (known : Known) (passing : Passing) (moves : List Move) (gates : Gates) (held : ℕ → ℕ) (event : Event) → AreAllowed passing moves → AreGates (tape_of moves) gates → AreHeld known (tape_of moves) held event → admits_beside gates (state_of passing moves) held event ≡ true → IsAdmitted known (tape_of moves) event }
+    ensures only { (known : Known) (passing : Passing) (moves : List Move) (gates : Gates) (held : ℕ → ℕ) (event : Event) → AreAllowed passing moves → AreGates (tape_of moves) gates → AreHeld known (tape_of moves) held event → IsAdmitted known (tape_of moves) event → admits_beside gates (state_of passing moves) held event ≡ true }
 {}
 
 /// Where responses are passed on as they come, what takes room is the body in the outbox of the upstream's stream.

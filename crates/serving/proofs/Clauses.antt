@@ -36,7 +36,7 @@ use Rattle.serving.proofs.Reading as reading
 -- ---- connections
 
 -- of connections of which none is done with, none that is found is
-none_done : (told : Told) (k : ℕ) (ls : List Live) (l : Live) → list_any (is_done told) ls ≡ false → live_of k ls ≡ Some l → is_done told l ≡ false
+pub none_done : (told : Told) (k : ℕ) (ls : List Live) (l : Live) → list_any (is_done told) ls ≡ false → live_of k ls ≡ Some l → is_done told l ≡ false
 none_done told k [] l none e = cc
 none_done told k (x ∷ xs) l none e = elim (eqb_tells x.k k) [
   | inl same ↦ (let found : Some x ≡ Some l = sym (ap (λ b. if b then Some x else live_of k xs) same.0) ∙ e in let is : x ≡ l = cc in ap (is_done told) (sym is) ∙ (or_parts (is_done told x) (list_any (is_done told) xs) none).0)
@@ -107,7 +107,7 @@ at_first known = record {
 }
 
 -- what is told behind all moves is so
-all_told : (known : Known) (turns : List Turn) → AreSo known turns → IsTold known (tape_of turns) (told_of turns)
+pub all_told : (known : Known) (turns : List Turn) → AreSo known turns → IsTold known (tape_of turns) (told_of turns)
 all_told known [] so = record { served = λ stream. refl; ends = refl; closed = refl }
 all_told known (turn ∷ turns) so = so.2
 

@@ -15,6 +15,7 @@ pub mod Opening
 pub mod Reading
 pub mod Clauses
 pub mod InTurn
+pub mod Connections
 pub mod Sources
 pub mod Calling
 pub mod Telling

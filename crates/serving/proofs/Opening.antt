@@ -44,7 +44,7 @@ active_opened stream t active = by (is_opened stream t) (is_over stream t) activ
     by false b e = e
 
 -- none was given to the stream
-given_none_in : (stream : ℕ) (os : List Opened) → ((o : Opened) → IsIn o os → o.stream ≡ stream → ⊥) → IsGivenNone stream os
+pub given_none_in : (stream : ℕ) (os : List Opened) → ((o : Opened) → IsIn o os → o.stream ≡ stream → ⊥) → IsGivenNone stream os
 given_none_in stream [] none = tt
 given_none_in stream (o ∷ os) none = (λ e. none o (inl refl) (sym e), given_none_in stream os (λ p i. none p (inr i)))
 

@@ -1,8 +1,7 @@
--- Which streams are active behind an entry, and what it leaves of the sending windows.
-use Rattle.std.proofs.Common.{◌≡◌, ℕ, ◌+◌, Bool, true, false, not, ◌==◌, ◌&&◌, ◌||◌, List, [], ◌∷◌, ◌++◌, length, refl, sym, ap, ◌∙◌, arith, if◌then◌else◌, ℤ, pos, ◌-ℤ◌}
+-- Which streams are active behind an entry, and what a frame that is sent brings.
+use Rattle.std.proofs.Common.{◌≡◌, ℕ, Bool, true, false, not, ◌==◌, ◌&&◌, ◌||◌, List, [], ◌∷◌, ◌++◌, refl, sym, ap, ◌∙◌, if◌then◌else◌}
 use Rattle.std.specs.Prelude.{Option, None}
 use Rattle.std.specs.List.{list_any}
-use Rattle.std.proofs.lemmas.Int.{ints}
 use Rattle.std.proofs.lemmas.List.{append-nil}
 use Rattle.std.proofs.lemmas.Bool.{and_parts, and_from, and_right, eq-eqb, ne_eqb}
 use Rattle.std.proofs.Math.Bool.{and-true}
@@ -14,10 +13,7 @@ use Rattle.model.specs.Tapes.Entry.{Came, Sent}
 use Rattle.model.specs.Decoding.{Partial, completed}
 use Rattle.model.specs.Streams.{frame_items}
 use Rattle.model.specs.Available.{items_on}
-use Rattle.model.specs.FrameErrors.{sound}
 use Rattle.model.specs.Lifetimes.{opened, opens_by, is_opened, is_over, is_active, ends_by, is_ended_by_client, is_ended_by_gateway, is_reset_by_client, is_reset_by_gateway}
-use Rattle.model.specs.Windows.{first_window, sending_window}
-use Rattle.model.specs.WindowsOnTape.{is_on, is_any, data_length, data_octets, increments, first_size, stream_window, connection_window}
 
 -- ---- active streams
 
@@ -105,40 +101,3 @@ brought_none t noted stream none = no_items (noted.frame.id == stream) (items_on
 pub none_brought : (noted : Noted) (block : Option Partial) → block ≡ None → (noted.frame.kind == data_kind) ≡ false → frame_items block noted ≡ []
 none_brought noted block none no_data =
     ap (λ b. frame_items b noted) none ∙ ap (λ b. if b then Content (content noted.frame) (ends_stream noted.frame) ∷ [] else []) no_data
-
--- ---- the sending windows behind a frame that is sent
-
-less : (first granted sent count : ℕ) → sending_window first granted (sent + count) ≡ sending_window first granted sent -ℤ pos count
-less first granted sent count = omega (arith, ints)
-
-none_less : (window : ℤ) → window ≡ window -ℤ pos 0
-none_less window = omega (arith, ints)
-
-pub shared_sent : (t : List Entry) (noted : Noted) → connection_window (Sent noted ∷ t) ≡ connection_window t -ℤ pos (data_length is_any noted.frame)
-shared_sent t noted = less first_window (increments 0 (sound t)) (data_octets is_any (sent t)) (data_length is_any noted.frame)
-
-own_less : (t : List Entry) (noted : Noted) (stream : ℕ) → stream_window stream (Sent noted ∷ t) ≡ stream_window stream t -ℤ pos (data_length (is_on stream) noted.frame)
-own_less t noted stream = less (first_size t) (increments stream (sound t)) (data_octets (is_on stream) (sent t)) (data_length (is_on stream) noted.frame)
-
--- on the frame's stream
-pub own_sent : (t : List Entry) (noted : Noted) → stream_window noted.frame.id (Sent noted ∷ t) ≡ stream_window noted.frame.id t -ℤ pos (data_length is_any noted.frame)
-own_sent t noted =
-    own_less t noted noted.frame.id
-    ∙ ap (λ b. stream_window noted.frame.id t -ℤ pos (if noted.frame.kind == data_kind && b then length noted.frame.payload else 0)) (eq-eqb noted.frame.id noted.frame.id refl)
-
--- on any other
-pub own_other : (t : List Entry) (noted : Noted) (stream : ℕ) → (noted.frame.id ≡ stream → ⊥) → stream_window stream (Sent noted ∷ t) ≡ stream_window stream t
-own_other t noted stream other =
-    own_less t noted stream
-    ∙ ap (λ b. stream_window stream t -ℤ pos (if noted.frame.kind == data_kind && b then length noted.frame.payload else 0)) (ne_eqb noted.frame.id stream other)
-    ∙ ap (λ b. stream_window stream t -ℤ pos (if b then length noted.frame.payload else 0)) (and_right (noted.frame.kind == data_kind) false refl)
-    ∙ sym (none_less (stream_window stream t))
-
--- a frame that isn't DATA
-pub own_control : (t : List Entry) (noted : Noted) (stream : ℕ) → (noted.frame.kind == data_kind) ≡ false → stream_window stream (Sent noted ∷ t) ≡ stream_window stream t
-own_control t noted stream no_data =
-    own_less t noted stream ∙ ap (λ b. stream_window stream t -ℤ pos (if b && noted.frame.id == stream then length noted.frame.payload else 0)) no_data ∙ sym (none_less (stream_window stream t))
-
-pub shared_control : (t : List Entry) (noted : Noted) → (noted.frame.kind == data_kind) ≡ false → connection_window (Sent noted ∷ t) ≡ connection_window t
-shared_control t noted no_data =
-    shared_sent t noted ∙ ap (λ b. connection_window t -ℤ pos (if b && is_any noted.frame.id then length noted.frame.payload else 0)) no_data ∙ sym (none_less (connection_window t))

@@ -6,3 +6,4 @@ pub mod Keeping
 pub mod RunsGreeting
 pub mod RunsRequest
 pub mod RunsSteps
+pub mod RunsAnswer

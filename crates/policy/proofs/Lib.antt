@@ -7,3 +7,5 @@ pub mod RunsGreeting
 pub mod RunsRequest
 pub mod RunsSteps
 pub mod RunsAnswer
+pub mod RunsFailure
+pub mod RunsWindow

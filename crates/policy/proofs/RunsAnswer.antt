@@ -186,7 +186,7 @@ abbrev begins_with_two : Field → Bool
 begins_with_two field = get_or field.value 0 0 == 50
 
 -- the name begins with a c and has 14 octets
-abbrev is_length_name : List ℕ → Bool
+abbrev pub is_length_name : List ℕ → Bool
 is_length_name name = get_or name 0 0 == 99 && length name == 14
 
 -- no entry below is the status
@@ -260,7 +260,7 @@ answer_encoded =
 -- ---- each may come
 
 -- it rests before it
-forwarded_rest : Rests (told at_forwarded) at_forwarded
+pub forwarded_rest : Rests (told at_forwarded) at_forwarded
 forwarded_rest = record {
   conduct = record { nothing = refl; none_begun = refl; ended = λ e. never e };
   flushed = record { none_cut = λ stream kept found. one_whole (1 == stream) (record { id = 1; box = silent; own = pos 65535; cut = false }) kept refl found; none_ready = λ low. refl };

@@ -38,7 +38,6 @@ pub mod OwedSteps
 pub mod OfferLemmas
 pub mod OfferLaws
 pub mod GivenLaws
-pub mod InTurnLaws
 pub mod ActiveLaws
 pub mod HeadLaws
 pub mod LifeLaws

@@ -26,7 +26,7 @@ use Rattle.serving.specs.Rule as requests
 use Rattle.policy.specs.Moves.{Gain, Deed, told_in, gained}
 use Rattle.policy.specs.Moves.Gain.{Nothing, Begins, Gathers, Passes, Drops}
 use Rattle.policy.specs.Moves.Deed.{Takes, Breaks, Notes}
-use Rattle.policy.specs.State.{State}
+use Rattle.policy.specs.State.{State, gates_in}
 use Rattle.policy.specs.Rule.{Gains, Rests, MayDo}
 use Rattle.policy.specs.Steps.{told_by, told_behind}
 use Rattle.policy.specs.Coming.{IsReady, IsGained, MayTake}
@@ -62,7 +62,7 @@ module _ (setup : Setup) (behind : Summary) (s : State) (ready : IsReady s) wher
   }
 
   -- an event of no upstream's answer, that may come by its numbers
-  pub may_note : (event : Event) → upstream_of event ≡ 0 → may_come s.windows event ≡ true → MayDo setup (told_by s) behind s (Notes event)
+  pub may_note : (event : Event) → upstream_of event ≡ 0 → may_come (gates_in (told_by s) s.requests) s.windows event ≡ true → MayDo setup (told_by s) behind s (Notes event)
   may_note event none may = record {
     rests = λ e. ready.rests;
     conduct = record { allowed = record { open_yet = ready.open_yet; turn = comes }; fit = λ fails. absurd (let no : false ≡ true = fails in cc) };

@@ -87,12 +87,12 @@ module _ (known : Known) (run : List Move) (k : IsKnown known run) (rests : Rest
   no_more : GivesNoMore t
   no_more =
       subst GivesNoMore (windows_tape known.setup run)
-      (gives_no_more known.setup.passing (windows.moves_of (windows_of known.setup run)) (all_allowed known known.setup.passing (windows_of known.setup run) (windows_may known.setup run k.all) (windows_right known run k.knows k.all)))
+      (gives_no_more known.setup.passing (windows.moves_of (windows_of known.setup run)) (all_allowed known known.setup.passing (windows_of known.setup run) (windows_may known.setup run k.all) (windows_right known run k.knows k.all k.answered)))
 
   gives_back : is_closed t ≡ false → GivesBack known t
   gives_back open_yet =
       subst (GivesBack known) (windows_tape known.setup run)
-      (run_gives_back known (windows_of known.setup run) (windows_may known.setup run k.all) (windows_right known run k.knows k.all)
+      (run_gives_back known (windows_of known.setup run) (windows_may known.setup run k.all) (windows_right known run k.knows k.all k.answered)
       (subst (λ (s : Sight). OwesNothing s (receiving.state_of known.setup.passing (windows.moves_of (windows_of known.setup run)))) (sym (windows_sight known.setup run)) (rests.given_back (closed_told known run k.knows (all_moved known run k.all) ∙ open_yet))))
 
   -- ---- the clauses

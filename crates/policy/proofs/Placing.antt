@@ -7,6 +7,7 @@ use Rattle.model.specs.Setup.{Setup}
 use Rattle.model.specs.Logs.{Event}
 use Rattle.model.specs.Logs.Event.{Client, ClientEnd, ClientTook, Up, UpEnd, UpFailed, UpTook}
 use Rattle.model.specs.Tapes.{Noted, Entry}
+use Rattle.model.specs.Admission.{is_open}
 use Rattle.model.specs.Known.{Known}
 use Rattle.conduct.specs.Summary.{Summary, summary_of, stream_of}
 use Rattle.conduct.specs.Rule.{AreKnown}
@@ -17,12 +18,14 @@ use Rattle.conduct.proofs.Telling.{book_told}
 use Rattle.offering.specs.Rule as offers
 use Rattle.offering.specs.Sight.{Sight, IsRightOf, sight_in, windows_in}
 use Rattle.offering.specs.State as offering
+use Rattle.receiving.specs.Policy.{Gates, AreGates}
 use Rattle.receiving.specs.Rule as windows
 use Rattle.receiving.specs.State as receiving
 use Rattle.serving.specs.Meaning.{IsSo, AreSo, Brings}
 use Rattle.serving.specs.Rule as requests
 use Rattle.serving.specs.State as serving
-use Rattle.serving.specs.Told.{IsTold, nothing_told}
+use Rattle.serving.specs.Told.{IsTold}
+use Rattle.serving.proofs.Connections.{connections_told}
 use Rattle.tables.specs.Kept.{IsJudgedIf, AllJudged}
 use Rattle.tables.specs.Rule as tables
 use Rattle.tables.specs.State as tabled
@@ -31,11 +34,11 @@ use Rattle.policy.specs.Moves.{Gain, Deed, Move, entry_of, offer_of, gained, fai
 use Rattle.policy.specs.Moves.Gain.{Nothing, Begins, Gathers, Passes, Drops}
 use Rattle.policy.specs.Moves.Deed.{Takes, Breaks, Notes, Hears, Fails, Sends, Goes, Acts}
 use Rattle.policy.specs.Moves.Move.{Does, Settles}
-use Rattle.policy.specs.State.{conducts, tape_of, summary_at, offers_of, turns_of, tables_of, windows_of, state_of}
+use Rattle.policy.specs.State.{gates_in, conducts, tape_of, summary_at, offers_of, turns_of, tables_of, windows_of, state_of}
 use Rattle.policy.specs.Rule.{added_in, Gains, AllAllowed}
 use Rattle.policy.specs.Answered.{IsWholeBy, IsAnswered, AreAnswered}
 use Rattle.policy.proofs.Tapes.{offer_entry, request_entry, table_entry, offers_tape, requests_tape, tables_tape, windows_tape}
-use Rattle.policy.proofs.Telling.{all_moved, told_by, moves_same, sight_right, told_right, verdict_told}
+use Rattle.policy.proofs.Telling.{all_moved, told_by, moves_same, sight_right, closed_told, told_right, verdict_told}
 use Rattle.policy.proofs.Adding.{none_added, one_added, first_added, added_by_book, right_by_book}
 
 -- ---- what is told before a move
@@ -49,6 +52,11 @@ pub windows_sight : (setup : Setup) (run : List Move) → windows.sight_of (wind
 windows_sight setup [] = refl
 windows_sight setup (Does d ∷ run) = refl
 windows_sight setup (Settles ∷ run) = refl
+
+pub windows_gates : (setup : Setup) (run : List Move) → windows.gates_of (windows_of setup run) ≡ gates_in (summary_at setup run) (serving.state_of setup (turns_of setup run))
+windows_gates setup [] = refl
+windows_gates setup (Does d ∷ run) = refl
+windows_gates setup (Settles ∷ run) = refl
 
 pub turns_told : (setup : Setup) (run : List Move) → requests.told_of (turns_of setup run) ≡ told_in (summary_at setup run)
 turns_told setup [] = refl
@@ -69,7 +77,8 @@ pub windows_may : (setup : Setup) (run : List Move) → AllAllowed setup run →
 windows_may setup [] all = tt
 windows_may setup (Does d ∷ run) all = (
   windows_may setup run all.0,
-  subst (λ (s : Sight). windows.MayCome setup.passing s (sight_in (summary_at setup (Does d ∷ run))) (receiving.state_of setup.passing (windows.moves_of (windows_of setup run))) (window_of (sight_in (summary_at setup run)) (sight_in (summary_at setup (Does d ∷ run))) d)) (sym (windows_sight setup run)) all.1.window,
+  subst (λ (g : Gates). windows.MayCome setup.passing g (windows.sight_of (windows_of setup run)) (sight_in (summary_at setup (Does d ∷ run))) (receiving.state_of setup.passing (windows.moves_of (windows_of setup run))) (window_of (sight_in (summary_at setup run)) (sight_in (summary_at setup (Does d ∷ run))) d)) (sym (windows_gates setup run))
+  (subst (λ (s : Sight). windows.MayCome setup.passing (gates_in (summary_at setup run) (serving.state_of setup (turns_of setup run))) s (sight_in (summary_at setup (Does d ∷ run))) (receiving.state_of setup.passing (windows.moves_of (windows_of setup run))) (window_of (sight_in (summary_at setup run)) (sight_in (summary_at setup (Does d ∷ run))) d)) (sym (windows_sight setup run)) all.1.window),
 )
 windows_may setup (Settles ∷ run) all = (windows_may setup run all, tt)
 
@@ -108,17 +117,6 @@ offers_right known (Does d ∷ run) knows all = (
   subst (λ (t : List Entry). IsRightOf known t (sight_in (summary_at known.setup (Does d ∷ run)))) (sym (offers_tape known.setup (Does d ∷ run))) (sight_right known (Does d ∷ run) knows (all_moved known (Does d ∷ run) all)),
 )
 offers_right known (Settles ∷ run) knows all = offers_right known run knows all
-
-pub windows_right : (known : Known) (run : List Move) → AreKnown known (conducts run) → AllAllowed known.setup run → windows.AreRight known (windows_of known.setup run)
-windows_right known [] knows all = tt
-windows_right known (Does d ∷ run) knows all = (
-  windows_right known run knows.0 all.0,
-  subst (λ (t : List Entry). IsRightOf known t (sight_in (summary_at known.setup (Does d ∷ run)))) (sym (windows_tape known.setup (Does d ∷ run))) (sight_right known (Does d ∷ run) knows (all_moved known (Does d ∷ run) all)),
-)
-windows_right known (Settles ∷ run) knows all = (
-  windows_right known run knows all,
-  subst (λ (t : List Entry). IsRightOf known t (sight_in (summary_at known.setup run))) (sym (windows_tape known.setup run)) (sight_right known run knows (all_moved known run all)),
-)
 
 -- what a deed tells of an answer
 told_one : (known : Known) (s u : Sight) (t : List Entry) (d : Deed) → IsAnswered known t d → offers.IsTold known t (offer_of s u d)
@@ -208,3 +206,27 @@ turns_so known (Does d ∷ run) knows all so = (
   subst (λ (t : List Entry). IsTold known t (told_in (summary_at known.setup (Does d ∷ run)))) (sym (requests_tape known.setup (Does d ∷ run))) (told_right known (Does d ∷ run) knows (all_moved known (Does d ∷ run) all)),
 )
 turns_so known (Settles ∷ run) knows all so = turns_so known run knows all so
+
+-- ---- what receiving is told
+
+gates_right : (known : Known) (run : List Move) → AreKnown known (conducts run) → AllAllowed known.setup run → AreAnswered known run → AreGates (tape_of run) (gates_in (summary_at known.setup run) (serving.state_of known.setup (turns_of known.setup run)))
+gates_right known run knows all so =
+    let moved = all_moved known run all in
+    record {
+      is_up = λ k. connections_told known (turns_of known.setup run) (turns_may known.setup run all) (turns_so known run knows all so) k ∙ ap (λ (t : List Entry). is_open k t) (requests_tape known.setup run);
+      untaken = (sight_right known run knows moved).untaken;
+      closed = closed_told known run knows moved;
+    }
+
+pub windows_right : (known : Known) (run : List Move) → AreKnown known (conducts run) → AllAllowed known.setup run → AreAnswered known run → windows.AreRight known (windows_of known.setup run)
+windows_right known [] knows all so = tt
+windows_right known (Does d ∷ run) knows all so = (
+  windows_right known run knows.0 all.0 so.0,
+  subst (λ (t : List Entry). IsRightOf known t (sight_in (summary_at known.setup (Does d ∷ run)))) (sym (windows_tape known.setup (Does d ∷ run))) (sight_right known (Does d ∷ run) knows (all_moved known (Does d ∷ run) all)),
+  subst (λ (t : List Entry). AreGates t (gates_in (summary_at known.setup (Does d ∷ run)) (serving.state_of known.setup (turns_of known.setup (Does d ∷ run))))) (sym (windows_tape known.setup (Does d ∷ run))) (gates_right known (Does d ∷ run) knows all so),
+)
+windows_right known (Settles ∷ run) knows all so = (
+  windows_right known run knows all so,
+  subst (λ (t : List Entry). IsRightOf known t (sight_in (summary_at known.setup run))) (sym (windows_tape known.setup run)) (sight_right known run knows (all_moved known run all)),
+  subst (λ (t : List Entry). AreGates t (gates_in (summary_at known.setup run) (serving.state_of known.setup (turns_of known.setup run)))) (sym (windows_tape known.setup run)) (gates_right known run knows all so),
+)

@@ -26,7 +26,7 @@ use Rattle.policy.specs.Moves.{Gain, Deed, Move, entry_of, comes_in, conduct_of,
 use Rattle.policy.specs.Moves.Gain.{Nothing, Begins, Gathers, Passes, Drops}
 use Rattle.policy.specs.Moves.Deed.{Takes}
 use Rattle.policy.specs.Moves.Move.{Does, Settles}
-use Rattle.policy.specs.State.{State, summary_at, state_of}
+use Rattle.policy.specs.State.{State, gates_in, summary_at, state_of}
 
 -- ---- what a frame adds to its stream's request
 
@@ -85,7 +85,7 @@ pub record MayDo (setup : Setup) (before behind : Summary) (state : State) (d : 
   pub request : requests.IsAllowed setup (told_in before) (told_in behind) state.requests (request_of d)
   pub gains : GainsIf setup before d
   pub table : tables.IsFit state.tables (table_of before d)
-  pub window : windows.MayCome setup.passing (sight_in before) (sight_in behind) state.windows (window_of (sight_in before) (sight_in behind) d)
+  pub window : windows.MayCome setup.passing (gates_in before state.requests) (sight_in before) (sight_in behind) state.windows (window_of (sight_in before) (sight_in behind) d)
 
 -- Each move might come where it came; the newest stands first. The effect of what came last may be over at any time.
 abbrev pub AllAllowed : Setup → List Move → Type 0

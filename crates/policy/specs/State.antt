@@ -1,5 +1,5 @@
 -- What a gateway keeps: a field for each concern, and what is told behind moves.
-use Rattle.std.specs.Prelude.{Bool, true, false, if◌then◌else◌, List, [], ◌∷◌}
+use Rattle.std.specs.Prelude.{Bool, true, false, if◌then◌else◌, List, [], ◌∷◌, is_some}
 use Rattle.model.specs.Setup.{Setup}
 use Rattle.model.specs.Tapes.{Entry}
 use Rattle.conduct.specs.Summary.{Summary}
@@ -8,6 +8,7 @@ use Rattle.conduct.specs.Book.{Desk, summary_in, desk_of}
 use Rattle.offering.specs.Sight.{sight_in}
 use Rattle.offering.specs.Rule as offers
 use Rattle.offering.specs.State as offering
+use Rattle.receiving.specs.Policy.{Gates}
 use Rattle.receiving.specs.Rule as windows
 use Rattle.receiving.specs.State as receiving
 use Rattle.serving.specs.State as serving
@@ -23,6 +24,10 @@ pub record State : Type 0 where
   pub requests : serving.State
   pub tables : tables.State
   pub windows : receiving.State
+
+-- what is told of connections: which are open, how many octets for the client aren't taken, and whether it was closed
+abbrev pub gates_in : Summary → serving.State → Gates
+gates_in s requests = record { is_up = λ k. is_some (serving.live_of k requests.live); untaken = s.untaken; closed = s.closed }
 
 -- ---- moves, the newest first
 
@@ -63,8 +68,13 @@ tables_of setup (Settles ∷ run) = tables_of setup run
 abbrev pub windows_of : Setup → List Move → List windows.Seen
 windows_of setup [] = []
 windows_of setup (Does d ∷ run) =
-    record { move = window_of (sight_in (summary_at setup run)) (sight_in (summary_at setup (Does d ∷ run))) d; sight = sight_in (summary_at setup (Does d ∷ run)) } ∷ windows_of setup run
-windows_of setup (Settles ∷ run) = record { move = receiving.Move.Settles; sight = sight_in (summary_at setup run) } ∷ windows_of setup run
+    record {
+      move = window_of (sight_in (summary_at setup run)) (sight_in (summary_at setup (Does d ∷ run))) d;
+      sight = sight_in (summary_at setup (Does d ∷ run));
+      gates = gates_in (summary_at setup (Does d ∷ run)) (serving.state_of setup (turns_of setup (Does d ∷ run)));
+    } ∷ windows_of setup run
+windows_of setup (Settles ∷ run) =
+    record { move = receiving.Move.Settles; sight = sight_in (summary_at setup run); gates = gates_in (summary_at setup run) (serving.state_of setup (turns_of setup run)) } ∷ windows_of setup run
 
 -- what is kept behind moves
 abbrev pub state_of : Setup → List Move → State

@@ -27,7 +27,7 @@ ghost use Rattle.model.specs.Synchrony.{InStep};
 ghost use Rattle.conduct.specs.Rule.{AreKnown};
 ghost use Rattle.policy.specs.Moves.{Gain, Deed, Move};
 ghost use Rattle.policy.specs.Moves.Deed.{Takes, Breaks, Notes};
-ghost use Rattle.policy.specs.State.{State, conducts, tape_of, state_of};
+ghost use Rattle.policy.specs.State.{State, gates_in, conducts, tape_of, state_of};
 ghost use Rattle.policy.specs.Rule.{MayDo, AllAllowed, RestsBehind};
 ghost use Rattle.policy.specs.Answered.{AreAnswered};
 ghost use Rattle.policy.specs.Steps.{told_by, told_behind, next, MayGoOn, Leads, Stands, AreAnsweredBy};
@@ -68,6 +68,6 @@ pub fn states_lead()
 /// is so.
 pub fn inputs_have_moves()
     ensures breach { (setup : Setup) (s : State) (breach : Breach) → IsReady s → MayDo setup (told_by s) (told_behind setup s (Breaks breach)) s (Breaks breach) }
-    ensures event { (setup : Setup) (s : State) (event : Event) → IsReady s → upstream_of event ≡ 0 → may_come s.windows event ≡ true → MayDo setup (told_by s) (told_behind setup s (Notes event)) s (Notes event) }
+    ensures event { (setup : Setup) (s : State) (event : Event) → IsReady s → upstream_of event ≡ 0 → may_come (gates_in (told_by s) s.requests) s.windows event ≡ true → MayDo setup (told_by s) (told_behind setup s (Notes event)) s (Notes event) }
     ensures frame { (setup : Setup) (s : State) (noted : Noted) (next : Table) (gain : Gain) → IsReady s → MayTake setup (told_behind setup s (Takes noted next gain)) s noted next gain → MayDo setup (told_by s) (told_behind setup s (Takes noted next gain)) s (Takes noted next gain) }
 {}

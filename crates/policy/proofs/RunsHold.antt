@@ -1,0 +1,62 @@
+-- The clauses of the headline hold behind worked runs, by the law.
+use Rattle.std.proofs.Common.{false, [], ◌∷◌, length, refl, subst, inl, inr}
+use Rattle.model.specs.Tables.{total_size}
+use Rattle.model.specs.Logs.Event.{UpFailed}
+use Rattle.model.specs.Known.{Known}
+use Rattle.model.specs.Headline.{ClausesHold, HoldsInTurn}
+use Rattle.model.specs.Openings.{Opened}
+use Rattle.model.specs.Tapes.Entry.{Happened}
+use Rattle.model.proofs.OfferLemmas.{nothing_complete}
+use Rattle.serving.specs.Meaning.{IsAllHeard}
+use Rattle.policy.specs.State.{tape_of}
+use Rattle.policy.specs.Answered.{IsWholeBy}
+use Rattle.policy.proofs.Keeping.{IsKnown, clauses, in_turn}
+use Rattle.policy.proofs.RunsGreeting.{setup}
+use Rattle.policy.proofs.RunsRequest.{forwarded, forwarded_allowed, forwarded_rests}
+use Rattle.policy.proofs.RunsFailure.{replied_to, replied_leads, replied_rests}
+use Rattle.policy.proofs.RunsBody.{cancelled, cancelled_leads, cancelled_rests}
+
+-- no answer failed
+abbrev pub known : Known
+known = record { setup = setup; failures = [] }
+
+-- a GET that went out
+pub forwarded_holds : ClausesHold known (tape_of forwarded)
+forwarded_holds = clauses known forwarded (record { knows = ((((((tt, refl), refl), refl), refl), refl), refl); all = forwarded_allowed; answered = ((((((tt, tt), tt), tt), tt), tt), tt) }) forwarded_rests
+
+cancelled_known : IsKnown known cancelled
+cancelled_known = record {
+  knows = ((((((((((((((tt, refl), refl), refl), refl), refl), refl), refl), refl), refl), refl), refl), refl), refl), refl);
+  all = cancelled_leads.all;
+  answered = ((((((((((((((tt, tt), tt), tt), tt), tt), tt), tt), tt), tt), tt), tt), tt), tt), tt);
+}
+
+-- a request that was reset in the middle of its body
+pub cancelled_holds : ClausesHold known (tape_of cancelled)
+cancelled_holds = clauses known cancelled cancelled_known cancelled_rests
+
+-- and before each thing that came in
+pub cancelled_in_turn : HoldsInTurn (ClausesHold known) (tape_of cancelled)
+cancelled_in_turn = in_turn known cancelled cancelled_known
+
+-- ---- the same of the reply, where a failure is known
+
+abbrev pub known_failed : Known
+known_failed = record { setup = setup; failures = length (tape_of forwarded) ∷ [] }
+
+-- nothing was heard of the connection that failed
+none_whole : IsWholeBy known_failed (tape_of forwarded) (UpFailed 1) false
+unfolding total_size
+none_whole o (inl same) number whole = nothing_complete false false (subst (λ (p : Opened). IsAllHeard known_failed (Happened (UpFailed 1) ∷ tape_of forwarded) p) same whole)
+none_whole o (inr none) number whole = none
+
+replied_known : IsKnown known_failed replied_to
+replied_known = record {
+  knows = ((((((((tt, refl), refl), refl), refl), refl), refl), refl), refl);
+  all = replied_leads.all;
+  answered = ((((((((tt, tt), tt), tt), tt), tt), tt), (none_whole, tt)), tt);
+}
+
+-- a GET that the gateway answers itself
+pub replied_holds : ClausesHold known_failed (tape_of replied_to)
+replied_holds = clauses known_failed replied_to replied_known replied_rests

@@ -1,0 +1,387 @@
+-- Another end of the run: the client's settings leave streams a window of one octet, so that the response waits behind its first;
+-- settings that raise it let it go on.
+use Rattle.std.proofs.Common.{◌≡◌, ℕ, ◌==◌, true, false, List, [], ◌∷◌, Some, refl, subst, inl, inr, arith, pos}
+use Rattle.std.proofs.lemmas.Bool.{eqb-true}
+use Rattle.std.specs.Prelude.{codes, negsuc}
+use Rattle.model.specs.Messages.Item.{Content}
+use Rattle.model.specs.Frames.{Frame, setting, settings_ack}
+use Rattle.model.specs.Tables.{total_size}
+use Rattle.model.specs.Logs.Act.{Close}
+use Rattle.model.specs.Tapes.{Noted}
+use Rattle.model.specs.Tapes.Entry.{Came, Sent, Did}
+use Rattle.conduct.specs.Summary.{Stream as Told}
+use Rattle.conduct.specs.Book.{Desk}
+use Rattle.conduct.specs.Rows.{Row}
+use Rattle.conduct.specs.Rows.Slot.{Live, Over}
+use Rattle.offering.specs.Outbox.{silent}
+use Rattle.offering.specs.Outbox.Outbox.{Before, Behind}
+use Rattle.offering.specs.Outbox.Part.{Octets}
+use Rattle.offering.specs.State.{Kept}
+use Rattle.receiving.specs.State.{}
+use Rattle.tables.proofs.Requests.{decoded}
+use Rattle.policy.specs.Moves.{Deed, Move}
+use Rattle.policy.specs.Moves.Gain.{Nothing}
+use Rattle.policy.specs.Moves.Deed.{Takes, Goes, Sends, Acts}
+use Rattle.policy.specs.Moves.Move.{Does, Settles}
+use Rattle.policy.specs.State.{State, tape_of}
+use Rattle.policy.specs.Rule.{MayDo, Rests, RestsBehind}
+use Rattle.policy.proofs.RunsSteps.{told, Leads, kept_settled, goes, settles, rests}
+use Rattle.policy.proofs.RunsGreeting.{setup, frame, plain, never, none_kept}
+use Rattle.policy.proofs.RunsRequest.{forwarded, one_whole, only_one}
+use Rattle.policy.proofs.RunsAnswer.{answer_head, encoded, head_out, heard_deed, head_deed, one, desk_with, at_forwarded, forwarded_leads, forwarded_rest, each_one, answer_encoded}
+
+-- ---- the moves
+
+-- settings with a first size of streams' windows
+abbrev pub sizes : ℕ → Noted
+sizes size = plain (frame 4 0 0 (setting 4 size))
+
+abbrev pub lower : Deed
+lower = Takes (sizes 1) decoded Nothing
+
+abbrev pub raise : Deed
+raise = Takes (sizes 10) decoded Nothing
+
+-- their acknowledgement, before a block of the gateway and behind it
+abbrev pub ack_first : Deed
+ack_first = Sends (plain settings_ack) encoded
+
+-- the octets of the body, one by one
+abbrev pub h_out : Noted
+h_out = plain (frame 0 0 1 (codes "h"))
+
+abbrev pub i_out : Noted
+i_out = plain (frame 0 1 1 (codes "i"))
+
+abbrev pub h_deed : Deed
+h_deed = Goes h_out (Content (codes "h") false) (Octets (codes "h") false) encoded
+
+abbrev pub i_deed : Deed
+i_deed = Goes i_out (Content (codes "i") true) (Octets (codes "i") true) encoded
+
+abbrev pub lowered : List Move
+lowered = Does ack_first ∷ Does lower ∷ forwarded
+
+abbrev pub begun : List Move
+begun = Does head_deed ∷ Does (Acts (Close 1)) ∷ Does heard_deed ∷ lowered
+
+abbrev pub waits : List Move
+waits = Settles ∷ Does h_deed ∷ begun
+
+abbrev pub raised : List Move
+raised = Does ack_first ∷ Does raise ∷ waits
+
+abbrev pub gone_on : List Move
+gone_on = Settles ∷ Does i_deed ∷ raised
+
+-- the tapes, up to where it waits, and behind that
+pub waits_tape : tape_of waits ≡ Sent h_out ∷ Sent head_out ∷ Did (Close 1) ∷ tape_of (Does heard_deed ∷ Does ack_first ∷ Does lower ∷ forwarded)
+waits_tape = refl
+
+pub gone_on_tape : tape_of gone_on ≡ Sent i_out ∷ Sent (plain settings_ack) ∷ Came (sizes 10) ∷ tape_of waits
+gone_on_tape = refl
+
+-- ---- what is kept behind each
+
+-- the desk behind settings with this first size
+abbrev pub desk_sized : ℕ → List Frame → Row → ℕ → ℕ → Desk
+desk_sized size queue row window untaken = record {
+  book = record (desk_with row window untaken).book { first_size = size; last = 0 };
+  queue = queue;
+}
+
+-- stream 1 once its first octet went
+abbrev pub sent_one : Told
+sent_one = record (one true) { balance = negsuc 0 }
+
+abbrev pub at_lowered : State
+at_lowered = record at_forwarded {
+  desk = desk_sized 1 (settings_ack ∷ []) (record { id = 1; slot = Live (one false) }) 65535 30;
+  offers = record at_forwarded.offers { kept = record { id = 1; box = silent; cut = false } ∷ [] };
+  windows = record at_forwarded.windows { stream = 0; settled = false };
+}
+
+abbrev pub at_acked : State
+at_acked = record at_lowered {
+  desk = desk_sized 1 [] (record { id = 1; slot = Live (one false) }) 65535 39;
+  offers = at_lowered.offers;
+  windows = at_lowered.windows;
+}
+
+-- what is kept of the response
+abbrev pub whole : Kept
+whole = record { id = 1; box = Before [] (Some answer_head) (codes "hi") true; cut = false }
+
+abbrev pub behind_head : Kept
+behind_head = record { id = 1; box = Behind (codes "hi") true; cut = false }
+
+-- its last octet
+abbrev pub last_left : Kept
+last_left = record { id = 1; box = Behind (codes "i") true; cut = false }
+
+abbrev pub at_heard : State
+at_heard = record at_acked {
+  offers = record at_acked.offers { kept = whole ∷ [] };
+  requests = record at_acked.requests { live = record { k = 1; stream = 1; whole = true } ∷ [] };
+}
+
+abbrev pub at_closed : State
+at_closed = record at_heard {
+  requests = record at_heard.requests { live = [] };
+  windows = at_heard.windows;
+}
+
+abbrev pub at_begun : State
+at_begun = record at_closed {
+  desk = desk_sized 1 [] (record { id = 1; slot = Live (one true) }) 65535 52;
+  offers = record { kept = behind_head ∷ []; last = 1 };
+  tables = record at_closed.tables { encoding = record at_closed.tables.encoding { table = encoded } };
+  windows = at_closed.windows;
+}
+
+abbrev pub at_one_out : State
+at_one_out = record at_begun {
+  desk = desk_sized 1 [] (record { id = 1; slot = Live sent_one }) 65534 62;
+  offers = record { kept = last_left ∷ []; last = 1 };
+  windows = at_begun.windows;
+}
+
+abbrev pub at_waits : State
+at_waits = kept_settled setup at_one_out
+
+abbrev pub at_raised : State
+at_raised = record at_waits {
+  desk = desk_sized 10 (settings_ack ∷ []) (record { id = 1; slot = Live sent_one }) 65534 62;
+  offers = record at_waits.offers { kept = last_left ∷ [] };
+  windows = record at_waits.windows { settled = false };
+}
+
+abbrev pub at_acked_again : State
+at_acked_again = record at_raised {
+  desk = desk_sized 10 [] (record { id = 1; slot = Live sent_one }) 65534 71;
+  offers = at_raised.offers;
+  windows = at_raised.windows;
+}
+
+abbrev pub at_gone_on : State
+at_gone_on = record at_acked_again {
+  desk = desk_sized 10 [] (record { id = 1; slot = Over false }) 65533 81;
+  offers = record { kept = []; last = 1 };
+  windows = record at_acked_again.windows { live = [] };
+}
+
+-- ---- each may come
+
+lower_may : MayDo setup (told at_forwarded) (told at_lowered) at_forwarded lower
+unfolding total_size
+lower_may = record {
+  rests = λ e. forwarded_rest;
+  conduct = record { allowed = record { open_yet = refl; turn = record { nothing = refl; none_begun = refl; goes_on = refl } }; fit = λ fine completes. never completes };
+  offer = (forwarded_rest.flushed, refl, refl);
+  in_turn = tt;
+  request = record { open_yet = refl; may = record { nothing = refl; none_done = refl; goes_on = refl } };
+  gains = refl;
+  table = record { is_noted = refl };
+  window = record { nothing = forwarded_rest.given_back refl; goes_on = refl; opens_it = refl; lives = λ e. never e; over_with_it = refl };
+}
+
+ack_may : MayDo setup (told at_lowered) (told at_acked) at_lowered ack_first
+unfolding total_size
+ack_may = record {
+  rests = λ e. never e;
+  conduct = record { allowed = record { open_yet = refl; turn = inl (record { front = refl; control = refl }) }; fit = refl };
+  offer = record { no_block = refl; no_data = refl };
+  in_turn = λ e. never e;
+  request = record { open_yet = refl; may = refl };
+  gains = tt;
+  table = record { together = refl; is_given = refl };
+  window = record { kind = refl; over_with_it = refl };
+}
+
+acked_rest : Rests (told at_acked) at_acked
+acked_rest = record {
+  conduct = record { nothing = refl; none_begun = refl; ended = λ e. never e };
+  flushed = record { none_cut = λ stream kept found. one_whole (1 == stream) (record { id = 1; box = silent; cut = false }) kept refl found; none_ready = λ low. refl };
+  served = record { nothing = refl; none_done = refl; ended = λ e. never e };
+  read = refl;
+  given_back = λ open_yet. record { settled = refl; shared = refl; own = λ stream active goes_on. subst (λ (id : ℕ). (at_acked.windows.row id).debt ≡ 0) (eqb-true 1 stream (only_one (1 == stream) _ active)) refl };
+}
+
+heard_may : MayDo setup (told at_acked) (told at_heard) at_acked heard_deed
+unfolding total_size
+heard_may = record {
+  rests = λ e. acked_rest;
+  conduct = record { allowed = record { open_yet = refl; turn = record { nothing = refl; none_begun = refl; goes_on = refl } }; fit = λ e. never e };
+  offer = (acked_rest.flushed, record { o = record { k = 1; route = 0; stream = 1 }; there = inl refl; is_given = refl; number = refl; active = refl; no_cause = refl }, refl);
+  in_turn = tt;
+  request = record { open_yet = refl; may = (record { nothing = refl; none_done = refl; goes_on = refl }, tt, (record { k = 1; stream = 1; whole = false }, refl)) };
+  gains = tt;
+  table = tt;
+  window = (acked_rest.given_back refl, record { settled = refl; admitted = refl });
+}
+
+closed_may : MayDo setup (told at_heard) (told at_closed) at_heard (Acts (Close 1))
+unfolding total_size
+closed_may = record {
+  rests = λ e. never e;
+  conduct = record { allowed = record { open_yet = refl; turn = tt }; fit = tt };
+  offer = tt;
+  in_turn = tt;
+  request = record { open_yet = refl; may = record { nothing = refl; live = record { k = 1; stream = 1; whole = true }; found = refl; why = inl refl } };
+  gains = tt;
+  table = tt;
+  window = tt;
+}
+
+head_may : MayDo setup (told at_closed) (told at_begun) at_closed head_deed
+unfolding total_size
+head_may = record {
+  rests = λ e. never e;
+  conduct = record { allowed = record { open_yet = refl; turn = inr (record { nothing = refl; goes_on = refl; passing = refl; rightly = refl }) }; fit = refl };
+  offer = (
+    record {
+      kept = whole;
+      found = refl;
+      not_cut = refl;
+      next = (refl, tt);
+      is = (refl, record { digits = codes "200"; is = refl; three = refl; are_digits = refl; status = refl; no_other = refl }, omega arith);
+      turn = inl (record { is_ready = (0, omega arith, refl); above = omega arith; least = λ k lt some. some });
+      own = λ is_data. let clash : 1 ≡ 0 = is_data in absurd (omega (arith, clash));
+      shared = λ is_data. let clash : 1 ≡ 0 = is_data in absurd (omega (arith, clash));
+    },
+    record { active = refl; brings = refl },
+  );
+  in_turn = λ begins. record {
+    none_cut = λ stream kept found. one_whole (1 == stream) whole kept refl found;
+    turn = inl (record { is_ready = (0, omega arith, refl); above = omega arith; least = λ k lt some. some });
+  };
+  request = record { open_yet = refl; may = refl };
+  gains = tt;
+  table = record { together = refl; is_given = answer_encoded };
+  window = record { kind = refl; over_with_it = refl };
+}
+
+-- one octet goes, which is all that the window takes
+h_may : MayDo setup (told at_begun) (told at_one_out) at_begun h_deed
+unfolding total_size
+h_may = record {
+  rests = λ e. never e;
+  conduct = record { allowed = record { open_yet = refl; turn = inr (record { nothing = refl; goes_on = refl; passing = refl; rightly = refl }) }; fit = refl };
+  offer = (
+    record {
+      kept = behind_head;
+      found = refl;
+      not_cut = refl;
+      next = (codes "i", refl, tt, λ e. absurd (let clash : codes "h" ≡ [] = e in cc));
+      is = (refl, refl);
+      turn = inr (record { is_ready = (0, omega arith, refl); none_above = λ k lt. let one = each_one k lt in omega (arith, one); least = λ k lt. let one = each_one k lt in omega (arith, one) });
+      own = λ is_data some. omega arith;
+      shared = λ is_data some. omega arith;
+    },
+    record { active = refl; brings = refl },
+  );
+  in_turn = λ begins. record {
+    none_cut = λ stream kept found. one_whole (1 == stream) behind_head kept refl found;
+    turn = inr (record { is_ready = (0, omega arith, refl); none_above = λ k lt. let one = each_one k lt in omega (arith, one); least = λ k lt. let one = each_one k lt in omega (arith, one) });
+  };
+  request = record { open_yet = refl; may = refl };
+  gains = tt;
+  table = record { together = refl; is_given = refl };
+  window = record { kind = refl; over_with_it = refl };
+}
+
+-- it rests though octets wait: no stream is ready
+waits_rest : Rests (told at_waits) at_waits
+waits_rest = record {
+  conduct = record { nothing = refl; none_begun = refl; ended = λ e. never e };
+  flushed = record { none_cut = λ stream kept found. one_whole (1 == stream) last_left kept refl found; none_ready = λ low. refl };
+  served = record { nothing = refl; none_done = refl; ended = λ e. never e };
+  read = refl;
+  given_back = λ open_yet. record { settled = refl; shared = refl; own = λ stream active goes_on. subst (λ (id : ℕ). (at_waits.windows.row id).debt ≡ 0) (eqb-true 1 stream (only_one (1 == stream) _ active)) refl };
+}
+
+raise_may : MayDo setup (told at_waits) (told at_raised) at_waits raise
+unfolding total_size
+raise_may = record {
+  rests = λ e. waits_rest;
+  conduct = record { allowed = record { open_yet = refl; turn = record { nothing = refl; none_begun = refl; goes_on = refl } }; fit = λ fine completes. never completes };
+  offer = (waits_rest.flushed, refl, refl);
+  in_turn = tt;
+  request = record { open_yet = refl; may = record { nothing = refl; none_done = refl; goes_on = refl } };
+  gains = refl;
+  table = record { is_noted = refl };
+  window = record { nothing = waits_rest.given_back refl; goes_on = refl; opens_it = refl; lives = λ e. never e; over_with_it = refl };
+}
+
+ack_again_may : MayDo setup (told at_raised) (told at_acked_again) at_raised ack_first
+unfolding total_size
+ack_again_may = record {
+  rests = λ e. never e;
+  conduct = record { allowed = record { open_yet = refl; turn = inl (record { front = refl; control = refl }) }; fit = refl };
+  offer = record { no_block = refl; no_data = refl };
+  in_turn = λ e. never e;
+  request = record { open_yet = refl; may = refl };
+  gains = tt;
+  table = record { together = refl; is_given = refl };
+  window = record { kind = refl; over_with_it = refl };
+}
+
+i_may : MayDo setup (told at_acked_again) (told at_gone_on) at_acked_again i_deed
+unfolding total_size
+i_may = record {
+  rests = λ e. never e;
+  conduct = record { allowed = record { open_yet = refl; turn = inr (record { nothing = refl; goes_on = refl; passing = refl; rightly = refl }) }; fit = refl };
+  offer = (
+    record {
+      kept = last_left;
+      found = refl;
+      not_cut = refl;
+      next = ([], refl, (refl, refl), λ e. refl);
+      is = (refl, refl);
+      turn = inr (record { is_ready = (0, omega arith, refl); none_above = λ k lt. let one = each_one k lt in omega (arith, one); least = λ k lt. let one = each_one k lt in omega (arith, one) });
+      own = λ is_data some. omega arith;
+      shared = λ is_data some. omega arith;
+    },
+    record { active = refl; brings = refl },
+  );
+  in_turn = λ begins. record {
+    none_cut = λ stream kept found. one_whole (1 == stream) last_left kept refl found;
+    turn = inr (record { is_ready = (0, omega arith, refl); none_above = λ k lt. let one = each_one k lt in omega (arith, one); least = λ k lt. let one = each_one k lt in omega (arith, one) });
+  };
+  request = record { open_yet = refl; may = refl };
+  gains = tt;
+  table = record { together = refl; is_given = refl };
+  window = record { kind = refl; over_with_it = refl };
+}
+
+-- ---- so the run is allowed, and rests where it waits and at its end
+
+pub lowered_leads : Leads setup lowered at_acked
+lowered_leads = goes setup (Does lower ∷ forwarded) at_lowered (goes setup forwarded at_forwarded forwarded_leads lower at_lowered refl refl lower_may) ack_first at_acked refl refl ack_may
+
+pub begun_leads : Leads setup begun at_begun
+begun_leads =
+    let first = goes setup lowered at_acked lowered_leads heard_deed at_heard refl refl heard_may in
+    let second = goes setup (Does heard_deed ∷ lowered) at_heard first (Acts (Close 1)) at_closed refl refl closed_may in
+    goes setup (Does (Acts (Close 1)) ∷ Does heard_deed ∷ lowered) at_closed second head_deed at_begun refl refl head_may
+
+pub waits_leads : Leads setup waits at_waits
+waits_leads = settles setup (Does h_deed ∷ begun) at_one_out (goes setup begun at_begun begun_leads h_deed at_one_out refl refl h_may)
+
+pub waits_rests : RestsBehind setup waits
+waits_rests = rests setup waits at_waits waits_leads waits_rest
+
+pub gone_on_leads : Leads setup gone_on (kept_settled setup at_gone_on)
+gone_on_leads =
+    let first = goes setup waits at_waits waits_leads raise at_raised refl refl raise_may in
+    let second = goes setup (Does raise ∷ waits) at_raised first ack_first at_acked_again refl refl ack_again_may in
+    settles setup (Does i_deed ∷ raised) at_gone_on (goes setup raised at_acked_again second i_deed at_gone_on refl refl i_may)
+
+pub gone_on_rests : RestsBehind setup gone_on
+gone_on_rests = rests setup gone_on (kept_settled setup at_gone_on) gone_on_leads (record {
+  conduct = record { nothing = refl; none_begun = refl; ended = λ e. never e };
+  flushed = record { none_cut = λ stream kept found. none_kept found; none_ready = λ low. refl };
+  served = record { nothing = refl; none_done = refl; ended = λ e. never e };
+  read = refl;
+  given_back = λ open_yet. record { settled = refl; shared = refl; own = λ stream active goes_on. subst (λ (id : ℕ). ((kept_settled setup at_gone_on).windows.row id).debt ≡ 0) (eqb-true 1 stream (only_one (1 == stream) _ active)) refl };
+})

@@ -15,3 +15,4 @@ pub mod RunsBody
 pub mod RunsHold
 pub mod RunsBodyEnd
 pub mod RunsLimits
+mod WrongRules

@@ -78,7 +78,7 @@ windows_may setup [] all = tt
 windows_may setup (Does d ∷ run) all = (
   windows_may setup run all.0,
   subst (λ (g : Gates). windows.MayCome setup.passing g (windows.sight_of (windows_of setup run)) (sight_in (summary_at setup (Does d ∷ run))) (receiving.state_of setup.passing (windows.moves_of (windows_of setup run))) (window_of (sight_in (summary_at setup run)) (sight_in (summary_at setup (Does d ∷ run))) d)) (sym (windows_gates setup run))
-  (subst (λ (s : Sight). windows.MayCome setup.passing (gates_in (summary_at setup run) (serving.state_of setup (turns_of setup run))) s (sight_in (summary_at setup (Does d ∷ run))) (receiving.state_of setup.passing (windows.moves_of (windows_of setup run))) (window_of (sight_in (summary_at setup run)) (sight_in (summary_at setup (Does d ∷ run))) d)) (sym (windows_sight setup run)) all.1.window),
+      (subst (λ (s : Sight). windows.MayCome setup.passing (gates_in (summary_at setup run) (serving.state_of setup (turns_of setup run))) s (sight_in (summary_at setup (Does d ∷ run))) (receiving.state_of setup.passing (windows.moves_of (windows_of setup run))) (window_of (sight_in (summary_at setup run)) (sight_in (summary_at setup (Does d ∷ run))) d)) (sym (windows_sight setup run)) all.1.window),
 )
 windows_may setup (Settles ∷ run) all = (windows_may setup run all, tt)
 

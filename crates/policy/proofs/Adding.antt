@@ -1,9 +1,8 @@
 -- What a frame adds to its stream's request: the book tells what the tape says.
-use Rattle.std.proofs.Common.{◌≡◌, ℕ, ◌≤◌, Bool, true, false, ◌&&◌, ◌||◌, ◌==◌, if◌then◌else◌, List, [], ◌∷◌, ◌++◌, append-nil, length, Option, Some, None, refl, sym, ◌∙◌, ap, subst, inl, inr}
-use Rattle.std.proofs.lemmas.Bool.{cases_Bool, eq-eqb, or_parts}
+use Rattle.std.proofs.Common.{◌≡◌, ℕ, ◌≤◌, Bool, true, false, ◌||◌, ◌==◌, if◌then◌else◌, List, [], ◌∷◌, ◌++◌, append-nil, length, Option, Some, None, refl, sym, ◌∙◌, ap}
+use Rattle.std.proofs.lemmas.Bool.{eq-eqb, or_parts}
 use Rattle.std.specs.Prelude.{is_some}
 use Rattle.model.specs.Messages.{Item}
-use Rattle.model.specs.Messages.Item.{Block}
 use Rattle.model.specs.Frames.{data_kind}
 use Rattle.model.specs.Malformed.{is_begun}
 use Rattle.model.specs.Setup.{Setup}
@@ -13,9 +12,8 @@ use Rattle.model.specs.Decoding.{Partial, completed}
 use Rattle.model.specs.StreamStates.{most_streams}
 use Rattle.model.specs.Errors.{Fault, first_of, or_else}
 use Rattle.model.specs.Errors.Fault.{Connection, Stream, Discarded}
-use Rattle.model.specs.Streams.{frame_items, items_of, is_ended_by}
+use Rattle.model.specs.Streams.{frame_items, is_ended_by}
 use Rattle.model.specs.Known.{Known}
-use Rattle.model.specs.Lifetimes.{is_ended_by_client}
 use Rattle.model.specs.Courses.{course, items, interrupts}
 use Rattle.conduct.specs.Summary.{Stream as Kept, Summary, summary_of, stream_of}
 use Rattle.conduct.specs.Judging.{completed_in, rows_in, malformed_in, fault_for}

@@ -1,5 +1,5 @@
 -- Where the gateway rests and its connection goes on, whatever may come in has its move.
-use Rattle.std.proofs.Common.{◌≡◌, ℕ, Bool, true, false, not, ◌&&◌, ◌||◌, ◌==◌, List, [], ◌∷◌, map, Option, Some, None, refl, sym, ◌∙◌, ap, subst, inl, inr, if◌then◌else◌}
+use Rattle.std.proofs.Common.{◌≡◌, ℕ, Bool, true, false, not, ◌&&◌, ◌||◌, ◌==◌, List, [], ◌∷◌, map, Option, Some, None, refl, sym, ◌∙◌, ap, inl, inr, if◌then◌else◌}
 use Rattle.std.proofs.lemmas.Bool.{cases_Bool, and_parts, and_from, eqb-true, eq-eqb}
 use Rattle.std.specs.List.{list_any}
 use Rattle.model.specs.Frames.{rst_stream_kind}
@@ -7,7 +7,7 @@ use Rattle.model.specs.Setup.{Setup}
 use Rattle.model.specs.Tables.{Table}
 use Rattle.model.specs.Logs.{Event}
 use Rattle.model.specs.Tapes.{Noted, Breach}
-use Rattle.model.specs.Tapes.Entry.{Came, Breached, Happened}
+use Rattle.model.specs.Tapes.Entry.{Came}
 use Rattle.model.specs.Decoding.{Partial}
 use Rattle.model.specs.Lifetimes.{opens_by}
 use Rattle.model.specs.Courses.{upstream_of}
@@ -16,18 +16,17 @@ use Rattle.conduct.specs.Judging.{is_over_in, completed_in}
 use Rattle.conduct.specs.After.{kept_behind, ended_by_client_after}
 use Rattle.conduct.specs.Rows.{Row, fresh, kept_in, slot_of, find, ids_of, row_behind, row_opened, rows_after}
 use Rattle.conduct.specs.Rows.Slot.{Live, Over}
-use Rattle.conduct.specs.Book as conduct
 use Rattle.conduct.specs.Book.{as_point}
 use Rattle.conduct.specs.Rule.{MayComeIn}
 use Rattle.offering.specs.Sight.{sight_in}
 use Rattle.receiving.specs.Policy.{may_come}
 use Rattle.receiving.specs.Rule.{OwesNothing}
 use Rattle.serving.specs.Rule as requests
-use Rattle.policy.specs.Moves.{Gain, Deed, told_in, gained}
+use Rattle.policy.specs.Moves.{Gain, told_in, gained}
 use Rattle.policy.specs.Moves.Gain.{Nothing, Begins, Gathers, Passes, Drops}
 use Rattle.policy.specs.Moves.Deed.{Takes, Breaks, Notes}
 use Rattle.policy.specs.State.{State, gates_in}
-use Rattle.policy.specs.Rule.{Gains, Rests, MayDo}
+use Rattle.policy.specs.Rule.{Gains, MayDo}
 use Rattle.policy.specs.Steps.{told_by, told_behind}
 use Rattle.policy.specs.Coming.{IsReady, IsGained, MayTake}
 

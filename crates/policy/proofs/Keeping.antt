@@ -1,7 +1,6 @@
 -- Whoever keeps the rule keeps the headline: at rest, and before each thing that comes in.
-use Rattle.std.proofs.Common.{◌≡◌, ℕ, Bool, true, false, List, [], ◌∷◌, map, None, refl, sym, ◌∙◌, ap, subst, inl, inr}
+use Rattle.std.proofs.Common.{◌≡◌, Bool, true, false, List, [], ◌∷◌, None, refl, sym, ◌∙◌, ap, subst}
 use Rattle.model.specs.Logs.{Event}
-use Rattle.model.specs.Tables.{Table}
 use Rattle.model.specs.Tapes.{Entry, sent, is_closed, EndsWithClose}
 use Rattle.model.specs.Tapes.Entry.{Came, Breached, Happened, Sent, Did}
 use Rattle.model.specs.Decoding.{begun}
@@ -16,10 +15,8 @@ use Rattle.conduct.specs.Book.{desk_of}
 use Rattle.conduct.proofs.Rule.{point_same}
 use Rattle.conduct.proofs.Book.{has_kept, errors_hold_by_book, block_out_told}
 use Rattle.offering.specs.Policy as offering
-use Rattle.offering.specs.Rule as offers
-use Rattle.offering.specs.Sight.{Sight, sight_in, windows_in}
-use Rattle.offering.specs.State as offered
-use Rattle.offering.proofs.Allowing.{placed, run_keeps}
+use Rattle.offering.specs.Sight.{Sight, windows_in}
+use Rattle.offering.proofs.Allowing.{run_keeps}
 use Rattle.receiving.specs.Rule as windows
 use Rattle.receiving.specs.Rule.{OwesNothing}
 use Rattle.receiving.specs.State as receiving
@@ -34,10 +31,10 @@ use Rattle.tables.specs.State as tabling
 use Rattle.tables.proofs.Tables.{run_holds, tables_kept}
 use Rattle.tables.proofs.Reading.{all_came}
 use Rattle.tables.proofs.Synced.{in_step_by_states}
-use Rattle.policy.specs.Moves.{Deed, Move, entry_of, fails_in, comes_in, told_in}
+use Rattle.policy.specs.Moves.{Deed, Move, entry_of, fails_in, comes_in}
 use Rattle.policy.specs.Moves.Deed.{Takes, Breaks, Notes, Hears, Fails, Sends, Goes, Acts}
 use Rattle.policy.specs.Moves.Move.{Does, Settles}
-use Rattle.policy.specs.State.{conducts, tape_of, summary_at, offers_of, turns_of, tables_of, windows_of, state_of}
+use Rattle.policy.specs.State.{conducts, tape_of, offers_of, turns_of, tables_of, windows_of, state_of}
 use Rattle.policy.specs.Rule.{AllAllowed, RestsBehind}
 use Rattle.policy.specs.Answered.{IsAnswered, AreAnswered}
 use Rattle.policy.proofs.Tapes.{offers_tape, requests_tape, tables_tape, windows_tape}

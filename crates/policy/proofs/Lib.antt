@@ -16,3 +16,4 @@ pub mod RunsHold
 pub mod RunsBodyEnd
 pub mod RunsLimits
 mod WrongRules
+pub mod RunsStreaming

@@ -1,6 +1,5 @@
 -- Each concern's moves came by its own rule, and what they were told is so.
-use Rattle.std.proofs.Common.{◌≡◌, ℕ, Bool, true, false, ◌&&◌, ◌==◌, List, [], ◌∷◌, ◌++◌, map, refl, sym, ◌∙◌, ap, subst}
-use Rattle.model.specs.Frames.{window_update_kind}
+use Rattle.std.proofs.Common.{◌≡◌, Bool, List, [], ◌∷◌, refl, sym, ◌∙◌, ap, subst}
 use Rattle.model.specs.Messages.{Item}
 use Rattle.model.specs.Messages.Item.{Block}
 use Rattle.model.specs.Setup.{Setup}
@@ -21,23 +20,22 @@ use Rattle.offering.specs.State as offering
 use Rattle.receiving.specs.Policy.{Gates, AreGates}
 use Rattle.receiving.specs.Rule as windows
 use Rattle.receiving.specs.State as receiving
-use Rattle.serving.specs.Meaning.{IsSo, AreSo, Brings}
+use Rattle.serving.specs.Meaning.{IsSo, AreSo}
 use Rattle.serving.specs.Rule as requests
 use Rattle.serving.specs.State as serving
 use Rattle.serving.specs.Told.{IsTold}
 use Rattle.serving.proofs.Connections.{connections_told}
 use Rattle.tables.specs.Kept.{IsJudgedIf, AllJudged}
 use Rattle.tables.specs.Rule as tables
-use Rattle.tables.specs.State as tabled
 use Rattle.tables.specs.Turns.{MayBeginIf, AllBegan}
-use Rattle.policy.specs.Moves.{Gain, Deed, Move, entry_of, offer_of, gained, failed, request_of, table_of, window_of, told_in}
+use Rattle.policy.specs.Moves.{Gain, Deed, Move, offer_of, gained, failed, request_of, table_of, window_of, told_in}
 use Rattle.policy.specs.Moves.Gain.{Nothing, Begins, Gathers, Passes, Drops}
 use Rattle.policy.specs.Moves.Deed.{Takes, Breaks, Notes, Hears, Fails, Sends, Goes, Acts}
 use Rattle.policy.specs.Moves.Move.{Does, Settles}
-use Rattle.policy.specs.State.{gates_in, conducts, tape_of, summary_at, offers_of, turns_of, tables_of, windows_of, state_of}
+use Rattle.policy.specs.State.{gates_in, conducts, tape_of, summary_at, offers_of, turns_of, tables_of, windows_of}
 use Rattle.policy.specs.Rule.{added_in, Gains, AllAllowed}
 use Rattle.policy.specs.Answered.{IsWholeBy, IsAnswered, AreAnswered}
-use Rattle.policy.proofs.Tapes.{offer_entry, request_entry, table_entry, offers_tape, requests_tape, tables_tape, windows_tape}
+use Rattle.policy.proofs.Tapes.{offer_entry, offers_tape, requests_tape, tables_tape, windows_tape}
 use Rattle.policy.proofs.Telling.{all_moved, told_by, moves_same, sight_right, closed_told, told_right, verdict_told}
 use Rattle.policy.proofs.Adding.{none_added, one_added, first_added, added_by_book, right_by_book}
 

@@ -1,11 +1,11 @@
 -- Another end of the run: the client's settings let the limit of its table fall to 0 and rise again, so that the next block, that of
 -- the gateway's own reply, begins with both maxima.
-use Rattle.std.proofs.Common.{◌≡◌, ℕ, ◌==◌, Bool, true, false, List, [], ◌∷◌, ◌++◌, Option, Some, None, refl, sym, subst, inl, inr, arith, pos}
+use Rattle.std.proofs.Common.{◌≡◌, ℕ, ◌==◌, true, false, List, [], ◌∷◌, ◌++◌, Some, None, refl, subst, inl, inr, arith}
 use Rattle.std.proofs.lemmas.Bool.{eqb-true}
 use Rattle.std.specs.Prelude.{codes}
 use Rattle.model.specs.Messages.Item.{Block}
 use Rattle.model.specs.Frames.{setting, settings_ack}
-use Rattle.model.specs.Tables.{Table, total_size, static_table, keep, first_table, resized, field_of}
+use Rattle.model.specs.Tables.{total_size, static_table, keep, first_table, field_of}
 use Rattle.model.specs.Blocks.{AreMaxima}
 use Rattle.model.specs.Tapes.{Noted}
 use Rattle.model.specs.Tapes.Note.{Fields}

@@ -1,6 +1,6 @@
 -- Another end of the run: the client's settings leave streams a window of one octet, so that the response waits behind its first;
 -- settings that raise it let it go on.
-use Rattle.std.proofs.Common.{◌≡◌, ℕ, ◌==◌, true, false, List, [], ◌∷◌, Some, refl, subst, inl, inr, arith, pos}
+use Rattle.std.proofs.Common.{◌≡◌, ℕ, ◌==◌, true, false, List, [], ◌∷◌, Some, refl, subst, inl, inr, arith}
 use Rattle.std.proofs.lemmas.Bool.{eqb-true}
 use Rattle.std.specs.Prelude.{codes, negsuc}
 use Rattle.model.specs.Messages.Item.{Content}

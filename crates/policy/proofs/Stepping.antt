@@ -1,10 +1,10 @@
 -- A log whose steps are answered by moves that came by the rule has the headline; and moves lead from state to state.
-use Rattle.std.proofs.Common.{◌≡◌, ℕ, Bool, true, false, List, [], ◌∷◌, ◌++◌, reverse, refl, sym, ◌∙◌, ap, subst, inl, inr, if◌then◌else◌}
+use Rattle.std.proofs.Common.{◌≡◌, ℕ, false, List, [], ◌∷◌, ◌++◌, reverse, refl, sym, ◌∙◌, ap, subst, if◌then◌else◌}
 use Rattle.model.specs.Logs.{Step, client_in}
 use Rattle.model.specs.Setup.{Setup}
 use Rattle.model.specs.Tapes.{Entry}
 use Rattle.model.specs.Known.{Known}
-use Rattle.model.specs.Headline.{ClausesHold, HoldsInTurn, IsTold, IsTaped, HasTape, Headline}
+use Rattle.model.specs.Headline.{ClausesHold, HoldsInTurn, IsTold, HasTape, Headline}
 use Rattle.conduct.specs.Summary.{Summary}
 use Rattle.conduct.specs.Rule.{AreKnown, point_of}
 use Rattle.conduct.specs.Book.{desk_of, desk_after, summary_in}
@@ -13,7 +13,7 @@ use Rattle.policy.specs.Moves.Move.{Does, Settles}
 use Rattle.policy.specs.State.{State, conducts, tape_of, summary_at, state_of}
 use Rattle.policy.specs.Rule.{MayDo, AllAllowed, RestsBehind}
 use Rattle.policy.specs.Answered.{AreAnswered}
-use Rattle.policy.specs.Steps.{after, told_by, told_behind, next, MayGoOn, Leads, Stands, IsAnsweredBy, AreAnsweredBy}
+use Rattle.policy.specs.Steps.{after, told_by, told_behind, next, MayGoOn, Leads, Stands, AreAnsweredBy}
 use Rattle.policy.proofs.Keeping.{IsKnown, clauses, in_step, in_turn, judged, ends_with_close}
 
 -- ---- one move

@@ -1,5 +1,5 @@
 -- The moves of all concerns have one tape.
-use Rattle.std.proofs.Common.{◌≡◌, Bool, true, false, ◌==◌, List, [], ◌∷◌, ◌++◌, map, refl, ◌∙◌, ap}
+use Rattle.std.proofs.Common.{◌≡◌, Bool, true, false, ◌==◌, List, [], ◌∷◌, ◌++◌, refl, ◌∙◌, ap}
 use Rattle.model.specs.Frames.{window_update_kind}
 use Rattle.model.specs.Setup.{Setup}
 use Rattle.model.specs.Logs.{Event}

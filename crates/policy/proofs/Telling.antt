@@ -1,7 +1,7 @@
 -- What is told behind moves is so of their tape.
-use Rattle.std.proofs.Common.{◌≡◌, ℕ, Bool, true, false, ◌&&◌, List, [], ◌∷◌, refl, sym, ◌∙◌, ap, subst, inl, inr, if◌then◌else◌}
+use Rattle.std.proofs.Common.{◌≡◌, false, List, [], ◌∷◌, sym, ◌∙◌, ap, subst, inl, inr, if◌then◌else◌}
 use Rattle.std.proofs.lemmas.Bool.{cases_Bool}
-use Rattle.model.specs.Tapes.{Noted, Entry, is_closed}
+use Rattle.model.specs.Tapes.{Noted, is_closed}
 use Rattle.model.specs.Known.{Known}
 use Rattle.model.specs.ErrorClause.{must_end}
 use Rattle.conduct.specs.Summary.{Summary, summary_of}

@@ -1,5 +1,5 @@
 -- What is told of upstreams' answers, and that it is so: the word of the reader that an upstream's octets go through.
-use Rattle.std.specs.Prelude.{◌≡◌, ℕ, Bool, List, [], ◌∷◌}
+use Rattle.std.specs.Prelude.{◌≡◌, Bool, List, [], ◌∷◌}
 use Rattle.model.specs.Tapes.{Entry}
 use Rattle.model.specs.Tapes.Entry.{Happened}
 use Rattle.model.specs.Logs.{Event}
@@ -11,8 +11,8 @@ use Rattle.model.specs.Failures.{IsJudged}
 use Rattle.offering.specs.Rule as offers
 use Rattle.offering.specs.State as offering
 use Rattle.serving.specs.Meaning.{Verdict}
-use Rattle.policy.specs.Moves.{Deed, Move, entry_of, fails_in}
-use Rattle.policy.specs.Moves.Deed.{Takes, Breaks, Notes, Hears, Fails, Sends, Goes, Acts}
+use Rattle.policy.specs.Moves.{Deed, Move, fails_in}
+use Rattle.policy.specs.Moves.Deed.{Notes, Hears, Fails}
 use Rattle.policy.specs.Moves.Move.{Does, Settles}
 use Rattle.policy.specs.State.{tape_of}
 

@@ -1,5 +1,5 @@
 -- What is left to show of a move that brings something in, where the gateway rests and its connection goes on.
-use Rattle.std.specs.Prelude.{◌≡◌, Bool, true, false}
+use Rattle.std.specs.Prelude.{◌≡◌, false}
 use Rattle.model.specs.Setup.{Setup}
 use Rattle.model.specs.Tables.{Table}
 use Rattle.model.specs.Tapes.{Noted}
@@ -7,7 +7,6 @@ use Rattle.model.specs.Tapes.Entry.{Came}
 use Rattle.conduct.specs.Summary.{Summary}
 use Rattle.conduct.specs.Owing.{must_end_in}
 use Rattle.conduct.specs.Book as conduct
-use Rattle.serving.specs.State as serving
 use Rattle.serving.specs.Rule.{MayBegin, MayAdd, MayDrop}
 use Rattle.serving.specs.State.Way.{Waiting, Going}
 use Rattle.tables.specs.Rule as tables

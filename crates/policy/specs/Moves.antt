@@ -1,6 +1,6 @@
 -- The moves of a gateway: entries of the tape, each with what is decided there. From them and from what is told at a point
 -- follows the move of each concern.
-use Rattle.std.specs.Prelude.{ℕ, Bool, true, false, not, ◌&&◌, ◌==◌, if◌then◌else◌, List, [], ◌∷◌, is_none}
+use Rattle.std.specs.Prelude.{ℕ, Bool, true, false, not, ◌&&◌, ◌==◌, List, is_none}
 use Rattle.model.specs.Messages.{Field, Item}
 use Rattle.model.specs.Tables.{Table}
 use Rattle.model.specs.Frames.{window_update_kind}

@@ -1,13 +1,11 @@
 -- Which move may come next: by what is kept, and by what is told before the move and behind it. No tape is named here.
-use Rattle.std.specs.Prelude.{◌≡◌, Bool, true, false, ◌||◌, if◌then◌else◌, List, [], ◌∷◌, Option}
+use Rattle.std.specs.Prelude.{◌≡◌, true, false, ◌||◌, if◌then◌else◌, List, [], ◌∷◌}
 use Rattle.model.specs.Messages.{Item}
 use Rattle.model.specs.Messages.Item.{Block}
 use Rattle.model.specs.Setup.{Setup}
 use Rattle.model.specs.Tapes.{Noted}
 use Rattle.model.specs.Tapes.Entry.{Came}
 use Rattle.model.specs.Streams.{frame_items}
-use Rattle.model.specs.Errors.{Fault}
-use Rattle.model.specs.Causes.{Cause}
 use Rattle.model.specs.Courses.{interrupts}
 use Rattle.conduct.specs.Summary.{Stream as Kept, Summary}
 use Rattle.conduct.specs.Judging.{completed_in, fault_for}

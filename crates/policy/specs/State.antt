@@ -1,5 +1,5 @@
 -- What a gateway keeps: a field for each concern, and what is told behind moves.
-use Rattle.std.specs.Prelude.{Bool, true, false, if◌then◌else◌, List, [], ◌∷◌, is_some}
+use Rattle.std.specs.Prelude.{if◌then◌else◌, List, [], ◌∷◌, is_some}
 use Rattle.model.specs.Setup.{Setup}
 use Rattle.model.specs.Tapes.{Entry}
 use Rattle.conduct.specs.Summary.{Summary}
@@ -13,7 +13,7 @@ use Rattle.receiving.specs.Rule as windows
 use Rattle.receiving.specs.State as receiving
 use Rattle.serving.specs.State as serving
 use Rattle.tables.specs.State as tables
-use Rattle.policy.specs.Moves.{Deed, Move, conduct_of, offer_of, request_of, table_of, window_of, told_in}
+use Rattle.policy.specs.Moves.{Move, conduct_of, offer_of, request_of, table_of, window_of, told_in}
 use Rattle.policy.specs.Moves.Move.{Does, Settles}
 
 -- What is kept: of errors and of the connection's end, of responses, of requests and upstream connections, of header tables, and

@@ -6,6 +6,7 @@ use Rattle.model.specs.Frames.{rst_stream_kind}
 use Rattle.model.specs.Setup.{Setup}
 use Rattle.model.specs.Tables.{Table}
 use Rattle.model.specs.Logs.{Event}
+use Rattle.model.specs.Logs.Event.{Client, ClientEnd, ClientTook, Up, UpEnd, UpFailed, UpTook}
 use Rattle.model.specs.Tapes.{Noted, Breach}
 use Rattle.model.specs.Tapes.Entry.{Came}
 use Rattle.model.specs.Decoding.{Partial}
@@ -22,13 +23,15 @@ use Rattle.offering.specs.Sight.{sight_in}
 use Rattle.receiving.specs.Policy.{may_come}
 use Rattle.receiving.specs.Rule.{OwesNothing}
 use Rattle.serving.specs.Rule as requests
-use Rattle.policy.specs.Moves.{Gain, told_in, gained}
+use Rattle.serving.specs.Rule.{IsKept}
+use Rattle.offering.specs.Outbox.{News}
+use Rattle.policy.specs.Moves.{Gain, told_in, gained, failed}
 use Rattle.policy.specs.Moves.Gain.{Nothing, Begins, Gathers, Passes, Drops}
-use Rattle.policy.specs.Moves.Deed.{Takes, Breaks, Notes}
+use Rattle.policy.specs.Moves.Deed.{Takes, Breaks, Notes, Hears, Fails}
 use Rattle.policy.specs.State.{State, gates_in}
 use Rattle.policy.specs.Rule.{Gains, MayDo}
 use Rattle.policy.specs.Steps.{told_by, told_behind}
-use Rattle.policy.specs.Coming.{IsReady, IsGained, MayTake}
+use Rattle.policy.specs.Coming.{IsReady, IsGained, MayTake, MayBreakOff, MayHear, MayFail}
 
 module _ (setup : Setup) (behind : Summary) (s : State) (ready : IsReady s) where
   comes : MayComeIn (as_point s.desk)
@@ -71,6 +74,42 @@ module _ (setup : Setup) (behind : Summary) (s : State) (ready : IsReady s) wher
     gains = tt;
     table = tt;
     window = (owes_none, record { settled = owes_none.settled; admitted = may });
+  }
+
+  -- what an answer of an upstream asks of requests, by whether it fails
+  failed_may : (event : Event) (whole : Bool) → MayBreakOff event → IsKept s.requests (upstream_of event) → requests.MayMove setup (told_in (told_by s)) (told_in behind) s.requests (failed event whole)
+  failed_may (UpFailed k) whole of kept = (requests_come, kept)
+  failed_may (Up k piece) whole of kept = (requests_come, of, kept)
+  failed_may (UpEnd k) whole of kept = (requests_come, of, kept)
+  failed_may (Client piece) whole of kept = absurd of
+  failed_may ClientEnd whole of kept = absurd of
+  failed_may (ClientTook count) whole of kept = absurd of
+  failed_may (UpTook k count) whole of kept = absurd of
+
+  -- an answer that doesn't fail
+  pub may_hear : (event : Event) (stream : ℕ) (news : News) (whole : Bool) → MayHear behind s event stream → MayDo setup (told_by s) behind s (Hears event stream news whole)
+  may_hear event stream news whole may = record {
+    rests = λ e. ready.rests;
+    conduct = record { allowed = record { open_yet = ready.open_yet; turn = comes }; fit = λ fails. absurd (let no : false ≡ true = fails in cc) };
+    offer = (ready.rests.flushed, may.answer.of, may.calm);
+    in_turn = tt;
+    request = record { open_yet = ready.open_yet; may = (requests_come, may.of_upstream, may.answer.kept) };
+    gains = tt;
+    table = tt;
+    window = (owes_none, record { settled = owes_none.settled; admitted = may.answer.admitted });
+  }
+
+  -- one that does
+  pub may_fail : (event : Event) (stream : ℕ) (whole : Bool) → MayFail behind s event stream → MayDo setup (told_by s) behind s (Fails event stream whole)
+  may_fail event stream whole may = record {
+    rests = λ e. ready.rests;
+    conduct = record { allowed = record { open_yet = ready.open_yet; turn = comes }; fit = λ fails. may.about };
+    offer = (ready.rests.flushed, may.answer.of, may.caused);
+    in_turn = tt;
+    request = record { open_yet = ready.open_yet; may = failed_may event whole may.of_upstream may.answer.kept };
+    gains = tt;
+    table = tt;
+    window = (owes_none, record { settled = owes_none.settled; admitted = may.answer.admitted });
   }
 
   request_may : (noted : Noted) (gain : Gain) → IsGained setup behind s noted gain → requests.MayMove setup (told_in (told_by s)) (told_in behind) s.requests (gained noted gain)

@@ -5,6 +5,7 @@ pub mod Placing
 pub mod Keeping
 pub mod Stepping
 pub mod Coming
+pub mod Going
 pub mod RunsGreeting
 pub mod RunsRequest
 pub mod RunsSteps

@@ -1,19 +1,27 @@
 -- What is left to show of a move that brings something in, where the gateway rests and its connection goes on.
-use Rattle.std.specs.Prelude.{◌≡◌, false}
+use Rattle.std.specs.Prelude.{◌≡◌, ℕ, true, false, Some, None}
 use Rattle.model.specs.Setup.{Setup}
 use Rattle.model.specs.Tables.{Table}
 use Rattle.model.specs.Tapes.{Noted}
-use Rattle.model.specs.Tapes.Entry.{Came}
+use Rattle.model.specs.Tapes.Entry.{Came, Happened}
+use Rattle.model.specs.Logs.{Event}
+use Rattle.model.specs.Logs.Event.{UpFailed}
+use Rattle.model.specs.Causes.Cause.{BadAnswer}
+use Rattle.model.specs.Courses.{upstream_of}
 use Rattle.conduct.specs.Summary.{Summary}
-use Rattle.conduct.specs.Owing.{must_end_in}
+use Rattle.conduct.specs.Judging.{is_active_in}
+use Rattle.conduct.specs.Owing.{about_in, must_end_in}
 use Rattle.conduct.specs.Book as conduct
-use Rattle.serving.specs.Rule.{MayBegin, MayAdd, MayDrop}
+use Rattle.offering.specs.Rule.{IsEventOf}
+use Rattle.offering.specs.Sight.{sight_in}
+use Rattle.receiving.specs.Policy.{may_come}
+use Rattle.serving.specs.Rule.{MayBegin, MayAdd, MayDrop, IsAnswer, IsKept}
 use Rattle.serving.specs.State.Way.{Waiting, Going}
 use Rattle.tables.specs.Rule as tables
 use Rattle.tables.specs.Verdicts.{verdict_in}
 use Rattle.policy.specs.Moves.{Gain, told_in}
 use Rattle.policy.specs.Moves.Gain.{Nothing, Begins, Gathers, Passes, Drops}
-use Rattle.policy.specs.State.{State}
+use Rattle.policy.specs.State.{State, gates_in}
 use Rattle.policy.specs.Rule.{Gains, Rests}
 use Rattle.policy.specs.Steps.{told_by}
 
@@ -39,3 +47,27 @@ pub record MayTake (setup : Setup) (behind : Summary) (s : State) (noted : Noted
   pub fit : conduct.IsFit false (told_by s) (Came noted)
   pub noted_right : tables.IsTaken s.tables noted (verdict_in (told_by s) noted.frame) next
   pub gained : IsGained setup behind s noted gain
+
+-- An answer of an upstream may come: it is admitted, of an open connection, and about this stream.
+pub record MayAnswer (s : State) (event : Event) (stream : ℕ) : Type 0 where
+  pub admitted : may_come (gates_in (told_by s) s.requests) s.windows event ≡ true
+  pub of : IsEventOf (sight_in (told_by s)) event stream
+  pub kept : IsKept s.requests (upstream_of event)
+
+-- It doesn't fail: the gateway doesn't answer the stream behind it either.
+pub record MayHear (behind : Summary) (s : State) (event : Event) (stream : ℕ) : Type 0 where
+  pub answer : MayAnswer s event stream
+  pub of_upstream : IsAnswer event
+  pub calm : (sight_in behind).cause stream ≡ None
+
+-- whether it is octets, the end, or the failure of a connection
+abbrev pub MayBreakOff : Event → Type 0
+MayBreakOff (UpFailed k) = Unit {0}
+MayBreakOff event = IsAnswer event
+
+-- It fails: the stream, which is active, is answered by the gateway behind it.
+pub record MayFail (behind : Summary) (s : State) (event : Event) (stream : ℕ) : Type 0 where
+  pub answer : MayAnswer s event stream
+  pub of_upstream : MayBreakOff event
+  pub about : is_active_in (about_in (told_by s) (Happened event)) (told_by s) ≡ true
+  pub caused : (sight_in behind).cause stream ≡ Some BadAnswer

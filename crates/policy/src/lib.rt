@@ -13,9 +13,9 @@
 //! - `RestsBehind`: the step ends where the gateway rests.
 #![tactic(auto)]
 
-ghost use Rattle.std.specs.Prelude.{◌≡◌, true, ◌++◌, List, ◌∷◌, reverse};
+ghost use Rattle.std.specs.Prelude.{◌≡◌, ℕ, Bool, true, false, ◌++◌, List, ◌∷◌, reverse};
 ghost use Rattle.model.specs.Setup.{Setup};
-ghost use Rattle.model.specs.Logs.{Event, Step};
+ghost use Rattle.model.specs.Logs.{Event, Act, Step};
 ghost use Rattle.model.specs.Tables.{Table};
 ghost use Rattle.model.specs.Courses.{upstream_of};
 ghost use Rattle.receiving.specs.Policy.{may_come};
@@ -25,13 +25,15 @@ ghost use Rattle.model.specs.Failures.{AreJudged};
 ghost use Rattle.model.specs.Headline.{ClausesHold, HoldsInTurn, Headline};
 ghost use Rattle.model.specs.Synchrony.{InStep};
 ghost use Rattle.conduct.specs.Rule.{AreKnown};
+ghost use Rattle.offering.specs.Outbox.{News};
 ghost use Rattle.policy.specs.Moves.{Gain, Deed, Move};
-ghost use Rattle.policy.specs.Moves.Deed.{Takes, Breaks, Notes};
+ghost use Rattle.policy.specs.Moves.Deed.{Takes, Breaks, Notes, Hears, Fails, Sends};
 ghost use Rattle.policy.specs.State.{State, gates_in, conducts, tape_of, state_of};
 ghost use Rattle.policy.specs.Rule.{MayDo, AllAllowed, RestsBehind};
 ghost use Rattle.policy.specs.Answered.{AreAnswered};
 ghost use Rattle.policy.specs.Steps.{told_by, told_behind, next, MayGoOn, Leads, Stands, AreAnsweredBy};
-ghost use Rattle.policy.specs.Coming.{IsReady, MayTake};
+ghost use Rattle.policy.specs.Coming.{IsReady, MayTake, MayHear, MayFail};
+ghost use Rattle.policy.specs.Going.{IsOwedNext, GivesBack, Acts};
 
 /// Whoever keeps the rule keeps the headline: its five clauses wherever the gateway rests, and before each thing that comes in;
 /// what is known of failures is right, and nothing stands behind the client's close. So it is for both policies, and however
@@ -65,9 +67,19 @@ pub fn states_lead()
 
 /// Where the gateway rests and its connection goes on, what comes in has its move: octets that depart from the preface or a length that
 /// is too long; an event of no upstream's answer that may come by its numbers; a frame, where its note is right, and what it gains
-/// is so.
+/// is so; an answer of an open connection, that fails or doesn't.
 pub fn inputs_have_moves()
     ensures breach { (setup : Setup) (s : State) (breach : Breach) → IsReady s → MayDo setup (told_by s) (told_behind setup s (Breaks breach)) s (Breaks breach) }
     ensures event { (setup : Setup) (s : State) (event : Event) → IsReady s → upstream_of event ≡ 0 → may_come (gates_in (told_by s) s.requests) s.windows event ≡ true → MayDo setup (told_by s) (told_behind setup s (Notes event)) s (Notes event) }
     ensures frame { (setup : Setup) (s : State) (noted : Noted) (next : Table) (gain : Gain) → IsReady s → MayTake setup (told_behind setup s (Takes noted next gain)) s noted next gain → MayDo setup (told_by s) (told_behind setup s (Takes noted next gain)) s (Takes noted next gain) }
+    ensures hears { (setup : Setup) (s : State) (event : Event) (stream : ℕ) (news : News) (whole : Bool) → IsReady s → MayHear (told_behind setup s (Hears event stream news whole)) s event stream → MayDo setup (told_by s) (told_behind setup s (Hears event stream news whole)) s (Hears event stream news whole) }
+    ensures fails { (setup : Setup) (s : State) (event : Event) (stream : ℕ) (whole : Bool) → IsReady s → MayFail (told_behind setup s (Fails event stream whole)) s event stream → MayDo setup (told_by s) (told_behind setup s (Fails event stream whole)) s (Fails event stream whole) }
+{}
+
+/// What goes out has its move where it is due: a frame that is owed next; octets given back, all that is owed on their id; an act. The
+/// next part of a response is a move by what `MayDo` itself asks of it.
+pub fn outputs_have_moves()
+    ensures owed { (setup : Setup) (s : State) (noted : Noted) (next : Table) → IsOwedNext s noted → MayDo setup (told_by s) (told_behind setup s (Sends noted next)) s (Sends noted next) }
+    ensures given { (setup : Setup) (s : State) (noted : Noted) (next : Table) → GivesBack s noted → MayDo setup (told_by s) (told_behind setup s (Sends noted next)) s (Sends noted next) }
+    ensures act { (setup : Setup) (s : State) (act : Act) → s.desk.book.closed ≡ false → Acts setup s act → MayDo setup (told_by s) (told_behind setup s (Deed.Acts act)) s (Deed.Acts act) }
 {}

@@ -1,0 +1,69 @@
+-- What is left to show of a move that puts something out.
+use Rattle.std.specs.Prelude.{◌≡◌, ℕ, true, false, List, [], ◌∷◌, None}
+use Rattle.model.specs.Frames.{window_update_kind}
+use Rattle.model.specs.Logs.{Act}
+use Rattle.model.specs.Logs.Act.{Open, ToUp, Close, CloseClient}
+use Rattle.model.specs.Setup.{Setup}
+use Rattle.model.specs.Tapes.{Noted}
+use Rattle.model.specs.Tapes.Note.{NoBlock}
+use Rattle.model.specs.Lifetimes.{may_open}
+use Rattle.model.specs.ErrorClause.{is_passing}
+use Rattle.conduct.specs.Owing.{is_rightly_sent_in, must_end_in}
+use Rattle.conduct.specs.Turn.{rest_of}
+use Rattle.offering.specs.Rule.{OpensNext}
+use Rattle.offering.specs.Sight.{sight_in}
+use Rattle.receiving.specs.Policy as windows
+use Rattle.receiving.specs.Rule.{GivesAll}
+use Rattle.serving.specs.Rule as requests
+use Rattle.serving.specs.State.Due.{Nothing, ToSend}
+use Rattle.policy.specs.Moves.{told_in}
+use Rattle.policy.specs.State.{State, gates_in}
+use Rattle.policy.specs.Steps.{told_by}
+
+-- A frame may go between header blocks, where nothing goes to an upstream before it; it has no block, and is on no stream that may be opened
+-- yet.
+pub record GoesBetween (s : State) (noted : Noted) : Type 0 where
+  pub open_yet : s.desk.book.closed ≡ false
+  pub none_begun : s.desk.book.block_out ≡ None
+  pub nothing_due : s.requests.due ≡ Nothing
+  pub no_note : noted.note ≡ NoBlock
+  pub not_to_open : may_open (told_by s).opened noted.frame.id ≡ false
+
+-- The frame is what is owed next: an acknowledgement, an answer to a PING, a reset, a farewell.
+pub record IsOwedNext (s : State) (noted : Noted) : Type 0 where
+  pub between : GoesBetween s noted
+  pub front : s.desk.queue ≡ noted.frame ∷ rest_of s.desk.queue
+  pub control : is_passing noted ≡ false
+
+-- The frame gives back all that is owed on its id.
+pub record GivesBack (s : State) (noted : Noted) : Type 0 where
+  pub between : GoesBetween s noted
+  pub kind : noted.frame.kind ≡ window_update_kind
+  pub nothing : s.desk.queue ≡ []
+  pub goes_on : must_end_in (told_by s) ≡ false
+  pub rightly : is_rightly_sent_in (told_by s) noted.frame ≡ true
+  pub all : GivesAll (sight_in (told_by s)) s.windows noted.frame
+
+-- A connection may be opened, and given to the stream of the last frame.
+pub record Opens (s : State) (k route : ℕ) : Type 0 where
+  pub opens : OpensNext (sight_in (told_by s)) k
+  pub due : requests.MayOpen s.requests k route
+  pub window : windows.MayOpen s.windows k
+
+-- Octets go to an upstream: all that is due to it, before the effect of what came is over.
+pub record Puts (setup : Setup) (s : State) (k : ℕ) (octets : List ℕ) : Type 0 where
+  pub due : s.requests.due ≡ ToSend k octets
+  pub window : windows.MayPut setup.passing (gates_in (told_by s) s.requests) s.windows k
+
+-- The client may be closed: nothing is owed, the connection is to end, and no connection is open.
+pub record Shuts (s : State) : Type 0 where
+  pub nothing : s.desk.queue ≡ []
+  pub to_end : must_end_in (told_by s) ≡ true
+  pub none_open : requests.MayShut s.requests
+
+-- The act may be done.
+abbrev pub Acts : Setup → State → Act → Type 0
+Acts setup s (Open k route) = Opens s k route
+Acts setup s (ToUp k octets) = Puts setup s k octets
+Acts setup s (Close k) = requests.MayClose (told_in (told_by s)) s.requests k
+Acts setup s CloseClient = Shuts s

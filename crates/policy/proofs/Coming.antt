@@ -29,7 +29,7 @@ use Rattle.policy.specs.Moves.{Gain, told_in, gained, failed}
 use Rattle.policy.specs.Moves.Gain.{Nothing, Begins, Gathers, Passes, Drops}
 use Rattle.policy.specs.Moves.Deed.{Takes, Breaks, Notes, Hears, Fails}
 use Rattle.policy.specs.State.{State, gates_in}
-use Rattle.policy.specs.Rule.{Gains, MayDo}
+use Rattle.policy.specs.Rule.{rooms_in, Gains, MayDo}
 use Rattle.policy.specs.Steps.{told_by, told_behind}
 use Rattle.policy.specs.Coming.{IsReady, IsGained, MayTake, MayBreakOff, MayHear, MayFail}
 
@@ -40,7 +40,7 @@ module _ (setup : Setup) (behind : Summary) (s : State) (ready : IsReady s) wher
   requests_come : requests.MayCome (told_in (told_by s)) s.requests
   requests_come = record { nothing = ready.rests.served.nothing; none_done = ready.rests.served.none_done; goes_on = ready.goes_on }
 
-  owes_none : OwesNothing (sight_in (told_by s)) s.windows
+  owes_none : OwesNothing (sight_in (told_by s)) (rooms_in (told_by s) s)
   owes_none = ready.rests.given_back ready.open_yet
 
   ends_not : s.desk.book.ends ≡ false
@@ -64,7 +64,7 @@ module _ (setup : Setup) (behind : Summary) (s : State) (ready : IsReady s) wher
   }
 
   -- an event of no upstream's answer, that may come by its numbers
-  pub may_note : (event : Event) → upstream_of event ≡ 0 → may_come (gates_in (told_by s) s.requests) s.windows event ≡ true → MayDo setup (told_by s) behind s (Notes event)
+  pub may_note : (event : Event) → upstream_of event ≡ 0 → may_come (gates_in (told_by s) s.requests) (rooms_in (told_by s) s) event ≡ true → MayDo setup (told_by s) behind s (Notes event)
   may_note event none may = record {
     rests = λ e. ready.rests;
     conduct = record { allowed = record { open_yet = ready.open_yet; turn = comes }; fit = λ fails. absurd (let no : false ≡ true = fails in cc) };

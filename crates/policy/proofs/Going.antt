@@ -20,7 +20,7 @@ use Rattle.tables.specs.Turns.{begins_part}
 use Rattle.policy.specs.Moves.{Deed, given_or_sent}
 use Rattle.policy.specs.Moves.Deed.{Sends}
 use Rattle.policy.specs.State.{State, gates_in}
-use Rattle.policy.specs.Rule.{MayDo}
+use Rattle.policy.specs.Rule.{rooms_in, MayDo}
 use Rattle.policy.specs.Steps.{told_by}
 use Rattle.policy.specs.Going.{GoesBetween, IsOwedNext, GivesBack, Acts}
 
@@ -63,7 +63,7 @@ module _ (setup : Setup) (behind : Summary) (s : State) where
         request = record { open_yet = between.open_yet; may = between.nothing_due };
         gains = tt;
         table = record { together = together noted next between plain; is_given = given noted next between plain };
-        window = subst (λ b. windows.MayCome setup.passing (gates_in (told_by s) s.requests) (sight_in (told_by s)) (sight_in behind) s.windows (given_or_sent b (sight_in (told_by s)) (sight_in behind) noted)) (sym last.1) (record { kind = last.1; over_with_it = refl });
+        window = subst (λ b. windows.MayCome setup.passing (gates_in (told_by s) s.requests) (sight_in (told_by s)) (sight_in behind) (rooms_in (told_by s) s) (given_or_sent b (sight_in (told_by s)) (sight_in behind) noted)) (sym last.1) (record { kind = last.1; over_with_it = refl });
       }
 
   -- octets that are given back
@@ -79,7 +79,7 @@ module _ (setup : Setup) (behind : Summary) (s : State) where
         request = record { open_yet = between.open_yet; may = between.nothing_due };
         gains = tt;
         table = record { together = together noted next between plain; is_given = given noted next between plain };
-        window = subst (λ b. windows.MayCome setup.passing (gates_in (told_by s) s.requests) (sight_in (told_by s)) (sight_in behind) s.windows (given_or_sent b (sight_in (told_by s)) (sight_in behind) noted)) (sym (is window_update_kind)) gives.all;
+        window = subst (λ b. windows.MayCome setup.passing (gates_in (told_by s) s.requests) (sight_in (told_by s)) (sight_in behind) (rooms_in (told_by s) s) (given_or_sent b (sight_in (told_by s)) (sight_in behind) noted)) (sym (is window_update_kind)) gives.all;
       }
     where
       is : (n : ℕ) → (noted.frame.kind == n) ≡ (window_update_kind == n)

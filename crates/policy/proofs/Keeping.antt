@@ -17,9 +17,9 @@ use Rattle.conduct.proofs.Book.{has_kept, errors_hold_by_book, block_out_told}
 use Rattle.offering.specs.Policy as offering
 use Rattle.offering.specs.Sight.{Sight, windows_in}
 use Rattle.offering.proofs.Allowing.{run_keeps}
+use Rattle.receiving.specs.Policy.{Gates}
 use Rattle.receiving.specs.Rule as windows
 use Rattle.receiving.specs.Rule.{OwesNothing}
-use Rattle.receiving.specs.State as receiving
 use Rattle.receiving.proofs.Ruling.{all_allowed, run_gives_back}
 use Rattle.receiving.proofs.Resting.{gives_no_more}
 use Rattle.serving.specs.Meaning as serving
@@ -34,12 +34,12 @@ use Rattle.tables.proofs.Synced.{in_step_by_states}
 use Rattle.policy.specs.Moves.{Deed, Move, entry_of, fails_in, comes_in}
 use Rattle.policy.specs.Moves.Deed.{Takes, Breaks, Notes, Hears, Fails, Sends, Goes, Acts}
 use Rattle.policy.specs.Moves.Move.{Does, Settles}
-use Rattle.policy.specs.State.{conducts, tape_of, offers_of, turns_of, tables_of, windows_of, state_of}
-use Rattle.policy.specs.Rule.{AllAllowed, RestsBehind}
+use Rattle.policy.specs.State.{conducts, tape_of, offers_of, turns_of, tables_of, windows_of, state_of, summary_at}
+use Rattle.policy.specs.Rule.{rooms_in, AllAllowed, RestsBehind}
 use Rattle.policy.specs.Answered.{IsAnswered, AreAnswered}
 use Rattle.policy.proofs.Tapes.{offers_tape, requests_tape, tables_tape, windows_tape}
 use Rattle.policy.proofs.Telling.{all_moved, closed_told}
-use Rattle.policy.proofs.Placing.{offers_sight, offers_may, offers_right, offers_told, parts_begin, windows_sight, windows_may, windows_right, turns_told, turns_may, turns_so, tables_fit, tables_judged, in_turns}
+use Rattle.policy.proofs.Placing.{offers_sight, offers_may, offers_right, offers_told, parts_begin, windows_sight, windows_gates, windows_may, windows_right, turns_told, turns_may, turns_so, tables_fit, tables_judged, in_turns}
 
 -- A run that is allowed, and what is known of answers.
 pub record IsKnown (known : Known) (run : List Move) : Type 0 where
@@ -90,7 +90,8 @@ module _ (known : Known) (run : List Move) (k : IsKnown known run) (rests : Rest
   gives_back open_yet =
       subst (GivesBack known) (windows_tape known.setup run)
       (run_gives_back known (windows_of known.setup run) (windows_may known.setup run k.all) (windows_right known run k.knows k.all k.answered)
-      (subst (λ (s : Sight). OwesNothing s (receiving.state_of known.setup.passing (windows.moves_of (windows_of known.setup run)))) (sym (windows_sight known.setup run)) (rests.given_back (closed_told known run k.knows (all_moved known run k.all) ∙ open_yet))))
+      (subst (λ (g : Gates). OwesNothing (windows.sight_of (windows_of known.setup run)) (windows.state_with g (windows.kept_behind known.setup.passing (windows_of known.setup run)))) (sym (windows_gates known.setup run))
+      (subst (λ (s : Sight). OwesNothing s (rooms_in (summary_at known.setup run) (state_of known.setup run))) (sym (windows_sight known.setup run)) (rests.given_back (closed_told known run k.knows (all_moved known run k.all) ∙ open_yet)))))
 
   -- ---- the clauses
 

@@ -18,3 +18,6 @@ pub mod RunsBodyEnd
 pub mod RunsLimits
 mod WrongRules
 pub mod RunsStreaming
+pub mod RunsTurns
+pub mod RunsBothWays
+pub mod RunsHeard

@@ -19,7 +19,6 @@ use Rattle.offering.specs.Sight.{Sight, IsRightOf, sight_in, windows_in}
 use Rattle.offering.specs.State as offering
 use Rattle.receiving.specs.Policy.{Gates, AreGates}
 use Rattle.receiving.specs.Rule as windows
-use Rattle.receiving.specs.State as receiving
 use Rattle.serving.specs.Meaning.{IsSo, AreSo}
 use Rattle.serving.specs.Rule as requests
 use Rattle.serving.specs.State as serving
@@ -32,11 +31,11 @@ use Rattle.policy.specs.Moves.{Gain, Deed, Move, offer_of, gained, failed, reque
 use Rattle.policy.specs.Moves.Gain.{Nothing, Begins, Gathers, Passes, Drops}
 use Rattle.policy.specs.Moves.Deed.{Takes, Breaks, Notes, Hears, Fails, Sends, Goes, Acts}
 use Rattle.policy.specs.Moves.Move.{Does, Settles}
-use Rattle.policy.specs.State.{gates_in, conducts, tape_of, summary_at, offers_of, turns_of, tables_of, windows_of}
-use Rattle.policy.specs.Rule.{added_in, Gains, AllAllowed}
+use Rattle.policy.specs.State.{gates_in, conducts, tape_of, summary_at, offers_of, turns_of, tables_of, windows_of, state_of}
+use Rattle.policy.specs.Rule.{rooms_in, added_in, Gains, AllAllowed}
 use Rattle.policy.specs.Answered.{IsWholeBy, IsAnswered, AreAnswered}
 use Rattle.policy.proofs.Tapes.{offer_entry, offers_tape, requests_tape, tables_tape, windows_tape}
-use Rattle.policy.proofs.Telling.{all_moved, told_by, moves_same, sight_right, closed_told, told_right, verdict_told}
+use Rattle.policy.proofs.Telling.{live_told, all_moved, told_by, moves_same, sight_right, closed_told, told_right, verdict_told}
 use Rattle.policy.proofs.Adding.{none_added, one_added, first_added, added_by_book, right_by_book}
 
 -- ---- what is told before a move
@@ -75,8 +74,8 @@ pub windows_may : (setup : Setup) (run : List Move) → AllAllowed setup run →
 windows_may setup [] all = tt
 windows_may setup (Does d ∷ run) all = (
   windows_may setup run all.0,
-  subst (λ (g : Gates). windows.MayCome setup.passing g (windows.sight_of (windows_of setup run)) (sight_in (summary_at setup (Does d ∷ run))) (receiving.state_of setup.passing (windows.moves_of (windows_of setup run))) (window_of (sight_in (summary_at setup run)) (sight_in (summary_at setup (Does d ∷ run))) d)) (sym (windows_gates setup run))
-      (subst (λ (s : Sight). windows.MayCome setup.passing (gates_in (summary_at setup run) (serving.state_of setup (turns_of setup run))) s (sight_in (summary_at setup (Does d ∷ run))) (receiving.state_of setup.passing (windows.moves_of (windows_of setup run))) (window_of (sight_in (summary_at setup run)) (sight_in (summary_at setup (Does d ∷ run))) d)) (sym (windows_sight setup run)) all.1.window),
+  subst (λ (g : Gates). windows.MayCome setup.passing g (windows.sight_of (windows_of setup run)) (sight_in (summary_at setup (Does d ∷ run))) (windows.state_with g (windows.kept_behind setup.passing (windows_of setup run))) (window_of (sight_in (summary_at setup run)) (sight_in (summary_at setup (Does d ∷ run))) d)) (sym (windows_gates setup run))
+      (subst (λ (s : Sight). windows.MayCome setup.passing (gates_in (summary_at setup run) (serving.state_of setup (turns_of setup run))) s (sight_in (summary_at setup (Does d ∷ run))) (rooms_in (summary_at setup run) (state_of setup run)) (window_of (sight_in (summary_at setup run)) (sight_in (summary_at setup (Does d ∷ run))) d)) (sym (windows_sight setup run)) all.1.window),
 )
 windows_may setup (Settles ∷ run) all = (windows_may setup run all, tt)
 
@@ -212,6 +211,8 @@ gates_right known run knows all so =
     let moved = all_moved known run all in
     record {
       is_up = λ k. connections_told known (turns_of known.setup run) (turns_may known.setup run all) (turns_so known run knows all so) k ∙ ap (λ (t : List Entry). is_open k t) (requests_tape known.setup run);
+      live = live_told known run knows moved;
+      last = (sight_right known run knows moved).last;
       untaken = (sight_right known run knows moved).untaken;
       closed = closed_told known run knows moved;
     }

@@ -30,7 +30,8 @@ use Rattle.policy.specs.Moves.Deed.{Hears, Goes, Acts}
 use Rattle.policy.specs.Moves.Move.{Does, Settles}
 use Rattle.policy.specs.State.{State, tape_of}
 use Rattle.policy.specs.Rule.{MayDo, Rests, RestsBehind}
-use Rattle.policy.proofs.RunsSteps.{told, Leads, kept_settled, goes, settles, rests}
+use Rattle.policy.specs.Steps.{told_by, Stands, next}
+use Rattle.policy.proofs.RunsSteps.{goes, settles, rests}
 use Rattle.policy.proofs.RunsGreeting.{setup, frame, plain, never, none_kept}
 use Rattle.policy.proofs.RunsRequest.{request_text, forwarded, forwarded_allowed, one_whole, only_one}
 
@@ -123,9 +124,7 @@ at_forwarded = record {
   requests = record { held = []; live = record { k = 1; stream = 1; whole = false } ∷ []; due = Nothing; count = 1 };
   tables = record { decoding = decoded; unread = false; lost = false; encoding = record { table = first_table; limits = None; indexing = true; refused = false }; limit = 4096 };
   windows = record {
-    live = 1 ∷ [];
     row = change 1 (owing 0) (change 1 (given 1) (change 1 (λ r. blank) (change 0 (owing 0) (λ id. blank))));
-    stream = 1;
     count = 0;
     settled = true;
     debt = 0;
@@ -134,9 +133,9 @@ at_forwarded = record {
   };
 }
 
-pub forwarded_leads : Leads setup forwarded at_forwarded
+pub forwarded_leads : Stands setup forwarded at_forwarded
 unfolding total_size
-forwarded_leads = record { same = refl; goes_on = refl; all = forwarded_allowed }
+forwarded_leads = record { is = refl; goes_on = refl; allowed = forwarded_allowed }
 
 -- what is kept of the response of stream 1
 abbrev pub waiting : Kept
@@ -171,13 +170,13 @@ abbrev pub at_answered : State
 at_answered = record at_begun {
   desk = desk_with (record { id = 1; slot = Over false }) 65533 54;
   offers = record { kept = []; last = 1 };
-  windows = record at_begun.windows { live = [] };
+  windows = at_begun.windows;
 }
 
 -- ---- the block
 
 -- the value begins with a 2
-abbrev begins_with_two : Field → Bool
+abbrev pub begins_with_two : Field → Bool
 begins_with_two field = get_or field.value 0 0 == 50
 
 -- the name begins with a c and has 14 octets
@@ -283,7 +282,7 @@ answer_encoded =
 -- ---- each may come
 
 -- it rests before it
-pub forwarded_rest : Rests (told at_forwarded) at_forwarded
+pub forwarded_rest : Rests (told_by at_forwarded) at_forwarded
 forwarded_rest = record {
   conduct = record { nothing = refl; none_begun = refl; ended = λ e. never e };
   flushed = record { none_cut = λ stream kept found. one_whole (1 == stream) (record { id = 1; box = silent; cut = false }) kept refl found; none_ready = λ low. refl };
@@ -292,7 +291,7 @@ forwarded_rest = record {
   given_back = λ open_yet. record { settled = refl; shared = refl; own = λ stream active goes_on. subst (λ (id : ℕ). (at_forwarded.windows.row id).debt ≡ 0) (eqb-true 1 stream (only_one (1 == stream) _ active)) refl };
 }
 
-pub heard_may : MayDo setup (told at_forwarded) (told at_heard) at_forwarded heard_deed
+pub heard_may : MayDo setup (told_by at_forwarded) (told_by at_heard) at_forwarded heard_deed
 unfolding total_size
 heard_may = record {
   rests = λ e. forwarded_rest;
@@ -305,7 +304,7 @@ heard_may = record {
   window = (forwarded_rest.given_back refl, record { settled = refl; admitted = refl });
 }
 
-pub closed_may : MayDo setup (told at_heard) (told at_closed) at_heard (Acts (Close 1))
+pub closed_may : MayDo setup (told_by at_heard) (told_by at_closed) at_heard (Acts (Close 1))
 unfolding total_size
 closed_may = record {
   rests = λ e. never e;
@@ -323,7 +322,7 @@ pub each_one : (k : ℕ) → k < 1 → slice_index (1 ∷ []) k ≡ 1
 each_one zero lt = refl
 each_one (suc k) lt = omega (arith, lt)
 
-pub begun_may : MayDo setup (told at_closed) (told at_begun) at_closed head_deed
+pub begun_may : MayDo setup (told_by at_closed) (told_by at_begun) at_closed head_deed
 unfolding total_size
 begun_may = record {
   rests = λ e. never e;
@@ -351,7 +350,7 @@ begun_may = record {
   window = record { kind = refl; over_with_it = refl };
 }
 
-pub body_may : MayDo setup (told at_begun) (told at_answered) at_begun body_deed
+pub body_may : MayDo setup (told_by at_begun) (told_by at_answered) at_begun body_deed
 unfolding total_size
 body_may = record {
   rests = λ e. never e;
@@ -381,20 +380,20 @@ body_may = record {
 
 -- ---- so the run is allowed, and rests
 
-pub begun_leads : Leads setup begun at_begun
+pub begun_leads : Stands setup begun at_begun
 begun_leads =
     let first = goes setup forwarded at_forwarded forwarded_leads heard_deed at_heard refl refl heard_may in
     let second = goes setup heard at_heard first (Acts (Close 1)) at_closed refl refl closed_may in
     goes setup closed at_closed second head_deed at_begun refl refl begun_may
 
-pub answered_leads : Leads setup answered (kept_settled setup at_answered)
+pub answered_leads : Stands setup answered (next setup at_answered Settles)
 answered_leads = settles setup (Does body_deed ∷ begun) at_answered (goes setup begun at_begun begun_leads body_deed at_answered refl refl body_may)
 
 pub answered_rests : RestsBehind setup answered
-answered_rests = rests setup answered (kept_settled setup at_answered) answered_leads (record {
+answered_rests = rests setup answered (next setup at_answered Settles) answered_leads (record {
   conduct = record { nothing = refl; none_begun = refl; ended = λ e. never e };
   flushed = record { none_cut = λ stream kept found. none_kept found; none_ready = λ low. refl };
   served = record { nothing = refl; none_done = refl; ended = λ e. never e };
   read = refl;
-  given_back = λ open_yet. record { settled = refl; shared = refl; own = λ stream active goes_on. subst (λ (id : ℕ). ((kept_settled setup at_answered).windows.row id).debt ≡ 0) (eqb-true 1 stream (only_one (1 == stream) _ active)) refl };
+  given_back = λ open_yet. record { settled = refl; shared = refl; own = λ stream active goes_on. subst (λ (id : ℕ). ((next setup at_answered Settles).windows.row id).debt ≡ 0) (eqb-true 1 stream (only_one (1 == stream) _ active)) refl };
 })

@@ -33,7 +33,8 @@ use Rattle.policy.specs.Moves.Deed.{Takes, Sends, Acts}
 use Rattle.policy.specs.Moves.Move.{Does, Settles}
 use Rattle.policy.specs.State.{State, tape_of}
 use Rattle.policy.specs.Rule.{MayDo, Rests, RestsBehind}
-use Rattle.policy.proofs.RunsSteps.{told, Leads, kept_settled, goes, settles, rests}
+use Rattle.policy.specs.Steps.{told_by, Stands, next}
+use Rattle.policy.proofs.RunsSteps.{goes, settles, rests}
 use Rattle.policy.proofs.RunsGreeting.{setup, frame, plain, never}
 use Rattle.policy.proofs.RunsRequest.{request_text, forwarded, first_route}
 use Rattle.policy.proofs.RunsAnswer.{one, at_forwarded, forwarded_leads, forwarded_rest}
@@ -150,7 +151,7 @@ at_begins = record at_forwarded {
   desk = desk_of_all (post_row 0 65535 ∷ get_row 1 ∷ []) (first_given ∷ []) 3 65535 30;
   offers = record at_forwarded.offers { kept = silent_one 1 ∷ silent_one 3 ∷ [] };
   requests = record at_forwarded.requests { held = waiting post_text ∷ [] };
-  windows = record at_forwarded.windows { live = 3 ∷ 1 ∷ []; row = change 3 (λ r. blank) at_forwarded.windows.row; stream = 3; settled = false };
+  windows = record at_forwarded.windows { row = change 3 (λ r. blank) at_forwarded.windows.row; settled = false };
 }
 
 abbrev pub at_first : State
@@ -162,7 +163,7 @@ at_first = record at_begins {
 
 -- two octets are owed on the connection and on the stream
 abbrev pub at_gathers : State
-at_gathers = kept_settled setup at_first
+at_gathers = next setup at_first Settles
 
 abbrev pub at_shared : State
 at_shared = record at_gathers {
@@ -183,7 +184,7 @@ at_get = record at_returns {
   desk = desk_of_all (get_row 5 ∷ post_row 2 65535 ∷ get_row 1 ∷ []) (first_given ∷ []) 5 65535 56;
   offers = record at_returns.offers { kept = silent_one 1 ∷ silent_one 3 ∷ silent_one 5 ∷ [] };
   requests = record at_returns.requests { due = ToOpen 5 0 request_text Whole };
-  windows = record at_returns.windows { live = 5 ∷ 3 ∷ 1 ∷ []; row = change 5 (λ r. blank) at_returns.windows.row; stream = 5; settled = false };
+  windows = record at_returns.windows { row = change 5 (λ r. blank) at_returns.windows.row; settled = false };
 }
 
 abbrev pub at_opened : State
@@ -200,14 +201,14 @@ at_put = record at_opened {
 }
 
 abbrev pub at_between : State
-at_between = kept_settled setup at_put
+at_between = next setup at_put Settles
 
 abbrev pub at_cancelled : State
 at_cancelled = record at_between {
   desk = desk_of_all (get_row 5 ∷ record { id = 3; slot = Over false } ∷ get_row 1 ∷ []) (second_given ∷ first_given ∷ []) 3 65535 56;
   offers = record at_between.offers { kept = silent_one 1 ∷ silent_one 5 ∷ [] };
   requests = record at_between.requests { held = [] };
-  windows = record at_between.windows { live = 5 ∷ 1 ∷ []; stream = 3; settled = false };
+  windows = record at_between.windows { settled = false };
 }
 
 -- ---- what rests
@@ -233,7 +234,7 @@ abbrev pub AllPaid : (ℕ → receiving.Row) → Type 0
 AllPaid rows = (id : ℕ) → (rows id).debt ≡ 0
 
 -- nor is it where one row changes to another to which nothing is owed
-change_paid : (id : ℕ) (f : receiving.Row → receiving.Row) (rows : ℕ → receiving.Row) → ((r : receiving.Row) → r.debt ≡ 0 → (f r).debt ≡ 0) → AllPaid rows → AllPaid (change id f rows)
+pub change_paid : (id : ℕ) (f : receiving.Row → receiving.Row) (rows : ℕ → receiving.Row) → ((r : receiving.Row) → r.debt ≡ 0 → (f r).debt ≡ 0) → AllPaid rows → AllPaid (change id f rows)
 change_paid id f rows keeps all other = at (id == other) (rows other) (all other)
   where
     at : (b : Bool) (r : receiving.Row) → r.debt ≡ 0 → (if b then f r else r).debt ≡ 0
@@ -248,10 +249,10 @@ pays id f rows all other = at (id == other) (rows other) (all other)
     at true r e = refl
     at false r e = e
 
-owes_no_more : (r : receiving.Row) → r.debt ≡ 0 → (owing 0 r).debt ≡ 0
+pub owes_no_more : (r : receiving.Row) → r.debt ≡ 0 → (owing 0 r).debt ≡ 0
 owes_no_more r e = omega (arith, e)
 
-forwarded_paid : AllPaid at_forwarded.windows.row
+pub forwarded_paid : AllPaid at_forwarded.windows.row
 forwarded_paid =
     change_paid 1 (owing 0) (change 1 (given 1) (change 1 (λ r. blank) (change 0 (owing 0) (λ id. blank)))) owes_no_more
     (change_paid 1 (given 1) (change 1 (λ r. blank) (change 0 (owing 0) (λ id. blank))) (λ r e. e)
@@ -270,7 +271,7 @@ between_paid =
     (change_paid 5 (given 2) at_get.windows.row (λ r e. e)
     (change_paid 5 (λ r. blank) at_returns.windows.row (λ r e. refl) returns_paid))
 
-begins_rest : Rests (told at_begins) at_begins
+begins_rest : Rests (told_by at_begins) at_begins
 begins_rest = record {
   conduct = record { nothing = refl; none_begun = refl; ended = λ e. never e };
   flushed = record { none_cut = λ stream kept found. none_cut_of (silent_one 1 ∷ silent_one 3 ∷ []) refl stream kept found; none_ready = λ low. refl };
@@ -279,7 +280,7 @@ begins_rest = record {
   given_back = λ open_yet. record { settled = refl; shared = refl; own = λ stream active goes_on. begins_paid stream };
 }
 
-returns_rest : Rests (told at_returns) at_returns
+returns_rest : Rests (told_by at_returns) at_returns
 returns_rest = record {
   conduct = record { nothing = refl; none_begun = refl; ended = λ e. never e };
   flushed = record { none_cut = λ stream kept found. none_cut_of (silent_one 1 ∷ silent_one 3 ∷ []) refl stream kept found; none_ready = λ low. refl };
@@ -288,7 +289,7 @@ returns_rest = record {
   given_back = λ open_yet. record { settled = refl; shared = refl; own = λ stream active goes_on. returns_paid stream };
 }
 
-pub between_rest : Rests (told at_between) at_between
+pub between_rest : Rests (told_by at_between) at_between
 between_rest = record {
   conduct = record { nothing = refl; none_begun = refl; ended = λ e. never e };
   flushed = record { none_cut = λ stream kept found. none_cut_of (silent_one 1 ∷ silent_one 3 ∷ silent_one 5 ∷ []) refl stream kept found; none_ready = λ low. refl };
@@ -341,7 +342,7 @@ post_read = record {
   };
 }
 
-get_read : Block decoded (130 ∷ 134 ∷ 132 ∷ 190 ∷ []) request decoded
+pub get_read : Block decoded (130 ∷ 134 ∷ 132 ∷ 190 ∷ []) request decoded
 unfolding static_table keep
 get_read = record {
   maxima = [];
@@ -385,7 +386,7 @@ get_read = record {
 
 -- ---- each may come
 
-begins_may : MayDo setup (told at_forwarded) (told at_begins) at_forwarded post_deed
+begins_may : MayDo setup (told_by at_forwarded) (told_by at_begins) at_forwarded post_deed
 unfolding total_size
 begins_may = record {
   rests = λ e. forwarded_rest;
@@ -409,7 +410,7 @@ begins_may = record {
   window = record { nothing = forwarded_rest.given_back refl; goes_on = refl; opens_it = refl; lives = λ e. refl; over_with_it = refl };
 }
 
-first_may : MayDo setup (told at_begins) (told at_first) at_begins first_deed
+first_may : MayDo setup (told_by at_begins) (told_by at_first) at_begins first_deed
 unfolding total_size
 first_may = record {
   rests = λ e. begins_rest;
@@ -433,7 +434,7 @@ first_may = record {
   window = record { nothing = begins_rest.given_back refl; goes_on = refl; opens_it = refl; lives = λ e. never e; over_with_it = refl };
 }
 
-shared_may : MayDo setup (told at_gathers) (told at_shared) at_gathers shared_deed
+shared_may : MayDo setup (told_by at_gathers) (told_by at_shared) at_gathers shared_deed
 unfolding total_size
 shared_may = record {
   rests = λ e. never e;
@@ -446,7 +447,7 @@ shared_may = record {
   window = record { kind = refl; owed = refl };
 }
 
-own_may : MayDo setup (told at_shared) (told at_returns) at_shared own_deed
+own_may : MayDo setup (told_by at_shared) (told_by at_returns) at_shared own_deed
 unfolding total_size
 own_may = record {
   rests = λ e. never e;
@@ -459,7 +460,7 @@ own_may = record {
   window = record { kind = refl; owed = (refl, refl, refl) };
 }
 
-get_may : MayDo setup (told at_returns) (told at_get) at_returns get_deed
+get_may : MayDo setup (told_by at_returns) (told_by at_get) at_returns get_deed
 unfolding total_size
 get_may = record {
   rests = λ e. returns_rest;
@@ -483,7 +484,7 @@ get_may = record {
   window = record { nothing = returns_rest.given_back refl; goes_on = refl; opens_it = refl; lives = λ e. refl; over_with_it = refl };
 }
 
-opened_may : MayDo setup (told at_get) (told at_opened) at_get (Acts (Open 2 0))
+opened_may : MayDo setup (told_by at_get) (told_by at_opened) at_get (Acts (Open 2 0))
 unfolding total_size
 opened_may = record {
   rests = λ e. never e;
@@ -496,7 +497,7 @@ opened_may = record {
   window = record { active = refl; counted = omega arith; first = refl; unused = refl; untaken = refl };
 }
 
-put_may : MayDo setup (told at_opened) (told at_put) at_opened (Acts (ToUp 2 request_text))
+put_may : MayDo setup (told_by at_opened) (told_by at_put) at_opened (Acts (ToUp 2 request_text))
 unfolding total_size
 put_may = record {
   rests = λ e. never e;
@@ -509,7 +510,7 @@ put_may = record {
   window = record { opened = refl; in_effect = λ e. cc };
 }
 
-cancel_may : MayDo setup (told at_between) (told at_cancelled) at_between cancel_deed
+cancel_may : MayDo setup (told_by at_between) (told_by at_cancelled) at_between cancel_deed
 unfolding total_size
 cancel_may = record {
   rests = λ e. between_rest;
@@ -524,17 +525,17 @@ cancel_may = record {
 
 -- ---- so the run is allowed, and rests
 
-pub gathers_leads : Leads setup gathers at_gathers
+pub gathers_leads : Stands setup gathers at_gathers
 unfolding total_size
 gathers_leads =
     let first = goes setup forwarded at_forwarded forwarded_leads post_deed at_begins refl refl begins_may in
     settles setup (Does first_deed ∷ begins) at_first (goes setup begins at_begins first first_deed at_first refl refl first_may)
 
-pub returns_leads : Leads setup returns at_returns
+pub returns_leads : Stands setup returns at_returns
 unfolding total_size
 returns_leads = goes setup (Does shared_deed ∷ gathers) at_shared (goes setup gathers at_gathers gathers_leads shared_deed at_shared refl refl shared_may) own_deed at_returns refl refl own_may
 
-pub between_leads : Leads setup between at_between
+pub between_leads : Stands setup between at_between
 unfolding total_size
 between_leads =
     let first = goes setup returns at_returns returns_leads get_deed at_get refl refl get_may in
@@ -545,12 +546,12 @@ between_leads =
 pub between_rests : RestsBehind setup between
 between_rests = rests setup between at_between between_leads between_rest
 
-pub cancelled_leads : Leads setup cancelled (kept_settled setup at_cancelled)
+pub cancelled_leads : Stands setup cancelled (next setup at_cancelled Settles)
 unfolding total_size
 cancelled_leads = settles setup (Does cancel_deed ∷ between) at_cancelled (goes setup between at_between between_leads cancel_deed at_cancelled refl refl cancel_may)
 
 pub cancelled_rests : RestsBehind setup cancelled
-cancelled_rests = rests setup cancelled (kept_settled setup at_cancelled) cancelled_leads (record {
+cancelled_rests = rests setup cancelled (next setup at_cancelled Settles) cancelled_leads (record {
   conduct = record { nothing = refl; none_begun = refl; ended = λ e. never e };
   flushed = record { none_cut = λ stream kept found. none_cut_of (silent_one 1 ∷ silent_one 5 ∷ []) refl stream kept found; none_ready = λ low. refl };
   served = record { nothing = refl; none_done = refl; ended = λ e. never e };

@@ -30,7 +30,8 @@ use Rattle.policy.specs.Moves.Move.{Does, Settles}
 use Rattle.policy.specs.State.{State, tape_of}
 use Rattle.policy.specs.Rule.{MayDo, RestsBehind}
 use Rattle.policy.proofs.Keeping.{clauses}
-use Rattle.policy.proofs.RunsSteps.{told, Leads, kept_settled, goes, settles, rests}
+use Rattle.policy.specs.Steps.{told_by, Stands, next}
+use Rattle.policy.proofs.RunsSteps.{goes, settles, rests}
 use Rattle.policy.proofs.RunsGreeting.{setup, frame, plain, never}
 use Rattle.policy.proofs.RunsBody.{text_so_far, between, between_leads, between_rest, between_paid, none_cut_of, silent_one, get_row, desk_of_all, first_given, second_given, at_between}
 use Rattle.policy.proofs.RunsHold.{known}
@@ -82,7 +83,7 @@ abbrev pub at_comes : State
 at_comes = record at_between {
   desk = desk_of_all all_rows (second_given ∷ first_given ∷ []) 3 65534 56;
   requests = record at_between.requests { held = []; due = ToOpen 3 0 whole_text Whole };
-  windows = record at_between.windows { stream = 3; count = 1; settled = false };
+  windows = record at_between.windows { count = 1; settled = false };
 }
 
 abbrev pub at_opened : State
@@ -99,7 +100,7 @@ at_put = record at_opened {
 }
 
 abbrev pub at_goes_out : State
-at_goes_out = kept_settled setup at_put
+at_goes_out = next setup at_put Settles
 
 abbrev pub at_ended : State
 at_ended = record at_goes_out {
@@ -111,7 +112,7 @@ at_ended = record at_goes_out {
 -- ---- the text
 
 -- the last chunk ends it
-text_ends : Continues Chunking last_chunk [] Whole
+pub text_ends : Continues Chunking last_chunk [] Whole
 text_ends parts ended_head text pieces s = record {
   none_ended = λ e. absurd (let clash : true ≡ false = sym e ∙ s.not_ended in cc);
   full = subst (λ ps. list_all (λ piece. not (is_empty piece)) ps ≡ true) (sym (append-nil pieces)) s.full;
@@ -125,7 +126,7 @@ text_ends parts ended_head text pieces s = record {
 
 -- ---- each may come
 
-comes_may : MayDo setup (told at_between) (told at_comes) at_between last_deed
+comes_may : MayDo setup (told_by at_between) (told_by at_comes) at_between last_deed
 unfolding total_size
 comes_may = record {
   rests = λ e. between_rest;
@@ -149,7 +150,7 @@ comes_may = record {
   window = record { nothing = between_rest.given_back refl; goes_on = refl; opens_it = refl; lives = λ e. never e; over_with_it = refl };
 }
 
-opened_may : MayDo setup (told at_comes) (told at_opened) at_comes (Acts (Open 3 0))
+opened_may : MayDo setup (told_by at_comes) (told_by at_opened) at_comes (Acts (Open 3 0))
 unfolding total_size
 opened_may = record {
   rests = λ e. never e;
@@ -162,7 +163,7 @@ opened_may = record {
   window = record { active = refl; counted = omega arith; first = refl; unused = refl; untaken = refl };
 }
 
-put_may : MayDo setup (told at_opened) (told at_put) at_opened (Acts (ToUp 3 whole_text))
+put_may : MayDo setup (told_by at_opened) (told_by at_put) at_opened (Acts (ToUp 3 whole_text))
 unfolding total_size
 put_may = record {
   rests = λ e. never e;
@@ -175,7 +176,7 @@ put_may = record {
   window = record { opened = refl; in_effect = λ e. cc };
 }
 
-back_may : MayDo setup (told at_goes_out) (told at_ended) at_goes_out (Sends octet_back decoded)
+back_may : MayDo setup (told_by at_goes_out) (told_by at_ended) at_goes_out (Sends octet_back decoded)
 unfolding total_size
 back_may = record {
   rests = λ e. never e;
@@ -191,16 +192,16 @@ back_may = record {
 -- ---- so the run is allowed, and rests
 
 -- of a stream that the client ended nothing goes back; of the others nothing is owed
-own_back : (stream : ℕ) → (sight_in (told at_ended)).ended stream ≡ false → (at_ended.windows.row stream).debt ≡ 0
+own_back : (stream : ℕ) → (sight_in (told_by at_ended)).ended stream ≡ false → (at_ended.windows.row stream).debt ≡ 0
 own_back stream = at (3 == stream) refl
   where
-    at : (b : Bool) → (3 == stream) ≡ b → (sight_in (told at_ended)).ended stream ≡ false → (at_ended.windows.row stream).debt ≡ 0
+    at : (b : Bool) → (3 == stream) ≡ b → (sight_in (told_by at_ended)).ended stream ≡ false → (at_ended.windows.row stream).debt ≡ 0
     at true is =
-        subst (λ (id : ℕ). (sight_in (told at_ended)).ended id ≡ false → (at_ended.windows.row id).debt ≡ 0) (eqb-true 3 stream is)
+        subst (λ (id : ℕ). (sight_in (told_by at_ended)).ended id ≡ false → (at_ended.windows.row id).debt ≡ 0) (eqb-true 3 stream is)
         (λ e. absurd (let clash : true ≡ false = e in cc))
     at false is = λ e. ap (λ b. (if b then owing 1 (if b then given 3 (at_between.windows.row stream) else at_between.windows.row stream) else (if b then given 3 (at_between.windows.row stream) else at_between.windows.row stream)).debt) is ∙ between_paid stream
 
-pub ended_leads : Leads setup ended at_ended
+pub ended_leads : Stands setup ended at_ended
 unfolding total_size
 ended_leads =
     let first = goes setup between at_between between_leads last_deed at_comes refl refl comes_may in
@@ -222,6 +223,6 @@ ended_rests = rests setup ended at_ended ended_leads (record {
 pub ended_holds : ClausesHold known (tape_of ended)
 ended_holds = clauses known ended (record {
   knows = (((((((((((((((((tt, refl), refl), refl), refl), refl), refl), refl), refl), refl), refl), refl), refl), refl), refl), refl), refl), refl);
-  all = ended_leads.all;
+  all = ended_leads.allowed;
   answered = (((((((((((((((((tt, tt), tt), tt), tt), tt), tt), tt), tt), tt), tt), tt), tt), tt), tt), tt), tt), tt);
 }) ended_rests

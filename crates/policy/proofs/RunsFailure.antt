@@ -25,7 +25,8 @@ use Rattle.policy.specs.Moves.Deed.{Fails, Goes}
 use Rattle.policy.specs.Moves.Move.{Does, Settles}
 use Rattle.policy.specs.State.{State, tape_of}
 use Rattle.policy.specs.Rule.{MayDo, RestsBehind}
-use Rattle.policy.proofs.RunsSteps.{told, Leads, kept_settled, goes, settles, rests}
+use Rattle.policy.specs.Steps.{told_by, Stands, next}
+use Rattle.policy.proofs.RunsSteps.{goes, settles, rests}
 use Rattle.policy.proofs.RunsGreeting.{setup, frame, never, none_kept}
 use Rattle.policy.proofs.RunsRequest.{forwarded, one_whole, only_one}
 use Rattle.policy.proofs.RunsAnswer.{one, desk_with, at_forwarded, forwarded_leads, forwarded_rest, is_length_name}
@@ -90,7 +91,7 @@ at_replied = record at_failed {
   desk = desk_with (record { id = 1; slot = Over false }) 65535 47;
   offers = record { kept = []; last = 1 };
   tables = record at_failed.tables { encoding = record at_failed.tables.encoding { table = with_both } };
-  windows = record at_failed.windows { live = [] };
+  windows = at_failed.windows;
 }
 
 -- ---- the block
@@ -233,7 +234,7 @@ reply_encoded = record {
 
 -- ---- each may come
 
-pub failed_may : MayDo setup (told at_forwarded) (told at_failed) at_forwarded failed_deed
+pub failed_may : MayDo setup (told_by at_forwarded) (told_by at_failed) at_forwarded failed_deed
 unfolding total_size
 failed_may = record {
   rests = λ e. forwarded_rest;
@@ -246,7 +247,7 @@ failed_may = record {
   window = (forwarded_rest.given_back refl, record { settled = refl; admitted = refl });
 }
 
-pub reply_may : MayDo setup (told at_failed) (told at_replied) at_failed reply_deed
+pub reply_may : MayDo setup (told_by at_failed) (told_by at_replied) at_failed reply_deed
 unfolding total_size
 reply_may = record {
   rests = λ e. never e;
@@ -276,16 +277,16 @@ reply_may = record {
 
 -- ---- so the run is allowed, and rests
 
-pub replied_leads : Leads setup replied_to (kept_settled setup at_replied)
+pub replied_leads : Stands setup replied_to (next setup at_replied Settles)
 replied_leads =
     let first = goes setup forwarded at_forwarded forwarded_leads failed_deed at_failed refl refl failed_may in
     settles setup (Does reply_deed ∷ failed) at_replied (goes setup failed at_failed first reply_deed at_replied refl refl reply_may)
 
 pub replied_rests : RestsBehind setup replied_to
-replied_rests = rests setup replied_to (kept_settled setup at_replied) replied_leads (record {
+replied_rests = rests setup replied_to (next setup at_replied Settles) replied_leads (record {
   conduct = record { nothing = refl; none_begun = refl; ended = λ e. never e };
   flushed = record { none_cut = λ stream kept found. none_kept found; none_ready = λ low. refl };
   served = record { nothing = refl; none_done = refl; ended = λ e. never e };
   read = refl;
-  given_back = λ open_yet. record { settled = refl; shared = refl; own = λ stream active goes_on. subst (λ (id : ℕ). ((kept_settled setup at_replied).windows.row id).debt ≡ 0) (eqb-true 1 stream (only_one (1 == stream) _ active)) refl };
+  given_back = λ open_yet. record { settled = refl; shared = refl; own = λ stream active goes_on. subst (λ (id : ℕ). ((next setup at_replied Settles).windows.row id).debt ≡ 0) (eqb-true 1 stream (only_one (1 == stream) _ active)) refl };
 })

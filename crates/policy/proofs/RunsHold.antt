@@ -27,7 +27,7 @@ forwarded_holds = clauses known forwarded (record { knows = ((((((tt, refl), ref
 cancelled_known : IsKnown known cancelled
 cancelled_known = record {
   knows = ((((((((((((((tt, refl), refl), refl), refl), refl), refl), refl), refl), refl), refl), refl), refl), refl), refl);
-  all = cancelled_leads.all;
+  all = cancelled_leads.allowed;
   answered = ((((((((((((((tt, tt), tt), tt), tt), tt), tt), tt), tt), tt), tt), tt), tt), tt), tt);
 }
 
@@ -53,7 +53,7 @@ none_whole o (inr none) number whole = none
 replied_known : IsKnown known_failed replied_to
 replied_known = record {
   knows = ((((((((tt, refl), refl), refl), refl), refl), refl), refl), refl);
-  all = replied_leads.all;
+  all = replied_leads.allowed;
   answered = ((((((((tt, tt), tt), tt), tt), tt), tt), (none_whole, tt)), tt);
 }
 

@@ -26,7 +26,8 @@ use Rattle.policy.specs.Moves.Deed.{Takes, Sends, Goes}
 use Rattle.policy.specs.Moves.Move.{Does, Settles}
 use Rattle.policy.specs.State.{State, tape_of}
 use Rattle.policy.specs.Rule.{MayDo, Rests, RestsBehind}
-use Rattle.policy.proofs.RunsSteps.{told, Leads, kept_settled, goes, settles, rests}
+use Rattle.policy.specs.Steps.{told_by, Stands, next}
+use Rattle.policy.proofs.RunsSteps.{goes, settles, rests}
 use Rattle.policy.proofs.RunsGreeting.{setup, frame, plain, never, none_kept}
 use Rattle.policy.proofs.RunsRequest.{forwarded, one_whole, only_one}
 use Rattle.policy.proofs.RunsAnswer.{one, at_forwarded, forwarded_leads, forwarded_rest}
@@ -74,7 +75,7 @@ abbrev pub at_limits : State
 at_limits = record at_forwarded {
   desk = desk_sized 65535 (settings_ack ∷ []) (record { id = 1; slot = Live (one false) }) 65535 30;
   tables = record at_forwarded.tables { encoding = record at_forwarded.tables.encoding { limits = Some (record { least = 0; last = 4096 }) } };
-  windows = record at_forwarded.windows { stream = 0; settled = false };
+  windows = record at_forwarded.windows { settled = false };
 }
 
 abbrev pub at_limited : State
@@ -97,7 +98,7 @@ at_replied = record at_failed {
   desk = desk_sized 65535 [] (record { id = 1; slot = Over false }) 65535 60;
   offers = record { kept = []; last = 1 };
   tables = record at_failed.tables { encoding = record at_failed.tables.encoding { table = with_both; limits = None } };
-  windows = record at_failed.windows { live = [] };
+  windows = at_failed.windows;
 }
 
 -- ---- the block
@@ -222,7 +223,7 @@ limited_encoded = record {
 
 -- ---- each may come
 
-limits_may : MayDo setup (told at_forwarded) (told at_limits) at_forwarded limits_deed
+limits_may : MayDo setup (told_by at_forwarded) (told_by at_limits) at_forwarded limits_deed
 unfolding total_size
 limits_may = record {
   rests = λ e. forwarded_rest;
@@ -235,7 +236,7 @@ limits_may = record {
   window = record { nothing = forwarded_rest.given_back refl; goes_on = refl; opens_it = refl; lives = λ e. never e; over_with_it = refl };
 }
 
-ack_may : MayDo setup (told at_limits) (told at_limited) at_limits ack_deed
+ack_may : MayDo setup (told_by at_limits) (told_by at_limited) at_limits ack_deed
 unfolding total_size
 ack_may = record {
   rests = λ e. never e;
@@ -248,7 +249,7 @@ ack_may = record {
   window = record { kind = refl; over_with_it = refl };
 }
 
-limited_rest : Rests (told at_limited) at_limited
+limited_rest : Rests (told_by at_limited) at_limited
 limited_rest = record {
   conduct = record { nothing = refl; none_begun = refl; ended = λ e. never e };
   flushed = record { none_cut = λ stream kept found. one_whole (1 == stream) (record { id = 1; box = silent; cut = false }) kept refl found; none_ready = λ low. refl };
@@ -257,7 +258,7 @@ limited_rest = record {
   given_back = λ open_yet. record { settled = refl; shared = refl; own = λ stream active goes_on. subst (λ (id : ℕ). (at_limited.windows.row id).debt ≡ 0) (eqb-true 1 stream (only_one (1 == stream) _ active)) refl };
 }
 
-failed_may : MayDo setup (told at_limited) (told at_failed) at_limited failed_deed
+failed_may : MayDo setup (told_by at_limited) (told_by at_failed) at_limited failed_deed
 unfolding total_size
 failed_may = record {
   rests = λ e. limited_rest;
@@ -270,7 +271,7 @@ failed_may = record {
   window = (limited_rest.given_back refl, record { settled = refl; admitted = refl });
 }
 
-reply_may : MayDo setup (told at_failed) (told at_replied) at_failed reply_deed
+reply_may : MayDo setup (told_by at_failed) (told_by at_replied) at_failed reply_deed
 unfolding total_size
 reply_may = record {
   rests = λ e. never e;
@@ -300,7 +301,7 @@ reply_may = record {
 
 -- ---- so the run is allowed, and rests
 
-pub replied_leads : Leads setup replied (kept_settled setup at_replied)
+pub replied_leads : Stands setup replied (next setup at_replied Settles)
 unfolding total_size
 replied_leads =
     let first = goes setup forwarded at_forwarded forwarded_leads limits_deed at_limits refl refl limits_may in
@@ -309,10 +310,10 @@ replied_leads =
     settles setup (Does reply_deed ∷ failed) at_replied (goes setup failed at_failed third reply_deed at_replied refl refl reply_may)
 
 pub replied_rests : RestsBehind setup replied
-replied_rests = rests setup replied (kept_settled setup at_replied) replied_leads (record {
+replied_rests = rests setup replied (next setup at_replied Settles) replied_leads (record {
   conduct = record { nothing = refl; none_begun = refl; ended = λ e. never e };
   flushed = record { none_cut = λ stream kept found. none_kept found; none_ready = λ low. refl };
   served = record { nothing = refl; none_done = refl; ended = λ e. never e };
   read = refl;
-  given_back = λ open_yet. record { settled = refl; shared = refl; own = λ stream active goes_on. subst (λ (id : ℕ). ((kept_settled setup at_replied).windows.row id).debt ≡ 0) (eqb-true 1 stream (only_one (1 == stream) _ active)) refl };
+  given_back = λ open_yet. record { settled = refl; shared = refl; own = λ stream active goes_on. subst (λ (id : ℕ). ((next setup at_replied Settles).windows.row id).debt ≡ 0) (eqb-true 1 stream (only_one (1 == stream) _ active)) refl };
 })

@@ -20,7 +20,7 @@ use Rattle.h1_writer.proofs.Stages.{adds_chunk}
 use Rattle.conduct.specs.Book.{Desk}
 use Rattle.conduct.specs.Rows.{Row}
 use Rattle.conduct.specs.Rows.Slot.{Live}
-use Rattle.receiving.specs.State.{add, change, blank, paid, given, with_taken}
+use Rattle.receiving.specs.State.{add, change, blank, paid, given, with_taken, kept_of}
 use Rattle.serving.specs.State.Way.{Going}
 use Rattle.serving.specs.State.Due.{Nothing, ToOpen, ToSend}
 use Rattle.tables.proofs.Requests.{request, decoded, request_read}
@@ -29,10 +29,11 @@ use Rattle.policy.specs.Moves.Gain.{Begins, Passes}
 use Rattle.policy.specs.Moves.Deed.{Takes, Notes, Sends, Acts}
 use Rattle.policy.specs.Moves.Move.{Does, Settles}
 use Rattle.policy.specs.State.{State, tape_of, state_of}
-use Rattle.policy.specs.Rule.{MayDo, Rests, RestsBehind}
+use Rattle.policy.specs.Rule.{rooms_in, MayDo, Rests, RestsBehind}
 use Rattle.model.specs.Headline.{ClausesHold}
 use Rattle.policy.proofs.Keeping.{clauses}
-use Rattle.policy.proofs.RunsSteps.{told, Leads, kept_settled, goes, settles, rests}
+use Rattle.policy.specs.Steps.{told_by, Stands, next}
+use Rattle.policy.proofs.RunsSteps.{goes, settles, rests}
 use Rattle.policy.proofs.RunsGreeting.{setup, frame, plain, never, none_kept, ours, theirs, acked}
 use Rattle.policy.proofs.RunsRequest.{one_whole, only_one, first_route}
 use Rattle.policy.proofs.RunsAnswer.{at_forwarded}
@@ -121,7 +122,7 @@ at_asked = record at_greeted {
   offers = record at_greeted.offers { kept = silent_one 1 ∷ [] };
   requests = record at_greeted.requests { due = ToOpen 1 0 text Chunking };
   tables = record at_greeted.tables { decoding = decoded };
-  windows = record at_greeted.windows { live = 1 ∷ []; row = change 1 (λ r. blank) at_greeted.windows.row; stream = 1 };
+  windows = record at_greeted.windows { row = change 1 (λ r. blank) at_greeted.windows.row };
 }
 
 abbrev pub at_opened : State
@@ -138,7 +139,7 @@ at_put = record at_opened {
 }
 
 abbrev pub at_begun : State
-at_begun = kept_settled streaming at_put
+at_begun = next streaming at_put Settles
 
 abbrev pub at_octets : State
 at_octets = record at_begun {
@@ -154,11 +155,11 @@ at_passed = record at_octets {
 }
 
 abbrev pub at_waits : State
-at_waits = kept_settled streaming at_passed
+at_waits = next streaming at_passed Settles
 
 -- ---- each may come
 
-ours_may : MayDo streaming (told at_start) (told at_ours) at_start ours
+ours_may : MayDo streaming (told_by at_start) (told_by at_ours) at_start ours
 ours_may = record {
   rests = λ e. never e;
   conduct = record { allowed = record { open_yet = refl; turn = inl (record { front = refl; control = refl }) }; fit = refl };
@@ -171,7 +172,7 @@ ours_may = record {
 }
 
 -- behind the gateway's settings it rests
-ours_rests : Rests (told at_ours) at_ours
+ours_rests : Rests (told_by at_ours) at_ours
 ours_rests = record {
   conduct = record { nothing = refl; none_begun = refl; ended = λ e. never e };
   flushed = record { none_cut = λ stream kept found. none_kept found; none_ready = λ low. refl };
@@ -180,7 +181,7 @@ ours_rests = record {
   given_back = λ open_yet. record { settled = refl; shared = refl; own = λ stream active goes_on. never active };
 }
 
-theirs_may : MayDo streaming (told at_ours) (told at_theirs) at_ours theirs
+theirs_may : MayDo streaming (told_by at_ours) (told_by at_theirs) at_ours theirs
 theirs_may = record {
   rests = λ e. ours_rests;
   conduct = record { allowed = record { open_yet = refl; turn = record { nothing = refl; none_begun = refl; goes_on = refl } }; fit = λ fine completes. never completes };
@@ -192,7 +193,7 @@ theirs_may = record {
   window = record { nothing = ours_rests.given_back refl; goes_on = refl; opens_it = refl; lives = λ e. never e; over_with_it = refl };
 }
 
-acked_may : MayDo streaming (told at_theirs) (told at_greeted) at_theirs acked
+acked_may : MayDo streaming (told_by at_theirs) (told_by at_greeted) at_theirs acked
 acked_may = record {
   rests = λ e. never e;
   conduct = record { allowed = record { open_yet = refl; turn = inl (record { front = refl; control = refl }) }; fit = refl };
@@ -205,7 +206,7 @@ acked_may = record {
 }
 
 -- behind both sides' settings too
-greeted_rest : Rests (told at_greeted) at_greeted
+greeted_rest : Rests (told_by at_greeted) at_greeted
 greeted_rest = record {
   conduct = record { nothing = refl; none_begun = refl; ended = λ e. never e };
   flushed = record { none_cut = λ stream kept found. none_kept found; none_ready = λ low. refl };
@@ -214,7 +215,7 @@ greeted_rest = record {
   given_back = λ open_yet. record { settled = refl; shared = refl; own = λ stream active goes_on. never active };
 }
 
-asked_may : MayDo streaming (told at_greeted) (told at_asked) at_greeted asked_deed
+asked_may : MayDo streaming (told_by at_greeted) (told_by at_asked) at_greeted asked_deed
 unfolding total_size
 asked_may = record {
   rests = λ e. greeted_rest;
@@ -238,7 +239,7 @@ asked_may = record {
   window = record { nothing = greeted_rest.given_back refl; goes_on = refl; opens_it = refl; lives = λ e. refl; over_with_it = refl };
 }
 
-opened_may : MayDo streaming (told at_asked) (told at_opened) at_asked (Acts (Open 1 0))
+opened_may : MayDo streaming (told_by at_asked) (told_by at_opened) at_asked (Acts (Open 1 0))
 unfolding total_size
 opened_may = record {
   rests = λ e. never e;
@@ -251,7 +252,7 @@ opened_may = record {
   window = record { active = refl; counted = omega arith; first = refl; unused = refl; untaken = refl };
 }
 
-put_may : MayDo streaming (told at_opened) (told at_put) at_opened (Acts (ToUp 1 text))
+put_may : MayDo streaming (told_by at_opened) (told_by at_put) at_opened (Acts (ToUp 1 text))
 unfolding total_size
 put_may = record {
   rests = λ e. never e;
@@ -264,7 +265,7 @@ put_may = record {
   window = record { opened = refl; in_effect = λ e. refl };
 }
 
-begun_rest : Rests (told at_begun) at_begun
+begun_rest : Rests (told_by at_begun) at_begun
 begun_rest = record {
   conduct = record { nothing = refl; none_begun = refl; ended = λ e. never e };
   flushed = record { none_cut = λ stream kept found. one_whole (1 == stream) (silent_one 1) kept refl found; none_ready = λ low. refl };
@@ -273,7 +274,7 @@ begun_rest = record {
   given_back = λ open_yet. record { settled = refl; shared = refl; own = λ stream active goes_on. subst (λ (id : ℕ). (at_begun.windows.row id).debt ≡ 0) (eqb-true 1 stream (only_one (1 == stream) _ active)) refl };
 }
 
-octets_may : MayDo streaming (told at_begun) (told at_octets) at_begun octets_deed
+octets_may : MayDo streaming (told_by at_begun) (told_by at_octets) at_begun octets_deed
 unfolding total_size
 octets_may = record {
   rests = λ e. begun_rest;
@@ -297,7 +298,7 @@ octets_may = record {
   window = record { nothing = begun_rest.given_back refl; goes_on = refl; opens_it = refl; lives = λ e. never e; over_with_it = refl };
 }
 
-passed_may : MayDo streaming (told at_octets) (told at_passed) at_octets (Acts (ToUp 1 chunk))
+passed_may : MayDo streaming (told_by at_octets) (told_by at_passed) at_octets (Acts (ToUp 1 chunk))
 unfolding total_size
 passed_may = record {
   rests = λ e. never e;
@@ -312,10 +313,10 @@ passed_may = record {
 
 -- ---- so the run is allowed, and rests while octets wait
 
-pub begun_leads : Leads streaming begun at_begun
+pub begun_leads : Stands streaming begun at_begun
 unfolding total_size
 begun_leads =
-    let none : Leads streaming [] at_start = record { same = refl; goes_on = refl; all = tt } in
+    let none : Stands streaming [] at_start = record { is = refl; goes_on = refl; allowed = tt } in
     let first = goes streaming [] at_start none ours at_ours refl refl ours_may in
     let second = goes streaming (Does ours ∷ []) at_ours first theirs at_theirs refl refl theirs_may in
     let third = goes streaming (Does theirs ∷ Does ours ∷ []) at_theirs second acked at_greeted refl refl acked_may in
@@ -324,14 +325,14 @@ begun_leads =
     settles streaming (Does (Acts (ToUp 1 text)) ∷ Does (Acts (Open 1 0)) ∷ Does asked_deed ∷ greeted) at_put
     (goes streaming (Does (Acts (Open 1 0)) ∷ Does asked_deed ∷ greeted) at_opened fifth (Acts (ToUp 1 text)) at_put refl refl put_may)
 
-pub waits_leads : Leads streaming waits at_waits
+pub waits_leads : Stands streaming waits at_waits
 unfolding total_size
 waits_leads =
     let first = goes streaming begun at_begun begun_leads octets_deed at_octets refl refl octets_may in
     settles streaming (Does (Acts (ToUp 1 chunk)) ∷ Does octets_deed ∷ begun) at_passed
     (goes streaming (Does octets_deed ∷ begun) at_octets first (Acts (ToUp 1 chunk)) at_passed refl refl passed_may)
 
-waits_rest : Rests (told at_waits) at_waits
+pub waits_rest : Rests (told_by at_waits) at_waits
 waits_rest = record {
   conduct = record { nothing = refl; none_begun = refl; ended = λ e. never e };
   flushed = record { none_cut = λ stream kept found. one_whole (1 == stream) (silent_one 1) kept refl found; none_ready = λ low. refl };
@@ -346,7 +347,7 @@ waits_rests = rests streaming waits at_waits waits_leads waits_rest
 -- ---- the upstream's side takes all, and what waited goes back
 
 abbrev pub at_took : State
-at_took = record at_waits { windows = with_taken at_waits.windows 1 (length text + length chunk) }
+at_took = record at_waits { windows = kept_of (with_taken (rooms_in (told_by at_waits) at_waits) 1 (length text + length chunk)) }
 
 abbrev pub at_shared : State
 at_shared = record at_took {
@@ -362,7 +363,7 @@ at_returned = record at_shared {
   windows = record at_shared.windows { row = change 1 paid at_shared.windows.row };
 }
 
-took_may : MayDo streaming (told at_waits) (told at_took) at_waits took_deed
+took_may : MayDo streaming (told_by at_waits) (told_by at_took) at_waits took_deed
 unfolding total_size
 took_may = record {
   rests = λ e. waits_rest;
@@ -375,7 +376,7 @@ took_may = record {
   window = (waits_rest.given_back refl, record { settled = refl; admitted = refl });
 }
 
-shared_may : MayDo streaming (told at_took) (told at_shared) at_took (Sends shared_back decoded)
+shared_may : MayDo streaming (told_by at_took) (told_by at_shared) at_took (Sends shared_back decoded)
 unfolding total_size
 shared_may = record {
   rests = λ e. never e;
@@ -388,7 +389,7 @@ shared_may = record {
   window = record { kind = refl; owed = refl };
 }
 
-own_may : MayDo streaming (told at_shared) (told at_returned) at_shared (Sends own_back decoded)
+own_may : MayDo streaming (told_by at_shared) (told_by at_returned) at_shared (Sends own_back decoded)
 unfolding total_size
 own_may = record {
   rests = λ e. never e;
@@ -401,7 +402,7 @@ own_may = record {
   window = record { kind = refl; owed = (refl, refl, refl) };
 }
 
-pub returned_leads : Leads streaming returned at_returned
+pub returned_leads : Stands streaming returned at_returned
 unfolding total_size
 returned_leads =
     let first = goes streaming waits at_waits waits_leads took_deed at_took refl refl took_may in
@@ -426,6 +427,6 @@ returned_tape = refl
 pub returned_holds : ClausesHold (record { setup = streaming; failures = [] }) (tape_of returned)
 returned_holds = clauses (record { setup = streaming; failures = [] }) returned (record {
   knows = (((((((((((tt, refl), refl), refl), refl), refl), refl), refl), refl), refl), refl), refl);
-  all = returned_leads.all;
+  all = returned_leads.allowed;
   answered = (((((((((((tt, tt), tt), tt), tt), tt), tt), tt), tt), λ none. none), tt), tt);
 }) returned_rests

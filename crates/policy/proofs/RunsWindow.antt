@@ -25,7 +25,8 @@ use Rattle.policy.specs.Moves.Deed.{Takes, Goes, Sends, Acts}
 use Rattle.policy.specs.Moves.Move.{Does, Settles}
 use Rattle.policy.specs.State.{State, tape_of}
 use Rattle.policy.specs.Rule.{MayDo, Rests, RestsBehind}
-use Rattle.policy.proofs.RunsSteps.{told, Leads, kept_settled, goes, settles, rests}
+use Rattle.policy.specs.Steps.{told_by, Stands, next}
+use Rattle.policy.proofs.RunsSteps.{goes, settles, rests}
 use Rattle.policy.proofs.RunsGreeting.{setup, frame, plain, never, none_kept}
 use Rattle.policy.proofs.RunsRequest.{forwarded, one_whole, only_one}
 use Rattle.policy.proofs.RunsAnswer.{answer_head, encoded, head_out, heard_deed, head_deed, one, desk_with, at_forwarded, forwarded_leads, forwarded_rest, each_one, answer_encoded}
@@ -98,7 +99,7 @@ abbrev pub at_lowered : State
 at_lowered = record at_forwarded {
   desk = desk_sized 1 (settings_ack ∷ []) (record { id = 1; slot = Live (one false) }) 65535 30;
   offers = record at_forwarded.offers { kept = record { id = 1; box = silent; cut = false } ∷ [] };
-  windows = record at_forwarded.windows { stream = 0; settled = false };
+  windows = record at_forwarded.windows { settled = false };
 }
 
 abbrev pub at_acked : State
@@ -147,7 +148,7 @@ at_one_out = record at_begun {
 }
 
 abbrev pub at_waits : State
-at_waits = kept_settled setup at_one_out
+at_waits = next setup at_one_out Settles
 
 abbrev pub at_raised : State
 at_raised = record at_waits {
@@ -167,12 +168,12 @@ abbrev pub at_gone_on : State
 at_gone_on = record at_acked_again {
   desk = desk_sized 10 [] (record { id = 1; slot = Over false }) 65533 81;
   offers = record { kept = []; last = 1 };
-  windows = record at_acked_again.windows { live = [] };
+  windows = at_acked_again.windows;
 }
 
 -- ---- each may come
 
-lower_may : MayDo setup (told at_forwarded) (told at_lowered) at_forwarded lower
+lower_may : MayDo setup (told_by at_forwarded) (told_by at_lowered) at_forwarded lower
 unfolding total_size
 lower_may = record {
   rests = λ e. forwarded_rest;
@@ -185,7 +186,7 @@ lower_may = record {
   window = record { nothing = forwarded_rest.given_back refl; goes_on = refl; opens_it = refl; lives = λ e. never e; over_with_it = refl };
 }
 
-ack_may : MayDo setup (told at_lowered) (told at_acked) at_lowered ack_first
+ack_may : MayDo setup (told_by at_lowered) (told_by at_acked) at_lowered ack_first
 unfolding total_size
 ack_may = record {
   rests = λ e. never e;
@@ -198,7 +199,7 @@ ack_may = record {
   window = record { kind = refl; over_with_it = refl };
 }
 
-acked_rest : Rests (told at_acked) at_acked
+acked_rest : Rests (told_by at_acked) at_acked
 acked_rest = record {
   conduct = record { nothing = refl; none_begun = refl; ended = λ e. never e };
   flushed = record { none_cut = λ stream kept found. one_whole (1 == stream) (record { id = 1; box = silent; cut = false }) kept refl found; none_ready = λ low. refl };
@@ -207,7 +208,7 @@ acked_rest = record {
   given_back = λ open_yet. record { settled = refl; shared = refl; own = λ stream active goes_on. subst (λ (id : ℕ). (at_acked.windows.row id).debt ≡ 0) (eqb-true 1 stream (only_one (1 == stream) _ active)) refl };
 }
 
-heard_may : MayDo setup (told at_acked) (told at_heard) at_acked heard_deed
+heard_may : MayDo setup (told_by at_acked) (told_by at_heard) at_acked heard_deed
 unfolding total_size
 heard_may = record {
   rests = λ e. acked_rest;
@@ -220,7 +221,7 @@ heard_may = record {
   window = (acked_rest.given_back refl, record { settled = refl; admitted = refl });
 }
 
-closed_may : MayDo setup (told at_heard) (told at_closed) at_heard (Acts (Close 1))
+closed_may : MayDo setup (told_by at_heard) (told_by at_closed) at_heard (Acts (Close 1))
 unfolding total_size
 closed_may = record {
   rests = λ e. never e;
@@ -233,7 +234,7 @@ closed_may = record {
   window = tt;
 }
 
-head_may : MayDo setup (told at_closed) (told at_begun) at_closed head_deed
+head_may : MayDo setup (told_by at_closed) (told_by at_begun) at_closed head_deed
 unfolding total_size
 head_may = record {
   rests = λ e. never e;
@@ -262,7 +263,7 @@ head_may = record {
 }
 
 -- one octet goes, which is all that the window takes
-h_may : MayDo setup (told at_begun) (told at_one_out) at_begun h_deed
+h_may : MayDo setup (told_by at_begun) (told_by at_one_out) at_begun h_deed
 unfolding total_size
 h_may = record {
   rests = λ e. never e;
@@ -291,7 +292,7 @@ h_may = record {
 }
 
 -- it rests though octets wait: no stream is ready
-waits_rest : Rests (told at_waits) at_waits
+waits_rest : Rests (told_by at_waits) at_waits
 waits_rest = record {
   conduct = record { nothing = refl; none_begun = refl; ended = λ e. never e };
   flushed = record { none_cut = λ stream kept found. one_whole (1 == stream) last_left kept refl found; none_ready = λ low. refl };
@@ -300,7 +301,7 @@ waits_rest = record {
   given_back = λ open_yet. record { settled = refl; shared = refl; own = λ stream active goes_on. subst (λ (id : ℕ). (at_waits.windows.row id).debt ≡ 0) (eqb-true 1 stream (only_one (1 == stream) _ active)) refl };
 }
 
-raise_may : MayDo setup (told at_waits) (told at_raised) at_waits raise
+raise_may : MayDo setup (told_by at_waits) (told_by at_raised) at_waits raise
 unfolding total_size
 raise_may = record {
   rests = λ e. waits_rest;
@@ -313,7 +314,7 @@ raise_may = record {
   window = record { nothing = waits_rest.given_back refl; goes_on = refl; opens_it = refl; lives = λ e. never e; over_with_it = refl };
 }
 
-ack_again_may : MayDo setup (told at_raised) (told at_acked_again) at_raised ack_first
+ack_again_may : MayDo setup (told_by at_raised) (told_by at_acked_again) at_raised ack_first
 unfolding total_size
 ack_again_may = record {
   rests = λ e. never e;
@@ -326,7 +327,7 @@ ack_again_may = record {
   window = record { kind = refl; over_with_it = refl };
 }
 
-i_may : MayDo setup (told at_acked_again) (told at_gone_on) at_acked_again i_deed
+i_may : MayDo setup (told_by at_acked_again) (told_by at_gone_on) at_acked_again i_deed
 unfolding total_size
 i_may = record {
   rests = λ e. never e;
@@ -356,32 +357,32 @@ i_may = record {
 
 -- ---- so the run is allowed, and rests where it waits and at its end
 
-pub lowered_leads : Leads setup lowered at_acked
+pub lowered_leads : Stands setup lowered at_acked
 lowered_leads = goes setup (Does lower ∷ forwarded) at_lowered (goes setup forwarded at_forwarded forwarded_leads lower at_lowered refl refl lower_may) ack_first at_acked refl refl ack_may
 
-pub begun_leads : Leads setup begun at_begun
+pub begun_leads : Stands setup begun at_begun
 begun_leads =
     let first = goes setup lowered at_acked lowered_leads heard_deed at_heard refl refl heard_may in
     let second = goes setup (Does heard_deed ∷ lowered) at_heard first (Acts (Close 1)) at_closed refl refl closed_may in
     goes setup (Does (Acts (Close 1)) ∷ Does heard_deed ∷ lowered) at_closed second head_deed at_begun refl refl head_may
 
-pub waits_leads : Leads setup waits at_waits
+pub waits_leads : Stands setup waits at_waits
 waits_leads = settles setup (Does h_deed ∷ begun) at_one_out (goes setup begun at_begun begun_leads h_deed at_one_out refl refl h_may)
 
 pub waits_rests : RestsBehind setup waits
 waits_rests = rests setup waits at_waits waits_leads waits_rest
 
-pub gone_on_leads : Leads setup gone_on (kept_settled setup at_gone_on)
+pub gone_on_leads : Stands setup gone_on (next setup at_gone_on Settles)
 gone_on_leads =
     let first = goes setup waits at_waits waits_leads raise at_raised refl refl raise_may in
     let second = goes setup (Does raise ∷ waits) at_raised first ack_first at_acked_again refl refl ack_again_may in
     settles setup (Does i_deed ∷ raised) at_gone_on (goes setup raised at_acked_again second i_deed at_gone_on refl refl i_may)
 
 pub gone_on_rests : RestsBehind setup gone_on
-gone_on_rests = rests setup gone_on (kept_settled setup at_gone_on) gone_on_leads (record {
+gone_on_rests = rests setup gone_on (next setup at_gone_on Settles) gone_on_leads (record {
   conduct = record { nothing = refl; none_begun = refl; ended = λ e. never e };
   flushed = record { none_cut = λ stream kept found. none_kept found; none_ready = λ low. refl };
   served = record { nothing = refl; none_done = refl; ended = λ e. never e };
   read = refl;
-  given_back = λ open_yet. record { settled = refl; shared = refl; own = λ stream active goes_on. subst (λ (id : ℕ). ((kept_settled setup at_gone_on).windows.row id).debt ≡ 0) (eqb-true 1 stream (only_one (1 == stream) _ active)) refl };
+  given_back = λ open_yet. record { settled = refl; shared = refl; own = λ stream active goes_on. subst (λ (id : ℕ). ((next setup at_gone_on Settles).windows.row id).debt ≡ 0) (eqb-true 1 stream (only_one (1 == stream) _ active)) refl };
 })

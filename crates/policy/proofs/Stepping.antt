@@ -8,19 +8,29 @@ use Rattle.model.specs.Headline.{ClausesHold, HoldsInTurn, IsTold, HasTape, Head
 use Rattle.conduct.specs.Summary.{Summary}
 use Rattle.conduct.specs.Rule.{AreKnown, point_of}
 use Rattle.conduct.specs.Book.{desk_of, desk_after, summary_in}
-use Rattle.policy.specs.Moves.{Deed, Move, entry_of, conduct_of}
+use Rattle.offering.specs.Sight.{sight_in}
+use Rattle.receiving.specs.Policy.{Gates}
+use Rattle.receiving.specs.Rule as windows
+use Rattle.receiving.specs.State as receiving
+use Rattle.policy.specs.Moves.{Deed, Move, entry_of, conduct_of, window_of}
 use Rattle.policy.specs.Moves.Move.{Does, Settles}
 use Rattle.policy.specs.State.{State, conducts, tape_of, summary_at, state_of}
-use Rattle.policy.specs.Rule.{MayDo, AllAllowed, RestsBehind}
+use Rattle.policy.specs.Rule.{rooms_in, MayDo, AllAllowed, RestsBehind}
 use Rattle.policy.specs.Answered.{AreAnswered}
 use Rattle.policy.specs.Steps.{after, told_by, told_behind, next, MayGoOn, Leads, Stands, AreAnsweredBy}
+use Rattle.policy.proofs.Placing.{windows_gates}
 use Rattle.policy.proofs.Keeping.{IsKnown, clauses, in_step, in_turn, judged, ends_with_close}
 
 -- ---- one move
 
 -- what is kept behind a deed
 pub state_after : (setup : Setup) (run : List Move) (d : Deed) → state_of setup (Does d ∷ run) ≡ after setup (summary_at setup run) (summary_at setup (Does d ∷ run)) (state_of setup run) d
-state_after setup run d = refl
+state_after setup run d =
+    ap (λ (g : Gates). record (state_of setup (Does d ∷ run)) { windows = receiving.kept_of (receiving.after setup.passing (windows.state_with g (state_of setup run).windows) (window_of (sight_in (summary_at setup run)) (sight_in (summary_at setup (Does d ∷ run))) d)) }) (windows_gates setup run)
+
+state_settled : (setup : Setup) (run : List Move) → state_of setup (Settles ∷ run) ≡ record (state_of setup run) { windows = receiving.kept_of (receiving.after setup.passing (rooms_in (summary_at setup run) (state_of setup run)) receiving.Move.Settles) }
+state_settled setup run =
+    ap (λ (g : Gates). record (state_of setup run) { windows = receiving.kept_of (receiving.after setup.passing (windows.state_with g (state_of setup run).windows) receiving.Move.Settles) }) (windows_gates setup run)
 
 -- while the connection goes on, what is told is what the book tells
 told_on : (setup : Setup) (run : List Move) → (desk_of setup (conducts run)).book.ends ≡ false → summary_at setup run ≡ summary_in (desk_of setup (conducts run)).book
@@ -42,14 +52,15 @@ module _ (setup : Setup) (run : List Move) (s : State) (stands : Stands setup ru
             (subst (λ (u : Summary). MayDo setup u (summary_at setup (Does d ∷ run)) s d) (sym before_is) (subst (λ (u : Summary). MayDo setup (told_by s) u s d) (sym behind_is) may)),
       );
       is =
-          ap (λ (x : State). after setup (summary_at setup run) (summary_at setup (Does d ∷ run)) x d) stands.is
+          state_after setup run d
+          ∙ ap (λ (x : State). after setup (summary_at setup run) (summary_at setup (Does d ∷ run)) x d) stands.is
           ∙ ap (λ (u : Summary). after setup u (summary_at setup (Does d ∷ run)) s d) before_is
           ∙ ap (λ (u : Summary). after setup (told_by s) u s d) behind_is;
       goes_on = on;
     }
 
   pub settled : Stands setup (Settles ∷ run) (next setup s Settles)
-  settled = record { allowed = stands.allowed; is = ap (λ (x : State). next setup x Settles) stands.is; goes_on = stands.goes_on }
+  settled = record { allowed = stands.allowed; is = state_settled setup run ∙ ap (λ (u : Summary). record (state_of setup run) { windows = receiving.kept_of (receiving.after setup.passing (rooms_in u (state_of setup run)) receiving.Move.Settles) }) before_is ∙ ap (λ (x : State). record x { windows = receiving.kept_of (receiving.after setup.passing (rooms_in (told_by s) x) receiving.Move.Settles) }) stands.is; goes_on = stands.goes_on }
 
 -- a move that may come, by what is kept alone, comes by the rule and leaves what it says
 pub one_more : (setup : Setup) (run : List Move) (s : State) (m : Move) → Stands setup run s → MayGoOn setup s m → Stands setup (m ∷ run) (next setup s m)

@@ -3,16 +3,19 @@ use Rattle.std.proofs.Common.{◌≡◌, false, List, [], ◌∷◌, sym, ◌∙
 use Rattle.std.proofs.lemmas.Bool.{cases_Bool}
 use Rattle.model.specs.Tapes.{Noted, is_closed}
 use Rattle.model.specs.Known.{Known}
+use Rattle.model.specs.Lifetimes.{active}
 use Rattle.model.specs.ErrorClause.{must_end}
 use Rattle.conduct.specs.Summary.{Summary, summary_of}
 use Rattle.conduct.specs.Rows.{find}
 use Rattle.conduct.specs.Rule.{AreKnown, Point, point_of}
 use Rattle.conduct.specs.Book.{Book, desk_of, summary_in, AllMoved}
 use Rattle.conduct.specs.Told as conduct
+use Rattle.conduct.specs.Judging.{active_in}
 use Rattle.conduct.specs.Owing.{must_end_in}
 use Rattle.conduct.proofs.Telling.{book_told}
 use Rattle.conduct.proofs.Rule.{point_same}
 use Rattle.conduct.proofs.RowsKept.{will_do}
+use Rattle.conduct.proofs.Alike.{active_same}
 use Rattle.conduct.proofs.Seen.{end_seen}
 use Rattle.offering.specs.Sight.{IsRightOf, sight_in}
 use Rattle.offering.proofs.Sights.{right_by_summary, right_by_book}
@@ -66,6 +69,15 @@ module _ (known : Known) (run : List Move) (knows : AreKnown known (conducts run
 
   pub closed_told : (summary_at known.setup run).closed ≡ is_closed (tape_of run)
   closed_told = told_by (λ s. s.closed ≡ is_closed (tape_of run)) (λ goes_on. ap (λ (s : Summary). s.closed) (book_told known (conducts run) knows all goes_on).same) (ap (λ (s : Summary). s.closed) moves_same)
+
+  -- which streams are active, in their order
+  pub live_told : active_in (summary_at known.setup run) ≡ active (tape_of run)
+  live_told = told_by (λ s. active_in s ≡ active (tape_of run)) of_book (ap active_in moves_same)
+    where
+      of_book : book.ends ≡ false → active_in (summary_in book) ≡ active (tape_of run)
+      of_book goes_on =
+          let told : conduct.IsTold book (summary_of known (tape_of run)) = book_told known (conducts run) knows all goes_on in
+          ap active_in told.same ∙ active_same (find book.rows) (summary_of known (tape_of run)) (will_do book.rows (summary_of known (tape_of run)) told.stand)
 
   -- so the concern of requests is told what is so
   pub told_right : serving.IsTold known (tape_of run) (told_in (summary_at known.setup run))

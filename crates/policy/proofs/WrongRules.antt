@@ -44,7 +44,7 @@ use Rattle.policy.specs.Moves.{Deed, entry_of, comes_in, told_in}
 use Rattle.policy.specs.Moves.Deed.{Sends, Goes}
 use Rattle.policy.specs.State.{State, tape_of}
 use Rattle.policy.specs.Rule.{MayDo}
-use Rattle.policy.proofs.RunsSteps.{told}
+use Rattle.policy.specs.Steps.{told_by}
 use Rattle.policy.proofs.RunsGreeting.{setup as one_route, frame, plain, greeted}
 use Rattle.policy.proofs.RunsRequest.{forwarded}
 use Rattle.policy.proofs.RunsAnswer.{ok, sized, encoded, begun, at_forwarded, at_begun, half_out}
@@ -263,21 +263,21 @@ bids_farewell_twice c = let clash : 4 ≡ 3 = ap length c.just_owed in omega (ar
 -- ---- and the rule refuses them where these runs stand
 
 -- the early end
-pub early_refused : (u : Summary) → MayDo one_route (told at_forwarded) u at_forwarded (Goes reply_out (Block (bad ∷ empty ∷ []) true) (Final (reply_head BadAnswer) true) with_both) → ⊥
-early_refused u may = no_early_head one_route (told at_forwarded) u at_forwarded reply_out (Block (bad ∷ empty ∷ []) true) (reply_head BadAnswer) true [] false with_both (record { id = 1; box = silent; cut = false }) refl refl may
+pub early_refused : (u : Summary) → MayDo one_route (told_by at_forwarded) u at_forwarded (Goes reply_out (Block (bad ∷ empty ∷ []) true) (Final (reply_head BadAnswer) true) with_both) → ⊥
+early_refused u may = no_early_head one_route (told_by at_forwarded) u at_forwarded reply_out (Block (bad ∷ empty ∷ []) true) (reply_head BadAnswer) true [] false with_both (record { id = 1; box = silent; cut = false }) refl refl may
 
 -- DATA past the window
-pub overrun_refused : (u : Summary) → MayDo one_route (told window.at_begun) u window.at_begun (Goes (plain (frame 0 1 1 (codes "hi"))) (Content (codes "hi") true) (Octets (codes "hi") true) encoded) → ⊥
-overrun_refused u may = no_overrun one_route (told window.at_begun) u window.at_begun (plain (frame 0 1 1 (codes "hi"))) (Content (codes "hi") true) (Octets (codes "hi") true) encoded window.behind_head refl refl (omega arith) (λ within. let clash : pos 2 ≤ℤ pos 1 = within in omega (arith, clash)) may
+pub overrun_refused : (u : Summary) → MayDo one_route (told_by window.at_begun) u window.at_begun (Goes (plain (frame 0 1 1 (codes "hi"))) (Content (codes "hi") true) (Octets (codes "hi") true) encoded) → ⊥
+overrun_refused u may = no_overrun one_route (told_by window.at_begun) u window.at_begun (plain (frame 0 1 1 (codes "hi"))) (Content (codes "hi") true) (Octets (codes "hi") true) encoded window.behind_head refl refl (omega arith) (λ within. let clash : pos 2 ≤ℤ pos 1 = within in omega (arith, clash)) may
 
 -- the reply behind a head
-pub second_head_refused : (u : Summary) → MayDo one_route (told at_begun) u at_begun (Goes reply_out (Block (bad ∷ empty ∷ []) true) (Final (reply_head BadAnswer) true) with_both) → ⊥
-second_head_refused u may = no_second_head one_route (told at_begun) u at_begun reply_out (Block (bad ∷ empty ∷ []) true) (reply_head BadAnswer) true (codes "hi") true with_both half_out refl refl may
+pub second_head_refused : (u : Summary) → MayDo one_route (told_by at_begun) u at_begun (Goes reply_out (Block (bad ∷ empty ∷ []) true) (Final (reply_head BadAnswer) true) with_both) → ⊥
+second_head_refused u may = no_second_head one_route (told_by at_begun) u at_begun reply_out (Block (bad ∷ empty ∷ []) true) (reply_head BadAnswer) true (codes "hi") true with_both half_out refl refl may
 
 -- a farewell that isn't owed
-pub farewell_refused : (u : Summary) → MayDo one_route (told at_forwarded) u at_forwarded (Sends (plain (goaway 0 protocol_error)) encoded) → ⊥
-farewell_refused u may = no_second_farewell one_route (told at_forwarded) u at_forwarded 0 protocol_error encoded refl may
+pub farewell_refused : (u : Summary) → MayDo one_route (told_by at_forwarded) u at_forwarded (Sends (plain (goaway 0 protocol_error)) encoded) → ⊥
+farewell_refused u may = no_second_farewell one_route (told_by at_forwarded) u at_forwarded 0 protocol_error encoded refl may
 
 -- octets that aren't owed
-pub octets_refused : (u : Summary) → MayDo one_route (told at_forwarded) u at_forwarded (Sends (plain (frame 8 0 0 (0 ∷ 0 ∷ 0 ∷ 5 ∷ []))) encoded) → ⊥
-octets_refused u may = no_early_octet one_route (told at_forwarded) u at_forwarded (0 ∷ 0 ∷ 0 ∷ 5 ∷ []) encoded (λ is. let clash : 5 ≡ 0 = is in omega (arith, clash)) may
+pub octets_refused : (u : Summary) → MayDo one_route (told_by at_forwarded) u at_forwarded (Sends (plain (frame 8 0 0 (0 ∷ 0 ∷ 0 ∷ 5 ∷ []))) encoded) → ⊥
+octets_refused u may = no_early_octet one_route (told_by at_forwarded) u at_forwarded (0 ∷ 0 ∷ 0 ∷ 5 ∷ []) encoded (λ is. let clash : 5 ≡ 0 = is in omega (arith, clash)) may

@@ -22,7 +22,7 @@ use Rattle.tables.specs.Verdicts.{verdict_in}
 use Rattle.policy.specs.Moves.{Gain, told_in}
 use Rattle.policy.specs.Moves.Gain.{Nothing, Begins, Gathers, Passes, Drops}
 use Rattle.policy.specs.State.{State, gates_in}
-use Rattle.policy.specs.Rule.{Gains, Rests}
+use Rattle.policy.specs.Rule.{Gains, rooms_in, Rests}
 use Rattle.policy.specs.Steps.{told_by}
 
 -- Something may come in: the gateway rests, and neither closed the client nor is to.
@@ -50,7 +50,7 @@ pub record MayTake (setup : Setup) (behind : Summary) (s : State) (noted : Noted
 
 -- An answer of an upstream may come: it is admitted, of an open connection, and about this stream.
 pub record MayAnswer (s : State) (event : Event) (stream : ℕ) : Type 0 where
-  pub admitted : may_come (gates_in (told_by s) s.requests) s.windows event ≡ true
+  pub admitted : may_come (gates_in (told_by s) s.requests) (rooms_in (told_by s) s) event ≡ true
   pub of : IsEventOf (sight_in (told_by s)) event stream
   pub kept : IsKept s.requests (upstream_of event)
 

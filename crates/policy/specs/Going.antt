@@ -18,6 +18,7 @@ use Rattle.serving.specs.Rule as requests
 use Rattle.serving.specs.State.Due.{Nothing, ToSend}
 use Rattle.policy.specs.Moves.{told_in}
 use Rattle.policy.specs.State.{State, gates_in}
+use Rattle.policy.specs.Rule.{rooms_in}
 use Rattle.policy.specs.Steps.{told_by}
 
 -- A frame may go between header blocks, where nothing goes to an upstream before it; it has no block, and is on no stream that may be opened
@@ -42,18 +43,18 @@ pub record GivesBack (s : State) (noted : Noted) : Type 0 where
   pub nothing : s.desk.queue ≡ []
   pub goes_on : must_end_in (told_by s) ≡ false
   pub rightly : is_rightly_sent_in (told_by s) noted.frame ≡ true
-  pub all : GivesAll (sight_in (told_by s)) s.windows noted.frame
+  pub all : GivesAll (sight_in (told_by s)) (rooms_in (told_by s) s) noted.frame
 
 -- A connection may be opened, and given to the stream of the last frame.
 pub record Opens (s : State) (k route : ℕ) : Type 0 where
   pub opens : OpensNext (sight_in (told_by s)) k
   pub due : requests.MayOpen s.requests k route
-  pub window : windows.MayOpen s.windows k
+  pub window : windows.MayOpen (rooms_in (told_by s) s) k
 
 -- Octets go to an upstream: all that is due to it, before the effect of what came is over.
 pub record Puts (setup : Setup) (s : State) (k : ℕ) (octets : List ℕ) : Type 0 where
   pub due : s.requests.due ≡ ToSend k octets
-  pub window : windows.MayPut setup.passing (gates_in (told_by s) s.requests) s.windows k
+  pub window : windows.MayPut setup.passing (gates_in (told_by s) s.requests) (rooms_in (told_by s) s) k
 
 -- The client may be closed: nothing is owed, the connection is to end, and no connection is open.
 pub record Shuts (s : State) : Type 0 where

@@ -16,6 +16,7 @@ use Rattle.offering.specs.Sight.{sight_in, windows_in}
 use Rattle.offering.specs.Policy.{IsFlushed}
 use Rattle.offering.specs.Rule as offers
 use Rattle.receiving.specs.Rule as windows
+use Rattle.receiving.specs.State as receiving
 use Rattle.receiving.specs.Rule.{OwesNothing}
 use Rattle.serving.specs.Rule as requests
 use Rattle.tables.specs.Rule as tables
@@ -63,6 +64,10 @@ GainsIf setup s d = Unit {0}
 
 -- ---- rest
 
+-- the state of receiving windows: what is kept of it and what is told
+abbrev pub rooms_in : Summary → State → receiving.State
+rooms_in s state = windows.state_with (gates_in s state.requests) state.windows
+
 -- The gateway rests: nothing is owed, nothing can go on, header blocks to the client are whole, those of the client were read,
 -- connections that are done with are closed, what goes back was given back, and the client is closed if the connection is to end.
 pub record Rests (s : Summary) (state : State) : Type 0 where
@@ -70,7 +75,7 @@ pub record Rests (s : Summary) (state : State) : Type 0 where
   pub flushed : IsFlushed (windows_in (sight_in s)) state.offers
   pub served : requests.Rests (told_in s) state.requests
   pub read : state.tables.lost ≡ false
-  pub given_back : s.closed ≡ false → OwesNothing (sight_in s) state.windows
+  pub given_back : s.closed ≡ false → OwesNothing (sight_in s) (rooms_in s state)
 
 -- ---- deeds
 
@@ -83,7 +88,7 @@ pub record MayDo (setup : Setup) (before behind : Summary) (state : State) (d : 
   pub request : requests.IsAllowed setup (told_in before) (told_in behind) state.requests (request_of d)
   pub gains : GainsIf setup before d
   pub table : tables.IsFit state.tables (table_of before d)
-  pub window : windows.MayCome setup.passing (gates_in before state.requests) (sight_in before) (sight_in behind) state.windows (window_of (sight_in before) (sight_in behind) d)
+  pub window : windows.MayCome setup.passing (gates_in before state.requests) (sight_in before) (sight_in behind) (rooms_in before state) (window_of (sight_in before) (sight_in behind) d)
 
 -- Each move might come where it came; the newest stands first. The effect of what came last may be over at any time.
 abbrev pub AllAllowed : Setup → List Move → Type 0

@@ -3,6 +3,7 @@ use Rattle.std.specs.Prelude.{if◌then◌else◌, List, [], ◌∷◌, is_some}
 use Rattle.model.specs.Setup.{Setup}
 use Rattle.model.specs.Tapes.{Entry}
 use Rattle.conduct.specs.Summary.{Summary}
+use Rattle.conduct.specs.Judging.{active_in}
 use Rattle.conduct.specs.Rule as conduct
 use Rattle.conduct.specs.Book.{Desk, summary_in, desk_of}
 use Rattle.offering.specs.Sight.{sight_in}
@@ -23,11 +24,12 @@ pub record State : Type 0 where
   pub offers : offering.State
   pub requests : serving.State
   pub tables : tables.State
-  pub windows : receiving.State
+  pub windows : receiving.Kept
 
--- what is told of connections: which are open, how many octets for the client aren't taken, and whether it was closed
+-- what is told of connections and streams: which are open, which are active, which is the last frame's, how many octets for the client
+-- aren't taken, and whether it was closed
 abbrev pub gates_in : Summary → serving.State → Gates
-gates_in s requests = record { is_up = λ k. is_some (serving.live_of k requests.live); untaken = s.untaken; closed = s.closed }
+gates_in s requests = record { is_up = λ k. is_some (serving.live_of k requests.live); live = active_in s; last = s.last; untaken = s.untaken; closed = s.closed }
 
 -- ---- moves, the newest first
 
@@ -83,5 +85,5 @@ state_of setup run = record {
   offers = offering.state_of (offers.moves_of (offers_of setup run));
   requests = serving.state_of setup (turns_of setup run);
   tables = tables.state_of setup.policy (tables_of setup run);
-  windows = receiving.state_of setup.passing (windows.moves_of (windows_of setup run));
+  windows = windows.kept_behind setup.passing (windows_of setup run);
 }

@@ -15,7 +15,7 @@ use Rattle.tables.specs.State as tables
 use Rattle.policy.specs.Moves.{Deed, Move, conduct_of, offer_of, request_of, table_of, window_of, told_in}
 use Rattle.policy.specs.Moves.Move.{Does, Settles}
 use Rattle.policy.specs.State.{State, tape_of, state_of}
-use Rattle.policy.specs.Rule.{MayDo, AllAllowed, RestsBehind}
+use Rattle.policy.specs.Rule.{rooms_in, MayDo, AllAllowed, RestsBehind}
 
 -- ---- one move
 
@@ -26,7 +26,7 @@ after setup before behind s d = record {
   offers = offering.after s.offers (offer_of (sight_in before) (sight_in behind) d);
   requests = serving.after setup (told_in behind) s.requests (request_of d);
   tables = tables.after s.tables (table_of before d);
-  windows = receiving.after setup.passing s.windows (window_of (sight_in before) (sight_in behind) d);
+  windows = receiving.kept_of (receiving.after setup.passing (rooms_in before s) (window_of (sight_in before) (sight_in behind) d));
 }
 
 -- what the book tells, and what it tells behind a deed
@@ -39,7 +39,7 @@ told_behind setup s d = summary_in (desk_after setup s.desk (conduct_of d)).book
 -- what is kept behind a move with which the connection goes on
 abbrev pub next : Setup → State → Move → State
 next setup s (Does d) = after setup (told_by s) (told_behind setup s d) s d
-next setup s Settles = record s { windows = receiving.after setup.passing s.windows receiving.Move.Settles }
+next setup s Settles = record s { windows = receiving.kept_of (receiving.after setup.passing (rooms_in (told_by s) s) receiving.Move.Settles) }
 
 -- The move may come, and nothing calls for the connection's end with it: by what is kept alone.
 abbrev pub MayGoOn : Setup → State → Move → Type 0

@@ -29,7 +29,7 @@ ghost use Rattle.offering.specs.Outbox.{News};
 ghost use Rattle.policy.specs.Moves.{Gain, Deed, Move};
 ghost use Rattle.policy.specs.Moves.Deed.{Takes, Breaks, Notes, Hears, Fails, Sends};
 ghost use Rattle.policy.specs.State.{State, gates_in, conducts, tape_of, state_of};
-ghost use Rattle.policy.specs.Rule.{MayDo, AllAllowed, RestsBehind};
+ghost use Rattle.policy.specs.Rule.{rooms_in, MayDo, AllAllowed, RestsBehind};
 ghost use Rattle.policy.specs.Answered.{AreAnswered};
 ghost use Rattle.policy.specs.Steps.{told_by, told_behind, next, MayGoOn, Leads, Stands, AreAnsweredBy};
 ghost use Rattle.policy.specs.Coming.{IsReady, MayTake, MayHear, MayFail};
@@ -70,7 +70,7 @@ pub fn states_lead()
 /// is so; an answer of an open connection, that fails or doesn't.
 pub fn inputs_have_moves()
     ensures breach { (setup : Setup) (s : State) (breach : Breach) → IsReady s → MayDo setup (told_by s) (told_behind setup s (Breaks breach)) s (Breaks breach) }
-    ensures event { (setup : Setup) (s : State) (event : Event) → IsReady s → upstream_of event ≡ 0 → may_come (gates_in (told_by s) s.requests) s.windows event ≡ true → MayDo setup (told_by s) (told_behind setup s (Notes event)) s (Notes event) }
+    ensures event { (setup : Setup) (s : State) (event : Event) → IsReady s → upstream_of event ≡ 0 → may_come (gates_in (told_by s) s.requests) (rooms_in (told_by s) s) event ≡ true → MayDo setup (told_by s) (told_behind setup s (Notes event)) s (Notes event) }
     ensures frame { (setup : Setup) (s : State) (noted : Noted) (next : Table) (gain : Gain) → IsReady s → MayTake setup (told_behind setup s (Takes noted next gain)) s noted next gain → MayDo setup (told_by s) (told_behind setup s (Takes noted next gain)) s (Takes noted next gain) }
     ensures hears { (setup : Setup) (s : State) (event : Event) (stream : ℕ) (news : News) (whole : Bool) → IsReady s → MayHear (told_behind setup s (Hears event stream news whole)) s event stream → MayDo setup (told_by s) (told_behind setup s (Hears event stream news whole)) s (Hears event stream news whole) }
     ensures fails { (setup : Setup) (s : State) (event : Event) (stream : ℕ) (whole : Bool) → IsReady s → MayFail (told_behind setup s (Fails event stream whole)) s event stream → MayDo setup (told_by s) (told_behind setup s (Fails event stream whole)) s (Fails event stream whole) }

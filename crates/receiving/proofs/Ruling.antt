@@ -1,5 +1,5 @@
 -- Runs that the rule by states alone allows are runs that are allowed by the tape: so windows go back.
-use Rattle.std.proofs.Common.{◌≡◌, ℕ, Bool, true, false, not, ◌==◌, ◌&&◌, ◌||◌, List, [], ◌∷◌, ◌++◌, refl, sym, ap, ◌∙◌, if◌then◌else◌, inr}
+use Rattle.std.proofs.Common.{◌≡◌, ℕ, Bool, true, false, not, ◌==◌, ◌&&◌, ◌||◌, List, [], ◌∷◌, ◌++◌, refl, sym, ap, subst, ◌∙◌, if◌then◌else◌}
 use Rattle.std.specs.List.{list_any}
 use Rattle.std.proofs.lemmas.Bool.{and_right, eq-eqb}
 use Rattle.model.specs.Tapes.{Noted, Entry, came}
@@ -9,7 +9,8 @@ use Rattle.model.specs.Logs.Act.{Open, ToUp, Close, CloseClient}
 use Rattle.model.specs.Setup.{Passing}
 use Rattle.model.specs.Decoding.{completed}
 use Rattle.model.specs.Known.{Known}
-use Rattle.model.specs.Lifetimes.{opened, opens_by, is_opened, is_active}
+use Rattle.model.specs.Openings.{last_stream}
+use Rattle.model.specs.Lifetimes.{opened, opens_by, is_opened, active, is_active}
 use Rattle.model.specs.WindowClause.{GivesBack}
 use Rattle.model.specs.Headline.{HoldsInTurn}
 use Rattle.model.proofs.OpenedLaws.{opens_own, opens_new}
@@ -17,12 +18,12 @@ use Rattle.offering.specs.Sight.{Sight, IsRightOf}
 use Rattle.model.proofs.ActiveLaws.{active_sent}
 use Rattle.offering.proofs.Ruling.{opened_by_it}
 use Rattle.offering.proofs.Allowing.{first_right}
-use Rattle.receiving.specs.State.{State, Move, entries_of, tape_of, state_of}
+use Rattle.receiving.specs.State.{State, Move, entries_of, tape_of, after, state_of, kept_of, with_told}
 use Rattle.receiving.specs.State.Move.{Takes, Breaks, Hears, Settles, Gives, Sends, Acts}
 use Rattle.receiving.specs.Policy.{IsOpened, MayTake, IsOwed, MayGive, MaySend, Holds, AreAllowed, IsPaid, KeepRooms, Gates, AreGates, gates_on, MayDo}
-use Rattle.receiving.specs.Rule.{is_over_by, TakesFrame, OwesAll, GivesAll, SendsOther, MayCome, OwesNothing, Seen, moves_of, sight_of, gates_of, AllMayCome, AreRight}
+use Rattle.receiving.specs.Rule.{is_over_by, TakesFrame, OwesAll, GivesAll, SendsOther, MayCome, OwesNothing, Seen, moves_of, sight_of, gates_of, state_with, state_behind, AllMayCome, AreRight}
 use Rattle.receiving.proofs.Admitting.{come_same}
-use Rattle.receiving.proofs.Resting.{gives_back_at_rest, gives_no_more}
+use Rattle.receiving.proofs.Resting.{receiving, gives_back_at_rest, gives_no_more}
 
 -- a frame opens its stream just where that wasn't opened before and is behind it
 opens_told : (t : List Entry) (noted : Noted) → opens_by (opened t) (completed (came t) noted.frame) noted.note ≡ (not (is_opened noted.frame.id t) && is_opened noted.frame.id (Came noted ∷ t))
@@ -129,35 +130,59 @@ last_right known (x ∷ run) right = right.1
 
 -- and so is what is told
 last_told : (known : Known) (run : List Seen) → AreRight known run → AreGates (tape_of (moves_of run)) (gates_of run)
-last_told known [] right = record { is_up = λ k. refl; untaken = refl; closed = refl }
+last_told known [] right = record { is_up = λ k. refl; live = refl; last = refl; untaken = refl; closed = refl }
 last_told known (x ∷ run) right = right.2
 
--- so a run is allowed
+-- So a run is allowed, and the state of what is kept and told is that of its moves.
+record Follows (passing : Passing) (run : List Seen) : Type 0 where
+  pub allowed : AreAllowed passing (moves_of run)
+  pub same : state_behind passing run ≡ state_of passing (moves_of run)
+
+-- the state of moves is what is kept of it, with what the tape tells
+told_again : (t : List Entry) (s : State) (gates : Gates) → AreGates t gates → s.live ≡ active t → s.stream ≡ last_stream t → state_with gates (kept_of s) ≡ s
+told_again t s gates told live last =
+    ap (λ (ids : List ℕ). with_told ids gates.last (kept_of s)) (told.live ∙ sym live) ∙ ap (λ (id : ℕ). with_told s.live id (kept_of s)) (told.last ∙ sym last)
+
+follows : (known : Known) (passing : Passing) (run : List Seen) → AllMayCome passing run → AreRight known run → Follows passing run
+follows known passing [] may right = record { allowed = tt; same = refl }
+follows known passing (x ∷ run) may right =
+    let before : Follows passing run = follows known passing run may.0 right.0 in
+    let here : MayCome passing (gates_of run) (sight_of run) x.sight (state_of passing (moves_of run)) x.move = subst (λ (s : State). MayCome passing (gates_of run) (sight_of run) x.sight s x.move) before.same may.1 in
+    let all : AreAllowed passing (moves_of (x ∷ run)) = (before.allowed, allowed_by known passing (tape_of (moves_of run)) (state_of passing (moves_of run)) (gates_of run) (sight_of run) x.sight x.move (last_told known run right.0) (last_right known run right.0) right.1 here) in
+    let kept = receiving passing (moves_of (x ∷ run)) all in
+    record {
+      allowed = all;
+      same =
+          ap (λ (s : State). state_with x.gates (kept_of (after passing s x.move))) before.same
+          ∙ told_again (tape_of (moves_of (x ∷ run))) (state_of passing (moves_of (x ∷ run))) x.gates right.2 kept.keeping.live kept.counting.last;
+    }
+
 pub all_allowed : (known : Known) (passing : Passing) (run : List Seen) → AllMayCome passing run → AreRight known run → AreAllowed passing (moves_of run)
-all_allowed known passing [] may right = tt
-all_allowed known passing (x ∷ run) may right = (
-  all_allowed known passing run may.0 right.0,
-  allowed_by known passing (tape_of (moves_of run)) (state_of passing (moves_of run)) (gates_of run) (sight_of run) x.sight x.move (last_told known run right.0) (last_right known run right.0) right.1 may.1,
-)
+all_allowed known passing run may right = (follows known passing run may right).allowed
+
+pub state_same : (known : Known) (passing : Passing) (run : List Seen) → AllMayCome passing run → AreRight known run → state_behind passing run ≡ state_of passing (moves_of run)
+state_same known passing run may right = (follows known passing run may right).same
 
 -- nothing is owed by the tape where nothing is by the states
 paid_by : (known : Known) (t : List Entry) (s : State) (sight : Sight) → IsRightOf known t sight → OwesNothing sight s → IsPaid t s
 paid_by known t s sight right none = record { settled = none.settled; shared = none.shared; own = λ stream on open_yet. none.own stream (right.active stream ∙ on) (right.ended stream on ∙ open_yet) }
 
 -- Where nothing is owed each receiving window is as at first, but for what is kept.
-pub run_gives_back : (known : Known) (run : List Seen) → AllMayCome known.setup.passing run → AreRight known run → OwesNothing (sight_of run) (state_of known.setup.passing (moves_of run)) → GivesBack known (tape_of (moves_of run))
+pub run_gives_back : (known : Known) (run : List Seen) → AllMayCome known.setup.passing run → AreRight known run → OwesNothing (sight_of run) (state_behind known.setup.passing run) → GivesBack known (tape_of (moves_of run))
 run_gives_back known run may right none =
-    gives_back_at_rest known (moves_of run) (all_allowed known known.setup.passing run may right) (paid_by known (tape_of (moves_of run)) (state_of known.setup.passing (moves_of run)) (sight_of run) (last_right known run right) none)
+    gives_back_at_rest known (moves_of run) (all_allowed known known.setup.passing run may right)
+    (paid_by known (tape_of (moves_of run)) (state_of known.setup.passing (moves_of run)) (sight_of run) (last_right known run right)
+    (subst (OwesNothing (sight_of run)) (state_same known known.setup.passing run may right) none))
 
 -- ---- before each thing that comes in
 
 -- what is given back, and no more
-keeps : (known : Known) (run : List Seen) → AllMayCome known.setup.passing run → AreRight known run → OwesNothing (sight_of run) (state_of known.setup.passing (moves_of run)) → KeepRooms known (tape_of (moves_of run))
+keeps : (known : Known) (run : List Seen) → AllMayCome known.setup.passing run → AreRight known run → OwesNothing (sight_of run) (state_behind known.setup.passing run) → KeepRooms known (tape_of (moves_of run))
 keeps known run may right none = record { gives_back = run_gives_back known run may right none; no_more = gives_no_more known.setup.passing (moves_of run) (all_allowed known known.setup.passing run may right) }
 
-module _ (known : Known) (run : List Seen) (at : OwesNothing (sight_of run) (state_of known.setup.passing (moves_of run)) → KeepRooms known (tape_of (moves_of run))) (before : HoldsInTurn (KeepRooms known) (tape_of (moves_of run))) where
+module _ (known : Known) (run : List Seen) (at : OwesNothing (sight_of run) (state_behind known.setup.passing run) → KeepRooms known (tape_of (moves_of run))) (before : HoldsInTurn (KeepRooms known) (tape_of (moves_of run))) where
   -- one move more
-  one_more : (behind : Sight) (m : Move) → MayCome known.setup.passing (gates_of run) (sight_of run) behind (state_of known.setup.passing (moves_of run)) m → HoldsInTurn (KeepRooms known) (entries_of m ++ tape_of (moves_of run))
+  one_more : (behind : Sight) (m : Move) → MayCome known.setup.passing (gates_of run) (sight_of run) behind (state_behind known.setup.passing run) m → HoldsInTurn (KeepRooms known) (entries_of m ++ tape_of (moves_of run))
   one_more behind (Takes noted opens over) may = (at may.nothing, before)
   one_more behind (Breaks breach) may = (at may, before)
   one_more behind (Hears event) may = (at may.0, before)

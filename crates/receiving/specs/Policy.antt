@@ -11,8 +11,8 @@ use Rattle.model.specs.Admission.{untaken, is_open}
 use Rattle.model.specs.Tapes.Entry.{Came, Sent}
 use Rattle.model.specs.Decoding.{completed}
 use Rattle.model.specs.Windows.{first_window}
-use Rattle.model.specs.Openings.{opens}
-use Rattle.model.specs.Lifetimes.{opens_by, opened, is_active, is_ended_by_client}
+use Rattle.model.specs.Openings.{opens, last_stream}
+use Rattle.model.specs.Lifetimes.{opens_by, opened, active, is_active, is_ended_by_client}
 use Rattle.model.specs.WindowsOnTape.{increment, room_on}
 use Rattle.model.specs.Known.{Known}
 use Rattle.model.specs.WindowClause.{GivesBack, GivesNoMore}
@@ -21,22 +21,26 @@ use Rattle.receiving.specs.State.Move.{Takes, Breaks, Hears, Settles, Gives, Sen
 
 -- ---- admission
 
--- What is told of connections: whether an upstream's is open (serving), and, by the book of conduct, how many octets for the client aren't
--- taken, and whether its connection was closed.
+-- What is told of connections and streams: whether an upstream's is open (serving), and, by the book of conduct, which streams are active,
+-- the newest first, which is that of the last frame, how many octets for the client aren't taken, and whether its connection was closed.
 pub record Gates : Type 0 where
   pub is_up : ℕ → Bool
+  pub live : List ℕ
+  pub last : ℕ
   pub untaken : ℕ
   pub closed : Bool
 
 -- It is so.
 pub record AreGates (t : List Entry) (gates : Gates) : Type 0 where
   pub is_up : (k : ℕ) → gates.is_up k ≡ is_open k t
+  pub live : gates.live ≡ active t
+  pub last : gates.last ≡ last_stream t
   pub untaken : gates.untaken ≡ untaken t
   pub closed : gates.closed ≡ is_closed t
 
 -- what a tape tells of them
 abbrev pub gates_on : List Entry → Gates
-gates_on t = record { is_up = λ k. is_open k t; untaken = untaken t; closed = is_closed t }
+gates_on t = record { is_up = λ k. is_open k t; live = active t; last = last_stream t; untaken = untaken t; closed = is_closed t }
 
 -- how many octets of an upstream may come, but for what is held of its response
 abbrev pub room_in : Gates → ℕ → ℕ

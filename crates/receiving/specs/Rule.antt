@@ -7,7 +7,7 @@ use Rattle.model.specs.Tapes.{Noted}
 use Rattle.model.specs.Known.{Known}
 use Rattle.model.specs.WindowsOnTape.{increment}
 use Rattle.offering.specs.Sight.{Sight, first_sight, IsRightOf}
-use Rattle.receiving.specs.State.{State, Move, tape_of, state_of}
+use Rattle.receiving.specs.State.{State, Move, tape_of, start, after, Kept, kept_of, with_told}
 use Rattle.receiving.specs.State.Move.{Takes, Breaks, Hears, Settles, Gives, Sends, Acts}
 use Rattle.receiving.specs.Policy.{Gates, AreGates, gates_on, MayHear, MayDo}
 
@@ -77,10 +77,23 @@ abbrev pub gates_of : List Seen → Gates
 gates_of [] = gates_on []
 gates_of (x ∷ run) = x.gates
 
+-- the state of what is kept and what is told
+abbrev pub state_with : Gates → Kept → State
+state_with gates kept = with_told gates.live gates.last kept
+
+-- what is kept behind it: each move changes the state of what is kept and what is told before it
+abbrev pub kept_behind : Passing → List Seen → Kept
+kept_behind passing [] = kept_of start
+kept_behind passing (x ∷ run) = kept_of (after passing (state_with (gates_of run) (kept_behind passing run)) x.move)
+
+-- and so the state behind it
+abbrev pub state_behind : Passing → List Seen → State
+state_behind passing run = state_with (gates_of run) (kept_behind passing run)
+
 -- Each move might come where it came.
 abbrev pub AllMayCome : Passing → List Seen → Type 0
 AllMayCome passing [] = Unit {0}
-AllMayCome passing (x ∷ run) = AllMayCome passing run × MayCome passing (gates_of run) (sight_of run) x.sight (state_of passing (moves_of run)) x.move
+AllMayCome passing (x ∷ run) = AllMayCome passing run × MayCome passing (gates_of run) (sight_of run) x.sight (state_behind passing run) x.move
 
 -- What was read and told is right behind each move.
 abbrev pub AreRight : Known → List Seen → Type 0

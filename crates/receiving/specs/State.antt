@@ -214,3 +214,22 @@ after passing s (Acts act) = with_act s act
 abbrev pub state_of : Passing → List Move → State
 state_of passing [] = start
 state_of passing (m ∷ ms) = after passing (state_of passing ms) m
+
+-- ---- what is kept, beside what is told of streams
+
+-- What a gateway keeps for this: all of the state but which streams are active, and which is that of the last frame, which the book of
+-- conduct has.
+pub record Kept : Type 0 where
+  pub row : ℕ → Row
+  pub count : ℕ
+  pub settled : Bool
+  pub debt : ℕ
+  pub out : ℕ → ℕ
+  pub took : ℕ → ℕ
+
+abbrev pub kept_of : State → Kept
+kept_of s = record { row = s.row; count = s.count; settled = s.settled; debt = s.debt; out = s.out; took = s.took }
+
+-- the state, where these are the active streams and this is the last frame's
+abbrev pub with_told : List ℕ → ℕ → Kept → State
+with_told live last k = record { live = live; row = k.row; stream = last; count = k.count; settled = k.settled; debt = k.debt; out = k.out; took = k.took }

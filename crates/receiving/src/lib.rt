@@ -4,13 +4,13 @@
 //! from:
 //! - `AllMayCome`: each move may come by the states, which whoever performs a move shows there. That an event may come by the state is
 //!   `admission_is_told`, from the event's being admitted; octets that wait are the queue's (`receiving_queue`);
-//! - `AreRight`: what is read of `conduct`'s summary is right (`sights_are_right` of `offering`); how many octets the client hasn't taken and
-//!   whether it is closed are fields of it too, and which connections are open is `connections_are_told` of `serving`, clause `up`;
+//! - `AreRight`: what is read of `conduct`'s summary is right (`sights_are_right` of `offering`); how many octets the client hasn't taken,
+//!   whether it is closed, which streams are active and which is the last frame's are of it too, and which connections are open is `connections_are_told` of `serving`, clause `up`;
 //! - `OwesNothing`: nothing is owed, where a step ends. Something comes in only there (`MayCome`).
 //!
-//! What is held of a response (`AreHeld`) is what its stream's outbox has (`held_is_told`). The active streams (`live`) and the stream of the
-//! last frame (`stream`) are kept here once more, though `conduct` has them: the sum of what waits goes over the one, and the end of a
-//! frame's effect, which is no entry, is about the other.
+//! What is held of a response (`AreHeld`) is what its stream's outbox has (`held_is_told`). What a gateway keeps for this is `Kept`; which
+//! streams are active, and which is that of the last frame, is read of the book of `conduct` at each point (`Gates`): `state_behind` is the
+//! state of both.
 #![tactic(auto)]
 
 ghost use Rattle.std.specs.Prelude.{◌≡◌, ◌≢◌, ◌+◌, ◌≤◌, ℕ, Bool, true, List, length, sum_by, pos, ◌-ℤ◌};
@@ -28,7 +28,7 @@ ghost use Rattle.model.specs.Lifetimes.{is_active};
 ghost use Rattle.model.specs.WindowClause.{GivesBack, GivesNoMore, waiting};
 ghost use Rattle.receiving.specs.State.{Move, tape_of, state_of, held, fresh_of, with_taken, add};
 ghost use Rattle.receiving.specs.Policy.{AreAllowed, IsPaid, KeepRooms, Gates, AreGates, admits, room_in};
-ghost use Rattle.receiving.specs.Rule.{Seen, moves_of, sight_of, AllMayCome, AreRight, OwesNothing};
+ghost use Rattle.receiving.specs.Rule.{Seen, moves_of, sight_of, state_behind, AllMayCome, AreRight, OwesNothing};
 ghost use Rattle.receiving.specs.Rooms.{HoldsBody, AreHeld, admits_beside};
 ghost use Rattle.offering.specs.Outbox.{Outbox};
 ghost use Rattle.receiving.specs.Held.{HasOutbox, AreUnpadded, body_in};
@@ -47,7 +47,7 @@ pub fn windows_go_back()
 /// that comes in.
 pub fn states_give_back()
     ensures allowed { (known : Known) (passing : Passing) (run : List Seen) → AllMayCome passing run → AreRight known run → AreAllowed passing (moves_of run) }
-    ensures at_rest { (known : Known) (run : List Seen) → AllMayCome known.setup.passing run → AreRight known run → OwesNothing (sight_of run) (state_of known.setup.passing (moves_of run)) → GivesBack known (tape_of (moves_of run)) }
+    ensures at_rest { (known : Known) (run : List Seen) → AllMayCome known.setup.passing run → AreRight known run → OwesNothing (sight_of run) (state_behind known.setup.passing run) → GivesBack known (tape_of (moves_of run)) }
     ensures in_turn { (known : Known) (run : List Seen) → AllMayCome known.setup.passing run → AreRight known run → HoldsInTurn (KeepRooms known) (tape_of (moves_of run)) }
 {}
 

@@ -21,3 +21,4 @@ pub mod RunsStreaming
 pub mod RunsTurns
 pub mod RunsBothWays
 pub mod RunsHeard
+pub mod RunsPartsHeard

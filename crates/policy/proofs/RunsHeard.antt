@@ -1,9 +1,9 @@
 -- The clauses of the headline hold behind the run in which a response is heard, by the law: what is told of the answer is so.
-use Rattle.std.proofs.Common.{◌≡◌, ◌<◌, ◌≤◌, false, true, [], ◌∷◌, length, take, Option, Some, None, refl, sym, ◌∙◌, ap, subst, inl, inr, arith, List, ℕ}
+use Rattle.std.proofs.Common.{◌≡◌, ◌<◌, ◌≤◌, false, true, [], ◌∷◌, length, take, Option, Some, None, refl, sym, ap, subst, inl, inr, arith, List, ℕ}
 use Rattle.model.specs.Tables.{total_size}
 use Rattle.model.specs.ResponseHeads.{Head}
 use Rattle.model.specs.Responses.{Seen, StandsIn}
-use Rattle.model.specs.Deliveries.{Delivery}
+use Rattle.model.specs.Deliveries.{Delivery, nothing}
 use Rattle.model.specs.Available.{heard_by, ended_by, IsIn, IsShown}
 use Rattle.model.specs.Courses.{items}
 use Rattle.model.specs.Offers.{is_to_head}
@@ -14,7 +14,8 @@ use Rattle.model.specs.Tapes.Entry.{Happened}
 use Rattle.model.specs.Failures.{IsTooLong, MustFail}
 use Rattle.model.specs.Headline.{ClausesHold, HoldsInTurn}
 use Rattle.model.proofs.AnswerTexts as texts
-use Rattle.model.proofs.OfferLemmas.{nothing_complete, nothing_begun}
+use Rattle.model.proofs.HeadLaws.{nothing_shown}
+use Rattle.model.proofs.OfferLaws.{one_shown}
 use Rattle.offering.specs.Outbox.{with_news}
 use Rattle.offering.specs.Shown.{Tells}
 use Rattle.serving.specs.Meaning.{IsAllHeard}
@@ -27,16 +28,9 @@ use Rattle.policy.proofs.RunsHold.{known}
 
 -- ---- the news
 
--- nothing is on offer
-abbrev nothing : Delivery
-nothing = record { interims = []; head = None; body = []; whole = false }
-
--- of no octets nothing is
+-- of no octets nothing is on offer
 shown_nothing : (d : Delivery) → IsShown Whole [] false false d → d ≡ nothing
-shown_nothing d (inl whole) = absurd (nothing_complete false false (whole.response, whole.is_whole))
-shown_nothing d (inr begun) =
-    let none = nothing_begun Whole false false d begun in
-    begun.says ∙ ap (λ (heads : List Head). record nothing { interims = heads }) (sym (ap (λ (x : Delivery). x.interims) begun.says) ∙ none.0)
+shown_nothing d shown = one_shown Whole [] false false d nothing shown (nothing_shown Whole false)
 
 -- all of the answer is told
 tells : Tells Whole [] false answer_text false false news

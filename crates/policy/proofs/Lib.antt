@@ -22,3 +22,4 @@ pub mod RunsTurns
 pub mod RunsBothWays
 pub mod RunsHeard
 pub mod RunsPartsHeard
+pub mod Unended

@@ -19,6 +19,8 @@ ghost use Rattle.model.specs.Logs.{Event, Act, Step};
 ghost use Rattle.model.specs.Tables.{Table};
 ghost use Rattle.model.specs.Courses.{upstream_of};
 ghost use Rattle.receiving.specs.Policy.{may_come};
+ghost use Rattle.model.specs.Admission.{is_open};
+ghost use Rattle.model.specs.Available.{has_ended};
 ghost use Rattle.model.specs.Known.{Known};
 ghost use Rattle.model.specs.Tapes.{Noted, Breach, EndsWithClose};
 ghost use Rattle.model.specs.Failures.{AreJudged};
@@ -82,4 +84,10 @@ pub fn outputs_have_moves()
     ensures owed { (setup : Setup) (s : State) (noted : Noted) (next : Table) → IsOwedNext s noted → MayDo setup (told_by s) (told_behind setup s (Sends noted next)) s (Sends noted next) }
     ensures given { (setup : Setup) (s : State) (noted : Noted) (next : Table) → GivesBack s noted → MayDo setup (told_by s) (told_behind setup s (Sends noted next)) s (Sends noted next) }
     ensures act { (setup : Setup) (s : State) (act : Act) → s.desk.book.closed ≡ false → Acts setup s act → MayDo setup (told_by s) (told_behind setup s (Deed.Acts act)) s (Deed.Acts act) }
+{}
+
+/// An upstream connection that is open where the gateway rests wasn't ended by its upstream: so what is told of further octets of it is news of
+/// a connection that goes on, as the reader's contract has it.
+pub fn open_connections_go_on()
+    ensures { (known : Known) (run : List Move) → AreKnown known (conducts run) → AllAllowed known.setup run → AreAnswered known run → RestsBehind known.setup run → (k : ℕ) → is_open k (tape_of run) ≡ true → has_ended k (tape_of run) ≡ false }
 {}

@@ -5,6 +5,9 @@ pub mod Placing
 pub mod Keeping
 pub mod Stepping
 pub mod Coming
+pub mod EndingLives
+pub mod EndingMoves
+pub mod EndingStarts
 pub mod RunsGreeting
 pub mod RunsRequest
 pub mod RunsSteps

@@ -4,3 +4,4 @@ pub mod Rule
 pub mod Answered
 pub mod Steps
 pub mod Coming
+pub mod Ending

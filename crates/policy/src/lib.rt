@@ -16,6 +16,7 @@
 ghost use Rattle.std.specs.Prelude.{◌≡◌, true, ◌++◌, List, ◌∷◌, reverse};
 ghost use Rattle.model.specs.Setup.{Setup};
 ghost use Rattle.model.specs.Logs.{Event, Step};
+ghost use Rattle.model.specs.Logs.Event.{ClientEnd};
 ghost use Rattle.model.specs.Tables.{Table};
 ghost use Rattle.model.specs.Courses.{upstream_of};
 ghost use Rattle.receiving.specs.Policy.{may_come};
@@ -32,6 +33,7 @@ ghost use Rattle.policy.specs.Rule.{MayDo, AllAllowed, RestsBehind};
 ghost use Rattle.policy.specs.Answered.{AreAnswered};
 ghost use Rattle.policy.specs.Steps.{told_by, told_behind, next, MayGoOn, Leads, Stands, AreAnsweredBy};
 ghost use Rattle.policy.specs.Coming.{IsReady, MayTake};
+ghost use Rattle.policy.specs.Ending.{Ends};
 
 /// Whoever keeps the rule keeps the headline: its five clauses wherever the gateway rests, and before each thing that comes in;
 /// what is known of failures is right, and nothing stands behind the client's close. So it is for both policies, and however
@@ -70,4 +72,17 @@ pub fn inputs_have_moves()
     ensures breach { (setup : Setup) (s : State) (breach : Breach) → IsReady s → MayDo setup (told_by s) (told_behind setup s (Breaks breach)) s (Breaks breach) }
     ensures event { (setup : Setup) (s : State) (event : Event) → IsReady s → upstream_of event ≡ 0 → may_come (gates_in (told_by s) s.requests) s.windows event ≡ true → MayDo setup (told_by s) (told_behind setup s (Notes event)) s (Notes event) }
     ensures frame { (setup : Setup) (s : State) (noted : Noted) (next : Table) (gain : Gain) → IsReady s → MayTake setup (told_behind setup s (Takes noted next gain)) s noted next gain → MayDo setup (told_by s) (told_behind setup s (Takes noted next gain)) s (Takes noted next gain) }
+{}
+
+/// The end of the connection comes by the rule, and leads to rest. Where the gateway rests and its connection goes on, and then the
+/// client's side ends or its octets can't be read as frames, these moves come behind that entry (`ending_of`): the farewell, which is
+/// owed for an error alone; a close for each upstream connection that is open, in the order in which they are kept; and that for the
+/// client. Each may come where it comes (`Ends::allowed`), the gateway rests behind them (`Ends::rests`), so that the clauses hold
+/// there ([`headline_holds`]), and the tape is the one that is told (`Ends::tape`). From the entry on the book isn't kept any more,
+/// so [`states_lead`] says nothing of these moves.
+/// `Stands` comes of the moves before, by [`states_lead`]; `IsReady` is rest by what is kept (`Rests`), with the connection open and
+/// not to end.
+pub fn ends_lead()
+    ensures client { (setup : Setup) (run : List Move) (s : State) → Stands setup run s → IsReady s → Ends setup run s (Notes ClientEnd) }
+    ensures breach { (setup : Setup) (run : List Move) (s : State) (breach : Breach) → Stands setup run s → IsReady s → Ends setup run s (Breaks breach) }
 {}

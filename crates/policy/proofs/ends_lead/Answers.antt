@@ -1,0 +1,8 @@
+use Rattle.policy.proofs.EndingStarts as ending
+use Rattle.policy.proofs.ends_lead.Goals as goal
+
+pub returns-clause-client : goal.returns-clause-client
+returns-clause-client c = ending.client_leads
+
+pub returns-clause-breach : goal.returns-clause-breach
+returns-clause-breach c = ending.breach_leads

@@ -7,7 +7,9 @@ pub mod Stepping
 pub mod Coming
 pub mod EndingLives
 pub mod EndingMoves
+pub mod EndingWindows
 pub mod EndingStarts
+pub mod EndingFrames
 pub mod RunsGreeting
 pub mod RunsRequest
 pub mod RunsSteps

@@ -27,13 +27,14 @@ ghost use Rattle.model.specs.Headline.{ClausesHold, HoldsInTurn, Headline};
 ghost use Rattle.model.specs.Synchrony.{InStep};
 ghost use Rattle.conduct.specs.Rule.{AreKnown};
 ghost use Rattle.policy.specs.Moves.{Gain, Deed, Move};
+ghost use Rattle.policy.specs.Moves.Gain.{Nothing};
 ghost use Rattle.policy.specs.Moves.Deed.{Takes, Breaks, Notes};
 ghost use Rattle.policy.specs.State.{State, gates_in, conducts, tape_of, state_of};
 ghost use Rattle.policy.specs.Rule.{MayDo, AllAllowed, RestsBehind};
 ghost use Rattle.policy.specs.Answered.{AreAnswered};
 ghost use Rattle.policy.specs.Steps.{told_by, told_behind, next, MayGoOn, Leads, Stands, AreAnsweredBy};
 ghost use Rattle.policy.specs.Coming.{IsReady, MayTake};
-ghost use Rattle.policy.specs.Ending.{Ends};
+ghost use Rattle.policy.specs.Ending.{IsFatal, Ends};
 
 /// Whoever keeps the rule keeps the headline: its five clauses wherever the gateway rests, and before each thing that comes in;
 /// what is known of failures is right, and nothing stands behind the client's close. So it is for both policies, and however
@@ -75,14 +76,19 @@ pub fn inputs_have_moves()
 {}
 
 /// The end of the connection comes by the rule, and leads to rest. Where the gateway rests and its connection goes on, and then the
-/// client's side ends or its octets can't be read as frames, these moves come behind that entry (`ending_of`): the farewell, which is
-/// owed for an error alone; a close for each upstream connection that is open, in the order in which they are kept; and that for the
-/// client. Each may come where it comes (`Ends::allowed`), the gateway rests behind them (`Ends::rests`), so that the clauses hold
-/// there ([`headline_holds`]), and the tape is the one that is told (`Ends::tape`). From the entry on the book isn't kept any more,
-/// so [`states_lead`] says nothing of these moves.
-/// `Stands` comes of the moves before, by [`states_lead`]; `IsReady` is rest by what is kept (`Rests`), with the connection open and
-/// not to end.
+/// client's side ends, or its octets can't be read as frames, or a frame of it is an error of the connection, these moves come behind
+/// that entry (`ending_of`): the farewell, which is owed for an error alone; a close for each upstream connection that is open, in the
+/// order in which they are kept; and that for the client. Each may come where it comes (`Ends::allowed`), the gateway rests behind them
+/// (`Ends::rests`), so that the clauses hold there ([`headline_holds`]), and the tape is the one that is told (`Ends::tape`). From the
+/// entry on the book isn't kept any more, so [`states_lead`] says nothing of these moves.
+///
+/// The premises, and where each comes from:
+/// - `Stands`: the state stands behind the moves before, which [`states_lead`] gives;
+/// - `IsReady`: the gateway rests by what is kept, and its connection is open and not to end, which whoever performs moves knows;
+/// - `IsFatal`: of a frame, by the error table over the book that it is such an error, and that it opens no stream; by the decoder that
+///   its note is right, and that the block was read unless the error is one before that.
 pub fn ends_lead()
     ensures client { (setup : Setup) (run : List Move) (s : State) → Stands setup run s → IsReady s → Ends setup run s (Notes ClientEnd) }
     ensures breach { (setup : Setup) (run : List Move) (s : State) (breach : Breach) → Stands setup run s → IsReady s → Ends setup run s (Breaks breach) }
+    ensures frame { (setup : Setup) (run : List Move) (s : State) (noted : Noted) (next : Table) → Stands setup run s → IsReady s → IsFatal s noted next → Ends setup run s (Takes noted next Nothing) }
 {}

@@ -56,6 +56,7 @@ use Rattle.policy.proofs.Telling.{all_moved, moves_same, sight_right}
 use Rattle.policy.proofs.Coming.{may_take}
 use Rattle.policy.proofs.EndingMoves.{told_at, still_flushed}
 use Rattle.policy.proofs.EndingWindows.{open_stays}
+use Rattle.policy.proofs.EndingOpens as opening
 use Rattle.policy.proofs.EndingStarts.{by_book, by_moves, active, open_same, may_here, erred}
 
 -- ---- offers that stay, but for the frame's own stream
@@ -217,7 +218,7 @@ module _ (setup : Setup) (run : List Move) (all : AllAllowed setup run) (ready :
   opens_none =
       ap (λ os. opens_by os (completed_in p.block noted.frame) noted.note) same_opened
       ∙ ap (λ b. opens_by u.opened (completed_in b noted.frame) noted.note) same_block
-      ∙ may.opens_none
+      ∙ opening.opens_none u noted s.tables.decoding next may.noted_right.is_noted may.fatal
 
   -- the same streams were opened behind it
   opened_behind : (summary_at setup (Does d ∷ run)).opened ≡ u.opened

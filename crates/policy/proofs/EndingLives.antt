@@ -9,7 +9,10 @@ use Rattle.model.specs.Tapes.Entry.{Came, Sent}
 use Rattle.model.specs.Decoding.{joined}
 use Rattle.model.specs.Known.{Known}
 use Rattle.model.specs.Lifetimes.{is_active}
+use Rattle.model.specs.Causes.{Cause}
+use Rattle.model.specs.Causes.Cause.{BadAnswer}
 use Rattle.model.specs.Courses.{upstream_of}
+use Rattle.model.specs.Logs.{Act}
 use Rattle.model.specs.Logs.Act.{Open, ToUp, Close, CloseClient}
 use Rattle.model.specs.Setup.{Setup}
 use Rattle.model.proofs.ActiveLaws.{active_beside, active_control, active_came}
@@ -21,7 +24,8 @@ use Rattle.offering.proofs.Keeping.{KeepsId, answered_id, answered_if_id, find_c
 use Rattle.offering.proofs.Allowing.{last_right}
 use Rattle.serving.specs.State as serving
 use Rattle.serving.specs.State.{Live, k_of, live_of, Turn}
-use Rattle.serving.specs.Rule.{AreAllowed}
+use Rattle.serving.specs.Rule.{MayAct, MayMove, told_of, AreAllowed}
+use Rattle.serving.specs.Told.{Told}
 
 -- ---- streams
 
@@ -55,7 +59,7 @@ none_there None e = refl
 none_there (Some x) e = let clash : true ≡ false = e in cc
 
 -- a frame of the client, by whether its stream is active before and behind
-takes_one : (t : List Entry) (noted : Noted) (ks : List Kept) (caused : Option Rattle.model.specs.Causes.Cause) (a b : Bool) → a ≡ is_active noted.frame.id t → b ≡ is_active noted.frame.id (Came noted ∷ t) → AreActive t ks
+takes_one : (t : List Entry) (noted : Noted) (ks : List Kept) (caused : Option Cause) (a b : Bool) → a ≡ is_active noted.frame.id t → b ≡ is_active noted.frame.id (Came noted ∷ t) → AreActive t ks
     → AreActive (Came noted ∷ t) (unless_over (a && not b) noted.frame.id (change noted.frame.id (answered_if caused) (with_new (not a && b) noted.frame.id ks)))
 takes_one t noted ks caused a b was is h =
     goes_if (Came noted ∷ t) id (change id (answered_if caused) (with_new (not a && b) id ks)) (a && not b)
@@ -83,7 +87,7 @@ module _ (known : Known) (t : List Entry) (s : State) (h : AreActive t s.kept) (
   lives_behind (Breaks breach) now may = h
   lives_behind (Notes event) now may = h
   lives_behind (Hears event stream news) now may = λ other. some_changed stream (told news) s.kept (λ k. refl) other ∙ h other
-  lives_behind (Fails event stream) now may = λ other. some_changed stream (answered Rattle.model.specs.Causes.Cause.BadAnswer) s.kept (answered_id Rattle.model.specs.Causes.Cause.BadAnswer) other ∙ h other
+  lives_behind (Fails event stream) now may = λ other. some_changed stream (answered BadAnswer) s.kept (answered_id BadAnswer) other ∙ h other
   lives_behind (Goes noted item part over) now may =
       goes_if (Sent noted ∷ t) noted.frame.id (change noted.frame.id (gone part) s.kept) over
       (ap (λ b. b && not over) (some_changed noted.frame.id (gone part) s.kept (λ k. refl) noted.frame.id ∙ ap (λ o. is_some o) may.0.found) ∙ sym may.1.active ∙ now.active noted.frame.id)
@@ -176,8 +180,8 @@ below_answered : (whole : Bool) (n k : ℕ) (ls : List Live) → AreBelow n ls �
 below_answered whole n k [] b = tt
 below_answered whole n k (l ∷ ls) b = (b.0, below_answered whole n k ls b.1)
 
-module _ (setup : Setup) (before behind : Rattle.serving.specs.Told.Told) (s : serving.State) (h : AreNumbered s.live s.count) where
-  acted : (act : Rattle.model.specs.Logs.Act) → Rattle.serving.specs.Rule.MayAct before s act → AreNumbered (serving.live_acted s.live s.due act) (serving.count_after s.count (serving.Move.Acts act))
+module _ (setup : Setup) (before behind : Told) (s : serving.State) (h : AreNumbered s.live s.count) where
+  acted : (act : Act) → MayAct before s act → AreNumbered (serving.live_acted s.live s.due act) (serving.count_after s.count (serving.Move.Acts act))
   acted (Open k route) may =
       subst (λ n. AreNumbered (record { k = n; stream = serving.due_stream s.due; whole = false } ∷ s.live) (suc s.count)) (sym may.next)
       (record { apart = (none_above s.count s.live h.below, h.apart); below = (omega arith, below_more s.count s.live h.below) })
@@ -185,7 +189,7 @@ module _ (setup : Setup) (before behind : Rattle.serving.specs.Told.Told) (s : s
   acted (Close k) may = record { apart = apart_without k s.live h.apart; below = below_without s.count k s.live h.below }
   acted CloseClient may = h
 
-  numbered_behind : (m : serving.Move) → Rattle.serving.specs.Rule.MayMove setup before behind s m → AreNumbered (serving.live_after s.live s.due m) (serving.count_after s.count m)
+  numbered_behind : (m : serving.Move) → MayMove setup before behind s m → AreNumbered (serving.live_after s.live s.due m) (serving.count_after s.count m)
   numbered_behind (serving.Move.Takes noted) may = h
   numbered_behind (serving.Move.Begins noted head ended route text stage) may = h
   numbered_behind (serving.Move.Gathers noted item route text old written stage) may = h
@@ -201,7 +205,7 @@ module _ (setup : Setup) (before behind : Rattle.serving.specs.Told.Told) (s : s
 all_numbered : (setup : Setup) (turns : List Turn) → AreAllowed setup turns → AreNumbered (serving.state_of setup turns).live (serving.state_of setup turns).count
 all_numbered setup [] all = record { apart = tt; below = tt }
 all_numbered setup (turn ∷ turns) all =
-    numbered_behind setup (Rattle.serving.specs.Rule.told_of turns) turn.told (serving.state_of setup turns) (all_numbered setup turns all.0) turn.move all.1.may
+    numbered_behind setup (told_of turns) turn.told (serving.state_of setup turns) (all_numbered setup turns all.0) turn.move all.1.may
 
 -- Open connections have numbers of their own.
 pub all_apart : (setup : Setup) (turns : List Turn) → AreAllowed setup turns → AreApart (serving.state_of setup turns).live

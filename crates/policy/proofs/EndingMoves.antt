@@ -4,6 +4,7 @@ use Rattle.std.specs.Prelude.{Option, Some, None, is_some, pos, int_lt, ◌+ℤ�
 use Rattle.std.specs.List.{list_any}
 use Rattle.std.proofs.lemmas.Bool.{eq-eqb, or_left}
 use Rattle.model.specs.Frames.{Frame, goaway}
+use Rattle.model.specs.FrameErrors.{is_between}
 use Rattle.model.specs.Setup.{Setup}
 use Rattle.model.specs.Tables.{Table}
 use Rattle.model.specs.Admission.{high_water}
@@ -111,7 +112,7 @@ farewell_goes setup run last code live table e = record {
       in_turn = λ begins. absurd (let no : false ≡ true = begins in cc);
       request = record { open_yet = told_open setup run (frame ∷ []) live e; may = e.due };
       gains = tt;
-      table = record { together = ap (λ b. Rattle.model.specs.FrameErrors.is_between b frame) (told_block setup run (frame ∷ []) live e); is_given = refl };
+      table = record { together = ap (λ b. is_between b frame) (told_block setup run (frame ∷ []) live e); is_given = refl };
       window = record { kind = refl; over_with_it = refl };
     },
   );

@@ -14,6 +14,7 @@ use Rattle.model.specs.StreamStates.{most_streams}
 use Rattle.model.specs.Errors.Fault.{Connection}
 use Rattle.model.specs.Known.{Known}
 use Rattle.model.specs.Lifetimes.{is_active}
+use Rattle.model.specs.Courses.{first_of_both}
 use Rattle.model.specs.ErrorClause.{reset_for}
 use Rattle.model.proofs.OwedSteps.{neither, no_reset_for}
 use Rattle.conduct.specs.Summary.{Summary}
@@ -132,7 +133,7 @@ module _ (setup : Setup) (run : List Move) (all : AllAllowed setup run) (ready :
       let about : ℕ = about_in u (Happened ClientEnd) in
       ap (λ b. (if b then goaway (highest_in u.opened) no_error ∷ [] else []) ++ (resets_in setup false u (Happened ClientEnd) ++ [])) (neither (length u.opened) most_streams)
       ∙ ap (λ (fs : List Frame). fs ++ []) (
-      ap (λ c. reset_for about (next_brief setup false about u (Happened ClientEnd)).head_out (u.stream about).brief.cause (Rattle.model.specs.Courses.first_of_both (u.stream about).brief.cause c)) (no_cause_if (about == about && nat_lt 0 about) _ refl)
+      ap (λ c. reset_for about (next_brief setup false about u (Happened ClientEnd)).head_out (u.stream about).brief.cause (first_of_both (u.stream about).brief.cause c)) (no_cause_if (about == about && nat_lt 0 about) _ refl)
       ∙ no_reset_for about (next_brief setup false about u (Happened ClientEnd)).head_out (u.stream about).brief.cause
       )
 

@@ -32,30 +32,30 @@ use Rattle.model.specs.Setup.{Setup}
 
 -- ---- rows that are no error of the connection
 
-abbrev AreMild : List (Option Fault) → Type 0
+abbrev pub AreMild : List (Option Fault) → Type 0
 AreMild [] = Unit {0}
 AreMild (row ∷ rows) = (is_fatal row ≡ false) × AreMild rows
 
-mild_first : (rows : List (Option Fault)) (last : Option Fault) → AreMild rows → is_fatal last ≡ false → is_fatal (or_else (first_of rows) last) ≡ false
+pub mild_first : (rows : List (Option Fault)) (last : Option Fault) → AreMild rows → is_fatal last ≡ false → is_fatal (or_else (first_of rows) last) ≡ false
 mild_first [] last mild l = l
 mild_first (None ∷ rows) last mild l = mild_first rows last mild.1 l
 mild_first (Some fault ∷ rows) last mild l = mild.0
 
-skip : (rows later : List (Option Fault)) → is_none (first_of rows) ≡ true → first_of (rows ++ later) ≡ first_of later
+pub skip : (rows later : List (Option Fault)) → is_none (first_of rows) ≡ true → first_of (rows ++ later) ≡ first_of later
 skip [] later none = refl
 skip (None ∷ rows) later none = skip rows later none
 skip (Some fault ∷ rows) later none = absurd (let no : false ≡ true = none in cc)
 
-mild_if : (b : Bool) (code : ℕ) → is_fatal (fault_if b (Stream code)) ≡ false
+pub mild_if : (b : Bool) (code : ℕ) → is_fatal (fault_if b (Stream code)) ≡ false
 mild_if true code = refl
 mild_if false code = refl
 
-mild_both : (a b : Bool) (c d : ℕ) → is_fatal (first_of (fault_if a (Stream c) ∷ fault_if b (Stream d) ∷ [])) ≡ false
+pub mild_both : (a b : Bool) (c d : ℕ) → is_fatal (first_of (fault_if a (Stream c) ∷ fault_if b (Stream d) ∷ [])) ≡ false
 mild_both true b c d = refl
 mild_both false true c d = refl
 mild_both false false c d = refl
 
-mild_unless : (row : Option Fault) → is_fatal row ≡ false → is_fatal (unless_of_stream row) ≡ false
+pub mild_unless : (row : Option Fault) → is_fatal row ≡ false → is_fatal (unless_of_stream row) ≡ false
 mild_unless None e = refl
 mild_unless (Some (Connection code)) e = e
 mild_unless (Some (Stream code)) e = refl

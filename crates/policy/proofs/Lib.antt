@@ -8,6 +8,7 @@ pub mod Coming
 pub mod EndingLives
 pub mod EndingMoves
 pub mod EndingWindows
+pub mod EndingOpens
 pub mod EndingStarts
 pub mod EndingFrames
 pub mod RunsGreeting

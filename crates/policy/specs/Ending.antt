@@ -8,12 +8,10 @@ use Rattle.model.specs.Logs.Act.{Close, CloseClient}
 use Rattle.model.specs.Tapes.{Noted, Entry}
 use Rattle.model.specs.Tapes.Entry.{Came, Sent, Did}
 use Rattle.model.specs.Decoding.{is_read}
-use Rattle.model.specs.Lifetimes.{opens_by}
 use Rattle.model.specs.ErrorClause.{is_fatal}
 use Rattle.model.specs.Errors.{Fault}
 use Rattle.model.specs.Errors.Fault.{Connection}
 use Rattle.conduct.specs.Summary.{Summary}
-use Rattle.conduct.specs.Judging.{completed_in}
 use Rattle.conduct.specs.Owing.{fault_in, highest_in, opened_after}
 use Rattle.conduct.specs.Quiet.{noted_of}
 use Rattle.serving.specs.State.{Live}
@@ -71,9 +69,8 @@ pub record Ends (setup : Setup) (run : List Move) (s : State) (d : Deed) : Type 
   pub tape : tape_of (ending_of s d ++ Does d ∷ run) ≡ ending_on_tape s d ++ tape_of run
 
 -- A frame of the client is an error of the connection: it has the note of its header block, which was read unless the error is one
--- before that, and opens no stream.
+-- before that.
 pub record IsFatal (s : State) (noted : Noted) (next : Table) : Type 0 where
   pub fatal : is_fatal (fault_in (told_by s) (Came noted)) ≡ true
   pub noted_right : tables.IsTaken s.tables noted (verdict_in (told_by s) noted.frame) next
   pub read : is_read noted.note ≡ false → (verdict_in (told_by s) noted.frame).is_error ≡ true
-  pub opens_none : opens_by (told_by s).opened (completed_in (told_by s).block noted.frame) noted.note ≡ false

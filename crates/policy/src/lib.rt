@@ -85,8 +85,8 @@ pub fn inputs_have_moves()
 /// The premises, and where each comes from:
 /// - `Stands`: the state stands behind the moves before, which [`states_lead`] gives;
 /// - `IsReady`: the gateway rests by what is kept, and its connection is open and not to end, which whoever performs moves knows;
-/// - `IsFatal`: of a frame, by the error table over the book that it is such an error, and that it opens no stream; by the decoder that
-///   its note is right, and that the block was read unless the error is one before that.
+/// - `IsFatal`: of a frame, by the error table over the book that it is such an error; by the decoder that its note is right, and that
+///   the block was read (no memory was refused) unless the error is one before that.
 pub fn ends_lead()
     ensures client { (setup : Setup) (run : List Move) (s : State) → Stands setup run s → IsReady s → Ends setup run s (Notes ClientEnd) }
     ensures breach { (setup : Setup) (run : List Move) (s : State) (breach : Breach) → Stands setup run s → IsReady s → Ends setup run s (Breaks breach) }

@@ -11,6 +11,7 @@ pub mod EndingWindows
 pub mod EndingOpens
 pub mod EndingStarts
 pub mod EndingFrames
+pub mod EndingAnswers
 pub mod RunsGreeting
 pub mod RunsRequest
 pub mod RunsSteps

@@ -28,13 +28,14 @@ ghost use Rattle.model.specs.Synchrony.{InStep};
 ghost use Rattle.conduct.specs.Rule.{AreKnown};
 ghost use Rattle.policy.specs.Moves.{Gain, Deed, Move};
 ghost use Rattle.policy.specs.Moves.Gain.{Nothing};
+ghost use Rattle.policy.specs.Moves.Move.{Does};
 ghost use Rattle.policy.specs.Moves.Deed.{Takes, Breaks, Notes};
 ghost use Rattle.policy.specs.State.{State, gates_in, conducts, tape_of, state_of};
 ghost use Rattle.policy.specs.Rule.{MayDo, AllAllowed, RestsBehind};
-ghost use Rattle.policy.specs.Answered.{AreAnswered};
+ghost use Rattle.policy.specs.Answered.{IsAnswered, AreAnswered};
 ghost use Rattle.policy.specs.Steps.{told_by, told_behind, next, MayGoOn, Leads, Stands, AreAnsweredBy};
 ghost use Rattle.policy.specs.Coming.{IsReady, MayTake};
-ghost use Rattle.policy.specs.Ending.{IsFatal, Ends};
+ghost use Rattle.policy.specs.Ending.{IsFatal, ending_of, Ends};
 
 /// Whoever keeps the rule keeps the headline: its five clauses wherever the gateway rests, and before each thing that comes in;
 /// what is known of failures is right, and nothing stands behind the client's close. So it is for both policies, and however
@@ -82,6 +83,9 @@ pub fn inputs_have_moves()
 /// (`Ends::rests`), so that the clauses hold there ([`headline_holds`]), and the tape is the one that is told (`Ends::tape`). From the
 /// entry on the book isn't kept any more, so [`states_lead`] says nothing of these moves.
 ///
+/// These moves say nothing of upstreams' answers: what all moves say of them is so where it was before, and the entry's own word is
+/// (`answered`).
+///
 /// The premises, and where each comes from:
 /// - `Stands`: the state stands behind the moves before, which [`states_lead`] gives;
 /// - `IsReady`: the gateway rests by what is kept, and its connection is open and not to end, which whoever performs moves knows;
@@ -91,4 +95,5 @@ pub fn ends_lead()
     ensures client { (setup : Setup) (run : List Move) (s : State) → Stands setup run s → IsReady s → Ends setup run s (Notes ClientEnd) }
     ensures breach { (setup : Setup) (run : List Move) (s : State) (breach : Breach) → Stands setup run s → IsReady s → Ends setup run s (Breaks breach) }
     ensures frame { (setup : Setup) (run : List Move) (s : State) (noted : Noted) (next : Table) → Stands setup run s → IsReady s → IsFatal s noted next → Ends setup run s (Takes noted next Nothing) }
+    ensures answered { (known : Known) (run : List Move) (s : State) (d : Deed) → AreAnswered known run → IsAnswered known (tape_of run) d → AreAnswered known (ending_of s d ++ Does d ∷ run) }
 {}

@@ -6,6 +6,13 @@ pub mod Keeping
 pub mod Stepping
 pub mod Coming
 pub mod Going
+pub mod EndingLives
+pub mod EndingMoves
+pub mod EndingWindows
+pub mod EndingOpens
+pub mod EndingStarts
+pub mod EndingFrames
+pub mod EndingAnswers
 pub mod RunsGreeting
 pub mod RunsRequest
 pub mod RunsSteps

@@ -5,3 +5,4 @@ pub mod Answered
 pub mod Steps
 pub mod Coming
 pub mod Going
+pub mod Ending

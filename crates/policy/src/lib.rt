@@ -16,6 +16,7 @@
 ghost use Rattle.std.specs.Prelude.{◌≡◌, ℕ, Bool, true, false, ◌++◌, List, ◌∷◌, reverse};
 ghost use Rattle.model.specs.Setup.{Setup};
 ghost use Rattle.model.specs.Logs.{Event, Act, Step};
+ghost use Rattle.model.specs.Logs.Event.{ClientEnd};
 ghost use Rattle.model.specs.Tables.{Table};
 ghost use Rattle.model.specs.Courses.{upstream_of};
 ghost use Rattle.receiving.specs.Policy.{may_come};
@@ -29,13 +30,16 @@ ghost use Rattle.model.specs.Synchrony.{InStep};
 ghost use Rattle.conduct.specs.Rule.{AreKnown};
 ghost use Rattle.offering.specs.Outbox.{News};
 ghost use Rattle.policy.specs.Moves.{Gain, Deed, Move};
+ghost use Rattle.policy.specs.Moves.Gain.{Nothing};
+ghost use Rattle.policy.specs.Moves.Move.{Does};
 ghost use Rattle.policy.specs.Moves.Deed.{Takes, Breaks, Notes, Hears, Fails, Sends};
 ghost use Rattle.policy.specs.State.{State, gates_in, conducts, tape_of, state_of};
 ghost use Rattle.policy.specs.Rule.{rooms_in, MayDo, AllAllowed, RestsBehind};
-ghost use Rattle.policy.specs.Answered.{AreAnswered};
+ghost use Rattle.policy.specs.Answered.{IsAnswered, AreAnswered};
 ghost use Rattle.policy.specs.Steps.{told_by, told_behind, next, MayGoOn, Leads, Stands, AreAnsweredBy};
 ghost use Rattle.policy.specs.Coming.{IsReady, MayTake, MayHear, MayFail};
 ghost use Rattle.policy.specs.Going.{IsOwedNext, GivesBack, Acts};
+ghost use Rattle.policy.specs.Ending.{IsFatal, ending_of, Ends};
 
 /// Whoever keeps the rule keeps the headline: its five clauses wherever the gateway rests, and before each thing that comes in;
 /// what is known of failures is right, and nothing stands behind the client's close. So it is for both policies, and however
@@ -90,4 +94,26 @@ pub fn outputs_have_moves()
 /// a connection that goes on, as the reader's contract has it.
 pub fn open_connections_go_on()
     ensures { (known : Known) (run : List Move) → AreKnown known (conducts run) → AllAllowed known.setup run → AreAnswered known run → RestsBehind known.setup run → (k : ℕ) → is_open k (tape_of run) ≡ true → has_ended k (tape_of run) ≡ false }
+{}
+
+/// The end of the connection comes by the rule, and leads to rest. Where the gateway rests and its connection goes on, and then the
+/// client's side ends, or its octets can't be read as frames, or a frame of it is an error of the connection, these moves come behind
+/// that entry (`ending_of`): the farewell, which is owed for an error alone; a close for each upstream connection that is open, in the
+/// order in which they are kept; and that for the client. Each may come where it comes (`Ends::allowed`), the gateway rests behind them
+/// (`Ends::rests`), so that the clauses hold there ([`headline_holds`]), and the tape is the one that is told (`Ends::tape`). From the
+/// entry on the book isn't kept any more, so [`states_lead`] says nothing of these moves.
+///
+/// These moves say nothing of upstreams' answers: what all moves say of them is so where it was before, and the entry's own word is
+/// (`answered`).
+///
+/// The premises, and where each comes from:
+/// - `Stands`: the state stands behind the moves before, which [`states_lead`] gives;
+/// - `IsReady`: the gateway rests by what is kept, and its connection is open and not to end, which whoever performs moves knows;
+/// - `IsFatal`: of a frame, by the error table over the book that it is such an error; by the decoder that its note is right, and that
+///   the block was read (no memory was refused) unless the error is one before that.
+pub fn ends_lead()
+    ensures client { (setup : Setup) (run : List Move) (s : State) → Stands setup run s → IsReady s → Ends setup run s (Notes ClientEnd) }
+    ensures breach { (setup : Setup) (run : List Move) (s : State) (breach : Breach) → Stands setup run s → IsReady s → Ends setup run s (Breaks breach) }
+    ensures frame { (setup : Setup) (run : List Move) (s : State) (noted : Noted) (next : Table) → Stands setup run s → IsReady s → IsFatal s noted next → Ends setup run s (Takes noted next Nothing) }
+    ensures answered { (known : Known) (run : List Move) (s : State) (d : Deed) → AreAnswered known run → IsAnswered known (tape_of run) d → AreAnswered known (ending_of s d ++ Does d ∷ run) }
 {}

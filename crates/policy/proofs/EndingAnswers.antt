@@ -1,0 +1,32 @@
+-- The moves of the end say nothing of answers.
+use Rattle.std.proofs.Common.{List, [], ◌∷◌, ◌++◌, append_assoc, sym, subst}
+use Rattle.model.specs.Frames.{Frame}
+use Rattle.model.specs.Tables.{Table}
+use Rattle.model.specs.Logs.Act.{Close}
+use Rattle.model.specs.Known.{Known}
+use Rattle.conduct.specs.Quiet.{noted_of}
+use Rattle.serving.specs.State.{Live}
+use Rattle.policy.specs.Moves.{Deed, Move}
+use Rattle.policy.specs.Moves.Deed.{Sends, Acts}
+use Rattle.policy.specs.Moves.Move.{Does}
+use Rattle.policy.specs.State.{State, tape_of}
+use Rattle.policy.specs.Answered.{IsAnswered, AreAnswered}
+use Rattle.policy.specs.Ending.{farewell_by, sent_all, farewell_of, closes_of, ending_of}
+
+closes_say_none : (known : Known) (ls : List Live) (run : List Move) → AreAnswered known run → AreAnswered known (closes_of ls ++ run)
+closes_say_none known [] run so = so
+closes_say_none known (l ∷ ls) run so =
+    subst (AreAnswered known) (sym (append_assoc (closes_of ls) (Does (Acts (Close l.k)) ∷ []) run)) (closes_say_none known ls (Does (Acts (Close l.k)) ∷ run) (so, tt))
+
+sends_say_none : (known : Known) (table : Table) (frames : List Frame) (run : List Move) → AreAnswered known run → AreAnswered known (sent_all table frames ++ run)
+sends_say_none known table [] run so = so
+sends_say_none known table (frame ∷ frames) run so =
+    subst (AreAnswered known) (sym (append_assoc (sent_all table frames) (Does (Sends (noted_of frame) table) ∷ []) run)) (sends_say_none known table frames (Does (Sends (noted_of frame) table) ∷ run) (so, tt))
+
+-- What is said of answers is so behind the end where it was before, and the deed says what is so.
+pub answered : (known : Known) (run : List Move) (s : State) (d : Deed) → AreAnswered known run → IsAnswered known (tape_of run) d → AreAnswered known (ending_of s d ++ Does d ∷ run)
+answered known run s d so now = (
+  subst (AreAnswered known) (sym (append_assoc (closes_of s.requests.live) (farewell_of s d) (Does d ∷ run)))
+      (closes_say_none known s.requests.live (farewell_of s d ++ Does d ∷ run) (sends_say_none known s.tables.encoding.table (farewell_by s d) (Does d ∷ run) (so, now))),
+  tt,
+)

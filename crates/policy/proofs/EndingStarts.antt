@@ -1,0 +1,185 @@
+-- The entry that ends the connection, where the gateway rests: and the whole end behind it.
+use Rattle.std.proofs.Common.{◌≡◌, ℕ, ◌<◌, true, false, ◌==◌, ◌&&◌, nat_lt, List, [], ◌∷◌, ◌++◌, append_assoc, refl, sym, ap, ◌∙◌, subst, if◌then◌else◌}
+use Rattle.std.specs.Prelude.{Some, is_some, length, pos, int_lt}
+use Rattle.model.specs.Frames.{Frame, goaway, no_error, protocol_error, frame_size_error}
+use Rattle.model.specs.Setup.{Setup}
+use Rattle.model.specs.Admission.{high_water}
+use Rattle.model.specs.Tables.{Table}
+use Rattle.model.specs.Logs.Event.{ClientEnd}
+use Rattle.model.specs.Logs.Act.{Close, CloseClient}
+use Rattle.model.specs.Tapes.{Breach, Entry}
+use Rattle.model.specs.Tapes.Breach.{WrongPreface, TooLong}
+use Rattle.model.specs.Tapes.Entry.{Breached, Happened, Sent, Did}
+use Rattle.model.specs.StreamStates.{most_streams}
+use Rattle.model.specs.Errors.Fault.{Connection}
+use Rattle.model.specs.Known.{Known}
+use Rattle.model.specs.Lifetimes.{is_active}
+use Rattle.model.specs.Courses.{first_of_both}
+use Rattle.model.specs.ErrorClause.{reset_for}
+use Rattle.model.proofs.OwedSteps.{neither, no_reset_for}
+use Rattle.conduct.specs.Summary.{Summary}
+use Rattle.conduct.specs.Owing.{about_in, fault_in, highest_in, opened_after, next_brief, resets_in, owes_in}
+use Rattle.conduct.specs.Quiet.{noted_of}
+use Rattle.conduct.specs.Rule.{point_of, known_of}
+use Rattle.conduct.proofs.Idle.{no_cause_if}
+use Rattle.conduct.proofs.Knowing.{known_so}
+use Rattle.offering.specs.State.{find, are_open}
+use Rattle.offering.specs.Policy.{IsFlushed}
+use Rattle.offering.specs.Sight.{IsRightOf, sight_in, windows_in}
+use Rattle.offering.proofs.Sights.{right_by_summary}
+use Rattle.serving.specs.State.{Live}
+use Rattle.policy.specs.Moves.{Deed, Move, entry_of}
+use Rattle.policy.specs.Moves.Deed.{Breaks, Notes, Sends, Acts}
+use Rattle.policy.specs.Moves.Move.{Does}
+use Rattle.policy.specs.State.{State, conducts, tape_of, summary_at, offers_of, turns_of, state_of}
+use Rattle.policy.specs.Rule.{MayDo, AllAllowed, RestsBehind}
+use Rattle.policy.specs.Steps.{told_by, Stands}
+use Rattle.policy.specs.Coming.{IsReady}
+use Rattle.policy.specs.Ending.{farewell_for, farewell_by, sent_all, farewell_of, closes_of, frames_sent, closed_all, Ends}
+use Rattle.policy.proofs.Tapes.{offers_tape}
+use Rattle.policy.proofs.Telling.{all_moved, sight_right}
+use Rattle.policy.proofs.Placing.{offers_may, offers_right, turns_may}
+use Rattle.policy.proofs.Coming.{may_break, may_note}
+use Rattle.policy.proofs.EndingLives.{AreActive, all_active, all_apart}
+use Rattle.policy.proofs.EndingMoves.{still_flushed, IsEnding, farewell_goes, closes_go, client_closed, rests}
+
+-- ---- the tape
+
+closes_tape : (ls : List Live) (run : List Move) → tape_of (closes_of ls ++ run) ≡ closed_all ls ++ tape_of run
+closes_tape [] run = refl
+closes_tape (l ∷ ls) run =
+    ap tape_of (append_assoc (closes_of ls) (Does (Acts (Close l.k)) ∷ []) run)
+    ∙ closes_tape ls (Does (Acts (Close l.k)) ∷ run)
+    ∙ sym (append_assoc (closed_all ls) (Did (Close l.k) ∷ []) (tape_of run))
+
+sends_tape : (table : Table) (frames : List Frame) (run : List Move) → tape_of (sent_all table frames ++ run) ≡ frames_sent frames ++ tape_of run
+sends_tape table [] run = refl
+sends_tape table (frame ∷ frames) run =
+    ap tape_of (append_assoc (sent_all table frames) (Does (Sends (noted_of frame) table) ∷ []) run)
+    ∙ sends_tape table frames (Does (Sends (noted_of frame) table) ∷ run)
+    ∙ sym (append_assoc (frames_sent frames) (Sent (noted_of frame) ∷ []) (tape_of run))
+
+-- ---- all of it
+
+module _ (setup : Setup) (run : List Move) (all : AllAllowed setup run) (ready : IsReady (state_of setup run)) (on : (state_of setup run).desk.book.ends ≡ false) where
+  abbrev s : State
+  s = state_of setup run
+
+  abbrev known : Known
+  known = known_of setup (conducts run)
+
+  abbrev t : List Entry
+  t = tape_of run
+
+  -- what is told is what the book tells, and what follows from the moves agrees where it matters
+  told : summary_at setup run ≡ told_by s
+  told = ap (λ b. if b then (point_of setup (conducts run)).summary else told_by s) on
+
+  pub by_book : IsRightOf known t (sight_in (told_by s))
+  by_book = subst (λ (u : Summary). IsRightOf known t (sight_in u)) told (sight_right known run (known_so setup (conducts run)) (all_moved known run all))
+
+  pub by_moves : IsRightOf known t (sight_in (point_of setup (conducts run)).summary)
+  by_moves = right_by_summary known (conducts run) (known_so setup (conducts run)) (all_moved known run all)
+
+  -- a stream that is kept is active
+  pub active : (stream : ℕ) → is_some (find stream s.offers.kept) ≡ true → is_active stream t ≡ true
+  active stream kept =
+      sym (subst (λ (x : List Entry). AreActive x s.offers.kept) (offers_tape setup run)
+      (all_active known (offers_of setup run) (offers_may setup run all) (offers_right known run (known_so setup (conducts run)) all)) stream)
+      ∙ kept
+
+  pub open_same : (stream : ℕ) → is_some (find stream s.offers.kept) ≡ true → are_open (windows_in (sight_in (point_of setup (conducts run)).summary)) stream ≡ are_open (windows_in (sight_in (told_by s))) stream
+  open_same stream kept =
+      ap (λ z. int_lt (pos 0) z && int_lt (pos 0) (point_of setup (conducts run)).summary.window) (by_moves.own stream (active stream kept) ∙ sym (by_book.own stream (active stream kept)))
+      ∙ ap (λ z. int_lt (pos 0) ((sight_in (told_by s)).own stream) && int_lt (pos 0) z) (by_moves.shared ∙ sym by_book.shared)
+
+  flushed : IsFlushed (windows_in (sight_in (point_of setup (conducts run)).summary)) s.offers
+  flushed =
+      still_flushed (windows_in (sight_in (told_by s))) (windows_in (sight_in (point_of setup (conducts run)).summary)) s.offers open_same
+      (λ low. subst (λ n. n < high_water) (by_moves.untaken ∙ sym by_book.untaken) low)
+      ready.rests.flushed
+
+  -- a deed that may be done by what the book tells may be done
+  pub may_here : (d : Deed) → MayDo setup (told_by s) (summary_at setup (Does d ∷ run)) s d → MayDo setup (summary_at setup run) (summary_at setup (Does d ∷ run)) s d
+  may_here d may = subst (λ (u : Summary). MayDo setup u (summary_at setup (Does d ∷ run)) s d) (sym told) may
+
+  -- behind the deed and its farewell
+  pub finish : (d : Deed) → IsEnding setup (farewell_of s d ++ Does d ∷ run) [] s.requests.live → Ends setup run s d
+  finish d e =
+      let closing = closes_go setup s.requests.live (farewell_of s d ++ Does d ∷ run) (all_apart setup (turns_of setup run) (turns_may setup run all)) e in
+      let same = sym (append_assoc (closes_of s.requests.live) (farewell_of s d) (Does d ∷ run)) in
+      record {
+        allowed = subst (λ (moves : List Move). AllAllowed setup (Does (Acts CloseClient) ∷ moves)) same (client_closed setup (closes_of s.requests.live ++ (farewell_of s d ++ Does d ∷ run)) closing);
+        rests = subst (λ (moves : List Move). RestsBehind setup (Does (Acts CloseClient) ∷ moves)) same (rests setup (closes_of s.requests.live ++ (farewell_of s d ++ Does d ∷ run)) closing);
+        tape = ap (λ (x : List Entry). Did CloseClient ∷ x) (
+            ap tape_of (sym same)
+            ∙ closes_tape s.requests.live (farewell_of s d ++ Does d ∷ run)
+            ∙ ap (λ (x : List Entry). closed_all s.requests.live ++ x) (sends_tape s.tables.encoding.table (farewell_by s d) (Does d ∷ run) ∙ sym (append_assoc (frames_sent (farewell_by s d)) (entry_of d ∷ []) t))
+            ∙ sym (append_assoc (closed_all s.requests.live) (frames_sent (farewell_by s d) ++ entry_of d ∷ []) t)
+            );
+      }
+
+  -- behind an error of the connection
+  pub erred : (d : Deed) (code : ℕ) → fault_in (told_by s) (entry_of d) ≡ Some (Connection code) → IsEnding setup (Does d ∷ run) (goaway (highest_in (opened_after (told_by s) (entry_of d))) code ∷ []) s.requests.live → Ends setup run s d
+  erred d code found e =
+      finish d (subst (λ (frames : List Frame). IsEnding setup (sent_all s.tables.encoding.table frames ++ Does d ∷ run) [] s.requests.live) (sym (ap (farewell_for (told_by s) (entry_of d)) found))
+      (farewell_goes setup (Does d ∷ run) (highest_in (opened_after (told_by s) (entry_of d))) code s.requests.live s.tables.encoding.table e))
+
+  -- ---- the client's side ends
+
+  owes_nothing : owes_in setup false (told_by s) (Happened ClientEnd) ≡ []
+  owes_nothing =
+      let u : Summary = told_by s in
+      let about : ℕ = about_in u (Happened ClientEnd) in
+      ap (λ b. (if b then goaway (highest_in u.opened) no_error ∷ [] else []) ++ (resets_in setup false u (Happened ClientEnd) ++ [])) (neither (length u.opened) most_streams)
+      ∙ ap (λ (fs : List Frame). fs ++ []) (
+      ap (λ c. reset_for about (next_brief setup false about u (Happened ClientEnd)).head_out (u.stream about).brief.cause (first_of_both (u.stream about).brief.cause c)) (no_cause_if (about == about && nat_lt 0 about) _ refl)
+      ∙ no_reset_for about (next_brief setup false about u (Happened ClientEnd)).head_out (u.stream about).brief.cause
+      )
+
+  pub client_ends : Ends setup run s (Notes ClientEnd)
+  client_ends = finish (Notes ClientEnd) (record {
+    allowed = (all, may_here (Notes ClientEnd) (may_note setup (summary_at setup (Does (Notes ClientEnd) ∷ run)) s ready ClientEnd refl refl));
+    ends = refl;
+    open_yet = ready.open_yet;
+    owes = owes_nothing;
+    none_begun = ready.rests.conduct.none_begun;
+    live = refl;
+    due = ready.rests.served.nothing;
+    read = ready.rests.read;
+    flushed = flushed;
+  })
+
+  -- ---- octets depart from the preface, or a length is too long
+
+  no_resets : (breach : Breach) → resets_in setup false (told_by s) (Breached breach) ≡ []
+  no_resets breach = no_reset_for 0 (next_brief setup false 0 (told_by s) (Breached breach)).head_out ((told_by s).stream 0).brief.cause
+
+  breaks : (breach : Breach) (code : ℕ) → fault_in (told_by s) (Breached breach) ≡ Some (Connection code) → owes_in setup false (told_by s) (Breached breach) ≡ goaway (highest_in (told_by s).opened) code ∷ [] → Ends setup run s (Breaks breach)
+  breaks breach code found owes = erred (Breaks breach) code found (record {
+    allowed = (all, may_here (Breaks breach) (may_break setup (summary_at setup (Does (Breaks breach) ∷ run)) s ready breach));
+    ends = refl;
+    open_yet = ready.open_yet;
+    owes = owes;
+    none_begun = ready.rests.conduct.none_begun;
+    live = refl;
+    due = ready.rests.served.nothing;
+    read = ready.rests.read;
+    flushed = flushed;
+  })
+
+  pub breach_ends : (breach : Breach) → Ends setup run s (Breaks breach)
+  breach_ends WrongPreface = breaks WrongPreface protocol_error refl (ap (λ (fs : List Frame). goaway (highest_in (told_by s).opened) protocol_error ∷ (fs ++ [])) (no_resets WrongPreface))
+  breach_ends TooLong = breaks TooLong frame_size_error refl (ap (λ (fs : List Frame). goaway (highest_in (told_by s).opened) frame_size_error ∷ (fs ++ [])) (no_resets TooLong))
+
+-- ---- by the state that stands behind the moves
+
+pub client_leads : (setup : Setup) (run : List Move) (s : State) → Stands setup run s → IsReady s → Ends setup run s (Notes ClientEnd)
+client_leads setup run s stands ready =
+    subst (λ (x : State). Ends setup run x (Notes ClientEnd)) stands.is
+    (client_ends setup run stands.allowed (subst IsReady (sym stands.is) ready) (ap (λ (x : State). x.desk.book.ends) stands.is ∙ stands.goes_on))
+
+pub breach_leads : (setup : Setup) (run : List Move) (s : State) (breach : Breach) → Stands setup run s → IsReady s → Ends setup run s (Breaks breach)
+breach_leads setup run s breach stands ready =
+    subst (λ (x : State). Ends setup run x (Breaks breach)) stands.is
+    (breach_ends setup run stands.allowed (subst IsReady (sym stands.is) ready) (ap (λ (x : State). x.desk.book.ends) stands.is ∙ stands.goes_on) breach)

@@ -1,0 +1,76 @@
+-- The end of the connection: behind the entry that ends it goes the farewell that is owed, then a close for each open upstream
+-- connection, then that for the client.
+use Rattle.std.specs.Prelude.{◌≡◌, true, false, List, [], ◌∷◌, ◌++◌, Option, Some}
+use Rattle.model.specs.Frames.{Frame, goaway}
+use Rattle.model.specs.Setup.{Setup}
+use Rattle.model.specs.Tables.{Table}
+use Rattle.model.specs.Logs.Act.{Close, CloseClient}
+use Rattle.model.specs.Tapes.{Noted, Entry}
+use Rattle.model.specs.Tapes.Entry.{Came, Sent, Did}
+use Rattle.model.specs.Decoding.{is_read}
+use Rattle.model.specs.ErrorClause.{is_fatal}
+use Rattle.model.specs.Errors.{Fault}
+use Rattle.model.specs.Errors.Fault.{Connection}
+use Rattle.conduct.specs.Summary.{Summary}
+use Rattle.conduct.specs.Owing.{fault_in, highest_in, opened_after}
+use Rattle.conduct.specs.Quiet.{noted_of}
+use Rattle.serving.specs.State.{Live}
+use Rattle.tables.specs.Rule as tables
+use Rattle.tables.specs.Verdicts.{verdict_in}
+use Rattle.policy.specs.Moves.{Deed, Move, entry_of}
+use Rattle.policy.specs.Moves.Deed.{Sends, Acts}
+use Rattle.policy.specs.Moves.Move.{Does}
+use Rattle.policy.specs.State.{State, tape_of}
+use Rattle.policy.specs.Rule.{AllAllowed, RestsBehind}
+use Rattle.policy.specs.Steps.{told_by}
+
+-- the farewell to a client that made an error of the connection: its last stream, and the error's code (RFC 9113, section 5.4.1)
+abbrev pub farewell_for : Summary → Entry → Option Fault → List Frame
+farewell_for s e (Some (Connection code)) = goaway (highest_in (opened_after s e)) code ∷ []
+farewell_for s e found = []
+
+-- the farewell that a deed calls for
+abbrev pub farewell_by : State → Deed → List Frame
+farewell_by s d = farewell_for (told_by s) (entry_of d) (fault_in (told_by s) (entry_of d))
+
+-- frames of no header block are sent; the newest move stands first
+abbrev pub sent_all : Table → List Frame → List Move
+sent_all table [] = []
+sent_all table (frame ∷ frames) = sent_all table frames ++ Does (Sends (noted_of frame) table) ∷ []
+
+abbrev pub farewell_of : State → Deed → List Move
+farewell_of s d = sent_all s.tables.encoding.table (farewell_by s d)
+
+-- each open connection is closed, in their order
+abbrev pub closes_of : List Live → List Move
+closes_of [] = []
+closes_of (live ∷ lives) = closes_of lives ++ Does (Acts (Close live.k)) ∷ []
+
+-- the moves behind a deed that ends the connection
+abbrev pub ending_of : State → Deed → List Move
+ending_of s d = Does (Acts CloseClient) ∷ (closes_of s.requests.live ++ farewell_of s d)
+
+-- what they leave on the tape, with the deed's entry: the newest stands first
+abbrev pub frames_sent : List Frame → List Entry
+frames_sent [] = []
+frames_sent (frame ∷ frames) = frames_sent frames ++ Sent (noted_of frame) ∷ []
+
+abbrev pub closed_all : List Live → List Entry
+closed_all [] = []
+closed_all (live ∷ lives) = closed_all lives ++ Did (Close live.k) ∷ []
+
+abbrev pub ending_on_tape : State → Deed → List Entry
+ending_on_tape s d = Did CloseClient ∷ (closed_all s.requests.live ++ (frames_sent (farewell_by s d) ++ entry_of d ∷ []))
+
+-- The deed, and the end behind it, come by the rule; behind them the gateway rests, and this is on the tape.
+pub record Ends (setup : Setup) (run : List Move) (s : State) (d : Deed) : Type 0 where
+  pub allowed : AllAllowed setup (ending_of s d ++ Does d ∷ run)
+  pub rests : RestsBehind setup (ending_of s d ++ Does d ∷ run)
+  pub tape : tape_of (ending_of s d ++ Does d ∷ run) ≡ ending_on_tape s d ++ tape_of run
+
+-- A frame of the client is an error of the connection: it has the note of its header block, which was read unless the error is one
+-- before that.
+pub record IsFatal (s : State) (noted : Noted) (next : Table) : Type 0 where
+  pub fatal : is_fatal (fault_in (told_by s) (Came noted)) ≡ true
+  pub noted_right : tables.IsTaken s.tables noted (verdict_in (told_by s) noted.frame) next
+  pub read : is_read noted.note ≡ false → (verdict_in (told_by s) noted.frame).is_error ≡ true

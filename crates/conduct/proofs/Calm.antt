@@ -43,7 +43,7 @@ AreFatal [] = Unit {0}
 AreFatal (row ∷ rows) = IsFatalRow row × AreFatal rows
 
 -- where the entry is no error of the connection, none of such rows is a fault
-calm : (rows later : List (Option Fault)) (last : Option Fault) → AreFatal rows → is_fatal (or_else (first_of (rows ++ later)) last) ≡ false → first_of rows ≡ None
+pub calm : (rows later : List (Option Fault)) (last : Option Fault) → AreFatal rows → is_fatal (or_else (first_of (rows ++ later)) last) ≡ false → first_of rows ≡ None
 calm [] later last fatal none = refl
 calm (None ∷ rows) later last fatal none = calm rows later last fatal.1 none
 calm (Some (Connection code) ∷ rows) later last fatal none = absurd (let no : true ≡ false = none in cc)
@@ -153,7 +153,7 @@ both_fatal (row ∷ rows) more fatal later = (fatal.0, both_fatal rows more fata
 abbrev pub early_rows : Summary → Noted → List (Option Fault)
 early_rows s noted = rows_before_block_in s noted.frame ++ fault_if (is_undecodable noted.note) (Connection compression_error) ∷ []
 
-early_fatal : (s : Summary) (noted : Noted) → AreFatal (early_rows s noted)
+pub early_fatal : (s : Summary) (noted : Noted) → AreFatal (early_rows s noted)
 early_fatal s noted =
     both_fatal (rows_before_block_in s noted.frame) (fault_if (is_undecodable noted.note) (Connection compression_error) ∷ []) (before_fatal s noted.frame) (fatal_if _ compression_error, tt)
 
@@ -165,7 +165,7 @@ looked_none f (other ∷ ids) id none =
     let parts = or_parts (other == id) (list_any (λ o. o == id) ids) none in
     ap (λ b. if b then Some (state_in (f other)) else state_of id (states f ids)) parts.0 ∙ looked_none f ids id parts.1
 
-idle_standing : (s : Summary) (id : ℕ) → may_open s.opened id ≡ true → standing_in s id ≡ Idle
+pub idle_standing : (s : Summary) (id : ℕ) → may_open s.opened id ≡ true → standing_in s id ≡ Idle
 idle_standing s id may =
     let parts = and_parts (id % 2 == 1 && list_all (λ other. nat_lt other id) s.opened) (nat_lt (length s.opened) most_streams) may in
     let both = and_parts (id % 2 == 1) (list_all (λ other. nat_lt other id) s.opened) parts.0 in
@@ -192,7 +192,7 @@ pub record IsIdleFrame (brief : Brief) (s : Summary) (noted : Noted) : Type 0 wh
   pub no_fault : fault_for brief s (Came noted) ≡ None
 
 -- rows of which none is a fault may be left out
-skip : (rows later : List (Option Fault)) → first_of rows ≡ None → first_of (rows ++ later) ≡ first_of later
+pub skip : (rows later : List (Option Fault)) → first_of rows ≡ None → first_of (rows ++ later) ≡ first_of later
 skip [] later none = refl
 skip (None ∷ rows) later none = skip rows later none
 skip (Some fault ∷ rows) later none = absurd (cc)

@@ -1,0 +1,42 @@
+-- The code's values as the rule of what is on offer has them.
+use Rattle.std.specs.Prelude.{◌≡◌, ◌≤◌, Bool, true, false, drop, length}
+use Rattle.model.specs.ResponseHeads.{Head}
+use Rattle.offering.specs.Outbox.{Outbox, News}
+use Rattle.offering.specs.Outbox as rule
+use Rattle.outbox.specs.declared.outbox.Place.{Place}
+use Rattle.outbox.specs.declared.outbox.Place.TheVariants as place
+use Rattle.outbox.specs.declared.part.Part.{Part}
+use Rattle.outbox.specs.declared.part.Part.TheVariants as part
+
+-- an outbox: the octets of the body behind those that were sent
+abbrev pub outbox_in : Place → Outbox
+outbox_in (place.Before interims head body whole) = rule.Outbox.Before interims.items head body.items whole
+outbox_in (place.Behind body sent whole) = rule.Outbox.Behind (drop sent body.items) whole
+outbox_in place.Over = rule.Outbox.Over
+
+-- No more octets were sent than there are.
+abbrev pub IsKept : Place → Type 0
+IsKept (place.Behind body sent whole) = sent ≤ length body.items
+IsKept _ = Unit {0}
+
+-- the next part
+abbrev pub part_in : Part → rule.Part
+part_in (part.Early head) = rule.Part.Early head.now
+part_in (part.Final head ends) = rule.Part.Final head.now ends
+part_in (part.Octets octets ends) = rule.Part.Octets octets.now ends
+
+-- The part is this head.
+abbrev pub IsHead : Head → rule.Part → Type 0
+IsHead head (rule.Part.Early other) = head ≡ other
+IsHead head (rule.Part.Final other ends) = head ≡ other
+IsHead head (rule.Part.Octets octets ends) = ⊥
+
+-- The part is octets of the body.
+abbrev pub AreOctets : rule.Part → Type 0
+AreOctets (rule.Part.Octets octets ends) = Unit {0}
+AreOctets part = ⊥
+
+-- the final head was sent
+abbrev pub is_begun : Outbox → Bool
+is_begun (rule.Outbox.Before interims head body whole) = false
+is_begun _ = true

@@ -1,0 +1,10 @@
+//! What is on offer for a stream and wasn't sent yet, in code: heads, octets of a body, and the end.
+#![tactic(auto)]
+
+mod outbox;
+mod part;
+#[cfg(test)]
+mod tests;
+
+pub use crate::outbox::Outbox;
+pub use crate::part::Part;

@@ -1,0 +1,241 @@
+//! The outbox of a stream.
+
+ghost use Rattle.std.specs.Prelude.{◌≡◌, ◌<◌, ◌≤◌, ◌&&◌, [], ◌∷◌, ◌++◌, true, false, None, Some, option_map, length, drop, MatchOption, OnOk, OnErr};
+ghost use Rattle.model.specs.Octets.{is_empty};
+ghost use Rattle.model.specs.ResponseHeads.{Head};
+ghost use Rattle.offering.specs.Outbox.{silent, grown, can_go, part_of, left, rest_of};
+ghost use Rattle.offering.specs.Outbox as rule;
+ghost use Rattle.outbox.specs.Views.{outbox_in, part_in, is_begun, IsKept, IsHead, AreOctets};
+
+use crate::part::Part;
+use h1_reader::ResponseHead;
+use std::alloc::{AllocError, Global};
+use std::collections::VecDeque;
+use std::marker::Model;
+use std::mem;
+
+/// How far a response was sent.
+#[derive(Drop)]
+enum Place {
+    /// No final head was sent: interim heads, the final head if it is on offer, octets behind it, and whether it is whole with them.
+    Before(VecDeque<ResponseHead>, Option<ResponseHead>, Vec<u8>, bool),
+    /// The final head was sent: octets behind it, how many of them were sent, and whether the response is whole with them.
+    Behind(Vec<u8>, usize, bool),
+    /// All was sent, with the end.
+    Over,
+}
+
+/// What is on offer for a stream and wasn't sent yet. A clause sees it as the rule of responses does: interim heads, the final head
+/// and octets of its body, and whether the response is whole with them.
+#[derive(Drop)]
+pub struct Outbox {
+    place: Place,
+}
+
+impl Model for Outbox {
+    ghost use Rattle.offering.specs.Outbox.{Outbox};
+    ghost use Rattle.outbox.specs.Views.{outbox_in, IsKept};
+
+    ghost Value = { Outbox };
+
+    ghost view = { λ outbox. outbox_in outbox.place };
+
+    ghost invariant = { λ outbox. IsKept outbox.place };
+}
+
+/// The parts of a body behind one another, of which the first is empty in most cases.
+fn append(body: &mut Vec<u8>, more: Vec<u8>) -> Result<(), AllocError>
+    ensures ok { OnOk result (body.new.items ≡ body.old.items ++ more.items) }
+    ensures err { OnErr result (body.new.items ≡ body.old.items) }
+{
+    if body.is_empty() {
+        *body = more;
+        return Ok(());
+    }
+    body.extend_from_slice(&more)
+}
+
+/// The same behind those that were sent.
+fn append_behind(body: &mut Vec<u8>, sent: &mut usize, more: Vec<u8>) -> Result<(), AllocError>
+    requires { sent.old ≤ length body.old.items }
+    ensures ok { OnOk result (drop sent.new body.new.items ≡ drop sent.old body.old.items ++ more.items) }
+    ensures err { OnErr result (drop sent.new body.new.items ≡ drop sent.old body.old.items) }
+    ensures kept { sent.new ≤ length body.new.items }
+{
+    if *sent == body.len() {
+        *body = more;
+        *sent = 0;
+        return Ok(());
+    }
+    body.extend_from_slice(&more)
+}
+
+/// What is left behind a final head.
+fn behind(body: Vec<u8>, whole: bool) -> Place
+    ensures is { outbox_in result ≡ rest_of body.items whole (whole && is_empty body.items) }
+    ensures kept { IsKept result }
+{
+    if whole && body.is_empty() {
+        Place::Over
+    } else {
+        Place::Behind(body, 0, whole)
+    }
+}
+
+impl Outbox {
+    /// Nothing is on offer yet.
+    pub fn new(alloc: Global) -> Outbox
+        ensures { result ≡ silent }
+    {
+        Outbox {
+            place: Place::Before(VecDeque::new(alloc), None, Vec::new(alloc), false),
+        }
+    }
+
+    /// One interim head more is on offer, where the final head wasn't sent. An `Err` says that memory was refused; it changes nothing.
+    pub fn add_interim(&mut self, head: ResponseHead) -> Result<(), AllocError>
+        ensures added { OnOk result (self.new ≡ grown self.old (record { interims = head ∷ []; head = None; body = []; ends = false })) }
+        ensures unchanged { OnErr result (self.new ≡ self.old) }
+    {
+        match &mut self.place {
+            Place::Before(interims, _, _, _) => interims.push_back(head)?,
+            _ => {}
+        }
+        Ok(())
+    }
+
+    /// More of a response is on offer: its final head, where none was, octets of its body, and its end. An `Err` says that memory was
+    /// refused; it changes nothing.
+    pub fn add(
+        &mut self,
+        head: Option<ResponseHead>,
+        body: Vec<u8>,
+        ends: bool,
+    ) -> Result<(), AllocError>
+        ensures added { OnOk result (self.new ≡ grown self.old (record { interims = []; head = head; body = body.items; ends = ends })) }
+        ensures unchanged { OnErr result (self.new ≡ self.old) }
+    {
+        match &mut self.place {
+            Place::Before(_, first, octets, whole) => {
+                append(octets, body)?;
+                if first.is_none() {
+                    *first = head;
+                }
+                *whole = *whole || ends;
+            }
+            Place::Behind(octets, sent, whole) => {
+                append_behind(octets, sent, body)?;
+                *whole = *whole || ends;
+            }
+            Place::Over => {}
+        }
+        Ok(())
+    }
+
+    /// The gateway answers the stream itself, with this head and nothing behind it: it takes the place of all that is on offer.
+    pub fn reply(&mut self, alloc: Global, head: ResponseHead)
+        ensures { self.new ≡ rule.Outbox.Before [] (Some head) [] true }
+    {
+        self.place = Place::Before(VecDeque::new(alloc), Some(head), Vec::new(alloc), true);
+    }
+
+    /// Whether the final head of a response was sent.
+    pub fn is_begun(&self) -> bool
+        ensures { result ≡ is_begun self.now }
+    {
+        !matches!(self.place, Place::Before(_, _, _, _))
+    }
+
+    /// Whether something can go; octets only where both of the stream's windows are open (RFC 9113, section 6.9.1).
+    #[tactic(auto, using(crate::proofs::Sent::goes_on, crate::proofs::Sent::goes_at_end))]
+    pub fn can_go(&self, windows_open: bool) -> bool
+        ensures { result ≡ can_go windows_open self.now }
+    {
+        match &self.place {
+            Place::Before(interims, head, _, _) => !interims.is_empty() || head.is_some(),
+            Place::Behind(body, sent, whole) => {
+                if *sent < body.len() {
+                    windows_open
+                } else {
+                    *whole
+                }
+            }
+            Place::Over => false,
+        }
+    }
+
+    /// The part that goes next, where so many octets of the body may; it has the end where nothing is held behind it. There is none
+    /// just where nothing is on offer that can go, whatever the windows are.
+    pub fn next(&self, most: usize) -> Option<Part<'_>>
+        ensures { option_map part_in result ≡ part_of most self.now }
+    {
+        match &self.place {
+            Place::Before(interims, head, body, whole) => match interims.front() {
+                Some(first) => Some(Part::Early(first)),
+                None => head
+                    .as_ref()
+                    .map(|head| Part::Final(head, *whole && body.is_empty())),
+            },
+            Place::Behind(body, sent, whole) => octets_at(&body[*sent..], most, *whole),
+            Place::Over => None,
+        }
+    }
+
+    /// Takes the head that goes next, and leaves what is behind it. There is none where octets are next, or nothing is.
+    pub fn take_head(&mut self) -> Option<ResponseHead>
+        ensures { MatchOption result (self.new ≡ self.old) (λ head. (part : rule.Part) × (part_of 1 self.old ≡ Some part) × IsHead head part × (self.new ≡ left self.old part)) }
+    {
+        match mem::replace(&mut self.place, Place::Over) {
+            Place::Before(mut interims, head, body, whole) => {
+                if let Some(first) = interims.pop_front() {
+                    self.place = Place::Before(interims, head, body, whole);
+                    return Some(first);
+                }
+                let Some(head) = head else {
+                    self.place = Place::Before(interims, None, body, whole);
+                    return None;
+                };
+                self.place = behind(body, whole);
+                Some(head)
+            }
+            place => {
+                self.place = place;
+                None
+            }
+        }
+    }
+
+    /// The octets that `next` answers for `most` were sent.
+    pub fn drop_octets(&mut self, most: usize)
+        ensures { (part : rule.Part) → part_of most self.old ≡ Some part → AreOctets part → self.new ≡ left self.old part }
+    {
+        if let Place::Behind(body, sent, whole) = &mut self.place {
+            let rest = body.len() - *sent;
+            if most < rest {
+                *sent += most;
+            } else if *whole {
+                self.place = Place::Over;
+            } else {
+                *sent = body.len();
+            }
+        }
+    }
+}
+
+/// So many octets of a body at most, or its end.
+fn octets_at(body: &[u8], most: usize, whole: bool) -> Option<Part<'_>>
+    ensures { option_map part_in result ≡ part_of most (rule.Outbox.Behind body.now whole) }
+{
+    if body.is_empty() {
+        return if whole {
+            Some(Part::Octets(body, true))
+        } else {
+            None
+        };
+    }
+    if body.len() <= most {
+        Some(Part::Octets(body, whole))
+    } else {
+        Some(Part::Octets(&body[..most], false))
+    }
+}

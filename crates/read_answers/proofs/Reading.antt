@@ -104,21 +104,21 @@ told_shown passing text parts state s = elim (cases_Bool (is_done parts)) [ inl 
 
 -- ---- news
 
-interims_more : (a b : List Part) → interims_of (a ++ b) ≡ interims_of a ++ interims_of b
+pub interims_more : (a b : List Part) → interims_of (a ++ b) ≡ interims_of a ++ interims_of b
 interims_more [] b = refl
 interims_more (Interim head ∷ a) b = ap (λ x. head ∷ x) (interims_more a b)
 interims_more (Final head ∷ a) b = interims_more a b
 interims_more (Body octets ∷ a) b = interims_more a b
 interims_more (Done ∷ a) b = interims_more a b
 
-head_more : (a b : List Part) → head_of (a ++ b) ≡ first_head (head_of a) (head_of b)
+pub head_more : (a b : List Part) → head_of (a ++ b) ≡ first_head (head_of a) (head_of b)
 head_more [] b = refl
 head_more (Interim head ∷ a) b = head_more a b
 head_more (Final head ∷ a) b = refl
 head_more (Body octets ∷ a) b = head_more a b
 head_more (Done ∷ a) b = head_more a b
 
-body_more : (a b : List Part) → body_of (a ++ b) ≡ body_of a ++ body_of b
+pub body_more : (a b : List Part) → body_of (a ++ b) ≡ body_of a ++ body_of b
 body_more [] b = refl
 body_more (Interim head ∷ a) b = body_more a b
 body_more (Final head ∷ a) b = body_more a b

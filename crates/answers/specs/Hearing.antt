@@ -1,0 +1,45 @@
+-- What octets of an upstream come to, and the end of its connection.
+use Rattle.std.specs.Prelude.{◌≡◌, ℕ, ◌<◌, ◌≤◌, ◌⊎◌, Bool, true, false, List, ◌++◌, length, Some}
+use Rattle.offering.specs.Outbox.{Outbox, grown}
+use Rattle.h1_reader.specs.Parts.{Part}
+use Rattle.h1_reader.specs.Standing.{State as Reader, Hears, Breaks, IsEnd, is_done}
+use Rattle.h1_reader.specs.declared.reader.Ended.TheVariants as reader
+use Rattle.read_answers.specs.Telling.{body_of, news_of, news_at_end}
+use Rattle.answers.specs.Waiting.{Answer, passing_in, limit_in, Waits}
+use Rattle.answers.specs.declared.answer.Heard.{Heard}
+use Rattle.answers.specs.declared.answer.Heard.TheVariants.{GoesOn, Whole, Failed}
+use Rattle.answers.specs.declared.answer.Ended.{Ended}
+use Rattle.answers.specs.declared.answer.Ended.TheVariants.{Complete, Short}
+
+-- The octets tell more of the response, which is whole with them or isn't: what is news of that is on offer behind them, and what waits
+-- is what waits of all that was told. A body that is passed on whole has no more octets than it may.
+pub record Tells (old : Answer) (octets : List ℕ) (box : Outbox) (done : Bool) (new : Answer) (box' : Outbox) : Type 0 where
+  pub added : List Part
+  pub hears : Hears old.reader octets added new.reader
+  pub same : new.way ≡ old.way
+  pub ends : is_done added ≡ done
+  pub fits : (parts : List Part) (most : ℕ) → Waits (passing_in old.way) parts old → limit_in old.way ≡ Some most → length (body_of (parts ++ added)) ≤ most
+  pub waits : (parts : List Part) → Waits (passing_in old.way) parts old → done ≡ false → Waits (passing_in old.way) (parts ++ added) new
+  pub offers : (parts : List Part) → Waits (passing_in old.way) parts old → box' ≡ grown box (news_of (passing_in old.way) parts added)
+
+-- With the octets its body has more of them than a response that is passed on whole may have.
+pub record IsTooLong (old : Answer) (octets : List ℕ) : Type 0 where
+  pub added : List Part
+  pub new : Reader
+  pub hears : Hears old.reader octets added new
+  pub most : ℕ
+  pub limit : limit_in old.way ≡ Some most
+  pub long : (parts : List Part) → Waits (passing_in old.way) parts old → most < length (body_of (parts ++ added))
+
+-- What octets come to. Where the answer fails, nothing of them is on offer.
+abbrev pub IsHeard : Answer → List ℕ → Outbox → Heard → Answer → Outbox → Type 0
+IsHeard old octets box GoesOn new box' = Tells old octets box false new box'
+IsHeard old octets box Whole new box' = Tells old octets box true new box'
+IsHeard old octets box Failed new box' = (box' ≡ box) × (Breaks old.reader octets ⊎ IsTooLong old octets)
+
+-- What the end of the connection comes to: the response is whole with it, and then all that waited is on offer, with the end; or it
+-- isn't.
+abbrev pub IsEnded : Answer → Outbox → Ended → Outbox → Type 0
+IsEnded old box Complete box' =
+    IsEnd reader.Complete old.reader × ((parts : List Part) → Waits (passing_in old.way) parts old → box' ≡ grown box (news_at_end (passing_in old.way) parts))
+IsEnded old box Short box' = IsEnd reader.Short old.reader × (box' ≡ box)

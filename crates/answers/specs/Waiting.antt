@@ -1,0 +1,53 @@
+-- What waits of an answer for its end, where responses are passed on whole.
+use Rattle.std.specs.Prelude.{◌≡◌, ℕ, ◌<◌, ◌≤◌, true, false, List, [], ◌++◌, length, Option, Some, None}
+use Rattle.model.specs.ResponseHeads.{Head}
+use Rattle.model.specs.Setup.{Passing}
+use Rattle.model.specs.Setup.Passing.{Whole, Streaming}
+use Rattle.offering.specs.Outbox.{News, first_head}
+use Rattle.h1_reader.specs.Parts.{Part}
+use Rattle.h1_reader.specs.Standing.{State as Reader}
+use Rattle.read_answers.specs.Telling.{interims_of, head_of, body_of}
+use Rattle.answers.specs.declared.answer.Passing.{Passing as Way}
+use Rattle.answers.specs.declared.answer.Passing.TheVariants as way
+
+-- An answer: its reader, how it is passed on, and the head and the octets of the body that wait for its end.
+pub record Answer : Type 0 where
+  pub reader : Reader
+  pub way : Way
+  pub head : Option Head
+  pub body : List ℕ
+
+-- how responses are passed on
+abbrev pub passing_in : Way → Passing
+passing_in (way.Whole most) = Whole
+passing_in way.Streaming = Streaming
+
+-- the most octets of a body that is passed on whole
+abbrev pub limit_in : Way → Option ℕ
+limit_in (way.Whole most) = Some most
+limit_in way.Streaming = None
+
+-- What waits, once these parts were told: of a response that is passed on whole its head and its body, of another nothing.
+abbrev pub Waits : Passing → List Part → Answer → Type 0
+Waits Whole parts answer = (answer.head ≡ head_of parts) × (answer.body ≡ body_of parts)
+Waits Streaming parts answer = (answer.head ≡ None) × (answer.body ≡ [])
+
+-- what waits once a head and a body are told
+abbrev pub waiting : Passing → Answer → Option Head → List ℕ → Answer
+waiting Whole answer head body = record answer { head = first_head answer.head head; body = answer.body ++ body }
+waiting Streaming answer head body = answer
+
+-- what goes on offer at once of parts of a response that isn't whole yet
+abbrev pub news_at_once : Passing → List Part → News
+news_at_once Whole parts = record { interims = interims_of parts; head = None; body = []; ends = false }
+news_at_once Streaming parts = record { interims = interims_of parts; head = head_of parts; body = body_of parts; ends = false }
+
+-- A body has more octets than one that is passed on whole may have.
+abbrev pub IsPast : Way → List ℕ → Type 0
+IsPast (way.Whole most) body = most < length body
+IsPast way.Streaming body = ⊥
+
+-- It has no more.
+abbrev pub IsWithin : Way → List ℕ → Type 0
+IsWithin (way.Whole most) body = length body ≤ most
+IsWithin way.Streaming body = Unit {0}

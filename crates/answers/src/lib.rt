@@ -1,0 +1,8 @@
+//! The answer of an upstream, read as it comes and put on offer for its stream.
+#![tactic(auto)]
+
+mod answer;
+#[cfg(test)]
+mod tests;
+
+pub use crate::answer::{Answer, Ended, Heard, Passing};

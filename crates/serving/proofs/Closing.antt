@@ -91,7 +91,7 @@ module _ (known : Known) (t : List Entry) (s : State) (h : Stands known t s) whe
 
     -- the way of a request behind that
     way_dropped : (stream : ℕ) (way : Way) → IsOnWay known t s stream way → IsOnWay known (e ∷ t) u stream (dropped k way)
-    way_dropped stream (Waiting route text stage) w = stays stream (Waiting route text stage) (λ j x e. cc) w
+    way_dropped stream (Waiting route text stage body) w = stays stream (Waiting route text stage body) (λ j x e. cc) w
     way_dropped stream Dropped w = stays stream Dropped (λ j x e. cc) w
     way_dropped stream (Going j stage) w = elim (eqb_tells j k) [
       | inl same ↦ subst (λ b. IsOnWay known (e ∷ t) u stream (if b then Dropped else Going j stage)) (sym same.0) (record { o = w.o; given = record { is_opened = subst (IsIn w.o) (sym same_opens) w.given.is_opened; is_given = w.given.is_given }; gone = subst (λ n. live_of n u.live ≡ None) (sym (w.number ∙ same.1)) gone_now })

@@ -22,7 +22,7 @@ use Rattle.model.proofs.ItemLaws.{items_stay}
 use Rattle.serving.proofs.Telling.{told_by}
 use Rattle.serving.proofs.Writing.{ends_behind}
 use Rattle.serving.proofs.Clauses.{clauses_hold}
-use Rattle.serving.proofs.RunMoves.{known, get, post, get_text, post_text, post_whole, m1, reset, m2, m3, m4, m5, m6, m7, m8}
+use Rattle.serving.proofs.RunMoves.{known, get, post, get_text, post_text, body_text, post_whole, m1, reset, m2, m3, m4, m5, m6, m7, m8}
 
 -- ---- they are allowed
 
@@ -61,9 +61,9 @@ text_ends parts ended text pieces s = record {
       ∙ ap (λ b. head_of parts b ++ content_of parts.length b (pieces ++ [])) (sym s.not_ended);
 }
 
--- the last octets, and the end behind them
-body_ends : Continues Chunking (chunk_text (codes "llo") ++ last_chunk) (codes "llo") Whole
-body_ends = ends_behind Chunking Chunking Whole (chunk_text (codes "llo")) last_chunk (codes "llo") (chunk_goes (codes "llo") (omega arith)) text_ends
+-- the whole body, and the end behind it
+body_ends : Continues Chunking body_text (codes "hello") Whole
+body_ends = ends_behind Chunking Chunking Whole (chunk_text (codes "hello")) last_chunk (codes "hello") (chunk_goes (codes "hello") (omega arith)) text_ends
 
 -- the frame's stream is served behind a move with these
 pub serving_on : (told : Told) (noted : Noted) → 0 < noted.frame.id → told.served noted.frame.id ≡ true → told.ends ≡ false → IsServing told noted
@@ -73,7 +73,7 @@ a2 : AreAllowed known.setup m2
 a2 = (a1, record { open_yet = refl; may = (calm _ _ refl refl refl, record { serving = serving_on _ _ (omega arith) refl refl; by_route = first_route; sending = post_begun; whole = refl }) })
 
 a3 : AreAllowed known.setup m3
-a3 = (a2, record { open_yet = refl; may = (calm _ _ refl refl refl, record { serving = serving_on _ _ (omega arith) refl refl; found = refl; continues = chunk_goes (codes "he") (omega arith); whole = refl }) })
+a3 = (a2, record { open_yet = refl; may = (calm _ _ refl refl refl, record { serving = serving_on _ _ (omega arith) refl refl; found = refl; gathered = (refl, refl) }) })
 
 a4 : AreAllowed known.setup m4
 a4 = (a3, record { open_yet = refl; may = (calm _ _ refl refl refl, record { serving = serving_on _ _ (omega arith) refl refl; by_route = first_route; sending = get_sent; whole = refl }) })
@@ -82,7 +82,7 @@ a5 : AreAllowed known.setup m5
 a5 = ((a4, record { open_yet = refl; may = record { stream = 3; text = get_text; stage = Whole; due = refl; next = refl } }), record { open_yet = refl; may = refl })
 
 a6 : AreAllowed known.setup m6
-a6 = (a5, record { open_yet = refl; may = (calm _ _ refl refl refl, record { serving = serving_on _ _ (omega arith) refl refl; found = refl; continues = body_ends; whole = refl }) })
+a6 = (a5, record { open_yet = refl; may = (calm _ _ refl refl refl, record { serving = serving_on _ _ (omega arith) refl refl; found = refl; gathered = (body_ends, refl) }) })
 
 a7 : AreAllowed known.setup m7
 a7 = ((a6, record { open_yet = refl; may = record { stream = 1; text = post_whole; stage = Whole; due = refl; next = refl } }), record { open_yet = refl; may = refl })

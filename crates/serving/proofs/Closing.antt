@@ -47,7 +47,7 @@ missing_without k n ls none = elim (eqb_tells k n) [
 ]
 
 -- what was held of a stream from which a connection is dropped
-drop_found : (k stream : ℕ) (hs : List Held) (x : Held) → held_of stream (map (drop_from k) hs) ≡ Some x → (old : Held) × (held_of stream hs ≡ Some old) × (x.way ≡ dropped k old.way)
+pub drop_found : (k stream : ℕ) (hs : List Held) (x : Held) → held_of stream (map (drop_from k) hs) ≡ Some x → (old : Held) × (held_of stream hs ≡ Some old) × (x.way ≡ dropped k old.way)
 drop_found k stream hs x e = by (held_of stream hs) refl (sym (find_map id_of (drop_from k) (λ h. refl) stream hs) ∙ e)
   where
     by : (o : Option Held) → held_of stream hs ≡ o → option_map (drop_from k) o ≡ Some x → (old : Held) × (held_of stream hs ≡ Some old) × (x.way ≡ dropped k old.way)
@@ -207,11 +207,11 @@ module _ (known : Known) (t : List Entry) (s : State) (h : Stands known t s) whe
       same_items = same;
       still_shut = λ j e. e;
       count = refl;
-      lives = λ o i g. lives_found known t (Did CloseClient) s s o g (λ x. x) refl refl g.lives;
+      lives = λ o i g. lives_found known t (Did CloseClient) s (after known.setup behind s (Acts CloseClient)) o g (λ x. x) refl refl g.lives;
       gone = λ o i g missing. (missing, reason_on known t (Did CloseClient) s o g (λ x. x));
       back = λ j there. there;
       not_fresh = λ j lt x. x;
-      held = λ stream x found. way_stays known t (Did CloseClient) s s stream x.way (same stream) refl (λ o g. text_same t (Did CloseClient) s s may.nothing may.nothing (λ j. refl) o.k) (λ j stage is there. there) (λ j none. none) (h.held stream x found);
+      held = λ stream x found. cc;
       goes = λ x. x;
       in_time = λ x. x;
       ends = λ e. e;

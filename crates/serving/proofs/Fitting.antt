@@ -6,7 +6,7 @@ use Rattle.std.proofs.lemmas.Bool.{leb-true, eqb-true}
 use Rattle.model.specs.Messages.{Field, Item}
 use Rattle.model.specs.Messages.Item.{Block}
 use Rattle.model.specs.Http2.{WellFormedTrailers, HasLength, is_connect, declared_length, body_of}
-use Rattle.model.specs.Malformed.{Carried, carried_by, is_well_formed, are_trailers, declared, has_length, is_within, is_malformed_block, is_malformed_content}
+use Rattle.model.specs.Malformed.{Carried, carried_by, is_well_formed, are_trailers, has_length, is_within, is_malformed_block, is_malformed_content}
 use Rattle.model.specs.Setup.{Setup}
 use Rattle.model.specs.Tapes.{Noted, Entry, came}
 use Rattle.model.specs.Tapes.Entry.{Came}

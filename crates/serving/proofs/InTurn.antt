@@ -1,5 +1,5 @@
 -- Something comes in only where the step might end: so the clauses hold before each thing that comes in.
-use Rattle.std.proofs.Common.{◌≡◌, true, false, List, [], ◌∷◌, sym, ◌∙◌, inr}
+use Rattle.std.proofs.Common.{◌≡◌, true, false, List, [], ◌∷◌, sym, ◌∙◌}
 use Rattle.model.specs.Known.{Known}
 use Rattle.model.specs.Headline.{HoldsInTurn}
 use Rattle.serving.specs.Told.{Told}

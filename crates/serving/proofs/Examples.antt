@@ -1,6 +1,6 @@
 -- A worked run, where requests are passed on whole: each of its moves is allowed and says what is so, by computation, and the clauses
 -- hold at its end.
-use Rattle.std.proofs.Common.{◌≡◌, ℕ, ◌<◌, true, false, not, List, [], ◌∷◌, ◌++◌, length, refl, sym, ap, ◌∙◌, subst, inl, arith, append_assoc, append-nil}
+use Rattle.std.proofs.Common.{◌≡◌, ℕ, ◌+◌, ◌<◌, true, false, not, List, [], ◌∷◌, ◌++◌, length, refl, sym, ap, ◌∙◌, subst, inl, arith, append_assoc, append-nil}
 use Rattle.std.specs.Prelude.{codes}
 use Rattle.std.specs.List.{list_any, list_all, flat_map, concat}
 use Rattle.model.specs.Tables.{total_size}
@@ -14,11 +14,12 @@ use Rattle.h1_writer.specs.Sending.{Sending, Continues, head_of, content_of, chu
 use Rattle.h1_writer.specs.Sending.Stage.{Whole, Chunking}
 use Rattle.h1_writer.proofs.Stages.{adds_chunk}
 use Rattle.serving.specs.Told.{Told}
-use Rattle.serving.specs.State.{State, tape_of}
+use Rattle.serving.specs.State.{State, state_of, tape_of}
 use Rattle.serving.specs.State.Due.{Nothing}
 use Rattle.serving.specs.Rule.{is_done, MayCome, IsServing, AreAllowed}
 use Rattle.serving.specs.Meaning.{AreSo, KeepClauses}
 use Rattle.model.proofs.ItemLaws.{items_stay}
+use Rattle.serving.specs.Held.{held_for, held_octets}
 use Rattle.serving.proofs.Telling.{told_by}
 use Rattle.serving.proofs.Writing.{ends_behind}
 use Rattle.serving.proofs.Clauses.{clauses_hold}
@@ -130,3 +131,22 @@ so8 = ((so7, sym (items_stay known 3 (tape_of m7) (Came reset) refl), told_by kn
 -- so the clauses hold at its end
 at_end : KeepClauses known (tape_of m8)
 at_end = clauses_hold known m8 a8 so8 (record { nothing = refl; none_done = refl; ended = λ e. cc })
+
+-- ---- what is held meanwhile
+
+-- of the POST its head's text waits, then two octets more; then all of it is due, and once it is out nothing is held
+head_held : held_for 1 (state_of known.setup m2) ≡ length (post_text [])
+head_held = refl
+
+octets_held : held_for 1 (state_of known.setup m3) ≡ length (post_text []) + 2
+octets_held = refl
+
+whole_due : held_for 1 (state_of known.setup m6) ≡ length post_whole
+whole_due = refl
+
+none_held : held_octets (state_of known.setup m7) ≡ 0
+none_held = refl
+
+-- the GET is due between, on its own stream
+get_due : held_octets (state_of known.setup m4) ≡ length (post_text []) + 2 + held_for 3 (state_of known.setup m4)
+get_due = refl

@@ -20,6 +20,7 @@ pub mod Clauses
 pub mod InTurn
 pub mod Connections
 pub mod Served
+pub mod Room
 pub mod Holding
 pub mod Sources
 pub mod Calling

@@ -245,7 +245,7 @@ apart_kept told (h ∷ hs) apart = by (told.served h.id) (apart_kept told hs apa
     by true more = (not_found (held_of h.id (kept told hs)) (λ x found. let clash : ◌≡◌ {A = Option Held} None (Some x) = sym apart.0 ∙ (held_kept told h.id hs x found).0 in cc), more)
     by false more = more
 
-apart_without : (n : ℕ) (hs : List Held) → AreApart hs → AreApart (without id_of n hs)
+pub apart_without : (n : ℕ) (hs : List Held) → AreApart hs → AreApart (without id_of n hs)
 apart_without n [] apart = tt
 apart_without n (h ∷ hs) apart = elim (eqb_tells h.id n) [
   | inl same ↦ subst (λ b. AreApart (if b then without id_of n hs else h ∷ without id_of n hs)) (sym same.0) (apart_without n hs apart.1)
@@ -326,7 +326,7 @@ one_less n (id ∷ ids) there = by (id == n) there (one_less n ids)
     by false e more = let less = more e in omega (arith, less)
 
 -- streams that are apart and among these are no more than these
-no_more : (hs : List Held) (ids : List ℕ) → AreApart hs → ((stream : ℕ) (x : Held) → held_of stream hs ≡ Some x → is_among stream ids ≡ true) → length hs ≤ length ids
+pub no_more : (hs : List Held) (ids : List ℕ) → AreApart hs → ((stream : ℕ) (x : Held) → held_of stream hs ≡ Some x → is_among stream ids ≡ true) → length hs ≤ length ids
 no_more [] ids apart among = omega arith
 no_more (h ∷ hs) ids apart among =
     let less = one_less h.id ids (among h.id h (ap (λ b. if b then Some h else held_of h.id hs) (eq-eqb h.id h.id refl))) in
@@ -339,7 +339,7 @@ no_more (h ∷ hs) ids apart among =
         among_filter (λ id. not (id == h.id)) stream ids (ap not (ne_eqb stream h.id (λ e. other (sym e)))) (among stream x (ap (λ b. if b then Some h else held_of stream hs) (ne_eqb h.id stream other) ∙ found))
 
 -- a stream that is active is among the active ones
-among_active : (stream : ℕ) (t : List Entry) → is_active stream t ≡ true → is_among stream (active t) ≡ true
+pub among_active : (stream : ℕ) (t : List Entry) → is_active stream t ≡ true → is_among stream (active t) ≡ true
 among_active stream t is = let parts = and_parts (is_opened stream t) (not (is_over stream t)) is in among_filter (λ id. not (is_over id t)) stream (opened t) parts.1 parts.0
 
 -- Of no more streams something is held than are active.

@@ -1,4 +1,5 @@
 use Rattle.serving.proofs.Holding as holding
+use Rattle.serving.proofs.Room as room
 use Rattle.serving.proofs.Served as streams
 use Rattle.serving.proofs.requests_are_bounded.Goals as goal
 
@@ -7,6 +8,9 @@ returns-clause-stream c = holding.held_by_body
 
 pub returns-clause-streaming : goal.returns-clause-streaming
 returns-clause-streaming c = holding.held_by_frame
+
+pub returns-clause-frames : goal.returns-clause-frames
+returns-clause-frames c = room.read_frames_fit
 
 pub returns-clause-apart : goal.returns-clause-apart
 returns-clause-apart c = streams.held_apart

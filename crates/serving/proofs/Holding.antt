@@ -153,6 +153,19 @@ module _ (known : Known) (t : List Entry) (s : State) (h : Stands known t s) (al
               let same = requests_found there.0.stream s.held x apart found in
               beside_one there.0.stream (length text) x found (omega (arith, one, same)) fits
 
+-- where requests are passed on as they come nothing waits but an octet that is held back
+streamed_one : (known : Known) (t : List Entry) (s : State) → Stands known t s → AreApart s.held → known.setup.passing ≡ Streaming → (stream : ℕ) → held_requests stream s.held ≤ 1
+streamed_one known t s h apart streaming stream = by (held_of stream s.held) refl
+  where
+    way_one : (way : Way) → IsOnWay known t s stream way → held_by way ≤ 1
+    way_one (Waiting route text stage body) w = absurd (let clash : WholePassing ≡ Streaming = sym w.whole_passing ∙ streaming in cc)
+    way_one (Going j stage) w = back_one stage
+    way_one Dropped w = omega arith
+
+    by : (o : Option Held) → held_of stream s.held ≡ o → held_requests stream s.held ≤ 1
+    by None none = let zero_held = requests_none stream s.held none in omega (arith, zero_held)
+    by (Some x) there = let same = requests_found stream s.held x apart there in let one = way_one x.way (h.held stream x there) in omega (arith, same, one)
+
 -- ---- along allowed moves
 
 module _ (known : Known) (turns : List Turn) (all : AreAllowed known.setup turns) (so : AreSo known turns) where
@@ -177,6 +190,9 @@ module _ (known : Known) (turns : List Turn) (all : AreAllowed known.setup turns
       stream_fits known (tape_of turns) kept_now (all_stand known turns all so) (held_served known turns all so) (held_apart known.setup turns) most_beside (omega arith)
       (λ passing. absurd (let clash : WholePassing ≡ Streaming = sym passing ∙ streaming in cc))
       (due_fits known most_beside (omega arith) turns all so (room_by_frame known streaming turns all so frames))
+
+  pub none_waits : known.setup.passing ≡ Streaming → (stream : ℕ) → held_requests stream kept_now.held ≤ 1
+  none_waits streaming stream = streamed_one known (tape_of turns) kept_now (all_stand known turns all so) (held_apart known.setup turns) streaming stream
 
   -- nothing is held for a stream that isn't served
   pub none_held : (stream : ℕ) → is_served known stream (tape_of turns) ≡ false → held_for stream kept_now ≡ 0

@@ -22,6 +22,7 @@ pub mod Connections
 pub mod Served
 pub mod Room
 pub mod Holding
+pub mod Counted
 pub mod Sources
 pub mod Calling
 pub mod Telling

@@ -1,3 +1,4 @@
+use Rattle.serving.proofs.Counted as connections
 use Rattle.serving.proofs.Holding as holding
 use Rattle.serving.proofs.Room as room
 use Rattle.serving.proofs.Served as streams
@@ -8,6 +9,9 @@ returns-clause-stream c = holding.held_by_body
 
 pub returns-clause-streaming : goal.returns-clause-streaming
 returns-clause-streaming c = holding.held_by_frame
+
+pub returns-clause-going : goal.returns-clause-going
+returns-clause-going c = holding.none_waits
 
 pub returns-clause-frames : goal.returns-clause-frames
 returns-clause-frames c = room.read_frames_fit
@@ -29,3 +33,6 @@ returns-clause-closed c = holding.none_at_close
 
 pub returns-clause-together : goal.returns-clause-together
 returns-clause-together c = holding.all_by_body
+
+pub returns-clause-connections : goal.returns-clause-connections
+returns-clause-connections c = connections.live_few

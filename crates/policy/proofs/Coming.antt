@@ -115,14 +115,14 @@ module _ (setup : Setup) (behind : Summary) (s : State) (ready : IsReady s) wher
   request_may : (noted : Noted) (gain : Gain) → IsGained setup behind s noted gain → requests.MayMove setup (told_in (told_by s)) (told_in behind) s.requests (gained noted gain)
   request_may noted Nothing g = requests_come
   request_may noted (Begins head ended route text stage) g = (requests_come, g.1)
-  request_may noted (Gathers item route text old written stage) g = (requests_come, g.1)
+  request_may noted (Gathers item route text old body written stage) g = (requests_come, g.1)
   request_may noted (Passes item k old written stage) g = (requests_come, g.1)
   request_may noted (Drops item) g = (requests_come, g.1)
 
   gains_of : (noted : Noted) (gain : Gain) → IsGained setup behind s noted gain → Gains setup (told_by s) noted gain
   gains_of noted Nothing g = g
   gains_of noted (Begins head ended route text stage) g = g.0
-  gains_of noted (Gathers item route text old written stage) g = g.0
+  gains_of noted (Gathers item route text old body written stage) g = g.0
   gains_of noted (Passes item k old written stage) g = g.0
   gains_of noted (Drops item) g = g.0
 

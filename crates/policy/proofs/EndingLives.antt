@@ -192,7 +192,7 @@ module _ (setup : Setup) (before behind : Told) (s : serving.State) (h : AreNumb
   numbered_behind : (m : serving.Move) → MayMove setup before behind s m → AreNumbered (serving.live_after s.live s.due m) (serving.count_after s.count m)
   numbered_behind (serving.Move.Takes noted) may = h
   numbered_behind (serving.Move.Begins noted head ended route text stage) may = h
-  numbered_behind (serving.Move.Gathers noted item route text old written stage) may = h
+  numbered_behind (serving.Move.Gathers noted item route text old body written stage) may = h
   numbered_behind (serving.Move.Passes noted item k old written stage) may = h
   numbered_behind (serving.Move.Drops noted item) may = h
   numbered_behind (serving.Move.Breaks breach) may = h

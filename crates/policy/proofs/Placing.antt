@@ -172,7 +172,7 @@ gained_so : (known : Known) (t : List Entry) (s : Summary) (noted : Noted) (gain
 gained_so known t s noted Nothing tells gains = none_added known t noted s tells.same tells.right gains
 gained_so known t s noted (Begins head ended route text stage) tells gains =
     (first_added known t noted s tells.same tells.right (Block head ended) gains, one_added known t noted s tells.same tells.right (Block head ended) gains.adds)
-gained_so known t s noted (Gathers item route text old written stage) tells gains = one_added known t noted s tells.same tells.right item gains
+gained_so known t s noted (Gathers item route text old body written stage) tells gains = one_added known t noted s tells.same tells.right item gains
 gained_so known t s noted (Passes item k old written stage) tells gains = one_added known t noted s tells.same tells.right item gains
 gained_so known t s noted (Drops item) tells gains = one_added known t noted s tells.same tells.right item gains
 

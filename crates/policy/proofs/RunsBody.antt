@@ -12,9 +12,7 @@ use Rattle.model.specs.Openings.{Opened}
 use Rattle.model.specs.Tapes.{Noted}
 use Rattle.model.specs.Tapes.Note.{Fields}
 use Rattle.model.specs.Tapes.Entry.{Came, Sent, Did}
-use Rattle.h1_writer.specs.Sending.{chunk_text}
 use Rattle.h1_writer.specs.Sending.Stage.{Whole, Chunking}
-use Rattle.h1_writer.proofs.Stages.{adds_chunk}
 use Rattle.conduct.specs.Summary.{Stream as Told}
 use Rattle.conduct.specs.Book.{Desk}
 use Rattle.conduct.specs.Rows.{Row, fresh}
@@ -51,12 +49,9 @@ post_head = record { frame = frame 1 4 3 (131 ∷ 134 ∷ 132 ∷ 190 ∷ []); n
 abbrev pub post_text : List ℕ
 post_text = codes "POST / HTTP/1.1\r\nhost: a\r\nvia: 2.0 h2gw\r\ntransfer-encoding: chunked\r\nconnection: close\r\n\r\n"
 
--- its first octets, and the text with them
+-- its first octets, which wait as they are
 abbrev pub first_octets : Noted
 first_octets = plain (frame 0 0 3 (codes "he"))
-
-abbrev pub text_so_far : List ℕ
-text_so_far = post_text ++ chunk_text (codes "he")
 
 -- what is given back
 abbrev pub shared_back : Noted
@@ -77,7 +72,7 @@ abbrev pub post_deed : Deed
 post_deed = Takes post_head decoded (Begins post false 0 post_text Chunking)
 
 abbrev pub first_deed : Deed
-first_deed = Takes first_octets decoded (Gathers (Content (codes "he") false) 0 post_text Chunking (chunk_text (codes "he")) Chunking)
+first_deed = Takes first_octets decoded (Gathers (Content (codes "he") false) 0 post_text Chunking [] [] Chunking)
 
 abbrev pub shared_deed : Deed
 shared_deed = Sends shared_back decoded
@@ -142,22 +137,22 @@ desk_of_all rows connections last room untaken = record {
 abbrev pub silent_one : ℕ → Kept
 silent_one id = record { id = id; box = silent; cut = false }
 
--- the POST waits with its text
+-- the POST waits with the text of its head and these octets of its body
 abbrev pub waiting : List ℕ → Held
-waiting text = record { id = 3; way = Waiting 0 text Chunking }
+waiting body = record { id = 3; way = Waiting 0 post_text Chunking body }
 
 abbrev pub at_begins : State
 at_begins = record at_forwarded {
   desk = desk_of_all (post_row 0 65535 ∷ get_row 1 ∷ []) (first_given ∷ []) 3 65535 30;
   offers = record at_forwarded.offers { kept = silent_one 1 ∷ silent_one 3 ∷ [] };
-  requests = record at_forwarded.requests { held = waiting post_text ∷ [] };
+  requests = record at_forwarded.requests { held = waiting [] ∷ [] };
   windows = record at_forwarded.windows { row = change 3 (λ r. blank) at_forwarded.windows.row; settled = false };
 }
 
 abbrev pub at_first : State
 at_first = record at_begins {
   desk = desk_of_all (post_row 2 65533 ∷ get_row 1 ∷ []) (first_given ∷ []) 3 65533 30;
-  requests = record at_begins.requests { held = waiting text_so_far ∷ [] };
+  requests = record at_begins.requests { held = waiting (codes "he") ∷ [] };
   windows = record at_begins.windows { count = 2 };
 }
 
@@ -424,8 +419,7 @@ first_may = record {
       record {
         serving = record { counted = omega arith; served = refl; goes_on = refl };
         found = refl;
-        continues = adds_chunk Chunking (codes "he") refl (omega arith);
-        whole = refl;
+        gathered = (refl, refl);
       },
     );
   };

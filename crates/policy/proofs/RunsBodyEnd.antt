@@ -33,26 +33,26 @@ use Rattle.policy.proofs.Keeping.{clauses}
 use Rattle.policy.specs.Steps.{told_by, Stands, next}
 use Rattle.policy.proofs.RunsSteps.{goes, settles, rests}
 use Rattle.policy.proofs.RunsGreeting.{setup, frame, plain, never}
-use Rattle.policy.proofs.RunsBody.{text_so_far, between, between_leads, between_rest, between_paid, none_cut_of, silent_one, get_row, desk_of_all, first_given, second_given, at_between}
+use Rattle.policy.proofs.RunsBody.{post_text, between, between_leads, between_rest, between_paid, none_cut_of, silent_one, get_row, desk_of_all, first_given, second_given, at_between}
 use Rattle.policy.proofs.RunsHold.{known}
 
 -- ---- the moves
 
--- the last octet, with the end of the stream, and what is written for it
+-- the last octet, with the end of the stream, and what is written for the whole body
 abbrev pub last_octet : Noted
 last_octet = plain (frame 0 1 3 (codes "y"))
 
 abbrev pub written : List ℕ
-written = chunk_text (codes "y") ++ last_chunk
+written = chunk_text (codes "hey") ++ last_chunk
 
 abbrev pub whole_text : List ℕ
-whole_text = text_so_far ++ written
+whole_text = post_text ++ written
 
 abbrev pub octet_back : Noted
 octet_back = plain (frame 8 0 0 (0 ∷ 0 ∷ 0 ∷ 1 ∷ []))
 
 abbrev pub last_deed : Deed
-last_deed = Takes last_octet decoded (Gathers (Content (codes "y") true) 0 text_so_far Chunking written Whole)
+last_deed = Takes last_octet decoded (Gathers (Content (codes "y") true) 0 post_text Chunking (codes "he") written Whole)
 
 abbrev pub comes : List Move
 comes = Does last_deed ∷ between
@@ -140,8 +140,7 @@ comes_may = record {
       record {
         serving = record { counted = omega arith; served = refl; goes_on = refl };
         found = refl;
-        continues = ends_behind Chunking Chunking Whole (chunk_text (codes "y")) last_chunk (codes "y") (adds_chunk Chunking (codes "y") refl (omega arith)) text_ends;
-        whole = refl;
+        gathered = (ends_behind Chunking Chunking Whole (chunk_text (codes "hey")) last_chunk (codes "hey") (adds_chunk Chunking (codes "hey") refl (omega arith)) text_ends, refl);
       },
     );
   };

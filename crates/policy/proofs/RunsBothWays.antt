@@ -1,6 +1,6 @@
 -- The run with a streamed request goes on both ways: its response is passed on as it comes while octets of the request wait, which are
 -- given back late; the request ends, and then the response, and the last octet of the request goes back behind the end of its stream.
-use Rattle.std.proofs.Common.{◌≡◌, ℕ, ◌+◌, ◌==◌, true, false, List, [], ◌∷◌, length, Some, None, refl, subst, inl, inr, arith, pos}
+use Rattle.std.proofs.Common.{◌≡◌, ℕ, ◌+◌, ◌==◌, true, false, List, [], ◌∷◌, ◌++◌, length, Some, None, refl, subst, inl, inr, arith, pos}
 use Rattle.std.proofs.lemmas.Bool.{eqb-true}
 use Rattle.std.specs.Prelude.{codes, negsuc}
 use Rattle.model.specs.Messages.Item.{Block, Content}
@@ -35,7 +35,7 @@ use Rattle.policy.proofs.RunsGreeting.{frame, plain, never, none_kept}
 use Rattle.policy.proofs.RunsRequest.{one_whole, only_one}
 use Rattle.policy.proofs.RunsAnswer.{answer_head, ok, sized, encoded, head_out, answer_encoded, each_one}
 use Rattle.policy.proofs.RunsBody.{first_given, posting}
-use Rattle.policy.proofs.RunsBodyEnd.{written, text_ends}
+use Rattle.policy.proofs.RunsBodyEnd.{text_ends}
 use Rattle.policy.proofs.RunsTurns.{boxed, first_live}
 use Rattle.policy.proofs.RunsStreaming.{streaming, text, chunk, took_deed, shared_back, own_back, waits, at_waits, waits_rest, waits_leads}
 
@@ -76,6 +76,10 @@ i_deed = Goes i_out (Content (codes "i") true) (Octets (codes "i") true) encoded
 -- the last octet of the request, with its end, and what is given back for it
 abbrev pub last_octet : Noted
 last_octet = plain (frame 0 1 1 (codes "y"))
+
+-- what is written for it
+abbrev pub written : List ℕ
+written = chunk_text (codes "y") ++ last_chunk
 
 abbrev pub last_deed : Deed
 last_deed = Takes last_octet decoded (Passes (Content (codes "y") true) 1 Chunking written Whole)

@@ -35,7 +35,7 @@ offer_entry s u (Acts act) = refl
 gained_entry : (noted : Noted) (gain : Gain) → serving.entry_of (gained noted gain) ≡ Entry.Came noted
 gained_entry noted Nothing = refl
 gained_entry noted (Begins head ended route text stage) = refl
-gained_entry noted (Gathers item route text old written stage) = refl
+gained_entry noted (Gathers item route text old body written stage) = refl
 gained_entry noted (Passes item k old written stage) = refl
 gained_entry noted (Drops item) = refl
 

@@ -15,8 +15,7 @@ use Rattle.conduct.specs.Book as conduct
 use Rattle.offering.specs.Rule.{IsEventOf}
 use Rattle.offering.specs.Sight.{sight_in}
 use Rattle.receiving.specs.Policy.{may_come}
-use Rattle.serving.specs.Rule.{MayBegin, MayAdd, MayDrop, IsAnswer, IsKept}
-use Rattle.serving.specs.State.Way.{Waiting, Going}
+use Rattle.serving.specs.Rule.{MayBegin, MayGather, MayPass, MayDrop, IsAnswer, IsKept}
 use Rattle.tables.specs.Rule as tables
 use Rattle.tables.specs.Verdicts.{verdict_in}
 use Rattle.policy.specs.Moves.{Gain, told_in}
@@ -36,10 +35,10 @@ abbrev pub IsGained : Setup → Summary → State → Noted → Gain → Type 0
 IsGained setup behind s noted Nothing = Gains setup (told_by s) noted Nothing
 IsGained setup behind s noted (Begins head ended route text stage) =
     Gains setup (told_by s) noted (Begins head ended route text stage) × MayBegin setup (told_in behind) noted head ended route text stage
-IsGained setup behind s noted (Gathers item route text old written stage) =
-    Gains setup (told_by s) noted (Gathers item route text old written stage) × MayAdd (told_in behind) s.requests noted (Waiting route text old) item old written stage
+IsGained setup behind s noted (Gathers item route text old body written stage) =
+    Gains setup (told_by s) noted (Gathers item route text old body written stage) × MayGather (told_in behind) s.requests noted item route text old body written stage
 IsGained setup behind s noted (Passes item k old written stage) =
-    Gains setup (told_by s) noted (Passes item k old written stage) × MayAdd (told_in behind) s.requests noted (Going k old) item old written stage
+    Gains setup (told_by s) noted (Passes item k old written stage) × MayPass (told_in behind) s.requests noted item k old written stage
 IsGained setup behind s noted (Drops item) = Gains setup (told_by s) noted (Drops item) × MayDrop (told_in behind) s.requests noted
 
 -- A frame may come: its note is that of its header block, and what it gains is so.

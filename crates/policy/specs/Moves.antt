@@ -29,8 +29,8 @@ pub data Gain : Type 0 where
   Nothing : Gain
   -- its head: whether it ends the stream, the place of its route, the text, and what that waits for
   Begins : (head : List Field) → (ended : Bool) → (route : ℕ) → (text : List ℕ) → (stage : Stage) → Gain
-  -- an item of a request that waits, of one that goes out on a connection, or of one that is dropped
-  Gathers : (item : Item) → (route : ℕ) → (text : List ℕ) → (old : Stage) → (written : List ℕ) → (stage : Stage) → Gain
+  -- an item of a request that waits with this text and body, of one that goes out on a connection, or of one that is dropped
+  Gathers : (item : Item) → (route : ℕ) → (text : List ℕ) → (old : Stage) → (body : List ℕ) → (written : List ℕ) → (stage : Stage) → Gain
   Passes : (item : Item) → (k : ℕ) → (old : Stage) → (written : List ℕ) → (stage : Stage) → Gain
   Drops : (item : Item) → Gain
 
@@ -98,7 +98,7 @@ offer_of before behind (Acts act) = offering.Move.Acts act
 abbrev pub gained : Noted → Gain → serving.Move
 gained noted Nothing = serving.Move.Takes noted
 gained noted (Begins head ended route text stage) = serving.Move.Begins noted head ended route text stage
-gained noted (Gathers item route text old written stage) = serving.Move.Gathers noted item route text old written stage
+gained noted (Gathers item route text old body written stage) = serving.Move.Gathers noted item route text old body written stage
 gained noted (Passes item k old written stage) = serving.Move.Passes noted item k old written stage
 gained noted (Drops item) = serving.Move.Drops noted item
 

@@ -54,7 +54,7 @@ pub record AddsHead (setup : Setup) (s : Summary) (noted : Noted) (item : Item) 
 abbrev pub Gains : Setup → Summary → Noted → Gain → Type 0
 Gains setup s noted Nothing = added_in setup s noted ≡ []
 Gains setup s noted (Begins head ended route text stage) = AddsHead setup s noted (Block head ended)
-Gains setup s noted (Gathers item route text old written stage) = Adds setup s noted item
+Gains setup s noted (Gathers item route text old body written stage) = Adds setup s noted item
 Gains setup s noted (Passes item k old written stage) = Adds setup s noted item
 Gains setup s noted (Drops item) = Adds setup s noted item
 

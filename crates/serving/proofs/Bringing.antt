@@ -30,7 +30,7 @@ IsGood setup carried (Content octets ends) = is_malformed_content carried octets
 IsGood setup carried (Block fields ends) = (cause_of_block setup carried (Fields fields) ≡ None) × (is_malformed_block carried fields ends ≡ false)
 
 -- a block that is no cause isn't large
-not_large : (setup : Setup) (carried : Carried) (fields : List Field) → cause_of_block setup carried (Fields fields) ≡ None → are_large fields ≡ false
+pub not_large : (setup : Setup) (carried : Carried) (fields : List Field) → cause_of_block setup carried (Fields fields) ≡ None → are_large fields ≡ false
 not_large setup carried fields none = by carried.begun none
   where
     by_test : (b : Bool) → cause_if b LargeFields ≡ None → b ≡ false
@@ -77,6 +77,32 @@ none_before : (old new : Option Cause) → first_of_both old new ≡ None → (o
 none_before None new e = (refl, e)
 none_before (Some c) new e = absurd (cc)
 
+-- ---- a frame that doesn't interrupt its stream's items
+
+module _ (known : Known) (t : List Entry) (noted : Noted) (goes_on : is_interrupted known noted.frame.id t (Came noted) ≡ false) where
+  abbrev pub found_there : Option Fault
+  found_there = fault_with (carried (course known noted.frame.id t)) t (Came noted)
+
+  none_interrupts : (is_ended_by (is_on noted.frame.id (Came noted)) found_there ≡ false) × (is_some (cause_of known noted.frame.id t (Came noted)) ≡ false)
+  none_interrupts =
+      let no = or_parts (course known noted.frame.id t).over (interrupts noted.frame.id (Came noted) found_there (cause_of known noted.frame.id t (Came noted))) goes_on in
+      let parts = or_parts (is_ended_by (is_on noted.frame.id (Came noted)) found_there || is_reset noted.frame.id (Came noted)) (is_some (cause_of known noted.frame.id t (Came noted))) no.1 in
+      ((or_parts (is_ended_by (is_on noted.frame.id (Came noted)) found_there) (is_reset noted.frame.id (Came noted)) parts.0).0, parts.1)
+
+  -- it has no fault
+  pub no_fault_there : found_there ≡ None
+  no_fault_there = no_fault found_there (sym (ap (λ b. is_ended_by b found_there) (eq-eqb noted.frame.id noted.frame.id refl)) ∙ none_interrupts.0)
+
+  -- nor is it a cause
+  pub no_cause_there : 0 < noted.frame.id → cause_of_frame known.setup (carried (course known noted.frame.id t)) (completed (came t) noted.frame) noted ≡ None
+  no_cause_there some =
+      sym (ap (cause_at known (course known noted.frame.id t) t (Came noted)) no_fault_there)
+      ∙ sym (ap (λ b. if b && nat_lt 0 noted.frame.id then cause_at known (course known noted.frame.id t) t (Came noted) found_there else None) (eq-eqb noted.frame.id noted.frame.id refl)
+      ∙ ap (λ b. if b then cause_at known (course known noted.frame.id t) t (Came noted) found_there else None) (lt-ltb 0 noted.frame.id some))
+      ∙ none_there (cause_of known noted.frame.id t (Came noted)) none_interrupts.1
+
+-- ---- the item of one that adds an item
+
 module _ (known : Known) (t : List Entry) (noted : Noted) (item : Item) (brings : Brings known t noted item) (some : 0 < noted.frame.id) (calm : cause known noted.frame.id (Came noted ∷ t) ≡ None) where
   abbrev pub e : Entry
   e = Came noted
@@ -91,35 +117,27 @@ module _ (known : Known) (t : List Entry) (noted : Noted) (item : Item) (brings 
     | inr not_over ↦ not_over
   ]
 
-  item_is : frame_items (completed (came t) noted.frame) noted ≡ item ∷ []
+  -- it is the frame's
+  pub item_is : frame_items (completed (came t) noted.frame) noted ≡ item ∷ []
   item_is =
       sym (ap (λ b. if b then frame_items (completed (came t) noted.frame) noted else []) (eq-eqb id id refl))
       ∙ append_cancel_left (items known id t) (items_of id t e) (item ∷ []) (sym (ap (λ b. if b then items known id t else items known id t ++ items_of id t e) goes_on) ∙ brings.adds)
 
-  abbrev pub found : Option Fault
-  found = fault_with (carried (course known id t)) t e
+  none_found : fault_with (carried (course known id t)) t e ≡ None
+  none_found = no_fault_there known t noted goes_on
 
-  none_found : found ≡ None
-  none_found =
-      let no = or_parts (course known id t).over (interrupts id e found (cause_of known id t e)) goes_on in
-      let parts = or_parts (is_ended_by (is_on id e) found || is_reset id e) (is_some (cause_of known id t e)) no.1 in
-      no_fault found (sym (ap (λ b. is_ended_by b found) (eq-eqb id id refl)) ∙ (or_parts (is_ended_by (is_on id e) found) (is_reset id e) parts.0).0)
-
-  causes : (cause known id t ≡ None) × (cause_of known id t e ≡ None)
-  causes = none_before (cause known id t) (cause_of known id t e) calm
+  none_before_it : cause known id t ≡ None
+  none_before_it = (none_before (cause known id t) (cause_of known id t e) calm).0
 
   waits_not : (carried (course known id t)).waits ≡ false
-  waits_not = ap is_some causes.0
+  waits_not = ap is_some none_before_it
 
   -- what the stream carried waits for no reply
   carried_is : carried (course known id t) ≡ carried_by (items known id t) false
   carried_is = ap (carried_by (items known id t)) waits_not
 
   no_frame_cause : cause_of_frame known.setup (carried (course known id t)) (completed (came t) noted.frame) noted ≡ None
-  no_frame_cause =
-      sym (ap (cause_at known (course known id t) t e) none_found)
-      ∙ sym (ap (λ b. if b && nat_lt 0 id then cause_at known (course known id t) t e found else None) (eq-eqb id id refl) ∙ ap (λ b. if b then cause_at known (course known id t) t e found else None) (lt-ltb 0 id some))
-      ∙ causes.1
+  no_frame_cause = no_cause_there known t noted goes_on some
 
   -- the item is good
   pub is_good : IsGood known.setup (carried_by (items known id t) false) item

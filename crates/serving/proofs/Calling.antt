@@ -13,9 +13,9 @@ use Rattle.model.specs.Courses.{items, cause}
 use Rattle.request_rules.specs.Heads.{parts_of}
 use Rattle.h1_writer.specs.Sending.{Stage, MayPush, MayFinish}
 use Rattle.h1_writer.specs.Sending.Stage.{Whole}
-use Rattle.serving.specs.Written.{IsWritten, IsTaken}
+use Rattle.serving.specs.Written.{IsWritten, IsAwaited, IsTaken}
 use Rattle.serving.specs.Meaning.{Brings}
-use Rattle.serving.proofs.Fitting.{head_taken, content_fits, trailers_fit}
+use Rattle.serving.proofs.Fitting.{head_taken, content_fits, trailers_fit, last_fits, trailers_behind}
 use Rattle.serving.proofs.Bringing.{IsGood, is_good}
 
 pub head_fits : (known : Known) (t : List Entry) (noted : Noted) (head : List Field) (ended : Bool) → items known noted.frame.id t ≡ [] → Brings known t noted (Block head ended) → 0 < noted.frame.id → cause known noted.frame.id (Came noted ∷ t) ≡ None → IsTaken known.setup head ended
@@ -30,3 +30,11 @@ octets_fit known t noted octets ends text stage brings some calm w part =
 pub trailers_end : (known : Known) (t : List Entry) (noted : Noted) (fields : List Field) (ends : Bool) (text : List ℕ) (stage : Stage) → Brings known t noted (Block fields ends) → 0 < noted.frame.id → cause known noted.frame.id (Came noted ∷ t) ≡ None → IsWritten (items known noted.frame.id t) text stage → (stage ≡ Whole → ⊥) → (ends ≡ true) × MayFinish stage
 trailers_end known t noted fields ends text stage brings some calm w part =
     let fits = trailers_fit (items known noted.frame.id t) text stage w part fields ends (is_good known t noted (Block fields ends) brings some calm).1 in (fits.0, fits.2)
+
+pub last_octets_fit : (known : Known) (t : List Entry) (noted : Noted) (octets : List ℕ) (text : List ℕ) (stage : Stage) (body : List ℕ) → Brings known t noted (Content octets true) → 0 < noted.frame.id → cause known noted.frame.id (Came noted ∷ t) ≡ None → (w : IsAwaited (items known noted.frame.id t) text stage body) → MayPush stage (length (body ++ octets)) × HasLength (parts_of w.head).length (body ++ octets)
+last_octets_fit known t noted octets text stage body brings some calm w =
+    last_fits (items known noted.frame.id t) text stage body w octets (is_good known t noted (Content octets true) brings some calm)
+
+pub last_trailers_fit : (known : Known) (t : List Entry) (noted : Noted) (fields : List Field) (ends : Bool) (text : List ℕ) (stage : Stage) (body : List ℕ) → Brings known t noted (Block fields ends) → 0 < noted.frame.id → cause known noted.frame.id (Came noted ∷ t) ≡ None → (w : IsAwaited (items known noted.frame.id t) text stage body) → (ends ≡ true) × MayPush stage (length body) × HasLength (parts_of w.head).length body
+last_trailers_fit known t noted fields ends text stage body brings some calm w =
+    let fits = trailers_behind (items known noted.frame.id t) text stage body w fields ends (is_good known t noted (Block fields ends) brings some calm).1 in (fits.0, fits.2, fits.3)

@@ -62,10 +62,10 @@ moved known t s told behind (Begins noted head ended route text stage) h is_told
     let may = allowed.may in
     stands_next known t (Came noted) s (after known.setup behind s (Begins noted head ended route text stage)) h
     (reading.begins known t s h told behind is_told may.0 noted (Block head ended) so.1 may.1.serving is_behind head ended route text stage so.0 refl may.1)
-moved known t s told behind (Gathers noted item route text old written stage) h is_told so is_behind allowed =
+moved known t s told behind (Gathers noted item route text old body written stage) h is_told so is_behind allowed =
     let may = allowed.may in
-    stands_next known t (Came noted) s (after known.setup behind s (Gathers noted item route text old written stage)) h
-    (reading.gathers known t s h told behind is_told may.0 noted item so may.1.serving is_behind route text old written stage may.1)
+    stands_next known t (Came noted) s (after known.setup behind s (Gathers noted item route text old body written stage)) h
+    (reading.gathers known t s h told behind is_told may.0 noted item so may.1.serving is_behind route text old body written stage may.1)
 moved known t s told behind (Passes noted item k old written stage) h is_told so is_behind allowed =
     let may = allowed.may in
     stands_next known t (Came noted) s (after known.setup behind s (Passes noted item k old written stage)) h

@@ -47,7 +47,7 @@ missing_without k n ls none = elim (eqb_tells k n) [
 ]
 
 -- what was held of a stream from which a connection is dropped
-drop_found : (k stream : ℕ) (hs : List Held) (x : Held) → held_of stream (map (drop_from k) hs) ≡ Some x → (old : Held) × (held_of stream hs ≡ Some old) × (x.way ≡ dropped k old.way)
+pub drop_found : (k stream : ℕ) (hs : List Held) (x : Held) → held_of stream (map (drop_from k) hs) ≡ Some x → (old : Held) × (held_of stream hs ≡ Some old) × (x.way ≡ dropped k old.way)
 drop_found k stream hs x e = by (held_of stream hs) refl (sym (find_map id_of (drop_from k) (λ h. refl) stream hs) ∙ e)
   where
     by : (o : Option Held) → held_of stream hs ≡ o → option_map (drop_from k) o ≡ Some x → (old : Held) × (held_of stream hs ≡ Some old) × (x.way ≡ dropped k old.way)
@@ -91,7 +91,7 @@ module _ (known : Known) (t : List Entry) (s : State) (h : Stands known t s) whe
 
     -- the way of a request behind that
     way_dropped : (stream : ℕ) (way : Way) → IsOnWay known t s stream way → IsOnWay known (e ∷ t) u stream (dropped k way)
-    way_dropped stream (Waiting route text stage) w = stays stream (Waiting route text stage) (λ j x e. cc) w
+    way_dropped stream (Waiting route text stage body) w = stays stream (Waiting route text stage body) (λ j x e. cc) w
     way_dropped stream Dropped w = stays stream Dropped (λ j x e. cc) w
     way_dropped stream (Going j stage) w = elim (eqb_tells j k) [
       | inl same ↦ subst (λ b. IsOnWay known (e ∷ t) u stream (if b then Dropped else Going j stage)) (sym same.0) (record { o = w.o; given = record { is_opened = subst (IsIn w.o) (sym same_opens) w.given.is_opened; is_given = w.given.is_given }; gone = subst (λ n. live_of n u.live ≡ None) (sym (w.number ∙ same.1)) gone_now })
@@ -207,11 +207,11 @@ module _ (known : Known) (t : List Entry) (s : State) (h : Stands known t s) whe
       same_items = same;
       still_shut = λ j e. e;
       count = refl;
-      lives = λ o i g. lives_found known t (Did CloseClient) s s o g (λ x. x) refl refl g.lives;
+      lives = λ o i g. lives_found known t (Did CloseClient) s (after known.setup behind s (Acts CloseClient)) o g (λ x. x) refl refl g.lives;
       gone = λ o i g missing. (missing, reason_on known t (Did CloseClient) s o g (λ x. x));
       back = λ j there. there;
       not_fresh = λ j lt x. x;
-      held = λ stream x found. way_stays known t (Did CloseClient) s s stream x.way (same stream) refl (λ o g. text_same t (Did CloseClient) s s may.nothing may.nothing (λ j. refl) o.k) (λ j stage is there. there) (λ j none. none) (h.held stream x found);
+      held = λ stream x found. cc;
       goes = λ x. x;
       in_time = λ x. x;
       ends = λ e. e;

@@ -1,6 +1,6 @@
 -- A worked run, where requests are passed on whole: each of its moves is allowed and says what is so, by computation, and the clauses
 -- hold at its end.
-use Rattle.std.proofs.Common.{◌≡◌, ℕ, ◌<◌, true, false, not, List, [], ◌∷◌, ◌++◌, length, refl, sym, ap, ◌∙◌, subst, inl, arith, append_assoc, append-nil}
+use Rattle.std.proofs.Common.{◌≡◌, ℕ, ◌+◌, ◌<◌, true, false, not, List, [], ◌∷◌, ◌++◌, length, refl, sym, ap, ◌∙◌, subst, inl, arith, append_assoc, append-nil}
 use Rattle.std.specs.Prelude.{codes}
 use Rattle.std.specs.List.{list_any, list_all, flat_map, concat}
 use Rattle.model.specs.Tables.{total_size}
@@ -14,15 +14,16 @@ use Rattle.h1_writer.specs.Sending.{Sending, Continues, head_of, content_of, chu
 use Rattle.h1_writer.specs.Sending.Stage.{Whole, Chunking}
 use Rattle.h1_writer.proofs.Stages.{adds_chunk}
 use Rattle.serving.specs.Told.{Told}
-use Rattle.serving.specs.State.{State, tape_of}
+use Rattle.serving.specs.State.{State, state_of, tape_of}
 use Rattle.serving.specs.State.Due.{Nothing}
 use Rattle.serving.specs.Rule.{is_done, MayCome, IsServing, AreAllowed}
 use Rattle.serving.specs.Meaning.{AreSo, KeepClauses}
 use Rattle.model.proofs.ItemLaws.{items_stay}
+use Rattle.serving.specs.Held.{held_for, held_octets}
 use Rattle.serving.proofs.Telling.{told_by}
 use Rattle.serving.proofs.Writing.{ends_behind}
 use Rattle.serving.proofs.Clauses.{clauses_hold}
-use Rattle.serving.proofs.RunMoves.{known, get, post, get_text, post_text, post_whole, m1, reset, m2, m3, m4, m5, m6, m7, m8}
+use Rattle.serving.proofs.RunMoves.{known, get, post, get_text, post_text, body_text, post_whole, m1, reset, m2, m3, m4, m5, m6, m7, m8}
 
 -- ---- they are allowed
 
@@ -61,9 +62,9 @@ text_ends parts ended text pieces s = record {
       ∙ ap (λ b. head_of parts b ++ content_of parts.length b (pieces ++ [])) (sym s.not_ended);
 }
 
--- the last octets, and the end behind them
-body_ends : Continues Chunking (chunk_text (codes "llo") ++ last_chunk) (codes "llo") Whole
-body_ends = ends_behind Chunking Chunking Whole (chunk_text (codes "llo")) last_chunk (codes "llo") (chunk_goes (codes "llo") (omega arith)) text_ends
+-- the whole body, and the end behind it
+body_ends : Continues Chunking body_text (codes "hello") Whole
+body_ends = ends_behind Chunking Chunking Whole (chunk_text (codes "hello")) last_chunk (codes "hello") (chunk_goes (codes "hello") (omega arith)) text_ends
 
 -- the frame's stream is served behind a move with these
 pub serving_on : (told : Told) (noted : Noted) → 0 < noted.frame.id → told.served noted.frame.id ≡ true → told.ends ≡ false → IsServing told noted
@@ -73,7 +74,7 @@ a2 : AreAllowed known.setup m2
 a2 = (a1, record { open_yet = refl; may = (calm _ _ refl refl refl, record { serving = serving_on _ _ (omega arith) refl refl; by_route = first_route; sending = post_begun; whole = refl }) })
 
 a3 : AreAllowed known.setup m3
-a3 = (a2, record { open_yet = refl; may = (calm _ _ refl refl refl, record { serving = serving_on _ _ (omega arith) refl refl; found = refl; continues = chunk_goes (codes "he") (omega arith); whole = refl }) })
+a3 = (a2, record { open_yet = refl; may = (calm _ _ refl refl refl, record { serving = serving_on _ _ (omega arith) refl refl; found = refl; gathered = (refl, refl) }) })
 
 a4 : AreAllowed known.setup m4
 a4 = (a3, record { open_yet = refl; may = (calm _ _ refl refl refl, record { serving = serving_on _ _ (omega arith) refl refl; by_route = first_route; sending = get_sent; whole = refl }) })
@@ -82,7 +83,7 @@ a5 : AreAllowed known.setup m5
 a5 = ((a4, record { open_yet = refl; may = record { stream = 3; text = get_text; stage = Whole; due = refl; next = refl } }), record { open_yet = refl; may = refl })
 
 a6 : AreAllowed known.setup m6
-a6 = (a5, record { open_yet = refl; may = (calm _ _ refl refl refl, record { serving = serving_on _ _ (omega arith) refl refl; found = refl; continues = body_ends; whole = refl }) })
+a6 = (a5, record { open_yet = refl; may = (calm _ _ refl refl refl, record { serving = serving_on _ _ (omega arith) refl refl; found = refl; gathered = (body_ends, refl) }) })
 
 a7 : AreAllowed known.setup m7
 a7 = ((a6, record { open_yet = refl; may = record { stream = 1; text = post_whole; stage = Whole; due = refl; next = refl } }), record { open_yet = refl; may = refl })
@@ -130,3 +131,22 @@ so8 = ((so7, sym (items_stay known 3 (tape_of m7) (Came reset) refl), told_by kn
 -- so the clauses hold at its end
 at_end : KeepClauses known (tape_of m8)
 at_end = clauses_hold known m8 a8 so8 (record { nothing = refl; none_done = refl; ended = λ e. cc })
+
+-- ---- what is held meanwhile
+
+-- of the POST its head's text waits, then two octets more; then all of it is due, and once it is out nothing is held
+head_held : held_for 1 (state_of known.setup m2) ≡ length (post_text [])
+head_held = refl
+
+octets_held : held_for 1 (state_of known.setup m3) ≡ length (post_text []) + 2
+octets_held = refl
+
+whole_due : held_for 1 (state_of known.setup m6) ≡ length post_whole
+whole_due = refl
+
+none_held : held_octets (state_of known.setup m7) ≡ 0
+none_held = refl
+
+-- the GET is due between, on its own stream
+get_due : held_octets (state_of known.setup m4) ≡ length (post_text []) + 2 + held_for 3 (state_of known.setup m4)
+get_due = refl

@@ -1,12 +1,12 @@
 -- A frame without a fault that is no cause leaves its stream's items a request so far: what a sender needs to write it.
-use Rattle.std.proofs.Common.{◌≡◌, ℕ, ◌+◌, Bool, true, false, not, ◌&&◌, ◌||◌, List, [], ◌∷◌, ◌++◌, length, refl, sym, ap, ◌∙◌, length-append}
+use Rattle.std.proofs.Common.{◌≡◌, ℕ, ◌+◌, Bool, true, false, not, ◌&&◌, ◌||◌, List, [], ◌∷◌, ◌++◌, length, refl, sym, ap, ◌∙◌, subst, length-append, arith}
 use Rattle.std.specs.Prelude.{Option, Some, None}
 use Rattle.std.specs.List.{concat}
 use Rattle.std.proofs.lemmas.Bool.{leb-true, eqb-true}
 use Rattle.model.specs.Messages.{Field, Item}
 use Rattle.model.specs.Messages.Item.{Block}
 use Rattle.model.specs.Http2.{WellFormedTrailers, HasLength, is_connect, declared_length, body_of}
-use Rattle.model.specs.Malformed.{Carried, carried_by, is_well_formed, are_trailers, declared, has_length, is_within, is_malformed_block, is_malformed_content}
+use Rattle.model.specs.Malformed.{Carried, carried_by, is_well_formed, are_trailers, has_length, is_within, is_malformed_block, is_malformed_content}
 use Rattle.model.specs.Setup.{Setup}
 use Rattle.model.specs.Tapes.{Noted, Entry, came}
 use Rattle.model.specs.Tapes.Entry.{Came}
@@ -20,7 +20,7 @@ use Rattle.request_rules.specs.Heads.{parts_of}
 use Rattle.h1_writer.specs.Sending.{Stage, HasRoom, MayPush, MayFinish}
 use Rattle.h1_writer.specs.Sending.Stage.{Whole}
 use Rattle.h1_writer.proofs.Wholes.{room_to_push, end_to_finish}
-use Rattle.serving.specs.Written.{IsWritten, IsTaken}
+use Rattle.serving.specs.Written.{IsWritten, IsAwaited, IsTaken}
 
 -- ---- no fault
 
@@ -87,37 +87,74 @@ head_taken setup head ends none good =
 
 -- ---- what comes behind a head
 
+-- behind a head and what came of its body
+module _ (head : List Field) (ended : Bool) (more : List Item) where
+  -- octets are within what is declared, and where they end the stream the body is as long
+  content_rules : (octets : List ℕ) (ends : Bool) → is_malformed_content (carried_by (Block head ended ∷ more) false) octets ends ≡ false
+      → (is_within (declared_length head) (length (body_of more) + length octets) ≡ true) × (ends ≡ true → HasLength (declared_length head) (body_of more ++ octets))
+  content_rules octets ends good =
+      let count = length (body_of more) + length octets in
+      let rules = neither (not (is_within (declared_length head) count)) (ends && not (has_length (declared_length head) count)) good in (
+        not_not (is_within (declared_length head) count) rules.0,
+        λ e. length_told (declared_length head) (body_of more ++ octets) (ap (has_length (declared_length head)) (length-append (body_of more) octets) ∙ then_true ends (has_length (declared_length head) count) rules.1 e),
+      )
+
+  -- a block is of trailers: it ends the stream, behind as many octets as were declared
+  trailers_rules : (fields : List Field) (ends : Bool) → is_malformed_block (carried_by (Block head ended ∷ more) false) fields ends ≡ false
+      → (ends ≡ true) × WellFormedTrailers fields × HasLength (declared_length head) (body_of more)
+  trailers_rules fields ends good =
+      let first = neither (not ends || not (are_trailers fields)) (not (has_length (declared_length head) (length (body_of more)))) good in
+      let second = neither (not ends) (not (are_trailers fields)) first.0 in (
+        not_not ends second.0,
+        trailers_hold fields (not_not (are_trailers fields) second.1),
+        length_told (declared_length head) (body_of more) (not_not (has_length (declared_length head) (length (body_of more))) first.1),
+      )
+
+-- octets within what is declared find room behind pieces
+room_told : (declared : Option ℕ) (pieces : List (List ℕ)) (octets : List ℕ) → is_within declared (length (concat pieces) + length octets) ≡ true → HasRoom declared pieces (length octets)
+room_told None pieces octets e = tt
+room_told (Some n) pieces octets e = leb-true (length (concat pieces) + length octets) n e
+
+-- a body as long as declared finds room behind a head
+room_whole : (declared : Option ℕ) (body : List ℕ) → HasLength declared body → HasRoom declared [] (length body)
+room_whole None body e = tt
+room_whole (Some n) body e = let same : length body ≡ n = e in omega (arith, same)
+
+-- ---- of a request that goes out
+
 module _ (items : List Item) (text : List ℕ) (stage : Stage) (w : IsWritten items text stage) (part : stage ≡ Whole → ⊥) where
-  declared_is : declared items ≡ (parts_of w.head).length
-  declared_is = ap declared w.is
-
-  body_is : body_of items ≡ concat w.pieces
-  body_is = ap body_of w.is ∙ sym w.body
-
-  room_told : (declared : Option ℕ) (octets : List ℕ) → is_within declared (length (concat w.pieces) + length octets) ≡ true → HasRoom declared w.pieces (length octets)
-  room_told None octets e = tt
-  room_told (Some n) octets e = leb-true (length (concat w.pieces) + length octets) n e
-
   -- octets may be pushed, and where they end the stream the body is as long as declared
   pub content_fits : (octets : List ℕ) (ends : Bool) → is_malformed_content (carried_by items false) octets ends ≡ false → MayPush stage (length octets) × (ends ≡ true → HasLength (parts_of w.head).length (concat w.pieces ++ octets))
   content_fits octets ends good =
-      let rules = neither (not (is_within (declared items) (length (body_of items) + length octets))) (ends && not (has_length (declared items) (length (body_of items) + length octets))) good in
-      let within : is_within (parts_of w.head).length (length (concat w.pieces) + length octets) ≡ true =
-      sym (ap (λ d. is_within d (length (concat w.pieces) + length octets)) declared_is) ∙ sym (ap (λ b. is_within (declared items) (length b + length octets)) body_is) ∙ not_not (is_within (declared items) (length (body_of items) + length octets)) rules.0 in (
-        room_to_push (parts_of w.head) w.ended text w.pieces stage (length octets) w.sending part (room_told (parts_of w.head).length octets within),
-        λ e.
-            let whole : has_length (declared items) (length (body_of items) + length octets) ≡ true = then_true ends _ rules.1 e in
-            length_told (parts_of w.head).length (concat w.pieces ++ octets) (ap (has_length (parts_of w.head).length) (length-append (concat w.pieces) octets) ∙ sym (ap (λ d. has_length d (length (concat w.pieces) + length octets)) declared_is) ∙ sym (ap (λ b. has_length (declared items) (length b + length octets)) body_is) ∙ whole),
+      let rules = content_rules w.head w.ended w.more octets ends (subst (λ xs. is_malformed_content (carried_by xs false) octets ends ≡ false) w.is good) in (
+        room_to_push (parts_of w.head) w.ended text w.pieces stage (length octets) w.sending part
+            (room_told (parts_of w.head).length w.pieces octets (ap (λ body. is_within (declared_length w.head) (length body + length octets)) w.body ∙ rules.0)),
+        λ e. subst (λ body. HasLength (parts_of w.head).length (body ++ octets)) (sym w.body) (rules.1 e),
       )
 
   -- a block behind a head is of trailers: it ends the stream, and the text may be ended
   pub trailers_fit : (fields : List Field) (ends : Bool) → is_malformed_block (carried_by items false) fields ends ≡ false → (ends ≡ true) × WellFormedTrailers fields × MayFinish stage
   trailers_fit fields ends good =
-      let now : is_malformed_block (carried_by (Block w.head w.ended ∷ w.more) false) fields ends ≡ false = sym (ap (λ xs. is_malformed_block (carried_by xs false) fields ends) w.is) ∙ good in
-      let first = neither (not ends || not (are_trailers fields)) (not (has_length (declared_length w.head) (length (body_of w.more)))) now in
-      let second = neither (not ends) (not (are_trailers fields)) first.0 in
-      let whole : has_length (parts_of w.head).length (length (body_of w.more)) ≡ true = not_not (has_length (declared_length w.head) (length (body_of w.more))) first.1 in (
-        not_not ends second.0,
-        trailers_hold fields (not_not (are_trailers fields) second.1),
-        end_to_finish (parts_of w.head) w.ended text w.pieces stage w.sending part (length_told (parts_of w.head).length (concat w.pieces) (ap (λ b. has_length (parts_of w.head).length (length b)) w.body ∙ whole)),
-      )
+      let rules = trailers_rules w.head w.ended w.more fields ends (subst (λ xs. is_malformed_block (carried_by xs false) fields ends ≡ false) w.is good) in
+      (rules.0, rules.1, end_to_finish (parts_of w.head) w.ended text w.pieces stage w.sending part (subst (HasLength (parts_of w.head).length) (sym w.body) rules.2))
+
+-- ---- of a request that waits
+
+module _ (items : List Item) (text : List ℕ) (stage : Stage) (body : List ℕ) (w : IsAwaited items text stage body) where
+  whole_fits : (octets : List ℕ) → HasLength (declared_length w.head) octets → MayPush stage (length octets)
+  whole_fits octets whole = room_to_push (parts_of w.head) false text [] stage (length octets) w.sending w.part (room_whole (declared_length w.head) octets whole)
+
+  -- octets that end the stream make the body as long as declared, and all of it may be pushed
+  pub last_fits : (octets : List ℕ) → is_malformed_content (carried_by items false) octets true ≡ false → MayPush stage (length (body ++ octets)) × HasLength (parts_of w.head).length (body ++ octets)
+  last_fits octets good =
+      let rules = content_rules w.head false w.more octets true (subst (λ xs. is_malformed_content (carried_by xs false) octets true ≡ false) w.is good) in
+      let whole : HasLength (declared_length w.head) (body ++ octets) = subst (λ b. HasLength (declared_length w.head) (b ++ octets)) (sym w.body_is) (rules.1 refl) in
+      (whole_fits (body ++ octets) whole, whole)
+
+  -- a block is of trailers: it ends the stream, and the body, which is as long as declared, may be pushed
+  pub trailers_behind : (fields : List Field) (ends : Bool) → is_malformed_block (carried_by items false) fields ends ≡ false
+      → (ends ≡ true) × WellFormedTrailers fields × MayPush stage (length body) × HasLength (parts_of w.head).length body
+  trailers_behind fields ends good =
+      let rules = trailers_rules w.head false w.more fields ends (subst (λ xs. is_malformed_block (carried_by xs false) fields ends ≡ false) w.is good) in
+      let whole : HasLength (declared_length w.head) body = subst (HasLength (declared_length w.head)) (sym w.body_is) rules.2 in
+      (rules.0, rules.1, whole_fits body whole, whole)

@@ -1,5 +1,5 @@
 -- Something comes in only where the step might end: so the clauses hold before each thing that comes in.
-use Rattle.std.proofs.Common.{◌≡◌, true, false, List, [], ◌∷◌, sym, ◌∙◌, inr}
+use Rattle.std.proofs.Common.{◌≡◌, true, false, List, [], ◌∷◌, sym, ◌∙◌}
 use Rattle.model.specs.Known.{Known}
 use Rattle.model.specs.Headline.{HoldsInTurn}
 use Rattle.serving.specs.Told.{Told}
@@ -22,7 +22,7 @@ module _ (known : Known) (turns : List Turn) (at : Rests (told_of turns) (state_
   one_more : (behind : Told) (m : Move) → MayMove known.setup (told_of turns) behind (state_of known.setup turns) m → HoldsInTurn (KeepClauses known) (entry_of m ∷ tape_of turns)
   one_more behind (Takes noted) may = (here may, before)
   one_more behind (Begins noted head ended route text stage) may = (here may.0, before)
-  one_more behind (Gathers noted item route text old written stage) may = (here may.0, before)
+  one_more behind (Gathers noted item route text old body written stage) may = (here may.0, before)
   one_more behind (Passes noted item k old written stage) may = (here may.0, before)
   one_more behind (Drops noted item) may = (here may.0, before)
   one_more behind (Breaks breach) may = (here may, before)

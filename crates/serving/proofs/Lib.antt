@@ -3,6 +3,9 @@ pub mod Texts
 pub mod Coming
 pub mod Reasons
 pub mod Fitting
+pub mod HeadSizes
+pub mod Lengths
+pub mod Small
 pub mod Bringing
 pub mod Writing
 pub mod Standing
@@ -16,6 +19,10 @@ pub mod Reading
 pub mod Clauses
 pub mod InTurn
 pub mod Connections
+pub mod Served
+pub mod Room
+pub mod Holding
+pub mod Counted
 pub mod Sources
 pub mod Calling
 pub mod Telling

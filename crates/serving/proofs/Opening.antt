@@ -18,7 +18,7 @@ use Rattle.model.specs.Offers.{is_to_head}
 use Rattle.model.specs.RequestClause.{MayBeServed}
 use Rattle.model.proofs.OfferLemmas.{nothing_complete}
 use Rattle.h1_writer.specs.Sending.{Stage}
-use Rattle.serving.specs.Written.{IsWritten}
+use Rattle.serving.specs.Written.{IsWritten, IsAwaited}
 use Rattle.serving.specs.Told.{Told, IsTold}
 use Rattle.serving.specs.State.{Way, Held, held_of, held_with, held_opened, unless_whole, is_whole, Live, live_of, k_of, Due, State, after, Move}
 use Rattle.serving.specs.State.Way.{Waiting, Going, Dropped}
@@ -209,10 +209,9 @@ module _ (known : Known) (t : List Entry) (s : State) (h : Stands known t s) (to
 
     -- other requests stay as they are
     old_way : (stream : ℕ) → (may.stream ≡ stream → ⊥) → (way : Way) → IsOnWay known t s stream way → IsOnWay known (e ∷ t) u stream way
-    old_way stream apart (Waiting r text stage) w = record {
+    old_way stream apart (Waiting r text stage body) w = record {
       whole_passing = w.whole_passing;
-      written = subst (λ xs. IsWritten xs text stage) (sym (same_items stream)) w.written;
-      part = w.part;
+      awaited = subst (λ xs. IsAwaited xs text stage body) (sym (same_items stream)) w.awaited;
       head = w.head;
       has_head = subst (λ xs. HasHead xs w.head) (sym (same_items stream)) w.has_head;
       by_route = w.by_route;

@@ -26,19 +26,19 @@ use Rattle.model.specs.RequestClause.{IsSentWhole, IsSentInPart, MayBeServed}
 use Rattle.model.specs.ProgressClause.{is_first_end, was_cut, had_closed}
 use Rattle.model.proofs.DeliveryReadings.{one_connection, one_number}
 use Rattle.h1_writer.specs.Sending.{Stage}
-use Rattle.serving.specs.Written.{IsWritten}
+use Rattle.serving.specs.Written.{octets_of, IsWritten, IsAwaited}
 use Rattle.serving.specs.Told.{Told, IsTold}
 use Rattle.serving.specs.State.{Way, Held, held_of, held_with, waits_from, unless_whole, goes_now, is_streaming, is_whole, to_open, to_send, Live, live_of, Due, State, after}
 use Rattle.serving.specs.State.Way.{Waiting, Going, Dropped}
 use Rattle.serving.specs.State.Move.{Begins, Gathers, Passes, Drops}
-use Rattle.serving.specs.Rule.{MayCome, IsServing, MayBegin, MayAdd, MayDrop}
+use Rattle.serving.specs.Rule.{MayCome, IsServing, MayBegin, IsGathered, MayGather, MayPass, MayDrop}
 use Rattle.serving.specs.Meaning.{Brings}
 use Rattle.model.proofs.ItemLaws.{ends_tell, added_ends, none_ended}
 use Rattle.model.proofs.ItemLaws.{is_interrupted}
 use Rattle.serving.proofs.Lists.{held_now, held_beside}
-use Rattle.serving.proofs.Texts.{no_request, part_told, whole_told, one_ends}
+use Rattle.serving.proofs.Texts.{no_request, part_tells, whole_told, one_ends}
 use Rattle.serving.proofs.Bringing.{IsGood, is_good}
-use Rattle.serving.proofs.Writing.{body_append, head_written, item_written, may_go_on}
+use Rattle.serving.proofs.Writing.{body_append, head_written, item_written, head_awaited, item_gathered, item_completes, may_go_on}
 use Rattle.serving.proofs.Standing.{owed, text_of, IsInPart, IsSent, Given, Fares, IsDue, IsOnWay, IsWaiting, IsGoing, IsDropped, Stands, Steps, had_closed_in, has_head_stays, way_stays}
 use Rattle.serving.proofs.Passing.{items_beside, sent_same, fares_same, fresh_same, lives_found, reason_on}
 use Rattle.serving.proofs.Framing.{not_to_end}
@@ -162,63 +162,64 @@ module _ (known : Known) (t : List Entry) (s : State) (h : Stands known t s) (to
 
   -- ---- a request waits, or a connection is due for it
 
-  module _ (route : ℕ) (text : List ℕ) (stage : Stage) (written : IsWritten (items known id (e ∷ t)) text stage) (head : List Field) (has_head : HasHead (items known id (e ∷ t)) head) (by_route : IsFirstMatch known.setup.routes (authority_of head) (path_of head) route) (none_given : (o : Opened) → IsGiven t id o → ⊥) where
-    abbrev pub waiting_or : Bool → State
-    waiting_or goes = record { held = held_with id (waits_from goes (Waiting route text stage)) s.held; live = s.live; due = to_open goes id route text stage; count = s.count }
+  module _ (route : ℕ) (head : List Field) (has_head : HasHead (items known id (e ∷ t)) head) (by_route : IsFirstMatch known.setup.routes (authority_of head) (path_of head) route) (none_given : (o : Opened) → IsGiven t id o → ⊥) where
+    module _ (text : List ℕ) (stage : Stage) (body full : List ℕ) where
+      -- the text and the body wait, or the full text goes out
+      abbrev pub waiting_or : Bool → State
+      waiting_or goes = record { held = held_with id (waits_from goes (Waiting route text stage body)) s.held; live = s.live; due = to_open goes id route full stage; count = s.count }
 
-    none_of_id : (o : Opened) → IsIn o (opens t) → id ≡ o.stream → ⊥
-    none_of_id o i same = none_given o (record { is_opened = i; is_given = sym same })
+      none_of_id : (o : Opened) → IsIn o (opens t) → id ≡ o.stream → ⊥
+      none_of_id o i same = none_given o (record { is_opened = i; is_given = sym same })
 
-    opens_now : (known.setup.passing ≡ WholePassing → is_whole stage ≡ true) → Steps known t e s (waiting_or true)
-    opens_now ready = own_step (waiting_or true) (record {
-      same_count = refl;
-      same_live = refl;
-      beside = λ o i apart. refl;
-      sent = λ o i g same. absurd (none_of_id o i same);
-      held = λ x found. absurd (let none : ◌≡◌ {A = Option Way} None (Some x.way) = held_now id None s.held x found in cc);
-      held_others = λ stream apart. held_beside id stream None s.held apart;
-      fares = inr (inl refl);
-      is_due = record { last = refl; none_given = λ o g. none_given o (record { is_opened = g.is_opened; is_given = g.is_given }); written = written; head = head; has_head = has_head; by_route = by_route; in_time = in_time text stage written ready };
-    })
+      opens_now : IsWritten (items known id (e ∷ t)) full stage → (known.setup.passing ≡ WholePassing → is_whole stage ≡ true) → Steps known t e s (waiting_or true)
+      opens_now written ready = own_step (waiting_or true) (record {
+        same_count = refl;
+        same_live = refl;
+        beside = λ o i apart. refl;
+        sent = λ o i g same. absurd (none_of_id o i same);
+        held = λ x found. absurd (let none : ◌≡◌ {A = Option Way} None (Some x.way) = held_now id None s.held x found in cc);
+        held_others = λ stream apart. held_beside id stream None s.held apart;
+        fares = inr (inl refl);
+        is_due = record { last = refl; none_given = λ o g. none_given o (record { is_opened = g.is_opened; is_given = g.is_given }); written = written; head = head; has_head = has_head; by_route = by_route; in_time = in_time full stage written ready };
+      })
 
-    waits : known.setup.passing ≡ WholePassing → is_whole stage ≡ false → Steps known t e s (waiting_or false)
-    waits whole_passing part = own_step (waiting_or false) (record {
-      same_count = refl;
-      same_live = refl;
-      beside = λ o i apart. refl;
-      sent = λ o i g same. absurd (none_of_id o i same);
-      held = held;
-      held_others = λ stream apart. held_beside id stream (Some (Waiting route text stage)) s.held apart;
-      fares = inl (record { no_request = λ request means. no_request (items known id (e ∷ t)) request (written.goes_on (part_told stage part)) means; no_head = λ streaming other has. (let clash : WholePassing ≡ Streaming = sym whole_passing ∙ streaming in cc) });
-      is_due = tt;
-    })
-      where
-        on_way : IsWaiting known (e ∷ t) id route text stage
-        on_way = record { whole_passing = whole_passing; written = written; part = part; head = head; has_head = has_head; by_route = by_route; none_given = λ o g. none_given o (record { is_opened = g.is_opened; is_given = g.is_given }) }
+      waits : IsAwaited (items known id (e ∷ t)) text stage body → known.setup.passing ≡ WholePassing → Steps known t e s (waiting_or false)
+      waits awaited whole_passing = own_step (waiting_or false) (record {
+        same_count = refl;
+        same_live = refl;
+        beside = λ o i apart. refl;
+        sent = λ o i g same. absurd (none_of_id o i same);
+        held = held;
+        held_others = λ stream apart. held_beside id stream (Some (Waiting route text stage body)) s.held apart;
+        fares = inl (record { no_request = λ request means. no_request (items known id (e ∷ t)) request awaited.goes_on means; no_head = λ streaming other has. (let clash : WholePassing ≡ Streaming = sym whole_passing ∙ streaming in cc) });
+        is_due = tt;
+      })
+        where
+          on_way : IsWaiting known (e ∷ t) id route text stage body
+          on_way = record { whole_passing = whole_passing; awaited = awaited; head = head; has_head = has_head; by_route = by_route; none_given = λ o g. none_given o (record { is_opened = g.is_opened; is_given = g.is_given }) }
 
-        held : (x : Held) → held_of id (held_with id (Some (Waiting route text stage)) s.held) ≡ Some x → IsOnWay known (e ∷ t) (waiting_or false) id x.way
-        held x found =
-            let both : Some (Waiting route text stage) ≡ Some x.way = held_now id (Some (Waiting route text stage)) s.held x found in
-            let same : Waiting route text stage ≡ x.way = cc in
-            subst (IsOnWay known (e ∷ t) (waiting_or false) id) same on_way
-
-    either : (goes : Bool) → (goes ≡ false → (known.setup.passing ≡ WholePassing) × (is_whole stage ≡ false)) → (goes ≡ true → known.setup.passing ≡ WholePassing → is_whole stage ≡ true) → Steps known t e s (waiting_or goes)
-    either true fine ready = opens_now (ready refl)
-    either false fine ready = waits (fine refl).0 (fine refl).1
+          held : (x : Held) → held_of id (held_with id (Some (Waiting route text stage body)) s.held) ≡ Some x → IsOnWay known (e ∷ t) (waiting_or false) id x.way
+          held x found =
+              let both : Some (Waiting route text stage body) ≡ Some x.way = held_now id (Some (Waiting route text stage body)) s.held x found in
+              let same : Waiting route text stage body ≡ x.way = cc in
+              subst (IsOnWay known (e ∷ t) (waiting_or false) id) same on_way
 
   -- ---- a head
 
   pub begins : (head : List Field) (ended : Bool) (route : ℕ) (text : List ℕ) (stage : Stage) → items known id t ≡ [] → item ≡ Block head ended → MayBegin known.setup behind noted head ended route text stage → Steps known t e s (after known.setup behind s (Begins noted head ended route text stage))
-  begins head ended route text stage empty is may =
-      either route text stage written head has_head may.by_route none_given (goes_now known.setup stage) (waits_whole known.setup.passing (is_whole stage)) (goes_whole known.setup.passing (is_whole stage))
+  begins head ended route text stage empty is may = by (goes_now known.setup stage) (waits_whole known.setup.passing (is_whole stage)) (goes_whole known.setup.passing (is_whole stage))
     where
       now : items known id (e ∷ t) ≡ Block head ended ∷ []
       now = brings.adds ∙ ap (λ xs. xs ++ item ∷ []) empty ∙ ap (λ x. x ∷ []) is
 
+      is_good_head : IsGood known.setup (carried_by [] false) (Block head ended)
+      is_good_head = subst (IsGood known.setup (carried_by [] false)) is (subst (λ xs. IsGood known.setup (carried_by xs false) item) empty good)
+
       written : IsWritten (items known id (e ∷ t)) text stage
-      written =
-          subst (λ xs. IsWritten xs text stage) (sym now)
-          (head_written known.setup head ended text stage (subst (IsGood known.setup (carried_by [] false)) is (subst (λ xs. IsGood known.setup (carried_by xs false) item) empty good)) may.sending may.whole)
+      written = subst (λ xs. IsWritten xs text stage) (sym now) (head_written known.setup head ended text stage is_good_head may.sending may.whole)
+
+      awaited : is_whole stage ≡ false → IsAwaited (items known id (e ∷ t)) text stage []
+      awaited part = subst (λ xs. IsAwaited xs text stage []) (sym now) (head_awaited known.setup head ended text stage is_good_head may.sending may.whole part)
 
       has_head : HasHead (items known id (e ∷ t)) head
       has_head = subst (λ xs. HasHead xs head) (sym now) refl
@@ -226,21 +227,41 @@ module _ (known : Known) (t : List Entry) (s : State) (h : Stands known t s) (to
       none_given : (o : Opened) → IsGiven t id o → ⊥
       none_given o g = let was = (h.given o g.is_opened).has_head in subst (λ xs. HasHead xs (h.given o g.is_opened).head) (ap (λ n. items known n t) g.is_given ∙ empty) was
 
+      by : (goes : Bool) → (goes ≡ false → (known.setup.passing ≡ WholePassing) × (is_whole stage ≡ false)) → (goes ≡ true → known.setup.passing ≡ WholePassing → is_whole stage ≡ true)
+          → Steps known t e s (waiting_or route head has_head may.by_route none_given text stage [] text goes)
+      by true fine ready = opens_now route head has_head may.by_route none_given text stage [] text written (ready refl)
+      by false fine ready = waits route head has_head may.by_route none_given text stage [] text (awaited (fine refl).1) (fine refl).0
+
   -- ---- an item of a request that waits
 
-  pub gathers : (route : ℕ) (text : List ℕ) (old : Stage) (written : List ℕ) (stage : Stage) → MayAdd behind s noted (Waiting route text old) item old written stage → Steps known t e s (after known.setup behind s (Gathers noted item route text old written stage))
-  gathers route text old written stage may =
-      let w : IsWaiting known t id route text old = h.held id (record { id = id; way = Waiting route text old }) may.found in
-      either route (text ++ written) stage
-      (subst (λ xs. IsWritten xs (text ++ written) stage) (sym brings.adds) (item_written known.setup (items known id t) text old item written stage w.written w.part good may.continues may.whole))
-      w.head (has_head_stays known t e id w.head w.has_head) w.by_route w.none_given (is_whole stage) (λ part. (w.whole_passing, part)) (λ whole passing. whole)
+  pub gathers : (route : ℕ) (text : List ℕ) (old : Stage) (body written : List ℕ) (stage : Stage) → MayGather behind s noted item route text old body written stage → Steps known t e s (after known.setup behind s (Gathers noted item route text old body written stage))
+  gathers route text old body written stage may = by (ends_with item) refl may.gathered
+    where
+      w : IsWaiting known t id route text old body
+      w = h.held id (record { id = id; way = Waiting route text old body }) may.found
+
+      has_head : HasHead (items known id (e ∷ t)) w.head
+      has_head = has_head_stays known t e id w.head w.has_head
+
+      by : (ends : Bool) → ends_with item ≡ ends → IsGathered ends old (body ++ octets_of item) written stage → Steps known t e s (waiting_or route w.head has_head w.by_route w.none_given text stage (body ++ octets_of item) (text ++ written) (is_whole stage))
+      by true ends g =
+          subst (λ goes. Steps known t e s (waiting_or route w.head has_head w.by_route w.none_given text stage (body ++ octets_of item) (text ++ written) goes)) (sym g.1)
+          (opens_now route w.head has_head w.by_route w.none_given text stage (body ++ octets_of item) (text ++ written)
+          (subst (λ xs. IsWritten xs (text ++ written) stage) (sym brings.adds) (item_completes known.setup (items known id t) text old body item written stage w.awaited good ends g.0 g.1))
+          (λ passing. g.1))
+      by false goes_on g =
+          subst (λ behind. Steps known t e s (waiting_or route w.head has_head w.by_route w.none_given text behind (body ++ octets_of item) (text ++ written) (is_whole behind))) (sym g.1)
+          (subst (λ goes. Steps known t e s (waiting_or route w.head has_head w.by_route w.none_given text old (body ++ octets_of item) (text ++ written) goes)) (sym (part_tells old w.awaited.part))
+          (waits route w.head has_head w.by_route w.none_given text old (body ++ octets_of item) (text ++ written)
+          (subst (λ xs. IsAwaited xs text old (body ++ octets_of item)) (sym brings.adds) (item_gathered known.setup (items known id t) text old body item w.awaited good goes_on))
+          w.whole_passing))
 
   -- ---- an item of a request that goes out
 
   abbrev pub passed : ℕ → Stage → List ℕ → Stage → State
   passed k old written stage = after known.setup behind s (Passes noted item k old written stage)
 
-  pub passes : (k : ℕ) (old : Stage) (written : List ℕ) (stage : Stage) → MayAdd behind s noted (Going k old) item old written stage → Steps known t e s (after known.setup behind s (Passes noted item k old written stage))
+  pub passes : (k : ℕ) (old : Stage) (written : List ℕ) (stage : Stage) → MayPass behind s noted item k old written stage → Steps known t e s (after known.setup behind s (Passes noted item k old written stage))
   passes k old written stage may = own_step (passed k old written stage) (record {
     same_count = refl;
     same_live = refl;

@@ -24,7 +24,7 @@ use Rattle.model.specs.RequestClause.{IsSentWhole, IsSentInPart, MayBeServed, Op
 use Rattle.model.specs.ProgressClause.{Reason, had_closed, is_first_end, was_cut}
 use Rattle.h1_writer.specs.Sending.{Stage}
 use Rattle.model.specs.Courses.{cause_of}
-use Rattle.serving.specs.Written.{IsWritten}
+use Rattle.serving.specs.Written.{IsWritten, IsAwaited}
 use Rattle.serving.specs.State.{Way, Held, held_of, Live, live_of, Due, State, is_whole}
 use Rattle.serving.specs.State.Way.{Waiting, Going, Dropped}
 use Rattle.serving.specs.Rule.{IsKept}
@@ -117,11 +117,10 @@ IsDue known t s (ToSend k text) = (l : Live) × (live_of k s.live ≡ Some l)
 
 -- ---- requests that aren't whole
 
--- A request that waits: this was written of it, and its stream has no connection.
-pub record IsWaiting (known : Known) (t : List Entry) (stream route : ℕ) (text : List ℕ) (stage : Stage) : Type 0 where
+-- A request that waits: its head was written, these octets of its body came, and its stream has no connection.
+pub record IsWaiting (known : Known) (t : List Entry) (stream route : ℕ) (text : List ℕ) (stage : Stage) (body : List ℕ) : Type 0 where
   pub whole_passing : known.setup.passing ≡ WholePassing
-  pub written : IsWritten (items known stream t) text stage
-  pub part : is_whole stage ≡ false
+  pub awaited : IsAwaited (items known stream t) text stage body
   pub head : List Field
   pub has_head : HasHead (items known stream t) head
   pub by_route : IsFirstMatch known.setup.routes (authority_of head) (path_of head) route
@@ -144,7 +143,7 @@ pub record IsDropped (t : List Entry) (s : State) (stream : ℕ) : Type 0 where
 
 -- What is held of a stream is so.
 abbrev pub IsOnWay : Known → List Entry → State → ℕ → Way → Type 0
-IsOnWay known t s stream (Waiting route text stage) = IsWaiting known t stream route text stage
+IsOnWay known t s stream (Waiting route text stage body) = IsWaiting known t stream route text stage body
 IsOnWay known t s stream (Going k stage) = IsGoing known t s stream k stage
 IsOnWay known t s stream Dropped = IsDropped t s stream
 
@@ -250,11 +249,10 @@ closes_stay known t e s u go (Sent noted ∷ v) c = closes_stay known t e s u go
 -- a way stays that a request is on, where its stream's items and its text stay, and connections that matter to it
 pub way_stays : (known : Known) (t : List Entry) (e : Entry) (s u : State) (stream : ℕ) (way : Way) → items known stream (e ∷ t) ≡ items known stream t → opens (e ∷ t) ≡ opens t → ((o : Opened) → IsGiven t stream o → text_of o.k (e ∷ t) u.due ≡ text_of o.k t s.due) → ((k : ℕ) (stage : Stage) → way ≡ Going k stage → IsKept s k → IsKept u k) → ((k : ℕ) → live_of k s.live ≡ None → live_of k u.live ≡ None)
     → IsOnWay known t s stream way → IsOnWay known (e ∷ t) u stream way
-way_stays known t e s u stream (Waiting route text stage) same same_opens same_text keeps loses w =
+way_stays known t e s u stream (Waiting route text stage body) same same_opens same_text keeps loses w =
     record {
       whole_passing = w.whole_passing;
-      written = subst (λ xs. IsWritten xs text stage) (sym same) w.written;
-      part = w.part;
+      awaited = subst (λ xs. IsAwaited xs text stage body) (sym same) w.awaited;
       head = w.head;
       has_head = subst (λ xs. HasHead xs w.head) (sym same) w.has_head;
       by_route = w.by_route;

@@ -1,6 +1,6 @@
 -- A worked run, where requests are passed on as they come: the head of a POST goes out on a connection of its own, then the first octets
 -- of its body. The upstream answers before the rest has come, which is dropped then.
-use Rattle.std.proofs.Common.{true, false, List, [], ◌∷◌, refl, sym, subst, inl, inr, arith}
+use Rattle.std.proofs.Common.{◌≡◌, true, false, List, [], ◌∷◌, refl, sym, subst, inl, inr, arith}
 use Rattle.std.specs.Prelude.{codes}
 use Rattle.model.specs.Tables.{total_size}
 use Rattle.model.specs.Messages.Item.{Content}
@@ -14,10 +14,11 @@ use Rattle.model.specs.Known.{Known}
 use Rattle.model.proofs.AnswerTexts.{answer, response, answered}
 use Rattle.h1_writer.specs.Sending.{chunk_text}
 use Rattle.h1_writer.specs.Sending.Stage.{Chunking}
-use Rattle.serving.specs.State.{Turn, tape_of}
+use Rattle.serving.specs.State.{state_of, Turn, tape_of}
 use Rattle.serving.specs.State.Move.{Begins, Passes, Drops, Hears, Acts}
 use Rattle.serving.specs.Rule.{AreAllowed}
 use Rattle.serving.specs.Meaning.{IsAllHeard, AreSo, KeepClauses}
+use Rattle.serving.specs.Held.{held_for}
 use Rattle.serving.proofs.Telling.{told_by}
 use Rattle.serving.proofs.Clauses.{clauses_hold}
 use Rattle.serving.proofs.RunMoves.{known, post, post_text, post_head, first_data, last_data, turn, m1}
@@ -113,3 +114,10 @@ t5 = (t4, record { adds = refl; goes_on = refl }, told_by streaming _ (1 ∷ [])
 -- so the clauses hold at its end
 at_end : KeepClauses streaming (tape_of s5)
 at_end = clauses_hold streaming s5 b5 t5 (record { nothing = refl; none_done = refl; ended = λ e. cc })
+
+-- while the request goes out a chunk of it is due, and then nothing is held
+chunk_due : held_for 1 (state_of streaming.setup (turn (Passes first_data (Content (codes "he") false) 1 Chunking (chunk_text (codes "he")) Chunking) (1 ∷ []) ∷ s2)) ≡ 7
+chunk_due = refl
+
+none_held : held_for 1 (state_of streaming.setup s3) ≡ 0
+none_held = refl

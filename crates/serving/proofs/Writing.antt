@@ -14,10 +14,10 @@ use Rattle.request_rules.specs.Heads.{parts_of}
 use Rattle.h1_writer.specs.Sending.{Stage, Sending, Continues, piece_of}
 use Rattle.h1_writer.specs.Sending.Stage.{Whole}
 use Rattle.h1_writer.proofs.Stages.{concat_more}
-use Rattle.serving.specs.Written.{is_content, octets_of, IsWritten}
+use Rattle.serving.specs.Written.{is_content, octets_of, IsWritten, IsAwaited}
 use Rattle.serving.specs.State.{is_whole}
-use Rattle.serving.proofs.Texts.{part_told, part_tells}
-use Rattle.serving.proofs.Fitting.{head_taken, trailers_fit, not_not}
+use Rattle.serving.proofs.Texts.{part_told, part_tells, whole_told}
+use Rattle.serving.proofs.Fitting.{head_taken, trailers_fit, trailers_behind, not_not}
 use Rattle.serving.proofs.Bringing.{IsGood}
 
 -- ---- items behind items
@@ -95,6 +95,10 @@ adds items text stage item written new w part continues whole goes are = record 
   goes_on = λ p. list_any-append ends_with items (item ∷ []) ∙ ap (λ b. b || list_any ends_with (item ∷ [])) (w.goes_on part) ∙ ap (λ b. b || false) (goes p).1;
 }
 
+-- the octets of a body that waits, with those of an item more
+body_more : (items : List Item) (text : List ℕ) (stage : Stage) (body : List ℕ) → (w : IsAwaited items text stage body) → (item : Item) → body ++ octets_of item ≡ body_of (w.more ++ item ∷ [])
+body_more items text stage body w item = ap (λ b. b ++ octets_of item) w.body_is ∙ ap (λ b. body_of w.more ++ b) (sym (octets_are item)) ∙ sym (body_append w.more (item ∷ []))
+
 -- A head that is good is written.
 pub head_written : (setup : Setup) (head : List Field) (ended : Bool) (text : List ℕ) (stage : Stage) → IsGood setup (carried_by [] false) (Block head ended) → Sending (parts_of head) ended text [] stage → is_whole stage ≡ ended → IsWritten (Block head ended ∷ []) text stage
 head_written setup head ended text stage good sending whole =
@@ -109,6 +113,64 @@ item_written setup items text stage (Content octets ends) written new w part goo
 item_written setup items text stage (Block fields ends) written new w part good continues whole =
     let fits = trailers_fit items text stage w (part_told stage part) fields ends good.1 in
     adds items text stage (Block fields ends) written new w (part_told stage part) continues (λ e. fits.0) (λ p. absurd (let clash : true ≡ false = sym fits.0 ∙ sym whole ∙ part_tells new p in cc)) (fits.1, refl)
+
+-- ---- what is written of a request that waits
+
+-- A head that doesn't end its stream is written, and waits.
+pub head_awaited : (setup : Setup) (head : List Field) (ended : Bool) (text : List ℕ) (stage : Stage) → IsGood setup (carried_by [] false) (Block head ended) → Sending (parts_of head) ended text [] stage → is_whole stage ≡ ended → is_whole stage ≡ false → IsAwaited (Block head ended ∷ []) text stage []
+head_awaited setup head ended text stage good sending whole part =
+    let taken = head_taken setup head ended good.0 good.1 in
+    let goes_on : ended ≡ false = sym whole ∙ part in record {
+      head = head;
+      more = [];
+      is = ap (λ b. Block head b ∷ []) goes_on;
+      well_formed = taken.well_formed;
+      no_connect = taken.no_connect;
+      sending = subst (λ b. Sending (parts_of head) b text [] stage) goes_on sending;
+      part = part_told stage part;
+      body_is = refl;
+      plain = refl;
+      goes_on = ap (λ b. b || false) goes_on;
+    }
+
+-- Octets that are good come behind those that wait. A block would end the stream.
+pub item_gathered : (setup : Setup) (items : List Item) (text : List ℕ) (stage : Stage) (body : List ℕ) (item : Item) → IsAwaited items text stage body → IsGood setup (carried_by items false) item → ends_with item ≡ false → IsAwaited (items ++ item ∷ []) text stage (body ++ octets_of item)
+item_gathered setup items text stage body (Block fields ends) w good goes_on = absurd (let clash : true ≡ false = sym (trailers_behind items text stage body w fields ends good.1).0 ∙ goes_on in cc)
+item_gathered setup items text stage body (Content octets ends) w good goes_on = record {
+  head = w.head;
+  more = w.more ++ Content octets ends ∷ [];
+  is = ap (λ xs. xs ++ Content octets ends ∷ []) w.is;
+  well_formed = w.well_formed;
+  no_connect = w.no_connect;
+  sending = w.sending;
+  part = w.part;
+  body_is = body_more items text stage body w (Content octets ends);
+  plain = plain_append w.more (Content octets ends ∷ []) w.plain refl;
+  goes_on = list_any-append ends_with items (Content octets ends ∷ []) ∙ ap (λ b. b || (ends || false)) w.goes_on ∙ ap (λ b. b || false) goes_on;
+}
+
+-- An item that is good ends the stream: its whole body is written.
+pub item_completes : (setup : Setup) (items : List Item) (text : List ℕ) (old : Stage) (body : List ℕ) (item : Item) (written : List ℕ) (stage : Stage) → IsAwaited items text old body → IsGood setup (carried_by items false) item → ends_with item ≡ true → Continues old written (body ++ octets_of item) stage → is_whole stage ≡ true
+    → IsWritten (items ++ item ∷ []) (text ++ written) stage
+item_completes setup items text old body item written stage w good ends continues whole = record {
+  head = w.head;
+  ended = false;
+  more = w.more ++ item ∷ [];
+  pieces = piece_of (body ++ octets_of item);
+  is = ap (λ xs. xs ++ item ∷ []) w.is;
+  well_formed = w.well_formed;
+  no_connect = w.no_connect;
+  sending = continues (parts_of w.head) false text [] w.sending;
+  body = concat_more [] (body ++ octets_of item) ∙ body_more items text old body w item;
+  contents = contents_append w.more (item ∷ []) w.plain (are_contents item good);
+  ends = λ e. ends_append items item w.goes_on ends;
+  plain = λ part. absurd (part (whole_told stage whole));
+  goes_on = λ part. absurd (part (whole_told stage whole));
+}
+  where
+    are_contents : (x : Item) → IsGood setup (carried_by items false) x → AreContents (x ∷ [])
+    are_contents (Content octets b) g = tt
+    are_contents (Block fields b) g = ((trailers_behind items text old body w fields b g.1).1, refl)
 
 -- Octets are pushed and then the text is ended: as one step.
 pub ends_behind : (old middle new : Stage) (first second octets : List ℕ) → Continues old first octets middle → Continues middle second [] new → Continues old (first ++ second) octets new

@@ -37,7 +37,7 @@ Verdict known t o false = IsAllHeard known t o → ⊥
 abbrev pub IsSo : Known → List Entry → Move → Type 0
 IsSo known t (Takes noted) = items known noted.frame.id (Came noted ∷ t) ≡ items known noted.frame.id t
 IsSo known t (Begins noted head ended route text stage) = (items known noted.frame.id t ≡ []) × Brings known t noted (Block head ended)
-IsSo known t (Gathers noted item route text old written stage) = Brings known t noted item
+IsSo known t (Gathers noted item route text old body written stage) = Brings known t noted item
 IsSo known t (Passes noted item k old written stage) = Brings known t noted item
 IsSo known t (Drops noted item) = Brings known t noted item
 IsSo known t (Hears event whole) =

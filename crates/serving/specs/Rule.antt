@@ -1,5 +1,5 @@
 -- Which move may come next, by what is kept and by what is told before and behind it.
-use Rattle.std.specs.Prelude.{◌≡◌, ℕ, suc, ◌<◌, Bool, true, false, not, ◌||◌, ◌⊎◌, List, [], ◌∷◌, Some}
+use Rattle.std.specs.Prelude.{◌≡◌, ℕ, suc, ◌<◌, Bool, true, false, not, ◌||◌, ◌⊎◌, List, [], ◌∷◌, ◌++◌, Some}
 use Rattle.std.specs.List.{list_any}
 use Rattle.model.specs.Http2.{authority_of, path_of}
 use Rattle.model.specs.Messages.{Field, Item, ends_with}
@@ -13,7 +13,7 @@ use Rattle.request_rules.specs.Heads.{parts_of}
 use Rattle.h1_writer.specs.Sending.{Stage, Sending, Continues}
 use Rattle.serving.specs.Written.{octets_of}
 use Rattle.serving.specs.Told.{Told, nothing_told}
-use Rattle.serving.specs.State.{Way, held_of, Live, live_of, State, Move, Turn, is_whole, state_of}
+use Rattle.serving.specs.State.{held_of, Live, live_of, State, Move, Turn, is_whole, state_of}
 use Rattle.serving.specs.State.Way.{Waiting, Going, Dropped}
 use Rattle.serving.specs.State.Due.{Nothing, ToOpen, ToSend}
 use Rattle.serving.specs.State.Move.{Takes, Begins, Gathers, Passes, Drops, Breaks, Notes, Hears, Fails, Sends, Acts}
@@ -43,10 +43,21 @@ pub record MayBegin (setup : Setup) (behind : Told) (noted : Noted) (head : List
   pub sending : Sending (parts_of head) ended text [] stage
   pub whole : is_whole stage ≡ ended
 
--- An item has come of a request that is on this way: what was written goes on with it, and is whole where it ends the stream.
-pub record MayAdd (behind : Told) (s : State) (noted : Noted) (way : Way) (item : Item) (old : Stage) (written : List ℕ) (stage : Stage) : Type 0 where
+-- What is written where an item comes of a request that waits: the whole body where the item ends it, and nothing before.
+abbrev pub IsGathered : Bool → Stage → List ℕ → List ℕ → Stage → Type 0
+IsGathered true old body written stage = Continues old written body stage × (is_whole stage ≡ true)
+IsGathered false old body written stage = (written ≡ []) × (stage ≡ old)
+
+-- An item has come of a request that waits with this text and these octets of its body: its octets come behind them.
+pub record MayGather (behind : Told) (s : State) (noted : Noted) (item : Item) (route : ℕ) (text : List ℕ) (old : Stage) (body written : List ℕ) (stage : Stage) : Type 0 where
   pub serving : IsServing behind noted
-  pub found : held_of noted.frame.id s.held ≡ Some (record { id = noted.frame.id; way = way })
+  pub found : held_of noted.frame.id s.held ≡ Some (record { id = noted.frame.id; way = Waiting route text old body })
+  pub gathered : IsGathered (ends_with item) old (body ++ octets_of item) written stage
+
+-- An item has come of a request that goes out on this connection: what was written goes on with it, and is whole where it ends the stream.
+pub record MayPass (behind : Told) (s : State) (noted : Noted) (item : Item) (k : ℕ) (old : Stage) (written : List ℕ) (stage : Stage) : Type 0 where
+  pub serving : IsServing behind noted
+  pub found : held_of noted.frame.id s.held ≡ Some (record { id = noted.frame.id; way = Going k old })
   pub continues : Continues old written (octets_of item) stage
   pub whole : is_whole stage ≡ ends_with item
 
@@ -99,9 +110,9 @@ MayAct told s CloseClient = MayShut s
 abbrev pub MayMove : Setup → Told → Told → State → Move → Type 0
 MayMove setup before behind s (Takes noted) = MayCome before s
 MayMove setup before behind s (Begins noted head ended route text stage) = MayCome before s × MayBegin setup behind noted head ended route text stage
-MayMove setup before behind s (Gathers noted item route text old written stage) =
-    MayCome before s × MayAdd behind s noted (Waiting route text old) item old written stage
-MayMove setup before behind s (Passes noted item k old written stage) = MayCome before s × MayAdd behind s noted (Going k old) item old written stage
+MayMove setup before behind s (Gathers noted item route text old body written stage) =
+    MayCome before s × MayGather behind s noted item route text old body written stage
+MayMove setup before behind s (Passes noted item k old written stage) = MayCome before s × MayPass behind s noted item k old written stage
 MayMove setup before behind s (Drops noted item) = MayCome before s × MayDrop behind s noted
 MayMove setup before behind s (Breaks breach) = MayCome before s
 MayMove setup before behind s (Notes event) = MayCome before s × (upstream_of event ≡ 0)

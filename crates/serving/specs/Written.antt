@@ -36,6 +36,19 @@ pub record IsWritten (items : List Item) (text : List ℕ) (stage : Stage) : Typ
   pub plain : (stage ≡ Whole → ⊥) → list_all is_content more ≡ true
   pub goes_on : (stage ≡ Whole → ⊥) → list_any ends_with items ≡ false
 
+-- This text was written for the head of these items, which go on, and that is waited for; these octets of their body weren't written yet.
+pub record IsAwaited (items : List Item) (text : List ℕ) (stage : Stage) (body : List ℕ) : Type 0 where
+  pub head : List Field
+  pub more : List Item
+  pub is : items ≡ Block head false ∷ more
+  pub well_formed : WellFormedHead head
+  pub no_connect : is_connect head ≡ false
+  pub sending : Sending (parts_of head) false text [] stage
+  pub part : stage ≡ Whole → ⊥
+  pub body_is : body ≡ body_of more
+  pub plain : list_all is_content more ≡ true
+  pub goes_on : list_any ends_with items ≡ false
+
 -- A head that is taken: well-formed, no tunnel, with a route, and of no body where it ends the stream.
 pub record IsTaken (setup : Setup) (head : List Field) (ends : Bool) : Type 0 where
   pub well_formed : WellFormedHead head

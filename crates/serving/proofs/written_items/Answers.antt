@@ -9,3 +9,9 @@ returns-clause-octets c = calling.octets_fit
 
 pub returns-clause-trailers : goal.returns-clause-trailers
 returns-clause-trailers c = calling.trailers_end
+
+pub returns-clause-last_octets : goal.returns-clause-last_octets
+returns-clause-last_octets c = calling.last_octets_fit
+
+pub returns-clause-last_trailers : goal.returns-clause-last_trailers
+returns-clause-last_trailers c = calling.last_trailers_fit

@@ -67,7 +67,8 @@ same_line : (text : List ℕ) (m n : ℕ) (x y : List ℕ) → Lined text m x �
 same_line text m n x y p q =
     let s = one_chunk_line p.line q.line x y m n p.is_line q.is_line (sym p.is ∙ q.is) in (s.1, same_rest p.line q.line x y s.0 (sym p.is ∙ q.is))
 
--- A line stands there whole, and no more octets of chunks than behind it: those of its chunk, or fewer by the end of that chunk's line.
+-- A line stands there whole, and behind it no fewer octets than those of chunks: which are of its chunk, or fewer by the two octets
+-- with which that ends.
 record HasLine (text octets : List ℕ) : Type 0 where
   size : ℕ
   rest : List ℕ

@@ -1,4 +1,5 @@
--- The names and values of a head are no longer than its text, and a response has few heads: so those that are shown of one are bounded.
+-- The names and values of a head are no longer than its text, and a response has few heads: so those that are shown of one are
+-- bounded.
 use Rattle.std.proofs.Common.{◌≡◌, ℕ, ◌+◌, ◌≤◌, Bool, true, false, List, [], ◌∷◌, ◌++◌, length, map, reverse, filter, ap, sym, ◌∙◌, subst, length-append, arith, inl, inr}
 use Rattle.std.specs.Prelude.{bytes_eq, if◌then◌else◌, codes, sum_by, All, Option, Some, None}
 use Rattle.std.specs.List.{flat_map}

@@ -1,5 +1,5 @@
--- Where frames go without padding, the octets of DATA that count are those of a body that were read; and by the rule of the frames that
--- are sent none has padding.
+-- Where frames go without padding, the octets of DATA that count are those of a body that were read; and by the rule of the frames
+-- that are sent none has padding.
 use Rattle.std.proofs.Common.{◌≡◌, ℕ, ◌+◌, ◌-◌, ◌≤◌, min, Bool, true, false, not, ◌==◌, ◌&&◌, ◌||◌, List, [], ◌∷◌, ◌++◌, length, take, drop, length-append, length-drop, refl, sym, ap, ◌∙◌, subst, inl, inr, arith, if◌then◌else◌}
 use Rattle.std.specs.Prelude.{◌/◌, ◌%◌, Option, Some, None, slice_index}
 use Rattle.std.specs.List.{list_all, list_any}

@@ -1,4 +1,5 @@
--- How many octets outboxes hold: names and values of the heads that wait, and what waits of bodies. And the most that there may be.
+-- How many octets outboxes hold: names and values of the heads that wait, and what waits of bodies. And the most that there may
+-- be.
 use Rattle.std.specs.Prelude.{◌≡◌, ℕ, ◌+◌, ◌*◌, false, ◌==◌, List, [], ◌∷◌, ◌++◌, length, Some, None, sum_by}
 use Rattle.std.specs.List.{list_any}
 use Rattle.model.specs.Messages.{Field}
@@ -11,6 +12,7 @@ use Rattle.model.specs.ResponseHeads.{Head, longest_section}
 use Rattle.model.specs.Responses.{most_interims}
 use Rattle.model.specs.Known.{Known}
 use Rattle.model.specs.Rooms.{FitsRoom}
+use Rattle.model.specs.Failures.{AreJudged}
 use Rattle.offering.specs.Outbox.{Outbox}
 use Rattle.offering.specs.Outbox.Outbox.{Before, Behind, Over}
 use Rattle.offering.specs.State.{Kept, State}
@@ -73,6 +75,13 @@ abbrev pub AreUnpadded : List Entry → Type 0
 AreUnpadded [] = Unit {0}
 AreUnpadded (Sent noted ∷ t) = (is_padded noted.frame ≡ false) × AreUnpadded t
 AreUnpadded (_ ∷ t) = AreUnpadded t
+
+-- What bounds the bodies that wait: where they are passed on whole, that failures are judged rightly, responses that are too long
+-- among them; where they are passed on as they come, that each event fitted its room, and that nothing went as padding, which
+-- makes room like octets of a body.
+abbrev pub AreLimited : Passing → Known → List Entry → Type 0
+AreLimited Whole known t = AreJudged known t
+AreLimited Streaming known t = FitRooms known t × AreUnpadded t
 
 -- ---- whose outboxes there are
 

@@ -1,5 +1,5 @@
--- Where responses are passed on whole, and failures are judged rightly, no more is heard of a body than is kept, as long as the gateway
--- doesn't answer its stream.
+-- Where responses are passed on whole, and failures are judged rightly, no more is heard of a body than is kept, as long as the
+-- gateway doesn't answer its stream.
 use Rattle.std.proofs.Common.{◌≡◌, ℕ, zero, suc, ◌<◌, ◌≤◌, Bool, true, false, List, [], ◌∷◌, length, refl, sym, ap, ◌∙◌, subst, inl, inr, arith}
 use Rattle.std.specs.Prelude.{Option, Some, None}
 use Rattle.std.proofs.lemmas.Bool.{cases_lt}
@@ -47,7 +47,7 @@ nothing_long known text to_head none long =
     let over = long.over in
     omega (arith, within, empty, over)
 
--- the later entries of a tape are judged too
+-- what stands before an entry is judged too
 pub judged_before : (known : Known) (t : List Entry) (e : Entry) → AreJudged known (e ∷ t) → AreJudged known t
 judged_before known t (Happened event) j = j.1
 judged_before known t (Came noted) j = j

@@ -4,7 +4,6 @@ use Rattle.std.specs.Prelude.{Option, Some, None, is_some, nat_lt}
 use Rattle.std.specs.List.{list_any}
 use Rattle.std.proofs.lemmas.List.{append-nil}
 use Rattle.std.proofs.lemmas.Bool.{ne_eqb}
-use Rattle.std.proofs.lemmas.Bool.Decides.{eqb_tells}
 use Rattle.model.specs.Messages.{Item}
 use Rattle.model.specs.Messages.Item.{Block, Content}
 use Rattle.model.specs.Logs.{Event, Act}
@@ -23,7 +22,7 @@ use Rattle.model.specs.Causes.Cause.{BadAnswer}
 use Rattle.model.specs.ErrorTable.{fault_with}
 use Rattle.model.specs.Courses.{Course, course, carried, items, about, upstream_of, cause_at, cause_of, first_of_both, interrupts, is_final}
 use Rattle.model.specs.Offers.{is_to_head, IsGiven}
-use Rattle.model.proofs.GivenLaws.{given_is, number_above, given_zero}
+use Rattle.model.proofs.GivenLaws.{given_is, given_zero}
 use Rattle.offering.proofs.Standing.{SameOffer}
 
 -- ---- the course of a stream, where the entry is no cause for it

@@ -1,28 +1,34 @@
--- A worked run: a GET that no route takes is answered with 404 in its turn, and all clauses hold behind it. And who is ready of
--- four streams.
-use Rattle.std.proofs.Common.{◌≡◌, ℕ, ◌<◌, ◌≤◌, true, false, List, [], ◌∷◌, map, refl, sym, ap, ◌∙◌, subst, inl, arith, pos, nat_lt, if◌then◌else◌}
+-- A worked run: a GET that no route takes is answered with 404 in its turn, and all clauses hold behind it. Who is ready of
+-- four streams. And what outboxes hold.
+use Rattle.std.proofs.Common.{◌≡◌, ℕ, ◌+◌, ◌<◌, ◌≤◌, true, false, List, [], ◌∷◌, map, reverse, refl, sym, ap, ◌∙◌, subst, inl, arith, pos, nat_lt, if◌then◌else◌}
 use Rattle.std.specs.Prelude.{Option, Some, None, filter, codes, slice_index}
 use Rattle.model.specs.Tables.{total_size}
 use Rattle.model.specs.Messages.{Field}
-use Rattle.model.specs.Messages.Item.{Block}
+use Rattle.model.specs.Messages.Item.{Block, Content}
 use Rattle.model.specs.Frames.{Frame, settings_frame, settings_ack}
 use Rattle.model.specs.Setup.Policy.{Plain}
 use Rattle.model.specs.Setup.Passing.{Whole}
 use Rattle.model.specs.Tapes.{Noted, Entry}
+use Rattle.model.specs.Tapes.Entry.{Happened, Sent}
+use Rattle.model.specs.Logs.Event.{Up}
+use Rattle.model.specs.ResponseHeads.{Head}
+use Rattle.model.specs.Lifetimes.{active}
+use Rattle.model.specs.WindowsOnTape.{is_on, data_octets}
 use Rattle.model.specs.Tapes.Note.{NoBlock, Fields}
 use Rattle.model.specs.Openings.{opens, AreNumbered, AreApart}
-use Rattle.model.specs.Available.{IsIn}
+use Rattle.model.specs.Available.{items_on, IsIn}
 use Rattle.model.specs.Known.{Known}
 use Rattle.model.specs.Causes.{reply_head}
 use Rattle.model.specs.Causes.Cause.{NoRoute}
-use Rattle.offering.specs.Outbox.{silent, replied}
-use Rattle.offering.specs.Outbox.Outbox.{Behind}
-use Rattle.offering.specs.Outbox.Part.{Final}
+use Rattle.offering.specs.Outbox.{silent, replied, left}
+use Rattle.offering.specs.Outbox.Outbox.{Before, Behind}
+use Rattle.offering.specs.Outbox.Part.{Early, Final, Octets}
 use Rattle.offering.specs.State.{Kept, State, Windows, Change, Move, find, can_turn, ready, entry_of, state_of}
 use Rattle.offering.specs.State.Move.{Takes, Goes, Sends}
 use Rattle.conduct.specs.Summary.{summary_of}
 use Rattle.offering.specs.Policy.{Neighbours, windows_on, AreAllowed, MayGo, IsFlushed, KeepClauses}
 use Rattle.offering.specs.Sight.{sight_in, windows_in}
+use Rattle.offering.specs.Held.{octets_in, octets_held, FitRooms, AreUnpadded}
 use Rattle.offering.specs.Rule.{Seen, sight_of, AllMayCome}
 use Rattle.offering.proofs.Flushing.{clauses_hold}
 
@@ -183,3 +189,50 @@ may_come = (
   ),
   (reply_goes (windows_in (sight_of (seen asked))), record { active = refl; brings = refl }),
 )
+
+-- ---- what is held
+
+-- the reply's one field is held until it goes: its name has 14 octets and its value one
+reply_held : octets_held (state_of asked) ≡ 15
+reply_held = refl
+
+none_held : octets_held (state_of answered) ≡ 0
+none_held = refl
+
+-- the outbox is that of the one stream that is active
+one_stream : map (λ (k : Kept). k.id) (state_of asked).kept ≡ reverse (active (map entry_of asked))
+unfolding total_size
+one_stream = refl
+
+-- the reply of one stream, and an octet, two and none of the others' bodies
+four_held : octets_held four ≡ 15 + 1 + 2 + 0
+four_held = refl
+
+-- a head by its status, with a field of three octets
+abbrev pub head : ℕ → Head
+head status = record { status = status; fields = field (codes "ab") (codes "c") ∷ [] }
+
+-- Interim heads, the final one, and what is there of the body: all of them are held, and less once a part of them went.
+all_parts : octets_in (Before (head 100 ∷ head 103 ∷ []) (Some (head 200)) (7 ∷ 8 ∷ []) true) ≡ 3 + 3 + 3 + 2
+all_parts = refl
+
+head_gone : octets_in (left (Before (head 100 ∷ head 103 ∷ []) (Some (head 200)) (7 ∷ 8 ∷ []) true) (Early (head 100))) ≡ 3 + 3 + 2
+head_gone = refl
+
+octets_gone : octets_in (left (Behind (7 ∷ 8 ∷ 9 ∷ []) false) (Octets (7 ∷ 8 ∷ []) false)) ≡ 1
+octets_gone = refl
+
+-- DATA of two octets with one of padding, which is announced in one more: all four make room
+abbrev pub padded : Noted
+padded = plain (frame 0 8 1 (1 ∷ 7 ∷ 8 ∷ 0 ∷ []))
+
+padding_counts : (data_octets (is_on 1) (padded ∷ []) ≡ 4) × (items_on 1 (padded ∷ []) ≡ Content (7 ∷ 8 ∷ []) false ∷ [])
+padding_counts = (refl, refl)
+
+-- So such frames are told apart.
+not_bare : AreUnpadded (Sent padded ∷ []) → ⊥
+not_bare bare = let clash : true ≡ false = bare.0 in cc
+
+-- a connection that isn't open has no room
+too_much : FitRooms elsewhere (Happened (Up 1 (7 ∷ [])) ∷ []) → ⊥
+too_much fit = let fits : 1 ≤ 0 = fit.0 0 refl in omega (arith, fits)

@@ -1,11 +1,10 @@
 -- At most a hundred streams are active: a hundred and first is refused, and behind the reset that is owed for it then it is over.
-use Rattle.std.proofs.Common.{◌≡◌, ℕ, suc, ◌<◌, ◌≤◌, Bool, true, false, not, ◌&&◌, ◌||◌, ◌==◌, nat_lt, if◌then◌else◌, List, [], ◌∷◌, ◌++◌, filter, length, Option, Some, None, refl, sym, ◌∙◌, ap, subst, arith, inl, inr}
-use Rattle.std.proofs.lemmas.Bool.{and_parts, or_left, or_right, or_parts, and_from, eq-eqb, ltb-true, cases_Bool}
-use Rattle.std.specs.Prelude.{is_some}
+use Rattle.std.proofs.Common.{◌≡◌, ℕ, ◌<◌, ◌≤◌, Bool, true, false, not, ◌&&◌, ◌||◌, ◌==◌, nat_lt, if◌then◌else◌, List, [], ◌∷◌, ◌++◌, filter, length, Option, Some, None, refl, sym, ◌∙◌, ap, subst, arith, inl, inr}
+use Rattle.std.proofs.lemmas.Bool.{or_left, or_right, or_parts, and_from, eq-eqb, ltb-true}
 use Rattle.std.specs.List.{list_any}
-use Rattle.model.specs.Frames.{Frame, headers_kind, rst_stream_kind, refused_stream}
+use Rattle.model.specs.Frames.{Frame, headers_kind, refused_stream}
 use Rattle.model.specs.Setup.{Setup}
-use Rattle.model.specs.Logs.Event.{ClientEnd}
+use Rattle.model.specs.Known.{Known}
 use Rattle.model.specs.Tapes.{Noted, Entry}
 use Rattle.model.specs.Tapes.Entry.{Came, Breached, Happened, Sent, Did}
 use Rattle.model.specs.Decoding.{Partial}
@@ -15,22 +14,23 @@ use Rattle.model.specs.StreamStates.Verdict.{Opens, Fails}
 use Rattle.model.specs.FrameErrors.{fault_if}
 use Rattle.model.specs.Frames.{protocol_error, flow_control_error}
 use Rattle.model.specs.Errors.{Fault, first_of, or_else}
-use Rattle.model.specs.Errors.Fault.{Connection, Stream, Discarded}
-use Rattle.model.specs.Lifetimes.{opens_by, may_open, ends_by}
+use Rattle.model.specs.Errors.Fault.{Stream}
+use Rattle.model.specs.Lifetimes.{opens_by, may_open, ends_by, active}
 use Rattle.model.specs.ErrorTable.{fault_of, judged, unless_of_stream, grants_nothing, grants_past, is_past_room}
-use Rattle.model.specs.ErrorClause.{is_fatal, rst_stream, reset_for}
+use Rattle.model.specs.ErrorClause.{rst_stream}
 use Rattle.model.proofs.OpenedLaws.{not_opened}
 use Rattle.conduct.specs.Summary.{Brief, Stream as Kept, Summary}
-use Rattle.conduct.specs.Judging.{window_in, fault_on_in, is_over_in, active_in, is_active_in, completed_in, fault_by_standing_in, stream_update_in, stream_data_in, malformed_in, fault_for}
-use Rattle.conduct.specs.Owing.{about_in, fault_in, last_farewell_in, owed_first_in, owes_in}
+use Rattle.conduct.specs.Judging.{window_in, fault_on_in, is_over_in, active_in, is_active_in, completed_in, fault_by_standing_in, stream_update_in, stream_data_in, malformed_in}
+use Rattle.conduct.specs.Owing.{fault_in, last_farewell_in, owed_first_in, owes_in}
 use Rattle.conduct.specs.After.{kept_behind, resets_it, ends_after}
 use Rattle.conduct.specs.Turn.{rest_of}
-use Rattle.conduct.specs.Rows.{find, ids_of, StandFor}
-use Rattle.conduct.specs.Rule.{Move, Point, point_after, IsInTurn, Allowed, MayComeIn, point_of, AllAllowed}
-use Rattle.conduct.specs.Book.{Book, Desk, summary_in, desk_of, AllMoved, Rests}
+use Rattle.conduct.specs.Rows.{find, ids_of}
+use Rattle.conduct.specs.Rule.{Move, Point, point_after, IsInTurn, AreKnown, tape_of, point_of, AllAllowed}
+use Rattle.conduct.specs.Book.{Book, summary_in, desk_of, AllMoved}
 use Rattle.conduct.specs.Told.{IsTold}
+use Rattle.conduct.proofs.Rule.{point_same}
 use Rattle.conduct.proofs.Standings.{actives, actives_same, each_alike}
-use Rattle.conduct.proofs.RowsKept.{opens_own, completed_own}
+use Rattle.conduct.proofs.RowsKept.{opens_own}
 use Rattle.conduct.proofs.Calm.{early_rows, early_fatal, calm, skip, idle_standing}
 use Rattle.conduct.proofs.Book.{HasKept, has_kept}
 
@@ -270,3 +270,13 @@ few_at_rest setup moves all none on =
   where
     is_lasting : (id : ℕ) → not (is_over_in ((point_of setup moves).summary.stream id)) ≡ true → lasts (point_of setup moves).summary.stream [] id ≡ true
     is_lasting id is = ap (λ b. b && true) is
+
+-- So it is by the tape.
+pub few_on_tape : (known : Known) (moves : List Move) → AreKnown known moves → AllMoved known.setup moves → (desk_of known.setup moves).queue ≡ [] → (desk_of known.setup moves).book.ends ≡ false → length (active (tape_of moves)) ≤ most_active
+few_on_tape known moves knows all none on =
+    let kept : HasKept known.setup moves = has_kept known.setup moves all in
+    let p : Point = point_of known.setup moves in
+    let few = few_at p.summary p.queue (sym kept.tells.queue ∙ none) (few_behind known.setup moves kept.allowed (sym kept.tells.ends ∙ on)) in
+    let less = fewer (λ id. not (is_over_in (p.summary.stream id))) (lasts p.summary.stream []) p.summary.opened (λ id is. ap (λ b. b && true) is) in
+    let count : length (actives p.summary.stream p.summary.opened) ≡ length (active (tape_of moves)) = ap (λ (q : Point). length (actives q.summary.stream q.summary.opened)) (point_same known moves knows) in
+    omega (arith, less, few, count)

@@ -1,10 +1,7 @@
 -- Something comes in only where the program rests: so what holds there holds before each thing that comes in.
-use Rattle.std.proofs.Common.{◌≡◌, true, false, List, [], ◌∷◌, None, sym, ◌∙◌, subst, inr}
-use Rattle.model.specs.Setup.{Setup}
-use Rattle.model.specs.Logs.Act.{Open, ToUp, Close, CloseClient}
-use Rattle.model.specs.Tapes.{Entry, sent}
+use Rattle.std.proofs.Common.{◌≡◌, true, false, List, [], ◌∷◌, sym, ◌∙◌}
+use Rattle.model.specs.Tapes.{Entry}
 use Rattle.model.specs.Tapes.Entry.{Came, Breached, Happened, Sent, Did}
-use Rattle.model.specs.Decoding.{begun}
 use Rattle.model.specs.Known.{Known}
 use Rattle.model.specs.Headline.{HoldsInTurn}
 use Rattle.conduct.specs.Rule.{Move, MayComeIn, IsInTurn, tape_of, AreKnown}

@@ -1,7 +1,7 @@
 -- The header block of the client that isn't complete has at most so many octets as one may have.
-use Rattle.std.proofs.Common.{◌≡◌, ℕ, ◌≤◌, Bool, true, false, ◌||◌, nat_lt, if◌then◌else◌, List, [], ◌∷◌, length, Option, Some, None, refl, sym, ◌∙◌, ap, subst, arith}
+use Rattle.std.proofs.Common.{◌≡◌, ◌≤◌, Bool, true, false, ◌||◌, nat_lt, if◌then◌else◌, List, [], ◌∷◌, length, Option, Some, None, refl, arith}
 use Rattle.std.proofs.lemmas.Bool.{or_parts, ltb-false}
-use Rattle.model.specs.Frames.{Frame, ends_headers, enhance_your_calm}
+use Rattle.model.specs.Frames.{ends_headers, enhance_your_calm}
 use Rattle.model.specs.Setup.{Setup}
 use Rattle.model.specs.Tapes.{Noted, Entry}
 use Rattle.model.specs.Tapes.Entry.{Came, Breached, Happened, Sent, Did}

@@ -30,3 +30,4 @@ pub mod RunsBothWays
 pub mod RunsHeard
 pub mod RunsPartsHeard
 pub mod Unended
+pub mod Holding

@@ -1,6 +1,6 @@
 -- The run goes on otherwise: behind the GET a POST begins on stream 3, with two octets of its body, which are given back; a second GET
 -- goes out on stream 5. Then the POST is reset in the middle of its body, or comes to its end and goes out.
-use Rattle.std.proofs.Common.{◌≡◌, ℕ, ◌==◌, ◌&&◌, Bool, true, false, not, if◌then◌else◌, List, [], ◌∷◌, ◌++◌, Option, Some, None, refl, sym, ap, ◌∙◌, inl, inr, arith, pos}
+use Rattle.std.proofs.Common.{◌≡◌, ℕ, ◌==◌, ◌&&◌, Bool, true, false, not, if◌then◌else◌, List, [], ◌∷◌, Option, Some, None, refl, sym, ap, ◌∙◌, inl, inr, arith, pos}
 use Rattle.std.specs.Prelude.{codes, length}
 use Rattle.std.specs.List.{list_all}
 use Rattle.model.specs.Messages.{Field}

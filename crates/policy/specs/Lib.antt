@@ -6,3 +6,4 @@ pub mod Steps
 pub mod Coming
 pub mod Going
 pub mod Ending
+pub mod Held

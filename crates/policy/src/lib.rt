@@ -13,8 +13,10 @@
 //! - `RestsBehind`: the step ends where the gateway rests.
 #![tactic(auto)]
 
-ghost use Rattle.std.specs.Prelude.{◌≡◌, ℕ, Bool, true, false, ◌++◌, List, ◌∷◌, reverse};
+ghost use Rattle.std.specs.Prelude.{◌≡◌, ◌<◌, ◌≤◌, ◌^◌, ℕ, length, Bool, true, false, ◌++◌, List, ◌∷◌, reverse};
 ghost use Rattle.model.specs.Setup.{Setup};
+ghost use Rattle.model.specs.Setup.Passing.{Streaming};
+ghost use Rattle.model.specs.StreamStates.{most_active};
 ghost use Rattle.model.specs.Logs.{Event, Act, Step};
 ghost use Rattle.model.specs.Logs.Event.{ClientEnd};
 ghost use Rattle.model.specs.Tables.{Table};
@@ -23,12 +25,14 @@ ghost use Rattle.receiving.specs.Policy.{may_come};
 ghost use Rattle.model.specs.Admission.{is_open};
 ghost use Rattle.model.specs.Available.{has_ended};
 ghost use Rattle.model.specs.Known.{Known};
-ghost use Rattle.model.specs.Tapes.{Noted, Breach, EndsWithClose};
+ghost use Rattle.model.specs.Tapes.{Noted, Breach, is_closed, EndsWithClose};
 ghost use Rattle.model.specs.Failures.{AreJudged};
 ghost use Rattle.model.specs.Headline.{ClausesHold, HoldsInTurn, Headline};
 ghost use Rattle.model.specs.Synchrony.{InStep};
 ghost use Rattle.conduct.specs.Rule.{AreKnown};
 ghost use Rattle.offering.specs.Outbox.{News};
+ghost use Rattle.offering.specs.Held.{FitRooms};
+ghost use Rattle.serving.specs.Held.{held_octets};
 ghost use Rattle.policy.specs.Moves.{Gain, Deed, Move};
 ghost use Rattle.policy.specs.Moves.Gain.{Nothing};
 ghost use Rattle.policy.specs.Moves.Move.{Does};
@@ -39,6 +43,7 @@ ghost use Rattle.policy.specs.Answered.{IsAnswered, AreAnswered};
 ghost use Rattle.policy.specs.Steps.{told_by, told_behind, next, MayGoOn, Leads, Stands, AreAnsweredBy};
 ghost use Rattle.policy.specs.Coming.{IsReady, MayTake, MayHear, MayFail};
 ghost use Rattle.policy.specs.Going.{IsOwedNext, GivesBack, Acts};
+ghost use Rattle.policy.specs.Held.{held_on_connection, held_for, held_in_all, most_on_connection, most_for_stream, most_in_all};
 ghost use Rattle.policy.specs.Ending.{IsFatal, ending_of, Ends};
 
 /// Whoever keeps the rule keeps the headline: its five clauses wherever the gateway rests, and before each thing that comes in;
@@ -116,4 +121,23 @@ pub fn ends_lead()
     ensures breach { (setup : Setup) (run : List Move) (s : State) (breach : Breach) → Stands setup run s → IsReady s → Ends setup run s (Breaks breach) }
     ensures frame { (setup : Setup) (run : List Move) (s : State) (noted : Noted) (next : Table) → Stands setup run s → IsReady s → IsFatal s noted next → Ends setup run s (Takes noted next Nothing) }
     ensures answered { (known : Known) (run : List Move) (s : State) (d : Deed) → AreAnswered known run → IsAnswered known (tape_of run) d → AreAnswered known (ending_of s d ++ Does d ∷ run) }
+{}
+
+/// What the gateway keeps of octets, as sums over all octet lists of its state (`Held`), is bounded:
+/// - `connection`: where it rests and the client isn't closed, at most 200,000 octets are kept beside what is kept for streams;
+/// - `stream`: at any time at most `max_body + max_response + 400000` for each stream, what is on offer for it and what is held of its
+///   request together;
+/// - `streams`: where it rests and the client isn't closed, at most 100 streams have something on offer, and at most 100 requests
+///   aren't whole;
+/// - `all`: so all that is kept there is at most 200,000 and 100 times as much as for a stream;
+/// - `closed`: behind the client's close nothing is held of any request.
+///
+/// The premises, and where each comes from: those of [`headline_holds`]; that `max_body` fits 64 bits, by the configuration; and where
+/// bodies are passed on as they come, that what upstreams send fits their rooms (`FitRooms`), which is asked of each event before it is taken.
+pub fn little_is_held()
+    ensures connection { (known : Known) (run : List Move) → AreKnown known (conducts run) → AllAllowed known.setup run → AreAnswered known run → RestsBehind known.setup run → (state_of known.setup run).desk.book.closed ≡ false → held_on_connection (state_of known.setup run) ≤ most_on_connection }
+    ensures stream { (known : Known) (run : List Move) → AreKnown known (conducts run) → AllAllowed known.setup run → AreAnswered known run → (known.setup.passing ≡ Streaming → FitRooms known (tape_of run)) → known.setup.max_body < 2 ^ 64 → (stream : ℕ) → held_for stream (state_of known.setup run) ≤ most_for_stream known.setup }
+    ensures streams { (known : Known) (run : List Move) → AreKnown known (conducts run) → AllAllowed known.setup run → AreAnswered known run → RestsBehind known.setup run → (state_of known.setup run).desk.book.closed ≡ false → (length (state_of known.setup run).offers.kept ≤ most_active) × (length (state_of known.setup run).requests.held ≤ most_active) }
+    ensures all { (known : Known) (run : List Move) → AreKnown known (conducts run) → AllAllowed known.setup run → AreAnswered known run → RestsBehind known.setup run → (state_of known.setup run).desk.book.closed ≡ false → (known.setup.passing ≡ Streaming → FitRooms known (tape_of run)) → known.setup.max_body < 2 ^ 64 → held_in_all (state_of known.setup run) ≤ most_in_all known.setup }
+    ensures closed { (known : Known) (run : List Move) → AreKnown known (conducts run) → AllAllowed known.setup run → AreAnswered known run → is_closed (tape_of run) ≡ true → held_octets (state_of known.setup run).requests ≡ 0 }
 {}

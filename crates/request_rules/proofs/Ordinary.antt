@@ -9,7 +9,7 @@ use Rattle.std.proofs.lemmas.Slice.Eq.{bytes_eq-Decides}
 use Rattle.model.specs.Octets.{some_of, begins_with, is_token_octet, is_digit, is_value, lower}
 use Rattle.model.specs.Messages.{Field}
 use Rattle.model.specs.Http1.{values_of, without}
-use Rattle.model.specs.Http2.{first_of, promised, method_of, authority_of, authorities_of, is_connect, is_pseudo, pseudo_fields, regular_fields, known_names, is_name_octet, is_authority_octet, is_path_for, connection_names, Has, HasLength, PseudoFieldsHold, NamesHold, ValuesHold, HasNoConnectionField, TeHolds, MethodHolds, SchemeHolds, PathHolds, AuthorityHolds, LengthFieldHolds}
+use Rattle.model.specs.Http2.{first_of, promised, method_of, authorities_of, is_connect, is_pseudo, pseudo_fields, regular_fields, known_names, is_name_octet, is_authority_octet, is_path_for, connection_names, HasLength, PseudoFieldsHold, NamesHold, ValuesHold, HasNoConnectionField, PathHolds, AuthorityHolds, LengthFieldHolds}
 use Rattle.model.proofs.Http1Texts.{values_of-append, values_none, filter_all, all_weaker, all-append}
 use Rattle.request_rules.specs.Ordinary.{judged_names, is_ordinary, EndsOrdinary}
 use Rattle.request_rules.specs.Rules.{Keeps, in_order}

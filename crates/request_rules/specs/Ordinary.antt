@@ -1,5 +1,5 @@
 -- Fields that break no rule of their own, and that no rule of a whole head speaks of.
-use Rattle.std.specs.Prelude.{◌≡◌, ℕ, Bool, true, not, ◌&&◌, List, ◌∷◌, ◌++◌, codes, bytes_eq}
+use Rattle.std.specs.Prelude.{◌≡◌, ℕ, Bool, true, false, not, ◌&&◌, List, [], ◌∷◌, ◌++◌, codes, bytes_eq}
 use Rattle.std.specs.List.{list_all, list_any}
 use Rattle.model.specs.Octets.{some_of, is_value}
 use Rattle.model.specs.Messages.{Field}
@@ -19,3 +19,7 @@ pub record EndsOrdinary (front head : List Field) : Type 0 where
   pub rest : List Field
   pub is : head ≡ front ++ rest
   pub ordinary : list_all is_ordinary rest ≡ true
+
+-- The front ends with a field that isn't ordinary, unless it is empty.
+abbrev pub IsShortest : List Field → Type 0
+IsShortest front = (more : List Field) (last : Field) → front ≡ more ++ last ∷ [] → is_ordinary last ≡ false

@@ -5,7 +5,7 @@ ghost use Rattle.std.specs.List.{list_all, list_any};
 ghost use Rattle.model.specs.Octets.{some_of, is_value, is_digit, lower};
 ghost use Rattle.model.specs.Http1.{values_of, without};
 ghost use Rattle.model.specs.Http2.{first_of, is_pseudo, pseudo_fields, regular_fields, is_path_for, known_names, is_connect, method_of, is_name_octet, connection_names, NamesHold, ValuesHold, HasNoConnectionField, TeHolds, SchemeHolds};
-ghost use Rattle.request_rules.specs.Ordinary.{judged_names, is_ordinary, EndsOrdinary};
+ghost use Rattle.request_rules.specs.Ordinary.{judged_names, is_ordinary, EndsOrdinary, IsShortest};
 
 use crate::octets;
 use hpack_table::Field;
@@ -97,7 +97,8 @@ fn is_ordinary(field: &Field) -> bool
 
 /// The head without the ordinary fields at its end.
 pub fn before_ordinary(head: &[Field]) -> &[Field]
-    ensures { EndsOrdinary result.now head.now }
+    ensures ordinary { EndsOrdinary result.now head.now }
+    ensures shortest { IsShortest result.now }
 {
     let mut front = head;
     while let [more @ .., last] = front {

@@ -1,18 +1,17 @@
 -- The tables of both directions stay within their bounds.
-use Rattle.std.proofs.Common.{◌≡◌, ◌≤◌, refl, ℕ, Bool, true, false, if◌then◌else◌, List, [], ◌∷◌, Option, Some, None, arith, subst, sym, inl, inr}
+use Rattle.std.proofs.Common.{refl, ℕ, Bool, true, false, List, [], ◌∷◌, Option, Some, None, arith, subst, sym, inl, inr}
 use Rattle.model.specs.Messages.{Field}
-use Rattle.model.specs.Frames.{ends_headers}
 use Rattle.model.specs.Setup.{Policy}
 use Rattle.model.specs.Tables.{Table, first_table, total_size, resized}
-use Rattle.model.specs.Blocks.{AreFields, AreMaxima, IsBlock, Block}
-use Rattle.model.specs.Tapes.{Note, Noted}
+use Rattle.model.specs.Blocks.{AreFields, AreMaxima, IsBlock}
+use Rattle.model.specs.Tapes.{Note}
 use Rattle.model.specs.Tapes.Note.{NoBlock, Fields, Undecodable, Unread}
 use Rattle.model.specs.Decoding.{Partial}
 use Rattle.header_blocks.specs.Bounds.{IsBounded}
 use Rattle.header_blocks.specs.Encoding.{Encoding}
 use Rattle.header_blocks.proofs.Bounded.{bounded_resized, bounded_added}
 use Rattle.conduct.specs.Judging.{completed_in}
-use Rattle.tables.specs.State.{State, Verdict, Move, after, table_after, encoding_after, state_of}
+use Rattle.tables.specs.State.{State, Move, after, table_after, encoding_after, state_of}
 use Rattle.tables.specs.State.Move.{Takes, Sends, Breaks, Hears, Acts}
 use Rattle.tables.specs.Rule.{IsNoted, IsGiven, IsFit, AllFit}
 

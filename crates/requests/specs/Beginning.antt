@@ -1,0 +1,13 @@
+-- What is written for a request's head.
+use Rattle.std.specs.Prelude.{◌≡◌, ℕ, Bool, true, false, List, []}
+use Rattle.request_rules.specs.Heads.{HeadParts}
+use Rattle.h1_writer.specs.Sending.{Sending}
+use Rattle.h1_writer.specs.Sending.Stage.{Whole}
+use Rattle.requests.specs.declared.waiting.Begun.{Begun}
+use Rattle.requests.specs.declared.waiting.Begun.TheVariants as begun
+
+-- What was written for a head that ended its stream is its whole text; of any other it waits, with nothing of its body.
+abbrev pub IsBegun : HeadParts → Bool → ℕ → Begun → Type 0
+IsBegun parts ended route (begun.Whole text) = (ended ≡ true) × Sending parts ended text.items [] Whole
+IsBegun parts ended route (begun.Waits request) =
+    (ended ≡ false) × Sending parts ended request.text [] request.stage × (request.stage ≡ Whole → ⊥) × (request.route ≡ route) × (request.body ≡ [])

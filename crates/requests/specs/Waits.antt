@@ -1,0 +1,26 @@
+-- A request that waits for its end, as the rule of requests has it, and what it may end with.
+use Rattle.std.specs.Prelude.{◌≡◌, ℕ, false, List, [], ◌++◌}
+use Rattle.model.specs.Http2.{HasLength}
+use Rattle.request_rules.specs.Heads.{HeadParts}
+use Rattle.h1_writer.specs.Sending.{Stage, Sending, Continues}
+use Rattle.h1_writer.specs.Sending.Stage.{Whole}
+
+-- The place of its route, its head's text as it was written, what that waits for, and the octets of the body as they came.
+pub record Request : Type 0 where
+  pub route : ℕ
+  pub text : List ℕ
+  pub stage : Stage
+  pub body : List ℕ
+
+-- The request may end behind these octets: its body has the length that its head declares, if it declares one.
+pub record MayEnd (request : Request) (octets : List ℕ) : Type 0 where
+  pub parts : HeadParts
+  pub sending : Sending parts false request.text [] request.stage
+  pub goes_on : request.stage ≡ Whole → ⊥
+  pub has_length : HasLength parts.length (request.body ++ octets)
+
+-- The text is that of its head, and behind it what is written for the whole body at once.
+pub record IsEnded (request : Request) (octets text : List ℕ) : Type 0 where
+  pub written : List ℕ
+  pub is : text ≡ request.text ++ written
+  pub continues : Continues request.stage written (request.body ++ octets) Whole

@@ -1,0 +1,53 @@
+use super::*;
+use hpack_table::Field;
+use request_rules::{RequestHead, check_head};
+use std::alloc::{AllocError, Global};
+use std::process::Abort;
+use std::test::*;
+
+/// The head of a request on `/` of `h`, by its method.
+fn head_of(
+    alloc: Global,
+    rt: &impl Abort,
+    method: &[u8],
+    ended: bool,
+) -> Result<RequestHead, AllocError> {
+    let mut fields = Vec::new(alloc);
+    fields.push(Field::of(alloc, b":method", method)?)?;
+    fields.push(Field::of(alloc, b":scheme", b"http")?)?;
+    fields.push(Field::of(alloc, b":path", b"/")?)?;
+    fields.push(Field::of(alloc, b":authority", b"h")?)?;
+    Ok(check_head(alloc, &fields, ended).expect(rt, "a head"))
+}
+
+#[test]
+fn a_request_without_a_body_is_whole(rt: HostRuntime) -> Result<(), Fail> {
+    let head = head_of(rt.alloc(), &rt, b"GET", true)?;
+    assert!(rt; head.length().is_none());
+    match begin(rt.alloc(), &head, true, 7)? {
+        Begun::Whole(text) => assert_eq!(rt;
+            text.as_slice(),
+            b"GET / HTTP/1.1\r\nhost: h\r\nvia: 2.0 h2gw\r\nconnection: close\r\n\r\n".as_slice()
+        ),
+        Begun::Waits(_) => panic!(rt; "it waits"),
+    }
+    Ok(())
+}
+
+#[test]
+fn a_body_is_written_in_one_piece(rt: HostRuntime) -> Result<(), Fail> {
+    let head = head_of(rt.alloc(), &rt, b"POST", false)?;
+    assert!(rt; head.length().is_none());
+    let Begun::Waits(mut request) = begin(rt.alloc(), &head, false, 7)? else {
+        return Err(Fail::from("whole"));
+    };
+    assert_eq!(rt; (request.route(), request.len()), (7, 0));
+    request.gather(b"hel")?;
+    assert_eq!(rt; request.len(), 3);
+    let text = request.finish(b"lo")?;
+    assert_eq!(rt;
+        text.as_slice(),
+        b"POST / HTTP/1.1\r\nhost: h\r\nvia: 2.0 h2gw\r\ntransfer-encoding: chunked\r\nconnection: close\r\n\r\n5\r\nhello\r\n0\r\n\r\n".as_slice()
+    );
+    Ok(())
+}

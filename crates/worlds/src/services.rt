@@ -46,6 +46,7 @@ impl From<WorldFault> for ServeFault {
 
 /// Applies outputs in order.
 fn apply_all<W: World>(world: &mut W, outputs: &[Output]) -> Result<(), WorldFault>
+    requires { W.failures world.old + 1 < 2 ^ 64 }
     ensures calls { W.calls world.new ≡ W.calls world.old }
     ensures failures { OnOk result (W.failures world.new ≡ W.failures world.old) }
     ensures failed { OnErr result (W.failures world.new ≡ W.failures world.old + 1) }
@@ -92,6 +93,7 @@ fn take_event<W: World>(
     event: &Event,
     open: &mut Vec<u32>,
 ) -> Result<bool, ServeFault>
+    requires { W.failures world.old + 1 < 2 ^ 64 }
     ensures calls { W.calls world.new ≡ W.calls world.old }
     ensures failures { OnOk result (W.failures world.new ≡ W.failures world.old) }
     ensures world { IsErrOf result ServeFault.World → W.failures world.old < W.failures world.new }
@@ -133,6 +135,7 @@ pub fn serve<W: World>(
 ) -> Result<Ended, ServeFault>
     requires servable { IsServable (setup_of config.now) }
     requires turns { W.calls world.old + turns < 2 ^ 64 }
+    requires failures { W.failures world.old + 1 < 2 ^ 64 }
     ensures faithful { OnOk result (AddsFaithful (setup_of config.now) (W.log world.old) (W.log world.new)) }
     ensures world { IsErrOf result ServeFault.World → W.failures world.old < W.failures world.new }
     ensures turns { IsOkAnd result (λ ended. ended ≡ Ended.Turns) → W.calls world.new ≡ W.calls world.old + turns }

@@ -1,5 +1,5 @@
 -- What a write leaves of the octets that were put out.
-use Rattle.std.proofs.Common.{◌≡◌, ◌≤◌, ◌<◌, ◌+◌, ◌-◌, ◌^◌, ℕ, List, [], ◌∷◌, ◌++◌, length, min, take, drop, Option, refl, sym, ap, ◌∙◌, arith}
+use Rattle.std.proofs.Common.{◌≡◌, ◌≤◌, ◌<◌, ◌+◌, ◌-◌, ◌^◌, ℕ, List, [], ◌∷◌, ◌++◌, length, min, take, drop, Option, Some, None, refl, sym, ap, ◌∙◌, append_assoc, append-nil, length-append, arith}
 use Rattle.std.proofs.lemmas.Grind.{common_steps}
 use Rattle.std.specs.Io.KnownBytes.{Appends}
 use Rattle.transfers.specs.Transfers.{Way, Passes}
@@ -33,4 +33,32 @@ went_on had has old new n within appends waiting untold =
       in_order = ap (λ ws. take n old.waiting ++ ws) waiting ∙ grind (arith, common_steps);
       are_written = appends;
       counted = untold ∙ ap (λ m. min (old.untold + m) (2 ^ 64 - 1)) (sym count);
+    }
+
+-- Known octets grow twice.
+appends_twice : (a b c : Option (List ℕ)) (xs ys : List ℕ) → Appends a b xs → Appends b c ys → Appends a c (xs ++ ys)
+appends_twice None b c xs ys p q = tt
+appends_twice (Some us) None c xs ys p q = absurd p
+appends_twice (Some us) (Some vs) None xs ys p q = absurd q
+appends_twice (Some us) (Some vs) (Some ws) xs ys p q = q ∙ ap (λ zs. zs ++ ys) p ∙ append_assoc us xs ys
+
+appends_nothing : (a : Option (List ℕ)) → Appends a a []
+appends_nothing None = tt
+appends_nothing (Some us) = sym (append-nil us)
+
+-- Nothing was written yet.
+pub not_begun : (has : Option (List ℕ)) (way : Way) → way.untold < 2 ^ 64 → Passes has has way [] way
+not_begun has way small = record { written = []; in_order = sym (append-nil way.waiting); are_written = appends_nothing has; counted = grind arith }
+
+-- Nothing else was put out, and more was written.
+pub goes_on : (a b c : Option (List ℕ)) (old mid new : Way) → Passes a b old [] mid → Passes b c mid [] new → Passes a c old [] new
+goes_on a b c old mid new p q =
+    let lengths : length (p.written ++ q.written) ≡ length p.written + length q.written = length-append p.written q.written in
+    let here = p.counted in
+    let there = q.counted in
+    record {
+      written = p.written ++ q.written;
+      in_order = append_assoc p.written q.written new.waiting ∙ ap (λ ws. p.written ++ ws) (q.in_order ∙ append-nil mid.waiting) ∙ p.in_order;
+      are_written = appends_twice a b c p.written q.written p.are_written q.are_written;
+      counted = grind (arith, common_steps);
     }

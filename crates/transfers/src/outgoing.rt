@@ -1,6 +1,6 @@
 //! Octets on their way out to a socket.
 
-ghost use Rattle.std.specs.Prelude.{◌≡◌, ◌+◌, ◌-◌, ◌*◌, ◌<◌, ◌≤◌, ◌^◌, ◌↔◌, ◌++◌, [], min, length, take, drop, IsTrue, IfOk, OnOk, OnErr, vec_len};
+ghost use Rattle.std.specs.Prelude.{◌≡◌, ◌+◌, ◌-◌, ◌*◌, ◌<◌, ◌≤◌, ◌^◌, ◌↔◌, ◌⊎◌, ◌++◌, [], min, length, take, drop, IsTrue, IfOk, OnOk, OnErr, vec_len};
 ghost use Rattle.std.specs.Io.KnownBytes.{Appends, Keeps};
 ghost use Rattle.transfers.specs.Transfers.{Passes, IsSocketFault, nothing_put, told};
 
@@ -75,6 +75,13 @@ impl Outgoing {
         self.untold > most || self.waiting() as u64 > most - self.untold
     }
 
+    /// How many octets the socket took that weren't told of.
+    pub fn untold(&self) -> u64
+        ensures { result ≡ self.now.untold }
+    {
+        self.untold
+    }
+
     /// How many octets the socket took that weren't told of. They are told of now.
     pub fn tell(&mut self) -> u64
         ensures count { result ≡ self.old.untold }
@@ -99,14 +106,28 @@ impl Outgoing {
         Ok(())
     }
 
-    /// Writes what waits, in one write.
-    pub fn flush<W: Write>(&mut self, socket: &mut W) -> io::Result<()>
+    /// Writes what waits, in one write. The answer is how many octets were written.
+    pub fn flush<W: Write>(&mut self, socket: &mut W) -> io::Result<usize>
+        ensures count { IfOk result (λ taken. length self.new.waiting + taken ≡ length self.old.waiting) }
         ensures passes { OnOk result (Passes (W.contents socket.old) (W.contents socket.new) self.old [] self.new) }
         ensures failed { OnErr result (Keeps (W.contents socket.old) (W.contents socket.new) × (self.new ≡ self.old)) }
     {
         let taken = write_some(socket, &self.octets[self.start..])?;
         self.start += taken;
         self.untold = self.untold.saturating_add(taken as u64);
+        Ok(taken)
+    }
+
+    /// Writes what waits until a write takes nothing, or nothing waits.
+    pub fn flush_all<W: Write>(&mut self, socket: &mut W) -> io::Result<()>
+        ensures passes { OnOk result (Passes (W.contents socket.old) (W.contents socket.new) self.old [] self.new) }
+    {
+        let _ = &self.untold;
+        while self.waiting() > 0 {
+            if self.flush(socket)? == 0 {
+                break;
+            }
+        }
         Ok(())
     }
 
@@ -157,6 +178,8 @@ fn write_some<W: Write>(socket: &mut W, octets: &[u8]) -> io::Result<usize>
 }
 
 /// Whether a call only came too early, so that it is to be made again.
-pub fn is_early(kind: ErrorKind) -> bool {
+pub fn is_early(kind: ErrorKind) -> bool
+    ensures { IsTrue result ↔ ((kind ≡ ErrorKind.WouldBlock) ⊎ (kind ≡ ErrorKind.Interrupted)) }
+{
     matches!(kind, ErrorKind::WouldBlock | ErrorKind::Interrupted)
 }

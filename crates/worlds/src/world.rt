@@ -6,7 +6,7 @@ ghost use Rattle.gateway.specs.Views.{output_of};
 ghost use Rattle.worlds.specs.Worlds.{AddsEvent, SaysOver, with_outputs};
 
 use gateway::{Event, Output};
-use std::alloc::AllocError;
+use std::alloc::{AllocError, AllocFailed};
 use std::io;
 
 /// A call of a world failed. Want of memory in a world is such a failure too.
@@ -15,6 +15,12 @@ pub struct WorldFault {}
 
 impl From<AllocError> for WorldFault {
     fn from(_error: AllocError) -> WorldFault {
+        WorldFault {}
+    }
+}
+
+impl<T: Drop> From<AllocFailed<T>> for WorldFault {
+    fn from(_error: AllocFailed<T>) -> WorldFault {
         WorldFault {}
     }
 }

@@ -4,10 +4,19 @@ ghost use Rattle.std.specs.Prelude.{◌≡◌, map, IfOk, IfErr};
 ghost use Rattle.clap.specs.Words.{app_of, found_of};
 ghost use Rattle.command_line.specs.Gateways.{gateway_app, HasValues, LacksValues, Means, Refuses};
 
-use crate::values::{count_of, fault_of, text_of};
+use crate::values::{count_of, fault_of, option, text_of};
 use crate::words::{Word, WordsFault};
-use clap::{Arg, ArgAction, ArgMatches, Command};
+use clap::{ArgMatches, Command};
 use std::alloc::{AllocError, Global};
+
+/// What `--help` says of each.
+const CONFIG: &str = "Where the configuration stands, a table of TOML";
+
+const LISTEN: &str = "Where clients connect to: a numeric address and port";
+
+const CONNECTIONS: &str = "How many connections are served, one after another";
+
+const TURNS: &str = "The most turns of one connection";
 
 /// The values of the gateway's command line.
 #[derive(Debug, Drop)]
@@ -32,7 +41,9 @@ pub fn read_gateway_words<'a>(
     ensures ok { IfOk result (λ values. Means (map (λ word. word.now) words.entry.now) values) }
     ensures err { IfErr result (λ fault. Refuses (map (λ word. word.now) words.entry.now) fault) }
 {
-    let command = gateway_command(alloc)?;
+    let Ok(command) = gateway_command(alloc) else {
+        return Err(WordsFault::Memory);
+    };
     match command.try_get_matches_from(words) {
         Ok(matches) => gateway_values(alloc, &matches),
         Err(error) => Err(fault_of(error)),
@@ -43,31 +54,11 @@ pub fn read_gateway_words<'a>(
 fn gateway_command<'a>(alloc: Global) -> Result<Command<'a>, AllocError>
     ensures { IfOk result (λ command. app_of command ≡ gateway_app) }
 {
-    let config = Arg::new(alloc, "config")
-        .long("config")
-        .value_name("FILE")
-        .action(ArgAction::Set)
-        .help("Where the configuration stands, a table of TOML");
-    let listen = Arg::new(alloc, "listen")
-        .long("listen")
-        .value_name("ADDR")
-        .action(ArgAction::Set)
-        .help("Where clients connect to: a numeric address and port");
-    let connections = Arg::new(alloc, "connections")
-        .long("connections")
-        .value_name("N")
-        .action(ArgAction::Set)
-        .help("How many connections are served, one after another");
-    let turns = Arg::new(alloc, "turns")
-        .long("turns")
-        .value_name("N")
-        .action(ArgAction::Set)
-        .help("The most turns of one connection");
     Command::new(alloc, "h2gw")
-        .arg(config)?
-        .arg(listen)?
-        .arg(connections)?
-        .arg(turns)
+        .arg(option(alloc, Word::Config, "FILE", CONFIG))?
+        .arg(option(alloc, Word::Listen, "ADDR", LISTEN))?
+        .arg(option(alloc, Word::Connections, "N", CONNECTIONS))?
+        .arg(option(alloc, Word::Turns, "N", TURNS))
 }
 
 /// The values that a parse found.

@@ -1,12 +1,13 @@
 //! The values that a parse found.
 
-ghost use Rattle.std.specs.Prelude.{◌≡◌, ◌≢◌, ◌⊎◌, IfOk, IfErr, Some, None, option_map};
-ghost use Rattle.clap.specs.Words.{found_of, first_value, kind_of};
-ghost use Rattle.command_line.specs.Values.{name_of, IsCount, IsNoText, IsNoCount};
+ghost use Rattle.std.specs.Prelude.{false, ◌≡◌, ◌≢◌, ◌⊎◌, IfOk, IfErr, Some, None, option_map};
+ghost use Rattle.clap.specs.Words.{found_of, first_value, kind_of, rule_of};
+ghost use Rattle.command_line.specs.Values.{name_of, option_rule, value_rule, IsCount, IsNoText, IsNoCount};
 
 use crate::words::{Word, WordsFault};
-use clap::ArgMatches;
 use clap::error::ErrorKind;
+use clap::{Arg, ArgAction, ArgMatches};
+use std::alloc::Global;
 
 impl Word {
     /// Its name, under which it is found.
@@ -21,6 +22,29 @@ impl Word {
             Word::Script => "script",
         }
     }
+}
+
+/// `--name VALUE`, which may be left out.
+pub fn option<'a>(alloc: Global, word: Word, value: &'static str, help: &'static str) -> Arg<'a>
+    ensures rule { rule_of result ≡ option_rule word }
+    ensures local { result.global ≡ false }
+{
+    Arg::new(alloc, word.name())
+        .long(word.name())
+        .value_name(value)
+        .action(ArgAction::Set)
+        .help(help)
+}
+
+/// A value that stands by itself, and may be left out.
+pub fn value<'a>(alloc: Global, word: Word, value: &'static str, help: &'static str) -> Arg<'a>
+    ensures rule { rule_of result ≡ value_rule word }
+    ensures local { result.global ≡ false }
+{
+    Arg::new(alloc, word.name())
+        .value_name(value)
+        .action(ArgAction::Set)
+        .help(help)
 }
 
 /// The text of a value.

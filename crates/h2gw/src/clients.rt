@@ -1,5 +1,7 @@
 //! The connections of clients.
 
+ghost use Rattle.gateway.specs.Setups.{setup_of, IsServable};
+
 use crate::setting::Setting;
 use crate::stops::Stop;
 use mio::net::TcpStream as Socket;
@@ -9,7 +11,9 @@ use std::net::{TcpListener, TcpStream};
 use worlds::{ServeFault, serve};
 
 /// Says where clients connect to, and serves their connections one after another.
-pub fn serve_clients(rt: &HostRuntime, setting: &Setting) -> Result<(), Stop> {
+pub fn serve_clients(rt: &HostRuntime, setting: &Setting) -> Result<(), Stop>
+    requires { IsServable (setup_of setting.now.config) }
+{
     let Ok(listener) = TcpListener::bind(rt, setting.listen) else {
         return Err(Stop::Bind);
     };
@@ -29,7 +33,9 @@ pub fn serve_clients(rt: &HostRuntime, setting: &Setting) -> Result<(), Stop> {
 }
 
 /// Serves the connection of a client. That one fails ends it alone, unless no memory was left.
-fn serve_client(rt: &HostRuntime, setting: &Setting, client: TcpStream) -> Result<(), Stop> {
+fn serve_client(rt: &HostRuntime, setting: &Setting, client: TcpStream) -> Result<(), Stop>
+    requires { IsServable (setup_of setting.now.config) }
+{
     if client.set_nonblocking(true).is_err() {
         return Ok(());
     }

@@ -1,5 +1,9 @@
 //! What the program is set up with.
 
+ghost use Rattle.std.specs.Prelude.{IfOk};
+ghost use Rattle.gateway.specs.Setups.{setup_of, IsServable};
+ghost use Rattle.h2gw.specs.Addresses.{AreAddresses};
+
 use crate::stops::Stop;
 use command_line::{GatewayWords, read_gateway_words};
 use configuration::{ConfigFault, Key, read_config};
@@ -26,7 +30,10 @@ pub struct Setting {
 }
 
 /// Reads the command line, and then the configuration that it names. The address is judged before the configuration.
-pub fn read_setting(rt: &HostRuntime) -> Result<Setting, Stop> {
+pub fn read_setting(rt: &HostRuntime) -> Result<Setting, Stop>
+    ensures servable { IfOk result (λ setting. IsServable (setup_of setting.config)) }
+    ensures addresses { IfOk result (λ setting. AreAddresses setting.config.routes.items setting.addresses.items) }
+{
     let words = read_command_line(rt)?;
     let Ok(listen) = words.listen.parse::<SocketAddr>() else {
         return Err(Stop::BadAddress);
@@ -36,7 +43,10 @@ pub fn read_setting(rt: &HostRuntime) -> Result<Setting, Stop> {
         Err(error) if error.kind() == ErrorKind::OutOfMemory => return Err(Stop::Memory),
         Err(_) => return Err(Stop::NoConfig),
     };
-    let config = read_config(rt.alloc(), &text).map_err(Stop::Config)?;
+    let config = match read_config(rt.alloc(), &text) {
+        Ok(config) => config,
+        Err(fault) => return Err(Stop::Config(fault)),
+    };
     let addresses = addresses_of(rt.alloc(), &config.routes)?;
     Ok(Setting {
         listen,
@@ -72,7 +82,9 @@ fn collect_arguments(rt: &HostRuntime) -> io::Result<Vec<String>> {
 }
 
 /// The addresses of routes' upstreams.
-fn addresses_of(alloc: Global, routes: &[Route]) -> Result<Vec<SocketAddr>, Stop> {
+fn addresses_of(alloc: Global, routes: &[Route]) -> Result<Vec<SocketAddr>, Stop>
+    ensures { IfOk result (λ addresses. AreAddresses routes.now addresses.items) }
+{
     let mut addresses = Vec::new(alloc);
     for route in routes {
         let Ok(address) = route.upstream.parse::<SocketAddr>() else {

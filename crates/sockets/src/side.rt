@@ -52,14 +52,9 @@ impl Side {
         self.out.owes_more_than(most)
     }
 
-    /// How many octets the socket took that weren't told of. They are told of now.
-    pub fn tell(&mut self) -> u64 {
-        self.out.tell()
-    }
-
-    /// How many octets the socket took that weren't told of.
-    pub fn untold(&self) -> u64 {
-        self.out.untold()
+    /// How many octets the socket took that weren't told of, if at least so many. They are told of now.
+    pub fn tell(&mut self, least: u64) -> u64 {
+        self.out.tell(least)
     }
 
     /// Whether it may have something to be read.

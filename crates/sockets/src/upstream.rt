@@ -48,7 +48,7 @@ impl Upstream {
     /// How many octets its socket took that weren't told of. They are told of now.
     pub fn tell(&mut self) -> u64 {
         match &mut self.side {
-            Some(side) => side.tell(),
+            Some(side) => side.tell(1),
             None => 0,
         }
     }

@@ -101,8 +101,9 @@ impl<'a, N: Net> Sockets<'a, N> {
 
     /// An event that is there already.
     fn find_event(&mut self, rooms: &[(u32, usize)]) -> Result<Option<Event>, WorldFault> {
-        if self.client.untold() >= TOLD_AT_ONCE {
-            return Ok(Some(Event::ClientTook(self.client.tell())));
+        let count = self.client.tell(TOLD_AT_ONCE);
+        if count > 0 {
+            return Ok(Some(Event::ClientTook(count)));
         }
         self.list_ready(rooms)?;
         if let Some(number) = Turn::next(self.last, &self.ready) {
@@ -155,7 +156,7 @@ impl<'a, N: Net> Sockets<'a, N> {
 
     /// What sockets took that wasn't told of, if they took some.
     fn tell(&mut self) -> Option<Event> {
-        let count = self.client.tell();
+        let count = self.client.tell(1);
         if count > 0 {
             return Some(Event::ClientTook(count));
         }

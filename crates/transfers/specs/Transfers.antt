@@ -1,5 +1,5 @@
 -- Octets that pass between a gateway and a socket.
-use Rattle.std.specs.Prelude.{◌≡◌, ◌≤◌, ◌<◌, ◌+◌, ◌-◌, ◌^◌, ℕ, List, [], ◌++◌, length, min, Option, Result, Ok, Err, ⊤}
+use Rattle.std.specs.Prelude.{◌≡◌, ◌≤◌, ◌<◌, ◌+◌, ◌-◌, ◌^◌, ℕ, List, [], ◌++◌, nat_lt, if◌then◌else◌, length, min, Option, Result, Ok, Err, ⊤}
 use Rattle.std.specs.Io.KnownBytes.{Appends, Consumes, Keeps, IsAtEnd}
 use Rattle.transfers.specs.declared.outgoing.PutFault.{PutFault}
 use Rattle.transfers.specs.declared.outgoing.PutFault.TheVariants.{Socket, Memory}
@@ -14,9 +14,13 @@ pub record Way : Type 0 where
 abbrev pub nothing_put : Way
 nothing_put = record { waiting = []; untold = 0 }
 
--- what was taken was told of
-abbrev pub told : Way → Way
-told way = record way { untold = 0 }
+-- how many octets are told of, from so many on
+abbrev pub told_count : ℕ → Way → ℕ
+told_count least way = if nat_lt way.untold least then 0 else way.untold
+
+-- what is left when they were
+abbrev pub told : ℕ → Way → Way
+told least way = if nat_lt way.untold least then way else record way { untold = 0 }
 
 -- Octets are put out behind those that wait. Of all these a front is written, no other octets are, and the rest waits, in
 -- order; what is written counts as taken and not told of. Known octets of the socket are those that it had, and then those.

@@ -2,7 +2,7 @@
 
 ghost use Rattle.std.specs.Prelude.{◌≡◌, ◌+◌, ◌-◌, ◌*◌, ◌<◌, ◌≤◌, ◌^◌, ◌↔◌, ◌⊎◌, ◌++◌, [], min, length, take, drop, IsTrue, IfOk, OnOk, OnErr, vec_len};
 ghost use Rattle.std.specs.Io.KnownBytes.{Appends, Keeps};
-ghost use Rattle.transfers.specs.Transfers.{Passes, IsSocketFault, nothing_put, told};
+ghost use Rattle.transfers.specs.Transfers.{Passes, IsSocketFault, nothing_put, told, told_count};
 
 use std::alloc::{AllocError, Global};
 use std::io;
@@ -75,18 +75,14 @@ impl Outgoing {
         self.untold > most || self.waiting() as u64 > most - self.untold
     }
 
-    /// How many octets the socket took that weren't told of.
-    pub fn untold(&self) -> u64
-        ensures { result ≡ self.now.untold }
+    /// How many octets the socket took that weren't told of, if that is at least so many, and else none. They are told of now.
+    pub fn tell(&mut self, least: u64) -> u64
+        ensures count { result ≡ told_count least self.old }
+        ensures told { self.new ≡ told least self.old }
     {
-        self.untold
-    }
-
-    /// How many octets the socket took that weren't told of. They are told of now.
-    pub fn tell(&mut self) -> u64
-        ensures count { result ≡ self.old.untold }
-        ensures told { self.new ≡ told self.old }
-    {
+        if self.untold < least {
+            return 0;
+        }
         let count = self.untold;
         self.untold = 0;
         count

@@ -54,18 +54,20 @@ fn what_a_socket_does_not_take_waits(rt: HostRuntime) -> Result<(), Fail> {
     };
     let mut out = Outgoing::new(rt.alloc());
     out.put(&mut socket, b"abcd")?;
-    assert_eq!(rt; (out.waiting(), out.tell()), (1, 3));
+    assert_eq!(rt; (out.waiting(), out.tell(1)), (1, 3));
     out.put(&mut socket, b"efg")?;
     assert_eq!(rt; (out.waiting(), socket.taken.len()), (4, 3));
     out.flush(&mut socket)?;
     out.flush(&mut socket)?;
-    assert_eq!(rt; (out.waiting(), out.tell()), (2, 2));
+    assert_eq!(rt; (out.waiting(), out.tell(3), out.tell(2)), (2, 0, 2));
     socket.room = 9;
     out.put(&mut socket, b"hi")?;
-    out.flush(&mut socket)?;
-    out.flush(&mut socket)?;
+    out.flush_all(&mut socket)?;
     assert_eq!(rt; out.waiting(), 0);
-    assert_eq!(rt; (out.owes_more_than(3), out.owes_more_than(4)), (true, false));
+    assert_eq!(rt;
+        (out.owes_more_than(3), out.owes_more_than(4)),
+        (true, false)
+    );
     assert_eq!(rt; socket.taken.as_slice(), b"abcdefghi".as_slice());
     Ok(())
 }
@@ -75,7 +77,7 @@ fn a_broken_socket_takes_nothing(rt: HostRuntime) -> Result<(), Fail> {
     let mut out = Outgoing::new(rt.alloc());
     assert!(rt; matches!(out.put(&mut Broken, b"a"), Err(PutFault::Socket(_))));
     assert!(rt; out.flush(&mut Broken).is_err());
-    assert_eq!(rt; (out.waiting(), out.tell()), (0, 0));
+    assert_eq!(rt; (out.waiting(), out.tell(0)), (0, 0));
     Ok(())
 }
 
@@ -90,6 +92,11 @@ fn pieces_are_read(rt: HostRuntime) -> Result<(), Fail> {
         }
     }
     assert!(rt; matches!(read_piece(rt.alloc(), &mut text, &mut buffer)?, Got::End));
-    assert!(rt; matches!(read_piece(rt.alloc(), &mut Broken, &mut buffer)?, Got::Nothing));
+    assert!(rt;
+        matches!(
+            read_piece(rt.alloc(), &mut Broken, &mut buffer)?,
+            Got::Nothing
+        )
+    );
     Ok(())
 }

@@ -1,3 +1,4 @@
 pub mod TablesLemmas
 pub mod RoutesLemmas
 pub mod ConfigsLemmas
+pub mod Servable

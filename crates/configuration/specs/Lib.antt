@@ -1,3 +1,4 @@
 pub mod Keys
 pub mod Configs
 pub mod Steps
+pub mod Lines

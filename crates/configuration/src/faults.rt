@@ -1,5 +1,8 @@
 //! Why a text is no configuration.
 
+ghost use Rattle.std.specs.Prelude.{◌≡◌};
+ghost use Rattle.configuration.specs.Lines.{line_of};
+
 use std::alloc::AllocError;
 
 /// A key of a configuration.
@@ -34,6 +37,28 @@ pub enum ConfigFault {
     UnknownKey,
     /// No memory was left.
     Memory,
+}
+
+impl ConfigFault {
+    /// What a program says of it, in one line without its end: `config: not TOML`, `config: bad KEY` with the name of the key,
+    /// `config: unknown key`, or `config: no memory`.
+    pub fn line(self) -> &'static str
+        ensures { result.now ≡ line_of self }
+    {
+        match self {
+            ConfigFault::NotToml => "config: not TOML",
+            ConfigFault::Bad(Key::Policy) => "config: bad policy",
+            ConfigFault::Bad(Key::Passing) => "config: bad passing",
+            ConfigFault::Bad(Key::MaxBody) => "config: bad max_body",
+            ConfigFault::Bad(Key::MaxResponse) => "config: bad max_response",
+            ConfigFault::Bad(Key::Route) => "config: bad route",
+            ConfigFault::Bad(Key::Authority) => "config: bad authority",
+            ConfigFault::Bad(Key::Prefix) => "config: bad prefix",
+            ConfigFault::Bad(Key::Upstream) => "config: bad upstream",
+            ConfigFault::UnknownKey => "config: unknown key",
+            ConfigFault::Memory => "config: no memory",
+        }
+    }
 }
 
 impl From<AllocError> for ConfigFault {

@@ -6,6 +6,7 @@ ghost use Rattle.std.specs.BTreeMap.{keys};
 ghost use Rattle.toml.specs.Data.{Members, as_table, table as as_data};
 ghost use Rattle.toml.specs.Parse.{parse_document};
 ghost use Rattle.toml.specs.View.{view, table_view};
+ghost use Rattle.gateway.specs.Setups.{setup_of, IsServable};
 ghost use Rattle.configuration.specs.Configs.{table_names, route_names, is_among, IsRoute, AreRoutes, IsConfig, IsNoConfig, Configures, ConfiguresNothing};
 ghost use Rattle.configuration.specs.Steps.{IsNoRoute, AreNoRoutes, is_only};
 
@@ -33,6 +34,8 @@ use toml::{Table, Value};
 pub fn read_config(alloc: Global, text: &str) -> Result<Config, ConfigFault>
     ensures ok { IfOk result (λ config. Configures (parse_document text.now) config) }
     ensures err { IfErr result (λ fault. ConfiguresNothing (parse_document text.now) fault) }
+    // A gateway can be set up with it.
+    ensures servable { IfOk result (λ config. IsServable (setup_of config)) }
 {
     match toml::table_from_str(alloc, text) {
         Ok(table) => read_table(alloc, &table),

@@ -1,4 +1,1 @@
-pub mod ScriptsLemmas
-pub mod LinesLemmas
-pub mod MeaningLemmas
-pub mod RunsLemmas
+pub mod OneMore

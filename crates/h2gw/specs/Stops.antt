@@ -1,15 +1,28 @@
--- Why a script isn't replayed.
-use Rattle.std.specs.Prelude.{◌≡◌, ℕ, ◌+◌, List, ⊤}
-use Rattle.model.specs.Logs.{Event}
-use Rattle.h2gw.specs.declared.replays.Stop.{Stop}
-use Rattle.h2gw.specs.declared.replays.Stop.TheVariants.{NotALine, NotAdmitted, Memory}
-use Rattle.gateway.specs.Stands.{IsRefusedAt}
-use Rattle.h2gw.specs.Printing.{default_setup}
-use Rattle.h2gw.specs.Scripts.{lines_of, AllSay, IsFirstFault}
+-- The exit status of the program, by why it stops.
+use Rattle.std.specs.Prelude.{ℕ}
+use Rattle.clap.specs.Words.{kind_of}
+use Rattle.clap.specs.declared.error.kind.ErrorKind.{ErrorKind}
+use Rattle.clap.specs.declared.error.kind.ErrorKind.TheVariants.{DisplayHelp}
+use Rattle.configuration.specs.declared.faults.ConfigFault.TheVariants as fault
+use Rattle.h2gw.specs.declared.stops.Stop.{Stop}
+use Rattle.h2gw.specs.declared.stops.Stop.TheVariants.{Words, Missing, NotANumber, BadAddress, NoConfig, Config, Bind, Accept, Print, Memory}
 
--- What is true of the script where its replay stops.
-abbrev pub Explains : List ℕ → Stop → Type 0
-Explains script (NotALine place) = IsFirstFault (lines_of script) place
-Explains script (NotAdmitted place) =
-    (before : ℕ) × (events : List Event) × AllSay (lines_of script) events × IsRefusedAt default_setup events before × (place ≡ before + 1)
-Explains script Memory = ⊤
+-- a command line that only asks for help is answered
+abbrev pub status_of_kind : ErrorKind → ℕ
+status_of_kind DisplayHelp = 0
+status_of_kind _ = 1
+
+abbrev pub status_of : Stop → ℕ
+status_of (Words error) = status_of_kind (kind_of error)
+status_of (Missing word) = 1
+status_of (NotANumber word) = 1
+status_of BadAddress = 1
+status_of NoConfig = 1
+status_of (Config fault.NotToml) = 1
+status_of (Config (fault.Bad key)) = 1
+status_of (Config fault.UnknownKey) = 1
+status_of (Config fault.Memory) = 3
+status_of Bind = 2
+status_of Accept = 2
+status_of Print = 2
+status_of Memory = 3

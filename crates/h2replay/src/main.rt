@@ -22,7 +22,7 @@ fn status(rt: &HostRuntime) -> u8 {
         Ok(script) => {
             let mut out = io::writer(rt);
             let mut err = rt.stderr();
-            h2gw::replay(rt.alloc(), None, &script, &mut out, &mut err)
+            scripts::replay(rt.alloc(), None, &script, &mut out, &mut err)
         }
         Err(error) => {
             if status_of(&error) == 1 && rt.eprintln("script: cannot read").is_err() {

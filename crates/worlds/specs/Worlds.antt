@@ -1,5 +1,5 @@
 -- What a world tells, and what serving it adds to that.
-use Rattle.std.specs.Prelude.{◌≡◌, ℕ, Bool, true, false, Option, Some, None, List, [], ◌∷◌, ◌++◌, reverse}
+use Rattle.std.specs.Prelude.{◌≡◌, Bool, true, false, Option, Some, None, List, [], ◌∷◌, ◌++◌, reverse, ⊤}
 use Rattle.model.specs.Logs as logs
 use Rattle.model.specs.Logs.{Step}
 use Rattle.model.specs.Setup.{Setup}
@@ -8,6 +8,12 @@ use Rattle.model.specs.Faithful.{Faithful}
 use Rattle.gateway.specs.Stands.{Standing, Stands}
 use Rattle.gateway.specs.Views.{event_of}
 use Rattle.gateway.specs.declared.events.Event.{Event}
+use Rattle.model.specs.Admission.{is_admitted}
+use Rattle.std.specs.List.{list_any}
+use Rattle.model.specs.Logs.Output.{Does}
+use Rattle.model.specs.Logs.Act.{CloseClient}
+use Rattle.worlds.specs.declared.services.Ended.{Ended}
+use Rattle.worlds.specs.declared.services.Ended.TheVariants.{Closed, Over as OverAtLast, Turns}
 use Rattle.worlds.specs.declared.world.Next.{Next}
 use Rattle.worlds.specs.declared.world.Next.TheVariants.{Happened, Nothing, Over}
 
@@ -31,14 +37,72 @@ SaysOver Over over = over ≡ true
 SaysOver (Happened event) over = over ≡ false
 SaysOver Nothing over = over ≡ false
 
--- What was added to the log is faithful.
-abbrev pub AddsFaithful : Setup → Option (List Step) → Option (List Step) → Type 0
-AddsFaithful setup old new = (before : List Step) → old ≡ Some before → (added : List Step) × (new ≡ Some (before ++ added)) × Faithful setup added
+-- whether an output closes the client
+abbrev pub closes : logs.Output → Bool
+closes (Does CloseClient) = true
+closes (Does (logs.Act.Open k route)) = false
+closes (Does (logs.Act.ToUp k octets)) = false
+closes (Does (logs.Act.Close k)) = false
+closes (logs.Output.ToClient octets) = false
 
--- The gateway, which is set up so, stands for what was added to this log.
-pub record Serves (setup : Setup) (log : Option (List Step)) (g : Standing) (before : List Step) : Type 0 where
+-- whether the client is closed in a log
+abbrev pub has_closed : List Step → Bool
+has_closed log = list_any (λ step. list_any closes step.outputs) log
+
+abbrev pub is_closed : Ended → Bool
+is_closed Closed = true
+is_closed OverAtLast = false
+is_closed Turns = false
+
+-- What a turn says of the end: the client is closed only where that is said, and nothing comes any more only where the world
+-- said so. A turn doesn't say that all turns were taken.
+abbrev pub ends : Option Ended → Bool
+ends None = false
+ends (Some ended) = is_closed ended
+
+abbrev pub SaysEnd : Option Ended → Bool → Type 0
+SaysEnd None over = ⊤
+SaysEnd (Some Closed) over = ⊤
+SaysEnd (Some OverAtLast) over = over ≡ true
+SaysEnd (Some Turns) over = ⊥
+
+-- What was added to the log is faithful, and the client is closed in it just where that is said.
+abbrev pub AddsRun : Setup → Ended → Option (List Step) → Option (List Step) → Type 0
+AddsRun setup ended old new = (before : List Step) → old ≡ Some before
+    → (added : List Step) × (new ≡ Some (before ++ added)) × Faithful setup added × (has_closed added ≡ is_closed ended)
+
+-- A log is a whole one, or lacks outputs at the end of its last step.
+pub data IsFrontOf : List Step → List Step → Type 0 where
+  Whole : (log : List Step) → IsFrontOf log log
+  Lacks : (steps : List Step) (step : Step) (outputs : List logs.Output) → IsFrontOf (steps ++ step ∷ []) (steps ++ with_outputs step outputs ∷ [])
+
+-- What was added to this log is a front of a faithful one.
+abbrev pub AddsFrontTo : Setup → List Step → Option (List Step) → Type 0
+AddsFrontTo setup before new = (added : List Step) × (whole : List Step) × (new ≡ Some (before ++ added)) × IsFrontOf added whole × Faithful setup whole
+
+abbrev pub AddsFront : Setup → Option (List Step) → Option (List Step) → Type 0
+AddsFront setup old new = (before : List Step) → old ≡ Some before → AddsFrontTo setup before new
+
+-- A gateway that is set up so stands for the log, behind which the event may not come.
+pub record MayNotCome (setup : Setup) (log : List Step) (event : logs.Event) : Type 0 where
+  pub tape : List Entry
+  pub gateway : Standing
+  pub same_setup : gateway.kept.state.setup ≡ setup
+  pub stands : Stands gateway (reverse log) tape
+  pub refused : is_admitted tape event ≡ false
+
+-- The event that came last may not come behind what was added before it, and nothing is put out for it.
+abbrev pub AddsRefusedTo : Setup → List Step → Option (List Step) → Type 0
+AddsRefusedTo setup before new = (added : List Step) × (event : Event) × (new ≡ Some (before ++ added ++ came event ∷ [])) × MayNotCome setup added (event_of event)
+
+abbrev pub AddsRefused : Setup → Option (List Step) → Option (List Step) → Type 0
+AddsRefused setup old new = (before : List Step) → old ≡ Some before → AddsRefusedTo setup before new
+
+-- The gateway, which is set up so, stands for what was added to this log, in which the client is closed or not.
+pub record Serves (setup : Setup) (closed : Bool) (log : Option (List Step)) (g : Standing) (before : List Step) : Type 0 where
   pub added : List Step
   pub tape : List Entry
   pub is : log ≡ Some (before ++ added)
   pub stands : Stands g (reverse added) tape
   pub same_setup : g.kept.state.setup ≡ setup
+  pub has_closed_is : has_closed added ≡ closed

@@ -1,12 +1,16 @@
 //! A gateway before a world.
 
-ghost use Rattle.std.specs.Prelude.{◌≡◌, ◌+◌, ◌<◌, ◌≤◌, ◌^◌, ◌∷◌, ◌++◌, [], List, Some, reverse, true, IsOkAnd, IsErrOf, OnOk, OnErr, IfOk, IfErr};
-ghost use Rattle.model.specs.Logs.{Step};
+ghost use Rattle.std.specs.Prelude.{◌≡◌, ◌+◌, ◌<◌, ◌≤◌, ◌^◌, ◌∷◌, ◌++◌, [], List, Some, reverse, map, true, false, IsOkAnd, IsErrOf, OnOk, OnErr, IfOk, IfErr};
+ghost use Rattle.model.specs.Logs.{Step, Output as Put};
+ghost use Rattle.std.specs.List.{list_any};
+ghost use Rattle.model.specs.Setup.{Setup};
 ghost use Rattle.model.specs.Tapes.{Entry};
-ghost use Rattle.gateway.specs.Views.{event_of, outputs_of};
+ghost use Rattle.gateway.specs.Views.{event_of, output_of, outputs_of};
 ghost use Rattle.gateway.specs.Setups.{setup_of, IsServable};
 ghost use Rattle.gateway.specs.Stands.{Stands};
-ghost use Rattle.worlds.specs.Worlds.{AddsFaithful, with_outputs, came, Serves};
+ghost use Rattle.worlds.specs.Worlds.{AddsRun, AddsFront, AddsFrontTo, AddsRefused, AddsRefusedTo, SaysEnd, ends, with_outputs, came, closes, has_closed, Serves};
+ghost use Rattle.worlds.specs.Open.{open_with, open_after, open_behind, without};
+ghost use Rattle.model.specs.Admission.{is_admitted, room};
 
 use crate::world::{Next, World, WorldFault};
 use gateway::{Config, Event, Gateway, Output};
@@ -34,69 +38,103 @@ pub enum ServeFault {
     NotAdmitted,
 }
 
-impl From<WorldFault> for ServeFault {
-    ghost use Rattle.worlds.specs.declared.services.ServeFault.TheVariants.{World};
-
-    ghost from_gives = { λ _ fault. fault ≡ World };
-
-    fn from(_fault: WorldFault) -> ServeFault {
-        ServeFault::World
-    }
-}
-
 /// Applies outputs in order.
 fn apply_all<W: World>(world: &mut W, outputs: &[Output]) -> Result<(), WorldFault>
+    requires { W.failures world.old + 1 < 2 ^ 64 }
     ensures calls { W.calls world.new ≡ W.calls world.old }
     ensures failures { OnOk result (W.failures world.new ≡ W.failures world.old) }
     ensures failed { OnErr result (W.failures world.new ≡ W.failures world.old + 1) }
     ensures log { OnOk result ((before : List Step) (step : Step) → W.log world.old ≡ Some (before ++ step ∷ []) → W.log world.new ≡ Some (before ++ with_outputs step (outputs_of outputs.now) ∷ [])) }
+    // Some of the first were applied, and the one that failed isn't in the log.
+    ensures front { OnErr result ((before : List Step) (step : Step) → W.log world.old ≡ Some (before ++ step ∷ [])
+        → (done : List Put) × (more : List Put) × (outputs_of outputs.now ≡ done ++ more) × (W.log world.new ≡ Some (before ++ with_outputs step done ∷ []))) }
 {
     for output in outputs {
-        world.apply(output)?;
-    }
-    Ok(())
-}
-
-/// Notes which connections outputs open.
-fn note_opened(outputs: &[Output], open: &mut Vec<u32>) -> Result<(), AllocError> {
-    for output in outputs {
-        if let Output::Open(k, _) = output {
-            open.push(*k)?;
+        if let Err(fault) = world.apply(output) {
+            return Err(fault);
         }
     }
     Ok(())
 }
 
-/// The connections that are still open, each with the most octets of it that may come in one event.
+/// Notes which connections outputs open and close.
+fn note_outputs(outputs: &[Output], connections: &mut Vec<u32>) -> Result<(), AllocError>
+    ensures { OnOk result (connections.new.items ≡ open_behind (outputs_of outputs.now) connections.old.items) }
+{
+    for output in outputs {
+        note_output(output, connections)?;
+    }
+    Ok(())
+}
+
+/// Notes which connection an output opens or closes.
+fn note_output(output: &Output, connections: &mut Vec<u32>) -> Result<(), AllocError>
+    ensures { OnOk result (connections.new.items ≡ open_with (output_of output.now) connections.old.items) }
+{
+    match output {
+        Output::Open(k, _) => connections.push(*k)?,
+        Output::Close(k) => forget(*k, connections),
+        Output::Client(_) | Output::Up(_, _) | Output::CloseClient => {}
+    }
+    Ok(())
+}
+
+/// Notes which connection is open no more behind an event.
+fn note_event(event: &Event, connections: &mut Vec<u32>)
+    ensures { connections.new.items ≡ open_after (event_of event.now) connections.old.items }
+{
+    match event {
+        Event::UpFailed(k) => forget(*k, connections),
+        Event::Client(_)
+        | Event::ClientEnd
+        | Event::ClientTook(_)
+        | Event::Up(_, _)
+        | Event::UpEnd(_)
+        | Event::UpTook(_, _) => {}
+    }
+}
+
+/// A connection is open no more.
+fn forget(k: u32, connections: &mut Vec<u32>)
+    ensures { connections.new.items ≡ without k connections.old.items }
+{
+    connections.retain(|other| *other != k);
+}
+
+/// The connections that are open, each with the most octets of it that may come in one event.
 fn rooms_of(
     alloc: Global,
     gateway: &Gateway,
-    open: &[u32],
-) -> Result<Vec<(u32, usize)>, AllocError> {
+    connections: &[u32],
+) -> Result<Vec<(u32, usize)>, AllocError>
+    ensures { IfOk result (λ rooms. (log : List Step) (tape : List Entry) → Stands gateway.now log tape → rooms.items ≡ map (λ k. (k, room k tape)) connections.now) }
+{
     let mut rooms = Vec::new(alloc);
-    for k in open {
-        let room = gateway.room(*k);
-        if room > 0 {
-            rooms.push((*k, room))?;
-        }
+    for k in connections {
+        rooms.push((*k, gateway.room(*k)))?;
     }
     Ok(rooms)
 }
 
 /// Takes an event of the world, and applies what is put out for it. The answer is whether the client was closed. The connections
-/// that it opens are added to `open`.
+/// that are open behind it are noted.
 fn take_event<W: World>(
     alloc: Global,
     gateway: &mut Gateway,
     world: &mut W,
     event: &Event,
-    open: &mut Vec<u32>,
+    connections: &mut Vec<u32>,
 ) -> Result<bool, ServeFault>
+    requires { W.failures world.old + 1 < 2 ^ 64 }
     ensures calls { W.calls world.new ≡ W.calls world.old }
     ensures failures { OnOk result (W.failures world.new ≡ W.failures world.old) }
     ensures world { IsErrOf result ServeFault.World → W.failures world.old < W.failures world.new }
-    ensures log { OnOk result ((before added : List Step) (tape : List Entry) →
-        W.log world.old ≡ Some (before ++ added ++ came event.now ∷ []) → Stands gateway.old (reverse added) tape → Serves gateway.old.kept.state.setup (W.log world.new) gateway.new before) }
+    ensures log { IfOk result (λ closed. (before added : List Step) (tape : List Entry) → W.log world.old ≡ Some (before ++ added ++ came event.now ∷ [])
+        → Stands gateway.old (reverse added) tape → has_closed added ≡ false → Serves gateway.old.kept.state.setup closed (W.log world.new) gateway.new before) }
+    ensures front { IsErrOf result ServeFault.World → (before added : List Step) (tape : List Entry) → W.log world.old ≡ Some (before ++ added ++ came event.now ∷ [])
+        → Stands gateway.old (reverse added) tape → AddsFrontTo gateway.old.kept.state.setup before (W.log world.new) }
+    ensures refused { IsErrOf result ServeFault.NotAdmitted → (W.log world.new ≡ W.log world.old)
+        × ((log : List Step) (tape : List Entry) → Stands gateway.old log tape → is_admitted tape (event_of event.now) ≡ false) }
 {
     if !gateway.admits(event) {
         return Err(ServeFault::NotAdmitted);
@@ -105,15 +143,52 @@ fn take_event<W: World>(
     if gateway.step(event, &mut outputs).is_err() {
         return Err(ServeFault::Memory);
     }
-    if note_opened(&outputs, open).is_err() {
+    note_event(event, connections);
+    if note_outputs(&outputs, connections).is_err() {
         return Err(ServeFault::Memory);
     }
-    apply_all(world, &outputs)?;
-    Ok(closes_client(&outputs))
+    match apply_all(world, &outputs) {
+        Ok(()) => Ok(closes_client(&outputs)),
+        Err(_) => Err(ServeFault::World),
+    }
+}
+
+/// Takes a turn: asks the world what comes next, and takes the event if one does. The answer is how serving ended, if it did.
+fn take_turn<W: World>(
+    alloc: Global,
+    gateway: &mut Gateway,
+    world: &mut W,
+    connections: &mut Vec<u32>,
+) -> Result<Option<Ended>, ServeFault>
+    requires calls { W.calls world.old + 1 < 2 ^ 64 }
+    requires failures { W.failures world.old + 1 < 2 ^ 64 }
+    ensures calls { OnOk result (W.calls world.new ≡ W.calls world.old + 1) }
+    ensures failures { OnOk result (W.failures world.new ≡ W.failures world.old) }
+    ensures world { IsErrOf result ServeFault.World → W.failures world.old < W.failures world.new }
+    ensures over { IfOk result (λ ended. SaysEnd ended (W.over world.new)) }
+    ensures log { IfOk result (λ ended. (setup : Setup) (before : List Step) → Serves setup false (W.log world.old) gateway.old before → Serves setup (ends ended) (W.log world.new) gateway.new before) }
+    ensures front { IsErrOf result ServeFault.World → (setup : Setup) (before : List Step) → Serves setup false (W.log world.old) gateway.old before → AddsFrontTo setup before (W.log world.new) }
+    ensures refused { IsErrOf result ServeFault.NotAdmitted → (setup : Setup) (before : List Step) → Serves setup false (W.log world.old) gateway.old before → AddsRefusedTo setup before (W.log world.new) }
+{
+    let Ok(rooms) = rooms_of(alloc, gateway, connections) else {
+        return Err(ServeFault::Memory);
+    };
+    match world.next(&rooms) {
+        Err(_) => Err(ServeFault::World),
+        Ok(Next::Nothing) => Ok(None),
+        Ok(Next::Over) => Ok(Some(Ended::Over)),
+        Ok(Next::Happened(event)) => match take_event(alloc, gateway, world, &event, connections) {
+            Ok(true) => Ok(Some(Ended::Closed)),
+            Ok(false) => Ok(None),
+            Err(fault) => Err(fault),
+        },
+    }
 }
 
 /// Whether outputs close the client.
-fn closes_client(outputs: &[Output]) -> bool {
+fn closes_client(outputs: &[Output]) -> bool
+    ensures { result ≡ list_any (λ output. closes (output_of output)) outputs.now }
+{
     outputs
         .iter()
         .any(|output| matches!(output, Output::CloseClient))
@@ -122,8 +197,9 @@ fn closes_client(outputs: &[Output]) -> bool {
 /// Serves a world for some turns with a new gateway. Each turn calls the world's `next` once, with the open connections by rising
 /// number; an event is taken, and what is put out for it is applied in order. That nothing comes as yet is a turn too.
 ///
-/// What that adds to a log that the world tells is faithful. `World` is answered only where a call of the world failed, `Turns`
-/// only after all turns, and `Over` only where the world said so. So far the policy is Plain, bodies are passed on whole, and the
+/// What that adds to a log that the world tells is faithful. `Closed` is answered just where the client was closed, `Turns` only
+/// after all turns, and `Over` only where the world said so; `World` only where a call of the world failed, and then what was
+/// added is a front of a faithful log, without the output that failed; `NotAdmitted` only where an event came that may not. So far the policy is Plain, bodies are passed on whole, and the
 /// maxima are at most 1,073,741,824.
 pub fn serve<W: World>(
     alloc: Global,
@@ -133,8 +209,11 @@ pub fn serve<W: World>(
 ) -> Result<Ended, ServeFault>
     requires servable { IsServable (setup_of config.now) }
     requires turns { W.calls world.old + turns < 2 ^ 64 }
-    ensures faithful { OnOk result (AddsFaithful (setup_of config.now) (W.log world.old) (W.log world.new)) }
+    requires failures { W.failures world.old + 1 < 2 ^ 64 }
+    ensures run { IfOk result (λ ended. AddsRun (setup_of config.now) ended (W.log world.old) (W.log world.new)) }
     ensures world { IsErrOf result ServeFault.World → W.failures world.old < W.failures world.new }
+    ensures front { IsErrOf result ServeFault.World → AddsFront (setup_of config.now) (W.log world.old) (W.log world.new) }
+    ensures refused { IsErrOf result ServeFault.NotAdmitted → AddsRefused (setup_of config.now) (W.log world.old) (W.log world.new) }
     ensures turns { IsOkAnd result (λ ended. ended ≡ Ended.Turns) → W.calls world.new ≡ W.calls world.old + turns }
     ensures over { IsOkAnd result (λ ended. ended ≡ Ended.Over) → W.over world.new ≡ true }
 {
@@ -142,19 +221,12 @@ pub fn serve<W: World>(
         return Err(ServeFault::Memory);
     };
     let mut gateway = Gateway::new(alloc, config);
-    let mut open = Vec::new(alloc);
+    let mut connections = Vec::new(alloc);
     for _turn in 0..turns {
-        let Ok(rooms) = rooms_of(alloc, &gateway, &open) else {
-            return Err(ServeFault::Memory);
-        };
-        match world.next(&rooms)? {
-            Next::Nothing => {}
-            Next::Over => return Ok(Ended::Over),
-            Next::Happened(event) => {
-                if take_event(alloc, &mut gateway, world, &event, &mut open)? {
-                    return Ok(Ended::Closed);
-                }
-            }
+        match take_turn(alloc, &mut gateway, world, &mut connections) {
+            Ok(None) => {}
+            Ok(Some(ended)) => return Ok(ended),
+            Err(fault) => return Err(fault),
         }
     }
     Ok(Ended::Turns)

@@ -6,10 +6,30 @@ ghost use Rattle.gateway.specs.Views.{output_of};
 ghost use Rattle.worlds.specs.Worlds.{AddsEvent, SaysOver, with_outputs};
 
 use gateway::{Event, Output};
+use std::alloc::{AllocError, AllocFailed};
+use std::io;
 
-/// A call of a world failed.
+/// A call of a world failed. Want of memory in a world is such a failure too.
 #[derive(Clone, Copy, Debug, PartialEq, Eq, Drop)]
 pub struct WorldFault {}
+
+impl From<AllocError> for WorldFault {
+    fn from(_error: AllocError) -> WorldFault {
+        WorldFault {}
+    }
+}
+
+impl<T: Drop> From<AllocFailed<T>> for WorldFault {
+    fn from(_error: AllocFailed<T>) -> WorldFault {
+        WorldFault {}
+    }
+}
+
+impl From<io::Error> for WorldFault {
+    fn from(_error: io::Error) -> WorldFault {
+        WorldFault {}
+    }
+}
 
 /// What comes next.
 #[derive(Drop)]
@@ -39,7 +59,8 @@ pub trait World {
     /// What comes next. `rooms` are the numbers of the open connections to upstreams, each with the most octets of it that may
     /// come in one event.
     fn next(&mut self, rooms: &[(u32, usize)]) -> Result<Next, WorldFault>
-        requires { calls self.old + 1 < 2 ^ 64 }
+        requires calls { calls self.old + 1 < 2 ^ 64 }
+        requires failures { failures self.old + 1 < 2 ^ 64 }
         ensures calls { calls self.new ≡ calls self.old + 1 }
         ensures failures { failures self.new ≡ (if is_ok result then failures self.old else failures self.old + 1) }
         ensures over { IfOk result (λ next. SaysOver next (over self.new)) }
@@ -48,6 +69,7 @@ pub trait World {
 
     /// Takes an output.
     fn apply(&mut self, output: &Output) -> Result<(), WorldFault>
+        requires { failures self.old + 1 < 2 ^ 64 }
         ensures calls { calls self.new ≡ calls self.old }
         ensures failures { failures self.new ≡ (if is_ok result then failures self.old else failures self.old + 1) }
         ensures log { OnOk result ((before : List Step) (step : Step) → log self.old ≡ Some (before ++ step ∷ []) → log self.new ≡ Some (before ++ with_outputs step (output_of output.now ∷ []) ∷ [])) }

@@ -1,4 +1,4 @@
-use Rattle.std.proofs.Common.{◌≡◌, ◌+◌, List, Some}
+use Rattle.std.proofs.Common.{◌≡◌, ◌+◌, List, Some, false}
 use Rattle.model.specs.Logs.{Step}
 use Rattle.gateway.specs.Setups.{setup_of}
 use Rattle.worlds.specs.Worlds.{Serves}
@@ -8,5 +8,5 @@ abbrev pub invariant-loop-turn : goal.invariant-loop-turn
 invariant-loop-turn g l = record {
   calls : g.W.World.calls l.world ≡ g.W.World.calls l.fn.world + l._turn;
   failures : g.W.World.failures l.world ≡ g.W.World.failures l.fn.world;
-  log : (before : List Step) → g.W.World.log l.fn.world ≡ Some before → Serves (setup_of l.fn.config) (g.W.World.log l.world) l.gateway before;
+  log : (before : List Step) → g.W.World.log l.fn.world ≡ Some before → Serves (setup_of l.fn.config) false (g.W.World.log l.world) l.gateway before;
 }

@@ -1,0 +1,53 @@
+-- The command line `h2gw --config FILE --listen ADDR --connections N --turns N`, by `clap`'s meaning of a simple command.
+use Rattle.std.specs.Prelude.{◌≡◌, List, [], Option, Some, None, string_bytes, codes, ⊤}
+use Rattle.clap.specs.Words.{App, Text, new_app, with_rule, matches_of, first_of, fault_of, kind_of, IsAmong, first_value}
+use Rattle.clap.specs.declared.parser.matches.Found.{Found}
+use Rattle.command_line.specs.declared.words.Word.{Word}
+use Rattle.command_line.specs.declared.words.Word.TheVariants as value
+use Rattle.command_line.specs.declared.words.WordsFault.{WordsFault}
+use Rattle.command_line.specs.declared.words.WordsFault.TheVariants.{Clap, Missing, NotANumber, Memory}
+use Rattle.command_line.specs.declared.gateways.GatewayWords.{GatewayWords}
+use Rattle.command_line.specs.Values.{name_of, option_rule, IsCount, IsNoCount}
+
+-- the command, as `clap` reads it
+abbrev pub gateway_app : App
+gateway_app = with_rule (with_rule (with_rule (with_rule (new_app (codes "h2gw")) (option_rule value.Config)) (option_rule value.Listen)) (option_rule value.Connections)) (option_rule value.Turns)
+
+-- The values are those found under their names.
+pub record AreValues (find : Word → Option Text) (values : GatewayWords) : Type 0 where
+  pub config : Some (string_bytes values.config) ≡ find value.Config
+  pub listen : Some (string_bytes values.listen) ≡ find value.Listen
+  pub connections : IsCount (find value.Connections) values.connections
+  pub turns : IsCount (find value.Turns) values.turns
+
+-- Why they are none, unless memory ran out: one is missing, or no number.
+abbrev pub AreNoValues : (Word → Option Text) → WordsFault → Type 0
+AreNoValues find (Clap error) = ⊥
+AreNoValues find (Missing word) = find word ≡ None
+AreNoValues find (NotANumber word) = IsNoCount (find word) word (NotANumber word)
+AreNoValues find Memory = ⊤
+
+-- what `clap` found on a command line, by name
+abbrev pub found_in : List Text → Word → Option Text
+found_in words word = first_of (name_of word) (matches_of gateway_app words)
+
+-- what a parse found
+abbrev pub found_by : Found → Word → Option Text
+found_by found word = first_value found (name_of word)
+
+abbrev pub HasValues : Found → GatewayWords → Type 0
+HasValues found values = AreValues (found_by found) values
+
+abbrev pub LacksValues : Found → WordsFault → Type 0
+LacksValues found fault = AreNoValues (found_by found) fault
+
+-- `clap` takes the words, and finds these values in them.
+unfoldable pub Means : List Text → GatewayWords → Type 0
+Means words values = (fault_of gateway_app words ≡ []) × AreValues (found_in words) values
+
+-- `clap` refuses the words so, or takes them and they lack a value, unless memory ran out.
+unfoldable pub Refuses : List Text → WordsFault → Type 0
+Refuses words (Clap error) = IsAmong (kind_of error) (fault_of gateway_app words)
+Refuses words (Missing word) = (fault_of gateway_app words ≡ []) × AreNoValues (found_in words) (Missing word)
+Refuses words (NotANumber word) = (fault_of gateway_app words ≡ []) × AreNoValues (found_in words) (NotANumber word)
+Refuses words Memory = ⊤

@@ -1,0 +1,45 @@
+-- The values of a command line, as `clap` finds them.
+use Rattle.std.specs.Prelude.{◌≡◌, ◌<◌, ◌^◌, ℕ, Option, Some, None, codes}
+use Rattle.std.specs.Str.Parse.{IsNumeral, without_leading_plus, digits_value}
+use Rattle.clap.specs.Words.{Rule, Text, new_rule}
+use Rattle.clap.specs.declared.builder.action.ArgAction.TheVariants.{Set}
+use Rattle.command_line.specs.declared.words.Word.{Word}
+use Rattle.command_line.specs.declared.words.Word.TheVariants.{Config, Listen, Connections, Turns, Script}
+use Rattle.command_line.specs.declared.words.WordsFault.{WordsFault}
+use Rattle.command_line.specs.declared.words.WordsFault.TheVariants.{Missing, NotANumber}
+
+-- the name under which a value is found
+abbrev pub name_of : Word → Text
+name_of Config = codes "config"
+name_of Listen = codes "listen"
+name_of Connections = codes "connections"
+name_of Turns = codes "turns"
+name_of Script = codes "script"
+
+-- `--name VALUE`, which may be left out and has one value
+abbrev pub option_rule : Word → Rule
+option_rule word = record (new_rule (name_of word)) { long = Some (name_of word); action = Some Set; value_names = 1 }
+
+-- a value that stands by itself and may be left out
+abbrev pub value_rule : Word → Rule
+value_rule word = record (new_rule (name_of word)) { action = Some Set; value_names = 1 }
+
+-- The text is a number from 0 to 4,294,967,295 in decimal digits, behind a plus or not.
+pub record IsNumber (text : Text) (number : ℕ) : Type 0 where
+  pub digits : IsNumeral 10 (without_leading_plus text)
+  pub value : number ≡ digits_value 10 (without_leading_plus text)
+  pub small : number < 2 ^ 32
+
+-- A value was found that is this number.
+abbrev pub IsCount : Option Text → ℕ → Type 0
+IsCount None count = ⊥
+IsCount (Some text) count = IsNumber text count
+
+-- Why there is no text: no value was found.
+abbrev pub IsNoText : Option Text → Word → WordsFault → Type 0
+IsNoText found word fault = (fault ≡ Missing word) × (found ≡ None)
+
+-- Why there is no number: no value was found, or one that is none.
+abbrev pub IsNoCount : Option Text → Word → WordsFault → Type 0
+IsNoCount None word fault = fault ≡ Missing word
+IsNoCount (Some text) word fault = (fault ≡ NotANumber word) × ((number : ℕ) → IsNumber text number → ⊥)

@@ -1,0 +1,79 @@
+//! The command line of the gateway.
+
+ghost use Rattle.std.specs.Prelude.{◌≡◌, map, IfOk, IfErr};
+ghost use Rattle.clap.specs.Words.{app_of, found_of};
+ghost use Rattle.command_line.specs.Gateways.{gateway_app, HasValues, LacksValues, Means, Refuses};
+
+use crate::values::{count_of, fault_of, option, text_of};
+use crate::words::{Word, WordsFault};
+use clap::{ArgMatches, Command};
+use std::alloc::{AllocError, Global};
+
+/// What `--help` says of each.
+const CONFIG: &str = "Where the configuration stands, a table of TOML";
+
+const LISTEN: &str = "Where clients connect to: a numeric address and port";
+
+const CONNECTIONS: &str = "How many connections are served, one after another";
+
+const TURNS: &str = "The most turns of one connection";
+
+/// The values of the gateway's command line.
+#[derive(Debug, Drop)]
+pub struct GatewayWords {
+    /// Where the configuration stands.
+    pub config: String,
+    /// Where clients connect to.
+    pub listen: String,
+    /// How many connections are served.
+    pub connections: u32,
+    /// The most turns of a connection.
+    pub turns: u32,
+}
+
+/// Reads the gateway's command line, from the program's name on: `--config FILE --listen ADDR --connections N --turns N`, in
+/// any order, each once and none left out. `--help` and what isn't such a line is a fault, the first value that is missing or no
+/// number another.
+pub fn read_gateway_words<'a>(
+    alloc: Global,
+    words: &'a [&'a str],
+) -> Result<GatewayWords, WordsFault>
+    ensures ok { IfOk result (λ values. Means (map (λ word. word.now) words.entry.now) values) }
+    ensures err { IfErr result (λ fault. Refuses (map (λ word. word.now) words.entry.now) fault) }
+{
+    let Ok(command) = gateway_command(alloc) else {
+        return Err(WordsFault::Memory);
+    };
+    match command.try_get_matches_from(words) {
+        Ok(matches) => gateway_values(alloc, &matches),
+        Err(error) => Err(fault_of(error)),
+    }
+}
+
+/// The command as `clap` reads it.
+fn gateway_command<'a>(alloc: Global) -> Result<Command<'a>, AllocError>
+    ensures { IfOk result (λ command. app_of command ≡ gateway_app) }
+{
+    Command::new(alloc, "h2gw")
+        .arg(option(alloc, Word::Config, "FILE", CONFIG))?
+        .arg(option(alloc, Word::Listen, "ADDR", LISTEN))?
+        .arg(option(alloc, Word::Connections, "N", CONNECTIONS))?
+        .arg(option(alloc, Word::Turns, "N", TURNS))
+}
+
+/// The values that a parse found.
+fn gateway_values(alloc: Global, matches: &ArgMatches<'_>) -> Result<GatewayWords, WordsFault>
+    ensures ok { IfOk result (λ values. HasValues (found_of matches.now) values) }
+    ensures err { IfErr result (λ fault. LacksValues (found_of matches.now) fault) }
+{
+    let config = text_of(matches, Word::Config)?;
+    let listen = text_of(matches, Word::Listen)?;
+    let connections = count_of(matches, Word::Connections)?;
+    let turns = count_of(matches, Word::Turns)?;
+    Ok(GatewayWords {
+        config: String::from_str(alloc, config)?,
+        listen: String::from_str(alloc, listen)?,
+        connections,
+        turns,
+    })
+}

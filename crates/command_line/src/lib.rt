@@ -1,0 +1,14 @@
+//! The words of a command line, and what they say.
+#![tactic(auto)]
+
+mod gateways;
+mod replays;
+mod values;
+mod words;
+
+pub use gateways::{GatewayWords, read_gateway_words};
+pub use replays::{ReplayWords, read_replay_words};
+pub use words::{Word, WordsFault};
+
+#[cfg(test)]
+mod tests;

@@ -1,0 +1,81 @@
+use super::*;
+use std::test::*;
+
+#[test]
+fn the_gateway_reads_its_words(rt: HostRuntime) -> Result<(), Fail> {
+    let words = [
+        "h2gw",
+        "--turns",
+        "4294967295",
+        "--config",
+        "a.toml",
+        "--listen=127.0.0.1:80",
+        "--connections",
+        "0",
+    ];
+    match read_gateway_words(rt.alloc(), words.as_slice()) {
+        Ok(values) => {
+            assert_eq!(rt; values.config.as_str(), "a.toml");
+            assert_eq!(rt; values.listen.as_str(), "127.0.0.1:80");
+            assert_eq!(rt; (values.connections, values.turns), (0, 4294967295));
+        }
+        Err(fault) => panic!(rt; "{fault:?}"),
+    }
+    Ok(())
+}
+
+#[test]
+fn the_gateway_refuses_other_words(rt: HostRuntime) -> Result<(), Fail> {
+    let missing = [
+        "h2gw",
+        "--config",
+        "a",
+        "--turns",
+        "1",
+        "--connections",
+        "1",
+    ];
+    match read_gateway_words(rt.alloc(), missing.as_slice()) {
+        Err(WordsFault::Missing(Word::Listen)) => {}
+        _ => panic!(rt; "no address, and taken"),
+    }
+    let large = [
+        "h2gw",
+        "--config=a",
+        "--listen=b",
+        "--connections=4294967296",
+        "--turns=1",
+    ];
+    match read_gateway_words(rt.alloc(), large.as_slice()) {
+        Err(WordsFault::NotANumber(Word::Connections)) => {}
+        _ => panic!(rt; "no number, and taken"),
+    }
+    for word in ["--help", "--colour", "script"] {
+        match read_gateway_words(rt.alloc(), &["h2gw", word]) {
+            Err(WordsFault::Clap(_)) => {}
+            _ => panic!(rt; "{word} was taken"),
+        }
+    }
+    Ok(())
+}
+
+#[test]
+fn the_replay_reads_its_words(rt: HostRuntime) -> Result<(), Fail> {
+    let words = ["h2replay", "--config", "a.toml", "b.script"];
+    match read_replay_words(rt.alloc(), words.as_slice()) {
+        Ok(values) => {
+            assert_eq!(rt; values.config.as_deref(), Some("a.toml"));
+            assert_eq!(rt; values.script.as_str(), "b.script");
+        }
+        Err(fault) => panic!(rt; "{fault:?}"),
+    }
+    match read_replay_words(rt.alloc(), &["h2replay", "b.script"]) {
+        Ok(values) => assert!(rt; values.config.is_none()),
+        Err(fault) => panic!(rt; "{fault:?}"),
+    }
+    match read_replay_words(rt.alloc(), &["h2replay"]) {
+        Err(WordsFault::Missing(Word::Script)) => {}
+        _ => panic!(rt; "no script, and taken"),
+    }
+    Ok(())
+}

@@ -1,0 +1,81 @@
+//! The values that a parse found.
+
+ghost use Rattle.std.specs.Prelude.{false, ◌≡◌, ◌≢◌, ◌⊎◌, IfOk, IfErr, Some, None, option_map};
+ghost use Rattle.clap.specs.Words.{found_of, first_value, kind_of, rule_of};
+ghost use Rattle.command_line.specs.Values.{name_of, option_rule, value_rule, IsCount, IsNoText, IsNoCount};
+
+use crate::words::{Word, WordsFault};
+use clap::error::ErrorKind;
+use clap::{Arg, ArgAction, ArgMatches};
+use std::alloc::Global;
+
+impl Word {
+    /// Its name, under which it is found.
+    pub fn name(self) -> &'static str
+        ensures { result.now ≡ name_of self }
+    {
+        match self {
+            Word::Config => "config",
+            Word::Listen => "listen",
+            Word::Connections => "connections",
+            Word::Turns => "turns",
+            Word::Script => "script",
+        }
+    }
+}
+
+/// `--name VALUE`, which may be left out.
+pub fn option<'a>(alloc: Global, word: Word, value: &'static str, help: &'static str) -> Arg<'a>
+    ensures rule { rule_of result ≡ option_rule word }
+    ensures local { result.global ≡ false }
+{
+    Arg::new(alloc, word.name())
+        .long(word.name())
+        .value_name(value)
+        .action(ArgAction::Set)
+        .help(help)
+}
+
+/// A value that stands by itself, and may be left out.
+pub fn value<'a>(alloc: Global, word: Word, value: &'static str, help: &'static str) -> Arg<'a>
+    ensures rule { rule_of result ≡ value_rule word }
+    ensures local { result.global ≡ false }
+{
+    Arg::new(alloc, word.name())
+        .value_name(value)
+        .action(ArgAction::Set)
+        .help(help)
+}
+
+/// The text of a value.
+pub fn text_of<'a>(matches: &ArgMatches<'a>, word: Word) -> Result<&'a str, WordsFault>
+    ensures ok { IfOk result (λ text. Some text.now ≡ first_value (found_of matches.now) (name_of word)) }
+    ensures err { IfErr result (λ fault. IsNoText (first_value (found_of matches.now) (name_of word)) word fault) }
+{
+    match matches.get_str(word.name()) {
+        Some(text) => Ok(text),
+        None => Err(WordsFault::Missing(word)),
+    }
+}
+
+/// The number of a value.
+pub fn count_of(matches: &ArgMatches<'_>, word: Word) -> Result<u32, WordsFault>
+    ensures ok { IfOk result (λ count. IsCount (first_value (found_of matches.now) (name_of word)) count) }
+    ensures err { IfErr result (λ fault. IsNoCount (first_value (found_of matches.now) (name_of word)) word fault) }
+{
+    let text = text_of(matches, word)?;
+    match text.parse::<u32>() {
+        Ok(count) => Ok(count),
+        Err(_) => Err(WordsFault::NotANumber(word)),
+    }
+}
+
+/// The fault that an error of a parse is.
+pub fn fault_of(error: clap::Error) -> WordsFault
+    ensures { ((result ≡ WordsFault.Clap error) × (kind_of error ≢ ErrorKind.OutOfMemory)) ⊎ (result ≡ WordsFault.Memory) }
+{
+    match error.kind() {
+        ErrorKind::OutOfMemory => WordsFault::Memory,
+        _ => WordsFault::Clap(error),
+    }
+}

@@ -1,0 +1,42 @@
+//! The words that a command line can have, and what can be wrong with them.
+
+use std::alloc::AllocError;
+
+/// A value of a command line, by its name.
+#[derive(Clone, Copy, Debug, PartialEq, Eq, Drop)]
+pub enum Word {
+    /// `--config FILE`: where the configuration stands.
+    Config,
+    /// `--listen ADDR`: where clients connect to.
+    Listen,
+    /// `--connections N`: how many connections are served.
+    Connections,
+    /// `--turns N`: the most turns of a connection.
+    Turns,
+    /// `SCRIPT`: where the script stands.
+    Script,
+}
+
+/// Why a command line is refused.
+#[derive(Debug, Drop)]
+pub enum WordsFault {
+    /// It isn't one of the program's, or it asks for help: the text says so.
+    Clap(clap::Error),
+    /// This value is missing.
+    Missing(Word),
+    /// This value is no number from 0 to 4,294,967,295.
+    NotANumber(Word),
+    /// No memory was left.
+    Memory,
+}
+
+impl From<AllocError> for WordsFault {
+    ghost use Rattle.std.specs.Prelude.{◌≡◌};
+    ghost use Rattle.command_line.specs.declared.words.WordsFault.TheVariants.{Memory};
+
+    ghost from_gives = { λ _ fault. fault ≡ Memory };
+
+    fn from(_error: AllocError) -> WordsFault {
+        WordsFault::Memory
+    }
+}

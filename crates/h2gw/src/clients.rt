@@ -1,0 +1,52 @@
+//! The connections of clients.
+
+ghost use Rattle.gateway.specs.Setups.{setup_of, IsServable};
+
+use crate::setting::Setting;
+use crate::stops::Stop;
+use mio::net::TcpStream as Socket;
+use sockets::SocketWorld;
+use std::io::ErrorKind;
+use std::net::{TcpListener, TcpStream};
+use worlds::{ServeFault, serve};
+
+/// Says where clients connect to, and serves their connections one after another.
+pub fn serve_clients(rt: &HostRuntime, setting: &Setting) -> Result<(), Stop>
+    requires { IsServable (setup_of setting.now.config) }
+{
+    let Ok(listener) = TcpListener::bind(rt, setting.listen) else {
+        return Err(Stop::Bind);
+    };
+    let Ok(address) = listener.local_addr() else {
+        return Err(Stop::Bind);
+    };
+    println!(rt; "listening {address}").map_err(|_| Stop::Print)?;
+    for _connection in 0..setting.connections {
+        match listener.accept() {
+            Ok((client, _address)) => serve_client(rt, setting, client)?,
+            // The client went before its connection was accepted.
+            Err(error) if error.kind() == ErrorKind::ConnectionAborted => {}
+            Err(_) => return Err(Stop::Accept),
+        }
+    }
+    Ok(())
+}
+
+/// Serves the connection of a client. That one fails ends it alone, unless no memory was left.
+fn serve_client(rt: &HostRuntime, setting: &Setting, client: TcpStream) -> Result<(), Stop>
+    requires { IsServable (setup_of setting.now.config) }
+{
+    if client.set_nonblocking(true).is_err() {
+        return Ok(());
+    }
+    let client = Socket::from_std(client);
+    let world = SocketWorld::new(rt.alloc(), rt, &setting.addresses, client);
+    let Ok(mut world) = world else {
+        return Ok(());
+    };
+    let turns = u64::from(setting.turns);
+    match serve(rt.alloc(), &setting.config, &mut world, turns) {
+        Err(ServeFault::Memory) => Err(Stop::Memory),
+        Ok(_) | Err(ServeFault::World | ServeFault::NotAdmitted) => Ok(()),
+    }
+}

@@ -1,0 +1,98 @@
+//! What the program is set up with.
+
+ghost use Rattle.std.specs.Prelude.{IfOk};
+ghost use Rattle.gateway.specs.Setups.{setup_of, IsServable};
+ghost use Rattle.h2gw.specs.Addresses.{AreAddresses};
+
+use crate::stops::Stop;
+use command_line::{GatewayWords, read_gateway_words};
+use configuration::{ConfigFault, Key, read_config};
+use gateway::{Config, Route};
+use std::alloc::Global;
+use std::io;
+use std::io::ErrorKind;
+use std::net::SocketAddr;
+use std::{env, fs};
+
+/// What the program is set up with.
+#[derive(Drop)]
+pub struct Setting {
+    /// Where clients connect to.
+    pub listen: SocketAddr,
+    /// What each connection's gateway is set up with.
+    pub config: Config,
+    /// The addresses of the routes' upstreams, in the routes' order.
+    pub addresses: Vec<SocketAddr>,
+    /// How many connections are served.
+    pub connections: u32,
+    /// The most turns of a connection.
+    pub turns: u32,
+}
+
+/// Reads the command line, and then the configuration that it names. The address is judged before the configuration.
+pub fn read_setting(rt: &HostRuntime) -> Result<Setting, Stop>
+    ensures servable { IfOk result (λ setting. IsServable (setup_of setting.config)) }
+    ensures addresses { IfOk result (λ setting. AreAddresses setting.config.routes.items setting.addresses.items) }
+{
+    let words = read_command_line(rt)?;
+    let Ok(listen) = words.listen.parse::<SocketAddr>() else {
+        return Err(Stop::BadAddress);
+    };
+    let text = match fs::read_to_string(rt, &words.config) {
+        Ok(text) => text,
+        Err(error) if error.kind() == ErrorKind::OutOfMemory => return Err(Stop::Memory),
+        Err(_) => return Err(Stop::NoConfig),
+    };
+    let config = match read_config(rt.alloc(), &text) {
+        Ok(config) => config,
+        Err(fault) => return Err(Stop::Config(fault)),
+    };
+    let addresses = addresses_of(rt.alloc(), &config.routes)?;
+    Ok(Setting {
+        listen,
+        config,
+        addresses,
+        connections: words.connections,
+        turns: words.turns,
+    })
+}
+
+/// Reads the command line.
+fn read_command_line(rt: &HostRuntime) -> Result<GatewayWords, Stop> {
+    let arguments = collect_arguments(rt).map_err(|_| Stop::Memory)?;
+    let mut words = Vec::new(rt.alloc());
+    for argument in &arguments {
+        if words.push(argument.as_str()).is_err() {
+            return Err(Stop::Memory);
+        }
+    }
+    match read_gateway_words(rt.alloc(), &words) {
+        Ok(words) => Ok(words),
+        Err(fault) => Err(Stop::from(fault)),
+    }
+}
+
+/// The words of the command line, from the program's name on.
+fn collect_arguments(rt: &HostRuntime) -> io::Result<Vec<String>> {
+    let mut arguments = Vec::new(rt.alloc());
+    for argument in env::args(rt)? {
+        arguments.push(argument)?;
+    }
+    Ok(arguments)
+}
+
+/// The addresses of routes' upstreams.
+fn addresses_of(alloc: Global, routes: &[Route]) -> Result<Vec<SocketAddr>, Stop>
+    ensures { IfOk result (λ addresses. AreAddresses routes.now addresses.items) }
+{
+    let mut addresses = Vec::new(alloc);
+    for route in routes {
+        let Ok(address) = route.upstream.parse::<SocketAddr>() else {
+            return Err(Stop::Config(ConfigFault::Bad(Key::Upstream)));
+        };
+        if addresses.push(address).is_err() {
+            return Err(Stop::Memory);
+        }
+    }
+    Ok(addresses)
+}

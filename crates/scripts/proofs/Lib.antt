@@ -1,0 +1,4 @@
+pub mod ScriptsLemmas
+pub mod LinesLemmas
+pub mod MeaningLemmas
+pub mod RunsLemmas

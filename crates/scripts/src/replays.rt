@@ -1,0 +1,130 @@
+//! The replay of a script.
+
+ghost use Rattle.std.specs.Prelude.{◌≡◌, ◌≤◌, ◌⊎◌, IfOk, IfErr, OnOk, string_bytes};
+ghost use Rattle.std.specs.Io.KnownBytes.{Appends};
+ghost use Rattle.gateway.specs.Setups.{setup_of};
+ghost use Rattle.scripts.specs.Printing.{IsRun, IsRefused, default_setup, message};
+ghost use Rattle.scripts.specs.Stops.{Explains};
+
+use crate::printing::print_steps;
+use crate::scripts::{ScriptFault, read_script};
+use gateway::{Config, Passing, Policy, Route, RunFault};
+use std::alloc::{AllocError, Global};
+use std::io;
+use std::io::Write;
+
+/// Why a script isn't replayed.
+#[derive(Clone, Copy)]
+pub enum Stop {
+    /// The line at this place, from 1, is the first that says nothing.
+    NotALine(usize),
+    /// The event of the line at this place, from 1, isn't admitted.
+    NotAdmitted(usize),
+    /// No memory was left.
+    Memory,
+}
+
+/// Replays a script: the events that its lines say are run, and every output is written on a line of `out`, as `C hex`,
+/// `O k route`, `U k hex`, `X k` or `XC`. All lines are made before the first is written.
+///
+/// There is no other configuration yet than the default: plain header blocks, whole bodies of at most 1,048,576 octets
+/// either way, and one route for every authority and path, to an upstream without an address.
+///
+/// The status is 0; 1 where `err` says `line n: not a line` of the first line that isn't one, or else `line n: not
+/// admitted`, with n from 1, and nothing is written on `out`; 2 where no memory was left or a write failed.
+pub fn replay<O: Write, E: Write>(
+    alloc: Global,
+    config: Option<&str>,
+    script: &str,
+    out: &mut O,
+    err: &mut E,
+) -> u8
+    requires { config ≡ None }
+    ensures run { result ≡ 0 → IsRun script.now (Appends (O.contents out.old) (O.contents out.new)) × (err.new ≡ err.old) }
+    ensures refused { result ≡ 1 → IsRefused script.now (Appends (E.contents err.old) (E.contents err.new)) × (out.new ≡ out.old) }
+    ensures status { result ≤ 2 }
+{
+    let _ = config;
+    match printed(alloc, script) {
+        Ok(text) => match write_text(out, &text) {
+            Ok(()) => 0,
+            Err(_) => 2,
+        },
+        Err(Stop::NotALine(place)) => report(alloc, place, "not a line", err),
+        Err(Stop::NotAdmitted(place)) => report(alloc, place, "not admitted", err),
+        Err(Stop::Memory) => 2,
+    }
+}
+
+/// Says on `err` what is the matter with a line. The status is 1, or 2 where that can't be said.
+fn report<E: Write>(alloc: Global, place: usize, what: &str, err: &mut E) -> u8
+    ensures written { result ≡ 1 → Appends (E.contents err.old) (E.contents err.new) (message place what.now) }
+    ensures status { (result ≡ 1) ⊎ (result ≡ 2) }
+{
+    let Ok(text) = message_of(alloc, place, what) else {
+        return 2;
+    };
+    match write_text(err, &text) {
+        Ok(()) => 1,
+        Err(_) => 2,
+    }
+}
+
+/// What is the matter with a line, as a line.
+fn message_of(alloc: Global, place: usize, what: &str) -> Result<String, AllocError>
+    ensures { IfOk result (λ text. string_bytes text ≡ message place what.now) }
+{
+    format!(in alloc; "line {place}: {what}\n")
+}
+
+/// Writes a whole text.
+fn write_text<W: Write>(writer: &mut W, text: &str) -> io::Result<()>
+    ensures { OnOk result (Appends (W.contents writer.old) (W.contents writer.new) text.now) }
+{
+    writer.write_all(text.as_bytes())?;
+    writer.flush()
+}
+
+/// What the replay of a script prints.
+fn printed(alloc: Global, script: &str) -> Result<String, Stop>
+    ensures ok { IfOk result (λ text. IsRun script.now (λ written. string_bytes text ≡ written)) }
+    ensures err { IfErr result (λ stop. Explains script.now stop) }
+{
+    let events = match read_script(alloc, script) {
+        Ok(events) => events,
+        Err(ScriptFault::NotALine(place)) => return Err(Stop::NotALine(place)),
+        Err(ScriptFault::Memory) => return Err(Stop::Memory),
+    };
+    let Ok(config) = default_config(alloc) else {
+        return Err(Stop::Memory);
+    };
+    let steps = match gateway::run(alloc, &config, &events) {
+        Ok(steps) => steps,
+        Err(RunFault::NotAdmitted(place)) => return Err(Stop::NotAdmitted(place + 1)),
+        Err(RunFault::Memory(_)) => return Err(Stop::Memory),
+    };
+    match print_steps(alloc, &steps) {
+        Ok(text) => Ok(text),
+        Err(_) => Err(Stop::Memory),
+    }
+}
+
+/// The configuration where none is given.
+fn default_config(alloc: Global) -> Result<Config, AllocError>
+    ensures setup { IfOk result (λ config. setup_of config ≡ default_setup) }
+    ensures policy { IfOk result (λ config. config.policy ≡ Policy.Plain) }
+    ensures passing { IfOk result (λ config. config.passing ≡ Passing.Whole) }
+{
+    let route = Route {
+        authority: Vec::new(alloc),
+        prefix: Vec::from_slice(alloc, b"/")?,
+        upstream: String::new(alloc),
+    };
+    Ok(Config {
+        routes: vec![in alloc; route]?,
+        policy: Policy::Plain,
+        passing: Passing::Whole,
+        max_body: 1048576,
+        max_response: 1048576,
+    })
+}

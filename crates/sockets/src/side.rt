@@ -1,0 +1,120 @@
+//! One socket, and what is known of it.
+
+use mio::event::Event;
+use mio::net::TcpStream;
+use mio::{Interest, Registry, Token};
+use std::alloc::Global;
+use std::io;
+use transfers::{Got, Outgoing, PutFault, read_piece};
+
+/// A socket that doesn't wait, with what is on its way out to it and what was reported of it.
+#[derive(Drop)]
+pub struct Side {
+    socket: TcpStream,
+    token: Token,
+    out: Outgoing,
+    /// It may have something to be read: octets, or its end.
+    readable: bool,
+    /// It will send no more, so that reads go on until its end.
+    hung_up: bool,
+    /// Its end was read.
+    ended: bool,
+    /// It may take octets again.
+    writable: bool,
+    /// It is reported too once it takes octets again.
+    watched: bool,
+}
+
+impl Side {
+    /// A socket, which is reported under a token from now on. What is written to it goes out at once.
+    pub fn new(
+        alloc: Global,
+        registry: &Registry,
+        mut socket: TcpStream,
+        token: Token,
+    ) -> io::Result<Side> {
+        socket.set_nodelay(true)?;
+        registry.register(&mut socket, token, Interest::READABLE)?;
+        Ok(Side {
+            socket,
+            token,
+            out: Outgoing::new(alloc),
+            readable: false,
+            hung_up: false,
+            ended: false,
+            writable: false,
+            watched: false,
+        })
+    }
+
+    /// Whether more than so many octets that were put out weren't told of as taken.
+    pub fn owes_more_than(&self, most: u64) -> bool {
+        self.out.owes_more_than(most)
+    }
+
+    /// How many octets the socket took that weren't told of, if at least so many. They are told of now.
+    pub fn tell(&mut self, least: u64) -> u64 {
+        self.out.tell(least)
+    }
+
+    /// Whether it may have something to be read.
+    pub fn is_readable(&self) -> bool {
+        self.readable && !self.ended
+    }
+
+    /// It has something to be read, if only a failure.
+    pub fn expect_input(&mut self) {
+        self.readable = true;
+    }
+
+    /// Notes what was reported.
+    pub fn note(&mut self, event: &Event) {
+        let over = event.is_read_closed() || event.is_error();
+        self.hung_up = self.hung_up || over;
+        self.readable = self.readable || over || event.is_readable();
+        self.writable = self.writable || event.is_writable();
+    }
+
+    /// Puts octets out.
+    pub fn put(&mut self, registry: &Registry, octets: &[u8]) -> Result<(), PutFault> {
+        self.out.put(&mut self.socket, octets)?;
+        self.watch(registry).map_err(PutFault::Socket)
+    }
+
+    /// Writes what waits, if the socket may take it.
+    pub fn flush(&mut self, registry: &Registry) -> io::Result<()> {
+        if self.writable {
+            self.writable = false;
+            self.out.flush(&mut self.socket)?;
+            self.watch(registry)?;
+        }
+        Ok(())
+    }
+
+    /// Writes what waits until a write takes nothing.
+    pub fn finish(&mut self) -> io::Result<()> {
+        self.out.flush_all(&mut self.socket)
+    }
+
+    /// Reads what is there, as far as there is room.
+    pub fn read(&mut self, alloc: Global, room: &mut [u8]) -> io::Result<Got> {
+        let got = read_piece(alloc, &mut self.socket, room)?;
+        self.ended = matches!(got, Got::End);
+        self.readable = match &got {
+            // Where less was there than there is room for nothing is left, unless the end is.
+            Got::Octets(octets) => octets.len() == room.len() || self.hung_up,
+            Got::Nothing | Got::End => false,
+        };
+        Ok(got)
+    }
+
+    /// Has the socket reported once it takes octets again, where some wait.
+    fn watch(&mut self, registry: &Registry) -> io::Result<()> {
+        if self.watched || self.out.waiting() == 0 {
+            return Ok(());
+        }
+        self.watched = true;
+        let interests = Interest::READABLE | Interest::WRITABLE;
+        registry.reregister(&mut self.socket, self.token, interests)
+    }
+}

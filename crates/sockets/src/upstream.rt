@@ -1,0 +1,109 @@
+//! The connections to upstreams.
+
+use crate::side::Side;
+use gateway::Event;
+use mio::{Registry, event};
+use std::alloc::Global;
+use std::io;
+use std::io::ErrorKind;
+use transfers::{Got, PutFault};
+use worlds::WorldFault;
+
+/// A connection to an upstream, by its number.
+#[derive(Drop)]
+pub struct Upstream {
+    /// Its number.
+    pub k: u32,
+    /// Its socket, unless it couldn't be made.
+    side: Option<Side>,
+    /// A write failed. What is there is still read.
+    broken: bool,
+}
+
+impl Upstream {
+    /// A connection that is begun, or that couldn't be.
+    pub fn new(k: u32, side: Option<Side>) -> Upstream {
+        Upstream {
+            k,
+            side,
+            broken: false,
+        }
+    }
+
+    /// Whether something may be read of it, if only that it failed.
+    pub fn is_readable(&self) -> bool {
+        match &self.side {
+            Some(side) => side.is_readable(),
+            None => true,
+        }
+    }
+
+    /// Notes what was reported of its socket.
+    pub fn note(&mut self, event: &event::Event) {
+        if let Some(side) = &mut self.side {
+            side.note(event);
+        }
+    }
+
+    /// How many octets its socket took that weren't told of. They are told of now.
+    pub fn tell(&mut self) -> u64 {
+        match &mut self.side {
+            Some(side) => side.tell(1),
+            None => 0,
+        }
+    }
+
+    /// Puts octets out. Where its socket failed they are dropped.
+    pub fn put(&mut self, registry: &Registry, octets: &[u8]) -> Result<(), WorldFault> {
+        if self.broken {
+            return Ok(());
+        }
+        let Some(side) = &mut self.side else {
+            return Ok(());
+        };
+        match side.put(registry, octets) {
+            Ok(()) => Ok(()),
+            Err(PutFault::Socket(_)) => {
+                self.fail();
+                Ok(())
+            }
+            Err(PutFault::Memory) => Err(WorldFault {}),
+        }
+    }
+
+    /// Writes what waits, if its socket may take it.
+    pub fn flush(&mut self, registry: &Registry) {
+        if self.broken {
+            return;
+        }
+        let Some(side) = &mut self.side else {
+            return;
+        };
+        if side.flush(registry).is_err() {
+            self.fail();
+        }
+    }
+
+    /// The event that a read gives, if it gives one. A failure comes where nothing more is there.
+    pub fn read(&mut self, alloc: Global, room: &mut [u8]) -> Result<Option<Event>, WorldFault> {
+        let Some(side) = &mut self.side else {
+            return Ok(Some(Event::UpFailed(self.k)));
+        };
+        match side.read(alloc, room) {
+            Ok(Got::Octets(piece)) => Ok(Some(Event::Up(self.k, piece))),
+            Ok(_) if self.broken => Ok(Some(Event::UpFailed(self.k))),
+            Ok(Got::End) => Ok(Some(Event::UpEnd(self.k))),
+            Ok(Got::Nothing) => Ok(None),
+            Err(error) if error.kind() == ErrorKind::OutOfMemory => Err(WorldFault {}),
+            Err(_) => Ok(Some(Event::UpFailed(self.k))),
+        }
+    }
+
+    /// Its socket failed at a write.
+    fn fail(&mut self) {
+        self.broken = true;
+        if let Some(side) = &mut self.side {
+            side.expect_input();
+        }
+    }
+}

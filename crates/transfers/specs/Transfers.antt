@@ -1,0 +1,43 @@
+-- Octets that pass between a gateway and a socket.
+use Rattle.std.specs.Prelude.{◌≡◌, ◌≤◌, ◌<◌, ◌+◌, ◌-◌, ◌^◌, ℕ, List, [], ◌++◌, nat_lt, if◌then◌else◌, length, min, Option, Result, Ok, Err, ⊤}
+use Rattle.std.specs.Io.KnownBytes.{Appends, Consumes, Keeps, IsAtEnd}
+use Rattle.transfers.specs.declared.outgoing.PutFault.{PutFault}
+use Rattle.transfers.specs.declared.outgoing.PutFault.TheVariants.{Socket, Memory}
+use Rattle.transfers.specs.declared.incoming.Got.{Got}
+use Rattle.transfers.specs.declared.incoming.Got.TheVariants.{Octets, Nothing, End}
+
+-- what is on its way out: the octets that wait, and how many were taken that weren't told of
+pub record Way : Type 0 where
+  pub waiting : List ℕ
+  pub untold : ℕ
+
+abbrev pub nothing_put : Way
+nothing_put = record { waiting = []; untold = 0 }
+
+-- how many octets are told of, from so many on
+abbrev pub told_count : ℕ → Way → ℕ
+told_count least way = if nat_lt way.untold least then 0 else way.untold
+
+-- what is left when they were
+abbrev pub told : ℕ → Way → Way
+told least way = if nat_lt way.untold least then way else record way { untold = 0 }
+
+-- Octets are put out behind those that wait. Of all these a front is written, no other octets are, and the rest waits, in
+-- order; what is written counts as taken and not told of. Known octets of the socket are those that it had, and then those.
+pub record Passes (had has : Option (List ℕ)) (old : Way) (octets : List ℕ) (new : Way) : Type 0 where
+  pub written : List ℕ
+  pub in_order : written ++ new.waiting ≡ old.waiting ++ octets
+  pub are_written : Appends had has written
+  pub counted : new.untold ≡ min (old.untold + length written) (2 ^ 64 - 1)
+
+-- the answer that the socket failed
+abbrev pub IsSocketFault : {A : Type 0} → Result A PutFault → Type 0
+IsSocketFault (Err (Socket error)) = ⊤
+IsSocketFault (Err Memory) = ⊥
+IsSocketFault (Ok a) = ⊥
+
+-- What a read with so much room gave of the octets that the socket still had: some of the first, its end, or nothing.
+abbrev pub Gives : Option (List ℕ) → Option (List ℕ) → ℕ → Got → Type 0
+Gives had has room (Octets piece) = (0 < length piece.items) × (length piece.items ≤ room) × Consumes had has piece.items
+Gives had has room Nothing = Keeps had has
+Gives had has room End = 0 < room → IsAtEnd had

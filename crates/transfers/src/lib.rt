@@ -1,0 +1,11 @@
+//! Octets between a gateway and sockets that don't wait: what a socket takes at once, and what a read gives.
+#![tactic(auto)]
+
+mod incoming;
+mod outgoing;
+
+pub use incoming::{Got, read_piece};
+pub use outgoing::{Outgoing, PutFault};
+
+#[cfg(test)]
+mod tests;

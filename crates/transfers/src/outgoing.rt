@@ -1,0 +1,181 @@
+//! Octets on their way out to a socket.
+
+ghost use Rattle.std.specs.Prelude.{◌≡◌, ◌+◌, ◌-◌, ◌*◌, ◌<◌, ◌≤◌, ◌^◌, ◌↔◌, ◌⊎◌, ◌++◌, [], min, length, take, drop, IsTrue, IfOk, OnOk, OnErr, vec_len};
+ghost use Rattle.std.specs.Io.KnownBytes.{Appends, Keeps};
+ghost use Rattle.transfers.specs.Transfers.{Passes, IsSocketFault, nothing_put, told, told_count};
+
+use std::alloc::{AllocError, Global};
+use std::io;
+use std::io::{ErrorKind, Write};
+use std::marker::Model;
+
+/// Why octets can't be put out.
+#[derive(Debug, Drop)]
+pub enum PutFault {
+    /// The socket failed. Nothing was written, and nothing changed.
+    Socket(io::Error),
+    /// No memory was left for what the socket didn't take. The connection has to be ended.
+    Memory,
+}
+
+impl From<AllocError> for PutFault {
+    ghost use Rattle.transfers.specs.declared.outgoing.PutFault.{PutFault};
+    ghost use Rattle.transfers.specs.declared.outgoing.PutFault.TheVariants.{Memory};
+
+    ghost from_gives = { λ _ fault. fault ≡ Memory };
+
+    fn from(_error: AllocError) -> PutFault {
+        PutFault::Memory
+    }
+}
+
+/// Octets on their way out to a socket: those that wait since the socket didn't take them yet, and how many it took that weren't
+/// told of. That number stops at 2^64 - 1.
+#[derive(Drop)]
+pub struct Outgoing {
+    octets: Vec<u8>,
+    start: usize,
+    untold: u64,
+}
+
+impl Model for Outgoing {
+    ghost use Rattle.std.specs.Prelude.{drop, ◌≤◌, ◌<◌, ◌^◌, vec_len};
+    ghost use Rattle.transfers.specs.Transfers.{Way};
+
+    ghost Value = { Way };
+
+    ghost view = { λ out. record { waiting = drop out.start out.octets.items; untold = out.untold } };
+
+    ghost invariant = { λ out. (out.start ≤ vec_len out.octets) × (out.untold < 2 ^ 64) };
+}
+
+impl Outgoing {
+    /// Nothing was put out yet.
+    pub fn new(alloc: Global) -> Outgoing
+        ensures { result ≡ nothing_put }
+    {
+        Outgoing {
+            octets: Vec::new(alloc),
+            start: 0,
+            untold: 0,
+        }
+    }
+
+    /// How many octets wait.
+    pub fn waiting(&self) -> usize
+        ensures { result ≡ length self.now.waiting }
+    {
+        self.octets.len() - self.start
+    }
+
+    /// Whether more than so many octets that were put out weren't told of as taken.
+    pub fn owes_more_than(&self, most: u64) -> bool
+        ensures { IsTrue result ↔ (most < length self.now.waiting + self.now.untold) }
+    {
+        self.untold > most || self.waiting() as u64 > most - self.untold
+    }
+
+    /// How many octets the socket took that weren't told of, if that is at least so many, and else none. They are told of now.
+    pub fn tell(&mut self, least: u64) -> u64
+        ensures count { result ≡ told_count least self.old }
+        ensures told { self.new ≡ told least self.old }
+    {
+        if self.untold < least {
+            return 0;
+        }
+        let count = self.untold;
+        self.untold = 0;
+        count
+    }
+
+    /// Puts octets out. Where none wait they go straight to the socket, in one write; what it doesn't take then waits.
+    pub fn put<W: Write>(&mut self, socket: &mut W, octets: &[u8]) -> Result<(), PutFault>
+        ensures passes { OnOk result (Passes (W.contents socket.old) (W.contents socket.new) self.old octets.now self.new) }
+        ensures failed { IsSocketFault result → Keeps (W.contents socket.old) (W.contents socket.new) × (self.new ≡ self.old) }
+    {
+        let taken = match self.write_first(socket, octets) {
+            Ok(taken) => taken,
+            Err(error) => return Err(PutFault::Socket(error)),
+        };
+        self.untold = self.untold.saturating_add(taken as u64);
+        self.keep(&octets[taken..])?;
+        Ok(())
+    }
+
+    /// Writes what waits, in one write. The answer is how many octets were written.
+    pub fn flush<W: Write>(&mut self, socket: &mut W) -> io::Result<usize>
+        ensures count { IfOk result (λ taken. length self.new.waiting + taken ≡ length self.old.waiting) }
+        ensures passes { OnOk result (Passes (W.contents socket.old) (W.contents socket.new) self.old [] self.new) }
+        ensures failed { OnErr result (Keeps (W.contents socket.old) (W.contents socket.new) × (self.new ≡ self.old)) }
+    {
+        let taken = write_some(socket, &self.octets[self.start..])?;
+        self.start += taken;
+        self.untold = self.untold.saturating_add(taken as u64);
+        Ok(taken)
+    }
+
+    /// Writes what waits until a write takes nothing, or nothing waits.
+    pub fn flush_all<W: Write>(&mut self, socket: &mut W) -> io::Result<()>
+        ensures passes { OnOk result (Passes (W.contents socket.old) (W.contents socket.new) self.old [] self.new) }
+    {
+        let _ = &self.untold;
+        while self.waiting() > 0 {
+            if self.flush(socket)? == 0 {
+                break;
+            }
+        }
+        Ok(())
+    }
+
+    /// Writes what the socket takes of octets now, if none wait before them.
+    fn write_first<W: Write>(&self, socket: &mut W, octets: &[u8]) -> io::Result<usize>
+        ensures within { IfOk result (λ taken. taken ≤ length octets.now) }
+        ensures behind { IfOk result (λ taken. 0 < length self.now.waiting → taken ≡ 0) }
+        ensures written { IfOk result (λ taken. Appends (W.contents socket.old) (W.contents socket.new) (take taken octets.now)) }
+        ensures failed { OnErr result (Keeps (W.contents socket.old) (W.contents socket.new)) }
+    {
+        if self.waiting() > 0 {
+            return Ok(0);
+        }
+        write_some(socket, octets)
+    }
+
+    /// More octets wait.
+    fn keep(&mut self, octets: &[u8]) -> Result<(), AllocError>
+        ensures { OnOk result (self.new ≡ record self.old { waiting = self.old.waiting ++ octets.now }) }
+    {
+        if self.start >= self.octets.len() - self.start {
+            cut_front(&mut self.octets, self.start);
+            self.start = 0;
+        }
+        self.octets.extend_from_slice(octets)
+    }
+}
+
+/// Cuts octets off the front.
+fn cut_front(octets: &mut Vec<u8>, count: usize)
+    requires { count ≤ vec_len octets.old }
+    ensures { octets.new.items ≡ drop count octets.old.items }
+{
+    let _ = octets.drain(..count);
+}
+
+/// Writes what a socket takes now: nothing where it would wait.
+fn write_some<W: Write>(socket: &mut W, octets: &[u8]) -> io::Result<usize>
+    ensures within { IfOk result (λ taken. taken ≤ length octets.now) }
+    ensures written { IfOk result (λ taken. Appends (W.contents socket.old) (W.contents socket.new) (take taken octets.now)) }
+    ensures failed { OnErr result (Keeps (W.contents socket.old) (W.contents socket.new)) }
+{
+    match socket.write(octets) {
+        Ok(taken) => Ok(taken),
+        Err(error) if is_early(error.kind()) => Ok(0),
+        Err(error) => Err(error),
+    }
+}
+
+/// Whether a call only came too early, so that it is to be made again.
+pub fn is_early(kind: ErrorKind) -> bool
+    ensures { IsTrue result ↔ ((kind ≡ ErrorKind.WouldBlock) ⊎ (kind ≡ ErrorKind.Interrupted)) }
+{
+    matches!(kind, ErrorKind::WouldBlock | ErrorKind::Interrupted)
+}

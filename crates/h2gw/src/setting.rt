@@ -9,10 +9,9 @@ use command_line::{GatewayWords, read_gateway_words};
 use configuration::{ConfigFault, Key, read_config};
 use gateway::{Config, Route};
 use std::alloc::Global;
-use std::io;
 use std::io::ErrorKind;
 use std::net::SocketAddr;
-use std::{env, fs};
+use std::{env, fs, io};
 
 /// What the program is set up with.
 #[derive(Drop)]

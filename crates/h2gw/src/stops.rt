@@ -42,10 +42,7 @@ impl Stop {
                 clap::error::ErrorKind::DisplayHelp => 0,
                 _ => 1,
             },
-            Stop::Missing(_)
-            | Stop::NotANumber(_)
-            | Stop::BadAddress
-            | Stop::NoConfig => 1,
+            Stop::Missing(_) | Stop::NotANumber(_) | Stop::BadAddress | Stop::NoConfig => 1,
             Stop::Config(ConfigFault::Memory) => 3,
             Stop::Config(_) => 1,
             Stop::Bind | Stop::Accept | Stop::Print => 2,

@@ -1,5 +1,8 @@
 //! One socket, and what is known of it.
 
+ghost use Rattle.std.specs.Prelude.{◌≡◌, ◌+◌, ◌<◌, ◌↔◌, ◌&&◌, not, length, IsTrue};
+ghost use Rattle.transfers.specs.Transfers.{told, told_count};
+
 use mio::event::Event;
 use mio::net::TcpStream;
 use mio::{Interest, Registry, Token};
@@ -48,17 +51,24 @@ impl Side {
     }
 
     /// Whether more than so many octets that were put out weren't told of as taken.
-    pub fn owes_more_than(&self, most: u64) -> bool {
+    pub fn owes_more_than(&self, most: u64) -> bool
+        ensures { IsTrue result ↔ (most < length self.now.out.waiting + self.now.out.untold) }
+    {
         self.out.owes_more_than(most)
     }
 
     /// How many octets the socket took that weren't told of, if at least so many. They are told of now.
-    pub fn tell(&mut self, least: u64) -> u64 {
+    pub fn tell(&mut self, least: u64) -> u64
+        ensures count { result ≡ told_count least self.old.out }
+        ensures told { self.new.out ≡ told least self.old.out }
+    {
         self.out.tell(least)
     }
 
     /// Whether it may have something to be read.
-    pub fn is_readable(&self) -> bool {
+    pub fn is_readable(&self) -> bool
+        ensures { result ≡ (self.now.readable && not self.now.ended) }
+    {
         self.readable && !self.ended
     }
 

@@ -11,16 +11,20 @@ use std::test::*;
 use worlds::{Ended, Next, ServeFault, World, WorldFault, serve};
 
 /// The preface, settings without entries, and a GET without a body on stream 1.
-const REQUEST: &[u8] = b"PRI * HTTP/2.0\r\n\r\nSM\r\n\r\n\0\0\0\x04\0\0\0\0\0\0\0\x14\x01\x05\0\0\0\x01\x82\x86\x84\x41\x0fwww.example.com";
+const REQUEST: &[u8] =
+    b"PRI * HTTP/2.0\r\n\r\nSM\r\n\r\n\0\0\0\x04\0\0\0\0\0\0\0\x14\x01\x05\0\0\0\x01\x82\x86\x84\x41\x0fwww.example.com";
 
 /// What the client is sent for these settings: the gateway's, and their acknowledgement.
-const GREETING: &[u8] = b"\0\0\x0c\x04\0\0\0\0\0\0\x03\0\0\0\x64\0\x06\0\0\x40\0\0\0\0\x04\x01\0\0\0\0";
+const GREETING: &[u8] =
+    b"\0\0\x0c\x04\0\0\0\0\0\0\x03\0\0\0\x64\0\x06\0\0\x40\0\0\0\0\x04\x01\0\0\0\0";
 
 /// The request's text upstream.
-const TEXT: &[u8] = b"GET / HTTP/1.1\r\nhost: www.example.com\r\nvia: 2.0 h2gw\r\nconnection: close\r\n\r\n";
+const TEXT: &[u8] =
+    b"GET / HTTP/1.1\r\nhost: www.example.com\r\nvia: 2.0 h2gw\r\nconnection: close\r\n\r\n";
 
 /// The response's text, and its frames.
 const ANSWER: &[u8] = b"HTTP/1.1 200 OK\r\nContent-Length: 2\r\n\r\nhi";
+
 const FRAMES: &[u8] = b"\0\0\x05\x01\x04\0\0\0\x01\x88\x0f\x0d\x01\x32\0\0\x02\0\x01\0\0\0\x01hi";
 
 /// A world of sockets in whose turns a client and an upstream take part, each with one step before each `next`.
@@ -152,7 +156,10 @@ fn a_request_goes_there_and_back(rt: HostRuntime) -> Result<(), Fail> {
     let ended = serve(rt.alloc(), &config, &mut world, 100);
     assert_eq!(rt; ended, Ok(Ended::Closed));
     assert_eq!(rt; world.peers.asked.as_slice(), TEXT);
-    let (greeting, frames) = world.peers.read.split_at(GREETING.len().min(world.peers.read.len()));
+    let (greeting, frames) = world
+        .peers
+        .read
+        .split_at(GREETING.len().min(world.peers.read.len()));
     assert_eq!(rt; greeting, GREETING);
     assert_eq!(rt; frames, FRAMES);
     Ok(())

@@ -30,10 +30,10 @@ impl Upstream {
         }
     }
 
-    /// Whether something may be read of it, if only that it failed.
-    pub fn is_readable(&self) -> bool {
+    /// Whether something may be read of it, for which there is so much room. That it failed needs none.
+    pub fn is_ready(&self, room: usize) -> bool {
         match &self.side {
-            Some(side) => side.is_readable(),
+            Some(side) => side.is_readable() && (room > 0 || self.broken),
             None => true,
         }
     }

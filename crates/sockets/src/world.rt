@@ -122,7 +122,7 @@ impl<'a, N: Net> Sockets<'a, N> {
             self.ready.push(CLIENT)?;
         }
         for upstream in &self.upstreams {
-            if upstream.is_readable() && room_of(upstream.k, rooms) > 0 {
+            if upstream.is_ready(room_of(upstream.k, rooms)) {
                 self.ready.push(upstream.k)?;
             }
         }

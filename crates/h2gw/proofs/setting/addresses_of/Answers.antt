@@ -1,6 +1,5 @@
 use Rattle.std.proofs.Common.{◌≡◌, ◌++◌, ◌∷◌, [], arith}
 use Rattle.std.proofs.lemmas.Grind.{common_steps}
-use Rattle.std.specs.Net.Grammar.{IsSocketText}
 use Rattle.h2gw.proofs.OneMore.{next_address}
 use Rattle.h2gw.proofs.setting.addresses_of.Goals as goal
 

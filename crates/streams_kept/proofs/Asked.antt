@@ -107,7 +107,7 @@ state_none f (other ∷ ids) id none = elim (eqb_tells other id) [
 ]
 
 -- an id is above all streams just where it is above all ids
-above_ids : (f : ℕ → Kept) (ids : List ℕ) (id : ℕ) → is_above id (map (λ (i : ℕ). record { id = i; state = state_in (f i) }) ids) ≡ list_all (λ other. nat_lt other id) ids
+pub above_ids : (f : ℕ → Kept) (ids : List ℕ) (id : ℕ) → is_above id (map (λ (i : ℕ). record { id = i; state = state_in (f i) }) ids) ≡ list_all (λ other. nat_lt other id) ids
 above_ids f [] id = refl
 above_ids f (other ∷ ids) id = ap (λ b. nat_lt other id && b) (above_ids f ids id)
 

@@ -2,3 +2,4 @@ pub mod Lists
 pub mod Searches
 pub mod Asked
 pub mod Changes
+pub mod Openings

@@ -1,5 +1,5 @@
 -- How the rows lie: an entry for each stream in the order of their ids, and for each active one a record at a key.
-use Rattle.std.specs.Prelude.{◌≡◌, ℕ, ◌<◌, ◌≤◌, Bool, true, false, List, map, reverse, length, slice_index_or, Option, Some, None}
+use Rattle.std.specs.Prelude.{◌≡◌, ℕ, ◌+◌, ◌<◌, ◌≤◌, Bool, true, false, List, map, reverse, length, slice_index_or, Option, Some, None}
 use Rattle.std.specs.List.{count_by}
 use Rattle.model.specs.StreamStates.{most_streams}
 use Rattle.model.specs.WindowsOnTape.{is_past}
@@ -70,6 +70,13 @@ pub record IsGap (entries : List Entry) (id place : ℕ) : Type 0 where
 abbrev pub IsHeld : List (Option Record) → ℕ → Slot → Type 0
 IsHeld records id (slot.Live key) = (r : Record) × (record_at records key ≡ Some r) × (r.id ≡ id)
 IsHeld records id (slot.Over by_us) = Unit {0}
+
+-- There is a place for a record at this key: it is vacant, and each record is where it was.
+pub record IsPlaceMade (old new : List (Option Record)) (key : ℕ) : Type 0 where
+  pub within : key < length new
+  pub vacant : record_at old key ≡ None
+  pub same : (other : ℕ) → record_at new other ≡ record_at old other
+  pub short : length new ≤ length old + 1
 
 -- the entry is of an active stream
 abbrev pub is_live : Slot → Bool

@@ -4,7 +4,7 @@
 //! A clause sees the rows of conduct's book, the newest first. A stream is found by halves among all that were opened.
 #![tactic(auto)]
 
-ghost use Rattle.std.specs.Prelude.{◌≡◌, ◌≢◌, ◌<◌, ◌≤◌, true, false, [], ◌∷◌, length, pos, ◌+ℤ◌, IfSome, IfNone, OnOk, OnErr};
+ghost use Rattle.std.specs.Prelude.{◌≡◌, ◌==◌, ◌<◌, ◌≤◌, true, false, [], ◌∷◌, length, pos, ◌+ℤ◌, IfSome, IfNone, OnOk, OnErr};
 ghost use Rattle.model.specs.StreamStates.{most_streams};
 ghost use Rattle.model.specs.Windows.{greatest_window, IsSize};
 ghost use Rattle.conduct.specs.Owing.{highest_in};
@@ -17,12 +17,14 @@ mod cause;
 mod entries;
 mod live;
 mod records;
+#[cfg(test)]
+mod tests;
 
 pub use crate::cause::Cause;
 use crate::entries::{Entry, Slot, last_id, place_of};
 pub use crate::live::{Course, Live};
-use crate::records::{Record, grant_at, live_at, shifts_past, state_of};
-use std::alloc::Global;
+use crate::records::{Record, grant_at, live_at, make_place, shifts_past, state_of};
+use std::alloc::{AllocError, Global};
 use std::marker::Model;
 use stream_state::{Kind, Standing, Verdict, unopened_standing, verdict_at};
 
@@ -51,7 +53,7 @@ impl Model for Streams {
 }
 
 impl Streams {
-    ghost use Rattle.streams_kept.specs.Asked.{standing, verdict, active_in, is_active, shifts_past, changed, IsLive};
+    ghost use Rattle.streams_kept.specs.Asked.{standing, verdict, AllowsOpening, MayOpen, active_in, is_active, shifts_past, changed, IsLive};
     ghost use Rattle.streams_kept.specs.Steps.{granted};
 
     /// A connection on which no stream was opened.
@@ -112,9 +114,11 @@ impl Streams {
         }
     }
 
-    /// What comes of a frame on this id by the state of its stream (RFC 9113, sections 5.1, 5.1.1 and 5.1.2).
+    /// What comes of a frame on this id by the state of its stream (RFC 9113, sections 5.1, 5.1.1 and 5.1.2). Where the answer is `Open`, or
+    /// REFUSED_STREAM for want of room, `open` may be called with the id.
     pub fn verdict(&self, id: u32, kind: Kind) -> Verdict
         ensures is { verdict_in result ≡ verdict self.now id (kind_in kind) }
+        ensures allows { AllowsOpening result self.now id }
         ensures kept { AreKept self.now }
     {
         let standing = self.standing(id);
@@ -172,5 +176,24 @@ impl Streams {
         };
         self.records[key as usize] = None;
         self.active -= 1;
+    }
+
+    /// Opens a stream, above all that were opened (RFC 9113, sections 5.1 and 5.1.1). An `Err` says that memory was refused; it changes nothing.
+    pub fn open(&mut self, id: u32, live: Live) -> Result<(), AllocError>
+        requires may { MayOpen self.old id }
+        requires tidy { IsTidy (Active live) }
+        ensures ok { OnOk result (self.new ≡ record { id = id; slot = Active live } ∷ self.old) }
+        ensures err { OnErr result (self.new ≡ self.old) }
+        ensures kept { AreKept self.new }
+    {
+        self.entries.reserve(1)?;
+        let key = make_place(&mut self.records)?;
+        let slot = Slot::Live(key as u32);
+        let Ok(()) = self.entries.push(Entry { id, slot }) else {
+            unreachable!();
+        };
+        self.records[key] = Some(Record { id, live });
+        self.active += 1;
+        Ok(())
     }
 }

@@ -3,13 +3,18 @@
 ghost use Rattle.std.specs.Prelude.{◌≡◌, pos, ◌+ℤ◌};
 ghost use Rattle.model.specs.Windows.{IsSize};
 ghost use Rattle.streams_kept.specs.Steps.{granted};
+ghost use Rattle.streams_kept.specs.Views.{brief_of};
 ghost use Rattle.conduct.specs.Judging.{state_in as state_kept};
+ghost use Rattle.conduct.specs.Rows.{fresh};
 ghost use Rattle.stream_state.specs.Views.{state_in};
 
 use crate::cause::Cause;
 use flow_control::Window;
 use std::marker::Model;
 use stream_state::State;
+
+/// The first size of windows (RFC 9113, section 6.9.2).
+const FIRST_WINDOW: u32 = 65535;
 
 /// What is needed of the request of a stream, and of why the gateway answers it itself, if it does.
 #[derive(Clone, Copy, Debug, PartialEq, Eq)]
@@ -50,6 +55,21 @@ impl Model for Live {
 }
 
 impl Live {
+    /// A stream that was just opened, with this course, and which the client has ended or not (RFC 9113, section 5.1). Nothing was granted to it
+    /// or sent on it yet.
+    pub fn opened(course: Course, ended: bool) -> Live
+        ensures { result ≡ record fresh { ended_by_client = ended; brief = brief_of course } }
+    {
+        Live {
+            ended_by_client: ended,
+            ended_by_gateway: false,
+            balance: Window::new(0),
+            room: Window::new(FIRST_WINDOW),
+            head_out: false,
+            course,
+        }
+    }
+
     /// What was granted to the stream without what was sent on it, in octets: its sending window less the first size that holds for all
     /// streams (RFC 9113, sections 6.9.1 and 6.9.2).
     pub fn balance(&self) -> i64

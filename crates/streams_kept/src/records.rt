@@ -1,16 +1,17 @@
 //! Records of active streams, at keys.
 
-ghost use Rattle.std.specs.Prelude.{◌≡◌, ◌<◌, ◌≤◌, length, slice_set, Some, None, IfSome, IfNone, pos, ◌+ℤ◌};
+ghost use Rattle.std.specs.Prelude.{◌≡◌, ◌<◌, ◌≤◌, length, slice_set, Some, None, IfSome, IfNone, IfOk, OnErr, pos, ◌+ℤ◌};
 ghost use Rattle.std.specs.List.{list_any};
 ghost use Rattle.model.specs.Windows.{greatest_window, IsSize};
 ghost use Rattle.streams_kept.specs.Steps.{granted};
 ghost use Rattle.conduct.specs.Judging.{state_in as state_kept};
 ghost use Rattle.conduct.specs.Rows.{kept_in};
 ghost use Rattle.stream_state.specs.Views.{state_in};
-ghost use Rattle.streams_kept.specs.Records.{record_at, slot_in, IsHeld, is_shifted_past};
+ghost use Rattle.streams_kept.specs.Records.{record_at, slot_in, IsHeld, IsPlaceMade, is_shifted_past};
 
 use crate::entries::{Entry, Slot};
 use crate::live::Live;
+use std::alloc::AllocError;
 use stream_state::State;
 
 /// The greatest size that a window may have (RFC 9113, section 6.9.1).
@@ -52,6 +53,30 @@ pub fn state_of(records: &[Option<Record>], entry: Entry) -> State
         Slot::Over(true) => State::ResetByUs,
         Slot::Over(false) => State::Closed,
     }
+}
+
+/// A key at which no record is: the first such one, or the one behind all.
+fn vacant_key(records: &[Option<Record>]) -> usize
+    ensures vacant { record_at records.now result ≡ None }
+    ensures within { result ≤ length records.now }
+{
+    records
+        .iter()
+        .position(|slot| slot.is_none())
+        .unwrap_or(records.len())
+}
+
+/// Makes a place for a record, and answers its key; no record moves. An `Err` says that memory was refused; it changes nothing.
+pub fn make_place(records: &mut Vec<Option<Record>>) -> Result<usize, AllocError>
+    ensures ok { IfOk result (IsPlaceMade records.old.items records.new.items) }
+    ensures err { OnErr result (records.new.items ≡ records.old.items) }
+{
+    let key = vacant_key(records);
+    if key < records.len() {
+        return Ok(key);
+    }
+    records.push(None)?;
+    Ok(key)
 }
 
 /// Grants octets to the stream of a record.

@@ -1,1 +1,3 @@
-
+pub mod Rows
+pub mod Controls
+pub mod Answering

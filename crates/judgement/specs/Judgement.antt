@@ -1,5 +1,5 @@
 -- What an answer says of a frame of the client that has no fragment of a header block.
-use Rattle.std.specs.Prelude.{◌≡◌, ℕ, Bool, true, false, not, ◌&&◌, ◌||◌, ◌==◌, Option, Some, None}
+use Rattle.std.specs.Prelude.{◌≡◌, ℕ, Bool, true, false, not, ◌&&◌, ◌||◌, ◌==◌, List, Option, Some, None}
 use Rattle.model.specs.Frames.{Frame, data_kind, headers_kind, rst_stream_kind, ping_kind, window_update_kind, continuation_kind, is_ack}
 use Rattle.model.specs.Setup.{Setup}
 use Rattle.model.specs.SettingValues.{settings_in}
@@ -25,6 +25,10 @@ fault_told fault.Discarded = errors.Fault.Discarded
 pub record IsPlain (frame : Frame) : Type 0 where
   pub no_headers : (frame.kind == headers_kind) ≡ false
   pub no_continuation : (frame.kind == continuation_kind) ≡ false
+
+-- a WINDOW_UPDATE (RFC 9113, section 6.9)
+abbrev pub update : ℕ → ℕ → List ℕ → Frame
+update flags id payload = record { kind = window_update_kind; flags = flags; id = id; payload = payload }
 
 -- the book behind a frame
 abbrev pub behind : Setup → Book → Frame → Book

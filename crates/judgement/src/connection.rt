@@ -11,7 +11,11 @@ ghost use Rattle.frames.specs.Parsed.{Says};
 ghost use Rattle.conduct.specs.Judging.{frame_rows_in};
 ghost use Rattle.conduct.specs.Book.{first_desk};
 ghost use Rattle.judgement.specs.Inbound.{Outside, book_of, told_of};
-ghost use Rattle.judgement.specs.Judgement.{IsPlain, IsJudged};
+ghost use Rattle.model.specs.WindowsOnTape.{increment as increment_of};
+ghost use Rattle.conduct.specs.Owing.{fault_in};
+ghost use Rattle.conduct.specs.Quiet.{IsQuiet, coming};
+ghost use Rattle.conduct.specs.Tidy.{AreKept};
+ghost use Rattle.judgement.specs.Judgement.{IsPlain, IsJudged, behind, update};
 
 use crate::answers::{Fault, Judged};
 use crate::codes::{FLOW_CONTROL_ERROR, PROTOCOL_ERROR, join_code, payload_code, setting_code};
@@ -87,5 +91,62 @@ impl Connection {
             Ok(frame) => Ok(frame),
             Err(fault) => Err(payload_code(fault)),
         }
+    }
+
+    /// Notes that a frame without a fragment came, and on which stream.
+    fn hear(&mut self, id: u32)
+        requires { self.old.block ≡ None }
+        ensures is { self.new ≡ record self.old { has_come = true; continuations = 0; last = id } }
+        ensures kept { AreKept self.new.rows }
+    {
+        self.has_come = true;
+        self.continuations = 0;
+        self.last = id;
+    }
+
+    /// Takes a frame that changes no stream, no window and no setting.
+    fn take_quiet(&mut self, view: View<'_>)
+        requires quiet { IsQuiet (frame_of view) }
+        requires sound { (outside : Outside) → first_of (frame_rows_in (told_of outside self.old) (frame_of view)) ≡ None }
+        ensures faultless { (outside : Outside) → fault_in (told_of outside self.old) (coming (frame_of view.entry)) ≡ None }
+        ensures left { (setup : Setup) (outside : Outside) → book_of outside self.new ≡ behind setup (book_of outside self.old) (frame_of view.entry) }
+    {
+        self.hear(view.id);
+    }
+
+    /// Takes settings that are no acknowledgement (RFC 9113, section 6.5). Their values are judged first, then the windows that they leave.
+    fn take_settings<'a>(&mut self, view: View<'a>, entries: &'a [u8]) -> Judged<'a>
+        requires settings { has_settings (frame_of view) ≡ true }
+        requires entries { entries.now ≡ view.payload.now }
+        requires sound { (outside : Outside) → first_of (frame_rows_in (told_of outside self.old) (frame_of view)) ≡ None }
+        ensures { (setup : Setup) (outside : Outside) → IsJudged setup (book_of outside self.old) (frame_of view.entry) (book_of outside self.new) result }
+    {
+        let checked = match self.settings.check(entries) {
+            Ok(checked) => checked,
+            Err(fault) => return Judged::Failed(Fault::Connection(setting_code(fault))),
+        };
+        if self.streams.shifts_past(checked.initial_window) {
+            return Judged::Failed(Fault::Connection(FLOW_CONTROL_ERROR));
+        }
+        self.settings.accept(checked);
+        self.hear(view.id);
+        Judged::Settings(checked.change)
+    }
+
+    /// Takes an increment of the connection's window (RFC 9113, section 6.9).
+    fn take_update<'a>(&mut self, view: View<'a>, increment: u32) -> Judged<'a>
+        requires kind { frame_of view ≡ update view.flags 0 view.payload.now }
+        requires counted { increment ≡ increment_of (frame_of view) }
+        requires sound { (outside : Outside) → first_of (frame_rows_in (told_of outside self.old) (frame_of view)) ≡ None }
+        ensures { (setup : Setup) (outside : Outside) → IsJudged setup (book_of outside self.old) (frame_of view.entry) (book_of outside self.new) result }
+    {
+        if increment == 0 {
+            return Judged::Failed(Fault::Connection(PROTOCOL_ERROR));
+        }
+        let Ok(()) = self.window.grant(increment) else {
+            return Judged::Failed(Fault::Connection(FLOW_CONTROL_ERROR));
+        };
+        self.hear(view.id);
+        Judged::Granted
     }
 }

@@ -189,7 +189,7 @@ count_ids f (row ∷ rows) told =
     counted true = omega arith
     counted false = omega arith
 
-found_only : (rows others : List Row) → AllByRecursion (IsFound rows) others → AllByRecursion (λ (row : Row). find rows row.id ≡ kept_in row.slot) others
+pub found_only : (rows others : List Row) → AllByRecursion (IsFound rows) others → AllByRecursion (λ (row : Row). find rows row.id ≡ kept_in row.slot) others
 found_only rows [] is = tt
 found_only rows (other ∷ others) is = (is.0.1, found_only rows others is.1)
 

@@ -8,6 +8,7 @@ ghost use Rattle.model.specs.WindowsOnTape.{has_settings};
 ghost use Rattle.model.specs.Frames.{settings_kind, window_update_kind};
 ghost use Rattle.frames.specs.Views.{frame_of};
 ghost use Rattle.frames.specs.Parsed.{Says};
+ghost use Rattle.frames.specs.declared.parts.Frame.TheVariants.{Settings as Entries, Ping as Octets, Other as Unused};
 ghost use Rattle.conduct.specs.Judging.{frame_rows_in};
 ghost use Rattle.conduct.specs.Book.{first_desk};
 ghost use Rattle.judgement.specs.Inbound.{Outside, book_of, told_of};
@@ -15,7 +16,7 @@ ghost use Rattle.model.specs.WindowsOnTape.{increment as increment_of};
 ghost use Rattle.conduct.specs.Owing.{fault_in};
 ghost use Rattle.conduct.specs.Quiet.{IsQuiet, coming};
 ghost use Rattle.conduct.specs.Tidy.{AreKept};
-ghost use Rattle.judgement.specs.Judgement.{IsPlain, IsJudged, behind, update};
+ghost use Rattle.judgement.specs.Judgement.{IsOfNoStream, IsJudged, behind, update};
 
 use crate::answers::{Fault, Judged};
 use crate::codes::{FLOW_CONTROL_ERROR, PROTOCOL_ERROR, join_code, payload_code, setting_code};
@@ -148,5 +149,72 @@ impl Connection {
         };
         self.hear(view.id);
         Judged::Granted
+    }
+
+    /// Takes a SETTINGS frame; an acknowledgement is ignored (RFC 9113, section 6.5).
+    fn take_settings_or_ack<'a>(&mut self, view: View<'a>, entries: &'a [u8]) -> Judged<'a>
+        requires says { Says (Entries entries) (frame_of view) }
+        requires sound { (outside : Outside) → first_of (frame_rows_in (told_of outside self.old) (frame_of view)) ≡ None }
+        ensures { (setup : Setup) (outside : Outside) → IsJudged setup (book_of outside self.old) (frame_of view.entry) (book_of outside self.new) result }
+    {
+        if !has_settings(view) {
+            self.take_quiet(view);
+            return Judged::Ignored;
+        }
+        self.take_settings(view, entries)
+    }
+
+    /// Takes a PING; an acknowledgement is ignored (RFC 9113, section 6.7).
+    fn take_ping<'a>(&mut self, view: View<'a>, octets: &'a [u8]) -> Judged<'a>
+        requires says { Says (Octets octets) (frame_of view) }
+        requires sound { (outside : Outside) → first_of (frame_rows_in (told_of outside self.old) (frame_of view)) ≡ None }
+        ensures { (setup : Setup) (outside : Outside) → IsJudged setup (book_of outside self.old) (frame_of view.entry) (book_of outside self.new) result }
+    {
+        self.take_quiet(view);
+        if is_ack(view) {
+            return Judged::Ignored;
+        }
+        Judged::Ping(octets)
+    }
+
+    /// Takes a frame of a type that isn't used: PRIORITY, GOAWAY, or one that isn't known.
+    fn take_other<'a>(&mut self, view: View<'a>) -> Judged<'a>
+        requires says { Says Unused (frame_of view) }
+        requires sound { (outside : Outside) → first_of (frame_rows_in (told_of outside self.old) (frame_of view)) ≡ None }
+        ensures { (setup : Setup) (outside : Outside) → IsJudged setup (book_of outside self.old) (frame_of view.entry) (book_of outside self.new) result }
+    {
+        self.take_quiet(view);
+        Judged::Ignored
+    }
+
+    /// Takes a frame that is right by itself.
+    fn take<'a>(&mut self, view: View<'a>, frame: Frame<'a>) -> Judged<'a>
+        requires of_no_stream { IsOfNoStream (frame_of view) }
+        requires says { Says frame (frame_of view) }
+        requires sound { (outside : Outside) → first_of (frame_rows_in (told_of outside self.old) (frame_of view)) ≡ None }
+        ensures { (setup : Setup) (outside : Outside) → IsJudged setup (book_of outside self.old) (frame_of view.entry) (book_of outside self.new) result }
+    {
+        match frame {
+            Frame::Settings(entries) => self.take_settings_or_ack(view, entries),
+            Frame::Ping(octets) => self.take_ping(view, octets),
+            Frame::WindowUpdate(increment) => self.take_update(view, increment),
+            Frame::Other => self.take_other(view),
+            Frame::Data(_) | Frame::Headers(_) | Frame::Continuation(_) | Frame::RstStream(_) => {
+                unreachable!()
+            }
+        }
+    }
+
+    /// Judges a frame that is of no stream: SETTINGS, PING, GOAWAY, PRIORITY, WINDOW_UPDATE on the connection, or a type that isn't known; and does
+    /// what it says. An error of the connection is that of the first row of the error table that applies, and changes nothing.
+    pub fn judge<'a>(&mut self, view: View<'a>) -> Judged<'a>
+        requires of_no_stream { IsOfNoStream (frame_of view) }
+        requires short { length view.payload.now ≤ 16384 }
+        ensures { (setup : Setup) (outside : Outside) → IsJudged setup (book_of outside self.old) (frame_of view.entry) (book_of outside self.new) result }
+    {
+        match self.parts(view) {
+            Ok(frame) => self.take(view, frame),
+            Err(code) => Judged::Failed(Fault::Connection(code)),
+        }
     }
 }

@@ -1,0 +1,1 @@
+use Rattle.judgement.proofs.connection.Connection.take.Goals as goal

@@ -5,7 +5,7 @@ use Rattle.std.proofs.lemmas.Int.{ints}
 use Rattle.model.specs.Frames.{Frame, is_ack}
 use Rattle.frames.specs.Parsed.{has_variant}
 use Rattle.conduct.specs.Quiet.{IsQuiet}
-use Rattle.model.specs.Setup.{Setup}
+use Rattle.model.specs.Setup.{Setup, Policy, Passing}
 use Rattle.model.specs.Errors.{first_of}
 use Rattle.model.specs.Errors.Fault.{Connection}
 use Rattle.model.specs.Windows.{IsPast, IsSize}
@@ -98,3 +98,11 @@ other_ignored frame other =
     ∙ ap (λ x. not (x || has_settings frame || frame.kind == 6 && not (is_ack frame))) parts.5
     ∙ ap (λ x. not (x && not (is_ack frame) || frame.kind == 6 && not (is_ack frame))) parts.3
     ∙ ap (λ x. not (x && not (is_ack frame))) parts.4
+
+-- a setup, where none matters
+pub any_setup : Setup
+any_setup = record { routes = []; policy = Policy.Plain; passing = Passing.Whole; max_body = 0; max_response = 0 }
+
+-- what is said of a record that is seen from inside, and of a frame by its parts
+pub moved : (P : Inbound → Frame → Type 0) (i j : Inbound) (f g : Frame) → i ≡ j → g ≡ f → P i f → P j g
+moved P i j f g same_record same_frame is = subst (λ (x : Inbound). P x g) same_record (subst (λ (h : Frame). P i h) (sym same_frame) is)

@@ -30,7 +30,7 @@ use Rattle.conduct.proofs.Seen.{idle_frame}
 use Rattle.conduct.proofs.Turns.{completes_none}
 use Rattle.conduct.proofs.Wanted.{bears}
 use Rattle.judgement.specs.Judgement.{IsPlain, update, behind}
-use Rattle.judgement.proofs.Rows.{skip, two_left, no_fault, fault_is, none_here, later_rows, fault_later, IsRight, is_right, none_begun, in_order, not_fatal, rows_behind, found_in, book_behind}
+use Rattle.judgement.proofs.Rows.{skip, two_left, no_fault, fault_is, none_here, later_rows, fault_later, IsRight, is_right, none_begun, in_order, not_fatal, rows_behind, book_behind}
 
 -- ---- quiet frames
 
@@ -54,7 +54,7 @@ none_if true = refl
 none_if false = refl
 
 -- a test of a frame on two parts
-both_none : (x y z : Bool) (a b : Fault) → first_of (fault_if (x && (false && y)) a ∷ fault_if (x && (false && z)) b ∷ []) ≡ None
+pub both_none : (x y z : Bool) (a b : Fault) → first_of (fault_if (x && (false && y)) a ∷ fault_if (x && (false && z)) b ∷ []) ≡ None
 both_none true y z a b = refl
 both_none false y z a b = refl
 
@@ -199,11 +199,10 @@ module _ (setup : Setup) (b : Book) (frame : Frame) (has : has_settings frame �
         ∙ ap (λ x. if not x then after else b.first_size) within)
         (none_more (is_sound s frame) b.window (grant 0 frame) (ap (λ x. if x && frame.id == 0 then increment frame else 0) control.no_update))
         (none_less b.room _ (ap (λ x. if x && true then length frame.payload else 0) control.no_data))
-        (rows_behind setup s frame (λ (row : Row). row) b.rows kept plain begun
+        (rows_behind setup b frame (λ (row : Row). row) kept plain begun
         (λ brief. ap is_fatal (settings_right brief))
         (λ row is found same. absurd (let clash : true ≡ false = sym (ap (λ n. n == 0) (same ∙ zero)) ∙ is.of_stream in cc))
-        (λ row apart. refl)
-        (found_in b kept) ∙ map-id b.rows)
+        (λ row apart. refl) ∙ map-id b.rows)
         (ap is_fatal settings_fault_none)
 
 -- ---- increments of the connection's window
@@ -311,9 +310,8 @@ module _ (setup : Setup) (b : Book) (kept : AreKept b.rows) (flags : ℕ) (paylo
         (ap (λ x. if x then initial_window_after b.first_size (settings_in payload) else b.first_size) (and_right (is_sound before granting) false refl))
         (ap (λ (o : Option Fault). if is_none o then b.window +ℤ pos (increment granting) else b.window) sound)
         (none_less b.room 0 refl)
-        (rows_behind setup before granting (λ (row : Row). row) b.rows kept plain begun
+        (rows_behind setup b granting (λ (row : Row). row) kept plain begun
         (λ brief. ap is_fatal (update_right brief))
         (λ row is found same. absurd (let clash : true ≡ false = sym (ap (λ n. n == 0) same) ∙ is.of_stream in cc))
-        (λ row apart. refl)
-        (found_in b kept) ∙ map-id b.rows)
+        (λ row apart. refl) ∙ map-id b.rows)
         (ap is_fatal update_fault_none)

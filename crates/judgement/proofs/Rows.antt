@@ -8,7 +8,6 @@ use Rattle.std.specs.Prelude.{option_map}
 use Rattle.model.specs.Frames.{protocol_error}
 use Rattle.conduct.specs.After.{begun_after}
 use Rattle.streams_kept.proofs.Searches.{IsFound, all_found}
-use Rattle.streams_kept.proofs.Asked.{found_only}
 use Rattle.std.specs.Prelude.{ℤ, is_some}
 use Rattle.model.specs.Frames.{Frame, data_kind, headers_kind, continuation_kind, ends_headers}
 use Rattle.model.specs.Setup.{Setup}
@@ -163,31 +162,27 @@ not_fatal s frame brief sound later = ap is_fatal (fault_later s frame sound bri
     cases None is = malformed (not (is_some brief.cause) && is_malformed (carried_in brief) (completed_in s.block frame) (noted_of frame))
     cases (Some f) is = is
 
--- Each row stays but that of the frame's stream, which is known.
-pub rows_behind : (setup : Setup) (s : Summary) (frame : Frame) (f : Row → Row) (rows : List Row) → AreKept rows → IsPlain frame → s.block ≡ None
-    → ((brief : Brief) → is_fatal (fault_for brief s (coming frame)) ≡ false)
-    → ((row : Row) → IsRow row → s.stream row.id ≡ kept_in row.slot → row.id ≡ frame.id → row_behind setup false s (coming frame) row ≡ f row)
+-- Each row stays but that of the frame's stream, of which this is known.
+pub rows_behind : (setup : Setup) (b : Book) (frame : Frame) (f : Row → Row) → AreKept b.rows → IsPlain frame → b.block ≡ None
+    → ((brief : Brief) → is_fatal (fault_for brief (summary_in b) (coming frame)) ≡ false)
+    → ((row : Row) → IsRow row → IsFound b.rows row → row.id ≡ frame.id → row_behind setup false (summary_in b) (coming frame) row ≡ f row)
     → ((row : Row) → (row.id ≡ frame.id → ⊥) → f row ≡ row)
-    → AllByRecursion (λ (row : Row). s.stream row.id ≡ kept_in row.slot) rows
-    → rows_after setup false s (coming frame) rows ≡ map f rows
-rows_behind setup s frame f rows kept plain begun mild own others told =
-    let all : List Row = map (row_behind setup false s (coming frame)) rows in
+    → rows_after setup false (summary_in b) (coming frame) b.rows ≡ map f b.rows
+rows_behind setup b frame f kept plain begun mild own others =
+    let s : Summary = summary_in b in
+    let all : List Row = map (row_behind setup false s (coming frame)) b.rows in
     ap (λ (block : Option Partial). if opens_by s.opened block NoBlock then row_opened setup false s (coming frame) frame.id ∷ all else all) (completes_none s.block frame plain.no_headers plain.no_continuation)
-    ∙ each rows kept told
+    ∙ each b.rows kept (recursion_from_All (IsFound b.rows) b.rows (all_found b.rows kept))
   where
-    one : (row : Row) → IsRow row → s.stream row.id ≡ kept_in row.slot → row_behind setup false s (coming frame) row ≡ f row
+    one : (row : Row) → IsRow row → IsFound b.rows row → row_behind setup false (summary_in b) (coming frame) row ≡ f row
     one row is found = elim (cases_eq row.id frame.id) [
       | inl same ↦ own row is found same
-      | inr apart ↦ row_stays setup false s (coming frame) row is (ne_eqb frame.id row.id (λ same. apart (sym same)), mild (kept_in row.slot).brief) ∙ sym (others row apart)
+      | inr apart ↦ row_stays setup false (summary_in b) (coming frame) row is (ne_eqb frame.id row.id (λ same. apart (sym same)), mild (kept_in row.slot).brief) ∙ sym (others row apart)
     ]
 
-    each : (rs : List Row) → AreKept rs → AllByRecursion (λ (row : Row). s.stream row.id ≡ kept_in row.slot) rs → map (row_behind setup false s (coming frame)) rs ≡ map f rs
-    each [] kept told = refl
-    each (row ∷ rs) kept told = ap (λ (r : Row). r ∷ map (row_behind setup false s (coming frame)) rs) (one row kept.0 told.0) ∙ ap (λ (xs : List Row). f row ∷ xs) (each rs kept.2 told.1)
-
--- what the rows of a book tell is found
-pub found_in : (b : Book) → AreKept b.rows → AllByRecursion (λ (row : Row). (summary_in b).stream row.id ≡ kept_in row.slot) b.rows
-found_in b kept = found_only b.rows b.rows (recursion_from_All (IsFound b.rows) b.rows (all_found b.rows kept))
+    each : (rs : List Row) → AreKept rs → AllByRecursion (IsFound b.rows) rs → map (row_behind setup false (summary_in b) (coming frame)) rs ≡ map f rs
+    each [] kept found = refl
+    each (row ∷ rs) kept found = ap (λ (r : Row). r ∷ map (row_behind setup false (summary_in b) (coming frame)) rs) (one row kept.0 found.0) ∙ ap (λ (xs : List Row). f row ∷ xs) (each rs kept.2 found.1)
 
 -- ---- the book behind a frame
 

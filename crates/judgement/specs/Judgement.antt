@@ -37,6 +37,15 @@ pub record IsOfNoStream (frame : Frame) : Type 0 where
 abbrev pub update : ℕ → ℕ → List ℕ → Frame
 update flags id payload = record { kind = window_update_kind; flags = flags; id = id; payload = payload }
 
+-- a RST_STREAM (RFC 9113, section 6.4)
+abbrev pub reset : ℕ → ℕ → List ℕ → Frame
+reset flags id payload = record { kind = rst_stream_kind; flags = flags; id = id; payload = payload }
+
+-- the fault is one of the stream
+abbrev pub is_of_stream : Option errors.Fault → Bool
+is_of_stream (Some (errors.Fault.Stream code)) = true
+is_of_stream _ = false
+
 -- the book behind a frame
 abbrev pub behind : Setup → Book → Frame → Book
 behind setup book frame = book_after setup false book (coming frame)
@@ -66,6 +75,7 @@ Says old frame new (judged.Settings change) =
     (has_settings frame ≡ true) × IsChange old.first_size new.first_size (settings_in frame.payload) change
 Says old frame new (judged.Ping octets) = (frame.kind ≡ ping_kind) × (is_ack frame ≡ false) × (octets.now ≡ frame.payload)
 Says old frame new judged.Granted = frame.kind ≡ window_update_kind
+Says old frame new judged.Reset = frame.kind ≡ rst_stream_kind
 
 -- The frame has no fault, and this is the book behind it.
 pub record IsTaken (setup : Setup) (old : Book) (frame : Frame) (new : Book) (answer : Judged) : Type 0 where

@@ -26,4 +26,6 @@ pub enum Judged<'a> {
     Ping(&'a [u8]),
     /// The window of the connection or of its stream grew (RFC 9113, section 6.9).
     Granted,
+    /// The client reset an active stream (RFC 9113, section 6.4).
+    Reset,
 }

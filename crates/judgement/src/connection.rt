@@ -1,9 +1,15 @@
 //! What is kept of a connection for its client's frames.
 
-ghost use Rattle.std.specs.Prelude.{◌≡◌, ◌≤◌, [], length, false, true, None, Some, IfOk, IfErr};
+ghost use Rattle.std.specs.Prelude.{◌≡◌, ◌≤◌, ◌==◌, [], ◌∷◌, length, false, true, None, Some, IfOk, IfErr, IfNone, option_map, pos, ◌+ℤ◌};
 ghost use Rattle.model.specs.Setup.{Setup};
 ghost use Rattle.model.specs.Errors.{first_of};
-ghost use Rattle.model.specs.Errors.Fault.{Connection as Fatal};
+ghost use Rattle.model.specs.Errors.Fault.{Connection as Fatal, Stream as StreamFault};
+ghost use Rattle.model.specs.FrameErrors.{fault_if};
+ghost use Rattle.model.specs.Windows.{IsSize};
+ghost use Rattle.model.specs.WindowsOnTape.{is_past};
+ghost use Rattle.conduct.specs.Judging.{window_in};
+ghost use Rattle.conduct.specs.Rows.{find};
+ghost use Rattle.streams_kept.specs.Asked.{is_active};
 ghost use Rattle.model.specs.WindowsOnTape.{has_settings};
 ghost use Rattle.model.specs.Frames.{settings_kind, window_update_kind};
 ghost use Rattle.frames.specs.Views.{frame_of};
@@ -14,22 +20,27 @@ ghost use Rattle.conduct.specs.Book.{first_desk};
 ghost use Rattle.judgement.specs.Inbound.{Outside, book_of, told_of};
 ghost use Rattle.model.specs.WindowsOnTape.{increment as increment_of};
 ghost use Rattle.conduct.specs.Owing.{fault_in};
-ghost use Rattle.conduct.specs.Quiet.{IsQuiet, coming};
+ghost use Rattle.conduct.specs.Quiet.{IsQuiet, coming, heard};
+ghost use Rattle.model.specs.ErrorClause.{is_fatal};
 ghost use Rattle.conduct.specs.Tidy.{AreKept};
-ghost use Rattle.judgement.specs.Judgement.{IsOfNoStream, IsJudged, behind, update};
+ghost use Rattle.judgement.specs.Judgement.{IsOfNoStream, IsJudged, fault_told, is_of_stream, behind, update, reset};
 
 use crate::answers::{Fault, Judged};
-use crate::codes::{FLOW_CONTROL_ERROR, PROTOCOL_ERROR, join_code, payload_code, setting_code};
+use crate::codes::{FLOW_CONTROL_ERROR, PROTOCOL_ERROR, fault_of, join_code, payload_code, setting_code};
 use flow_control::Window;
 use frames::{Frame, View, has_settings, is_ack, is_misplaced, parse};
 use header_blocks::Joiner;
 use settings::Settings;
 use std::alloc::Global;
 use std::marker::Model;
+use stream_state::Kind;
 use streams_kept::Streams;
 
 /// The first size of windows (RFC 9113, section 6.9.2).
 const FIRST_WINDOW: u32 = 65535;
+
+/// The greatest size that a window may have (RFC 9113, section 6.9.1).
+const GREATEST: i64 = 2147483647;
 
 /// What is kept of a connection for its client's frames. A clause sees conduct's book, but for what these frames neither look at nor change.
 #[derive(Drop)]
@@ -187,6 +198,59 @@ impl Connection {
         Judged::Ignored
     }
 
+    /// Passes over a frame whose stream isn't active: nothing comes of it, or it is an error of the connection (RFC 9113, section 5.1).
+    fn pass_over<'a>(&mut self, view: View<'a>, fault: Fault) -> Judged<'a>
+        requires none_begun { self.old.block ≡ None }
+        requires is { (outside : Outside) → fault_in (told_of outside self.old) (coming (frame_of view)) ≡ Some (fault_told fault) }
+        requires mild { is_of_stream (Some (fault_told fault)) ≡ false }
+        requires left { is_fatal (Some (fault_told fault)) ≡ false → (setup : Setup) (outside : Outside) → behind setup (book_of outside self.old) (frame_of view) ≡ heard (book_of outside self.old) (frame_of view) }
+        ensures { (setup : Setup) (outside : Outside) → IsJudged setup (book_of outside self.old) (frame_of view.entry) (book_of outside self.new) result }
+    {
+        match fault {
+            Fault::Discarded => {
+                self.hear(view.id);
+                Judged::Failed(Fault::Discarded)
+            }
+            _ => Judged::Failed(fault),
+        }
+    }
+
+    /// Takes a RST_STREAM (RFC 9113, section 6.4).
+    fn take_reset<'a>(&mut self, view: View<'a>) -> Judged<'a>
+        requires kind { frame_of view ≡ reset view.flags view.id view.payload.now }
+        requires of_stream { (view.id == 0) ≡ false }
+        requires sound { (outside : Outside) → first_of (frame_rows_in (told_of outside self.old) (frame_of view)) ≡ None }
+        ensures { (setup : Setup) (outside : Outside) → IsJudged setup (book_of outside self.old) (frame_of view.entry) (book_of outside self.new) result }
+    {
+        if let Some(fault) = fault_of(self.streams.verdict(view.id, Kind::RstStream)) {
+            return self.pass_over(view, fault);
+        }
+        self.streams.close(view.id, false);
+        self.hear(view.id);
+        Judged::Reset
+    }
+
+    /// Takes an increment of a stream's window (RFC 9113, section 6.9).
+    fn take_stream_update<'a>(&mut self, view: View<'a>, increment: u32) -> Judged<'a>
+        requires kind { frame_of view ≡ update view.flags view.id view.payload.now }
+        requires counted { increment ≡ increment_of (frame_of view) }
+        requires of_stream { (view.id == 0) ≡ false }
+        requires sound { (outside : Outside) → first_of (frame_rows_in (told_of outside self.old) (frame_of view)) ≡ None }
+        ensures { (setup : Setup) (outside : Outside) → IsJudged setup (book_of outside self.old) (frame_of view.entry) (book_of outside self.new) result }
+    {
+        if let Some(fault) = fault_of(self.streams.verdict(view.id, Kind::WindowUpdate)) {
+            return self.pass_over(view, fault);
+        }
+        if let Some(code) = update_code(&self.streams, &self.settings, view.id, increment) {
+            self.streams.close(view.id, true);
+            self.hear(view.id);
+            return Judged::Failed(Fault::Stream(code));
+        }
+        self.streams.grant(view.id, increment);
+        self.hear(view.id);
+        Judged::Granted
+    }
+
     /// Takes a frame that is right by itself.
     fn take<'a>(&mut self, view: View<'a>, frame: Frame<'a>) -> Judged<'a>
         requires of_no_stream { IsOfNoStream (frame_of view) }
@@ -217,4 +281,24 @@ impl Connection {
             Err(code) => Judged::Failed(Fault::Connection(code)),
         }
     }
+}
+
+/// The code of the error of an active stream that an increment of its window is, if it is one (RFC 9113, sections 6.9 and 6.9.1): one of 0, or past
+/// the greatest size.
+fn update_code(streams: &Streams, settings: &Settings, id: u32, increment: u32) -> Option<u32>
+    requires { is_active streams.now id ≡ true }
+    ensures is { option_map StreamFault result ≡ first_of (fault_if (increment == 0) (StreamFault 1) ∷ fault_if (is_past (window_in settings.now (find streams.now id) +ℤ pos increment)) (StreamFault 3) ∷ []) }
+    ensures fits { IfNone result (IsSize ((find streams.now id).balance +ℤ pos increment)) }
+{
+    if increment == 0 {
+        return Some(PROTOCOL_ERROR);
+    }
+    let Some(live) = streams.find(id) else {
+        unreachable!();
+    };
+    let window = i64::from(settings.initial_window()) + live.balance();
+    if window + i64::from(increment) > GREATEST {
+        return Some(FLOW_CONTROL_ERROR);
+    }
+    None
 }

@@ -91,7 +91,7 @@ none_here es rs id place gap = ap (λ b. b && not (is_over_in (find (rows_in es 
 -- ---- standings
 
 -- the state of a stream among those that were opened
-state_found : (f : ℕ → Kept) (ids : List ℕ) (id : ℕ) → list_any (λ other. other == id) ids ≡ true → state_of id (map (λ (i : ℕ). record { id = i; state = state_in (f i) }) ids) ≡ Some (state_in (f id))
+pub state_found : (f : ℕ → Kept) (ids : List ℕ) (id : ℕ) → list_any (λ other. other == id) ids ≡ true → state_of id (map (λ (i : ℕ). record { id = i; state = state_in (f i) }) ids) ≡ Some (state_in (f id))
 state_found f [] id has = absurd (let no : false ≡ true = has in cc)
 state_found f (other ∷ ids) id has = elim (eqb_tells other id) [
   | inl same ↦ ap (λ b. if b then Some (state_in (f other)) else state_of id (map (λ (i : ℕ). record { id = i; state = state_in (f i) }) ids)) same.0 ∙ ap (λ n. Some (state_in (f n))) same.1
@@ -99,7 +99,7 @@ state_found f (other ∷ ids) id has = elim (eqb_tells other id) [
 ]
 
 -- there is none of one that wasn't
-state_none : (f : ℕ → Kept) (ids : List ℕ) (id : ℕ) → list_any (λ other. other == id) ids ≡ false → state_of id (map (λ (i : ℕ). record { id = i; state = state_in (f i) }) ids) ≡ None
+pub state_none : (f : ℕ → Kept) (ids : List ℕ) (id : ℕ) → list_any (λ other. other == id) ids ≡ false → state_of id (map (λ (i : ℕ). record { id = i; state = state_in (f i) }) ids) ≡ None
 state_none f [] id none = refl
 state_none f (other ∷ ids) id none = elim (eqb_tells other id) [
   | inl same ↦ absurd (let no : true ≡ false = sym (ap (λ b. b || list_any (λ other. other == id) ids) same.0) ∙ none in cc)

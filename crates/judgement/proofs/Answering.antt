@@ -1,18 +1,19 @@
 -- What is kept of a connection, and answers to control frames.
-use Rattle.std.proofs.Common.{◌≡◌, ℕ, true, false, not, ◌&&◌, ◌||◌, ◌==◌, Bool, List, [], length, Option, Some, None, refl, sym, ◌∙◌, ap, subst, arith}
-use Rattle.std.specs.Prelude.{ℤ, pos, ◌+ℤ◌}
+use Rattle.std.proofs.Common.{◌≡◌, ℕ, true, false, not, ◌&&◌, ◌||◌, ◌==◌, Bool, List, [], ◌∷◌, length, Option, Some, None, refl, sym, ◌∙◌, ap, subst, arith}
+use Rattle.std.specs.Prelude.{ℤ, pos, ◌+ℤ◌, ◌≤ℤ◌}
 use Rattle.std.proofs.lemmas.Int.{ints}
 use Rattle.model.specs.Frames.{Frame, is_ack}
 use Rattle.frames.specs.Parsed.{has_variant}
 use Rattle.conduct.specs.Quiet.{IsQuiet}
 use Rattle.model.specs.Setup.{Setup, Policy, Passing}
-use Rattle.model.specs.Errors.{first_of}
+use Rattle.model.specs.Errors.{Fault, first_of}
+use Rattle.model.specs.FrameErrors.{fault_if, is_misplaced}
 use Rattle.model.specs.Errors.Fault.{Connection}
 use Rattle.model.specs.Windows.{IsPast, IsSize}
 use Rattle.model.specs.WindowsOnTape.{is_past, has_settings}
 use Rattle.conduct.specs.Judging.{frame_rows_in}
 use Rattle.judgement.specs.Inbound.{Inbound, Outside, book_of, told_of}
-use Rattle.judgement.specs.Judgement.{IsPlain, is_ignored}
+use Rattle.judgement.specs.Judgement.{IsPlain, update, reset, is_ignored}
 use Rattle.judgement.proofs.Rows.{is_right, none_begun}
 
 -- the frame is right by itself, whatever else is kept
@@ -106,3 +107,31 @@ any_setup = record { routes = []; policy = Policy.Plain; passing = Passing.Whole
 -- what is said of a record that is seen from inside, and of a frame by its parts
 pub moved : (P : Inbound → Frame → Type 0) (i j : Inbound) (f g : Frame) → i ≡ j → g ≡ f → P i f → P j g
 moved P i j f g same_record same_frame is = subst (λ (x : Inbound). P x g) same_record (subst (λ (h : Frame). P i h) (sym same_frame) is)
+
+-- what was granted fits where the window with it does
+pub fits_so : (first count : ℕ) (balance : ℤ) → IsSize balance → (pos first +ℤ balance +ℤ pos count) ≤ℤ pos 2147483647 → IsSize (balance +ℤ pos count)
+fits_so first count balance is within = record { above = grind (arith, ints, is.above); not_past = grind (arith, ints, within) }
+
+-- neither of two is wrong
+pub neither_wrong : (a b : Bool) (f g : Fault) → first_of (fault_if a f ∷ fault_if b g ∷ []) ≡ None → (a ≡ false) × (b ≡ false)
+neither_wrong true b f g none = absurd (let no : Some f ≡ None = none in cc)
+neither_wrong false true f g none = absurd (let no : Some g ≡ None = none in cc)
+neither_wrong false false f g none = (refl, refl)
+
+-- ---- frames by their types
+
+-- a frame by its parts
+pub update_by : (frame : Frame) → frame.kind ≡ 8 → frame ≡ update frame.flags frame.id frame.payload
+update_by frame kind = ap (λ (k : ℕ). record { kind = k; flags = frame.flags; id = frame.id; payload = frame.payload }) kind
+
+pub reset_by : (frame : Frame) → frame.kind ≡ 3 → frame ≡ reset frame.flags frame.id frame.payload
+reset_by frame kind = ap (λ (k : ℕ). record { kind = k; flags = frame.flags; id = frame.id; payload = frame.payload }) kind
+
+-- RST_STREAM is on a stream
+pub reset_of_stream : (i : Inbound) (frame : Frame) → frame.kind ≡ 3 → IsSound i frame → (frame.id == 0) ≡ false
+reset_of_stream i frame kind sound =
+    cases (frame.id == 0) (ap (λ (k : ℕ). is_misplaced (record { kind = k; flags = frame.flags; id = frame.id; payload = frame.payload })) (sym kind) ∙ (is_right (told_of nothing i) frame (sound nothing)).placed)
+  where
+    cases : (x : Bool) → (x || false || false || false) ≡ false → x ≡ false
+    cases true is = absurd (let no : true ≡ false = is in cc)
+    cases false is = refl

@@ -86,7 +86,7 @@ module _ (setup : Setup) (b : Book) (flags id : ℕ) (payload : List ℕ) (of_st
 
   module _ (active : is_active b.rows id ≡ true) where
     -- on an active one the window decides
-    by_window : (brief : Brief) → fault_for brief s (coming frame) ≡ first_of (fault_if (count == 0) (Stream protocol_error) ∷ fault_if (is_past (window_in b.first_size (find b.rows id) +ℤ pos count)) (Stream flow_control_error) ∷ [])
+    pub by_window : (brief : Brief) → fault_for brief s (coming frame) ≡ first_of (fault_if (count == 0) (Stream protocol_error) ∷ fault_if (is_past (window_in b.first_size (find b.rows id) +ℤ pos count)) (Stream flow_control_error) ∷ [])
     by_window brief =
         all_rows brief
         ∙ ap (λ (o : Option Fault). or_else o (first_of (window_rows (is_active b.rows id) ∷ None ∷ o ∷ []))) (active_passes b.rows id of_stream active).1

@@ -26,12 +26,10 @@ pub record IsPlain (frame : Frame) : Type 0 where
   pub no_headers : (frame.kind == headers_kind) ≡ false
   pub no_continuation : (frame.kind == continuation_kind) ≡ false
 
--- The frame is of no stream: it has nothing of a message, resets nothing, and grants to the connection alone.
-pub record IsOfNoStream (frame : Frame) : Type 0 where
+-- The frame has no part of a message.
+pub record IsOfNoMessage (frame : Frame) : Type 0 where
   pub plain : IsPlain frame
   pub no_data : (frame.kind == data_kind) ≡ false
-  pub no_reset : (frame.kind == rst_stream_kind) ≡ false
-  pub grants_all : frame.kind ≡ window_update_kind → frame.id ≡ 0
 
 -- a WINDOW_UPDATE (RFC 9113, section 6.9)
 abbrev pub update : ℕ → ℕ → List ℕ → Frame

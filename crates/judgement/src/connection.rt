@@ -23,7 +23,7 @@ ghost use Rattle.conduct.specs.Owing.{fault_in};
 ghost use Rattle.conduct.specs.Quiet.{IsQuiet, coming, heard};
 ghost use Rattle.model.specs.ErrorClause.{is_fatal};
 ghost use Rattle.conduct.specs.Tidy.{AreKept};
-ghost use Rattle.judgement.specs.Judgement.{IsOfNoStream, IsJudged, fault_told, is_of_stream, behind, update, reset};
+ghost use Rattle.judgement.specs.Judgement.{IsOfNoMessage, IsJudged, fault_told, is_of_stream, behind, update, reset};
 
 use crate::answers::{Fault, Judged};
 use crate::codes::{FLOW_CONTROL_ERROR, PROTOCOL_ERROR, fault_of, join_code, payload_code, setting_code};
@@ -253,7 +253,7 @@ impl Connection {
 
     /// Takes a frame that is right by itself.
     fn take<'a>(&mut self, view: View<'a>, frame: Frame<'a>) -> Judged<'a>
-        requires of_no_stream { IsOfNoStream (frame_of view) }
+        requires of_no_message { IsOfNoMessage (frame_of view) }
         requires says { Says frame (frame_of view) }
         requires sound { (outside : Outside) → first_of (frame_rows_in (told_of outside self.old) (frame_of view)) ≡ None }
         ensures { (setup : Setup) (outside : Outside) → IsJudged setup (book_of outside self.old) (frame_of view.entry) (book_of outside self.new) result }
@@ -261,18 +261,19 @@ impl Connection {
         match frame {
             Frame::Settings(entries) => self.take_settings_or_ack(view, entries),
             Frame::Ping(octets) => self.take_ping(view, octets),
-            Frame::WindowUpdate(increment) => self.take_update(view, increment),
+            Frame::WindowUpdate(increment) if view.id == 0 => self.take_update(view, increment),
+            Frame::WindowUpdate(increment) => self.take_stream_update(view, increment),
+            Frame::RstStream(_) => self.take_reset(view),
             Frame::Other => self.take_other(view),
-            Frame::Data(_) | Frame::Headers(_) | Frame::Continuation(_) | Frame::RstStream(_) => {
-                unreachable!()
-            }
+            Frame::Data(_) | Frame::Headers(_) | Frame::Continuation(_) => unreachable!(),
         }
     }
 
-    /// Judges a frame that is of no stream: SETTINGS, PING, GOAWAY, PRIORITY, WINDOW_UPDATE on the connection, or a type that isn't known; and does
-    /// what it says. An error of the connection is that of the first row of the error table that applies, and changes nothing.
+    /// Judges a frame that has no part of a message: any but DATA, HEADERS and CONTINUATION; and does what it says. Where it isn't as it should be, its
+    /// fault is the first row of the error table that applies (RFC 9113, section 5.4). An error of the connection changes nothing; behind one of a
+    /// stream that stream is reset.
     pub fn judge<'a>(&mut self, view: View<'a>) -> Judged<'a>
-        requires of_no_stream { IsOfNoStream (frame_of view) }
+        requires of_no_message { IsOfNoMessage (frame_of view) }
         requires short { length view.payload.now ≤ 16384 }
         ensures { (setup : Setup) (outside : Outside) → IsJudged setup (book_of outside self.old) (frame_of view.entry) (book_of outside self.new) result }
     {

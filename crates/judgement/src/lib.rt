@@ -4,6 +4,8 @@
 mod answers;
 mod codes;
 mod connection;
+#[cfg(test)]
+mod tests;
 
 pub use crate::answers::{Fault, Judged};
 pub use crate::connection::Connection;

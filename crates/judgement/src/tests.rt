@@ -1,0 +1,115 @@
+//! The rows of the error table, each beside a frame that just keeps within.
+
+use super::*;
+use frames::View;
+use std::test::*;
+
+const NOTHING: [u8; 0] = [];
+
+/// Judges a frame that has no part of a message.
+fn judge<'a>(
+    connection: &mut Connection,
+    kind: u8,
+    flags: u8,
+    id: u32,
+    payload: &'a [u8],
+) -> Judged<'a> {
+    if kind == 0 || kind == 1 || kind == 9 || payload.len() > 16384 {
+        return Judged::Ignored;
+    }
+    connection.judge(View {
+        kind,
+        flags,
+        id,
+        payload,
+    })
+}
+
+/// Whether the frame is an error of the connection with this code.
+fn ends_with(judged: Judged<'_>, code: u32) -> bool {
+    judged == Judged::Failed(Fault::Connection(code))
+}
+
+#[test]
+fn the_first_frame_has_settings(rt: HostRuntime) -> Result<(), Fail> {
+    let mut connection = Connection::new(rt.alloc());
+    assert!(rt; ends_with(judge(&mut connection, 6, 0, 0, b"12345678"), 1));
+    assert!(rt; ends_with(judge(&mut connection, 4, 1, 0, &NOTHING), 1));
+    let settings = judge(&mut connection, 4, 0, 0, &NOTHING);
+    assert!(rt; matches!(settings, Judged::Settings(_)));
+    assert_eq!(rt; judge(&mut connection, 6, 0, 0, b"12345678"), Judged::Ping(b"12345678"));
+    assert_eq!(rt; judge(&mut connection, 6, 1, 0, b"12345678"), Judged::Ignored);
+    Ok(())
+}
+
+#[test]
+fn frames_stand_where_they_may(rt: HostRuntime) -> Result<(), Fail> {
+    let mut connection = Connection::new(rt.alloc());
+    let settings = judge(&mut connection, 4, 0, 0, &NOTHING);
+    assert!(rt; matches!(settings, Judged::Settings(_)));
+    assert!(rt; ends_with(judge(&mut connection, 4, 0, 1, &NOTHING), 1));
+    assert!(rt; ends_with(judge(&mut connection, 6, 0, 1, b"12345678"), 1));
+    assert!(rt; ends_with(judge(&mut connection, 7, 0, 1, b"12345678"), 1));
+    assert!(rt; ends_with(judge(&mut connection, 2, 0, 0, b"12345"), 1));
+    assert!(rt; ends_with(judge(&mut connection, 3, 0, 0, b"1234"), 1));
+    assert!(rt; ends_with(judge(&mut connection, 5, 0, 1, b"1234"), 1));
+    assert_eq!(rt; judge(&mut connection, 2, 0, 1, b"12345"), Judged::Ignored);
+    assert_eq!(rt; judge(&mut connection, 7, 0, 0, b"12345678"), Judged::Ignored);
+    assert_eq!(rt; judge(&mut connection, 200, 255, 77, b"123"), Judged::Ignored);
+    Ok(())
+}
+
+#[test]
+fn payloads_have_their_lengths(rt: HostRuntime) -> Result<(), Fail> {
+    let mut connection = Connection::new(rt.alloc());
+    let settings = judge(&mut connection, 4, 0, 0, &NOTHING);
+    assert!(rt; matches!(settings, Judged::Settings(_)));
+    assert!(rt; ends_with(judge(&mut connection, 6, 0, 0, b"1234567"), 6));
+    assert!(rt; ends_with(judge(&mut connection, 2, 0, 1, b"1234"), 6));
+    assert!(rt; ends_with(judge(&mut connection, 3, 0, 1, b"12345"), 6));
+    assert!(rt; ends_with(judge(&mut connection, 4, 0, 0, b"12345"), 6));
+    assert!(rt; ends_with(judge(&mut connection, 4, 1, 0, b"123456"), 6));
+    assert!(rt; ends_with(judge(&mut connection, 7, 0, 0, b"1234567"), 6));
+    assert!(rt; ends_with(judge(&mut connection, 8, 0, 0, b"12345"), 6));
+    Ok(())
+}
+
+#[test]
+fn settings_are_taken(rt: HostRuntime) -> Result<(), Fail> {
+    let mut connection = Connection::new(rt.alloc());
+    assert!(rt; ends_with(judge(&mut connection, 4, 0, 0, &[0, 2, 0, 0, 0, 2]), 1));
+    assert!(rt; ends_with(judge(&mut connection, 4, 0, 0, &[0, 4, 128, 0, 0, 0]), 3));
+    assert!(rt; ends_with(judge(&mut connection, 4, 0, 0, &[0, 5, 0, 0, 0, 1]), 1));
+    match judge(&mut connection, 4, 0, 0, &[0, 4, 0, 0, 0, 10]) {
+        Judged::Settings(change) => assert_eq!(rt; change.difference, -65525),
+        _ => assert!(rt; false),
+    }
+    match judge(&mut connection, 4, 0, 0, &[0, 4, 127, 255, 255, 255]) {
+        Judged::Settings(change) => assert_eq!(rt; change.difference, 2147483637),
+        _ => assert!(rt; false),
+    }
+    Ok(())
+}
+
+#[test]
+fn windows_grow(rt: HostRuntime) -> Result<(), Fail> {
+    let mut connection = Connection::new(rt.alloc());
+    let settings = judge(&mut connection, 4, 0, 0, &NOTHING);
+    assert!(rt; matches!(settings, Judged::Settings(_)));
+    assert!(rt; ends_with(judge(&mut connection, 8, 0, 0, &[0, 0, 0, 0]), 1));
+    assert!(rt; ends_with(judge(&mut connection, 8, 0, 0, &[127, 255, 0, 1]), 3));
+    assert_eq!(rt; judge(&mut connection, 8, 0, 0, &[127, 255, 0, 0]), Judged::Granted);
+    assert!(rt; ends_with(judge(&mut connection, 8, 0, 0, &[0, 0, 0, 1]), 3));
+    Ok(())
+}
+
+#[test]
+fn idle_streams_are_left_alone(rt: HostRuntime) -> Result<(), Fail> {
+    let mut connection = Connection::new(rt.alloc());
+    let settings = judge(&mut connection, 4, 0, 0, &NOTHING);
+    assert!(rt; matches!(settings, Judged::Settings(_)));
+    assert!(rt; ends_with(judge(&mut connection, 3, 0, 1, b"1234"), 1));
+    assert!(rt; ends_with(judge(&mut connection, 8, 0, 1, &[0, 0, 0, 1]), 1));
+    assert!(rt; ends_with(judge(&mut connection, 8, 0, 2, &[0, 0, 0, 1]), 1));
+    Ok(())
+}

@@ -1,6 +1,6 @@
 //! What is kept of a connection for its client's frames.
 
-ghost use Rattle.std.specs.Prelude.{◌≡◌, ◌≤◌, ◌==◌, [], ◌∷◌, length, false, true, None, Some, IfOk, IfErr, IfNone, option_map, pos, ◌+ℤ◌};
+ghost use Rattle.std.specs.Prelude.{◌≡◌, ◌≤◌, ◌==◌, [], ◌∷◌, length, false, true, None, Some, IfOk, IfErr, IfNone, OnOk, OnErr, option_map, pos, ◌+ℤ◌};
 ghost use Rattle.model.specs.Setup.{Setup};
 ghost use Rattle.model.specs.Errors.{first_of};
 ghost use Rattle.model.specs.Errors.Fault.{Connection as Fatal, Stream as StreamFault};
@@ -9,7 +9,9 @@ ghost use Rattle.model.specs.Windows.{IsSize};
 ghost use Rattle.model.specs.WindowsOnTape.{is_past};
 ghost use Rattle.conduct.specs.Judging.{window_in};
 ghost use Rattle.conduct.specs.Rows.{find};
-ghost use Rattle.streams_kept.specs.Asked.{is_active};
+ghost use Rattle.conduct.specs.Rows.Slot.{Live as Active};
+ghost use Rattle.stream_state.specs.Views.{kind_in, verdict_in};
+ghost use Rattle.streams_kept.specs.Asked.{is_active, verdict, MayOpen, AllowsOpening};
 ghost use Rattle.model.specs.WindowsOnTape.{has_settings};
 ghost use Rattle.model.specs.Frames.{settings_kind, window_update_kind};
 ghost use Rattle.frames.specs.Views.{frame_of};
@@ -22,7 +24,7 @@ ghost use Rattle.model.specs.WindowsOnTape.{increment as increment_of};
 ghost use Rattle.conduct.specs.Owing.{fault_in};
 ghost use Rattle.conduct.specs.Quiet.{IsQuiet, coming, heard};
 ghost use Rattle.model.specs.ErrorClause.{is_fatal};
-ghost use Rattle.conduct.specs.Tidy.{AreKept};
+ghost use Rattle.conduct.specs.Tidy.{IsTidy, AreKept};
 ghost use Rattle.judgement.specs.Judgement.{IsOfNoMessage, IsJudged, fault_told, is_of_stream, behind, update, reset};
 
 use crate::answers::{Fault, Judged};
@@ -31,10 +33,10 @@ use flow_control::Window;
 use frames::{Frame, View, has_settings, is_ack, is_misplaced, parse};
 use header_blocks::Joiner;
 use settings::Settings;
-use std::alloc::Global;
+use std::alloc::{AllocError, Global};
 use std::marker::Model;
-use stream_state::Kind;
-use streams_kept::Streams;
+use stream_state::{Kind, Verdict};
+use streams_kept::{Live, Streams};
 
 /// The first size of windows (RFC 9113, section 6.9.2).
 const FIRST_WINDOW: u32 = 65535;
@@ -80,6 +82,24 @@ impl Connection {
             streams: Streams::new(alloc),
             last: 0,
         }
+    }
+
+    /// Opens a stream that the client may open (RFC 9113, section 5.1). An `Err` says that memory was refused; it changes nothing.
+    pub fn open(&mut self, id: u32, live: Live) -> Result<(), AllocError>
+        requires may { MayOpen self.old.rows id }
+        requires tidy { IsTidy (Active live) }
+        ensures ok { OnOk result (self.new ≡ record self.old { rows = record { id = id; slot = Active live } ∷ self.old.rows }) }
+        ensures err { OnErr result (self.new ≡ self.old) }
+    {
+        self.streams.open(id, live)
+    }
+
+    /// What comes of a type of frame on an id by the state of its stream (RFC 9113, section 5.1). Where the answer is `Open`, the stream may be opened.
+    pub fn verdict(&self, id: u32, kind: Kind) -> Verdict
+        ensures is { verdict_in result ≡ verdict self.now.rows id (kind_in kind) }
+        ensures allows { AllowsOpening result self.now.rows id }
+    {
+        self.streams.verdict(id, kind)
     }
 
     /// What a frame says, if nothing is wrong with it by itself and by the header block that is begun; else the code of the connection error

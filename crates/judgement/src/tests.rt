@@ -2,6 +2,8 @@
 
 use super::*;
 use frames::View;
+use stream_state::{Kind, Verdict};
+use streams_kept::{Course, Live};
 use std::test::*;
 
 const NOTHING: [u8; 0] = [];
@@ -111,5 +113,54 @@ fn idle_streams_are_left_alone(rt: HostRuntime) -> Result<(), Fail> {
     assert!(rt; ends_with(judge(&mut connection, 3, 0, 1, b"1234"), 1));
     assert!(rt; ends_with(judge(&mut connection, 8, 0, 1, &[0, 0, 0, 1]), 1));
     assert!(rt; ends_with(judge(&mut connection, 8, 0, 2, &[0, 0, 0, 1]), 1));
+    Ok(())
+}
+
+/// The course of a request whose head came, and which declares nothing.
+const BEGUN: Course = Course {
+    begun: true,
+    declared: None,
+    octets: 0,
+    over: false,
+    cause: None,
+    head_out: false,
+};
+
+/// Opens a stream where HEADERS may, and says whether they may.
+fn open_if_idle(connection: &mut Connection, id: u32) -> Result<bool, Fail> {
+    match connection.verdict(id, Kind::Headers) {
+        Verdict::Open => {
+            connection.open(id, Live::opened(BEGUN, false))?;
+            Ok(true)
+        }
+        _ => Ok(false),
+    }
+}
+
+#[test]
+fn streams_are_granted_to_and_reset(rt: HostRuntime) -> Result<(), Fail> {
+    let mut connection = Connection::new(rt.alloc());
+    let settings = judge(&mut connection, 4, 0, 0, &NOTHING);
+    assert!(rt; matches!(settings, Judged::Settings(_)));
+    for id in [3, 5, 9, 11] {
+        assert!(rt; open_if_idle(&mut connection, id)?);
+    }
+    assert_eq!(rt; judge(&mut connection, 8, 0, 3, &[127, 255, 0, 0]), Judged::Granted);
+    assert!(rt; ends_with(judge(&mut connection, 4, 0, 0, &[0, 4, 0, 1, 0, 0]), 3));
+    let past = judge(&mut connection, 8, 0, 3, &[0, 0, 0, 1]);
+    assert_eq!(rt; past, Judged::Failed(Fault::Stream(3)));
+    let nothing = judge(&mut connection, 8, 0, 5, &[0, 0, 0, 0]);
+    assert_eq!(rt; nothing, Judged::Failed(Fault::Stream(1)));
+    assert_eq!(rt; judge(&mut connection, 8, 0, 9, &[0, 0, 0, 1]), Judged::Granted);
+    assert_eq!(rt; judge(&mut connection, 3, 0, 9, b"code"), Judged::Reset);
+    let discarded = Judged::Failed(Fault::Discarded);
+    for id in [1, 3, 5, 7, 9] {
+        assert_eq!(rt; judge(&mut connection, 3, 0, id, b"code"), discarded);
+        assert_eq!(rt; judge(&mut connection, 8, 0, id, &[0, 0, 0, 0]), discarded);
+    }
+    assert_eq!(rt; connection.verdict(3, Kind::Data), Verdict::Discard);
+    assert_eq!(rt; connection.verdict(9, Kind::Data), Verdict::Connection(5));
+    let settings = judge(&mut connection, 4, 0, 0, &[0, 4, 0, 1, 0, 0]);
+    assert!(rt; matches!(settings, Judged::Settings(_)));
     Ok(())
 }

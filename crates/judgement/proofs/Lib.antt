@@ -5,3 +5,4 @@ pub mod Standings
 pub mod Streams
 pub mod Resets
 pub mod Updates
+pub mod Bodies

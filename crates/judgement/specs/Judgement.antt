@@ -35,6 +35,10 @@ pub record IsOfNoMessage (frame : Frame) : Type 0 where
 abbrev pub update : ℕ → ℕ → List ℕ → Frame
 update flags id payload = record { kind = window_update_kind; flags = flags; id = id; payload = payload }
 
+-- a DATA (RFC 9113, section 6.1)
+abbrev pub data_frame : ℕ → ℕ → List ℕ → Frame
+data_frame flags id payload = record { kind = data_kind; flags = flags; id = id; payload = payload }
+
 -- a RST_STREAM (RFC 9113, section 6.4)
 abbrev pub reset : ℕ → ℕ → List ℕ → Frame
 reset flags id payload = record { kind = rst_stream_kind; flags = flags; id = id; payload = payload }

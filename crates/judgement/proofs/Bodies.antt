@@ -187,7 +187,7 @@ module _ (b : Book) (flags id : ℕ) (payload : List ℕ) (of_stream : (id == 0)
               on_active
               ∙ ap (λ x. or_else (first_of (fault_if x (Stream flow_control_error) ∷ by_standing ∷ [])) (fault_if bad_body (Stream protocol_error))) fits_own
               ∙ ap (λ (o : Option Fault). or_else (first_of (o ∷ [])) (fault_if bad_body (Stream protocol_error))) is
-            )
+              )
 
           -- a body that goes wrong, or nothing
           pub data_body : by_standing ≡ None → fault_if bad_body (Stream protocol_error) ≡ fault_in s (coming frame)
@@ -195,4 +195,4 @@ module _ (b : Book) (flags id : ℕ) (payload : List ℕ) (of_stream : (id == 0)
               on_active
               ∙ ap (λ x. or_else (first_of (fault_if x (Stream flow_control_error) ∷ by_standing ∷ [])) (fault_if bad_body (Stream protocol_error))) fits_own
               ∙ ap (λ (o : Option Fault). or_else (first_of (o ∷ [])) (fault_if bad_body (Stream protocol_error))) none
-            )
+              )

@@ -82,7 +82,7 @@ module _ (s : Summary) (frame : Frame) (control : IsControl frame) where
       ∷ stream_data_in s frame
       ∷ fault_by_standing_in s frame
       ∷ []
-    ) (
+      ) (
       skip _ _ (ap (λ b. first_of (fault_if (frame.id == 0 && (b && increment frame == 0)) (Connection protocol_error) ∷ fault_if (frame.id == 0 && (b && is_past (s.window +ℤ pos (increment frame)))) (Connection flow_control_error) ∷ [])) control.no_update
       ∙ both_none (frame.id == 0) (increment frame == 0) (is_past (s.window +ℤ pos (increment frame))) (Connection protocol_error) (Connection flow_control_error))
       ∙ skip _ _ (ap (λ (f : Option Fault). if is_idle (standing_in s frame.id) && not (is_headers (judged (completed_in s.block frame) frame)) then f else None) judged_none ∙ none_if _)
@@ -92,7 +92,7 @@ module _ (s : Summary) (frame : Frame) (control : IsControl frame) where
       ∙ both_none (is_active_in frame.id s) (increment frame == 0) (is_past (window_in s.first_size (s.stream frame.id) +ℤ pos (increment frame))) (Stream protocol_error) (Stream flow_control_error))
       ∙ skip _ _ (no_fault _ _ (ap (λ b. is_active_in frame.id s && (b && int_lt (s.stream frame.id).room (pos (length frame.payload)))) control.no_data ∙ and_right (is_active_in frame.id s) false refl))
       ∙ skip _ _ judged_none
-    )
+      )
 
   -- it brings its stream nothing
   bears_none : bears s frame ≡ false
@@ -154,8 +154,8 @@ module _ (setup : Setup) (b : Book) (frame : Frame) (has : has_settings frame �
   settings_wrong fault is =
       control_fault s frame control sound (s.stream frame.id).brief
       ∙ ap (λ (o : Option Fault). first_of (o ∷ shift_in s frame ∷ [])) (
-        ap (λ x. if x then option_map (λ fault. Connection (code_of_fault fault)) (settings_fault frame.payload) else None) has
-        ∙ ap (λ (o : Option SettingsFault). option_map (λ fault. Connection (code_of_fault fault)) o) is
+      ap (λ x. if x then option_map (λ fault. Connection (code_of_fault fault)) (settings_fault frame.payload) else None) has
+      ∙ ap (λ (o : Option SettingsFault). option_map (λ fault. Connection (code_of_fault fault)) o) is
       )
 
   -- values that are
@@ -246,7 +246,7 @@ module _ (b : Book) (flags : ℕ) (payload : List ℕ) (sound : first_of (frame_
   granted_past some past = decides (Connection flow_control_error) (
       ap (λ x. first_of (fault_if x (Connection protocol_error) ∷ fault_if (is_past (b.window +ℤ pos (increment (update flags 0 payload)))) (Connection flow_control_error) ∷ [])) some
       ∙ ap (λ x. first_of (fault_if x (Connection flow_control_error) ∷ [])) past
-    )
+      )
 
 module _ (setup : Setup) (b : Book) (kept : AreKept b.rows) (flags : ℕ) (payload : List ℕ) (sound : first_of (frame_rows_in (summary_in b) (update flags 0 payload)) ≡ None) where
   -- what is kept before it, and how much it grants
@@ -273,10 +273,10 @@ module _ (setup : Setup) (b : Book) (kept : AreKept b.rows) (flags : ℕ) (paylo
       ∷ stream_data_in before granting
       ∷ fault_by_standing_in before granting
       ∷ []
-    ) (
+      ) (
       skip (stream_update_in before granting) (stream_data_in before granting ∷ fault_by_standing_in before granting ∷ []) (ap (λ x. first_of (fault_if (x && increment granting == 0) (Stream protocol_error) ∷ fault_if (x && is_past (window_in before.first_size (before.stream 0) +ℤ pos (increment granting))) (Stream flow_control_error) ∷ [])) inactive)
       ∙ skip (stream_data_in before granting) (fault_by_standing_in before granting ∷ []) (ap (λ x. fault_if (x && false) (Stream flow_control_error)) inactive)
-    )
+      )
 
   -- it isn't judged by what a stream carried
   update_fault : (brief : Brief) → fault_for brief before (coming granting) ≡ first_of (connection_update_in before granting ∷ [])

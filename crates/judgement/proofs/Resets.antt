@@ -51,8 +51,8 @@ module _ (setup : Setup) (b : Book) (flags id : ℕ) (payload : List ℕ) (of_st
       ∙ ap (λ (o : Option Fault). or_else o (malformed_in brief s (coming frame))) reset_rows
       ∙ ap (λ x. or_else (or_else (fault_of (asked.verdict b.rows id 3)) (first_of (stream_update_in s frame ∷ stream_data_in s frame ∷ fault_by_standing_in s frame ∷ []))) (fault_if x (Stream protocol_error))) (and_right (not (is_some brief.cause)) false refl)
       ∙ ap (λ (o : Option Fault). or_else (or_else (fault_of (asked.verdict b.rows id 3)) o) None) (
-        skip (stream_update_in s frame) (stream_data_in s frame ∷ fault_by_standing_in s frame ∷ []) (both_none (is_active_in id s) (increment frame == 0) (is_past (window_in s.first_size (s.stream id) +ℤ pos (increment frame))) (Stream protocol_error) (Stream flow_control_error))
-        ∙ skip (stream_data_in s frame) (fault_by_standing_in s frame ∷ []) (ap (λ x. fault_if x (Stream flow_control_error)) (and_right (is_active_in id s) false refl))
+      skip (stream_update_in s frame) (stream_data_in s frame ∷ fault_by_standing_in s frame ∷ []) (both_none (is_active_in id s) (increment frame == 0) (is_past (window_in s.first_size (s.stream id) +ℤ pos (increment frame))) (Stream protocol_error) (Stream flow_control_error))
+      ∙ skip (stream_data_in s frame) (fault_by_standing_in s frame ∷ []) (ap (λ x. fault_if x (Stream flow_control_error)) (and_right (is_active_in id s) false refl))
       )
       ∙ itself (fault_of (asked.verdict b.rows id 3))
     where

@@ -28,7 +28,9 @@ ghost use Rattle.conduct.specs.Tidy.{IsTidy, AreKept};
 ghost use Rattle.judgement.specs.Judgement.{IsOfNoMessage, IsJudged, fault_told, is_of_stream, behind, update, reset};
 
 use crate::answers::{Fault, Judged};
-use crate::codes::{FLOW_CONTROL_ERROR, PROTOCOL_ERROR, fault_of, join_code, payload_code, setting_code};
+use crate::codes::{
+    FLOW_CONTROL_ERROR, PROTOCOL_ERROR, fault_of, join_code, payload_code, setting_code,
+};
 use flow_control::Window;
 use frames::{Frame, View, has_settings, is_ack, is_misplaced, parse};
 use header_blocks::Joiner;

@@ -2,9 +2,9 @@
 
 use super::*;
 use frames::View;
+use std::test::*;
 use stream_state::{Kind, Verdict};
 use streams_kept::{Course, Live};
-use std::test::*;
 
 const NOTHING: [u8; 0] = [];
 
@@ -39,8 +39,14 @@ fn the_first_frame_has_settings(rt: HostRuntime) -> Result<(), Fail> {
     assert!(rt; ends_with(judge(&mut connection, 4, 1, 0, &NOTHING), 1));
     let settings = judge(&mut connection, 4, 0, 0, &NOTHING);
     assert!(rt; matches!(settings, Judged::Settings(_)));
-    assert_eq!(rt; judge(&mut connection, 6, 0, 0, b"12345678"), Judged::Ping(b"12345678"));
-    assert_eq!(rt; judge(&mut connection, 6, 1, 0, b"12345678"), Judged::Ignored);
+    assert_eq!(rt;
+        judge(&mut connection, 6, 0, 0, b"12345678"),
+        Judged::Ping(b"12345678")
+    );
+    assert_eq!(rt;
+        judge(&mut connection, 6, 1, 0, b"12345678"),
+        Judged::Ignored
+    );
     Ok(())
 }
 
@@ -56,8 +62,14 @@ fn frames_stand_where_they_may(rt: HostRuntime) -> Result<(), Fail> {
     assert!(rt; ends_with(judge(&mut connection, 3, 0, 0, b"1234"), 1));
     assert!(rt; ends_with(judge(&mut connection, 5, 0, 1, b"1234"), 1));
     assert_eq!(rt; judge(&mut connection, 2, 0, 1, b"12345"), Judged::Ignored);
-    assert_eq!(rt; judge(&mut connection, 7, 0, 0, b"12345678"), Judged::Ignored);
-    assert_eq!(rt; judge(&mut connection, 200, 255, 77, b"123"), Judged::Ignored);
+    assert_eq!(rt;
+        judge(&mut connection, 7, 0, 0, b"12345678"),
+        Judged::Ignored
+    );
+    assert_eq!(rt;
+        judge(&mut connection, 200, 255, 77, b"123"),
+        Judged::Ignored
+    );
     Ok(())
 }
 
@@ -100,7 +112,10 @@ fn windows_grow(rt: HostRuntime) -> Result<(), Fail> {
     assert!(rt; matches!(settings, Judged::Settings(_)));
     assert!(rt; ends_with(judge(&mut connection, 8, 0, 0, &[0, 0, 0, 0]), 1));
     assert!(rt; ends_with(judge(&mut connection, 8, 0, 0, &[127, 255, 0, 1]), 3));
-    assert_eq!(rt; judge(&mut connection, 8, 0, 0, &[127, 255, 0, 0]), Judged::Granted);
+    assert_eq!(rt;
+        judge(&mut connection, 8, 0, 0, &[127, 255, 0, 0]),
+        Judged::Granted
+    );
     assert!(rt; ends_with(judge(&mut connection, 8, 0, 0, &[0, 0, 0, 1]), 3));
     Ok(())
 }
@@ -145,13 +160,19 @@ fn streams_are_granted_to_and_reset(rt: HostRuntime) -> Result<(), Fail> {
     for id in [3, 5, 9, 11] {
         assert!(rt; open_if_idle(&mut connection, id)?);
     }
-    assert_eq!(rt; judge(&mut connection, 8, 0, 3, &[127, 255, 0, 0]), Judged::Granted);
+    assert_eq!(rt;
+        judge(&mut connection, 8, 0, 3, &[127, 255, 0, 0]),
+        Judged::Granted
+    );
     assert!(rt; ends_with(judge(&mut connection, 4, 0, 0, &[0, 4, 0, 1, 0, 0]), 3));
     let past = judge(&mut connection, 8, 0, 3, &[0, 0, 0, 1]);
     assert_eq!(rt; past, Judged::Failed(Fault::Stream(3)));
     let nothing = judge(&mut connection, 8, 0, 5, &[0, 0, 0, 0]);
     assert_eq!(rt; nothing, Judged::Failed(Fault::Stream(1)));
-    assert_eq!(rt; judge(&mut connection, 8, 0, 9, &[0, 0, 0, 1]), Judged::Granted);
+    assert_eq!(rt;
+        judge(&mut connection, 8, 0, 9, &[0, 0, 0, 1]),
+        Judged::Granted
+    );
     assert_eq!(rt; judge(&mut connection, 3, 0, 9, b"code"), Judged::Reset);
     let discarded = Judged::Failed(Fault::Discarded);
     for id in [1, 3, 5, 7, 9] {

@@ -111,8 +111,8 @@ returns c = λ setup outside.
     let active = update_active c.self.inside.streams c.args.view.id c.requires.of_stream passes in
     let count : c.args.increment ≡ increment frame = c.requires.counted ∙ ap increment c.requires.kind in
     let right = neither_wrong (increment frame == 0) (is_past (window_in c.self.inside.settings (find c.self.inside.streams c.args.view.id) +ℤ pos (increment frame))) (Stream 1) (Stream 3) (
-      ap (λ (n : ℕ). first_of (fault_if (n == 0) (Stream 1) ∷ fault_if (is_past (window_in c.self.inside.settings (find c.self.inside.streams c.args.view.id) +ℤ pos n)) (Stream 3) ∷ [])) (sym count)
-      ∙ sym c.update_code.ensures.is ∙ ap (option_map Stream) c.in_default-update_code.is
+    ap (λ (n : ℕ). first_of (fault_if (n == 0) (Stream 1) ∷ fault_if (is_past (window_in c.self.inside.settings (find c.self.inside.streams c.args.view.id) +ℤ pos n)) (Stream 3) ∷ [])) (sym count)
+    ∙ sym c.update_code.ensures.is ∙ ap (option_map Stream) c.in_default-update_code.is
     ) in
     let new : book_of outside c.hear-2.new.self ≡ behind setup (book_of outside i) frame =
     ap (book_of outside) c.hear-2.ensures.is

@@ -1,3 +1,3 @@
 mod Searches
 mod Changes
-mod Openings
+pub mod Openings

@@ -14,8 +14,7 @@ mod verdicts;
 use crate::records::{Record, highest_id, place_of};
 pub use crate::states::State;
 use crate::states::{Step, count_after};
-pub use crate::verdicts::{Kind, Standing, Verdict};
-use crate::verdicts::{unopened_standing, verdict_at};
+pub use crate::verdicts::{Kind, Standing, Verdict, unopened_standing, verdict_at};
 use std::alloc::{AllocError, Global};
 use std::marker::Model;
 

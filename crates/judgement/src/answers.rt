@@ -1,0 +1,31 @@
+//! What comes of a frame.
+
+use settings::Change;
+
+/// What a frame is answered with that isn't as it should be (RFC 9113, section 5.4).
+#[derive(Clone, Copy, Debug, PartialEq, Eq)]
+pub enum Fault {
+    /// The connection ends with GOAWAY and this code (RFC 9113, sections 5.4.1 and 7).
+    Connection(u32),
+    /// The frame's stream ends with RST_STREAM and this code (RFC 9113, sections 5.4.2 and 7).
+    Stream(u32),
+    /// Nothing comes of it, but that the octets of DATA are given back.
+    Discarded,
+}
+
+/// What comes of a frame that has no fragment of a header block.
+#[derive(Clone, Copy, Debug, PartialEq, Eq)]
+pub enum Judged<'a> {
+    /// It isn't as it should be.
+    Failed(Fault),
+    /// Nothing is to be done: PRIORITY, GOAWAY, an acknowledgement, or a type that isn't known.
+    Ignored,
+    /// Settings were taken, and are to be acknowledged (RFC 9113, section 6.5.3).
+    Settings(Change),
+    /// These eight octets are to be sent back (RFC 9113, section 6.7).
+    Ping(&'a [u8]),
+    /// The window of the connection or of its stream grew (RFC 9113, section 6.9).
+    Granted,
+    /// The client reset an active stream (RFC 9113, section 6.4).
+    Reset,
+}

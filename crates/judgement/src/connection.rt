@@ -1,0 +1,327 @@
+//! What is kept of a connection for its client's frames.
+
+ghost use Rattle.std.specs.Prelude.{◌≡◌, ◌≤◌, ◌==◌, [], ◌∷◌, length, false, true, None, Some, IfOk, IfErr, IfNone, OnOk, OnErr, option_map, pos, ◌+ℤ◌};
+ghost use Rattle.model.specs.Setup.{Setup};
+ghost use Rattle.model.specs.Errors.{first_of};
+ghost use Rattle.model.specs.Errors.Fault.{Connection as Fatal, Stream as StreamFault};
+ghost use Rattle.model.specs.FrameErrors.{fault_if};
+ghost use Rattle.model.specs.Windows.{IsSize};
+ghost use Rattle.model.specs.WindowsOnTape.{is_past};
+ghost use Rattle.conduct.specs.Judging.{window_in};
+ghost use Rattle.conduct.specs.Rows.{find};
+ghost use Rattle.conduct.specs.Rows.Slot.{Live as Active};
+ghost use Rattle.stream_state.specs.Views.{kind_in, verdict_in};
+ghost use Rattle.streams_kept.specs.Asked.{is_active, verdict, MayOpen, AllowsOpening};
+ghost use Rattle.model.specs.WindowsOnTape.{has_settings};
+ghost use Rattle.model.specs.Frames.{settings_kind, window_update_kind};
+ghost use Rattle.frames.specs.Views.{frame_of};
+ghost use Rattle.frames.specs.Parsed.{Says};
+ghost use Rattle.frames.specs.declared.parts.Frame.TheVariants.{Settings as Entries, Ping as Octets, Other as Unused};
+ghost use Rattle.conduct.specs.Judging.{frame_rows_in};
+ghost use Rattle.conduct.specs.Book.{first_desk};
+ghost use Rattle.judgement.specs.Inbound.{Outside, book_of, told_of};
+ghost use Rattle.model.specs.WindowsOnTape.{increment as increment_of};
+ghost use Rattle.conduct.specs.Owing.{fault_in};
+ghost use Rattle.conduct.specs.Quiet.{IsQuiet, coming, heard};
+ghost use Rattle.model.specs.ErrorClause.{is_fatal};
+ghost use Rattle.conduct.specs.Tidy.{IsTidy, AreKept};
+ghost use Rattle.judgement.specs.Judgement.{IsOfNoMessage, IsJudged, fault_told, is_of_stream, behind, update, reset};
+
+use crate::answers::{Fault, Judged};
+use crate::codes::{
+    FLOW_CONTROL_ERROR, PROTOCOL_ERROR, fault_of, join_code, payload_code, setting_code,
+};
+use flow_control::Window;
+use frames::{Frame, View, has_settings, is_ack, is_misplaced, parse};
+use header_blocks::Joiner;
+use settings::Settings;
+use std::alloc::{AllocError, Global};
+use std::marker::Model;
+use stream_state::{Kind, Verdict};
+use streams_kept::{Live, Streams};
+
+/// The first size of windows (RFC 9113, section 6.9.2).
+const FIRST_WINDOW: u32 = 65535;
+
+/// The greatest size that a window may have (RFC 9113, section 6.9.1).
+const GREATEST: i64 = 2147483647;
+
+/// What is kept of a connection for its client's frames. A clause sees conduct's book, but for what these frames neither look at nor change.
+#[derive(Drop)]
+pub struct Connection {
+    has_come: bool,
+    joiner: Joiner,
+    continuations: u32,
+    settings: Settings,
+    window: Window,
+    room: Window,
+    streams: Streams,
+    last: u32,
+}
+
+impl Model for Connection {
+    ghost use Rattle.judgement.specs.Inbound.{Inbound, IsWhole};
+
+    ghost Value = { Inbound };
+
+    ghost view = { λ c. record { has_come = c.has_come; block = c.joiner.begun; continuations = c.continuations; first_size = c.settings; window = c.window; room = c.room; rows = c.streams; last = c.last } };
+
+    ghost invariant = { λ c. IsWhole c.streams c.joiner c.continuations };
+}
+
+impl Connection {
+    /// A connection on which nothing came.
+    pub fn new(alloc: Global) -> Self
+        ensures { (setup : Setup) → book_of (record { given = []; untaken = 0 }) result ≡ (first_desk setup).book }
+    {
+        Connection {
+            has_come: false,
+            joiner: Joiner::new(alloc),
+            continuations: 0,
+            settings: Settings::default(),
+            window: Window::new(FIRST_WINDOW),
+            room: Window::new(FIRST_WINDOW),
+            streams: Streams::new(alloc),
+            last: 0,
+        }
+    }
+
+    /// Opens a stream that the client may open (RFC 9113, section 5.1). An `Err` says that memory was refused; it changes nothing.
+    pub fn open(&mut self, id: u32, live: Live) -> Result<(), AllocError>
+        requires may { MayOpen self.old.rows id }
+        requires tidy { IsTidy (Active live) }
+        ensures ok { OnOk result (self.new ≡ record self.old { rows = record { id = id; slot = Active live } ∷ self.old.rows }) }
+        ensures err { OnErr result (self.new ≡ self.old) }
+    {
+        self.streams.open(id, live)
+    }
+
+    /// What comes of a type of frame on an id by the state of its stream (RFC 9113, section 5.1). Where the answer is `Open`, the stream may be opened.
+    pub fn verdict(&self, id: u32, kind: Kind) -> Verdict
+        ensures is { verdict_in result ≡ verdict self.now.rows id (kind_in kind) }
+        ensures allows { AllowsOpening result self.now.rows id }
+    {
+        self.streams.verdict(id, kind)
+    }
+
+    /// What a frame says, if nothing is wrong with it by itself and by the header block that is begun; else the code of the connection error
+    /// that it is (RFC 9113, sections 3.4, 4 and 6).
+    fn parts<'a>(&self, view: View<'a>) -> Result<Frame<'a>, u32>
+        requires { length view.payload.now ≤ 16384 }
+        ensures says { IfOk result (λ frame. Says frame (frame_of view.entry)) }
+        ensures sound { IfOk result (λ frame. (outside : Outside) → first_of (frame_rows_in (told_of outside self.now) (frame_of view.entry)) ≡ None) }
+        ensures refused { IfErr result (λ code. (outside : Outside) → first_of (frame_rows_in (told_of outside self.now) (frame_of view.entry)) ≡ Some (Fatal code)) }
+    {
+        if !self.has_come && !has_settings(view) {
+            return Err(PROTOCOL_ERROR);
+        }
+        if let Some(fault) = self.joiner.fault(view.kind, view.id, view.payload) {
+            return Err(join_code(fault));
+        }
+        if is_misplaced(view) {
+            return Err(PROTOCOL_ERROR);
+        }
+        match parse(view) {
+            Ok(frame) => Ok(frame),
+            Err(fault) => Err(payload_code(fault)),
+        }
+    }
+
+    /// Notes that a frame without a fragment came, and on which stream.
+    fn hear(&mut self, id: u32)
+        requires { self.old.block ≡ None }
+        ensures is { self.new ≡ record self.old { has_come = true; continuations = 0; last = id } }
+        ensures kept { AreKept self.new.rows }
+    {
+        self.has_come = true;
+        self.continuations = 0;
+        self.last = id;
+    }
+
+    /// Takes a frame that changes no stream, no window and no setting.
+    fn take_quiet(&mut self, view: View<'_>)
+        requires quiet { IsQuiet (frame_of view) }
+        requires sound { (outside : Outside) → first_of (frame_rows_in (told_of outside self.old) (frame_of view)) ≡ None }
+        ensures faultless { (outside : Outside) → fault_in (told_of outside self.old) (coming (frame_of view.entry)) ≡ None }
+        ensures left { (setup : Setup) (outside : Outside) → book_of outside self.new ≡ behind setup (book_of outside self.old) (frame_of view.entry) }
+    {
+        self.hear(view.id);
+    }
+
+    /// Takes settings that are no acknowledgement (RFC 9113, section 6.5). Their values are judged first, then the windows that they leave.
+    fn take_settings<'a>(&mut self, view: View<'a>, entries: &'a [u8]) -> Judged<'a>
+        requires settings { has_settings (frame_of view) ≡ true }
+        requires entries { entries.now ≡ view.payload.now }
+        requires sound { (outside : Outside) → first_of (frame_rows_in (told_of outside self.old) (frame_of view)) ≡ None }
+        ensures { (setup : Setup) (outside : Outside) → IsJudged setup (book_of outside self.old) (frame_of view.entry) (book_of outside self.new) result }
+    {
+        let checked = match self.settings.check(entries) {
+            Ok(checked) => checked,
+            Err(fault) => return Judged::Failed(Fault::Connection(setting_code(fault))),
+        };
+        if self.streams.shifts_past(checked.initial_window) {
+            return Judged::Failed(Fault::Connection(FLOW_CONTROL_ERROR));
+        }
+        self.settings.accept(checked);
+        self.hear(view.id);
+        Judged::Settings(checked.change)
+    }
+
+    /// Takes an increment of the connection's window (RFC 9113, section 6.9).
+    fn take_update<'a>(&mut self, view: View<'a>, increment: u32) -> Judged<'a>
+        requires kind { frame_of view ≡ update view.flags 0 view.payload.now }
+        requires counted { increment ≡ increment_of (frame_of view) }
+        requires sound { (outside : Outside) → first_of (frame_rows_in (told_of outside self.old) (frame_of view)) ≡ None }
+        ensures { (setup : Setup) (outside : Outside) → IsJudged setup (book_of outside self.old) (frame_of view.entry) (book_of outside self.new) result }
+    {
+        if increment == 0 {
+            return Judged::Failed(Fault::Connection(PROTOCOL_ERROR));
+        }
+        let Ok(()) = self.window.grant(increment) else {
+            return Judged::Failed(Fault::Connection(FLOW_CONTROL_ERROR));
+        };
+        self.hear(view.id);
+        Judged::Granted
+    }
+
+    /// Takes a SETTINGS frame; an acknowledgement is ignored (RFC 9113, section 6.5).
+    fn take_settings_or_ack<'a>(&mut self, view: View<'a>, entries: &'a [u8]) -> Judged<'a>
+        requires says { Says (Entries entries) (frame_of view) }
+        requires sound { (outside : Outside) → first_of (frame_rows_in (told_of outside self.old) (frame_of view)) ≡ None }
+        ensures { (setup : Setup) (outside : Outside) → IsJudged setup (book_of outside self.old) (frame_of view.entry) (book_of outside self.new) result }
+    {
+        if !has_settings(view) {
+            self.take_quiet(view);
+            return Judged::Ignored;
+        }
+        self.take_settings(view, entries)
+    }
+
+    /// Takes a PING; an acknowledgement is ignored (RFC 9113, section 6.7).
+    fn take_ping<'a>(&mut self, view: View<'a>, octets: &'a [u8]) -> Judged<'a>
+        requires says { Says (Octets octets) (frame_of view) }
+        requires sound { (outside : Outside) → first_of (frame_rows_in (told_of outside self.old) (frame_of view)) ≡ None }
+        ensures { (setup : Setup) (outside : Outside) → IsJudged setup (book_of outside self.old) (frame_of view.entry) (book_of outside self.new) result }
+    {
+        self.take_quiet(view);
+        if is_ack(view) {
+            return Judged::Ignored;
+        }
+        Judged::Ping(octets)
+    }
+
+    /// Takes a frame of a type that isn't used: PRIORITY, GOAWAY, or one that isn't known.
+    fn take_other<'a>(&mut self, view: View<'a>) -> Judged<'a>
+        requires says { Says Unused (frame_of view) }
+        requires sound { (outside : Outside) → first_of (frame_rows_in (told_of outside self.old) (frame_of view)) ≡ None }
+        ensures { (setup : Setup) (outside : Outside) → IsJudged setup (book_of outside self.old) (frame_of view.entry) (book_of outside self.new) result }
+    {
+        self.take_quiet(view);
+        Judged::Ignored
+    }
+
+    /// Passes over a frame whose stream isn't active: nothing comes of it, or it is an error of the connection (RFC 9113, section 5.1).
+    fn pass_over<'a>(&mut self, view: View<'a>, fault: Fault) -> Judged<'a>
+        requires none_begun { self.old.block ≡ None }
+        requires is { (outside : Outside) → fault_in (told_of outside self.old) (coming (frame_of view)) ≡ Some (fault_told fault) }
+        requires mild { is_of_stream (Some (fault_told fault)) ≡ false }
+        requires left { is_fatal (Some (fault_told fault)) ≡ false → (setup : Setup) (outside : Outside) → behind setup (book_of outside self.old) (frame_of view) ≡ heard (book_of outside self.old) (frame_of view) }
+        ensures { (setup : Setup) (outside : Outside) → IsJudged setup (book_of outside self.old) (frame_of view.entry) (book_of outside self.new) result }
+    {
+        match fault {
+            Fault::Discarded => {
+                self.hear(view.id);
+                Judged::Failed(Fault::Discarded)
+            }
+            _ => Judged::Failed(fault),
+        }
+    }
+
+    /// Takes a RST_STREAM (RFC 9113, section 6.4).
+    fn take_reset<'a>(&mut self, view: View<'a>) -> Judged<'a>
+        requires kind { frame_of view ≡ reset view.flags view.id view.payload.now }
+        requires of_stream { (view.id == 0) ≡ false }
+        requires sound { (outside : Outside) → first_of (frame_rows_in (told_of outside self.old) (frame_of view)) ≡ None }
+        ensures { (setup : Setup) (outside : Outside) → IsJudged setup (book_of outside self.old) (frame_of view.entry) (book_of outside self.new) result }
+    {
+        if let Some(fault) = fault_of(self.streams.verdict(view.id, Kind::RstStream)) {
+            return self.pass_over(view, fault);
+        }
+        self.streams.close(view.id, false);
+        self.hear(view.id);
+        Judged::Reset
+    }
+
+    /// Takes an increment of a stream's window (RFC 9113, section 6.9).
+    fn take_stream_update<'a>(&mut self, view: View<'a>, increment: u32) -> Judged<'a>
+        requires kind { frame_of view ≡ update view.flags view.id view.payload.now }
+        requires counted { increment ≡ increment_of (frame_of view) }
+        requires of_stream { (view.id == 0) ≡ false }
+        requires sound { (outside : Outside) → first_of (frame_rows_in (told_of outside self.old) (frame_of view)) ≡ None }
+        ensures { (setup : Setup) (outside : Outside) → IsJudged setup (book_of outside self.old) (frame_of view.entry) (book_of outside self.new) result }
+    {
+        if let Some(fault) = fault_of(self.streams.verdict(view.id, Kind::WindowUpdate)) {
+            return self.pass_over(view, fault);
+        }
+        if let Some(code) = update_code(&self.streams, &self.settings, view.id, increment) {
+            self.streams.close(view.id, true);
+            self.hear(view.id);
+            return Judged::Failed(Fault::Stream(code));
+        }
+        self.streams.grant(view.id, increment);
+        self.hear(view.id);
+        Judged::Granted
+    }
+
+    /// Takes a frame that is right by itself.
+    fn take<'a>(&mut self, view: View<'a>, frame: Frame<'a>) -> Judged<'a>
+        requires of_no_message { IsOfNoMessage (frame_of view) }
+        requires says { Says frame (frame_of view) }
+        requires sound { (outside : Outside) → first_of (frame_rows_in (told_of outside self.old) (frame_of view)) ≡ None }
+        ensures { (setup : Setup) (outside : Outside) → IsJudged setup (book_of outside self.old) (frame_of view.entry) (book_of outside self.new) result }
+    {
+        match frame {
+            Frame::Settings(entries) => self.take_settings_or_ack(view, entries),
+            Frame::Ping(octets) => self.take_ping(view, octets),
+            Frame::WindowUpdate(increment) if view.id == 0 => self.take_update(view, increment),
+            Frame::WindowUpdate(increment) => self.take_stream_update(view, increment),
+            Frame::RstStream(_) => self.take_reset(view),
+            Frame::Other => self.take_other(view),
+            Frame::Data(_) | Frame::Headers(_) | Frame::Continuation(_) => unreachable!(),
+        }
+    }
+
+    /// Judges a frame that has no part of a message: any but DATA, HEADERS and CONTINUATION; and does what it says. Where it isn't as it should be, its
+    /// fault is the first row of the error table that applies (RFC 9113, section 5.4). An error of the connection changes nothing; behind one of a
+    /// stream that stream is reset.
+    pub fn judge<'a>(&mut self, view: View<'a>) -> Judged<'a>
+        requires of_no_message { IsOfNoMessage (frame_of view) }
+        requires short { length view.payload.now ≤ 16384 }
+        ensures { (setup : Setup) (outside : Outside) → IsJudged setup (book_of outside self.old) (frame_of view.entry) (book_of outside self.new) result }
+    {
+        match self.parts(view) {
+            Ok(frame) => self.take(view, frame),
+            Err(code) => Judged::Failed(Fault::Connection(code)),
+        }
+    }
+}
+
+/// The code of the error of an active stream that an increment of its window is, if it is one (RFC 9113, sections 6.9 and 6.9.1): one of 0, or past
+/// the greatest size.
+fn update_code(streams: &Streams, settings: &Settings, id: u32, increment: u32) -> Option<u32>
+    requires { is_active streams.now id ≡ true }
+    ensures is { option_map StreamFault result ≡ first_of (fault_if (increment == 0) (StreamFault 1) ∷ fault_if (is_past (window_in settings.now (find streams.now id) +ℤ pos increment)) (StreamFault 3) ∷ []) }
+    ensures fits { IfNone result (IsSize ((find streams.now id).balance +ℤ pos increment)) }
+{
+    if increment == 0 {
+        return Some(PROTOCOL_ERROR);
+    }
+    let Some(live) = streams.find(id) else {
+        unreachable!();
+    };
+    let window = i64::from(settings.initial_window()) + live.balance();
+    if window + i64::from(increment) > GREATEST {
+        return Some(FLOW_CONTROL_ERROR);
+    }
+    None
+}

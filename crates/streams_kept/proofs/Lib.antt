@@ -1,0 +1,5 @@
+pub mod Lists
+pub mod Searches
+pub mod Asked
+pub mod Changes
+pub mod Openings

@@ -1,0 +1,104 @@
+-- How the rows lie: an entry for each stream in the order of their ids, and for each active one a record at a key.
+use Rattle.std.specs.Prelude.{◌≡◌, ℕ, ◌+◌, ◌<◌, ◌≤◌, Bool, true, false, List, map, reverse, length, slice_index_or, Option, Some, None}
+use Rattle.std.specs.List.{count_by}
+use Rattle.model.specs.StreamStates.{most_streams}
+use Rattle.model.specs.WindowsOnTape.{is_past}
+use Rattle.conduct.specs.Judging.{window_in}
+use Rattle.conduct.specs.Rows as rows
+use Rattle.conduct.specs.Rows.{Row}
+use Rattle.conduct.specs.Tidy.{AreKept}
+use Rattle.streams_kept.specs.declared.entries.Entry.{Entry}
+use Rattle.streams_kept.specs.declared.entries.Slot.{Slot}
+use Rattle.streams_kept.specs.declared.entries.Slot.TheVariants as slot
+use Rattle.streams_kept.specs.declared.records.Record.{Record}
+
+-- the record at a key, if there is one
+abbrev pub record_at : List (Option Record) → ℕ → Option Record
+record_at records key = slice_index_or records key None
+
+-- the sending window of a record's stream is past the greatest with this first size
+abbrev pub is_shifted_past : ℕ → Option Record → Bool
+is_shifted_past first None = false
+is_shifted_past first (Some r) = is_past (window_in first r.live)
+
+-- the slot of a stream with this record
+abbrev pub slot_with : Option Record → rows.Slot
+slot_with None = rows.Slot.Over false
+slot_with (Some r) = rows.Slot.Live r.live
+
+-- the slot of a stream
+abbrev pub slot_in : List (Option Record) → Slot → rows.Slot
+slot_in records (slot.Live key) = slot_with (record_at records key)
+slot_in records (slot.Over by_us) = rows.Slot.Over by_us
+
+-- the row of a stream
+abbrev pub row_in : List (Option Record) → Entry → Row
+row_in records entry = record { id = entry.id; slot = slot_in records entry.slot }
+
+-- the rows of all, the newest first
+abbrev pub rows_in : List Entry → List (Option Record) → List Row
+rows_in entries records = reverse (map (row_in records) entries)
+
+-- an entry for a place where there is none
+abbrev pub absent : Entry
+absent = record { id = 0; slot = slot.Over false }
+
+-- the entry at a place
+abbrev pub at : List Entry → ℕ → Entry
+at entries place = slice_index_or entries place absent
+
+-- the id at a place
+abbrev pub id_at : List Entry → ℕ → ℕ
+id_at entries place = (at entries place).id
+
+-- The ids rise.
+abbrev pub IsRising : List Entry → Type 0
+IsRising entries = (i j : ℕ) → i < j → j < length entries → id_at entries i < id_at entries j
+
+-- The entry at this place has the id.
+pub record IsAt (entries : List Entry) (id place : ℕ) : Type 0 where
+  pub within : place < length entries
+  pub has_id : id_at entries place ≡ id
+
+-- No entry has the id: it would stand at this place, with lower ones before it and higher ones from it on.
+pub record IsGap (entries : List Entry) (id place : ℕ) : Type 0 where
+  pub within : place ≤ length entries
+  pub lower_before : (i : ℕ) → i < place → id_at entries i < id
+  pub higher_after : (i : ℕ) → place ≤ i → i < length entries → id < id_at entries i
+
+-- The record of an active stream is its own.
+abbrev pub IsHeld : List (Option Record) → ℕ → Slot → Type 0
+IsHeld records id (slot.Live key) = (r : Record) × (record_at records key ≡ Some r) × (r.id ≡ id)
+IsHeld records id (slot.Over by_us) = Unit {0}
+
+-- There is a place for a record at this key: it is vacant, and each record is where it was.
+pub record IsPlaceMade (old new : List (Option Record)) (key : ℕ) : Type 0 where
+  pub within : key < length new
+  pub vacant : record_at old key ≡ None
+  pub same : (other : ℕ) → record_at new other ≡ record_at old other
+  pub short : length new ≤ length old + 1
+
+-- the entry is of an active stream
+abbrev pub is_live : Slot → Bool
+is_live (slot.Live key) = true
+is_live (slot.Over by_us) = false
+
+-- how many are
+abbrev pub count_live : List Entry → ℕ
+count_live entries = count_by (λ (entry : Entry). is_live entry.slot) entries
+
+-- The key is that of this stream's entry.
+pub record IsOwner (entries : List Entry) (key id place : ℕ) : Type 0 where
+  pub within : place < length entries
+  pub has_key : (at entries place).slot ≡ slot.Live key
+  pub has_id : id_at entries place ≡ id
+
+-- What holds of entries, of records, and of the number that is kept of active streams.
+pub record AreHeld (entries : List Entry) (records : List (Option Record)) (active : ℕ) : Type 0 where
+  pub rising : IsRising entries
+  pub few : length entries ≤ most_streams
+  pub kept : AreKept (rows_in entries records)
+  pub held : (place : ℕ) → place < length entries → IsHeld records (id_at entries place) (at entries place).slot
+  pub owned : (key : ℕ) (r : Record) → record_at records key ≡ Some r → (place : ℕ) × IsOwner entries key r.id place
+  pub short : length records ≤ length entries
+  pub counted : active ≡ count_live entries

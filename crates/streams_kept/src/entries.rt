@@ -1,0 +1,39 @@
+//! Entries of streams, found by their ids.
+
+ghost use Rattle.std.specs.Prelude.{◌≡◌, ◌-◌, length, IfOk, IfErr};
+ghost use Rattle.streams_kept.specs.Records.{id_at, IsRising, IsAt, IsGap};
+
+/// Where what is kept of a stream lies, or all of it.
+#[derive(Clone, Copy, Debug, PartialEq, Eq)]
+pub enum Slot {
+    /// It is active: its record is at this key.
+    Live(u32),
+    /// It is over: whether the gateway reset it.
+    Over(bool),
+}
+
+/// A stream that was opened.
+#[derive(Clone, Copy, Debug, PartialEq, Eq)]
+pub struct Entry {
+    pub id: u32,
+    pub slot: Slot,
+}
+
+/// The place of the entry with this id, or the place at which it would stand.
+pub fn place_of(entries: &[Entry], id: u32) -> Result<usize, usize>
+    requires { IsRising entries.now }
+    ensures found { IfOk result (IsAt entries.now id) }
+    ensures absent { IfErr result (IsGap entries.now id) }
+{
+    entries.binary_search_by_key(&id, |entry| entry.id)
+}
+
+/// The id of the last entry, or 0 where there is none.
+pub fn last_id(entries: &[Entry]) -> u32
+    ensures { result ≡ id_at entries.now (length entries.now - 1) }
+{
+    let [.., last] = entries else {
+        return 0;
+    };
+    last.id
+}

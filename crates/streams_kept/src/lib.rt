@@ -1,0 +1,199 @@
+//! The streams of a connection, and what is kept of each (RFC 9113, section 5.1): of an active stream all that conduct keeps, of one
+//! that is over only whether the gateway reset it.
+//!
+//! A clause sees the rows of conduct's book, the newest first. A stream is found by halves among all that were opened.
+#![tactic(auto)]
+
+ghost use Rattle.std.specs.Prelude.{◌≡◌, ◌==◌, ◌<◌, ◌≤◌, true, false, [], ◌∷◌, length, pos, ◌+ℤ◌, IfSome, IfNone, OnOk, OnErr};
+ghost use Rattle.model.specs.StreamStates.{most_streams};
+ghost use Rattle.model.specs.Windows.{greatest_window, IsSize};
+ghost use Rattle.conduct.specs.Owing.{highest_in};
+ghost use Rattle.conduct.specs.Rows.{find as kept_of, ids_of};
+ghost use Rattle.conduct.specs.Rows.Slot.{Live as Active, Over as Done};
+ghost use Rattle.conduct.specs.Tidy.{AreKept, IsTidy, is_above_all};
+ghost use Rattle.stream_state.specs.Views.{kind_in, standing_in, verdict_in};
+
+mod cause;
+mod entries;
+mod live;
+mod records;
+#[cfg(test)]
+mod tests;
+
+pub use crate::cause::Cause;
+use crate::entries::{Entry, Slot, last_id, place_of};
+pub use crate::live::{Course, Live};
+use crate::records::{Record, grant_at, live_at, make_place, shifts_past, state_of};
+use std::alloc::{AllocError, Global};
+use std::marker::Model;
+use stream_state::{Kind, Standing, Verdict, unopened_standing, verdict_at};
+
+/// How many streams are opened on a connection (this project's profile).
+const MOST_STREAMS: usize = 10000;
+
+/// The streams of a connection, seen as the rows of conduct's book, the newest first.
+#[derive(Debug, Drop)]
+pub struct Streams {
+    entries: Vec<Entry>,
+    records: Vec<Option<Record>>,
+    active: u32,
+}
+
+impl Model for Streams {
+    ghost use Rattle.std.specs.Prelude.{List};
+    ghost use Rattle.conduct.specs.Rows.{Row};
+
+    ghost Value = { List Row };
+
+    ghost use Rattle.streams_kept.specs.Records.{rows_in, AreHeld};
+
+    ghost view = { λ streams. rows_in streams.entries.items streams.records.items };
+
+    ghost invariant = { λ streams. AreHeld streams.entries.items streams.records.items streams.active };
+}
+
+impl Streams {
+    ghost use Rattle.streams_kept.specs.Asked.{standing, verdict, AllowsOpening, MayOpen, active_in, is_active, shifts_past, changed, IsLive};
+    ghost use Rattle.streams_kept.specs.Steps.{granted};
+
+    /// A connection on which no stream was opened.
+    pub fn new(alloc: Global) -> Self
+        ensures { result ≡ [] }
+    {
+        Streams {
+            entries: Vec::new(alloc),
+            records: Vec::new(alloc),
+            active: 0,
+        }
+    }
+
+    /// The active stream with this id, if there is one (RFC 9113, section 5.1).
+    pub fn find(&self, id: u32) -> Option<&Live>
+        ensures live { IfSome result (λ live. IsLive self.now id live.now) }
+        ensures none { IfNone result (is_active self.now id ≡ false) }
+        ensures kept { AreKept self.now }
+    {
+        let Ok(place) = place_of(&self.entries, id) else {
+            return None;
+        };
+        match self.entries[place].slot {
+            Slot::Live(key) => live_at(&self.records, key as usize, id),
+            Slot::Over(_) => None,
+        }
+    }
+
+    /// Grants octets to the sending window of an active stream (RFC 9113, section 6.9.1); no other changes. The window has room for them.
+    pub fn grant(&mut self, id: u32, increment: u32)
+        requires live { is_active self.old id ≡ true }
+        requires fits { IsSize ((kept_of self.old id).balance +ℤ pos increment) }
+        ensures is { self.new ≡ changed id (Active (granted increment (kept_of self.old id))) self.old }
+        ensures kept { AreKept self.new }
+    {
+        let Ok(place) = place_of(&self.entries, id) else {
+            return;
+        };
+        if let Slot::Live(key) = self.entries[place].slot {
+            grant_at(&mut self.records, key as usize, increment);
+        }
+    }
+
+    /// How an id stands to the streams that were opened (RFC 9113, sections 5.1 and 5.1.1); an id above that of the 10,000th is beyond
+    /// the last that a GOAWAY with NO_ERROR named (RFC 9113, section 6.8).
+    pub fn standing(&self, id: u32) -> Standing
+        ensures { standing_in result ≡ standing self.now id }
+    {
+        if id == 0 {
+            return Standing::WholeConnection;
+        }
+        match place_of(&self.entries, id) {
+            Ok(place) => Standing::Opened(state_of(&self.records, self.entries[place])),
+            Err(place) => {
+                let count = self.entries.len();
+                unopened_standing(id, place == count, count == MOST_STREAMS)
+            }
+        }
+    }
+
+    /// What comes of a frame on this id by the state of its stream (RFC 9113, sections 5.1, 5.1.1 and 5.1.2). Where the answer is `Open`, or
+    /// REFUSED_STREAM for want of room, `open` may be called with the id.
+    pub fn verdict(&self, id: u32, kind: Kind) -> Verdict
+        ensures is { verdict_in result ≡ verdict self.now id (kind_in kind) }
+        ensures allows { AllowsOpening result self.now id }
+        ensures kept { AreKept self.now }
+    {
+        let standing = self.standing(id);
+        verdict_at(self.active, standing, kind)
+    }
+
+    /// How many streams are active (RFC 9113, section 5.1.2).
+    pub fn active(&self) -> u32
+        ensures is { result ≡ length (active_in self.now) }
+        ensures kept { AreKept self.now }
+    {
+        let Streams { active, .. } = self;
+        *active
+    }
+
+    /// How many streams were opened, whatever became of them (RFC 9113, section 5.1); at most 10,000.
+    pub fn count(&self) -> u32
+        ensures is { result ≡ length self.now }
+        ensures few { result ≤ most_streams }
+    {
+        self.entries.len() as u32
+    }
+
+    /// The highest id of a stream that was opened, or 0 where none was: it is what a GOAWAY names (RFC 9113, section 6.8).
+    pub fn highest(&self) -> u32
+        ensures { result ≡ highest_in (ids_of self.now) }
+    {
+        last_id(&self.entries)
+    }
+
+    /// Whether a first size of windows makes the sending window of an active stream too large (RFC 9113, section 6.9.2): a walk over the
+    /// records of active streams.
+    pub fn shifts_past(&self, first: u32) -> bool
+        requires { first ≤ greatest_window }
+        ensures { result ≡ shifts_past first self.now }
+    {
+        shifts_past(&self.records, first)
+    }
+
+    /// Forgets all of an active stream but whether the gateway reset it (RFC 9113, section 5.1); no other changes.
+    pub fn close(&mut self, id: u32, by_us: bool)
+        requires { is_active self.old id ≡ true }
+        ensures is { self.new ≡ changed id (Done by_us) self.old }
+        ensures kept { AreKept self.new }
+    {
+        let Ok(place) = place_of(&self.entries, id) else {
+            return;
+        };
+        let Slot::Live(key) = self.entries[place].slot else {
+            return;
+        };
+        self.entries[place] = Entry {
+            id,
+            slot: Slot::Over(by_us),
+        };
+        self.records[key as usize] = None;
+        self.active -= 1;
+    }
+
+    /// Opens a stream, above all that were opened (RFC 9113, sections 5.1 and 5.1.1). An `Err` says that memory was refused; it changes nothing.
+    pub fn open(&mut self, id: u32, live: Live) -> Result<(), AllocError>
+        requires may { MayOpen self.old id }
+        requires tidy { IsTidy (Active live) }
+        ensures ok { OnOk result (self.new ≡ record { id = id; slot = Active live } ∷ self.old) }
+        ensures err { OnErr result (self.new ≡ self.old) }
+        ensures kept { AreKept self.new }
+    {
+        self.entries.reserve(1)?;
+        let key = make_place(&mut self.records)?;
+        let slot = Slot::Live(key as u32);
+        let Ok(()) = self.entries.push(Entry { id, slot }) else {
+            unreachable!();
+        };
+        self.records[key] = Some(Record { id, live });
+        self.active += 1;
+        Ok(())
+    }
+}

@@ -26,6 +26,8 @@ pub mod RunsLimits
 mod WrongRules
 pub mod RunsStreaming
 pub mod RunsTurns
+pub mod RunsTurnsBlocks
+pub mod RunsTurnsAllowed
 pub mod RunsBothWays
 pub mod RunsHeard
 pub mod RunsPartsHeard

@@ -1,16 +1,14 @@
 -- A worked run, move by move: the state behind a move is computed from the one before it alone, so that each move is shown to be
 -- one that may come by the states before it and behind it, whatever run led there.
-use Rattle.std.proofs.Common.{◌≡◌, false, if◌then◌else◌, List, ◌∷◌, sym, ◌∙◌, ap, subst}
+use Rattle.std.proofs.Common.{◌≡◌, false, List, ◌∷◌, sym, ◌∙◌, ap, subst}
 use Rattle.model.specs.Setup.{Setup}
 use Rattle.conduct.specs.Summary.{Summary}
-use Rattle.conduct.specs.Rule as conduct
-use Rattle.conduct.specs.Book.{desk_of, summary_in}
 use Rattle.policy.specs.Moves.{Deed, Move}
 use Rattle.policy.specs.Moves.Move.{Does, Settles}
-use Rattle.policy.specs.State.{State, conducts, summary_at, state_of}
+use Rattle.policy.specs.State.{State, state_of}
 use Rattle.policy.specs.Rule.{Rests, MayDo, RestsBehind}
 use Rattle.policy.specs.Steps.{after, told_by, told_behind, next, Stands}
-use Rattle.policy.proofs.Stepping.{done, settled}
+use Rattle.policy.proofs.Stepping.{before_is, done, settled}
 
 module _ (setup : Setup) (run : List Move) (x : State) (stands : Stands setup run x) where
   -- a deed that may come there leads on, to a state that is given
@@ -28,9 +26,4 @@ module _ (setup : Setup) (run : List Move) (x : State) (stands : Stands setup ru
 
   -- it rests behind the run where it rests by what is kept
   pub rests : Rests (told_by x) x → RestsBehind setup run
-  rests r = subst (λ s. Rests s (state_of setup run)) (sym before) (subst (λ z. Rests (told_by x) z) (sym stands.is) r)
-    where
-      before : summary_at setup run ≡ told_by x
-      before =
-          ap (λ b. if b then (conduct.point_of setup (conducts run)).summary else summary_in (desk_of setup (conducts run)).book) (ap (λ (z : State). z.desk.book.ends) stands.is ∙ stands.goes_on)
-          ∙ ap told_by stands.is
+  rests r = subst (λ s. Rests s (state_of setup run)) (sym (before_is setup run x stands)) (subst (λ z. Rests (told_by x) z) (sym stands.is) r)

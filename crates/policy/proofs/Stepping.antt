@@ -37,7 +37,7 @@ told_on : (setup : Setup) (run : List Move) → (desk_of setup (conducts run)).b
 told_on setup run on = ap (λ b. if b then (point_of setup (conducts run)).summary else summary_in (desk_of setup (conducts run)).book) on
 
 module _ (setup : Setup) (run : List Move) (s : State) (stands : Stands setup run s) where
-  before_is : summary_at setup run ≡ told_by s
+  pub before_is : summary_at setup run ≡ told_by s
   before_is = told_on setup run (ap (λ (x : State). x.desk.book.ends) stands.is ∙ stands.goes_on) ∙ ap told_by stands.is
 
   module _ (d : Deed) (on : (desk_after setup s.desk (conduct_of d)).book.ends ≡ false) where

@@ -10,8 +10,7 @@ const BEGUN: Course = Course {
     declared: None,
     octets: 0,
     over: false,
-    cause: None,
-    head_out: false,
+    reply: None,
 };
 
 /// Opens a stream where its HEADERS may, and says whether they do.
@@ -106,6 +105,98 @@ fn grant_if_fitting(streams: &mut Streams, id: u32, increment: u32) -> bool {
     }
     streams.grant(id, increment);
     true
+}
+
+/// The course behind octets of the body where they keep within 100,000, else as it was.
+fn with_content(course: Course, count: u32) -> Course {
+    if course.is_past(100000, count) {
+        return course;
+    }
+    course.with_content(count, false)
+}
+
+#[test]
+fn bodies_keep_to_their_lengths(rt: HostRuntime) -> Result<(), Fail> {
+    let head = Course::new().with_block(Some(5), false);
+    assert_eq!(rt; head.declared, Some(5));
+    assert!(rt; !head.is_malformed_with(5, false));
+    assert!(rt; head.is_malformed_with(6, false));
+    assert!(rt; !head.is_malformed_with(5, true));
+    assert!(rt; head.is_malformed_with(4, true));
+    let course = with_content(head, 3);
+    assert_eq!(rt; course.octets, 3);
+    assert!(rt; !course.is_malformed_with(2, true));
+    assert!(rt; !course.is_past(5, 2));
+    assert!(rt; course.is_past(5, 3));
+    assert!(rt; !BEGUN.is_malformed_with(16384, true));
+    let ended = course.with_block(None, true);
+    assert_eq!(rt;
+        ended,
+        Course {
+            over: true,
+            ..course
+        }
+    );
+    assert_eq!(rt; with_content(ended, 2), ended);
+    Ok(())
+}
+
+#[test]
+fn the_first_reply_stays(rt: HostRuntime) -> Result<(), Fail> {
+    let course = BEGUN.with_content(7, false).replied(Cause::LargeBody, true);
+    let reply = Reply {
+        cause: Cause::LargeBody,
+        head_out: true,
+    };
+    assert_eq!(rt; course.octets, 7);
+    assert!(rt; course.over);
+    assert_eq!(rt; course.reply, Some(reply));
+    assert_eq!(rt; course.replied(Cause::BadAnswer, false), course);
+    let declared = Course::new().with_block(Some(1), false);
+    assert!(rt;
+        !declared
+            .replied(Cause::NoRoute, false)
+            .is_malformed_with(9, true)
+    );
+    Ok(())
+}
+
+/// Takes DATA of so many octets, all content, where the stream is active and has room, and says whether it does.
+fn take_if_fitting(streams: &mut Streams, id: u32, count: u32, ended: bool) -> bool {
+    let Some(live) = streams.find(id) else {
+        return false;
+    };
+    let course = live.course();
+    if live.room() < i64::from(count) || course.is_past(100000, count) {
+        return false;
+    }
+    streams.take(id, count, course.with_content(count, ended), ended);
+    true
+}
+
+#[test]
+fn octets_are_taken(rt: HostRuntime) -> Result<(), Fail> {
+    let mut streams = Streams::new(rt.alloc());
+    assert!(rt; open_if_idle(&mut streams, 5, false)?);
+    assert!(rt; open_if_idle(&mut streams, 9, false)?);
+    assert!(rt; take_if_fitting(&mut streams, 5, 65535, false));
+    assert!(rt; !take_if_fitting(&mut streams, 5, 1, false));
+    assert!(rt; take_if_fitting(&mut streams, 5, 0, true));
+    assert!(rt; take_if_fitting(&mut streams, 9, 16384, false));
+    assert_eq!(rt;
+        streams.standing(5),
+        Standing::Opened(State::HalfClosedRemote)
+    );
+    match streams.find(9) {
+        Some(live) => {
+            assert_eq!(rt; live.room(), 49151);
+            assert_eq!(rt; live.course(), BEGUN.with_content(16384, false));
+            assert_eq!(rt; live.state(), State::Open);
+            assert!(rt; !live.head_out());
+        }
+        None => assert!(rt; false),
+    }
+    Ok(())
 }
 
 #[test]

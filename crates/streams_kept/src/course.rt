@@ -2,12 +2,12 @@
 
 ghost use Rattle.std.specs.Prelude.{◌≡◌, ◌+◌, ◌≤◌, true, false, nat_lt, None, Some, List, Bool, [], ◌∷◌, ℕ, length};
 ghost use Rattle.model.specs.Messages.{Field, Item, ends_with};
-ghost use Rattle.model.specs.Messages.Item.{Block, Content};
+ghost use Rattle.model.specs.Messages.Item.{Block};
 ghost use Rattle.model.specs.Http2.{body_of, declared_length};
 ghost use Rattle.model.specs.Malformed.{declared as declared_by};
 ghost use Rattle.conduct.specs.Rows.{fresh};
 ghost use Rattle.conduct.specs.Owing.{brief_behind};
-ghost use Rattle.streams_kept.specs.Courses.{is_malformed_with};
+ghost use Rattle.streams_kept.specs.Courses.{is_malformed_with, brief_with};
 ghost use Rattle.streams_kept.specs.Views.{cause_of, brief_of};
 
 use crate::cause::Cause;
@@ -62,19 +62,23 @@ impl Course {
         }
     }
 
+    /// The course behind so many octets of the body, which end the request or don't. Where the body is longer with them than `max_body`
+    /// octets, the gateway replies itself (RFC 9110, section 15.5.14), with the final head of a response out or not.
+    pub fn with_content(self, count: u32, ends: bool, max_body: u64, head_out: bool) -> Course
+        requires bounded { max_body ≤ 1073741824 }
+        ensures { (octets : List ℕ) → length octets ≡ count → brief_of result ≡ brief_with octets ends max_body head_out (brief_of self) }
+    {
+        if self.is_past(max_body, count) {
+            return self.replied(Cause::LargeBody, head_out);
+        }
+        self.behind(None, count, ends)
+    }
+
     /// Whether so many octets more make the body longer than this.
-    pub fn is_past(&self, most: u64, count: u32) -> bool
+    fn is_past(&self, most: u64, count: u32) -> bool
         ensures { result ≡ nat_lt most ((brief_of self.now).octets + count) }
     {
         most < u64::from(self.octets) + u64::from(count)
-    }
-
-    /// The course behind so many octets of the body, which end the request or don't, and to which the gateway needn't reply itself.
-    pub fn with_content(self, count: u32, ends: bool) -> Course
-        requires fits { self.octets + count ≤ 4294967295 }
-        ensures { (octets : List ℕ) (out : Bool) → length octets ≡ count → brief_of result ≡ brief_behind (brief_of self) false (Content octets ends ∷ []) None out }
-    {
-        self.behind(None, count, ends)
     }
 
     /// The course behind a header block, which ends the request or doesn't, and to which the gateway needn't reply itself: the head, with

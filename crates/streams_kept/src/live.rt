@@ -70,6 +70,17 @@ impl Live {
         self.room.left()
     }
 
+    /// Whether its client has ended it (RFC 9113, section 5.1).
+    pub fn ended_by_client(&self) -> bool
+        ensures { result ≡ self.now.ended_by_client }
+    {
+        let Live {
+            ended_by_client,
+            ..
+        } = self;
+        *ended_by_client
+    }
+
     /// Whether the final head of a response was sent on it (RFC 9113, section 8.1).
     pub fn head_out(&self) -> bool
         ensures { result ≡ self.now.head_out }

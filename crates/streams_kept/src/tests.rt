@@ -107,14 +107,6 @@ fn grant_if_fitting(streams: &mut Streams, id: u32, increment: u32) -> bool {
     true
 }
 
-/// The course behind octets of the body where they keep within 100,000, else as it was.
-fn with_content(course: Course, count: u32) -> Course {
-    if course.is_past(100000, count) {
-        return course;
-    }
-    course.with_content(count, false)
-}
-
 #[test]
 fn bodies_keep_to_their_lengths(rt: HostRuntime) -> Result<(), Fail> {
     let head = Course::new().with_block(Some(5), false);
@@ -123,12 +115,11 @@ fn bodies_keep_to_their_lengths(rt: HostRuntime) -> Result<(), Fail> {
     assert!(rt; head.is_malformed_with(6, false));
     assert!(rt; !head.is_malformed_with(5, true));
     assert!(rt; head.is_malformed_with(4, true));
-    let course = with_content(head, 3);
-    assert_eq!(rt; course.octets, 3);
-    assert!(rt; !course.is_malformed_with(2, true));
-    assert!(rt; !course.is_past(5, 2));
-    assert!(rt; course.is_past(5, 3));
     assert!(rt; !BEGUN.is_malformed_with(16384, true));
+    let course = head.with_content(3, false, 5, false);
+    assert_eq!(rt; course, Course { octets: 3, ..head });
+    assert!(rt; !course.is_malformed_with(2, true));
+    assert!(rt; course.is_malformed_with(3, true));
     let ended = course.with_block(None, true);
     assert_eq!(rt;
         ended,
@@ -137,27 +128,38 @@ fn bodies_keep_to_their_lengths(rt: HostRuntime) -> Result<(), Fail> {
             ..course
         }
     );
-    assert_eq!(rt; with_content(ended, 2), ended);
+    assert_eq!(rt; ended.with_content(2, false, 5, false), ended);
     Ok(())
 }
 
 #[test]
-fn the_first_reply_stays(rt: HostRuntime) -> Result<(), Fail> {
-    let course = BEGUN.with_content(7, false).replied(Cause::LargeBody, true);
+fn bodies_end_at_the_most(rt: HostRuntime) -> Result<(), Fail> {
+    let course = BEGUN.with_content(3, false, 10, true);
+    let whole = course.with_content(7, true, 10, true);
+    assert_eq!(rt;
+        whole,
+        Course {
+            octets: 10,
+            over: true,
+            ..BEGUN
+        }
+    );
     let reply = Reply {
         cause: Cause::LargeBody,
         head_out: true,
     };
-    assert_eq!(rt; course.octets, 7);
-    assert!(rt; course.over);
-    assert_eq!(rt; course.reply, Some(reply));
-    assert_eq!(rt; course.replied(Cause::BadAnswer, false), course);
-    let declared = Course::new().with_block(Some(1), false);
-    assert!(rt;
-        !declared
-            .replied(Cause::NoRoute, false)
-            .is_malformed_with(9, true)
+    let past = course.with_content(8, true, 10, true);
+    assert_eq!(rt;
+        past,
+        Course {
+            over: true,
+            reply: Some(reply),
+            ..course
+        }
     );
+    assert!(rt; !past.is_malformed_with(9, true));
+    assert_eq!(rt; past.with_content(8, true, 10, false), past);
+    assert_eq!(rt; past.replied(Cause::BadAnswer, false), past);
     Ok(())
 }
 
@@ -166,11 +168,13 @@ fn take_if_fitting(streams: &mut Streams, id: u32, count: u32, ended: bool) -> b
     let Some(live) = streams.find(id) else {
         return false;
     };
-    let course = live.course();
-    if live.room() < i64::from(count) || course.is_past(100000, count) {
+    if live.room() < i64::from(count) {
         return false;
     }
-    streams.take(id, count, course.with_content(count, ended), ended);
+    let course = live
+        .course()
+        .with_content(count, ended, 100000, live.head_out());
+    streams.take(id, count, course, ended);
     true
 }
 
@@ -190,9 +194,13 @@ fn octets_are_taken(rt: HostRuntime) -> Result<(), Fail> {
     match streams.find(9) {
         Some(live) => {
             assert_eq!(rt; live.room(), 49151);
-            assert_eq!(rt; live.course(), BEGUN.with_content(16384, false));
+            assert_eq!(rt;
+                live.course(),
+                BEGUN.with_content(16384, false, 16384, false)
+            );
             assert_eq!(rt; live.state(), State::Open);
             assert!(rt; !live.head_out());
+            assert!(rt; !live.ended_by_client());
         }
         None => assert!(rt; false),
     }

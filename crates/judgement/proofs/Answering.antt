@@ -16,7 +16,8 @@ use Rattle.model.specs.WindowsOnTape.{is_past, has_settings}
 use Rattle.conduct.specs.Judging.{frame_rows_in}
 use Rattle.judgement.specs.Inbound.{Inbound, Outside, book_of, told_of}
 use Rattle.judgement.specs.declared.answers.Fault.{Fault as Told}
-use Rattle.judgement.specs.Judgement.{IsPlain, IsRefused, fault_told, update, reset, data_frame, is_ignored}
+use Rattle.judgement.specs.Admission.{IsRefused}
+use Rattle.judgement.specs.Judgement.{IsPlain, fault_told, update, reset, data_frame, is_ignored}
 use Rattle.judgement.proofs.DataFaults.{idle_refuses, inactive_refuses, data_idle, data_past, data_inactive}
 use Rattle.judgement.proofs.Rows.{is_right, none_begun}
 

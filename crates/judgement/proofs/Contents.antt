@@ -18,7 +18,8 @@ use Rattle.streams_kept.specs.Asked.{changed}
 use Rattle.streams_kept.specs.Courses.{is_malformed_with, brief_with}
 use Rattle.streams_kept.specs.Steps.{taken}
 use Rattle.judgement.specs.Inbound.{Inbound, Outside, book_of, told_of}
-use Rattle.judgement.specs.Judgement.{IsAdmitted, data_frame, behind, cause_before, cause_behind}
+use Rattle.judgement.specs.Admission.{IsAdmitted}
+use Rattle.judgement.specs.Judgement.{data_frame, behind, cause_before, cause_behind}
 use Rattle.judgement.proofs.DataFaults.{active_known, data_active}
 use Rattle.judgement.proofs.DataBehind.{data_taken, data_course}
 use Rattle.judgement.proofs.Answering.{IsSound}

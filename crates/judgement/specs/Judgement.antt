@@ -1,19 +1,17 @@
 -- What an answer says of a frame of the client that has no fragment of a header block.
-use Rattle.std.specs.Prelude.{◌≡◌, ℕ, Bool, true, false, not, ◌&&◌, ◌||◌, ◌==◌, List, length, Option, Some, None, pos, int_lt}
+use Rattle.std.specs.Prelude.{◌≡◌, ℕ, Bool, true, false, not, ◌&&◌, ◌||◌, ◌==◌, List, Option, Some, None}
 use Rattle.model.specs.Frames.{Frame, data_kind, headers_kind, rst_stream_kind, ping_kind, window_update_kind, continuation_kind, is_ack, ends_stream, content}
 use Rattle.model.specs.Setup.{Setup}
 use Rattle.model.specs.SettingValues.{settings_in}
 use Rattle.model.specs.WindowsOnTape.{has_settings}
 use Rattle.model.specs.Errors as errors
-use Rattle.model.specs.ErrorClause.{rst_stream, is_fatal}
+use Rattle.model.specs.ErrorClause.{rst_stream}
 use Rattle.model.specs.Causes.{Cause}
 use Rattle.conduct.specs.Owing.{fault_in, next_brief}
 use Rattle.conduct.specs.Rows.{find}
 use Rattle.conduct.specs.Quiet.{coming, sending}
 use Rattle.conduct.specs.Book.{Book, summary_in, book_after}
-use Rattle.streams_kept.specs.Asked.{is_active}
 use Rattle.settings.specs.Views.{IsChange}
-use Rattle.judgement.specs.Inbound.{Inbound, Outside, told_of}
 use Rattle.judgement.specs.declared.answers.Fault.{Fault}
 use Rattle.judgement.specs.declared.answers.Fault.TheVariants as fault
 use Rattle.judgement.specs.declared.answers.Judged.{Judged}
@@ -75,7 +73,8 @@ cause_before book frame = (find book.rows frame.id).brief.cause
 abbrev pub cause_behind : Setup → Book → Frame → Option Cause
 cause_behind setup book frame = (next_brief setup false frame.id (summary_in book) (coming frame)).cause
 
--- What an answer says of the frame beside that it has no fault; each answer is one to other frames.
+-- What an answer says of the frame beside that it has no fault; each answer is one to other frames, or to DATA
+-- with another cause behind it.
 abbrev pub Says : Setup → Book → Frame → Book → Judged → Type 0
 Says setup old frame new (judged.Failed fault) = ⊥
 Says setup old frame new judged.Ignored = is_ignored frame ≡ true
@@ -99,19 +98,6 @@ pub record IsTaken (setup : Setup) (old : Book) (frame : Frame) (new : Book) (an
 pub record IsFailed (setup : Setup) (old : Book) (frame : Frame) (new : Book) (fault : errors.Fault) : Type 0 where
   pub is : fault_in (summary_in old) (coming frame) ≡ Some fault
   pub left : IsLeft setup old frame fault new
-
--- DATA has a fault, which isn't one of its stream; unless it is one of the connection, its stream isn't active, and the connection
--- has room for it.
-pub record IsRefused (inbound : Inbound) (frame : Frame) (fault : errors.Fault) : Type 0 where
-  pub is : (outside : Outside) → fault_in (told_of outside inbound) (coming frame) ≡ Some fault
-  pub mild : is_of_stream (Some fault) ≡ false
-  pub inactive : is_fatal (Some fault) ≡ false → is_active inbound.rows frame.id ≡ false
-  pub fits : is_fatal (Some fault) ≡ false → int_lt inbound.room (pos (length frame.payload)) ≡ false
-
--- DATA comes on an active stream, and the connection has room for it.
-pub record IsAdmitted (inbound : Inbound) (frame : Frame) : Type 0 where
-  pub active : is_active inbound.rows frame.id ≡ true
-  pub fits : int_lt inbound.room (pos (length frame.payload)) ≡ false
 
 -- The answer is right of the frame, and this is the book that it leaves.
 abbrev pub IsJudged : Setup → Book → Frame → Book → Judged → Type 0

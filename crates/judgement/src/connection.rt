@@ -28,7 +28,8 @@ ghost use Rattle.conduct.specs.Owing.{fault_in};
 ghost use Rattle.conduct.specs.Quiet.{IsQuiet, coming, heard};
 ghost use Rattle.model.specs.ErrorClause.{is_fatal};
 ghost use Rattle.conduct.specs.Tidy.{IsTidy, AreKept};
-ghost use Rattle.judgement.specs.Judgement.{IsPlain, IsJudged, IsRefused, IsAdmitted, fault_told, is_of_stream, behind, update, reset, data_frame};
+ghost use Rattle.judgement.specs.Admission.{IsRefused, IsAdmitted};
+ghost use Rattle.judgement.specs.Judgement.{IsPlain, IsJudged, fault_told, is_of_stream, behind, update, reset, data_frame};
 
 use crate::answers::{Fault, Judged};
 use crate::bodies::{body_code, is_past_room, is_replied_now};

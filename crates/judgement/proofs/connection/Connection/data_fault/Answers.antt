@@ -7,7 +7,8 @@ use Rattle.model.specs.ErrorTable.{fault_of as fault_by, is_idle}
 use Rattle.frames.specs.Views.{frame_of}
 use Rattle.streams_kept.specs.Asked.{standing, is_active}
 use Rattle.judgement.specs.Inbound.{Inbound}
-use Rattle.judgement.specs.Judgement.{data_frame, IsRefused, IsAdmitted}
+use Rattle.judgement.specs.Admission.{IsRefused, IsAdmitted}
+use Rattle.judgement.specs.Judgement.{data_frame}
 use Rattle.judgement.specs.contracts.connection.Connection.{the_view}
 use Rattle.judgement.proofs.DataFaults.{idle_refuses, inactive_refuses}
 use Rattle.judgement.proofs.Answering.{IsSound, moved, moved_back, told_some, told_not_none, refused_idle, refused_past, refused_inactive}

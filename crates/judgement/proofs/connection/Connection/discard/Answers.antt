@@ -5,7 +5,8 @@ use Rattle.model.specs.Errors.Fault.{Discarded}
 use Rattle.model.specs.ErrorClause.{is_fatal}
 use Rattle.frames.specs.Views.{frame_of}
 use Rattle.judgement.specs.Inbound.{Inbound, book_of}
-use Rattle.judgement.specs.Judgement.{IsPlain, IsRefused, IsFailed, data_frame, behind, fault_told}
+use Rattle.judgement.specs.Admission.{IsRefused}
+use Rattle.judgement.specs.Judgement.{IsPlain, IsFailed, data_frame, behind, fault_told}
 use Rattle.judgement.specs.declared.answers.Fault.{Fault}
 use Rattle.judgement.specs.contracts.connection.Connection.{the_view}
 use Rattle.judgement.proofs.DataBehind.{data_behind_none}

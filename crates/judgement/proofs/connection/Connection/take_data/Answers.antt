@@ -13,7 +13,8 @@ use Rattle.streams_kept.specs.Courses.{brief_with}
 use Rattle.streams_kept.specs.Steps.{taken}
 use Rattle.streams_kept.specs.Views.{brief_of}
 use Rattle.judgement.specs.Inbound.{Inbound, Outside, book_of, told_of}
-use Rattle.judgement.specs.Judgement.{IsPlain, IsAdmitted, IsTaken, data_frame, behind}
+use Rattle.judgement.specs.Admission.{IsAdmitted}
+use Rattle.judgement.specs.Judgement.{IsPlain, IsTaken, data_frame, behind}
 use Rattle.judgement.specs.declared.answers.Judged.TheVariants.{Content, LargeBody}
 use Rattle.judgement.proofs.Answering.{IsSound, no_block_of}
 use Rattle.judgement.proofs.Contents.{by_code, content_left, new_cause, no_new_cause}

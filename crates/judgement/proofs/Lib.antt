@@ -5,4 +5,6 @@ pub mod Standings
 pub mod Streams
 pub mod Resets
 pub mod Updates
-pub mod Bodies
+pub mod DataFaults
+pub mod DataBehind
+pub mod Contents

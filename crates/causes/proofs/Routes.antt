@@ -47,7 +47,7 @@ first_found routes authority path place e =
       found = slice_get-get_or routes place any facts.0;
       matches = matches_is authority path (get_or routes place any) facts.1;
       none_before = λ earlier before other found m.
-        let same = get_or_from_slice_get routes earlier other any found in
-        let clash : false ≡ true = sym (facts.2 earlier before) ∙ ap (is_match authority path) same ∙ is_matches authority path other m in
-        cc;
+          let same = get_or_from_slice_get routes earlier other any found in
+          let clash : false ≡ true = sym (facts.2 earlier before) ∙ ap (is_match authority path) same ∙ is_matches authority path other m in
+          cc;
     }

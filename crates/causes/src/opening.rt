@@ -20,10 +20,7 @@ pub enum Opening {
     /// It is malformed, an error of its stream (RFC 9113, section 8.1.1).
     Malformed,
     /// The gateway answers it itself: why, and the length in octets that it declares of its body, if it does (RFC 9113, section 8.1.1).
-    Answered {
-        cause: Cause,
-        declared: Option<u64>,
-    },
+    Answered { cause: Cause, declared: Option<u64> },
     /// It goes to an upstream: what it says, and the place of the first route that it matches, from 0.
     Forwarded { head: RequestHead, route: u32 },
 }

@@ -1,0 +1,6 @@
+pub use Rattle.model.specs.Setup
+pub use Rattle.model.specs.Causes
+pub use Rattle.model.specs.Malformed
+pub use Rattle.model.specs.ErrorTable
+pub mod Views
+pub mod Openings

@@ -1,0 +1,14 @@
+//! What the head of a request comes to: that it is none, why the gateway answers it itself, and else where it goes.
+#![tactic(auto)]
+
+mod cause;
+mod opening;
+mod route;
+#[cfg(test)]
+mod tests;
+mod trailers;
+
+pub use crate::cause::Cause;
+pub use crate::opening::{Opening, judge_head};
+pub use crate::route::Route;
+pub use crate::trailers::are_malformed_trailers;

@@ -1,0 +1,37 @@
+//! What comes behind a request's head in another header block.
+
+ghost use Rattle.std.specs.Prelude.{◌≡◌, ◌≤◌, Bool};
+ghost use Rattle.model.specs.Tables.{total_size};
+ghost use Rattle.model.specs.Tapes.Note.{Fields};
+ghost use Rattle.model.specs.Malformed.{has_length};
+ghost use Rattle.model.specs.ErrorTable.{is_bad_block};
+ghost use Rattle.model.specs.Causes.{largest_fields};
+ghost use Rattle.causes.specs.Openings.{behind_head};
+
+use hpack_table::Field;
+use request_rules::check_trailers;
+
+/// Whether a header block behind a request's head, whose sizes sum to no more than the gateway takes, are no trailers that end the request
+/// (RFC 9113, section 8.1); `ended` where it ends its stream. The head declared this length of the body in octets, if any, and so
+/// many octets of it came.
+pub fn are_malformed_trailers(
+    fields: &[Field],
+    ended: bool,
+    declared: Option<u64>,
+    octets: u64,
+) -> bool
+    requires { total_size fields.now ≤ largest_fields }
+    ensures { (waits : Bool) → result ≡ is_bad_block (behind_head declared octets waits) ended (Fields fields.now) }
+{
+    !ended || !has_length(declared, octets) || check_trailers(fields).is_err()
+}
+
+/// Whether so many octets are as many as were declared, where some were.
+fn has_length(declared: Option<u64>, octets: u64) -> bool
+    ensures { result ≡ has_length declared octets }
+{
+    match declared {
+        None => true,
+        Some(length) => octets == length,
+    }
+}

@@ -137,8 +137,7 @@ const BEGUN: Course = Course {
     declared: None,
     octets: 0,
     over: false,
-    cause: None,
-    head_out: false,
+    reply: None,
 };
 
 /// Opens a stream where HEADERS may, and says whether they may.

@@ -2,4 +2,5 @@ pub mod Lists
 pub mod Searches
 pub mod Asked
 pub mod Changes
+pub mod Courses
 pub mod Openings

@@ -1,9 +1,11 @@
 pub use Rattle.model.specs.StreamStates
 pub use Rattle.model.specs.Windows
 pub use Rattle.conduct.specs.Rows
+pub use Rattle.conduct.specs.Owing
 pub use Rattle.conduct.specs.Tidy
 pub use Rattle.conduct.specs.Summary
 pub mod Views
 pub mod Steps
+pub mod Courses
 pub mod Asked
 pub mod Records

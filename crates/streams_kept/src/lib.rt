@@ -4,16 +4,19 @@
 //! A clause sees the rows of conduct's book, the newest first. A stream is found by halves among all that were opened.
 #![tactic(auto)]
 
-ghost use Rattle.std.specs.Prelude.{◌≡◌, ◌==◌, ◌<◌, ◌≤◌, true, false, [], ◌∷◌, length, pos, ◌+ℤ◌, IfSome, IfNone, OnOk, OnErr};
+ghost use Rattle.std.specs.Prelude.{◌≡◌, ◌==◌, ◌<◌, ◌≤◌, true, false, [], ◌∷◌, length, pos, ◌+ℤ◌, ◌≤ℤ◌, IfSome, IfNone, OnOk, OnErr};
 ghost use Rattle.model.specs.StreamStates.{most_streams};
 ghost use Rattle.model.specs.Windows.{greatest_window, IsSize};
 ghost use Rattle.conduct.specs.Owing.{highest_in};
-ghost use Rattle.conduct.specs.Rows.{find as kept_of, ids_of};
+ghost use Rattle.conduct.specs.Judging.{is_over_in};
+ghost use Rattle.conduct.specs.Rows.{find as kept_of, ids_of, slot_of};
 ghost use Rattle.conduct.specs.Rows.Slot.{Live as Active, Over as Done};
 ghost use Rattle.conduct.specs.Tidy.{AreKept, IsTidy, is_above_all};
+ghost use Rattle.streams_kept.specs.Views.{brief_of};
 ghost use Rattle.stream_state.specs.Views.{kind_in, standing_in, verdict_in};
 
 mod cause;
+mod course;
 mod entries;
 mod live;
 mod records;
@@ -21,9 +24,10 @@ mod records;
 mod tests;
 
 pub use crate::cause::Cause;
+pub use crate::course::{Course, Reply};
 use crate::entries::{Entry, Slot, last_id, place_of};
-pub use crate::live::{Course, Live};
-use crate::records::{Record, grant_at, live_at, make_place, shifts_past, state_of};
+pub use crate::live::Live;
+use crate::records::{Record, grant_at, live_at, make_place, shifts_past, state_of, take_at};
 use std::alloc::{AllocError, Global};
 use std::marker::Model;
 use stream_state::{Kind, Standing, Verdict, unopened_standing, verdict_at};
@@ -54,7 +58,7 @@ impl Model for Streams {
 
 impl Streams {
     ghost use Rattle.streams_kept.specs.Asked.{standing, verdict, AllowsOpening, MayOpen, active_in, is_active, shifts_past, changed, IsLive};
-    ghost use Rattle.streams_kept.specs.Steps.{granted};
+    ghost use Rattle.streams_kept.specs.Steps.{granted, taken};
 
     /// A connection on which no stream was opened.
     pub fn new(alloc: Global) -> Self
@@ -94,6 +98,41 @@ impl Streams {
         };
         if let Slot::Live(key) = self.entries[place].slot {
             grant_at(&mut self.records, key as usize, increment);
+        }
+    }
+
+    /// Takes octets of DATA on an active stream, all of the payload, which its receiving room has (RFC 9113, section 6.9.1), or trailers
+    /// of 0 octets; no other stream changes. Behind them this is the course of its request, and its client has ended it with them, or
+    /// hasn't. Where both sides have ended it then, it is over (RFC 9113, section 5.1).
+    pub fn take(&mut self, id: u32, octets: u32, course: Course, ended: bool)
+        requires live { is_active self.old id ≡ true }
+        requires fits { pos octets ≤ℤ (kept_of self.old id).room }
+        ensures is { self.new ≡ changed id (slot_of (taken octets (brief_of course) ended (kept_of self.old id))) self.old }
+        ensures kept { AreKept self.new }
+    {
+        let Some(live) = self.find(id) else {
+            return;
+        };
+        if live.is_over_with(ended) {
+            self.close(id, false);
+        } else {
+            self.put(id, octets, course, ended);
+        }
+    }
+
+    /// The same, where it is active behind them.
+    fn put(&mut self, id: u32, octets: u32, course: Course, ended: bool)
+        requires live { is_active self.old id ≡ true }
+        requires fits { pos octets ≤ℤ (kept_of self.old id).room }
+        requires goes_on { is_over_in (taken octets (brief_of course) ended (kept_of self.old id)) ≡ false }
+        ensures is { self.new ≡ changed id (Active (taken octets (brief_of course) ended (kept_of self.old id))) self.old }
+        ensures kept { AreKept self.new }
+    {
+        let Ok(place) = place_of(&self.entries, id) else {
+            return;
+        };
+        if let Slot::Live(key) = self.entries[place].slot {
+            take_at(&mut self.records, key as usize, octets, course, ended);
         }
     }
 

@@ -1,37 +1,20 @@
 //! What is kept of an active stream.
 
-ghost use Rattle.std.specs.Prelude.{◌≡◌, pos, ◌+ℤ◌};
+ghost use Rattle.std.specs.Prelude.{◌≡◌, ◌||◌, pos, ◌+ℤ◌, ◌≤ℤ◌};
 ghost use Rattle.model.specs.Windows.{IsSize};
-ghost use Rattle.streams_kept.specs.Steps.{granted};
+ghost use Rattle.streams_kept.specs.Steps.{granted, taken};
 ghost use Rattle.streams_kept.specs.Views.{brief_of};
-ghost use Rattle.conduct.specs.Judging.{state_in as state_kept};
+ghost use Rattle.conduct.specs.Judging.{state_in as state_kept, is_over_in};
 ghost use Rattle.conduct.specs.Rows.{fresh};
 ghost use Rattle.stream_state.specs.Views.{state_in};
 
-use crate::cause::Cause;
+use crate::course::Course;
 use flow_control::Window;
 use std::marker::Model;
 use stream_state::State;
 
 /// The first size of windows (RFC 9113, section 6.9.2).
 const FIRST_WINDOW: u32 = 65535;
-
-/// What is needed of the request of a stream, and of why the gateway answers it itself, if it does.
-#[derive(Clone, Copy, Debug, PartialEq, Eq)]
-pub struct Course {
-    /// Whether its head came (RFC 9113, section 8.1).
-    pub begun: bool,
-    /// The octets of its body that its head declares (RFC 9113, section 8.1.1).
-    pub declared: Option<u64>,
-    /// The octets of its body that came.
-    pub octets: u32,
-    /// Whether nothing more of it is looked at.
-    pub over: bool,
-    /// Why the gateway answers it itself.
-    pub cause: Option<Cause>,
-    /// Whether the final head of a response was out when the cause came.
-    pub head_out: bool,
-}
 
 /// An active stream (RFC 9113, section 5.1). A clause sees all that conduct keeps of one.
 #[derive(Debug, Drop)]
@@ -87,6 +70,32 @@ impl Live {
         self.room.left()
     }
 
+    /// Whether its client has ended it (RFC 9113, section 5.1).
+    pub fn ended_by_client(&self) -> bool
+        ensures { result ≡ self.now.ended_by_client }
+    {
+        let Live {
+            ended_by_client,
+            ..
+        } = self;
+        *ended_by_client
+    }
+
+    /// Whether the final head of a response was sent on it (RFC 9113, section 8.1).
+    pub fn head_out(&self) -> bool
+        ensures { result ≡ self.now.head_out }
+    {
+        self.head_out
+    }
+
+    /// What became of its request so far.
+    pub fn course(&self) -> Course
+        ensures { brief_of result ≡ self.now.brief }
+    {
+        let Live { course, .. } = self;
+        *course
+    }
+
     /// The state of the stream, which no side has reset (RFC 9113, section 5.1).
     pub fn state(&self) -> State
         ensures { state_in result ≡ state_kept self.now }
@@ -105,5 +114,22 @@ impl Live {
         ensures { self.new ≡ granted increment self.old }
     {
         let _ = self.balance.grant(increment);
+    }
+    /// Whether it is over where its client ends it now, or ended it before, or not (RFC 9113, section 5.1).
+    pub(crate) fn is_over_with(&self, ended: bool) -> bool
+        ensures { result ≡ is_over_in (record self.now { ended_by_client = ended || self.now.ended_by_client }) }
+    {
+        (ended || self.ended_by_client) && self.ended_by_gateway
+    }
+
+    /// Takes so many octets of DATA, for which there is room (RFC 9113, section 6.9.1), or trailers, behind which this is its course, and
+    /// with which its client ends it or doesn't.
+    pub(crate) fn take(&mut self, octets: u32, course: Course, ended: bool)
+        requires { pos octets ≤ℤ self.old.room }
+        ensures { self.new ≡ taken octets (brief_of course) ended self.old }
+    {
+        self.room.take(octets);
+        self.course = course;
+        self.ended_by_client = ended || self.ended_by_client;
     }
 }

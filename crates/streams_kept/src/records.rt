@@ -1,14 +1,16 @@
 //! Records of active streams, at keys.
 
-ghost use Rattle.std.specs.Prelude.{◌≡◌, ◌<◌, ◌≤◌, length, slice_set, Some, None, IfSome, IfNone, IfOk, OnErr, pos, ◌+ℤ◌};
+ghost use Rattle.std.specs.Prelude.{◌≡◌, ◌<◌, ◌≤◌, length, slice_set, Some, None, IfSome, IfNone, IfOk, OnErr, pos, ◌+ℤ◌, ◌≤ℤ◌};
 ghost use Rattle.std.specs.List.{list_any};
 ghost use Rattle.model.specs.Windows.{greatest_window, IsSize};
-ghost use Rattle.streams_kept.specs.Steps.{granted};
+ghost use Rattle.streams_kept.specs.Steps.{granted, taken};
 ghost use Rattle.conduct.specs.Judging.{state_in as state_kept};
 ghost use Rattle.conduct.specs.Rows.{kept_in};
 ghost use Rattle.stream_state.specs.Views.{state_in};
+ghost use Rattle.streams_kept.specs.Views.{brief_of};
 ghost use Rattle.streams_kept.specs.Records.{record_at, slot_in, IsHeld, IsPlaceMade, is_shifted_past};
 
+use crate::course::Course;
 use crate::entries::{Entry, Slot};
 use crate::live::Live;
 use std::alloc::AllocError;
@@ -97,6 +99,26 @@ pub fn grant_at(records: &mut [Option<Record>], key: usize, increment: u32)
     ensures { IfSome (record_at records.old key) (λ r. records.new ≡ slice_set records.old key (Some (record r { live = granted increment r.live }))) }
 {
     grant_one(&mut records[key], increment)
+}
+
+/// Takes octets of DATA, or trailers, on the stream of a record.
+fn take_one(slot: &mut Option<Record>, octets: u32, course: Course, ended: bool)
+    requires { IfSome slot.old (λ r. pos octets ≤ℤ r.live.room) }
+    ensures some { IfSome slot.old (λ r. slot.new ≡ Some (record r { live = taken octets (brief_of course) ended r.live })) }
+    ensures none { IfNone slot.old (slot.new ≡ None) }
+{
+    if let Some(record) = slot {
+        record.live.take(octets, course, ended);
+    }
+}
+
+/// Takes octets of DATA, or trailers, on the stream of the record at a key.
+pub fn take_at(records: &mut [Option<Record>], key: usize, octets: u32, course: Course, ended: bool)
+    requires within { key < length records.old }
+    requires fits { IfSome (record_at records.old key) (λ r. pos octets ≤ℤ r.live.room) }
+    ensures { IfSome (record_at records.old key) (λ r. records.new ≡ slice_set records.old key (Some (record r { live = taken octets (brief_of course) ended r.live }))) }
+{
+    take_one(&mut records[key], octets, course, ended)
 }
 
 /// Whether the sending window of a record's stream is past the greatest with this first size.

@@ -10,8 +10,7 @@ const BEGUN: Course = Course {
     declared: None,
     octets: 0,
     over: false,
-    cause: None,
-    head_out: false,
+    reply: None,
 };
 
 /// Opens a stream where its HEADERS may, and says whether they do.
@@ -106,6 +105,106 @@ fn grant_if_fitting(streams: &mut Streams, id: u32, increment: u32) -> bool {
     }
     streams.grant(id, increment);
     true
+}
+
+#[test]
+fn bodies_keep_to_their_lengths(rt: HostRuntime) -> Result<(), Fail> {
+    let head = Course::new().with_block(Some(5), false);
+    assert_eq!(rt; head.declared, Some(5));
+    assert!(rt; !head.is_malformed_with(5, false));
+    assert!(rt; head.is_malformed_with(6, false));
+    assert!(rt; !head.is_malformed_with(5, true));
+    assert!(rt; head.is_malformed_with(4, true));
+    assert!(rt; !BEGUN.is_malformed_with(16384, true));
+    let course = head.with_content(3, false, 5, false);
+    assert_eq!(rt; course, Course { octets: 3, ..head });
+    assert!(rt; !course.is_malformed_with(2, true));
+    assert!(rt; course.is_malformed_with(3, true));
+    let ended = course.with_block(None, true);
+    assert_eq!(rt;
+        ended,
+        Course {
+            over: true,
+            ..course
+        }
+    );
+    assert_eq!(rt; ended.with_content(2, false, 5, false), ended);
+    Ok(())
+}
+
+#[test]
+fn bodies_end_at_the_most(rt: HostRuntime) -> Result<(), Fail> {
+    let course = BEGUN.with_content(3, false, 10, true);
+    let whole = course.with_content(7, true, 10, true);
+    assert_eq!(rt;
+        whole,
+        Course {
+            octets: 10,
+            over: true,
+            ..BEGUN
+        }
+    );
+    let reply = Reply {
+        cause: Cause::LargeBody,
+        head_out: true,
+    };
+    let past = course.with_content(8, true, 10, true);
+    assert_eq!(rt;
+        past,
+        Course {
+            over: true,
+            reply: Some(reply),
+            ..course
+        }
+    );
+    assert!(rt; !past.is_malformed_with(9, true));
+    assert_eq!(rt; past.with_content(8, true, 10, false), past);
+    assert_eq!(rt; past.replied(Cause::BadAnswer, false), past);
+    Ok(())
+}
+
+/// Takes DATA of so many octets, all content, where the stream is active and has room, and says whether it does.
+fn take_if_fitting(streams: &mut Streams, id: u32, count: u32, ended: bool) -> bool {
+    let Some(live) = streams.find(id) else {
+        return false;
+    };
+    if live.room() < i64::from(count) {
+        return false;
+    }
+    let course = live
+        .course()
+        .with_content(count, ended, 100000, live.head_out());
+    streams.take(id, count, course, ended);
+    true
+}
+
+#[test]
+fn octets_are_taken(rt: HostRuntime) -> Result<(), Fail> {
+    let mut streams = Streams::new(rt.alloc());
+    assert!(rt; open_if_idle(&mut streams, 5, false)?);
+    assert!(rt; open_if_idle(&mut streams, 9, false)?);
+    assert!(rt; take_if_fitting(&mut streams, 5, 65535, false));
+    assert!(rt; !take_if_fitting(&mut streams, 5, 1, false));
+    assert!(rt; take_if_fitting(&mut streams, 5, 0, true));
+    assert!(rt; take_if_fitting(&mut streams, 9, 16384, false));
+    assert_eq!(rt;
+        streams.standing(5),
+        Standing::Opened(State::HalfClosedRemote)
+    );
+    match streams.find(9) {
+        Some(live) => {
+            assert_eq!(rt; live.room(), 49151);
+            assert_eq!(rt;
+                live.course(),
+                BEGUN.with_content(16384, false, 16384, false)
+            );
+            assert_eq!(rt; live.state(), State::Open);
+            assert!(rt; !live.head_out());
+            assert!(rt; !live.ended_by_client());
+        }
+        None => assert!(rt; false),
+    }
+    Ok(())
 }
 
 #[test]

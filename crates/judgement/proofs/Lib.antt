@@ -6,3 +6,10 @@ pub mod Streams
 pub mod Resets
 pub mod Updates
 pub mod Bodies
+pub mod FragmentFaults
+pub mod FragmentBooks
+pub mod FragmentStreams
+pub mod FragmentResets
+pub mod BlockRows
+pub mod BlockBooks
+pub mod Gathering

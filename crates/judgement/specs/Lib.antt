@@ -5,3 +5,5 @@ pub use Rattle.model.specs.Errors
 pub mod Joined
 pub mod Inbound
 pub mod Judgement
+pub mod Blocks
+pub mod Fragments

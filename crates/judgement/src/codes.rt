@@ -22,6 +22,8 @@ pub const FLOW_CONTROL_ERROR: u32 = 3;
 
 pub const FRAME_SIZE_ERROR: u32 = 6;
 
+pub const COMPRESSION_ERROR: u32 = 9;
+
 pub const ENHANCE_YOUR_CALM: u32 = 11;
 
 /// The code of a frame that may not come next (RFC 9113, section 4.3).

@@ -33,7 +33,7 @@ use crate::codes::{
 };
 use flow_control::Window;
 use frames::{Frame, View, has_settings, is_ack, is_misplaced, parse};
-use header_blocks::Joiner;
+use header_blocks::{Decoder, Joiner};
 use settings::Settings;
 use std::alloc::{AllocError, Global};
 use std::marker::Model;
@@ -43,20 +43,25 @@ use streams_kept::{Live, Streams};
 /// The first size of windows (RFC 9113, section 6.9.2).
 const FIRST_WINDOW: u32 = 65535;
 
+/// The first maximum of a header table, in octets (RFC 9113, section 6.5.2).
+const FIRST_TABLE: u32 = 4096;
+
 /// The greatest size that a window may have (RFC 9113, section 6.9.1).
 const GREATEST: i64 = 2147483647;
 
 /// What is kept of a connection for its client's frames. A clause sees conduct's book, but for what these frames neither look at nor change.
 #[derive(Drop)]
 pub struct Connection {
-    has_come: bool,
-    joiner: Joiner,
-    continuations: u32,
-    settings: Settings,
-    window: Window,
-    room: Window,
-    streams: Streams,
-    last: u32,
+    pub(crate) has_come: bool,
+    pub(crate) joiner: Joiner,
+    pub(crate) continuations: u32,
+    pub(crate) settings: Settings,
+    pub(crate) window: Window,
+    pub(crate) room: Window,
+    pub(crate) streams: Streams,
+    pub(crate) last: u32,
+    pub(crate) decoder: Decoder,
+    pub(crate) alloc: Global,
 }
 
 impl Model for Connection {
@@ -64,7 +69,7 @@ impl Model for Connection {
 
     ghost Value = { Inbound };
 
-    ghost view = { λ c. record { has_come = c.has_come; block = c.joiner.begun; continuations = c.continuations; first_size = c.settings; window = c.window; room = c.room; rows = c.streams; last = c.last } };
+    ghost view = { λ c. record { has_come = c.has_come; block = c.joiner.begun; continuations = c.continuations; first_size = c.settings; window = c.window; room = c.room; rows = c.streams; last = c.last; table = c.decoder.table; fault = c.decoder.fault } };
 
     ghost invariant = { λ c. IsWhole c.streams c.joiner c.continuations };
 }
@@ -83,6 +88,8 @@ impl Connection {
             room: Window::new(FIRST_WINDOW),
             streams: Streams::new(alloc),
             last: 0,
+            decoder: Decoder::new(alloc, FIRST_TABLE),
+            alloc,
         }
     }
 

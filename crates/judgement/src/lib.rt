@@ -2,10 +2,14 @@
 #![tactic(auto)]
 
 mod answers;
+mod blocks;
 mod codes;
 mod connection;
+mod fragments;
+mod terms;
 #[cfg(test)]
 mod tests;
 
-pub use crate::answers::{Fault, Judged};
+pub use crate::answers::{BlockJudged, Fault, Judged};
 pub use crate::connection::Connection;
+pub use crate::terms::Terms;

@@ -1,8 +1,10 @@
 -- What is kept of a connection, and answers to control frames.
 use Rattle.std.proofs.Common.{◌≡◌, ℕ, true, false, not, ◌&&◌, ◌||◌, ◌==◌, Bool, List, [], ◌∷◌, length, Option, Some, None, refl, sym, ◌∙◌, ap, subst, arith}
-use Rattle.std.specs.Prelude.{ℤ, pos, ◌+ℤ◌, ◌≤ℤ◌}
+use Rattle.std.specs.Prelude.{ℤ, pos, ◌+ℤ◌, ◌≤ℤ◌, int_lt, option_map, IfSome, IfNone}
 use Rattle.std.proofs.lemmas.Int.{ints}
-use Rattle.model.specs.Frames.{Frame, is_ack}
+use Rattle.model.specs.Frames.{Frame, is_ack, flow_control_error}
+use Rattle.model.specs.ErrorTable.{is_idle}
+use Rattle.streams_kept.specs.Asked.{standing, is_active}
 use Rattle.frames.specs.Parsed.{has_variant}
 use Rattle.conduct.specs.Quiet.{IsQuiet}
 use Rattle.model.specs.Setup.{Setup, Policy, Passing}
@@ -13,7 +15,10 @@ use Rattle.model.specs.Windows.{IsPast, IsSize}
 use Rattle.model.specs.WindowsOnTape.{is_past, has_settings}
 use Rattle.conduct.specs.Judging.{frame_rows_in}
 use Rattle.judgement.specs.Inbound.{Inbound, Outside, book_of, told_of}
-use Rattle.judgement.specs.Judgement.{IsPlain, update, reset, is_ignored}
+use Rattle.judgement.specs.declared.answers.Fault.{Fault as Told}
+use Rattle.judgement.specs.Admission.{IsRefused}
+use Rattle.judgement.specs.Judgement.{IsPlain, fault_told, update, reset, data_frame, is_ignored}
+use Rattle.judgement.proofs.DataFaults.{idle_refuses, inactive_refuses, data_idle, data_past, data_inactive}
 use Rattle.judgement.proofs.Rows.{is_right, none_begun}
 
 -- the frame is right by itself, whatever else is kept
@@ -127,11 +132,64 @@ update_by frame kind = ap (λ (k : ℕ). record { kind = k; flags = frame.flags;
 pub reset_by : (frame : Frame) → frame.kind ≡ 3 → frame ≡ reset frame.flags frame.id frame.payload
 reset_by frame kind = ap (λ (k : ℕ). record { kind = k; flags = frame.flags; id = frame.id; payload = frame.payload }) kind
 
--- RST_STREAM is on a stream
+pub data_by : (frame : Frame) → frame.kind ≡ 0 → frame ≡ data_frame frame.flags frame.id frame.payload
+data_by frame kind = ap (λ (k : ℕ). record { kind = k; flags = frame.flags; id = frame.id; payload = frame.payload }) kind
+
+-- DATA and RST_STREAM are on a stream
+placed_so : (x : Bool) → (x || false || false || false) ≡ false → x ≡ false
+placed_so true is = absurd (let no : true ≡ false = is in cc)
+placed_so false is = refl
+
 pub reset_of_stream : (i : Inbound) (frame : Frame) → frame.kind ≡ 3 → IsSound i frame → (frame.id == 0) ≡ false
 reset_of_stream i frame kind sound =
-    cases (frame.id == 0) (ap (λ (k : ℕ). is_misplaced (record { kind = k; flags = frame.flags; id = frame.id; payload = frame.payload })) (sym kind) ∙ (is_right (told_of nothing i) frame (sound nothing)).placed)
+    placed_so (frame.id == 0) (ap (λ (k : ℕ). is_misplaced (record { kind = k; flags = frame.flags; id = frame.id; payload = frame.payload })) (sym kind) ∙ (is_right (told_of nothing i) frame (sound nothing)).placed)
+
+pub data_of_stream : (i : Inbound) (frame : Frame) → frame.kind ≡ 0 → IsSound i frame → (frame.id == 0) ≡ false
+data_of_stream i frame kind sound =
+    placed_so (frame.id == 0) (ap (λ (k : ℕ). is_misplaced (record { kind = k; flags = frame.flags; id = frame.id; payload = frame.payload })) (sym kind) ∙ (is_right (told_of nothing i) frame (sound nothing)).placed)
+
+-- ---- DATA
+
+-- what is said of a record and a frame, of the record from inside and of the frame by its parts
+pub moved_back : (P : Inbound → Frame → Type 0) (i j : Inbound) (f g : Frame) → i ≡ j → g ≡ f → P j g → P i f
+moved_back P i j f g same_record same_frame is = subst (λ (x : Inbound). P x f) (sym same_record) (subst (λ (h : Frame). P j h) same_frame is)
+
+-- a fault that is told is there, with what is known of it
+pub told_some : (P : Fault → Type 0) (told : Option Told) (fault : Fault) → option_map fault_told told ≡ Some fault → P fault → IfSome told (λ f. P (fault_told f))
+told_some P None fault is known = tt
+told_some P (Some f) fault is known = subst P (sym (ap (λ (o : Option Fault). fault_or o) is)) known
   where
-    cases : (x : Bool) → (x || false || false || false) ≡ false → x ≡ false
-    cases true is = absurd (let no : true ≡ false = is in cc)
-    cases false is = refl
+    fault_or : Option Fault → Fault
+    fault_or None = fault
+    fault_or (Some x) = x
+
+pub told_not_none : (Q : Type 0) (told : Option Told) (fault : Fault) → option_map fault_told told ≡ Some fault → IfNone told Q
+told_not_none Q None fault is = absurd (let no : None ≡ Some fault = is in cc)
+told_not_none Q (Some f) fault is = tt
+
+module _ (i : Inbound) (flags id : ℕ) (payload : List ℕ) (of_stream : (id == 0) ≡ false) (sound : IsSound i (data_frame flags id payload)) where
+  -- its fault on an idle stream, past the connection's window, and on another stream that isn't active
+  pub refused_idle : (idle : is_idle (standing i.rows id) ≡ true) → IsRefused i (data_frame flags id payload) (Connection (idle_refuses i.rows id of_stream idle).0)
+  refused_idle idle = record {
+    is = λ outside. data_idle (book_of outside i) flags id payload of_stream (sound outside) idle ∙ (idle_refuses i.rows id of_stream idle).1;
+    mild = refl;
+    inactive = λ no. absurd (let clash : true ≡ false = no in cc);
+    fits = λ no. absurd (let clash : true ≡ false = no in cc);
+  }
+
+  module _ (known : is_idle (standing i.rows id) ≡ false) where
+    pub refused_past : int_lt i.room (pos (length payload)) ≡ true → IsRefused i (data_frame flags id payload) (Connection flow_control_error)
+    refused_past past = record {
+      is = λ outside. data_past (book_of outside i) flags id payload of_stream (sound outside) known past;
+      mild = refl;
+      inactive = λ no. absurd (let clash : true ≡ false = no in cc);
+      fits = λ no. absurd (let clash : true ≡ false = no in cc);
+    }
+
+    pub refused_inactive : int_lt i.room (pos (length payload)) ≡ false → (idle : is_active i.rows id ≡ false) → IsRefused i (data_frame flags id payload) (inactive_refuses i.rows id of_stream idle).0
+    refused_inactive fits idle = record {
+      is = λ outside. data_inactive (book_of outside i) flags id payload of_stream (sound outside) known fits idle ∙ (inactive_refuses i.rows id of_stream idle).1;
+      mild = (inactive_refuses i.rows id of_stream idle).2;
+      inactive = λ mild. idle;
+      fits = λ mild. fits;
+    }

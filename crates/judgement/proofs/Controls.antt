@@ -1,9 +1,9 @@
 -- Frames that are of no stream's message, reset none and grant nothing: settings, PING, GOAWAY, PRIORITY, and what isn't known; and
 -- increments of the connection's window.
-use Rattle.std.proofs.Common.{◌≡◌, ℕ, suc, Bool, true, false, not, ◌&&◌, ◌||◌, ◌==◌, nat_lt, if◌then◌else◌, List, [], ◌∷◌, ◌++◌, length, map, Option, Some, None, refl, sym, ◌∙◌, ap, subst}
-use Rattle.std.proofs.lemmas.Bool.{and_right, and_parts, ne_eqb, eqb-true}
+use Rattle.std.proofs.Common.{◌≡◌, ℕ, Bool, true, false, not, ◌&&◌, ◌||◌, ◌==◌, if◌then◌else◌, List, [], ◌∷◌, length, Option, Some, None, refl, sym, ◌∙◌, ap}
+use Rattle.std.proofs.lemmas.Bool.{and_right, and_parts, eqb-true}
 use Rattle.std.proofs.lemmas.List.{map-id}
-use Rattle.std.specs.Prelude.{ℤ, pos, ◌+ℤ◌, is_some, is_none, option_map, int_lt}
+use Rattle.std.specs.Prelude.{pos, ◌+ℤ◌, is_some, is_none, option_map, int_lt}
 use Rattle.model.specs.Frames.{Frame, data_kind, rst_stream_kind, settings_kind, window_update_kind, protocol_error, flow_control_error, is_ack}
 use Rattle.model.specs.Setup.{Setup}
 use Rattle.model.specs.Decoding.{Partial}
@@ -18,11 +18,11 @@ use Rattle.conduct.specs.Summary.{Brief, Summary}
 use Rattle.conduct.specs.Judging.{completed_in, frame_rows_in, values_in, shift_in, shifts_past_in, connection_update_in, idle_in, connection_data_in, fault_on_in, fault_by_standing_in, standing_in, stream_update_in, stream_data_in, is_active_in, window_in, malformed_in, fault_for}
 use Rattle.conduct.specs.Owing.{fault_in}
 use Rattle.conduct.specs.After.{is_sound, grant}
-use Rattle.conduct.specs.Rows.{Row, ids_of, find, rows_after, row_behind}
+use Rattle.conduct.specs.Rows.{Row, ids_of, find}
 use Rattle.conduct.specs.Judging.{is_over_in}
 use Rattle.std.specs.List.{list_any}
 use Rattle.conduct.specs.Book.{Book, summary_in}
-use Rattle.conduct.specs.Tidy.{IsRow, AreKept}
+use Rattle.conduct.specs.Tidy.{AreKept}
 use Rattle.conduct.specs.Quiet.{IsControl, IsQuiet, noted_of, coming, heard}
 use Rattle.conduct.proofs.Elsewhere.{none_more, none_less}
 use Rattle.conduct.proofs.Quiet.{fault_none, quiet_book}
@@ -30,7 +30,7 @@ use Rattle.conduct.proofs.Seen.{idle_frame}
 use Rattle.conduct.proofs.Turns.{completes_none}
 use Rattle.conduct.proofs.Wanted.{bears}
 use Rattle.judgement.specs.Judgement.{IsPlain, update, behind}
-use Rattle.judgement.proofs.Rows.{skip, two_left, no_fault, fault_is, none_here, later_rows, fault_later, IsRight, is_right, none_begun, in_order, not_fatal, rows_behind, book_behind}
+use Rattle.judgement.proofs.Rows.{skip, two_left, no_fault, later_rows, fault_later, IsRight, is_right, none_begun, in_order, rows_behind, book_behind}
 
 -- ---- quiet frames
 

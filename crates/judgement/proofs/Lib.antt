@@ -5,7 +5,6 @@ pub mod Standings
 pub mod Streams
 pub mod Resets
 pub mod Updates
-pub mod Bodies
 pub mod FragmentFaults
 pub mod FragmentBooks
 pub mod FragmentStreams
@@ -13,3 +12,6 @@ pub mod FragmentResets
 pub mod BlockRows
 pub mod BlockBooks
 pub mod Gathering
+pub mod DataFaults
+pub mod DataBehind
+pub mod Contents

@@ -1,19 +1,18 @@
 -- RST_STREAM: its fault, and what is left behind it.
-use Rattle.std.proofs.Common.{◌≡◌, ℕ, Bool, true, false, not, ◌&&◌, ◌||◌, ◌==◌, if◌then◌else◌, List, [], ◌∷◌, length, map, Option, Some, None, refl, sym, ◌∙◌, ap, inl, inr}
-use Rattle.std.proofs.lemmas.Bool.{and_right, cases_Bool, and_parts}
+use Rattle.std.proofs.Common.{◌≡◌, ℕ, Bool, true, false, not, ◌&&◌, ◌==◌, if◌then◌else◌, List, [], ◌∷◌, length, Option, Some, None, refl, sym, ◌∙◌, ap}
+use Rattle.std.proofs.lemmas.Bool.{and_right, and_parts}
 use Rattle.std.specs.Prelude.{pos, ◌+ℤ◌, is_some}
 use Rattle.model.specs.Frames.{Frame, protocol_error, flow_control_error}
 use Rattle.model.specs.Setup.{Setup}
 use Rattle.model.specs.Errors.{Fault, first_of, or_else}
-use Rattle.model.specs.Errors.Fault.{Connection, Stream, Discarded}
+use Rattle.model.specs.Errors.Fault.{Connection, Stream}
 use Rattle.model.specs.FrameErrors.{fault_if}
 use Rattle.model.specs.WindowsOnTape.{increment, is_past}
 use Rattle.model.specs.ErrorTable.{fault_of, unless_of_stream, is_idle}
 use Rattle.model.specs.ErrorClause.{is_fatal}
 use Rattle.conduct.specs.Summary.{Brief, Summary}
 use Rattle.conduct.specs.Judging.{frame_rows_in, is_active_in, is_over_in, standing_in, window_in, fault_by_standing_in, stream_update_in, stream_data_in, malformed_in, fault_for}
-use Rattle.conduct.specs.Owing.{fault_in}
-use Rattle.conduct.specs.Rows.{Row, find}
+use Rattle.conduct.specs.Rows.{find}
 use Rattle.conduct.specs.Rows.Slot.{Over}
 use Rattle.conduct.specs.Book.{Book, summary_in}
 use Rattle.conduct.specs.Tidy.{AreKept}
@@ -22,10 +21,10 @@ use Rattle.conduct.proofs.Elsewhere.{none_less}
 use Rattle.streams_kept.specs.Asked as asked
 use Rattle.streams_kept.specs.Asked.{standing, active_in, is_active, changed, with_slot}
 use Rattle.streams_kept.proofs.Changes.{slot_left}
-use Rattle.judgement.specs.Judgement.{IsPlain, is_of_stream, reset, behind}
+use Rattle.judgement.specs.Judgement.{IsPlain, reset, behind}
 use Rattle.judgement.proofs.Rows.{skip, later_rows, fault_later, rows_behind}
 use Rattle.judgement.proofs.Controls.{both_none}
-use Rattle.judgement.proofs.Standings.{active_passes, inactive_fails}
+use Rattle.judgement.proofs.Standings.{active_passes}
 use Rattle.judgement.proofs.Streams.{reset_mild, standing_rows, rows_stay, reset_row, begun, stream_behind}
 
 module _ (setup : Setup) (b : Book) (flags id : ℕ) (payload : List ℕ) (of_stream : (id == 0) ≡ false) (sound : first_of (frame_rows_in (summary_in b) (reset flags id payload)) ≡ None) (kept : AreKept b.rows) where

@@ -1,5 +1,5 @@
 -- The rows of the error table in their order, and the book behind a frame that has no fragment of a header block.
-use Rattle.std.proofs.Common.{◌≡◌, ℕ, suc, Bool, true, false, not, ◌&&◌, ◌||◌, ◌==◌, nat_lt, if◌then◌else◌, List, [], ◌∷◌, ◌++◌, length, map, Option, Some, None, refl, sym, ◌∙◌, ap, subst}
+use Rattle.std.proofs.Common.{◌≡◌, ℕ, suc, Bool, true, false, not, ◌&&◌, ◌==◌, if◌then◌else◌, List, [], ◌∷◌, ◌++◌, map, Option, Some, None, refl, sym, ◌∙◌, ap}
 use Rattle.std.proofs.lemmas.Bool.{cases_eq, ne_eqb}
 use Rattle.std.proofs.Common.{inl, inr}
 use Rattle.std.specs.List.{AllByRecursion}
@@ -9,12 +9,12 @@ use Rattle.model.specs.Frames.{protocol_error}
 use Rattle.conduct.specs.After.{begun_after}
 use Rattle.streams_kept.proofs.Searches.{IsFound, all_found}
 use Rattle.std.specs.Prelude.{ℤ, is_some}
-use Rattle.model.specs.Frames.{Frame, data_kind, headers_kind, continuation_kind, ends_headers}
+use Rattle.model.specs.Frames.{Frame}
 use Rattle.model.specs.Setup.{Setup}
 use Rattle.model.specs.Tapes.Note.{NoBlock}
-use Rattle.model.specs.Decoding.{Partial, joined}
+use Rattle.model.specs.Decoding.{Partial}
 use Rattle.model.specs.Errors.{Fault, first_of, or_else, row_first_frame}
-use Rattle.model.specs.Errors.Fault.{Connection, Stream, Discarded}
+use Rattle.model.specs.Errors.Fault.{Connection, Stream}
 use Rattle.model.specs.FrameErrors.{fault_if, is_between, is_misplaced}
 use Rattle.model.specs.Payloads.{PayloadFault, payload_fault, code_of_payload}
 use Rattle.model.specs.ErrorTable.{is_undecodable, is_malformed, unless_of_stream}
@@ -22,15 +22,15 @@ use Rattle.model.specs.WindowsOnTape.{has_settings, is_any}
 use Rattle.model.specs.Lifetimes.{opens_by}
 use Rattle.model.specs.ErrorClause.{is_fatal}
 use Rattle.conduct.specs.Summary.{Brief, carried_in, Summary}
-use Rattle.conduct.specs.Judging.{completed_in, between_in, long_block_in, misplaced_in, payload_in, frame_rows_in, rows_in, values_in, shift_in, connection_update_in, idle_in, connection_data_in, fault_by_standing_in, stream_update_in, stream_data_in, malformed_in, fault_of_rows_in, fault_for}
+use Rattle.conduct.specs.Judging.{completed_in, between_in, long_block_in, misplaced_in, payload_in, frame_rows_in, values_in, shift_in, connection_update_in, idle_in, connection_data_in, fault_by_standing_in, stream_update_in, stream_data_in, malformed_in, fault_for}
 use Rattle.conduct.specs.Owing.{fault_in}
-use Rattle.conduct.specs.After.{is_sound, first_size_after, window_after, room_after}
-use Rattle.conduct.specs.Rows.{Row, find, kept_in, row_behind, row_opened, rows_after}
+use Rattle.conduct.specs.After.{first_size_after, window_after, room_after}
+use Rattle.conduct.specs.Rows.{Row, kept_in, row_behind, row_opened, rows_after}
 use Rattle.conduct.specs.Book.{Book, summary_in}
 use Rattle.conduct.specs.Tidy.{IsRow, AreKept}
 use Rattle.conduct.specs.Quiet.{IsInOrder, noted_of, coming, heard}
 use Rattle.conduct.proofs.Elsewhere.{row_stays}
-use Rattle.conduct.proofs.Quiet.{begins_none, same_book, all_stay}
+use Rattle.conduct.proofs.Quiet.{begins_none, same_book}
 use Rattle.conduct.proofs.Turns.{completes_none}
 use Rattle.judgement.specs.Judgement.{IsPlain, behind}
 

@@ -1,24 +1,21 @@
 -- Frames of a stream: what its standing makes of them, what is left of the streams where nothing comes of a frame, and what a reset leaves.
-use Rattle.std.proofs.Common.{◌≡◌, ℕ, suc, Bool, true, false, not, ◌&&◌, ◌||◌, ◌==◌, nat_lt, if◌then◌else◌, List, [], ◌∷◌, ◌++◌, length, map, Option, Some, None, refl, sym, ◌∙◌, ap, subst, inl, inr}
-use Rattle.std.proofs.lemmas.Bool.{and_right, and_parts, or_parts, ne_eqb, eq-eqb, eqb-true, cases_eq}
+use Rattle.std.proofs.Common.{◌≡◌, ℕ, Bool, true, false, not, ◌&&◌, ◌||◌, ◌==◌, if◌then◌else◌, List, [], ◌∷◌, map, Option, Some, None, refl, sym, ◌∙◌, ap, inl, inr}
+use Rattle.std.proofs.lemmas.Bool.{and_right, or_parts, ne_eqb, eq-eqb, cases_eq}
 use Rattle.std.proofs.lemmas.List.{map-id}
-use Rattle.std.specs.Prelude.{ℤ, pos, ◌+ℤ◌, is_some, is_none}
-use Rattle.std.specs.List.{list_any, AllByRecursion}
-use Rattle.std.proofs.lemmas.List.Elements.{recursion_from_All}
-use Rattle.model.specs.Frames.{Frame, rst_stream_kind, window_update_kind, data_kind}
+use Rattle.std.specs.Prelude.{ℤ, pos, ◌+ℤ◌, is_none}
+use Rattle.model.specs.Frames.{Frame, window_update_kind}
 use Rattle.model.specs.Setup.{Setup}
 use Rattle.model.specs.Errors.{Fault, first_of, or_else}
 use Rattle.model.specs.Errors.Fault.{Connection, Stream, Discarded}
-use Rattle.model.specs.FrameErrors.{is_misplaced}
-use Rattle.model.specs.StreamStates.{StreamState, Standing, verdict}
+use Rattle.model.specs.StreamStates.{Standing, verdict}
 use Rattle.model.specs.StreamStates.StreamState.{Open, HalfClosedRemote, HalfClosedLocal, Closed, ResetByPeer, ResetByUs}
 use Rattle.model.specs.StreamStates.Standing.{WholeConnection, Opened, Idle, ServerIdle, Skipped, Beyond}
 use Rattle.model.specs.ErrorTable.{fault_of, unless_of_stream}
 use Rattle.model.specs.ErrorClause.{is_fatal, rst_stream}
 use Rattle.conduct.specs.Summary.{Brief, Stream as Kept, Summary}
 use Rattle.conduct.specs.Judging.{is_over_in, fault_for}
-use Rattle.conduct.specs.After.{stream_from, kept_behind}
-use Rattle.conduct.specs.Rows.{Row, Slot, over_kept, kept_in, slot_of, find, row_behind, rows_after}
+use Rattle.conduct.specs.After.{kept_behind}
+use Rattle.conduct.specs.Rows.{Row, Slot, over_kept, kept_in, find, row_behind, rows_after}
 use Rattle.conduct.specs.Rows.Slot.{Live, Over}
 use Rattle.conduct.specs.Book.{Book, summary_in, book_after}
 use Rattle.conduct.specs.Tidy.{IsTidy, IsRow, AreKept}
@@ -26,8 +23,8 @@ use Rattle.conduct.specs.Quiet.{noted_of, coming, sending, heard}
 use Rattle.model.specs.Tapes.{Noted}
 use Rattle.model.specs.Tapes.Entry.{Came}
 use Rattle.conduct.proofs.Rows.{over_stays}
-use Rattle.streams_kept.specs.Asked.{has, is_active, with_slot, changed, IsLive}
-use Rattle.streams_kept.proofs.Searches.{IsFound, all_found}
+use Rattle.streams_kept.specs.Asked.{has, is_active, with_slot, changed}
+use Rattle.streams_kept.proofs.Searches.{IsFound}
 use Rattle.streams_kept.proofs.Changes.{slot_left, slot_given}
 use Rattle.judgement.specs.Judgement.{IsPlain, is_of_stream, reset, behind, reset_behind}
 use Rattle.judgement.proofs.Rows.{is_right, none_begun, rows_behind, book_behind}

@@ -1,19 +1,18 @@
 -- WINDOW_UPDATE on a stream: its fault, and what is left behind it.
-use Rattle.std.proofs.Common.{◌≡◌, ℕ, Bool, true, false, not, ◌&&◌, ◌||◌, ◌==◌, nat_lt, if◌then◌else◌, List, [], ◌∷◌, length, map, Option, Some, None, refl, sym, ◌∙◌, ap, subst, inl, inr}
-use Rattle.std.proofs.lemmas.Bool.{and_right, cases_Bool, and_parts, eq-eqb}
+use Rattle.std.proofs.Common.{◌≡◌, ℕ, Bool, true, false, not, ◌&&◌, ◌||◌, ◌==◌, nat_lt, if◌then◌else◌, List, [], ◌∷◌, length, Option, Some, None, refl, sym, ◌∙◌, ap}
+use Rattle.std.proofs.lemmas.Bool.{and_right, and_parts, eq-eqb}
 use Rattle.std.specs.Prelude.{pos, ◌+ℤ◌, is_some, is_none}
 use Rattle.model.specs.Frames.{Frame, protocol_error, flow_control_error}
 use Rattle.model.specs.Setup.{Setup}
 use Rattle.model.specs.Errors.{Fault, first_of, or_else}
-use Rattle.model.specs.Errors.Fault.{Connection, Stream, Discarded}
+use Rattle.model.specs.Errors.Fault.{Connection, Stream}
 use Rattle.model.specs.FrameErrors.{fault_if}
 use Rattle.model.specs.WindowsOnTape.{increment, is_past}
 use Rattle.model.specs.ErrorTable.{fault_of, unless_of_stream, is_idle}
 use Rattle.model.specs.ErrorClause.{is_fatal}
 use Rattle.conduct.specs.Summary.{Brief, Summary, Stream as Kept}
 use Rattle.conduct.specs.Judging.{frame_rows_in, is_active_in, is_over_in, standing_in, window_in, fault_by_standing_in, stream_update_in, stream_data_in, malformed_in, fault_for}
-use Rattle.conduct.specs.Owing.{fault_in}
-use Rattle.conduct.specs.After.{is_sound, stream_from}
+use Rattle.conduct.specs.After.{stream_from}
 use Rattle.conduct.specs.Rows.{Row, Slot, find, kept_in, row_behind, slot_of}
 use Rattle.conduct.specs.Rows.Slot.{Live, Over}
 use Rattle.conduct.specs.Book.{Book, summary_in}
@@ -27,9 +26,9 @@ use Rattle.streams_kept.specs.Asked.{standing, active_in, is_active, changed, wi
 use Rattle.streams_kept.specs.Steps.{granted}
 use Rattle.streams_kept.proofs.Searches.{IsFound}
 use Rattle.streams_kept.proofs.Changes.{slot_left, slot_given}
-use Rattle.judgement.specs.Judgement.{IsPlain, is_of_stream, update, behind, reset_behind}
-use Rattle.judgement.proofs.Rows.{skip, later_rows, fault_later, rows_behind}
-use Rattle.judgement.proofs.Standings.{active_passes, inactive_fails}
+use Rattle.judgement.specs.Judgement.{IsPlain, update, behind, reset_behind}
+use Rattle.judgement.proofs.Rows.{later_rows, fault_later, rows_behind}
+use Rattle.judgement.proofs.Standings.{active_passes}
 use Rattle.judgement.proofs.Streams.{update_mild, standing_rows, rows_stay, begun, stream_behind, reset_left}
 
 module _ (setup : Setup) (b : Book) (flags id : ℕ) (payload : List ℕ) (of_stream : (id == 0) ≡ false) (sound : first_of (frame_rows_in (summary_in b) (update flags id payload)) ≡ None) (kept : AreKept b.rows) where

@@ -1,12 +1,14 @@
 -- What an answer says of a frame of the client that has no fragment of a header block.
 use Rattle.std.specs.Prelude.{◌≡◌, ℕ, Bool, true, false, not, ◌&&◌, ◌||◌, ◌==◌, List, Option, Some, None}
-use Rattle.model.specs.Frames.{Frame, data_kind, headers_kind, rst_stream_kind, ping_kind, window_update_kind, continuation_kind, is_ack}
+use Rattle.model.specs.Frames.{Frame, data_kind, headers_kind, rst_stream_kind, ping_kind, window_update_kind, continuation_kind, is_ack, ends_stream, content}
 use Rattle.model.specs.Setup.{Setup}
 use Rattle.model.specs.SettingValues.{settings_in}
 use Rattle.model.specs.WindowsOnTape.{has_settings}
 use Rattle.model.specs.Errors as errors
 use Rattle.model.specs.ErrorClause.{rst_stream}
-use Rattle.conduct.specs.Owing.{fault_in}
+use Rattle.model.specs.Causes.{Cause}
+use Rattle.conduct.specs.Owing.{fault_in, next_brief}
+use Rattle.conduct.specs.Rows.{find}
 use Rattle.conduct.specs.Quiet.{coming, sending}
 use Rattle.conduct.specs.Book.{Book, summary_in, book_after}
 use Rattle.settings.specs.Views.{IsChange}
@@ -25,11 +27,6 @@ fault_told fault.Discarded = errors.Fault.Discarded
 pub record IsPlain (frame : Frame) : Type 0 where
   pub no_headers : (frame.kind == headers_kind) ≡ false
   pub no_continuation : (frame.kind == continuation_kind) ≡ false
-
--- The frame has no part of a message.
-pub record IsOfNoMessage (frame : Frame) : Type 0 where
-  pub plain : IsPlain frame
-  pub no_data : (frame.kind == data_kind) ≡ false
 
 -- a WINDOW_UPDATE (RFC 9113, section 6.9)
 abbrev pub update : ℕ → ℕ → List ℕ → Frame
@@ -69,21 +66,33 @@ abbrev pub is_ignored : Frame → Bool
 is_ignored frame =
     not (frame.kind == data_kind || frame.kind == rst_stream_kind || frame.kind == window_update_kind || has_settings frame || frame.kind == ping_kind && not (is_ack frame))
 
--- What an answer says of the frame beside that it has no fault; each answer is one to other frames.
-abbrev pub Says : Book → Frame → Book → Judged → Type 0
-Says old frame new (judged.Failed fault) = ⊥
-Says old frame new judged.Ignored = is_ignored frame ≡ true
-Says old frame new (judged.Settings change) =
+-- why the gateway replies itself on the frame's stream before it and behind it, if it does
+abbrev pub cause_before : Book → Frame → Option Cause
+cause_before book frame = (find book.rows frame.id).brief.cause
+
+abbrev pub cause_behind : Setup → Book → Frame → Option Cause
+cause_behind setup book frame = (next_brief setup false frame.id (summary_in book) (coming frame)).cause
+
+-- What an answer says of the frame beside that it has no fault; each answer is one to other frames, or to DATA
+-- with another cause behind it.
+abbrev pub Says : Setup → Book → Frame → Book → Judged → Type 0
+Says setup old frame new (judged.Failed fault) = ⊥
+Says setup old frame new judged.Ignored = is_ignored frame ≡ true
+Says setup old frame new (judged.Settings change) =
     (has_settings frame ≡ true) × IsChange old.first_size new.first_size (settings_in frame.payload) change
-Says old frame new (judged.Ping octets) = (frame.kind ≡ ping_kind) × (is_ack frame ≡ false) × (octets.now ≡ frame.payload)
-Says old frame new judged.Granted = frame.kind ≡ window_update_kind
-Says old frame new judged.Reset = frame.kind ≡ rst_stream_kind
+Says setup old frame new (judged.Ping octets) = (frame.kind ≡ ping_kind) × (is_ack frame ≡ false) × (octets.now ≡ frame.payload)
+Says setup old frame new judged.Granted = frame.kind ≡ window_update_kind
+Says setup old frame new judged.Reset = frame.kind ≡ rst_stream_kind
+Says setup old frame new (judged.Content octets ends) =
+    (frame.kind ≡ data_kind) × (octets.now ≡ content frame) × (ends ≡ ends_stream frame) × (cause_behind setup old frame ≡ cause_before old frame)
+Says setup old frame new judged.LargeBody =
+    (frame.kind ≡ data_kind) × (cause_before old frame ≡ None) × (cause_behind setup old frame ≡ Some Cause.LargeBody)
 
 -- The frame has no fault, and this is the book behind it.
 pub record IsTaken (setup : Setup) (old : Book) (frame : Frame) (new : Book) (answer : Judged) : Type 0 where
   pub faultless : fault_in (summary_in old) (coming frame) ≡ None
   pub left : new ≡ behind setup old frame
-  pub says : Says old frame new answer
+  pub says : Says setup old frame new answer
 
 -- The frame has this fault: the first row of the error table that applies.
 pub record IsFailed (setup : Setup) (old : Book) (frame : Frame) (new : Book) (fault : errors.Fault) : Type 0 where

@@ -7,3 +7,4 @@ pub mod Inbound
 pub mod Judgement
 pub mod Blocks
 pub mod Fragments
+pub mod Admission

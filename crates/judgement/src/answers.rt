@@ -30,6 +30,10 @@ pub enum Judged<'a> {
     Granted,
     /// The client reset an active stream (RFC 9113, section 6.4).
     Reset,
+    /// These octets of the body came on an active stream, and end its request or don't (RFC 9113, section 6.1).
+    Content(&'a [u8], bool),
+    /// The body on an active stream became longer than is taken, so that the gateway replies itself: 413 (RFC 9110, section 15.5.14).
+    LargeBody,
 }
 
 /// What comes of a frame that has a fragment of a header block.

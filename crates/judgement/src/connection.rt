@@ -1,6 +1,6 @@
 //! What is kept of a connection for its client's frames.
 
-ghost use Rattle.std.specs.Prelude.{◌≡◌, ◌≤◌, ◌==◌, [], ◌∷◌, length, false, true, None, Some, IfOk, IfErr, IfNone, OnOk, OnErr, option_map, pos, ◌+ℤ◌};
+ghost use Rattle.std.specs.Prelude.{◌≡◌, ◌≤◌, ◌==◌, ◌&&◌, not, ℕ, List, [], ◌∷◌, length, false, true, None, Some, IfOk, IfErr, IfSome, IfNone, OnOk, OnErr, option_map, is_some, pos, ◌+ℤ◌, ◌-ℤ◌, int_lt};
 ghost use Rattle.model.specs.Setup.{Setup};
 ghost use Rattle.model.specs.Errors.{first_of};
 ghost use Rattle.model.specs.Errors.Fault.{Connection as Fatal, Stream as StreamFault};
@@ -8,12 +8,15 @@ ghost use Rattle.model.specs.FrameErrors.{fault_if};
 ghost use Rattle.model.specs.Windows.{IsSize};
 ghost use Rattle.model.specs.WindowsOnTape.{is_past};
 ghost use Rattle.conduct.specs.Judging.{window_in};
-ghost use Rattle.conduct.specs.Rows.{find};
+ghost use Rattle.conduct.specs.Rows.{find, slot_of};
 ghost use Rattle.conduct.specs.Rows.Slot.{Live as Active};
 ghost use Rattle.stream_state.specs.Views.{kind_in, verdict_in};
-ghost use Rattle.streams_kept.specs.Asked.{is_active, verdict, MayOpen, AllowsOpening};
+ghost use Rattle.streams_kept.specs.Asked.{is_active, verdict, changed, MayOpen, AllowsOpening};
+ghost use Rattle.streams_kept.specs.Steps.{taken};
+ghost use Rattle.streams_kept.specs.Courses.{is_malformed_with};
+ghost use Rattle.streams_kept.specs.Views.{brief_of};
 ghost use Rattle.model.specs.WindowsOnTape.{has_settings};
-ghost use Rattle.model.specs.Frames.{settings_kind, window_update_kind};
+ghost use Rattle.model.specs.Frames.{settings_kind, window_update_kind, ends_stream, content};
 ghost use Rattle.frames.specs.Views.{frame_of};
 ghost use Rattle.frames.specs.Parsed.{Says};
 ghost use Rattle.frames.specs.declared.parts.Frame.TheVariants.{Settings as Entries, Ping as Octets, Other as Unused};
@@ -25,20 +28,22 @@ ghost use Rattle.conduct.specs.Owing.{fault_in};
 ghost use Rattle.conduct.specs.Quiet.{IsQuiet, coming, heard};
 ghost use Rattle.model.specs.ErrorClause.{is_fatal};
 ghost use Rattle.conduct.specs.Tidy.{IsTidy, AreKept};
-ghost use Rattle.judgement.specs.Judgement.{IsOfNoMessage, IsJudged, fault_told, is_of_stream, behind, update, reset};
+ghost use Rattle.judgement.specs.Admission.{IsRefused, IsAdmitted};
+ghost use Rattle.judgement.specs.Judgement.{IsPlain, IsJudged, fault_told, is_of_stream, behind, update, reset, data_frame};
 
 use crate::answers::{Fault, Judged};
+use crate::bodies::{body_code, is_past_room, is_replied_now};
 use crate::codes::{
     FLOW_CONTROL_ERROR, PROTOCOL_ERROR, fault_of, join_code, payload_code, setting_code,
 };
 use flow_control::Window;
-use frames::{Frame, View, has_settings, is_ack, is_misplaced, parse};
+use frames::{Frame, View, ends_stream, has_settings, is_ack, is_misplaced, parse};
 use header_blocks::{Decoder, Joiner};
 use settings::Settings;
 use std::alloc::{AllocError, Global};
 use std::marker::Model;
 use stream_state::{Kind, Verdict};
-use streams_kept::{Live, Streams};
+use streams_kept::{Course, Live, Streams};
 
 /// The first size of windows (RFC 9113, section 6.9.2).
 const FIRST_WINDOW: u32 = 65535;
@@ -280,34 +285,142 @@ impl Connection {
         Judged::Granted
     }
 
-    /// Takes a frame that is right by itself.
-    fn take<'a>(&mut self, view: View<'a>, frame: Frame<'a>) -> Judged<'a>
-        requires of_no_message { IsOfNoMessage (frame_of view) }
-        requires says { Says frame (frame_of view) }
+    /// The fault of DATA that isn't one of its stream, if it has one: its stream is idle, the connection has no room for it, or its stream is
+    /// closed (RFC 9113, sections 5.1 and 6.9.1).
+    fn data_fault(&self, view: View<'_>) -> Option<Fault>
+        requires kind { frame_of view ≡ data_frame view.flags view.id view.payload.now }
+        requires of_stream { (view.id == 0) ≡ false }
+        requires sound { (outside : Outside) → first_of (frame_rows_in (told_of outside self.now) (frame_of view)) ≡ None }
+        requires short { length view.payload.now ≤ 16384 }
+        ensures refused { IfSome result (λ fault. IsRefused self.now (frame_of view.entry) (fault_told fault)) }
+        ensures admitted { IfNone result (IsAdmitted self.now (frame_of view.entry)) }
+    {
+        let fault = fault_of(self.streams.verdict(view.id, Kind::Data));
+        if self.streams.standing(view.id).is_idle() {
+            return fault;
+        }
+        if is_past_room(&self.room, view.payload.len() as u32) {
+            return Some(Fault::Connection(FLOW_CONTROL_ERROR));
+        }
+        let Some(_live) = self.streams.find(view.id) else {
+            return fault;
+        };
+        None
+    }
+
+    /// Passes over DATA whose stream isn't active, or which is an error of the connection; its octets take room of the connection (RFC 9113,
+    /// sections 5.1 and 6.9).
+    fn discard<'a>(&mut self, view: View<'a>, fault: Fault) -> Judged<'a>
+        requires kind { frame_of view ≡ data_frame view.flags view.id view.payload.now }
+        requires of_stream { (view.id == 0) ≡ false }
         requires sound { (outside : Outside) → first_of (frame_rows_in (told_of outside self.old) (frame_of view)) ≡ None }
+        requires short { length view.payload.now ≤ 16384 }
+        requires refused { IsRefused self.old (frame_of view) (fault_told fault) }
         ensures { (setup : Setup) (outside : Outside) → IsJudged setup (book_of outside self.old) (frame_of view.entry) (book_of outside self.new) result }
     {
+        match fault {
+            Fault::Discarded => {
+                self.room.take(view.payload.len() as u32);
+                self.hear(view.id);
+                Judged::Failed(Fault::Discarded)
+            }
+            _ => Judged::Failed(fault),
+        }
+    }
+
+    /// Resets an active stream on which DATA is an error with this code (RFC 9113, section 5.4.2); the octets take room of the connection.
+    fn refuse<'a>(&mut self, view: View<'a>, code: u32) -> Judged<'a>
+        requires kind { frame_of view ≡ data_frame view.flags view.id view.payload.now }
+        requires of_stream { (view.id == 0) ≡ false }
+        requires sound { (outside : Outside) → first_of (frame_rows_in (told_of outside self.old) (frame_of view)) ≡ None }
+        requires short { length view.payload.now ≤ 16384 }
+        requires admitted { IsAdmitted self.old (frame_of view) }
+        requires is { (outside : Outside) → fault_in (told_of outside self.old) (coming (frame_of view)) ≡ Some (StreamFault code) }
+        ensures { (setup : Setup) (outside : Outside) → IsJudged setup (book_of outside self.old) (frame_of view.entry) (book_of outside self.new) result }
+    {
+        self.room.take(view.payload.len() as u32);
+        self.streams.close(view.id, true);
+        self.hear(view.id);
+        Judged::Failed(Fault::Stream(code))
+    }
+
+    /// Notes DATA without a fault on an active stream, behind which this is the course of its request: the whole payload, padding and all, takes
+    /// room of both windows (RFC 9113, section 6.9.1).
+    fn hear_content(&mut self, view: View<'_>, next: Course)
+        requires none_begun { self.old.block ≡ None }
+        requires short { length view.payload.now ≤ 16384 }
+        requires admitted { IsAdmitted self.old (frame_of view) }
+        requires fits { int_lt (find self.old.rows view.id).room (pos (length view.payload.now)) ≡ false }
+        ensures { self.new ≡ record self.old { has_come = true; continuations = 0; last = view.entry.id; room = self.old.room -ℤ pos (length view.entry.payload.now); rows = changed view.entry.id (slot_of (taken (length view.entry.payload.now) (brief_of next) (ends_stream (frame_of view.entry)) (find self.old.rows view.entry.id))) self.old.rows } }
+    {
+        let length = view.payload.len() as u32;
+        self.room.take(length);
+        self.streams.take(view.id, length, next, ends_stream(view));
+        self.hear(view.id);
+    }
+
+    /// Takes DATA (RFC 9113, section 6.1).
+    fn take_data<'a>(&mut self, view: View<'a>, octets: &'a [u8], max_body: u64) -> Judged<'a>
+        requires kind { frame_of view ≡ data_frame view.flags view.id view.payload.now }
+        requires of_stream { (view.id == 0) ≡ false }
+        requires content { octets.now ≡ content (frame_of view) }
+        requires sound { (outside : Outside) → first_of (frame_rows_in (told_of outside self.old) (frame_of view)) ≡ None }
+        requires short { length view.payload.now ≤ 16384 }
+        requires bounded { max_body ≤ 1073741824 }
+        ensures { (setup : Setup) (outside : Outside) → setup.max_body ≡ max_body → IsJudged setup (book_of outside self.old) (frame_of view.entry) (book_of outside self.new) result }
+    {
+        if let Some(fault) = self.data_fault(view) {
+            return self.discard(view, fault);
+        }
+        let Some(live) = self.streams.find(view.id) else {
+            unreachable!();
+        };
+        let (count, ends) = (octets.len() as u32, ends_stream(view));
+        let code = body_code(live, view.payload.len() as u32, count, ends);
+        let before = live.course();
+        let next = before.with_content(count, ends, max_body, live.head_out());
+        if let Some(code) = code {
+            return self.refuse(view, code);
+        }
+        self.hear_content(view, next);
+        if is_replied_now(before, next) {
+            return Judged::LargeBody;
+        }
+        Judged::Content(octets, ends)
+    }
+
+    /// Takes a frame that is right by itself.
+    fn take<'a>(&mut self, view: View<'a>, frame: Frame<'a>, max_body: u64) -> Judged<'a>
+        requires plain { IsPlain (frame_of view) }
+        requires says { Says frame (frame_of view) }
+        requires sound { (outside : Outside) → first_of (frame_rows_in (told_of outside self.old) (frame_of view)) ≡ None }
+        requires short { length view.payload.now ≤ 16384 }
+        requires bounded { max_body ≤ 1073741824 }
+        ensures { (setup : Setup) (outside : Outside) → setup.max_body ≡ max_body → IsJudged setup (book_of outside self.old) (frame_of view.entry) (book_of outside self.new) result }
+    {
         match frame {
+            Frame::Data(octets) => self.take_data(view, octets, max_body),
             Frame::Settings(entries) => self.take_settings_or_ack(view, entries),
             Frame::Ping(octets) => self.take_ping(view, octets),
             Frame::WindowUpdate(increment) if view.id == 0 => self.take_update(view, increment),
             Frame::WindowUpdate(increment) => self.take_stream_update(view, increment),
             Frame::RstStream(_) => self.take_reset(view),
             Frame::Other => self.take_other(view),
-            Frame::Data(_) | Frame::Headers(_) | Frame::Continuation(_) => unreachable!(),
+            Frame::Headers(_) | Frame::Continuation(_) => unreachable!(),
         }
     }
 
-    /// Judges a frame that has no part of a message: any but DATA, HEADERS and CONTINUATION; and does what it says. Where it isn't as it should be, its
-    /// fault is the first row of the error table that applies (RFC 9113, section 5.4). An error of the connection changes nothing; behind one of a
-    /// stream that stream is reset.
-    pub fn judge<'a>(&mut self, view: View<'a>) -> Judged<'a>
-        requires of_no_message { IsOfNoMessage (frame_of view) }
+    /// Judges a frame that has no fragment of a header block: any but HEADERS and CONTINUATION; and does what it says. A body may have `max_body`
+    /// octets, at most 1,073,741,824. Where the frame isn't as it should be, its fault is the first row of the error table that applies (RFC 9113,
+    /// section 5.4). An error of the connection changes nothing; behind one of a stream that stream is reset.
+    pub fn judge<'a>(&mut self, view: View<'a>, max_body: u64) -> Judged<'a>
+        requires plain { IsPlain (frame_of view) }
         requires short { length view.payload.now ≤ 16384 }
-        ensures { (setup : Setup) (outside : Outside) → IsJudged setup (book_of outside self.old) (frame_of view.entry) (book_of outside self.new) result }
+        requires bounded { max_body ≤ 1073741824 }
+        ensures { (setup : Setup) (outside : Outside) → setup.max_body ≡ max_body → IsJudged setup (book_of outside self.old) (frame_of view.entry) (book_of outside self.new) result }
     {
         match self.parts(view) {
-            Ok(frame) => self.take(view, frame),
+            Ok(frame) => self.take(view, frame, max_body),
             Err(code) => Judged::Failed(Fault::Connection(code)),
         }
     }

@@ -3,6 +3,7 @@
 
 mod answers;
 mod blocks;
+mod bodies;
 mod codes;
 mod connection;
 mod fragments;

@@ -1,12 +1,12 @@
-use Rattle.std.proofs.Common.{◌≡◌, refl, ap, Some}
+use Rattle.std.proofs.Common.{refl}
 use Rattle.frames.specs.Views.{frame_of}
-use Rattle.judgement.specs.Inbound.{book_of, told_of}
+use Rattle.judgement.specs.Inbound.{told_of}
 use Rattle.model.specs.Errors.Fault.{Connection as Fatal}
 use Rattle.judgement.proofs.Rows.{fault_of_frame}
 use Rattle.judgement.proofs.connection.Connection.judge.Goals as goal
 
 pub returns-in-Err : goal.returns-in-Err
-returns-in-Err c = λ setup outside. record {
+returns-in-Err c = λ setup outside bound. record {
   is = fault_of_frame (told_of outside c.args.self.now) (frame_of c.args.view) (Fatal c.in-Err.code) (c.in-Err.ensures.refused outside);
   left = refl;
 }

@@ -1,4 +1,4 @@
-use Rattle.std.proofs.Common.{◌≡◌, ℕ, ap, sym, ◌∙◌, refl, subst, true, false, ◌==◌, Some, None, List}
+use Rattle.std.proofs.Common.{◌≡◌, ap, sym, ◌∙◌, refl, subst, true, Some, None, List}
 use Rattle.std.specs.Prelude.{option_map}
 use Rattle.model.specs.Frames.{Frame}
 use Rattle.model.specs.ErrorTable.{fault_of as fault_by}
@@ -8,7 +8,7 @@ use Rattle.conduct.specs.Rows.{Row, find}
 use Rattle.conduct.specs.Quiet.{coming, heard}
 use Rattle.conduct.specs.Owing.{fault_in}
 use Rattle.streams_kept.specs.Asked as asked
-use Rattle.judgement.specs.Inbound.{Inbound, Outside, book_of, told_of}
+use Rattle.judgement.specs.Inbound.{Inbound, book_of, told_of}
 use Rattle.judgement.specs.Judgement.{IsPlain, reset, behind, fault_told}
 use Rattle.judgement.specs.contracts.connection.Connection.{the_view}
 use Rattle.judgement.proofs.Standings.{reset_inactive, reset_active}

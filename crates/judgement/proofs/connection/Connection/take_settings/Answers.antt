@@ -1,10 +1,10 @@
-use Rattle.std.proofs.Common.{◌≡◌, ℕ, ap, sym, ◌∙◌, refl, List, Some, true, subst}
+use Rattle.std.proofs.Common.{ℕ, ap, sym, ◌∙◌, refl, List, Some, true, subst}
 use Rattle.model.specs.SettingValues.{settings_in, settings_fault, initial_window_after}
 use Rattle.model.specs.Errors.Fault.{Connection as Fatal}
 use Rattle.settings.specs.Views.{fault_of, IsChange}
 use Rattle.frames.specs.Views.{frame_of}
 use Rattle.streams_kept.specs.Asked.{shifts_past}
-use Rattle.judgement.specs.Inbound.{Inbound, Outside, book_of}
+use Rattle.judgement.specs.Inbound.{Inbound, book_of}
 use Rattle.judgement.specs.contracts.connection.Connection.{the_view}
 use Rattle.judgement.proofs.Controls.{settings_control, control_plain, settings_wrong, settings_past, settings_fault_none, settings_behind}
 use Rattle.judgement.proofs.Answering.{IsSound, no_block_of}

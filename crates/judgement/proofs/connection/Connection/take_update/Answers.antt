@@ -1,15 +1,12 @@
-use Rattle.std.proofs.Common.{◌≡◌, ℕ, ap, sym, ◌∙◌, refl, subst, true, false, ◌==◌, arith, List}
+use Rattle.std.proofs.Common.{◌≡◌, ℕ, ap, sym, ◌∙◌, refl, subst, true, false, ◌==◌}
 use Rattle.std.specs.Prelude.{ℤ, pos, ◌+ℤ◌}
 use Rattle.std.proofs.lemmas.Bool.{ne_eqb}
 use Rattle.model.specs.Frames.{Frame}
 use Rattle.model.specs.WindowsOnTape.{increment, is_past}
 use Rattle.model.specs.Windows.{IsPast, IsSize}
 use Rattle.frames.specs.Views.{frame_of}
-use Rattle.conduct.specs.Book.{Book}
-use Rattle.judgement.specs.Inbound.{Inbound, Outside, book_of}
-use Rattle.judgement.specs.Judgement.{IsPlain, update, IsFailed, IsTaken}
-use Rattle.judgement.specs.declared.answers.Judged.TheVariants.{Granted}
-use Rattle.model.specs.Errors.Fault.{Connection as Fatal}
+use Rattle.judgement.specs.Inbound.{Inbound, book_of}
+use Rattle.judgement.specs.Judgement.{IsPlain, update}
 use Rattle.judgement.specs.contracts.connection.Connection.{the_view}
 use Rattle.judgement.proofs.Controls.{nothing_granted, granted_past, update_fault_none, update_behind}
 use Rattle.judgement.proofs.Answering.{IsSound, no_block_of, past_is, not_past_is}

@@ -76,7 +76,7 @@ opens_so rows id n (answer.Connection code) is allows = absurd (cases (nat_lt n 
 may_open_so : (rows : List Row) (id : ℕ) → (id % 2 == 0) ≡ false → MayOpen rows id → may_open (ids_of rows) id ≡ true
 may_open_so rows id even may =
     let odd : (id % 2 == 1) ≡ true = eq-eqb (id % 2) 1 (let apart = eqb-false (id % 2) 0 even in omega (arith, apart)) in
-    let room : nat_lt (length (ids_of rows)) most_streams ≡ true = lt-ltb (length (ids_of rows)) most_streams (subst (λ n. n < most_streams) (sym (length-map (λ (row : Row). row.id) rows)) may.few) in
+    let room : nat_lt (length (ids_of rows)) most_streams ≡ true = lt-ltb (length (ids_of rows)) most_streams (subst (λ n. n < most_streams) (sym (length-map rows (λ (row : Row). row.id))) may.few) in
     and_from (id % 2 == 1 && list_all (λ other. nat_lt other id) (ids_of rows)) (nat_lt (length (ids_of rows)) most_streams) (and_from (id % 2 == 1) (list_all (λ other. nat_lt other id) (ids_of rows)) odd may.above) room
 
 -- Such a stream is active, or may be opened.
@@ -138,7 +138,7 @@ may_be_opened rows id may =
     record {
       of_stream = not_zero (ids_of rows) id may;
       above = both.1;
-      few = subst (λ n. n < most_streams) (length-map (λ (row : Row). row.id) rows) (ltb-true (length (ids_of rows)) most_streams parts.1);
+      few = subst (λ n. n < most_streams) (length-map rows (λ (row : Row). row.id)) (ltb-true (length (ids_of rows)) most_streams parts.1);
     }
 
 -- ---- what is kept

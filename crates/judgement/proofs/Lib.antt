@@ -10,7 +10,9 @@ pub mod FragmentBooks
 pub mod FragmentStreams
 pub mod FragmentResets
 pub mod BlockRows
+pub mod Kept
 pub mod BlockBooks
+pub mod Settling
 pub mod Gathering
 pub mod DataFaults
 pub mod DataBehind

@@ -12,7 +12,7 @@ ghost use Rattle.conduct.specs.Rows.Slot.{Over};
 ghost use Rattle.tables.specs.Answers.{IsNoteFor};
 ghost use Rattle.streams_kept.specs.Asked.{verdict};
 ghost use Rattle.streams_kept.specs.Views.{brief_of};
-ghost use Rattle.judgement.specs.Judgement.{fault_told};
+ghost use Rattle.judgement.specs.Judgement.{fault_told, is_of_stream};
 ghost use Rattle.model.specs.Tapes.Note.{Fields};
 ghost use Rattle.model.specs.Courses.{cause_of_block};
 ghost use Rattle.conduct.specs.Summary.{carried_in};
@@ -47,9 +47,11 @@ fn reset(streams: &mut Streams, id: u32) -> Result<(), AllocError>
     requires wanted { IsOpenOrIdle streams.old id }
     ensures { OnOk result (streams.new ≡ placed streams.old id (Over true)) }
 {
-    if streams.find(id).is_none() {
-        streams.open(id, Live::opened(Course::new(), false))?;
+    if streams.find(id).is_some() {
+        streams.close(id, true);
+        return Ok(());
     }
+    streams.open(id, Live::opened(Course::new(), false))?;
     streams.close(id, true);
     Ok(())
 }
@@ -57,11 +59,13 @@ fn reset(streams: &mut Streams, id: u32) -> Result<(), AllocError>
 /// Refuses a block by the state of its stream (RFC 9113, section 5.1).
 fn refuse(streams: &mut Streams, id: u32, fault: Fault) -> Result<BlockJudged, AllocError>
     requires is { fault_by (verdict streams.old id 1) ≡ Some (fault_told fault) }
+    requires wanted { is_of_stream (Some (fault_told fault)) ≡ true → IsOpenOrIdle streams.old id }
     ensures { IfOk result (λ answer. (setup : Setup) (fields : List Line) (ends : Bool) → Settles setup streams.old id fields ends streams.new answer) }
 {
-    if let Fault::Stream(_) = fault {
-        reset(streams, id)?;
-    }
+    let Fault::Stream(_) = fault else {
+        return Ok(BlockJudged::Failed(fault));
+    };
+    reset(streams, id)?;
     Ok(BlockJudged::Failed(fault))
 }
 

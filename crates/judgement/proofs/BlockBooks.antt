@@ -1,5 +1,5 @@
 -- What comes of a whole header block on its stream, and so of the frame that completes it: the book that it leaves.
-use Rattle.std.proofs.Common.{◌≡◌, ℕ, Bool, true, false, not, ◌&&◌, ◌||◌, ◌==◌, if◌then◌else◌, List, [], ◌∷◌, Option, Some, None, refl, sym, ◌∙◌, ap, subst, inl, inr}
+use Rattle.std.proofs.Common.{◌≡◌, Bool, true, false, ◌==◌, if◌then◌else◌, List, [], ◌∷◌, Option, Some, None, refl, sym, ◌∙◌, ap, inl, inr}
 use Rattle.std.proofs.lemmas.Bool.{cases_Bool}
 use Rattle.model.specs.Messages.{Field}
 use Rattle.model.specs.Frames.{Frame, protocol_error}
@@ -14,26 +14,23 @@ use Rattle.model.specs.FrameErrors.{fault_if}
 use Rattle.model.specs.Lifetimes.{may_open}
 use Rattle.model.specs.ErrorTable.{fault_of}
 use Rattle.model.specs.ErrorClause.{is_fatal}
-use Rattle.conduct.specs.Summary.{Brief, Stream as Kept}
+use Rattle.conduct.specs.Summary.{Stream as Kept}
 use Rattle.conduct.specs.Judging.{completed_in, frame_rows_in, fault_for}
 use Rattle.conduct.specs.Owing.{fault_in}
-use Rattle.conduct.specs.After.{kept_behind}
-use Rattle.conduct.specs.Rows.{Row, Slot, fresh, find, slot_of, ids_of, rows_after}
+use Rattle.conduct.specs.Rows.{Row, fresh, find, slot_of, ids_of, rows_after}
 use Rattle.conduct.specs.Rows.Slot.{Over}
 use Rattle.conduct.specs.Book.{Book, summary_in}
 use Rattle.conduct.specs.Tidy.{AreKept}
 use Rattle.streams_kept.specs.Asked as asked
 use Rattle.streams_kept.specs.Asked.{changed}
 use Rattle.judgement.specs.Judgement.{fault_told}
-use Rattle.judgement.specs.Blocks.{placed, kept_with, is_malformed_behind, fault_on, AreLeft, SaysOf, IsSettled, Settles}
-use Rattle.judgement.specs.Fragments.{IsFragment, noted_behind, noted_reset, IsNotedLeft, IsNotedJudged}
-use Rattle.judgement.specs.declared.answers.Fault.{Fault as Told}
-use Rattle.judgement.specs.declared.answers.Fault.TheVariants as told
+use Rattle.judgement.specs.Blocks.{placed, kept_with, is_malformed_behind, fault_on, AreLeft, Settles}
+use Rattle.judgement.specs.Fragments.{IsFragment, noted_behind, IsNotedLeft, IsNotedJudged}
 use Rattle.judgement.specs.declared.answers.BlockJudged.{BlockJudged}
 use Rattle.judgement.specs.declared.answers.BlockJudged.TheVariants as judged
 use Rattle.judgement.proofs.BlockRows.{nothing_known}
 use Rattle.judgement.proofs.FragmentBooks.{heard_with, fragment_book}
-use Rattle.judgement.proofs.FragmentStreams.{told_fault, mild, discarded_rows, block_kept, opened_rows, known_rows}
+use Rattle.judgement.proofs.FragmentStreams.{told_fault, discarded_rows, block_kept, opened_rows, known_rows}
 use Rattle.judgement.proofs.FragmentResets.{reset_known, reset_opened}
 
 module _ (setup : Setup) (b : Book) (frame : Frame) (fields : List Field) (of : IsFragment frame) (sound : first_of (frame_rows_in (summary_in b) frame) ≡ None) (block : Partial) (is_block : completed_in b.block frame ≡ Some block) (of_stream : (frame.id == 0) ≡ false) (kept : AreKept b.rows) where

@@ -1,15 +1,14 @@
 -- Rows where the stream of a whole header block is active or may be opened: which those are, and what changes of them.
-use Rattle.std.proofs.Common.{◌≡◌, ℕ, ◌<◌, Bool, true, false, not, ◌&&◌, ◌||◌, ◌==◌, ◌%◌, nat_lt, if◌then◌else◌, List, [], ◌∷◌, length, map, Option, Some, None, refl, sym, ◌∙◌, ap, subst, inl, inr, arith}
-use Rattle.std.proofs.lemmas.Bool.{and_right, and_parts, and_from, or_parts, cases_Bool, eq-eqb, eqb-false, ne_eqb, lt-ltb, ltb-true}
+use Rattle.std.proofs.Common.{◌≡◌, ℕ, ◌<◌, Bool, true, false, not, ◌&&◌, ◌||◌, ◌==◌, ◌%◌, nat_lt, if◌then◌else◌, List, [], ◌∷◌, length, Some, None, refl, sym, ◌∙◌, ap, subst, inl, inr, arith}
+use Rattle.std.proofs.lemmas.Bool.{and_right, and_parts, and_from, or_parts, cases_Bool, eq-eqb, eqb-false, lt-ltb, ltb-true}
 use Rattle.std.proofs.lemmas.List.{length-map}
 use Rattle.std.proofs.Math.Bool.{or-false}
-use Rattle.std.specs.Prelude.{ℤ, pos, ◌-ℤ◌, is_some, ◌⊎◌}
+use Rattle.std.specs.Prelude.{ℤ, ◌⊎◌}
 use Rattle.std.specs.List.{list_any, list_all}
 use Rattle.model.specs.Frames.{refused_stream}
-use Rattle.model.specs.Errors.{Fault}
 use Rattle.model.specs.Errors.Fault.{Connection, Stream, Discarded}
-use Rattle.model.specs.StreamStates.{StreamState, Standing, Verdict, verdict, opened_verdict, idle_verdict, is_above, most_streams, most_active}
-use Rattle.model.specs.StreamStates.StreamState.{Open, HalfClosedRemote, HalfClosedLocal, Closed, ResetByPeer, ResetByUs}
+use Rattle.model.specs.StreamStates.{Standing, verdict, opened_verdict, idle_verdict, is_above, most_streams, most_active}
+use Rattle.model.specs.StreamStates.StreamState.{ResetByPeer, ResetByUs}
 use Rattle.model.specs.StreamStates.Verdict.{Passes, Opens, Fails}
 use Rattle.model.specs.Lifetimes.{state_by_ends, may_open}
 use Rattle.model.specs.ErrorTable.{fault_of, unless_of_stream}

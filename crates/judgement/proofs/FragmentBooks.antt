@@ -1,10 +1,9 @@
 -- The book behind HEADERS or CONTINUATION: the rows that it leaves, and the rest (RFC 9113, sections 4.3, 5.1 and 8.1).
-use Rattle.std.proofs.Common.{◌≡◌, ℕ, ◌+◌, suc, Bool, true, false, not, ◌&&◌, ◌||◌, ◌==◌, nat_lt, if◌then◌else◌, List, [], ◌∷◌, length, map, Option, Some, None, refl, sym, ◌∙◌, ap, inl, inr}
+use Rattle.std.proofs.Common.{◌≡◌, ℕ, ◌+◌, Bool, true, false, not, ◌&&◌, ◌||◌, ◌==◌, nat_lt, if◌then◌else◌, List, [], ◌∷◌, length, map, Option, None, refl, sym, ◌∙◌, ap, inl, inr}
 use Rattle.std.proofs.lemmas.Bool.{and_right, cases_eq, ne_eqb}
-use Rattle.std.specs.Prelude.{ℤ, is_some, is_none}
+use Rattle.std.specs.Prelude.{is_none}
 use Rattle.std.specs.List.{AllByRecursion}
 use Rattle.std.proofs.lemmas.List.Elements.{recursion_from_All}
-use Rattle.std.proofs.lemmas.List.{map-id}
 use Rattle.model.specs.Messages.{Item}
 use Rattle.model.specs.Messages.Item.{Content}
 use Rattle.model.specs.Frames.{Frame, is_ack, ends_stream, content}
@@ -12,20 +11,20 @@ use Rattle.model.specs.Setup.{Setup}
 use Rattle.model.specs.Tapes.{Noted}
 use Rattle.model.specs.Tapes.Entry.{Came}
 use Rattle.model.specs.Decoding.{Partial}
-use Rattle.model.specs.Errors.{Fault, first_of}
+use Rattle.model.specs.Errors.{Fault}
 use Rattle.model.specs.Streams.{frame_items}
 use Rattle.model.specs.SettingValues.{settings_in, settings_fault, initial_window_after}
-use Rattle.model.specs.WindowsOnTape.{has_settings, increment, is_any}
+use Rattle.model.specs.WindowsOnTape.{increment}
 use Rattle.model.specs.Lifetimes.{opens_by, ends_by}
 use Rattle.model.specs.Courses.{cause_of_frame, interrupts}
 use Rattle.model.specs.Causes.{cause_if}
 use Rattle.model.specs.Causes.Cause.{LargeBody}
 use Rattle.model.specs.ErrorClause.{is_fatal}
 use Rattle.conduct.specs.Summary.{Brief, carried_in, Stream as Kept, Summary}
-use Rattle.conduct.specs.Judging.{completed_in, continuations_in, is_over_in, shifts_past_in, fault_for}
+use Rattle.conduct.specs.Judging.{completed_in, continuations_in, shifts_past_in, fault_for}
 use Rattle.conduct.specs.Owing.{fault_in, new_cause_in, items_in}
 use Rattle.conduct.specs.After.{begun_after, is_sound, grant, kept_behind}
-use Rattle.conduct.specs.Rows.{Row, Slot, kept_in, slot_of, find, over_kept, row_behind, row_opened, rows_after}
+use Rattle.conduct.specs.Rows.{Row, Slot, kept_in, slot_of, over_kept, row_behind, row_opened, rows_after}
 use Rattle.conduct.specs.Rows.Slot.{Live, Over}
 use Rattle.conduct.specs.Book.{Book, summary_in}
 use Rattle.conduct.specs.Tidy.{IsSteady, IsTidy, IsRow, AreKept}

@@ -1,9 +1,9 @@
 -- HEADERS and CONTINUATION: their fault, by what is noted of the header block that they complete (RFC 9113, sections 4.3, 5.1, 5.1.1 and 8.1.1).
-use Rattle.std.proofs.Common.{◌≡◌, ℕ, Bool, true, false, not, ◌&&◌, ◌||◌, ◌==◌, if◌then◌else◌, List, [], ◌∷◌, ◌++◌, length, Option, Some, None, refl, sym, ◌∙◌, ap}
+use Rattle.std.proofs.Common.{◌≡◌, ℕ, Bool, true, false, not, ◌&&◌, ◌||◌, ◌==◌, if◌then◌else◌, List, [], ◌∷◌, length, Option, Some, None, refl, ◌∙◌, ap}
 use Rattle.std.proofs.lemmas.Bool.{and_right}
 use Rattle.std.specs.Prelude.{pos, ◌+ℤ◌, is_some, int_lt, option_map}
 use Rattle.model.specs.Frames.{Frame, is_ack, content, ends_stream, headers_kind, rst_stream_kind, window_update_kind, protocol_error, flow_control_error, compression_error}
-use Rattle.model.specs.Tapes.{Note, Noted}
+use Rattle.model.specs.Tapes.{Noted}
 use Rattle.model.specs.Tapes.Entry.{Came}
 use Rattle.model.specs.Decoding.{Partial}
 use Rattle.model.specs.Errors.{Fault, first_of, or_else}
@@ -12,9 +12,9 @@ use Rattle.model.specs.FrameErrors.{fault_if}
 use Rattle.model.specs.Malformed.{is_malformed_content}
 use Rattle.model.specs.SettingValues.{settings_in, settings_fault, code_of_fault, initial_window_after}
 use Rattle.model.specs.WindowsOnTape.{has_settings, increment, is_past}
-use Rattle.model.specs.ErrorTable.{judged, is_idle, is_headers, is_undecodable, is_malformed, is_bad_block, unless_of_stream, fault_of}
+use Rattle.model.specs.ErrorTable.{judged, is_idle, is_headers, is_undecodable, is_malformed, is_bad_block, unless_of_stream}
 use Rattle.conduct.specs.Summary.{Brief, carried_in, Summary}
-use Rattle.conduct.specs.Judging.{completed_in, frame_rows_in, values_in, shift_in, shifts_past_in, connection_update_in, idle_in, connection_data_in, fault_on_in, fault_by_standing_in, standing_in, stream_update_in, stream_data_in, is_active_in, window_in, malformed_in, fault_for}
+use Rattle.conduct.specs.Judging.{completed_in, frame_rows_in, rows_before_block_in, values_in, shift_in, shifts_past_in, connection_update_in, idle_in, connection_data_in, fault_on_in, fault_by_standing_in, standing_in, stream_update_in, stream_data_in, is_active_in, window_in, malformed_in, fault_for}
 use Rattle.judgement.specs.Fragments.{IsFragment}
 use Rattle.judgement.proofs.Rows.{first_past, skip, no_fault}
 use Rattle.judgement.proofs.Controls.{both_none}
@@ -67,6 +67,23 @@ module _ (s : Summary) (noted : Noted) (of : IsFragment noted.frame) where
   no_stream_data : stream_data_in s frame ≡ None
   no_stream_data = no_fault _ _ (ap (λ b. is_active_in frame.id s && (b && int_lt (s.stream frame.id).room (pos (length frame.payload)))) of.no_data ∙ and_right (is_active_in frame.id s) false refl)
 
+  -- it is judged as no type where it completes no block
+  as_none : judged None frame ≡ None
+  as_none =
+      ap (λ b. if b || frame.kind == rst_stream_kind || frame.kind == window_update_kind then Some frame.kind else None) of.no_data
+      ∙ ap (λ b. if b || frame.kind == window_update_kind then Some frame.kind else None) of.no_reset
+      ∙ ap (λ b. if b then Some frame.kind else None) of.no_update
+
+  -- an idle stream is nothing to it
+  idle_none : (o : Option Partial) → completed_in s.block frame ≡ o → idle_in s frame ≡ None
+  idle_none (Some block) is =
+      ap (λ (o : Option Partial). if is_idle (standing_in s frame.id) && not (is_headers (judged o frame)) then fault_on_in s frame.id (judged o frame) else None) is
+      ∙ ap (λ x. if x then fault_on_in s frame.id (Some headers_kind) else None) (and_right (is_idle (standing_in s frame.id)) false refl)
+  idle_none None is =
+      ap (λ (o : Option Partial). if is_idle (standing_in s frame.id) && not (is_headers (judged o frame)) then fault_on_in s frame.id (judged o frame) else None) is
+      ∙ ap (λ (k : Option ℕ). if is_idle (standing_in s frame.id) && not (is_headers k) then fault_on_in s frame.id k else None) as_none
+      ∙ none_if (is_idle (standing_in s frame.id) && true)
+
   -- what is left where its stream is judged so
   rows_left : first_of (rows_from s noted) ≡ first_of (idle_in s frame ∷ fault_if (is_undecodable noted.note) (Connection compression_error) ∷ unless_of_stream (fault_by_standing_in s frame) ∷ fault_by_standing_in s frame ∷ [])
   rows_left =
@@ -113,9 +130,13 @@ module _ (s : Summary) (noted : Noted) (of : IsFragment noted.frame) where
         ∙ ap (λ (o : Option Fault). or_else (first_of (o ∷ fault_if (is_undecodable noted.note) (Connection compression_error) ∷ None ∷ None ∷ [])) (fault_if (not (is_some brief.cause) && is_malformed (carried_in brief) None noted) (Stream protocol_error))) (none_if (is_idle (standing_in s frame.id) && true))
         ∙ ap (λ b. or_else (first_of (None ∷ fault_if b (Connection compression_error) ∷ None ∷ None ∷ [])) (fault_if (not (is_some brief.cause) && is_malformed (carried_in brief) None noted) (Stream protocol_error))) read
         ∙ no_fault _ _ (ap (λ b. not (is_some brief.cause) && (b && is_malformed_content (carried_in brief) (content frame) (ends_stream frame))) of.no_data ∙ and_right (not (is_some brief.cause)) false refl)
-      where
-        as_none : judged None frame ≡ None
-        as_none =
-            ap (λ b. if b || frame.kind == rst_stream_kind || frame.kind == window_update_kind then Some frame.kind else None) of.no_data
-            ∙ ap (λ b. if b || frame.kind == window_update_kind then Some frame.kind else None) of.no_reset
-            ∙ ap (λ b. if b then Some frame.kind else None) of.no_update
+
+    -- Where it is right by itself, nothing is wrong before its block is read.
+    pub none_before : first_of (rows_before_block_in s frame) ≡ None
+    none_before =
+        first_past (frame_rows_in s frame) (values_in frame ∷ shift_in s frame ∷ connection_update_in s frame ∷ idle_in s frame ∷ connection_data_in s frame ∷ []) sound
+        ∙ skip _ _ no_values
+        ∙ skip _ _ no_shift
+        ∙ skip _ _ no_update
+        ∙ skip _ _ (idle_none (completed_in s.block frame) refl)
+        ∙ skip _ _ no_data

@@ -1,5 +1,5 @@
 -- A frame that completes a header block and is an error of its stream: what it and the reset of the stream leave (RFC 9113, section 5.4.2).
-use Rattle.std.proofs.Common.{◌≡◌, ℕ, Bool, true, false, ◌==◌, if◌then◌else◌, List, [], ◌∷◌, map, Option, Some, None, refl, sym, ◌∙◌, ap}
+use Rattle.std.proofs.Common.{◌≡◌, ℕ, true, false, ◌==◌, List, [], ◌∷◌, map, Option, Some, None, refl, sym, ◌∙◌, ap}
 use Rattle.std.proofs.lemmas.Bool.{ne_eqb}
 use Rattle.std.specs.Prelude.{ℤ, pos, ◌+ℤ◌}
 use Rattle.std.specs.List.{AllByRecursion}
@@ -17,12 +17,11 @@ use Rattle.model.specs.ErrorTable.{fault_of}
 use Rattle.model.specs.ErrorClause.{is_fatal, rst_stream}
 use Rattle.conduct.specs.Summary.{Brief}
 use Rattle.conduct.specs.Judging.{completed_in, frame_rows_in, fault_for}
-use Rattle.conduct.specs.Owing.{fault_in}
 use Rattle.conduct.specs.After.{begun_after}
 use Rattle.conduct.specs.Rows.{Row, row_behind, row_opened, rows_after, find}
 use Rattle.conduct.specs.Rows.Slot.{Over}
 use Rattle.conduct.specs.Book.{Book, summary_in, book_after}
-use Rattle.conduct.specs.Tidy.{IsRow, AreKept}
+use Rattle.conduct.specs.Tidy.{AreKept}
 use Rattle.conduct.specs.Quiet.{sending}
 use Rattle.conduct.proofs.Elsewhere.{row_stays, none_more, none_less}
 use Rattle.streams_kept.specs.Asked as asked

@@ -1,22 +1,21 @@
 -- A frame that completes a header block which can be read: what it leaves of the streams (RFC 9113, sections 5.1, 5.1.1, 5.1.2 and 8.1).
-use Rattle.std.proofs.Common.{◌≡◌, ℕ, ◌+◌, arith, Bool, true, false, not, ◌&&◌, ◌||◌, ◌==◌, ◌%◌, nat_lt, if◌then◌else◌, List, [], ◌∷◌, length, map, Option, Some, None, refl, sym, ◌∙◌, ap, subst, inl, inr}
-use Rattle.std.proofs.lemmas.Bool.{and_right, and_parts, lt-ltb, eqb-false, cases_Bool, cases_eq, ne_eqb, eq-eqb}
+use Rattle.std.proofs.Common.{◌≡◌, ℕ, arith, Bool, true, false, not, ◌&&◌, ◌||◌, ◌==◌, nat_lt, if◌then◌else◌, List, [], ◌∷◌, length, map, Option, Some, None, refl, sym, ◌∙◌, ap, inl, inr}
+use Rattle.std.proofs.lemmas.Bool.{lt-ltb, eqb-false, cases_Bool, eq-eqb}
 use Rattle.std.proofs.lemmas.List.{map-id}
 use Rattle.std.specs.Prelude.{is_some, ◌⊎◌}
-use Rattle.std.specs.List.{list_any}
 use Rattle.model.specs.Messages.{Field, Item}
 use Rattle.model.specs.Messages.Item.{Block}
-use Rattle.model.specs.Frames.{Frame, headers_kind, protocol_error, refused_stream}
+use Rattle.model.specs.Frames.{Frame, protocol_error, refused_stream}
 use Rattle.model.specs.Setup.{Setup}
 use Rattle.model.specs.Tapes.{Noted}
 use Rattle.model.specs.Tapes.Note.{Fields}
 use Rattle.model.specs.Tapes.Entry.{Came}
 use Rattle.model.specs.Decoding.{Partial}
 use Rattle.model.specs.Errors.{Fault, first_of, or_else}
-use Rattle.model.specs.Errors.Fault.{Connection, Stream, Discarded}
+use Rattle.model.specs.Errors.Fault.{Stream, Discarded}
 use Rattle.model.specs.FrameErrors.{fault_if}
 use Rattle.model.specs.WindowsOnTape.{increment}
-use Rattle.model.specs.StreamStates.{StreamState, Standing, verdict, opened_verdict, most_active}
+use Rattle.model.specs.StreamStates.{Standing, verdict, opened_verdict, most_active}
 use Rattle.model.specs.StreamStates.Verdict.{Opens, Fails}
 use Rattle.model.specs.StreamStates.StreamState.{ResetByPeer, ResetByUs}
 use Rattle.model.specs.Lifetimes.{state_by_ends, may_open, opens_by, ends_by}
@@ -24,12 +23,12 @@ use Rattle.model.specs.ErrorTable.{is_bad_block, fault_of}
 use Rattle.model.specs.ErrorClause.{is_fatal}
 use Rattle.model.specs.Causes.{Cause}
 use Rattle.model.specs.Courses.{cause_of_block, cause_of_frame, interrupts}
-use Rattle.model.specs.Streams.{frame_items, block_items}
+use Rattle.model.specs.Streams.{frame_items}
 use Rattle.conduct.specs.Summary.{Brief, carried_in, Stream as Kept, Summary}
-use Rattle.conduct.specs.Judging.{completed_in, frame_rows_in, standing_in, fault_on_in, is_over_in, fault_for}
+use Rattle.conduct.specs.Judging.{completed_in, frame_rows_in, is_over_in, fault_for}
 use Rattle.conduct.specs.Owing.{brief_behind, brief_from, new_cause_in, items_in}
 use Rattle.conduct.specs.After.{is_sound, grant, kept_behind}
-use Rattle.conduct.specs.Rows.{Row, Slot, fresh, over_kept, kept_in, slot_of, find, ids_of, row_behind, row_opened, rows_after}
+use Rattle.conduct.specs.Rows.{Row, Slot, over_kept, kept_in, slot_of, find, row_behind, row_opened, rows_after}
 use Rattle.conduct.specs.Rows.Slot.{Live, Over}
 use Rattle.conduct.specs.Book.{Book, summary_in}
 use Rattle.conduct.specs.Tidy.{IsTidy, IsRow, AreKept}

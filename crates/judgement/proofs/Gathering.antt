@@ -1,31 +1,28 @@
 -- HEADERS and CONTINUATION that are right by themselves: what they go on with, and frames with which their block goes on (RFC 9113, section 4.3).
-use Rattle.std.proofs.Common.{◌≡◌, ℕ, suc, ◌+◌, ◌<◌, ◌≤◌, Bool, true, false, not, ◌&&◌, ◌||◌, ◌==◌, ◌%◌, nat_lt, if◌then◌else◌, List, [], ◌∷◌, ◌++◌, length, Option, Some, None, refl, sym, ◌∙◌, ap, subst, arith}
+use Rattle.std.proofs.Common.{◌≡◌, ℕ, suc, ◌+◌, ◌<◌, ◌≤◌, Bool, true, false, not, ◌&&◌, ◌||◌, ◌==◌, ◌%◌, nat_lt, if◌then◌else◌, [], ◌∷◌, ◌++◌, length, Option, Some, None, refl, sym, ◌∙◌, ap, arith}
 use Rattle.std.proofs.lemmas.Bool.{or_parts}
 use Rattle.std.proofs.lemmas.Bool.Decides.{nat_tests}
 use Rattle.std.proofs.lemmas.List.{length-append}
 use Rattle.std.specs.Prelude.{is_some}
-use Rattle.model.specs.Frames.{Frame, ends_headers, content, enhance_your_calm}
+use Rattle.model.specs.Frames.{Frame, ends_headers, ends_stream, content, enhance_your_calm}
 use Rattle.model.specs.Setup.{Setup}
 use Rattle.model.specs.Decoding.{Partial, joined}
-use Rattle.model.specs.Errors.{Fault, first_of, row_first_frame}
+use Rattle.model.specs.Errors.{row_first_frame}
 use Rattle.model.specs.Errors.Fault.{Connection}
 use Rattle.model.specs.FrameErrors.{fault_if, is_between, is_misplaced, is_long, longest_block, most_continuations}
 use Rattle.model.specs.ErrorClause.{is_fatal}
 use Rattle.conduct.specs.Summary.{Brief}
-use Rattle.conduct.specs.Judging.{completed_in, fault_for, continuations_in, between_in, long_block_in, misplaced_in, payload_in, frame_rows_in}
-use Rattle.conduct.specs.Owing.{fault_in}
-use Rattle.conduct.specs.After.{begun_after}
+use Rattle.conduct.specs.Judging.{completed_in, fault_for, continuations_in, between_in, long_block_in, misplaced_in, payload_in}
 use Rattle.conduct.specs.Rows.{find}
-use Rattle.conduct.specs.Book.{summary_in}
 use Rattle.conduct.specs.Tidy.{AreKept}
 use Rattle.conduct.specs.Quiet.{noted_of, coming}
-use Rattle.header_blocks.specs.Joining.{Joining, HasRoom}
 use Rattle.judgement.specs.Inbound.{Inbound, Outside, book_of, told_of}
 use Rattle.judgement.specs.Judgement.{behind}
-use Rattle.judgement.specs.Fragments.{IsFragment}
+use Rattle.judgement.specs.Fragments.{IsFragment, Completes}
 use Rattle.judgement.proofs.Rows.{none_here, is_right}
 use Rattle.judgement.proofs.Answering.{IsSound, nothing}
-use Rattle.judgement.proofs.FragmentFaults.{fragment_fault}
+use Rattle.tables.specs.Verdicts.{verdict_in}
+use Rattle.judgement.proofs.FragmentFaults.{fragment_fault, none_before}
 use Rattle.judgement.proofs.FragmentBooks.{heard_with, fragment_rows, fragment_book}
 
 -- ---- the type of such a frame
@@ -117,3 +114,62 @@ gathered_book i frame of is sound kept setup outside =
     (fragment_rows setup (told_of outside i) (noted_of frame) of (goes_on i.block frame is) (gathered_fault i frame of is sound outside) i.rows kept)
     (ap is_fatal (gathered_fault i frame of is sound outside (find i.rows frame.id).brief))
     ∙ ap (λ x. record (heard_with (book_of outside i) frame i.rows) { block = if x then None else joined i.block frame }) is
+
+-- ---- what the decoder is asked
+
+-- a frame that is right by itself is no error before its block is read
+pub no_error_before : (i : Inbound) (frame : Frame) → IsFragment frame → IsSound i frame → (outside : Outside) → (verdict_in (told_of outside i) frame).is_error ≡ false
+no_error_before i frame of sound outside = ap is_some (none_before (told_of outside i) (noted_of frame) of (sound outside))
+
+-- The book behind HEADERS whose block goes on.
+pub first_book : (i : Inbound) (frame : Frame) → frame.kind ≡ 1 → ends_headers frame ≡ false → IsSound i frame → AreKept i.rows → (setup : Setup) (outside : Outside) (begun : Option Partial) → begun ≡ Some (record { id = frame.id; ends = ends_stream frame; fragments = content frame })
+    → record (book_of outside i) { has_come = true; block = begun; continuations = 0; last = frame.id } ≡ behind setup (book_of outside i) frame
+first_book i frame kind is sound kept setup outside begun begun_is =
+    ap (λ (o : Option Partial). record (book_of outside i) { has_come = true; block = o; continuations = 0; last = frame.id }) (begun_is ∙ sym first)
+    ∙ ap (λ n. record (book_of outside i) { has_come = true; block = joined i.block frame; continuations = n; last = frame.id }) (sym (ap (λ k. if k == 9 then suc i.continuations else 0) kind))
+    ∙ sym (gathered_book i frame (of_headers frame kind) is sound kept setup outside)
+  where
+    first : joined i.block frame ≡ Some (record { id = frame.id; ends = ends_stream frame; fragments = content frame })
+    first =
+        ap (λ (o : Option Partial). joined o frame) (headers_first i frame kind sound)
+        ∙ ap (λ k. if k == 1 then Some (record { id = frame.id; ends = ends_stream frame; fragments = content frame }) else None) kind
+
+-- The book behind a CONTINUATION whose block goes on.
+pub more_book : (i : Inbound) (frame : Frame) → frame.kind ≡ 9 → ends_headers frame ≡ false → IsSound i frame → AreKept i.rows → (setup : Setup) (outside : Outside) (by : IsBegun i frame) (begun : Option Partial) (count : ℕ)
+    → begun ≡ Some (record by.block { fragments = by.block.fragments ++ content frame }) → count ≡ suc i.continuations
+    → record (book_of outside i) { has_come = true; block = begun; continuations = count; last = frame.id } ≡ behind setup (book_of outside i) frame
+more_book i frame kind is sound kept setup outside by begun count begun_is count_is =
+    ap (λ (o : Option Partial). record (book_of outside i) { has_come = true; block = o; continuations = count; last = frame.id }) (begun_is ∙ sym (joined_with i frame kind by))
+    ∙ ap (λ n. record (book_of outside i) { has_come = true; block = joined i.block frame; continuations = n; last = frame.id }) (count_is ∙ sym (ap (λ k. if k == 9 then suc i.continuations else 0) kind))
+    ∙ sym (gathered_book i frame (of_continuation frame kind) is sound kept setup outside)
+
+-- ---- a frame that completes a block
+
+-- HEADERS that are a whole block
+pub headers_complete : (i now : Inbound) (frame : Frame) → frame.kind ≡ 1 → ends_headers frame ≡ true → IsSound i frame → now ≡ record i { continuations = 0 } → Completes i now frame (record { id = frame.id; ends = ends_stream frame; fragments = content frame })
+headers_complete i now frame kind ends sound is = record {
+  of = of_headers frame kind;
+  is_block =
+      ap (λ x. if x then joined i.block frame else None) ends
+      ∙ ap (λ (o : Option Partial). joined o frame) (headers_first i frame kind sound)
+      ∙ ap (λ k. if k == 1 then Some (record { id = frame.id; ends = ends_stream frame; fragments = content frame }) else None) kind;
+  sound = sound;
+  same =
+      is
+      ∙ ap (λ (o : Option Partial). record i { block = o; continuations = 0 }) (headers_first i frame kind sound)
+      ∙ ap (λ n. record i { block = None; continuations = n }) (sym (ap (λ k. if k == 9 then suc i.continuations else 0) kind));
+}
+
+-- the last CONTINUATION
+pub continuation_completes : (i now : Inbound) (frame : Frame) → frame.kind ≡ 9 → ends_headers frame ≡ true → IsSound i frame → (by : IsBegun i frame) → now ≡ record i { block = None; continuations = suc i.continuations } → Completes i now frame (record by.block { fragments = by.block.fragments ++ content frame })
+continuation_completes i now frame kind ends sound by is = record {
+  of = of_continuation frame kind;
+  is_block = ap (λ x. if x then joined i.block frame else None) ends ∙ joined_with i frame kind by;
+  sound = sound;
+  same = is ∙ ap (λ n. record i { block = None; continuations = n }) (sym (ap (λ k. if k == 9 then suc i.continuations else 0) kind));
+}
+
+-- the id of a block that is begun
+abbrev pub id_of : Option Partial → ℕ
+id_of None = 0
+id_of (Some block) = block.id

@@ -14,6 +14,7 @@ pub mod Kept
 pub mod BlockBooks
 pub mod Settling
 pub mod Gathering
+pub mod Fragmenting
 pub mod DataFaults
 pub mod DataBehind
 pub mod Contents

@@ -1,6 +1,6 @@
 -- What comes of a whole header block on its stream, by what the program did.
-use Rattle.std.proofs.Common.{◌≡◌, ℕ, ◌≤◌, Bool, true, false, not, ◌&&◌, ◌||◌, nat_lt, if◌then◌else◌, List, [], ◌∷◌, Option, Some, None, refl, sym, ◌∙◌, ap, arith}
-use Rattle.std.proofs.lemmas.Bool.{and_right, or_right}
+use Rattle.std.proofs.Common.{◌≡◌, ℕ, ◌≤◌, Bool, true, false, not, ◌&&◌, ◌||◌, if◌then◌else◌, List, [], ◌∷◌, Option, Some, None, refl, sym, ◌∙◌, ap, arith}
+use Rattle.std.proofs.lemmas.Bool.{or_right}
 use Rattle.std.proofs.Math.Bool.{or-false}
 use Rattle.std.proofs.lemmas.Bool.Decides.{nat_tests}
 use Rattle.std.specs.Prelude.{is_some, option_map}
@@ -13,13 +13,13 @@ use Rattle.model.specs.Tapes.Note.{Fields}
 use Rattle.model.specs.Errors.{Fault, or_else}
 use Rattle.model.specs.Errors.Fault.{Stream}
 use Rattle.model.specs.FrameErrors.{fault_if}
-use Rattle.model.specs.Malformed.{Carried, carried_by, is_malformed_block, are_trailers, has_length, is_well_formed}
+use Rattle.model.specs.Malformed.{Carried, are_trailers, has_length, is_well_formed}
 use Rattle.model.specs.Http2.{declared_length}
 use Rattle.model.specs.ErrorTable.{fault_of, is_bad_block}
-use Rattle.model.specs.Causes.{Cause, are_large, largest_fields, cause_if, cause_of_head, first_cause}
+use Rattle.model.specs.Causes.{Cause, are_large, largest_fields, cause_if, cause_of_head}
 use Rattle.model.specs.Causes.Cause.{LargeFields}
 use Rattle.model.specs.Courses.{cause_of_block}
-use Rattle.conduct.specs.Summary.{Brief, carried_in, Stream as Kept}
+use Rattle.conduct.specs.Summary.{Brief, carried_in}
 use Rattle.conduct.specs.Owing.{brief_behind}
 use Rattle.conduct.specs.Rows.{Row, find, slot_of}
 use Rattle.causes.specs.Views.{cause_of}
@@ -28,7 +28,6 @@ use Rattle.streams_kept.specs.declared.course.Course.{Course}
 use Rattle.streams_kept.specs.declared.course.Reply.{Reply}
 use Rattle.streams_kept.specs.Views.{brief_of}
 use Rattle.streams_kept.specs.Asked.{verdict}
-use Rattle.judgement.specs.Judgement.{fault_told}
 use Rattle.judgement.specs.Blocks.{placed, kept_so, kept_with, is_malformed_behind, fault_on}
 
 -- ---- faults

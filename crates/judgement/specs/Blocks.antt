@@ -10,7 +10,6 @@ use Rattle.model.specs.Errors.{or_else}
 use Rattle.model.specs.FrameErrors.{fault_if}
 use Rattle.model.specs.Lifetimes.{may_open}
 use Rattle.model.specs.ErrorTable.{fault_of, is_bad_block}
-use Rattle.model.specs.Causes as causes
 use Rattle.model.specs.Courses.{cause_of_block}
 use Rattle.conduct.specs.Summary.{Brief, carried_in, Stream as Kept}
 use Rattle.conduct.specs.Owing.{brief_behind}
@@ -24,8 +23,6 @@ use Rattle.causes.specs.Views.{cause_of}
 use Rattle.causes.specs.Openings.{GoesOn}
 use Rattle.streams_kept.specs.Asked.{verdict, changed, is_active}
 use Rattle.judgement.specs.Judgement.{fault_told}
-use Rattle.judgement.specs.declared.answers.Fault.{Fault}
-use Rattle.judgement.specs.declared.answers.Fault.TheVariants as fault
 use Rattle.judgement.specs.declared.terms.Terms.{Terms}
 use Rattle.judgement.specs.declared.answers.BlockJudged.{BlockJudged}
 use Rattle.judgement.specs.declared.answers.BlockJudged.TheVariants as judged

@@ -1,5 +1,5 @@
 -- What an answer says of a frame with a fragment of a header block, HEADERS or CONTINUATION (RFC 9113, sections 6.2 and 6.10), by what is noted of the block.
-use Rattle.std.specs.Prelude.{◌≡◌, ℕ, Bool, false, ◌==◌, List, Some, None}
+use Rattle.std.specs.Prelude.{◌≡◌, ◌⊎◌, ℕ, Bool, true, false, ◌==◌, List, Some, None}
 use Rattle.model.specs.Messages.{Field}
 use Rattle.model.specs.Tapes.{Note}
 use Rattle.model.specs.Tapes.Note.{Fields, Undecodable}
@@ -12,12 +12,16 @@ use Rattle.conduct.specs.Owing.{fault_in}
 use Rattle.conduct.specs.Rows.{find}
 use Rattle.conduct.specs.Book.{summary_in}
 use Rattle.tables.specs.Rule.{IsNoted}
+use Rattle.tables.specs.Verdicts.{verdict_in}
+use Rattle.header_blocks.specs.declared.fault.DecodeFault.{DecodeFault}
+use Rattle.header_blocks.specs.declared.fault.DecodeFault.TheVariants.{Memory}
+use Rattle.judgement.specs.declared.answers.Fault.TheVariants as fault
 use Rattle.judgement.specs.Inbound.{Inbound, Outside, book_of, told_of}
 use Rattle.judgement.specs.Judgement.{fault_told}
 use Rattle.judgement.specs.Blocks.{SaysOf}
 use Rattle.judgement.specs.declared.answers.BlockJudged.{BlockJudged}
 use Rattle.judgement.specs.declared.answers.BlockJudged.TheVariants as judged
-use Rattle.model.specs.Frames.{Frame, data_kind, rst_stream_kind, settings_kind, window_update_kind}
+use Rattle.model.specs.Frames.{Frame, headers_kind, continuation_kind, data_kind, rst_stream_kind, settings_kind, window_update_kind}
 use Rattle.model.specs.Setup.{Setup}
 use Rattle.model.specs.Tapes.{Noted}
 use Rattle.model.specs.Tapes.Entry.{Came}
@@ -71,10 +75,17 @@ abbrev pub IsNotedJudged : Setup → Book → Noted → Book → BlockJudged →
 IsNotedJudged setup old noted new (judged.Failed fault) = IsNotedFailed setup old noted new (fault_told fault)
 IsNotedJudged setup old noted new answer = IsNotedTaken setup old noted new answer
 
--- The answer is right of a frame that is right by itself, with what the decoder notes of the block that it completes, if it does.
+-- The table that a block leaves is kept, unless the connection ends with an error.
+abbrev pub IsTableLeft : Table → BlockJudged → Table → Type 0
+IsTableLeft next (judged.Failed (fault.Connection code)) new = Unit {0}
+IsTableLeft next answer new = new ≡ next
+
+-- The answer is right of a frame, with what the decoder notes of the block that it completes, if it does, and the table that this leaves.
 pub record IsFragmentJudged (setup : Setup) (outside : Outside) (old : Inbound) (frame : Frame) (new : Inbound) (answer : BlockJudged) : Type 0 where
   pub note : Note
-  pub is_noted : IsNoted (completed_in old.block frame) false old.table note new.table
+  pub next : Table
+  pub is_noted : IsNoted (completed_in old.block frame) (verdict_in (told_of outside old) frame).is_error old.table note next
+  pub table : IsTableLeft next answer new.table
   pub judged : IsNotedJudged setup (book_of outside old) (record { frame = frame; note = note }) (book_of outside new) answer
 
 -- A frame completes this block, and what is kept now is what was kept before it but for the begun block and the count of CONTINUATION frames.
@@ -87,3 +98,12 @@ pub record Completes (before now : Inbound) (frame : Frame) (block : Partial) : 
 -- Octets are no header block by a table.
 abbrev pub IsUndecodable : Table → List ℕ → Type 0
 IsUndecodable table octets = (block : Partial) → block.fragments ≡ octets → IsNoted (Some block) false table Undecodable table
+
+-- The frame has a fragment of a header block.
+abbrev pub IsOfBlock : Frame → Type 0
+IsOfBlock frame = (frame.kind ≡ headers_kind) ⊎ (frame.kind ≡ continuation_kind)
+
+-- the fault says that memory was refused
+abbrev pub is_memory : DecodeFault → Bool
+is_memory Memory = true
+is_memory fault = false

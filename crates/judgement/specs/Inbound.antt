@@ -26,9 +26,8 @@ pub record Inbound : Type 0 where
   pub rows : List Row
   -- the stream of the last frame
   pub last : ℕ
-  -- the header table of the client's blocks (RFC 7541, section 2.3.2), and why no more of them can be read, if so
+  -- the header table of the client's blocks (RFC 7541, section 2.3.2)
   pub table : Table
-  pub fault : Option DecodeFault
 
 -- the rest of the book: what else is kept of a connection that goes on, to which no header block is begun
 pub record Outside : Type 0 where
@@ -57,8 +56,9 @@ book_of outside inbound = record {
 abbrev pub told_of : Outside → Inbound → Summary
 told_of outside inbound = summary_in (book_of outside inbound)
 
--- What holds of the rows, and of the joiner beside the count of CONTINUATION frames.
-pub record IsWhole (rows : List Row) (joining : Joining) (continuations : ℕ) : Type 0 where
+-- What holds of the rows, of the joiner beside the count of CONTINUATION frames, and of the decoder, which can go on.
+pub record IsWhole (rows : List Row) (joining : Joining) (continuations : ℕ) (fault : Option DecodeFault) : Type 0 where
   pub kept : AreKept rows
   pub counted : is_some joining.begun ≡ true → continuations ≡ joining.continuations
   pub of_stream : (block : Partial) → joining.begun ≡ Some block → (block.id == 0) ≡ false
+  pub readable : fault ≡ None

@@ -49,7 +49,7 @@ use streams_kept::{Course, Live, Streams};
 const FIRST_WINDOW: u32 = 65535;
 
 /// The first maximum of a header table, in octets (RFC 9113, section 6.5.2).
-const FIRST_TABLE: u32 = 4096;
+pub(crate) const FIRST_TABLE: u32 = 4096;
 
 /// The greatest size that a window may have (RFC 9113, section 6.9.1).
 const GREATEST: i64 = 2147483647;
@@ -74,9 +74,9 @@ impl Model for Connection {
 
     ghost Value = { Inbound };
 
-    ghost view = { λ c. record { has_come = c.has_come; block = c.joiner.begun; continuations = c.continuations; first_size = c.settings; window = c.window; room = c.room; rows = c.streams; last = c.last; table = c.decoder.table; fault = c.decoder.fault } };
+    ghost view = { λ c. record { has_come = c.has_come; block = c.joiner.begun; continuations = c.continuations; first_size = c.settings; window = c.window; room = c.room; rows = c.streams; last = c.last; table = c.decoder.table } };
 
-    ghost invariant = { λ c. IsWhole c.streams c.joiner c.continuations };
+    ghost invariant = { λ c. IsWhole c.streams c.joiner c.continuations c.decoder.fault };
 }
 
 impl Connection {
@@ -118,7 +118,7 @@ impl Connection {
 
     /// What a frame says, if nothing is wrong with it by itself and by the header block that is begun; else the code of the connection error
     /// that it is (RFC 9113, sections 3.4, 4 and 6).
-    fn parts<'a>(&self, view: View<'a>) -> Result<Frame<'a>, u32>
+    pub(crate) fn parts<'a>(&self, view: View<'a>) -> Result<Frame<'a>, u32>
         requires { length view.payload.now ≤ 16384 }
         ensures says { IfOk result (λ frame. Says frame (frame_of view.entry)) }
         ensures sound { IfOk result (λ frame. (outside : Outside) → first_of (frame_rows_in (told_of outside self.now) (frame_of view.entry)) ≡ None) }

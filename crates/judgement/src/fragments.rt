@@ -5,7 +5,7 @@ ghost use Rattle.model.specs.Decoding.{Partial};
 ghost use Rattle.model.specs.Causes.{largest_fields};
 ghost use Rattle.tables.specs.Answers.{IsReadAs};
 ghost use Rattle.judgement.specs.Blocks.{IsFor};
-ghost use Rattle.judgement.specs.Fragments.{Completes, IsUndecodable, IsFragmentJudged};
+ghost use Rattle.judgement.specs.Fragments.{IsOfBlock, Completes, IsUndecodable, IsFragmentJudged, is_memory};
 ghost use Rattle.model.specs.Setup.{Setup};
 ghost use Rattle.model.specs.Errors.{first_of};
 ghost use Rattle.model.specs.Frames.{ends_headers as closes, headers_kind, continuation_kind, content};
@@ -19,10 +19,10 @@ ghost use Rattle.judgement.specs.Judgement.{behind};
 use crate::answers::{BlockJudged, Fault};
 use crate::blocks::settle;
 use crate::codes::COMPRESSION_ERROR;
-use crate::connection::Connection;
+use crate::connection::{Connection, FIRST_TABLE};
 use crate::terms::Terms;
-use frames::{View, ends_headers, ends_stream};
-use header_blocks::{DecodeFault, Decoded};
+use frames::{Frame, View, ends_headers, ends_stream};
+use header_blocks::{DecodeFault, Decoded, Decoder};
 use std::alloc::AllocError;
 use tables_coder::read_block;
 
@@ -67,18 +67,22 @@ impl Connection {
         Ok(())
     }
 
-    /// What a whole block says, read over the table of the client's blocks, or nothing where its octets are no block (RFC 9113, section 4.3).
-    /// An `Err` says that memory was refused.
+    /// What a whole block says, read over the table of the client's blocks, or nothing where its octets are no block (RFC 9113, section 4.3): no
+    /// other can be read then. An `Err` says that memory was refused.
     fn read(&mut self, octets: &[u8]) -> Result<Option<Decoded>, AllocError>
-        requires { self.old.fault ≡ None }
         ensures read { IfOk result (λ found. IfSome found (λ decoded. IsReadAs self.old.table octets.now largest_fields decoded self.new.table)) }
-        ensures unread { IfOk result (λ found. IfNone found (IsUndecodable self.old.table octets.now × (self.new.table ≡ self.old.table))) }
-        ensures rest { self.new ≡ record self.old { table = self.new.table; fault = self.new.fault } }
+        ensures unread { IfOk result (λ found. IfNone found (IsUndecodable self.old.table octets.now)) }
+        ensures rest { self.new ≡ record self.old { table = self.new.table } }
     {
         match read_block(&mut self.decoder, self.alloc, octets, LARGEST_FIELDS) {
             Ok(decoded) => Ok(Some(decoded)),
-            Err(DecodeFault::Memory) => Err(AllocError),
-            Err(_) => Ok(None),
+            Err(fault) => {
+                self.decoder = Decoder::new(self.alloc, FIRST_TABLE);
+                if is_of_memory(fault) {
+                    return Err(AllocError);
+                }
+                Ok(None)
+            }
         }
     }
 
@@ -91,7 +95,6 @@ impl Connection {
         terms: Terms<'_>,
     ) -> Result<BlockJudged, AllocError>
         requires none_begun { self.old.block ≡ None }
-        requires readable { self.old.fault ≡ None }
         requires of_stream { (view.id == 0) ≡ false }
         requires few { length terms.routes.now ≤ u32.MAX }
         ensures { IfOk result (λ answer. (setup : Setup) (outside : Outside) (before : Inbound) (block : Partial) → IsFor setup terms.entry → Completes before self.old (frame_of view.entry) block → block.ends ≡ ends → block.fragments ≡ octets.now → IsFragmentJudged setup outside before (frame_of view.entry) self.new answer) }
@@ -101,14 +104,10 @@ impl Connection {
         };
         self.has_come = true;
         self.last = view.id;
-        settle(
-            self.alloc,
-            &mut self.streams,
-            view.id,
-            ends,
-            decoded,
-            terms,
-        )
+        let answer = settle(self.alloc, &mut self.streams, view.id, ends, decoded, terms);
+        // Its contract says that the rows are as they have to be.
+        let _ = self.streams.active();
+        answer
     }
 
     /// Takes a HEADERS that is right by itself (RFC 9113, section 6.2).
@@ -122,7 +121,6 @@ impl Connection {
         requires fragment { fragment.now ≡ content (frame_of view) }
         requires short { length view.payload.now ≤ 16384 }
         requires sound { (outside : Outside) → first_of (frame_rows_in (told_of outside self.old) (frame_of view)) ≡ None }
-        requires readable { self.old.fault ≡ None }
         requires few { length terms.routes.now ≤ u32.MAX }
         ensures { IfOk result (λ answer. (setup : Setup) (outside : Outside) → IsFor setup terms.entry → IsFragmentJudged setup outside self.old (frame_of view.entry) self.new answer) }
     {
@@ -145,7 +143,6 @@ impl Connection {
         requires fragment { fragment.now ≡ content (frame_of view) }
         requires short { length view.payload.now ≤ 16384 }
         requires sound { (outside : Outside) → first_of (frame_rows_in (told_of outside self.old) (frame_of view)) ≡ None }
-        requires readable { self.old.fault ≡ None }
         requires few { length terms.routes.now ≤ u32.MAX }
         ensures { IfOk result (λ answer. (setup : Setup) (outside : Outside) → IsFor setup terms.entry → IsFragmentJudged setup outside self.old (frame_of view.entry) self.new answer) }
     {
@@ -159,5 +156,36 @@ impl Connection {
         };
         self.continuations += 1;
         self.take_block(view, block.ends(), block.fragments(), terms)
+    }
+
+    /// Judges a HEADERS or a CONTINUATION, and does what it says. Where it isn't as it should be, its fault is the first row of the error table that
+    /// applies (RFC 9113, section 5.4); the block that it completes is read all the same, unless the connection ends with the fault. Behind an error
+    /// of a stream that stream is reset. An `Err` says that memory was refused, and nothing else then.
+    pub fn judge_fragment(
+        &mut self,
+        view: View<'_>,
+        terms: Terms<'_>,
+    ) -> Result<BlockJudged, AllocError>
+        requires kind { IsOfBlock (frame_of view) }
+        requires short { length view.payload.now ≤ 16384 }
+        requires few { length terms.routes.now ≤ u32.MAX }
+        ensures { IfOk result (λ answer. (setup : Setup) (outside : Outside) → IsFor setup terms.entry → IsFragmentJudged setup outside self.old (frame_of view.entry) self.new answer) }
+    {
+        match self.parts(view) {
+            Ok(Frame::Headers(fragment)) => self.take_headers(view, fragment, terms),
+            Ok(Frame::Continuation(fragment)) => self.take_continuation(view, fragment, terms),
+            Ok(_) => unreachable!(),
+            Err(code) => Ok(BlockJudged::Failed(Fault::Connection(code))),
+        }
+    }
+}
+
+/// Whether a fault says that memory was refused.
+fn is_of_memory(fault: DecodeFault) -> bool
+    ensures { result ≡ is_memory fault }
+{
+    match fault {
+        DecodeFault::Memory => true,
+        _ => false,
     }
 }

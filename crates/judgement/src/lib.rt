@@ -6,6 +6,8 @@ mod blocks;
 mod bodies;
 mod codes;
 mod connection;
+#[cfg(test)]
+mod fragment_tests;
 mod fragments;
 mod terms;
 #[cfg(test)]

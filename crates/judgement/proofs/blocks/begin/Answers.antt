@@ -1,4 +1,4 @@
-use Rattle.std.proofs.Common.{◌≡◌, ℕ, Bool, true, false, List, Option, Some, None, [], ◌∷◌, refl, sym, ◌∙◌, ap}
+use Rattle.std.proofs.Common.{◌≡◌, ℕ, Bool, true, false, List, Option, None, [], ◌∷◌, sym, ◌∙◌, ap}
 use Rattle.model.specs.Messages.{Field}
 use Rattle.model.specs.Messages.Item.{Block}
 use Rattle.model.specs.Setup.{Setup}
@@ -6,7 +6,7 @@ use Rattle.model.specs.Http2.{declared_length}
 use Rattle.conduct.specs.Summary.{Brief, carried_in}
 use Rattle.conduct.specs.Owing.{brief_behind}
 use Rattle.conduct.specs.Rows.{Row, find, slot_of}
-use Rattle.request_rules.specs.Heads.{HeadParts, parts_of}
+use Rattle.request_rules.specs.Heads.{HeadParts}
 use Rattle.causes.specs.Openings.{GoesOn}
 use Rattle.streams_kept.specs.Views.{brief_of}
 use Rattle.streams_kept.specs.declared.course.Course.{Course}

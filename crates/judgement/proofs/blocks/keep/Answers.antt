@@ -1,11 +1,10 @@
-use Rattle.std.proofs.Common.{◌≡◌, true, false, List, Option, Some, None, IfOk, OnOk, ◌∷◌, refl, sym, ◌∙◌, ap, Result, Ok, Err}
-use Rattle.std.specs.Prelude.{is_some}
+use Rattle.std.proofs.Common.{◌≡◌, true, List, ◌∷◌, sym, ◌∙◌, ap}
 use Rattle.conduct.specs.Summary.{Stream as Kept}
-use Rattle.conduct.specs.Rows.{Row, Slot, find, slot_of, fresh}
+use Rattle.conduct.specs.Rows.{Row, Slot, find, slot_of}
 use Rattle.conduct.specs.Rows.Slot.{Live as Active}
 use Rattle.streams_kept.specs.Asked.{is_active, changed}
 use Rattle.streams_kept.specs.Views.{brief_of}
-use Rattle.judgement.specs.Blocks.{placed, kept_so}
+use Rattle.judgement.specs.Blocks.{kept_so}
 use Rattle.judgement.proofs.BlockRows.{placed_active, placed_idle, idle_of, nothing_known, taken_none, opened_so}
 use Rattle.judgement.proofs.Kept.{active_found, none_found, on_ok}
 use Rattle.judgement.proofs.blocks.keep.Goals as goal
@@ -25,4 +24,4 @@ returns c =
     let slot : Active c.opened.result ≡ slot_of (kept_so (find rows c.args.id) (brief_of c.args.course) c.args.ends) =
     ap Active c.opened.ensures ∙ sym (opened_so (brief_of c.args.course) c.args.ends) ∙ ap (λ (k : Kept). slot_of (kept_so k (brief_of c.args.course) c.args.ends)) (sym (nothing_known rows c.args.id may)) in
     on_ok c.open.result c.open.ensures.ok (λ is.
-        is ∙ ap (λ (s : Slot). record { id = c.args.id; slot = s } ∷ rows) slot ∙ sym (placed_idle rows c.args.id (slot_of (kept_so (find rows c.args.id) (brief_of c.args.course) c.args.ends)) may))
+    is ∙ ap (λ (s : Slot). record { id = c.args.id; slot = s } ∷ rows) slot ∙ sym (placed_idle rows c.args.id (slot_of (kept_so (find rows c.args.id) (brief_of c.args.course) c.args.ends)) may))

@@ -1,4 +1,4 @@
-use Rattle.std.proofs.Common.{◌≡◌, sym, ◌∙◌, ap}
+use Rattle.std.proofs.Common.{sym, ◌∙◌, ap}
 use Rattle.conduct.specs.Summary.{Stream as Kept}
 use Rattle.judgement.proofs.BlockRows.{idle_of, nothing_known}
 use Rattle.judgement.proofs.blocks.kept_before.Goals as goal

@@ -1,10 +1,8 @@
-use Rattle.std.proofs.Common.{◌≡◌, true, false, List, Option, Some, None, [], ◌∷◌, refl, sym, ◌∙◌, ap}
+use Rattle.std.proofs.Common.{false, List, [], ◌∷◌, refl, sym, ◌∙◌}
 use Rattle.std.specs.Prelude.{is_some}
 use Rattle.model.specs.Messages.Item.{Block}
 use Rattle.conduct.specs.Summary.{Brief}
-use Rattle.conduct.specs.Owing.{brief_behind}
 use Rattle.conduct.specs.Rows.{Row, find}
-use Rattle.causes.specs.Views.{cause_of}
 use Rattle.streams_kept.specs.Views.{brief_of}
 use Rattle.model.specs.Tapes.Note.{Fields}
 use Rattle.model.specs.Courses.{cause_of_block}
@@ -21,7 +19,7 @@ returns c = λ setup fields.
     record {
       faultless = malformed_by rows c.args.id fields c.args.ends brief false c.requires.passes refl (replied_is_well brief fields c.args.ends replied.0);
       left = left_by setup rows c.keep.new.streams c.args.id fields c.args.ends (brief_of c.args.course) cause c.in_ok-keep.ensures refl (
-      c.requires.course ∙ sym (over_same brief (is_some cause) (Block fields c.args.ends ∷ []) cause (find rows c.args.id).head_out replied.1 replied.0)
-      );
+          c.requires.course ∙ sym (over_same brief (is_some cause) (Block fields c.args.ends ∷ []) cause (find rows c.args.id).head_out replied.1 replied.0)
+          );
       says = replied.1;
     }

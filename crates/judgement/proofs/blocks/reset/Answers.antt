@@ -1,4 +1,4 @@
-use Rattle.std.proofs.Common.{◌≡◌, true, false, List, ◌∷◌, refl, sym, ◌∙◌, ap}
+use Rattle.std.proofs.Common.{◌≡◌, true, List, sym, ◌∙◌, ap}
 use Rattle.conduct.specs.Rows.{Row}
 use Rattle.conduct.specs.Rows.Slot.{Live as Active, Over}
 use Rattle.streams_kept.specs.Asked.{is_active, changed}

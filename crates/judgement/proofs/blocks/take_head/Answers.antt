@@ -1,6 +1,5 @@
-use Rattle.std.proofs.Common.{◌≡◌, ℕ, Bool, true, false, List, Option, Some, None, refl, sym, ◌∙◌, ap, subst}
+use Rattle.std.proofs.Common.{◌≡◌, ℕ, Bool, true, false, List, Some, None, refl, sym, ◌∙◌, ap, subst}
 use Rattle.model.specs.Messages.{Field}
-use Rattle.model.specs.Setup.{Setup}
 use Rattle.model.specs.ErrorTable.{fault_of}
 use Rattle.model.specs.FrameErrors.{fault_if}
 use Rattle.model.specs.Errors.Fault.{Stream}

@@ -1,5 +1,5 @@
 -- What the tests of a head that fits say of it.
-use Rattle.std.proofs.Common.{◌≡◌, ℕ, ◌≤◌, Bool, true, false, not, ◌&&◌, List, [], ◌∷◌, ◌++◌, refl, sym, ap, ◌∙◌}
+use Rattle.std.proofs.Common.{◌≡◌, ℕ, ◌≤◌, Bool, true, false, not, ◌&&◌, List, [], ◌∷◌, ◌++◌, refl, ap, ◌∙◌}
 use Rattle.std.specs.Prelude.{Option, Some, None, codes}
 use Rattle.std.specs.List.{list_any}
 use Rattle.std.proofs.lemmas.Bool.{le-ltb}
@@ -16,7 +16,7 @@ use Rattle.causes.specs.Openings.{is_bad_head, causes_without_routes}
 -- ---- malformed or not
 
 -- a head that fits isn't large
-not_large : (fields : List Field) → total_size fields ≤ largest_fields → are_large fields ≡ false
+pub not_large : (fields : List Field) → total_size fields ≤ largest_fields → are_large fields ≡ false
 not_large fields fits = le-ltb largest_fields (total_size fields) fits
 
 -- one that passes isn't bad
@@ -26,10 +26,6 @@ passes fields ended e = ap (λ b. not (are_large fields) && b) e ∙ neither (no
     neither : (b : Bool) → (b && false) ≡ false
     neither true = refl
     neither false = refl
-
--- one that fits and fails is
-pub fails : (fields : List Field) (ended : Bool) → total_size fields ≤ largest_fields → is_malformed_block (carried_by [] false) fields ended ≡ true → is_bad_head fields ended ≡ true
-fails fields ended fits e = ap (λ b. not b && is_malformed_block (carried_by [] false) fields ended) (not_large fields fits) ∙ e
 
 -- ---- the first cause
 

@@ -1,6 +1,6 @@
 //! What the head of a request comes to.
 
-ghost use Rattle.std.specs.Prelude.{◌≡◌, ◌≤◌, length, codes, bytes_eq, IfOk, option_map};
+ghost use Rattle.std.specs.Prelude.{◌≡◌, ◌≤◌, length, codes, IfOk, option_map};
 ghost use Rattle.model.specs.Setup.{Setup};
 ghost use Rattle.model.specs.Tables.{total_size};
 ghost use Rattle.model.specs.Causes.{largest_fields, has_field, declares_past, first_cause};
@@ -25,8 +25,9 @@ pub enum Opening {
     Forwarded { head: RequestHead, route: u32 },
 }
 
-/// What the head of a request comes to (RFC 9113, section 8), whose sizes sum to no more than the gateway takes; `ended` where it ends its
-/// stream. A body of more octets than `max_body` is too long. An `Err` says that memory was refused.
+/// What the head of a request comes to (RFC 9113, section 8); `ended` where it ends its stream. The sizes of its fields (RFC 7541, section
+/// 4.1) sum to at most 16,384: a head that is larger is answered unread, as too large. A body of more octets than `max_body` is too long. An
+/// `Err` says that memory was refused.
 pub fn judge_head(
     alloc: Global,
     routes: &[Route],
@@ -48,8 +49,10 @@ pub fn judge_head(
         return Ok(Opening::Answered { cause, declared });
     }
     let Some(route) = find_route(routes, head.authority(), head.path()) else {
-        let cause = Cause::NoRoute;
-        return Ok(Opening::Answered { cause, declared });
+        return Ok(Opening::Answered {
+            cause: Cause::NoRoute,
+            declared,
+        });
     };
     Ok(Opening::Forwarded { head, route })
 }
@@ -75,22 +78,14 @@ fn cause_without_routes(head: &RequestHead, max_body: u64, fields: &[Field]) -> 
 fn expects(fields: &[Field]) -> bool
     ensures { result ≡ has_field (codes "expect") fields.now }
 {
-    fields.iter().any(|field| is_expectation(field))
-}
-
-/// Whether a field says that the client expects something.
-fn is_expectation(field: &Field) -> bool
-    ensures { result ≡ bytes_eq field.now.name (codes "expect") }
-{
-    field.name() == b"expect".as_slice()
+    fields
+        .iter()
+        .any(|field| field.name() == b"expect".as_slice())
 }
 
 /// Whether more than so many octets are declared.
 fn is_past(most: u64, declared: Option<u64>) -> bool
     ensures { result ≡ declares_past most declared }
 {
-    match declared {
-        None => false,
-        Some(octets) => most < octets,
-    }
+    declared.is_some_and(|octets| octets > most)
 }

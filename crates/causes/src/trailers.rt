@@ -11,9 +11,9 @@ ghost use Rattle.causes.specs.Openings.{behind_head};
 use hpack_table::Field;
 use request_rules::check_trailers;
 
-/// Whether a header block behind a request's head, whose sizes sum to no more than the gateway takes, are no trailers that end the request
-/// (RFC 9113, section 8.1); `ended` where it ends its stream. The head declared this length of the body in octets, if any, and so
-/// many octets of it came.
+/// Whether a header block behind a request's head is no trailers that end the request (RFC 9113, section 8.1); `ended` where it ends
+/// its stream. The sizes of its fields (RFC 7541, section 4.1) sum to at most 16,384. The head declared this length of the body in
+/// octets, if any, and so many octets of it came.
 pub fn are_malformed_trailers(
     fields: &[Field],
     ended: bool,
@@ -30,8 +30,5 @@ pub fn are_malformed_trailers(
 fn has_length(declared: Option<u64>, octets: u64) -> bool
     ensures { result ≡ has_length declared octets }
 {
-    match declared {
-        None => true,
-        Some(length) => octets == length,
-    }
+    declared.is_none_or(|length| octets == length)
 }

@@ -1,4 +1,4 @@
-use Rattle.std.proofs.Common.{◌+◌, ap, arith}
+use Rattle.std.proofs.Common.{ap, arith}
 use Rattle.model.specs.Tables.{total_size}
 use Rattle.hpack_table.proofs.Kept.{total_none, total_last}
 use Rattle.causes.proofs.tests.fields_of.Goals as goal

@@ -49,7 +49,7 @@ impl Encoder {
         Encoder {
             alloc,
             policy,
-            table: Table::new(alloc, FIRST_MAXIMUM),
+            table: first_table(alloc, policy),
             maximum: FIRST_MAXIMUM,
             limits: None,
             refused: false,
@@ -96,5 +96,16 @@ impl Encoder {
         self.maximum = due.reached;
         self.limits = None;
         Ok(())
+    }
+}
+
+/// The table before the first block. One to which fields are added finds them by their hashes.
+fn first_table(alloc: Global, policy: Policy) -> Table
+    ensures fields { result.fields ≡ [] }
+    ensures maximum { result.maximum ≡ 4096 }
+{
+    match policy {
+        Policy::Plain => Table::new(alloc, FIRST_MAXIMUM),
+        Policy::Indexing => Table::with_index(alloc, FIRST_MAXIMUM),
     }
 }

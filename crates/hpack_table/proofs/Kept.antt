@@ -33,6 +33,16 @@ pub keep_none : (max : ℕ) (field : Field) (fields : List Field) → (field_siz
 unfolding keep
 keep_none max field fields h = if-none (nat_le (field_size field) max) (field ∷ keep (max - field_size field) fields) (λ e. h (leb-true (field_size field) max e))
 
+-- what stays is a front
+if-front : (b : Bool) (field : Field) (kept fields : List Field) → kept ≡ take (length kept) fields → (if b then field ∷ kept else []) ≡ take (length (if b then field ∷ kept else [])) (field ∷ fields)
+if-front true field kept fields front = ap (λ rest. field ∷ rest) front
+if-front false field kept fields front = refl
+
+pub keep_is_front : (max : ℕ) (fields : List Field) → keep max fields ≡ take (length (keep max fields)) fields
+unfolding keep
+keep_is_front max [] = refl
+keep_is_front max (field ∷ fields) = if-front (nat_le (field_size field) max) field (keep (max - field_size field) fields) fields (keep_is_front (max - field_size field) fields)
+
 pub total_none : total_size [] ≡ 0
 unfolding total_size
 total_none = refl

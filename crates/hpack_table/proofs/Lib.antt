@@ -1,4 +1,6 @@
 pub mod StaticTable
+pub mod Chained
+pub mod ByHash
 pub mod Kept
 pub mod Looked
 pub mod Searched

@@ -1,184 +1,112 @@
--- The static table, walked from one name to the next of the same length.
-use Rattle.std.proofs.Common.{◌≡◌, ℕ, zero, suc, ◌+◌, ◌-◌, ◌<◌, ◌≤◌, Bool, true, false, ◌&&◌, ◌||◌, not, nat_eq, nat_lt, nat_le, List, [], ◌∷◌, ◌++◌, length, slice_get, Option, Some, None, MatchOption, refl, ap, sym, ◌∙◌, subst, inl, inr, arith, eq-eqb, eqb-true, ltb-true, lt-ltb, le-leb}
+-- The static table, whose names stand in runs that begin where their slots say.
+use Rattle.std.proofs.Common.{◌≡◌, ℕ, zero, suc, ◌+◌, ◌-◌, ◌<◌, ◌≤◌, Bool, true, false, ◌&&◌, ◌||◌, not, nat_eq, nat_lt, nat_le, List, [], ◌∷◌, ◌++◌, length, get_or, slice_get, Option, Some, None, refl, ap, sym, ◌∙◌, subst, inl, inr, arith, eqb-true, leb-true, le-leb, lt-ltb}
 use Rattle.std.proofs.lemmas.Bool.{cases_lt}
 use Rattle.std.proofs.lemmas.List.{append-nil}
 use Rattle.std.proofs.lemmas.Option.{slice_get-get_or, slice_get_within}
 use Rattle.model.specs.Messages.{Field}
 use Rattle.model.specs.Tables.{field_of, look_up, static_table}
 use Rattle.model.proofs.HuffmanLemmas.{and_left, and_right}
-use Rattle.hpack_table.specs.Searching.{IsNextOfLength, static_alone}
+use Rattle.hpack_table.specs.Finding.{FindsBoth, FindsName, HasNone, HasNoName}
+use Rattle.hpack_table.specs.Searching.{HasNotName, IsStartOf, slot_of, static_alone}
 use Rattle.hpack_table.proofs.Looked.{entries, get_front}
 use Rattle.hpack_table.proofs.Searched.{alone_within}
-use Rattle.hpack_table.specs.declared.static_table.TheConstants.{FIRST, NEXT}
+use Rattle.hpack_table.specs.declared.static_table.TheConstants.{STARTS}
 
--- from a place to before another no name has so many octets; the first of the entries has this place
-abbrev has_none : ℕ → ℕ → ℕ → ℕ → List Field → Bool
-has_none octets from to place [] = true
-has_none octets from to place (entry ∷ entries) = not (nat_le from place && (nat_lt place to && nat_eq (length entry.name) octets)) && has_none octets from to (suc place) entries
+abbrev same : List ℕ → List ℕ → Bool
+same [] [] = true
+same [] (y ∷ ys) = false
+same (x ∷ xs) [] = false
+same (x ∷ xs) (y ∷ ys) = nat_eq x y && same xs ys
 
-none_at : (octets from to first : ℕ) (entries : List Field) (place : ℕ) (entry : Field) → has_none octets from to first entries ≡ true → from ≤ place + first → place + first < to → slice_get entries place ≡ Some entry → length entry.name ≡ octets → ⊥
-none_at octets from to first [] place entry e low high g same = cc
-none_at octets from to first (x ∷ entries) zero entry e low high g same =
-    let is : x ≡ entry = cc in
-    let here : not (nat_le from first && (nat_lt first to && nat_eq (length x.name) octets)) ≡ true = and_left (not (nat_le from first && (nat_lt first to && nat_eq (length x.name) octets))) (has_none octets from to (suc first) entries) e in
-    let a : nat_le from first ≡ true = le-leb from first (omega (arith, low)) in
-    let b : nat_lt first to ≡ true = lt-ltb first to (omega (arith, high)) in
-    let long : length x.name ≡ octets = ap (λ (f : Field). length f.name) is ∙ same in
-    let c : nat_eq (length x.name) octets ≡ true = eq-eqb (length x.name) octets long in
+same_is : (xs ys : List ℕ) → same xs ys ≡ true → xs ≡ ys
+same_is [] [] e = refl
+same_is [] (y ∷ ys) e = cc
+same_is (x ∷ xs) [] e = cc
+same_is (x ∷ xs) (y ∷ ys) e =
+    let head : x ≡ y = eqb-true x y (and_left (nat_eq x y) (same xs ys) e) in
+    let rest : xs ≡ ys = same_is xs ys (and_right (nat_eq x y) (same xs ys) e) in
     cc
-none_at octets from to first (x ∷ entries) (suc place) entry e low high g same =
+
+-- of the entries that begin at a first place, those from a place on and before another one have a name
+abbrev are_named : List ℕ → ℕ → ℕ → ℕ → List Field → Bool
+are_named name from to first [] = true
+are_named name from to first (entry ∷ entries) = (not (nat_le from first && nat_lt first to) || same entry.name name) && are_named name from to (suc first) entries
+
+or_right : (a b : Bool) → a ≡ true → (not a || b) ≡ true → b ≡ true
+or_right true b h e = e
+or_right false b h e = cc
+
+and_both : (a b : Bool) → a ≡ true → b ≡ true → (a && b) ≡ true
+and_both true b h e = e
+and_both false b h e = cc
+
+named_at : (name : List ℕ) (from to first : ℕ) (entries : List Field) (place : ℕ) (entry : Field) → are_named name from to first entries ≡ true → from ≤ place + first → place + first < to → slice_get entries place ≡ Some entry → entry.name ≡ name
+named_at name from to first [] place entry e low high g = cc
+named_at name from to first (x ∷ fields) zero entry e low high g =
+    let is : x ≡ entry = cc in
+    let within : (nat_le from first && nat_lt first to) ≡ true = and_both (nat_le from first) (nat_lt first to) (le-leb from first (omega (arith, low))) (lt-ltb first to (omega (arith, high))) in
+    let here = and_left (not (nat_le from first && nat_lt first to) || same x.name name) (are_named name from to (suc first) fields) e in
+    ap (λ (f : Field). f.name) (sym is) ∙ same_is x.name name (or_right (nat_le from first && nat_lt first to) (same x.name name) within here)
+named_at name from to first (x ∷ fields) (suc place) entry e low high g =
     let far : suc place + first ≡ place + suc first = omega arith in
-    none_at octets from to (suc first) entries place entry (and_right (not (nat_le from first && (nat_lt first to && nat_eq (length x.name) octets))) (has_none octets from to (suc first) entries) e)
-    (subst (λ p. from ≤ p) far low) (subst (λ p. p < to) far high) g same
+    named_at name from to (suc first) fields place entry (and_right (not (nat_le from first && nat_lt first to) || same x.name name) (are_named name from to (suc first) fields) e)
+    (subst (λ p. from ≤ p) far low) (subst (λ p. p < to) far high) g
 
-abbrev is_long : ℕ → Option Field → Bool
-is_long octets None = true
-is_long octets (Some entry) = nat_eq (length entry.name) octets
+-- where the slot of a name says that its entries begin
+abbrev start_at : List ℕ → ℕ
+start_at name = get_or STARTS (slot_of name) 0
 
-abbrev is_next : ℕ → ℕ → ℕ → Bool
-is_next octets from place = has_none octets from place 0 static_table && is_long octets (slice_get static_table place)
+-- each entry stands in a run of its name
+abbrev are_runs : ℕ → List Field → Bool
+are_runs place [] = true
+are_runs place (entry ∷ entries) = nat_le (start_at entry.name) place && (are_named entry.name (start_at entry.name) place 0 static_table && are_runs (suc place) entries)
 
-next_holds : (octets from place : ℕ) → is_next octets from place ≡ true → IsNextOfLength octets from place
-next_holds octets from place e = record {
-  none = λ other entry low less g same.
-      let far : other + 0 ≡ other = omega arith in
-      none_at octets from place 0 static_table other entry (and_left (has_none octets from place 0 static_table) (is_long octets (slice_get static_table place)) e) (subst (λ p. from ≤ p) (sym far) low) (subst (λ p. p < place) (sym far) less) g same;
-  long = λ entry g.
-      let here : is_long octets (Some entry) ≡ true = subst (λ o. is_long octets o ≡ true) g (and_right (has_none octets from place 0 static_table) (is_long octets (slice_get static_table place)) e) in
-      eqb-true (length entry.name) octets here;
-}
-
--- each first place is right
-abbrev firsts : ℕ → List ℕ → Bool
-firsts octets [] = true
-firsts octets (first ∷ others) = is_next octets 0 first && firsts (suc octets) others
-
-firsts_are : firsts 0 FIRST ≡ true
+runs_hold : are_runs 0 static_table ≡ true
 unfolding static_table
-firsts_are = refl
+runs_hold = refl
 
-first_at : (start : ℕ) (numbers : List ℕ) (i first : ℕ) → firsts start numbers ≡ true → slice_get numbers i ≡ Some first → is_next (i + start) 0 first ≡ true
-first_at start [] i first e g = cc
-first_at start (number ∷ numbers) zero first e g =
-    let is : number ≡ first = cc in
-    let none : 0 + start ≡ start = omega arith in
-    rw none (subst (λ n. is_next start 0 n ≡ true) is (and_left (is_next start 0 number) (firsts (suc start) numbers) e))
-first_at start (number ∷ numbers) (suc i) first e g =
-    let far : i + suc start ≡ suc i + start = omega arith in
-    subst (λ p. is_next p 0 first ≡ true) far (first_at (suc start) numbers i first (and_right (is_next start 0 number) (firsts (suc start) numbers) e) g)
+record IsInRun (place : ℕ) (entry : Field) : Type 0 where
+  pub begins : start_at entry.name ≤ place
+  pub named : are_named entry.name (start_at entry.name) place 0 static_table ≡ true
 
--- each next place is right
-abbrev nexts : ℕ → List Field → List ℕ → Bool
-nexts place [] others = true
-nexts place (entry ∷ entries) [] = false
-nexts place (entry ∷ entries) (next ∷ others) = nat_lt place next && (is_next (length entry.name) (place + 1) next && nexts (suc place) entries others)
-
-nexts_are : nexts 0 static_table NEXT ≡ true
-unfolding static_table
-nexts_are = refl
-
--- the number of an entry
-pub record IsNumberOf (place : ℕ) (entry : Field) (numbers : List ℕ) (i : ℕ) : Type 0 where
-  pub next : ℕ
-  pub here : slice_get numbers i ≡ Some next
-  pub later : place < next
-  pub holds : is_next (length entry.name) (place + 1) next ≡ true
-
-next_at : (start : ℕ) (entries : List Field) (numbers : List ℕ) (i : ℕ) (entry : Field) → nexts start entries numbers ≡ true → slice_get entries i ≡ Some entry → IsNumberOf (i + start) entry numbers i
-next_at start [] numbers i entry e g = cc
-next_at start (x ∷ entries) [] i entry e g = cc
-next_at start (x ∷ entries) (number ∷ numbers) zero entry e g =
+run_at : (first : ℕ) (fields : List Field) (place : ℕ) (entry : Field) → are_runs first fields ≡ true → slice_get fields place ≡ Some entry → IsInRun (place + first) entry
+run_at first [] place entry e g = cc
+run_at first (x ∷ fields) zero entry e g =
     let is : x ≡ entry = cc in
-    let rest = and_right (nat_lt start number) (is_next (length x.name) (start + 1) number && nexts (suc start) entries numbers) e in
-    let none : 0 + start ≡ start = omega arith in
-    rw none
-    record {
-      next = number;
-      here = refl;
-      later = ltb-true start number (and_left (nat_lt start number) (is_next (length x.name) (start + 1) number && nexts (suc start) entries numbers) e);
-      holds = subst (λ (f : Field). is_next (length f.name) (start + 1) number ≡ true) is (and_left (is_next (length x.name) (start + 1) number) (nexts (suc start) entries numbers) rest);
-    }
-next_at start (x ∷ entries) (number ∷ numbers) (suc i) entry e g =
-    let rest = and_right (nat_lt start number) (is_next (length x.name) (start + 1) number && nexts (suc start) entries numbers) e in
-    let found = next_at (suc start) entries numbers i entry (and_right (is_next (length x.name) (start + 1) number) (nexts (suc start) entries numbers) rest) g in
-    let far : i + suc start ≡ suc i + start = omega arith in
-    record {
-      next = found.next;
-      here = found.here;
-      later = subst (λ p. p < found.next) far found.later;
-      holds = subst (λ p. is_next (length entry.name) (p + 1) found.next ≡ true) far found.holds;
-    }
-
--- no name is longer than the numbers go
-abbrev all_short : List Field → Bool
-all_short [] = true
-all_short (entry ∷ entries) = nat_lt (length entry.name) 28 && all_short entries
-
-all_are_short : all_short static_table ≡ true
-unfolding static_table
-all_are_short = refl
-
-short_at : (entries : List Field) (place : ℕ) (entry : Field) → all_short entries ≡ true → slice_get entries place ≡ Some entry → length entry.name < 28
-short_at [] place entry e g = cc
-short_at (x ∷ entries) zero entry e g =
-    let is : x ≡ entry = cc in
-    subst (λ (f : Field). length f.name < 28) is (ltb-true (length x.name) 28 (and_left (nat_lt (length x.name) 28) (all_short entries) e))
-short_at (x ∷ entries) (suc place) entry e g = short_at entries place entry (and_right (nat_lt (length x.name) 28) (all_short entries) e) g
-
-first_length : length FIRST ≡ 28
-first_length = refl
-
-none_first : (octets : ℕ) → slice_get FIRST octets ≡ None → 28 ≤ octets
-none_first octets g = elim (cases_lt octets 28) [
-  | inl less ↦ (let there = slice_get-get_or FIRST octets 0 (omega (arith, less, first_length)) in cc)
-  | inr past ↦ past
-]
+    let rest = and_right (nat_le (start_at x.name) first) (are_named x.name (start_at x.name) first 0 static_table && are_runs (suc first) fields) e in
+    let none : 0 + first ≡ first = omega arith in
+    let run : IsInRun first x = record {
+      begins = leb-true (start_at x.name) first (and_left (nat_le (start_at x.name) first) (are_named x.name (start_at x.name) first 0 static_table && are_runs (suc first) fields) e);
+      named = and_left (are_named x.name (start_at x.name) first 0 static_table) (are_runs (suc first) fields) rest;
+    } in
+    subst (λ p. IsInRun p entry) (sym none) (subst (IsInRun first) is run)
+run_at first (x ∷ fields) (suc place) entry e g =
+    let rest = and_right (nat_le (start_at x.name) first) (are_named x.name (start_at x.name) first 0 static_table && are_runs (suc first) fields) e in
+    let far : place + suc first ≡ suc place + first = omega arith in
+    subst (λ p. IsInRun p entry) far (run_at (suc first) fields place entry (and_right (are_named x.name (start_at x.name) first 0 static_table) (are_runs (suc first) fields) rest) g)
 
 pub static_within : (place : ℕ) (entry : Field) → slice_get static_table place ≡ Some entry → place < 61
 static_within place entry e = let within = slice_get_within static_table place entry e in omega (arith, within, entries)
 
-pub has_first : (octets result : ℕ) → MatchOption (slice_get FIRST octets) (result ≡ 61) (λ number. result ≡ number) → IsNextOfLength octets 0 result
-has_first octets result m = tested (slice_get FIRST octets) refl m
-  where
-    tested : (o : Option ℕ) → slice_get FIRST octets ≡ o → MatchOption o (result ≡ 61) (λ number. result ≡ number) → IsNextOfLength octets 0 result
-    tested None g is = record {
-      none = λ place entry low less e same.
-          let short = short_at static_table place entry all_are_short e in
-          let long = none_first octets g in
-          omega (arith, short, long, same);
-      long = λ entry e. let within = static_within result entry e in absurd (omega (arith, within, is));
-    }
-    tested (Some number) g is =
-        let none : octets + 0 ≡ octets = omega arith in
-        subst (IsNextOfLength octets 0) (sym is) (next_holds octets 0 number (subst (λ o. is_next o 0 number ≡ true) none (first_at 0 FIRST octets number firsts_are g)))
+in_run : (place : ℕ) (entry : Field) → slice_get static_table place ≡ Some entry → IsInRun place entry
+in_run place entry e = let none : place + 0 ≡ place = omega arith in subst (λ p. IsInRun p entry) none (run_at 0 static_table place entry runs_hold e)
 
-number_of : (place : ℕ) (entry : Field) → slice_get static_table place ≡ Some entry → IsNumberOf (place + 0) entry NEXT place
-number_of place entry g = next_at 0 static_table NEXT place entry nexts_are g
-
-number_is : (place result : ℕ) (entry : Field) (n : IsNumberOf (place + 0) entry NEXT place) → MatchOption (slice_get NEXT place) (result ≡ 61) (λ number. result ≡ number) → result ≡ n.next
-number_is place result entry n m = subst (λ o. MatchOption o (result ≡ 61) (λ number. result ≡ number)) n.here m
-
-pub has_next : (place result : ℕ) → MatchOption (slice_get NEXT place) (result ≡ 61) (λ number. result ≡ number) → (entry : Field) → slice_get static_table place ≡ Some entry → IsNextOfLength (length entry.name) (place + 1) result
-has_next place result m entry g =
-    let n = number_of place entry g in
-    let none : place + 0 ≡ place = omega arith in
-    subst (IsNextOfLength (length entry.name) (place + 1)) (sym (number_is place result entry n m)) (next_holds (length entry.name) (place + 1) n.next (subst (λ p. is_next (length entry.name) (p + 1) n.next ≡ true) none n.holds))
-
-pub is_later : (place result : ℕ) → place < 61 → MatchOption (slice_get NEXT place) (result ≡ 61) (λ number. result ≡ number) → place < result
-is_later place result within m =
-    let there = slice_get-get_or static_table place (field_of [] []) (omega (arith, entries, within)) in
-    let n = number_of place _ there in
-    let later = n.later in
-    let is : result ≡ n.next = number_is place result _ n m in
-    omega (arith, later, is)
-
--- from an index to a later one no entry has the name, where none has its length
-pub none_between : (name : List ℕ) (from place : ℕ) → IsNextOfLength (length name) from place → (index : ℕ) (entry : Field) → from + 1 ≤ index → index < place + 1 → look_up static_alone index ≡ Some entry → entry.name ≡ name → ⊥
-none_between name from place n zero entry low less e same = absurd (omega (arith, low))
-none_between name from place n (suc other) entry low less e same =
-    let within : suc other < 62 = alone_within (suc other) entry e in
-    let here : slice_get static_table other ≡ Some entry = sym (get_front static_table [] other (omega (arith, entries, within))) ∙ e in
-    n.none other entry (omega (arith, low)) (omega (arith, less)) here (ap length same)
+pub has_start : (name : List ℕ) (result : ℕ) → result ≡ start_at name → IsStartOf name result
+has_start name result is = record {
+  none = λ other less entry e same_name.
+      let begins : start_at name ≤ other = subst (λ n. start_at n ≤ other) same_name (in_run other entry e).begins in
+      omega (arith, less, begins, is);
+  together = λ other later low order without entry e same_name.
+      let within = static_within later entry e in
+      let there = slice_get-get_or static_table other (field_of [] []) (omega (arith, entries, within, order)) in
+      let run = in_run later entry e in
+      let begins : start_at entry.name ≡ result = ap start_at same_name ∙ sym is in
+      elim (cases_lt other later) [
+        | inl less ↦ (let none : other + 0 ≡ other = omega arith in
+            without _ there (named_at entry.name (start_at entry.name) later 0 static_table other _ run.named (omega (arith, low, begins)) (omega (arith, less)) there ∙ same_name))
+        | inr past ↦ (let at : later ≡ other = omega (arith, order, past) in without entry (subst (λ p. slice_get static_table p ≡ Some entry) at e) same_name)
+      ];
+}
 
 pub look_at : (place : ℕ) (entry : Field) → slice_get static_table place ≡ Some entry → look_up static_alone (place + 1) ≡ Some entry
 look_at place entry g =
@@ -186,7 +114,94 @@ look_at place entry g =
     let far : place + 1 ≡ suc place = omega arith in
     rw far (get_front static_table [] place (omega (arith, entries, within)) ∙ g)
 
-pub look_none : (place : ℕ) → slice_get static_table place ≡ None → look_up static_alone (place + 1) ≡ None
-look_none place g =
-    let far : place + 1 ≡ suc place = omega arith in
-    rw far (ap (λ l. slice_get l place) (append-nil static_table) ∙ g)
+-- an entry by its index is one by its place
+record StandsAt (index : ℕ) (entry : Field) : Type 0 where
+  pub place : ℕ
+  pub is : index ≡ place + 1
+  pub here : slice_get static_table place ≡ Some entry
+
+stands : (index : ℕ) (entry : Field) → look_up static_alone index ≡ Some entry → StandsAt index entry
+stands zero entry e = cc
+stands (suc place) entry e =
+    let within : suc place < 62 = alone_within (suc place) entry e in
+    record { place = place; is = omega arith; here = sym (get_front static_table [] place (omega (arith, entries, within))) ∙ e }
+
+-- The entry at a place has a name.
+pub record HasNameAt (name : List ℕ) (place : ℕ) : Type 0 where
+  pub value : List ℕ
+  pub here : slice_get static_table place ≡ Some (field_of name value)
+
+-- A walk over a run has come to a place, without the value.
+pub record Walks (name value : List ℕ) (start place : ℕ) : Type 0 where
+  pub low : start ≤ place
+  pub named : start < place → HasNameAt name start
+  pub others : (other : ℕ) → start ≤ other → other < place → slice_get static_table other ≡ Some (field_of name value) → ⊥
+
+pub walk_begins : (name value : List ℕ) (start : ℕ) → Walks name value start start
+walk_begins name value start = record { low = omega arith; named = λ less. absurd (omega (arith, less)); others = λ other low less e. absurd (omega (arith, low, less)) }
+
+pub walk_goes_on : (name value entry_value : List ℕ) (start place : ℕ) → Walks name value start place → slice_get static_table place ≡ Some (field_of name entry_value) → (entry_value ≡ value → ⊥) → Walks name value start (place + 1)
+walk_goes_on name value entry_value start place w here other_value = record {
+  low = let low = w.low in omega (arith, low);
+  named = λ less. elim (cases_lt start place) [
+    | inl before ↦ w.named before
+    | inr past ↦ (let low = w.low in let at : place ≡ start = omega (arith, past, low) in record { value = entry_value; here = subst (λ p. slice_get static_table p ≡ Some (field_of name entry_value)) at here })
+  ];
+  others = λ other low less e. elim (cases_lt other place) [
+    | inl before ↦ w.others other low before e
+    | inr past ↦ (let at : other ≡ place = omega (arith, less, past) in
+        let is : ◌≡◌ {A = Option Field} (Some (field_of name entry_value)) (Some (field_of name value)) = sym here ∙ ap (slice_get static_table) (sym at) ∙ e in
+        let field : field_of name entry_value ≡ field_of name value = cc in
+        other_value (ap (λ (f : Field). f.value) field))
+  ];
+}
+
+pub walk_finds : (name value : List ℕ) (start place : ℕ) → IsStartOf name start → Walks name value start place → slice_get static_table place ≡ Some (field_of name value) → FindsBoth static_alone name value (place + 1)
+walk_finds name value start place s w here = record {
+  here = look_at place (field_of name value) here;
+  least = λ lower less e.
+      let at = stands lower (field_of name value) e in
+      let is = at.is in
+      elim (cases_lt at.place start) [
+        | inl before ↦ s.none at.place before (field_of name value) at.here refl
+        | inr past ↦ w.others at.place past (omega (arith, less, is)) at.here
+      ];
+}
+
+pub walk_finds_none : (name : List ℕ) (start : ℕ) → IsStartOf name start → HasNotName name start → HasNoName static_alone name
+walk_finds_none name start s without index entry e same_name =
+    let at = stands index entry e in
+    elim (cases_lt at.place start) [
+      | inl before ↦ s.none at.place before entry at.here same_name
+      | inr past ↦ s.together start at.place (omega arith) past without entry at.here same_name
+    ]
+
+pub walk_ends : (name value : List ℕ) (start place : ℕ) → IsStartOf name start → Walks name value start place → HasNotName name place → (place ≡ start → ⊥) → FindsName static_alone name (start + 1) × HasNone static_alone name value
+walk_ends name value start place s w without some =
+    let low = w.low in
+    let named = w.named (omega (arith, low, some)) in (
+      record {
+        entry = field_of name named.value;
+        here = look_at start (field_of name named.value) named.here;
+        named = refl;
+        least = λ lower other less e same_name.
+            let at = stands lower other e in
+            let is = at.is in
+            s.none at.place (omega (arith, less, is)) other at.here same_name;
+      },
+      λ index e.
+          let at = stands index (field_of name value) e in
+          elim (cases_lt at.place start) [
+            | inl before ↦ s.none at.place before (field_of name value) at.here refl
+            | inr past ↦ elim (cases_lt at.place place) [
+              | inl within ↦ w.others at.place past within at.here
+              | inr behind ↦ s.together place at.place low behind without (field_of name value) at.here refl
+            ]
+          ],
+    )
+
+pub start_within : (name value : List ℕ) (start place : ℕ) → Walks name value start place → (place ≡ start → ⊥) → start < 61
+start_within name value start place w some =
+    let low = w.low in
+    let named = w.named (omega (arith, low, some)) in
+    static_within start _ named.here

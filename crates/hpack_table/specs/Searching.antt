@@ -1,5 +1,5 @@
 -- A search by rising indices.
-use Rattle.std.specs.Prelude.{◌≡◌, ℕ, ◌<◌, ◌≤◌, Bool, true, false, List, [], length, slice_get, Option, Some, None}
+use Rattle.std.specs.Prelude.{◌≡◌, ℕ, ◌+◌, ◌-◌, ◌*◌, ◌%◌, ◌<◌, ◌≤◌, Bool, true, false, List, [], length, get_or, slice_get, Option, Some, None}
 use Rattle.model.specs.Messages.{Field}
 use Rattle.model.specs.Tables.{Table, look_up, field_of, static_table}
 use Rattle.hpack_table.specs.Finding.{FindsBoth, FindsName}
@@ -14,10 +14,18 @@ table_of fields = record { fields = fields; maximum = 0 }
 abbrev pub static_alone : Table
 static_alone = table_of []
 
--- A place from another on is the next of an entry whose name has so many octets, or stands behind all entries.
-pub record IsNextOfLength (octets from place : ℕ) : Type 0 where
-  pub none : (other : ℕ) (entry : Field) → from ≤ other → other < place → slice_get static_table other ≡ Some entry → length entry.name ≡ octets → ⊥
-  pub long : (entry : Field) → slice_get static_table place ≡ Some entry → length entry.name ≡ octets
+-- the slot of a name, by its length, its first octet and its last
+abbrev pub slot_of : List ℕ → ℕ
+slot_of name = (length name % 128 * 89 + get_or name 0 0 * 66 + get_or name (length name - 1) 0) % 128
+
+-- No entry of the static table has the name at this place.
+abbrev pub HasNotName : List ℕ → ℕ → Type 0
+HasNotName name place = (entry : Field) → slice_get static_table place ≡ Some entry → entry.name ≡ name → ⊥
+
+-- No entry before the place has the name, and from there on none with another name stands before one that has it.
+pub record IsStartOf (name : List ℕ) (place : ℕ) : Type 0 where
+  pub none : (other : ℕ) → other < place → HasNotName name other
+  pub together : (other later : ℕ) → place ≤ other → other ≤ later → HasNotName name other → HasNotName name later
 
 -- what is known of the name below an index
 abbrev pub Named : Table → List ℕ → ℕ → Option ℕ → Type 0

@@ -1,15 +1,17 @@
 //! The static table (RFC 7541, appendix A).
 
-ghost use Rattle.std.specs.Prelude.{◌≡◌, ◌+◌, ◌<◌, ◌≤◌, MatchOption, slice_get, length, Some, None};
-ghost use Rattle.model.specs.Messages.{Field};
+ghost use Rattle.std.specs.Prelude.{◌≡◌, MatchOption, slice_get, get_or, Some, None};
 ghost use Rattle.model.specs.Tables.{static_table, field_of};
 ghost use Rattle.hpack_table.specs.Finding.{Finds};
-ghost use Rattle.hpack_table.specs.Searching.{IsNextOfLength, static_alone};
+ghost use Rattle.hpack_table.specs.Searching.{HasNotName, IsStartOf, slot_of, static_alone};
 
-use crate::found::{Found, is_both, met};
+use crate::found::Found;
 
 /// The number of its entries.
 pub const STATIC_LENGTH: usize = 61;
+
+/// The number of slots for names. The names of the entries go to different ones.
+const SLOTS: usize = 128;
 
 /// Names and values, from index 1 on.
 static ENTRIES: [(&[u8], &[u8]); STATIC_LENGTH] = [
@@ -76,17 +78,15 @@ static ENTRIES: [(&[u8], &[u8]); STATIC_LENGTH] = [
     (b"www-authenticate", b""),
 ];
 
-/// The first place of an entry whose name has so many octets, or the number of entries where there is none.
-static FIRST: [usize; 28] = [
-    61, 61, 61, 20, 32, 3, 18, 1, 38, 61, 0, 52, 30, 17, 14, 15, 25, 39, 47, 24, 61, 61, 61, 61,
-    61, 55, 61, 19,
-];
-
-/// The next place of an entry whose name has as many octets as that of the entry at a place, or the number of entries.
-static NEXT: [usize; STATIC_LENGTH] = [
-    54, 2, 5, 4, 21, 6, 7, 8, 9, 10, 11, 12, 13, 35, 27, 16, 61, 22, 31, 61, 59, 49, 23, 29, 42,
-    26, 28, 61, 60, 40, 46, 34, 33, 36, 53, 50, 37, 44, 41, 56, 43, 45, 48, 61, 58, 61, 61, 61, 61,
-    61, 51, 61, 61, 61, 57, 61, 61, 61, 61, 61, 61,
+/// For each slot the place of the first entry whose name goes there, or the number of entries. Entries of one name stand
+/// together.
+static STARTS: [u8; SLOTS] = [
+    61, 31, 61, 61, 28, 54, 49, 47, 61, 61, 61, 61, 18, 61, 45, 24, 61, 32, 42, 61, 34, 61, 61, 30,
+    57, 3, 61, 61, 61, 36, 16, 61, 15, 61, 61, 60, 61, 61, 61, 44, 37, 52, 61, 61, 61, 61, 53, 61,
+    61, 61, 61, 61, 61, 61, 21, 61, 56, 46, 61, 51, 61, 61, 61, 41, 61, 43, 38, 61, 61, 50, 61, 1,
+    5, 58, 61, 61, 27, 61, 61, 61, 55, 61, 61, 19, 14, 33, 7, 61, 59, 61, 61, 61, 61, 61, 61, 61,
+    39, 61, 61, 61, 61, 61, 61, 0, 61, 48, 61, 61, 35, 61, 61, 61, 29, 61, 20, 61, 61, 22, 61, 23,
+    61, 61, 17, 26, 61, 25, 61, 40,
 ];
 
 type Entry = (&'static [u8], &'static [u8]);
@@ -105,51 +105,57 @@ pub fn static_entry(place: usize) -> Option<Entry>
     entry_at(&ENTRIES, place)
 }
 
-/// The number at a place, or the number of entries behind the last one.
-fn number_at(numbers: &[usize], place: usize) -> usize
-    ensures { MatchOption (slice_get numbers.now place) (result ≡ 61) (λ number. result ≡ number) }
+/// The octet at a place, or 0.
+fn octet_at(octets: &[u8], place: usize) -> usize
+    ensures { result ≡ get_or octets.now place 0 }
 {
-    match numbers.get(place) {
-        Some(number) => *number,
-        None => STATIC_LENGTH,
+    match octets.get(place) {
+        Some(octet) => usize::from(*octet),
+        None => 0,
     }
 }
 
-/// The first place of an entry whose name has so many octets, or the number of entries where there is none.
-fn first_place(length: usize) -> usize
-    ensures { IsNextOfLength length 0 result }
+/// The slot of a name, by its length, its first octet and its last.
+fn slot_of(name: &[u8]) -> usize
+    ensures { result ≡ slot_of name.now }
 {
-    number_at(&FIRST, length)
+    let last = octet_at(name, name.len().saturating_sub(1));
+    (name.len() % SLOTS * 89 + octet_at(name, 0) * 66 + last) % SLOTS
 }
 
-/// The next place of an entry whose name has as many octets as that of the entry at a place, or the number of entries.
-fn next_place(place: usize) -> usize
-    requires { place < 61 }
-    ensures later { place < result }
-    ensures next { (entry : Field) → slice_get static_table place ≡ Some entry → IsNextOfLength (length entry.name) (place + 1) result }
+/// The place of the first entry with the name, if any has it.
+fn start_of(name: &[u8]) -> usize
+    ensures { IsStartOf name.now result }
 {
-    number_at(&NEXT, place)
+    octet_at(&STARTS, slot_of(name))
+}
+
+/// The value at a place of the static table, where the name there is this one.
+fn value_of(name: &[u8], place: usize) -> Option<&'static [u8]>
+    ensures { MatchOption result (HasNotName name.now place) (λ value. slice_get static_table place ≡ Some (field_of name.now value.now)) }
+{
+    let (entry_name, entry_value) = static_entry(place)?;
+    if entry_name == name {
+        Some(entry_value)
+    } else {
+        None
+    }
 }
 
 /// The least index of an entry of the static table with the name and the value; where there is none, of one with the name.
 pub fn find_static(name: &[u8], value: &[u8]) -> Found
     ensures { Finds static_alone name.now value.now result }
 {
-    let mut found = Found::Absent;
-    let mut place = first_place(name.len());
-    while let Some((entry_name, entry_value)) = static_entry(place) {
-        found = met(
-            found,
-            place as u32 + 1,
-            entry_name,
-            entry_value,
-            name,
-            value,
-        );
-        if is_both(found) {
-            return found;
+    let start = start_of(name);
+    let mut place = start;
+    while let Some(entry_value) = value_of(name, place) {
+        if entry_value == value {
+            return Found::Both(place as u32 + 1);
         }
-        place = next_place(place);
+        place += 1;
     }
-    found
+    if place == start {
+        return Found::Absent;
+    }
+    Found::Name(start as u32 + 1)
 }

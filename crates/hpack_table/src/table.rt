@@ -5,15 +5,17 @@ ghost use Rattle.model.specs.Tables.{added, field_of, keep, look_up, resized, to
 ghost use Rattle.hpack_table.specs.Finding.{Finds};
 ghost use Rattle.hpack_table.specs.Searching.{Seeks, table_of};
 
+use crate::by_hash::find_by_hash;
 use crate::field::Field;
 use crate::found::{Found, is_both, met};
+use crate::index::{Index, enter, shorten};
 use crate::static_table::{STATIC_LENGTH, find_static, static_entry};
 use std::alloc::{AllocError, Global};
 use std::collections::VecDeque;
 use std::marker::Model;
 
 /// The index of the newest field.
-const FIRST_INDEX: u32 = 62;
+pub const FIRST_INDEX: u32 = 62;
 
 /// The dynamic table of a direction. A clause sees its fields, the newest first, and the maximum of their sizes.
 #[derive(Drop)]
@@ -21,17 +23,21 @@ pub struct Table {
     fields: VecDeque<Field>,
     size: usize,
     maximum: u32,
+    /// Where fields are found by their hashes, if they are.
+    index: Option<Index>,
 }
 
 impl Model for Table {
     ghost use Rattle.std.specs.Prelude.{◌≡◌, ◌<◌, ◌≤◌, ◌^◌};
+    ghost use Rattle.std.specs.Option.{ForSome};
     ghost use Rattle.model.specs.Tables.{Table as TableOfFields, total_size};
+    ghost use Rattle.hpack_table.specs.Indexing.{IsIndexOf};
 
     ghost Value = { TableOfFields };
 
     ghost view = { λ table. record { fields = table.fields.items; maximum = table.maximum } };
 
-    ghost invariant = { λ table. (table.size ≡ total_size table.fields.items) × (table.size ≤ table.maximum) × (table.maximum < 2 ^ 32) };
+    ghost invariant = { λ table. (table.size ≡ total_size table.fields.items) × (table.size ≤ table.maximum) × (table.maximum < 2 ^ 32) × ForSome table.index (λ index. IsIndexOf index table.fields.items) };
 }
 
 impl Table {
@@ -44,7 +50,19 @@ impl Table {
             fields: VecDeque::new(alloc),
             size: 0,
             maximum,
+            index: None,
         }
+    }
+
+    /// An empty table with this maximum, which finds its fields by their hashes. It takes more memory for each. Behind a
+    /// refusal it finds them by a walk.
+    pub fn with_index(alloc: Global, maximum: u32) -> Table
+        ensures fields { result.fields ≡ [] }
+        ensures maximum { result.maximum ≡ maximum }
+    {
+        let mut table = Table::new(alloc, maximum);
+        table.index = Some(Index::new(alloc));
+        table
     }
 
     /// The maximum of the sizes.
@@ -83,10 +101,16 @@ impl Table {
         let Some(room) = field.room_behind(maximum) else {
             self.fields.clear();
             self.size = 0;
+            shorten(&mut self.index, 0);
             return Ok(());
         };
-        self.fields.push_front(field)?;
+        enter(&mut self.index, &field)?;
+        if self.fields.push_front(field).is_err() {
+            self.index = None;
+            return Err(AllocError);
+        }
         self.size = evict(&mut self.fields, self.size + (maximum - room), maximum);
+        shorten(&mut self.index, self.fields.len());
         Ok(())
     }
 
@@ -96,6 +120,7 @@ impl Table {
     {
         self.size = evict(&mut self.fields, self.size, maximum as usize);
         self.maximum = maximum;
+        shorten(&mut self.index, self.fields.len());
     }
 
     /// The least index of an entry with the name and the value; where there is none, the least index of one with the name.
@@ -106,7 +131,10 @@ impl Table {
         if is_both(found) {
             return found;
         }
-        find_added(&self.fields, name, value, found)
+        match &self.index {
+            Some(index) => find_by_hash(&self.fields, index, name, value, found),
+            None => find_added(&self.fields, name, value, found),
+        }
     }
 }
 

@@ -51,6 +51,43 @@ fn fields_are_found(rt: HostRuntime) -> Result<(), Fail> {
     Ok(())
 }
 
+/// Whether tables with an index and without one find each field alike, as they fill up and let go.
+fn find_alike(alloc: Global, numbers: u32) -> Result<bool, AllocError> {
+    let mut walked = Table::new(alloc, 200);
+    let mut indexed = Table::with_index(alloc, 200);
+    let mut alike = true;
+    let mut random = 1u32;
+    for number in 0..numbers {
+        random = random.wrapping_mul(1664525).wrapping_add(1013904223);
+        let name = [b'a' + (random >> 30) as u8];
+        let value = [b'0' + (random / 65536 % 8) as u8];
+        alike = alike && walked.find(&name, &value) == indexed.find(&name, &value);
+        walked.add(Field::of(alloc, &name, &value)?)?;
+        indexed.add(Field::of(alloc, &name, &value)?)?;
+        if number % 16 == 0 {
+            walked.set_max(40 + (random >> 24));
+            indexed.set_max(40 + (random >> 24));
+        }
+    }
+    Ok(alike)
+}
+
+#[test]
+fn fields_are_found_by_their_hashes(rt: HostRuntime) -> Result<(), Fail> {
+    let alloc = rt.alloc();
+    let mut table = Table::with_index(alloc, 4096);
+    table.add(field(alloc, b"x-a", b"1")?)?;
+    table.add(field(alloc, b"x-a", b"2")?)?;
+    table.add(field(alloc, b"date", b"now")?)?;
+    assert_eq!(rt; table.find(b"x-a", b"1"), Found::Both(64));
+    assert_eq!(rt; table.find(b"x-a", b"3"), Found::Name(63));
+    assert_eq!(rt; table.find(b"date", b"now"), Found::Both(62));
+    assert_eq!(rt; table.find(b"date", b"then"), Found::Name(33));
+    assert_eq!(rt; table.find(b"x-b", b"1"), Found::Absent);
+    assert!(rt; find_alike(alloc, 1000)?);
+    Ok(())
+}
+
 #[test]
 fn fields_are_copied(rt: HostRuntime) -> Result<(), Fail> {
     let alloc = rt.alloc();

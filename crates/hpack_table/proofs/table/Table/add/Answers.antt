@@ -1,11 +1,12 @@
-use Rattle.std.proofs.Common.{List, arith, ap, sym, ◌∙◌}
+use Rattle.std.proofs.Common.{List, ◌∷◌, arith, ap, sym, ◌∙◌}
 use Rattle.model.specs.Messages.{Field}
-use Rattle.model.specs.Tables.{Table, total_size}
+use Rattle.model.specs.Tables.{Table, keep, total_size}
+use Rattle.hpack_table.proofs.ByHash.{index_kept, pushed}
 use Rattle.hpack_table.proofs.Kept.{keep_none, total_none, added_size}
 use Rattle.hpack_table.proofs.table.Table.add.Goals as goal
 
 pub invariant_of-self : goal.invariant_of-self
-invariant_of-self c = (sym (ap total_size c.clear.ensures.items ∙ total_none), omega arith, c.self.invariant.2)
+invariant_of-self c = (sym (ap total_size c.clear.ensures.items ∙ total_none), omega arith, c.self.invariant.2, λ x e. rw c.clear.ensures.items (c.shorten.ensures c.self.inside.fields.items c.self.invariant.3 x e))
 
 pub returns-in_default-clause-ok : goal.returns-in_default-clause-ok
 returns-in_default-clause-ok c =
@@ -14,5 +15,15 @@ returns-in_default-clause-ok c =
 
 pub evict-self-inside-requires : goal.evict-self-inside-requires
 evict-self-inside-requires c =
-    added_size c.self.inside.fields.items c.args.field c.self.inside.size c.self.inside.maximum c.in-Some.room c.self.invariant.0 c.in-Some.ensures.0 c.in-Some.ensures.1
-    ∙ ap total_size (sym c.in_ok-push_front.ensures.items)
+    let more = pushed c.push_front.result c.is_err.result c.self.inside.fields.items c.push_front.new.self.items (c.args.field ∷ c.self.inside.fields.items) c.push_front.ensures.items c.is_err.ensures.value c.if-is_err.false in
+    added_size c.self.inside.fields.items c.args.field c.self.inside.size c.self.inside.maximum c.in-Some.room c.self.invariant.0 c.in-Some.ensures.0 c.in-Some.ensures.1 ∙ ap total_size (sym more)
+
+pub invariant_of-self-2 : goal.invariant_of-self-2
+invariant_of-self-2 c =
+    let more = pushed c.push_front.result c.is_err.result c.self.inside.fields.items c.push_front.new.self.items (c.args.field ∷ c.self.inside.fields.items) c.push_front.ensures.items c.is_err.ensures.value c.if-is_err.false in (
+      c.evict-self-inside.ensures.size,
+      c.evict-self-inside.ensures.fits,
+      c.self.invariant.2,
+      index_kept c.enter.new.index c.shorten-2.new.index (c.args.field ∷ c.self.inside.fields.items) c.evict-self-inside.new.fields.items c.self.inside.maximum c.len.result (c.in_ok-enter.ensures.ok c.self.inside.fields.items c.self.invariant.3)
+          c.shorten-2.ensures (c.evict-self-inside.ensures.kept ∙ ap (keep c.self.inside.maximum) more) (c.len.ensures ∙ c.evict-self-inside.new.fields.ok.0),
+    )

@@ -30,7 +30,8 @@ pub fn encode_known(alloc: Global, rounds: u32, made: &mut Made) -> Option<()> {
     Some(())
 }
 
-/// Encodes 8 fields that don't stand in the full table: each time the next 8 of 96, of which it has room for 83.
+/// Encodes 8 fields that don't stand in the full table, as Huffman text: each time the next 8 of 96, of which it has room for
+/// 83.
 pub fn encode_new(alloc: Global, rounds: u32, made: &mut Made) -> Option<()> {
     let fields = numbered_fields(alloc)?;
     let mut encoder = Encoder::new(alloc, Policy::Indexing);
@@ -45,9 +46,9 @@ pub fn encode_new(alloc: Global, rounds: u32, made: &mut Made) -> Option<()> {
     Some(())
 }
 
-/// Looks a field up whose name doesn't stand in the full table, but is as long as all names there.
+/// Looks a field up by its hashes whose name doesn't stand in the full table, but is as long as all names there.
 pub fn find(alloc: Global, rounds: u32, made: &mut Made) -> Option<()> {
-    let mut table = Table::new(alloc, 4096);
+    let mut table = Table::with_index(alloc, 4096);
     for field in numbered_fields(alloc)? {
         table.add(field).ok()?;
     }

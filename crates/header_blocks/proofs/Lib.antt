@@ -10,3 +10,4 @@ pub mod Wrote
 pub mod Faulted
 pub mod Followed
 pub mod OneFault
+pub mod RawStrings

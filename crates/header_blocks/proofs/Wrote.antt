@@ -7,12 +7,15 @@ use Rattle.std.proofs.Math.Seq.{take-append_seam}
 use Rattle.model.specs.Octets.{IsFront}
 use Rattle.model.specs.Messages.{Field}
 use Rattle.model.specs.Tables.{Table, look_up, added, resized, keep, first_maximum, field_size}
-use Rattle.model.specs.Blocks.{IsString, IsRawString, IsNewName, IsNameOfEntry, Represents, AreFields, AreMaxima}
+use Rattle.model.specs.Huffman.{Huff}
+use Rattle.model.specs.Integers.{IsMarkedInt}
+use Rattle.model.specs.Blocks.{IsString, IsNewName, IsNameOfEntry, Represents, AreFields, AreMaxima}
 use Rattle.hpack_table.specs.Finding.{FindsBoth, FindsName, HasNone, HasNoName}
 use Rattle.hpack_int.specs.Writing.{Writes}
-use Rattle.header_blocks.specs.Chosen.{sought, IsNameIndex, IsChosen, AreChosen}
+use Rattle.huffman.specs.Encoding.{Encodes as EncodesText}
+use Rattle.header_blocks.specs.Chosen.{sought, IsShortened, IsChosenString, IsNameIndex, IsChosen, AreChosen}
 use Rattle.model.specs.Maxima.{Maxima}
-use Rattle.header_blocks.specs.Encodes.{AddsString, AddsLiteral, AddsField, AddsFields, AddsMaxima, Encodes}
+use Rattle.header_blocks.specs.Encodes.{AddsRaw, AddsString, AddsLiteral, AddsField, AddsFields, AddsMaxima, Encodes}
 use Rattle.header_blocks.specs.Due.{IsDue}
 use Rattle.header_blocks.specs.declared.limits.Limits.{Limits}
 use Rattle.header_blocks.specs.Writing.{AddsBlock}
@@ -29,16 +32,41 @@ pub taken_back : (old new : List ℕ) → IsFront old new → take (length old) 
 taken_back old new p = ap (take (length old)) p.is ∙ take-append_seam old p.rest
 
 -- a raw string
-raw : (string old between new : List ℕ) → Writes 7 0 (length string) old between → new ≡ between ++ string → AddsString string old new
+raw : (string old between new : List ℕ) → Writes 7 0 (length string) old between → new ≡ between ++ string → AddsRaw string old new
 raw string old between new w is = record {
   text = w.text ++ string;
   added = is ∙ ap (λ o. o ++ string) w.added ∙ append_assoc old w.text string;
-  is_string = record { header = w.text; is = refl; number = w.shortest.marked };
+  is_raw = record { header = w.text; is = refl; number = w.shortest.marked };
 }
 
-pub raw_added : {U E : Type 0} (r : Result U E) (string old between new : List ℕ) → Writes 7 0 (length string) old between → new ≡ (if is_ok r then between ++ string else between) → OnOk r (AddsString string old new)
+pub raw_added : {U E : Type 0} (r : Result U E) (string old between new : List ℕ) → Writes 7 0 (length string) old between → new ≡ (if is_ok r then between ++ string else between) → OnOk r (AddsRaw string old new)
 raw_added (Ok done) string old between new w is = raw string old between new w is
 raw_added (Err error) string old between new w is = tt
+
+-- a string, raw or as its Huffman text
+pub raw_chosen : (compress : Bool) (string old new : List ℕ) → (compress ≡ true → IsShortened string → ⊥) → AddsRaw string old new → AddsString compress string old new
+raw_chosen compress string old new not_shorter r = record { text = r.text; added = r.added; chosen = inl (record { is_raw = r.is_raw; not_shorter = not_shorter }) }
+
+pub text_added : (string old between new : List ℕ) (count : ℕ) → ((text : List ℕ) → Huff text string → length text ≡ count) → count < length string → Writes 7 128 count old between → EncodesText string between new → AddsString true string old new
+text_added string old between new count counted shorter w e =
+    let is = counted e.text e.huffman in
+    record {
+      text = w.text ++ e.text;
+      added = e.added ∙ ap (λ o. o ++ e.text) w.added ∙ append_assoc old w.text e.text;
+      chosen = inr (record {
+        is_text = record { header = w.text; text = e.text; is = refl; number = subst (λ n. IsMarkedInt 7 1 w.text n) (sym is) w.shortest.marked; huffman = e.huffman };
+        is_taken = refl;
+        shortened = record { text = e.text; huffman = e.huffman; shorter = omega (arith, is, shorter) };
+      });
+    }
+
+-- a text that isn't shorter
+pub not_shortened : (string : List ℕ) (count : ℕ) → ((text : List ℕ) → Huff text string → length text ≡ count) → length string ≤ count → IsShortened string → ⊥
+not_shortened string count counted long s = let is = counted s.text s.huffman in let shorter = s.shorter in omega (arith, is, shorter, long)
+
+string_of : (compress : Bool) (octets string : List ℕ) → IsChosenString compress octets string → IsString octets string
+string_of compress octets string (inl c) = inl c.is_raw
+string_of compress octets string (inr c) = inr c.is_text
 
 -- the name of an index
 none_at_zero : (table : Table) (index : ℕ) (entry : Field) → index ≡ 0 → look_up table index ≡ Some entry → ⊥
@@ -53,22 +81,23 @@ old_name table index name some (inl p) = inr (record { is_empty = refl; entry = 
 old_name table index name some (inr p) = absurd (some p.1)
 
 -- what follows a name index
-pub record NameFollows (index : ℕ) (name old new : List ℕ) : Type 0 where
+pub record NameFollows (compress : Bool) (index : ℕ) (name old new : List ℕ) : Type 0 where
   pub text : List ℕ
   pub is : new ≡ old ++ text
-  pub raw : index ≡ 0 → IsRawString text name
+  pub chosen : index ≡ 0 → IsChosenString compress text name
   pub named : (table : Table) → IsNameIndex table name index → IsNewName index text name ⊎ IsNameOfEntry table index text name
 
-pub name_written : (index : ℕ) (name old new : List ℕ) → index ≡ 0 → AddsString name old new → NameFollows index name old new
-name_written index name old new zero_index s = record { text = s.text; is = s.added; raw = λ zero_again. s.is_string; named = λ table is. new_name table index name s.text zero_index is (inl s.is_string) }
+pub name_written : (compress : Bool) (index : ℕ) (name old new : List ℕ) → index ≡ 0 → AddsString compress name old new → NameFollows compress index name old new
+name_written compress index name old new zero_index s =
+    record { text = s.text; is = s.added; chosen = λ zero_again. s.chosen; named = λ table is. new_name table index name s.text zero_index is (string_of compress s.text name s.chosen) }
 
-pub nothing_written : (index : ℕ) (name old new : List ℕ) → (index ≡ 0 → ⊥) → new ≡ old → NameFollows index name old new
-nothing_written index name old new some is = record { text = []; is = is ∙ sym (append-nil old); raw = λ zero_index. absurd (some zero_index); named = λ table p. old_name table index name some p }
+pub nothing_written : (compress : Bool) (index : ℕ) (name old new : List ℕ) → (index ≡ 0 → ⊥) → new ≡ old → NameFollows compress index name old new
+nothing_written compress index name old new some is = record { text = []; is = is ∙ sym (append-nil old); chosen = λ zero_index. absurd (some zero_index); named = λ table p. old_name table index name some p }
 
 -- a literal, in parts
-pub literal_added : (prefix mark : ℕ) (table : Table) (index : ℕ) (field : Field) (old a b new : List ℕ) → Writes prefix mark index old a → NameFollows index field.name a b → IsNameIndex table field.name index
-    → AddsString field.value b new → AddsLiteral prefix (mark / 2 ^ prefix) table index field old new
-literal_added prefix mark table index field old a b new w n is v = record {
+pub literal_added : (compress : Bool) (prefix mark : ℕ) (table : Table) (index : ℕ) (field : Field) (old a b new : List ℕ) → Writes prefix mark index old a → NameFollows compress index field.name a b → IsNameIndex table field.name index
+    → AddsString compress field.value b new → AddsLiteral compress prefix (mark / 2 ^ prefix) table index field old new
+literal_added compress prefix mark table index field old a b new w n is v = record {
   text = w.text ++ n.text ++ v.text;
   added = v.added ∙ ap (λ o. o ++ v.text) (n.is ∙ ap (λ o. o ++ n.text) w.added) ∙ append_assoc (old ++ w.text) n.text v.text ∙ append_assoc old w.text (n.text ++ v.text)
       ∙ ap (λ o. old ++ o) (sym (append_assoc w.text n.text v.text));
@@ -80,10 +109,10 @@ literal_added prefix mark table index field old a b new w n is v = record {
     is = refl;
     marked = w.shortest.marked;
     name = n.named table is;
-    string = inl v.is_string;
+    string = string_of compress v.text field.value v.chosen;
   };
   same = refl;
-  raw = record { name = n.raw; value = v.is_string };
+  strings = record { name = n.chosen; value = v.chosen };
 }
 
 -- where a field is sought
@@ -113,7 +142,7 @@ index_added indexing table next field index old new plain p w same = record {
   });
 }
 
-pub inserted_added : (indexing : Bool) (table next : Table) (field : Field) (index : ℕ) (old new : List ℕ) → indexing ≡ true → IsAbsent table field index → AddsLiteral 6 1 table index field old new
+pub inserted_added : (indexing : Bool) (table next : Table) (field : Field) (index : ℕ) (old new : List ℕ) → indexing ≡ true → IsAbsent table field index → AddsLiteral indexing 6 1 table index field old new
     → field_size field ≤ table.maximum → next ≡ added field table → AddsField indexing table field next old new
 inserted_added indexing table next field index old new is_on p l fits is =
     let same : sought indexing table ≡ table = sought_same indexing table (λ e. let clash : true ≡ false = sym is_on ∙ e in cc) in
@@ -126,10 +155,11 @@ inserted_added indexing table next field index old new is_on p l fits is =
         name = subst (λ t. IsNameIndex t field.name l.literal.index) (sym same) (subst (λ i. IsNameIndex table field.name i) (sym l.same) p.name);
         is_indexing = is_on;
         fits = fits;
+        strings = l.strings;
       }));
     }
 
-pub left_out_added : (indexing : Bool) (table next : Table) (field : Field) (index : ℕ) (old new : List ℕ) → (indexing ≡ false → table.fields ≡ []) → IsAbsent table field index → AddsLiteral 4 0 table index field old new
+pub left_out_added : (indexing : Bool) (table next : Table) (field : Field) (index : ℕ) (old new : List ℕ) → (indexing ≡ false → table.fields ≡ []) → IsAbsent table field index → AddsLiteral indexing 4 0 table index field old new
     → (indexing ≡ true → field_size field ≤ table.maximum → ⊥) → next ≡ table → AddsField indexing table field next old new
 left_out_added indexing table next field index old new plain p l never is =
     let same : sought indexing table ≡ table = sought_same indexing table plain in
@@ -140,7 +170,7 @@ left_out_added indexing table next field index old new plain p l never is =
         absent = subst (λ t. HasNone t field.name field.value) (sym same) p.none;
         left_out = record { literal = l.literal; same = is };
         name = subst (λ t. IsNameIndex t field.name l.literal.index) (sym same) (subst (λ i. IsNameIndex table field.name i) (sym l.same) p.name);
-        raw = λ is_plain. l.raw;
+        strings = l.strings;
         too_large = λ on. elim (cases_lt table.maximum (field_size field)) [ inl over ↦ over | inr fits ↦ absurd (never on fits) ];
       }));
     }

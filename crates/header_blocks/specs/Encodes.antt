@@ -5,21 +5,27 @@ use Rattle.model.specs.Tables.{Table}
 use Rattle.model.specs.Blocks.{IsRawString, IsLiteral, AreMaxima, IsBlock}
 use Rattle.model.specs.Maxima.{Maxima}
 use Rattle.header_blocks.specs.Encoding.{Encoding, StandsFor}
-use Rattle.header_blocks.specs.Chosen.{AreRaw, IsChosen, AreChosen}
+use Rattle.header_blocks.specs.Chosen.{AreChosenStrings, IsChosenString, IsChosen, AreChosen}
 
 -- A raw string is added at the end.
-pub record AddsString (string old new : List ℕ) : Type 0 where
+pub record AddsRaw (string old new : List ℕ) : Type 0 where
   pub text : List ℕ
   pub added : new ≡ old ++ text
-  pub is_string : IsRawString text string
+  pub is_raw : IsRawString text string
 
--- A literal is added at the end, with this name index and raw strings.
-pub record AddsLiteral (prefix mark : ℕ) (table : Table) (index : ℕ) (field : Field) (old new : List ℕ) : Type 0 where
+-- A string is added at the end.
+pub record AddsString (compress : Bool) (string old new : List ℕ) : Type 0 where
+  pub text : List ℕ
+  pub added : new ≡ old ++ text
+  pub chosen : IsChosenString compress text string
+
+-- A literal is added at the end, with this name index.
+pub record AddsLiteral (compress : Bool) (prefix mark : ℕ) (table : Table) (index : ℕ) (field : Field) (old new : List ℕ) : Type 0 where
   pub text : List ℕ
   pub added : new ≡ old ++ text
   pub literal : IsLiteral prefix mark table text field
   pub same : literal.index ≡ index
-  pub raw : AreRaw literal.index literal.name_octets literal.value_octets field
+  pub strings : AreChosenStrings compress literal.index literal.name_octets literal.value_octets field
 
 -- A field is added at the end.
 pub record AddsField (indexing : Bool) (table : Table) (field : Field) (next : Table) (old new : List ℕ) : Type 0 where

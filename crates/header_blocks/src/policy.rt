@@ -2,16 +2,17 @@
 
 ghost use Rattle.std.specs.Prelude.{◌≡◌, ◌≤◌, ◌↔◌, IsTrue};
 ghost use Rattle.model.specs.Tables.{field_size};
+ghost use Rattle.header_blocks.specs.Encoding.{is_indexing};
 ghost use Rattle.header_blocks.specs.Inserting.{Inserts};
 
 use hpack_table::Field;
 
-/// Whether fields are inserted into the table.
+/// Whether fields are inserted into the table, and strings stand as their Huffman text where that is shorter.
 #[derive(Clone, Copy, PartialEq, Eq, Debug)]
 pub enum Policy {
-    /// None is.
+    /// No field is inserted, and all strings stand raw.
     Plain,
-    /// Each is that stands in no table and fits.
+    /// Each field is inserted that stands in no table and fits, and strings stand as their Huffman text where that is shorter.
     Indexing,
 }
 
@@ -28,5 +29,12 @@ impl Rules {
         ensures { IsTrue result ↔ Inserts self.now field.now }
     {
         self.policy == Policy::Indexing && field.room_behind(self.maximum as usize).is_some()
+    }
+
+    /// Whether Huffman text is taken where it is shorter.
+    pub fn compresses(&self) -> bool
+        ensures { result ≡ is_indexing self.now.policy }
+    {
+        self.policy == Policy::Indexing
     }
 }

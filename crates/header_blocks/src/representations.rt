@@ -8,19 +8,38 @@ ghost use Rattle.model.specs.Tables.{Table as TableOfFields, first_maximum};
 ghost use Rattle.header_blocks.specs.Encoding.{is_indexing};
 ghost use Rattle.header_blocks.specs.Writing.{CanBegin, AddsBlock};
 ghost use Rattle.header_blocks.specs.Chosen.{HasShortStrings, IsNameIndex};
-ghost use Rattle.header_blocks.specs.Encodes.{AddsString, AddsLiteral, AddsField, AddsFields, AddsMaxima};
+ghost use Rattle.header_blocks.specs.Encodes.{AddsRaw, AddsString, AddsLiteral, AddsField, AddsFields, AddsMaxima};
 ghost use Rattle.header_blocks.specs.Bounds.{IsBounded};
 
 use crate::limits::Due;
 use crate::policy::Rules;
 use hpack_int::write;
 use hpack_table::{Field, Found, Table};
+use huffman::{encode, encoded_len};
 use std::alloc::{AllocError, Global};
 
-/// Writes a string, its octets as they are (RFC 7541, section 5.2).
-fn write_string(string: &[u8], out: &mut Vec<u8>) -> Result<(), AllocError>
+/// Writes a string (RFC 7541, section 5.2): as its Huffman text where that is to be taken and is shorter, else its octets as
+/// they are.
+fn write_string(compress: bool, string: &[u8], out: &mut Vec<u8>) -> Result<(), AllocError>
     requires { length string.now ≤ 65536 }
-    ensures ok { OnOk result (AddsString string.now out.old.items out.new.items) }
+    ensures ok { OnOk result (AddsString compress string.now out.old.items out.new.items) }
+    ensures front { IsFront out.old.items out.new.items }
+{
+    if !compress {
+        return write_raw(string, out);
+    }
+    let length = encoded_len(string);
+    if length >= string.len() {
+        return write_raw(string, out);
+    }
+    write(7, 0x80, length as u32, out)?;
+    encode(string, out)
+}
+
+/// Writes a string as its octets are.
+fn write_raw(string: &[u8], out: &mut Vec<u8>) -> Result<(), AllocError>
+    requires { length string.now ≤ 65536 }
+    ensures ok { OnOk result (AddsRaw string.now out.old.items out.new.items) }
     ensures front { IsFront out.old.items out.new.items }
 {
     write(7, 0, string.len() as u32, out)?;
@@ -29,6 +48,7 @@ fn write_string(string: &[u8], out: &mut Vec<u8>) -> Result<(), AllocError>
 
 /// Writes a literal behind a mark, with the name index, or with its name where that is 0 (RFC 7541, section 6.2).
 fn write_literal(
+    compress: bool,
     prefix: u8,
     mark: u8,
     index: u32,
@@ -39,14 +59,14 @@ fn write_literal(
     requires most { prefix ≤ 8 }
     requires no_bit { mark % 2 ^ prefix ≡ 0 }
     requires short { HasShortStrings field.now }
-    ensures ok { OnOk result ((table : TableOfFields) → IsNameIndex table field.now.name index → AddsLiteral prefix (mark / 2 ^ prefix) table index field.now out.old.items out.new.items) }
+    ensures ok { OnOk result ((table : TableOfFields) → IsNameIndex table field.now.name index → AddsLiteral compress prefix (mark / 2 ^ prefix) table index field.now out.old.items out.new.items) }
     ensures front { IsFront out.old.items out.new.items }
 {
     write(prefix, mark, index, out)?;
     if index == 0 {
-        write_string(field.name(), out)?;
+        write_string(compress, field.name(), out)?;
     }
-    write_string(field.value(), out)
+    write_string(compress, field.value(), out)
 }
 
 /// Writes a field, and inserts it where the rules say so.
@@ -71,10 +91,11 @@ fn write_field(
         Found::Name(index) => index,
         Found::Absent => 0,
     };
+    let compress = rules.compresses();
     if !rules.inserts(field) {
-        return write_literal(4, 0, index, field, out);
+        return write_literal(compress, 4, 0, index, field, out);
     }
-    write_literal(6, 0x40, index, field, out)?;
+    write_literal(compress, 6, 0x40, index, field, out)?;
     table.add(field.copy(alloc)?)
 }
 

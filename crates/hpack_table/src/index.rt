@@ -49,6 +49,15 @@ impl Index {
             texts: Chains::new(alloc),
         }
     }
+
+    /// Adds a field with these hashes as the newest. An `Err` says that memory was refused.
+    fn add(&mut self, hashes: Hashes) -> Result<(), AllocError>
+        ensures names { OnOk result (self.new.names ≡ hashes.name ∷ self.old.names) }
+        ensures texts { OnOk result (self.new.texts ≡ hashes.text ∷ self.old.texts) }
+    {
+        self.names.add(hashes.name)?;
+        self.texts.add(hashes.text)
+    }
 }
 
 /// Adds a field as the newest to the index, where there is one. An `Err` says that memory was refused; then there is none any
@@ -57,15 +66,16 @@ pub fn enter(index: &mut Option<Index>, field: &Field) -> Result<(), AllocError>
     ensures ok { OnOk result ((fields : List FieldLine) → ForSome index.old (λ i. IsIndexOf i fields) → ForSome index.new (λ i. IsIndexOf i (field.now ∷ fields))) }
     ensures err { OnErr result (index.new ≡ None) }
 {
-    let Some(old) = index.take() else {
+    let Some(entered) = index else {
         return Ok(());
     };
-    let mut entered = old;
-    let hashes = hash_field(field.name(), field.value());
-    entered.names.add(hashes.name)?;
-    entered.texts.add(hashes.text)?;
-    *index = Some(entered);
-    Ok(())
+    match entered.add(hash_field(field.name(), field.value())) {
+        Ok(()) => Ok(()),
+        Err(error) => {
+            *index = None;
+            Err(error)
+        }
+    }
 }
 
 /// Lets go of the oldest fields of the index, where there is one, so that so many stay.

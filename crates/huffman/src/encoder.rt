@@ -29,7 +29,7 @@ pub fn encode(string: &[u8], out: &mut Vec<u8>) -> Result<(), AllocError>
     ensures ok { OnOk result (Encodes string.now out.old.items out.new.items) }
     ensures err { OnErr result (out.new.items ≡ out.old.items) }
 {
-    out.reserve(encoded_len(string))?;
+    out.reserve(string.len())?;
     let start = out.len();
     let result = encode_onto(string, out);
     if result.is_err() {

@@ -20,6 +20,7 @@ use Rattle.model.specs.Synchrony.{InStep}
 use Rattle.header_blocks.specs.Encoding.{first_encoding}
 use Rattle.header_blocks.specs.Chosen.{GoesAsIndex, GoesIn}
 use Rattle.header_blocks.specs.Encodes.{IsWrittenBy}
+use Rattle.header_blocks.proofs.RawStrings.{one_octet, one_octet_chosen}
 use Rattle.conduct.specs.Turn.{Conducted}
 use Rattle.offering.specs.Outbox.{replied}
 use Rattle.offering.specs.Outbox.Part.{Final}
@@ -155,13 +156,14 @@ length_inserted = record {
       is = refl;
       marked = record { int = inl (record { first = 92; is = refl; low_bits = refl; not_ones = omega arith }); marked = refl };
       name = inr (record { is_empty = refl; entry = field_of (codes "content-length") []; found = refl; same = refl });
-      string = inl (record { header = 1 ∷ []; is = refl; number = record { int = inl (record { first = 1; is = refl; low_bits = refl; not_ones = omega arith }); marked = refl } });
+      string = inl (one_octet 48);
     };
     inserted = refl;
   };
   name = inl (record { entry = field_of (codes "content-length") []; here = refl; named = refl; least = lower });
   is_indexing = refl;
   fits = omega arith;
+  strings = record { name = λ is_zero. absurd (let clash : 28 ≡ 0 = is_zero in omega (arith, clash)); value = one_octet_chosen 48 };
 }
   where
     nowhere : (index : ℕ) → look_up first_table index ≡ Some empty → ⊥

@@ -19,7 +19,7 @@ returns-then-not-inserts-clause-ok c =
       | in-Absent w ↦ (let p = rw c.name.ensures at w.in-Absent.ensures in absent_new c.args.table.now c.args.field.now c.match-find.index p w.index-is)
     ] in
     on_ok_weaker c.write_literal.result (λ l. left_out_added (is_indexing c.args.rules.policy) c.args.table.now c.args.table.now c.args.field.now c.match-find.index c.args.out.now.items c.write_literal.new.out.items c.requires.plain absent
-    (l c.args.table.now absent.name) (λ on fits. let clash : false ≡ true = c.if-not-inserts.ensures.1 (record { is_indexing = on; fits = omega (arith, fits, c.requires.maximum) }) in cc) refl) c.write_literal.ensures.ok
+    (rw c.compresses-compress.ensures at (l c.args.table.now absent.name)) (λ on fits. let clash : false ≡ true = c.if-not-inserts.ensures.1 (record { is_indexing = on; fits = omega (arith, fits, c.requires.maximum) }) in cc) refl) c.write_literal.ensures.ok
 
 pub returns-clause-ok : goal.returns-clause-ok
 returns-clause-ok c =
@@ -29,7 +29,7 @@ returns-clause-ok c =
     ] in
     let inserts = c.if-not-inserts.ensures.0 refl in
     on_ok_weaker c.add.result (λ is. inserted_added (is_indexing c.args.rules.policy) c.args.table.now c.add.new.self c.args.field.now c.match-find.index c.args.out.now.items c.write_literal-2.new.out.items inserts.is_indexing absent
-    (c.in_ok-write_literal.ensures.ok c.args.table.now absent.name) (omega (arith, inserts.fits, c.requires.maximum)) (is ∙ ap (λ f. added f c.args.table.now) c.in_ok-copy.ensures)) c.add.ensures.ok
+    (rw c.compresses-compress.ensures at (c.in_ok-write_literal.ensures.ok c.args.table.now absent.name)) (omega (arith, inserts.fits, c.requires.maximum)) (is ∙ ap (λ f. added f c.args.table.now) c.in_ok-copy.ensures)) c.add.ensures.ok
 
 pub returns-clause-bounded : goal.returns-clause-bounded
 returns-clause-bounded c = λ b. bounded_if_added c.add.result c.in_ok-copy.field-0 c.args.table.now c.add.new.self c.add.ensures.ok c.add.ensures.err b

@@ -5,6 +5,16 @@ pub mod Standings
 pub mod Streams
 pub mod Resets
 pub mod Updates
+pub mod FragmentFaults
+pub mod FragmentBooks
+pub mod FragmentStreams
+pub mod FragmentResets
+pub mod BlockRows
+pub mod Kept
+pub mod BlockBooks
+pub mod Settling
+pub mod Gathering
+pub mod Fragmenting
 pub mod DataFaults
 pub mod DataBehind
 pub mod Contents

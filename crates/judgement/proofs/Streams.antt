@@ -19,7 +19,9 @@ use Rattle.conduct.specs.Rows.{Row, Slot, over_kept, kept_in, find, row_behind, 
 use Rattle.conduct.specs.Rows.Slot.{Live, Over}
 use Rattle.conduct.specs.Book.{Book, summary_in, book_after}
 use Rattle.conduct.specs.Tidy.{IsTidy, IsRow, AreKept}
-use Rattle.conduct.specs.Quiet.{coming, sending, heard}
+use Rattle.conduct.specs.Quiet.{noted_of, coming, sending, heard}
+use Rattle.model.specs.Tapes.{Noted}
+use Rattle.model.specs.Tapes.Entry.{Came}
 use Rattle.conduct.proofs.Rows.{over_stays}
 use Rattle.streams_kept.specs.Asked.{has, is_active, with_slot, changed}
 use Rattle.streams_kept.proofs.Searches.{IsFound}
@@ -144,29 +146,33 @@ module _ (setup : Setup) (b : Book) (frame : Frame) (plain : IsPlain frame) (of_
 
 -- ---- an error of the stream, and the reset behind it
 
--- a row of another stream stays over both, and the own one is over by the gateway
-both_rows : (setup : Setup) (b m : Book) (frame : Frame) (code : ℕ) → ((brief : Brief) → is_fatal (fault_for brief (summary_in b) (coming frame)) ≡ false) → (rows : List Row) → AreKept rows
-    → map (row_behind setup false (summary_in m) (sending (rst_stream frame.id code))) (map (row_behind setup false (summary_in b) (coming frame)) rows) ≡ changed frame.id (Over true) rows
-both_rows setup b m frame code mild [] kept = refl
-both_rows setup b m frame code mild (row ∷ rows) kept =
-    ap (λ (r : Row). r ∷ map (row_behind setup false (summary_in m) (sending (rst_stream frame.id code))) (map (row_behind setup false (summary_in b) (coming frame)) rows)) (one row kept.0)
-    ∙ ap (λ (rs : List Row). with_slot frame.id (Over true) row ∷ rs) (both_rows setup b m frame code mild rows kept.2)
-  where
-    own : (r : Row) → r.id ≡ frame.id → row_behind setup false (summary_in m) (sending (rst_stream frame.id code)) r ≡ record { id = r.id; slot = Over true }
-    own r same =
-        let now : Kept = kept_behind setup false (summary_in m) (sending (rst_stream frame.id code)) r.id (kept_in r.slot) in
-        let us : now.reset_by_gateway ≡ true = ap (λ x. x || (kept_in r.slot).reset_by_gateway) (eq-eqb frame.id r.id (sym same)) in
-        ap (λ x. record { id = r.id; slot = if x || now.reset_by_client || now.ended_by_client && now.ended_by_gateway then Over now.reset_by_gateway else Live now }) us
-        ∙ ap (λ x. record { id = r.id; slot = Over x }) us
+-- the reset of a stream leaves its row so
+pub reset_own : (setup : Setup) (m : Book) (id code : ℕ) (r : Row) → r.id ≡ id → row_behind setup false (summary_in m) (sending (rst_stream id code)) r ≡ record { id = r.id; slot = Over true }
+reset_own setup m id code r same =
+    let now : Kept = kept_behind setup false (summary_in m) (sending (rst_stream id code)) r.id (kept_in r.slot) in
+    let us : now.reset_by_gateway ≡ true = ap (λ x. x || (kept_in r.slot).reset_by_gateway) (eq-eqb id r.id (sym same)) in
+    ap (λ x. record { id = r.id; slot = if x || now.reset_by_client || now.ended_by_client && now.ended_by_gateway then Over now.reset_by_gateway else Live now }) us
+    ∙ ap (λ x. record { id = r.id; slot = Over x }) us
 
-    one : (row : Row) → IsRow row → row_behind setup false (summary_in m) (sending (rst_stream frame.id code)) (row_behind setup false (summary_in b) (coming frame) row) ≡ with_slot frame.id (Over true) row
-    one row is = elim (cases_eq row.id frame.id) [
-      | inl same ↦ own (row_behind setup false (summary_in b) (coming frame) row) same ∙ sym (slot_given frame.id (Over true) row same)
+-- a row of another stream stays over both, and the own one is over by the gateway
+pub both_rows : (setup : Setup) (b m : Book) (noted : Noted) (code : ℕ) → ((brief : Brief) → is_fatal (fault_for brief (summary_in b) (Came noted)) ≡ false) → (rows : List Row) → AreKept rows
+    → map (row_behind setup false (summary_in m) (sending (rst_stream noted.frame.id code))) (map (row_behind setup false (summary_in b) (Came noted)) rows) ≡ changed noted.frame.id (Over true) rows
+both_rows setup b m noted code mild [] kept = refl
+both_rows setup b m noted code mild (row ∷ rows) kept =
+    ap (λ (r : Row). r ∷ map (row_behind setup false (summary_in m) (sending (rst_stream id code))) (map (row_behind setup false (summary_in b) (Came noted)) rows)) (one row kept.0)
+    ∙ ap (λ (rs : List Row). with_slot id (Over true) row ∷ rs) (both_rows setup b m noted code mild rows kept.2)
+  where
+    id : ℕ
+    id = noted.frame.id
+
+    one : (row : Row) → IsRow row → row_behind setup false (summary_in m) (sending (rst_stream id code)) (row_behind setup false (summary_in b) (Came noted) row) ≡ with_slot id (Over true) row
+    one row is = elim (cases_eq row.id id) [
+      | inl same ↦ reset_own setup m id code (row_behind setup false (summary_in b) (Came noted) row) same ∙ sym (slot_given id (Over true) row same)
       | inr apart ↦
-          let other : (frame.id == row.id) ≡ false = ne_eqb frame.id row.id (λ same. apart (sym same)) in
-          ap (λ (r : Row). row_behind setup false (summary_in m) (sending (rst_stream frame.id code)) r) (row_stays setup false (summary_in b) (coming frame) row is (other, mild (kept_in row.slot).brief))
-          ∙ row_stays setup false (summary_in m) (sending (rst_stream frame.id code)) row is (other, refl)
-          ∙ sym (slot_left frame.id (Over true) row apart)
+          let other : (id == row.id) ≡ false = ne_eqb id row.id (λ same. apart (sym same)) in
+          ap (λ (r : Row). row_behind setup false (summary_in m) (sending (rst_stream id code)) r) (row_stays setup false (summary_in b) (Came noted) row is (other, mild (kept_in row.slot).brief))
+          ∙ row_stays setup false (summary_in m) (sending (rst_stream id code)) row is (other, refl)
+          ∙ sym (slot_left id (Over true) row apart)
     ]
 
 module _ (setup : Setup) (b : Book) (frame : Frame) (code : ℕ) (plain : IsPlain frame) (of_stream : (frame.id == 0) ≡ false) (sound : first_of (frame_rows_in (summary_in b) frame) ≡ None) (kept : AreKept b.rows) where
@@ -184,4 +190,4 @@ module _ (setup : Setup) (b : Book) (frame : Frame) (code : ℕ) (plain : IsPlai
       ∙ ap (λ (o : Option Partial). record (book_after setup false m (sending rst)) { untaken = b.untaken; block_out = o }) (ap (λ (o : Option Partial). begun_after o rst) none_out ∙ sym none_out)
       ∙ ap (λ (x : ℤ). record m { untaken = b.untaken; window = x; room = m.room +ℤ pos 0; rows = map (row_behind setup false (summary_in m) (sending rst)) all }) (none_less m.window 0 refl)
       ∙ ap (λ (x : ℤ). record m { untaken = b.untaken; room = x; rows = map (row_behind setup false (summary_in m) (sending rst)) all }) (none_more true m.room 0 refl)
-      ∙ ap (λ (x : List Row). record m { untaken = b.untaken; rows = x }) (both_rows setup b m frame code mild b.rows kept)
+      ∙ ap (λ (x : List Row). record m { untaken = b.untaken; rows = x }) (both_rows setup b m (noted_of frame) code mild b.rows kept)

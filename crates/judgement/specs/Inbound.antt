@@ -1,6 +1,8 @@
 -- What the frames of a client are judged by: conduct's book, but for what they neither look at nor change.
-use Rattle.std.specs.Prelude.{◌≡◌, ℕ, Bool, true, false, List, Option, None, ℤ, is_some}
+use Rattle.std.specs.Prelude.{◌≡◌, ℕ, ◌==◌, Bool, true, false, List, Option, Some, None, ℤ, is_some}
 use Rattle.model.specs.Decoding.{Partial}
+use Rattle.model.specs.Tables.{Table}
+use Rattle.header_blocks.specs.declared.fault.DecodeFault.{DecodeFault}
 use Rattle.model.specs.Openings.{Opened}
 use Rattle.conduct.specs.Rows.{Row}
 use Rattle.conduct.specs.Book.{Book}
@@ -24,6 +26,8 @@ pub record Inbound : Type 0 where
   pub rows : List Row
   -- the stream of the last frame
   pub last : ℕ
+  -- the header table of the client's blocks (RFC 7541, section 2.3.2)
+  pub table : Table
 
 -- the rest of the book: what else is kept of a connection that goes on, to which no header block is begun
 pub record Outside : Type 0 where
@@ -52,7 +56,9 @@ book_of outside inbound = record {
 abbrev pub told_of : Outside → Inbound → Summary
 told_of outside inbound = summary_in (book_of outside inbound)
 
--- What holds of the rows, and of the joiner beside the count of CONTINUATION frames.
-pub record IsWhole (rows : List Row) (joining : Joining) (continuations : ℕ) : Type 0 where
+-- What holds of the rows, of the joiner beside the count of CONTINUATION frames, and of the decoder, which can go on.
+pub record IsWhole (rows : List Row) (joining : Joining) (continuations : ℕ) (fault : Option DecodeFault) : Type 0 where
   pub kept : AreKept rows
   pub counted : is_some joining.begun ≡ true → continuations ≡ joining.continuations
+  pub of_stream : (block : Partial) → joining.begun ≡ Some block → (block.id == 0) ≡ false
+  pub readable : fault ≡ None

@@ -5,4 +5,6 @@ pub use Rattle.model.specs.Errors
 pub mod Joined
 pub mod Inbound
 pub mod Judgement
+pub mod Blocks
+pub mod Fragments
 pub mod Admission

@@ -1,5 +1,7 @@
 //! What comes of a frame.
 
+use causes::Cause;
+use request_rules::RequestHead;
 use settings::Change;
 
 /// What a frame is answered with that isn't as it should be (RFC 9113, section 5.4).
@@ -32,4 +34,21 @@ pub enum Judged<'a> {
     Content(&'a [u8], bool),
     /// The body on an active stream became longer than is taken, so that the gateway replies itself: 413 (RFC 9110, section 15.5.14).
     LargeBody,
+}
+
+/// What comes of a frame that has a fragment of a header block.
+#[derive(Drop)]
+pub enum BlockJudged {
+    /// It isn't as it should be.
+    Failed(Fault),
+    /// Its block goes on with the next frame.
+    GoesOn,
+    /// A request begins: what its head says, and the place of its route, from 0.
+    Begins { head: RequestHead, route: u32 },
+    /// The gateway answers the request itself from now on.
+    Answered(Cause),
+    /// Trailers end the request.
+    Trailers,
+    /// Its block was read, and nothing comes of it: nothing more of the request is looked at.
+    Ignored,
 }

@@ -24,6 +24,8 @@ pub const STREAM_CLOSED: u32 = 5;
 
 pub const FRAME_SIZE_ERROR: u32 = 6;
 
+pub const COMPRESSION_ERROR: u32 = 9;
+
 pub const ENHANCE_YOUR_CALM: u32 = 11;
 
 /// The code of a frame that may not come next (RFC 9113, section 4.3).

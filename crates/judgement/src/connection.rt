@@ -38,7 +38,7 @@ use crate::codes::{
 };
 use flow_control::Window;
 use frames::{Frame, View, ends_stream, has_settings, is_ack, is_misplaced, parse};
-use header_blocks::Joiner;
+use header_blocks::{Decoder, Joiner};
 use settings::Settings;
 use std::alloc::{AllocError, Global};
 use std::marker::Model;
@@ -48,20 +48,25 @@ use streams_kept::{Course, Live, Streams};
 /// The first size of windows (RFC 9113, section 6.9.2).
 const FIRST_WINDOW: u32 = 65535;
 
+/// The first maximum of a header table, in octets (RFC 9113, section 6.5.2).
+pub(crate) const FIRST_TABLE: u32 = 4096;
+
 /// The greatest size that a window may have (RFC 9113, section 6.9.1).
 const GREATEST: i64 = 2147483647;
 
 /// What is kept of a connection for its client's frames. A clause sees conduct's book, but for what these frames neither look at nor change.
 #[derive(Drop)]
 pub struct Connection {
-    has_come: bool,
-    joiner: Joiner,
-    continuations: u32,
-    settings: Settings,
-    window: Window,
-    room: Window,
-    streams: Streams,
-    last: u32,
+    pub(crate) has_come: bool,
+    pub(crate) joiner: Joiner,
+    pub(crate) continuations: u32,
+    pub(crate) settings: Settings,
+    pub(crate) window: Window,
+    pub(crate) room: Window,
+    pub(crate) streams: Streams,
+    pub(crate) last: u32,
+    pub(crate) decoder: Decoder,
+    pub(crate) alloc: Global,
 }
 
 impl Model for Connection {
@@ -69,9 +74,9 @@ impl Model for Connection {
 
     ghost Value = { Inbound };
 
-    ghost view = { λ c. record { has_come = c.has_come; block = c.joiner.begun; continuations = c.continuations; first_size = c.settings; window = c.window; room = c.room; rows = c.streams; last = c.last } };
+    ghost view = { λ c. record { has_come = c.has_come; block = c.joiner.begun; continuations = c.continuations; first_size = c.settings; window = c.window; room = c.room; rows = c.streams; last = c.last; table = c.decoder.table } };
 
-    ghost invariant = { λ c. IsWhole c.streams c.joiner c.continuations };
+    ghost invariant = { λ c. IsWhole c.streams c.joiner c.continuations c.decoder.fault };
 }
 
 impl Connection {
@@ -88,6 +93,8 @@ impl Connection {
             room: Window::new(FIRST_WINDOW),
             streams: Streams::new(alloc),
             last: 0,
+            decoder: Decoder::new(alloc, FIRST_TABLE),
+            alloc,
         }
     }
 
@@ -111,7 +118,7 @@ impl Connection {
 
     /// What a frame says, if nothing is wrong with it by itself and by the header block that is begun; else the code of the connection error
     /// that it is (RFC 9113, sections 3.4, 4 and 6).
-    fn parts<'a>(&self, view: View<'a>) -> Result<Frame<'a>, u32>
+    pub(crate) fn parts<'a>(&self, view: View<'a>) -> Result<Frame<'a>, u32>
         requires { length view.payload.now ≤ 16384 }
         ensures says { IfOk result (λ frame. Says frame (frame_of view.entry)) }
         ensures sound { IfOk result (λ frame. (outside : Outside) → first_of (frame_rows_in (told_of outside self.now) (frame_of view.entry)) ≡ None) }

@@ -2,11 +2,17 @@
 #![tactic(auto)]
 
 mod answers;
+mod blocks;
 mod bodies;
 mod codes;
 mod connection;
 #[cfg(test)]
+mod fragment_tests;
+mod fragments;
+mod terms;
+#[cfg(test)]
 mod tests;
 
-pub use crate::answers::{Fault, Judged};
+pub use crate::answers::{BlockJudged, Fault, Judged};
 pub use crate::connection::Connection;
+pub use crate::terms::Terms;

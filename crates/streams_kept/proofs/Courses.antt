@@ -4,7 +4,8 @@ use Rattle.std.specs.Prelude.{option_map, is_some}
 use Rattle.conduct.specs.Tidy.{IsSteady}
 use Rattle.streams_kept.specs.declared.course.Course.{Course}
 use Rattle.streams_kept.specs.declared.course.Reply.{Reply}
-use Rattle.streams_kept.specs.Views.{cause_of, was_head_out, brief_of}
+use Rattle.causes.specs.Views.{cause_of}
+use Rattle.streams_kept.specs.Views.{was_head_out, brief_of}
 
 -- Only where there is a cause, a head was out when it came.
 pub course_steady : (course : Course) → IsSteady (brief_of course)

@@ -1,34 +1,23 @@
 -- What is kept of an active stream, in words of conduct.
-use Rattle.std.specs.Prelude.{Bool, false, Option, Some, None, option_map}
-use Rattle.model.specs.Causes as causes
+use Rattle.std.specs.Prelude.{Bool, false, ◌||◌, Option, Some, None, option_map, is_some}
 use Rattle.conduct.specs.Summary.{Brief, Stream as Kept}
-use Rattle.streams_kept.specs.declared.cause.Cause.{Cause}
-use Rattle.streams_kept.specs.declared.cause.Cause.TheVariants as cause
+use Rattle.causes.specs.Views.{cause_of}
 use Rattle.streams_kept.specs.declared.course.Course.{Course}
 use Rattle.streams_kept.specs.declared.course.Reply.{Reply}
 use Rattle.streams_kept.specs.declared.live.Live.TheInside.{Inside}
-
--- a cause
-abbrev pub cause_of : Cause → causes.Cause
-cause_of cause.LargeFields = causes.Cause.LargeFields
-cause_of cause.Tunnel = causes.Cause.Tunnel
-cause_of cause.Expects = causes.Cause.Expects
-cause_of cause.LargeBody = causes.Cause.LargeBody
-cause_of cause.NoRoute = causes.Cause.NoRoute
-cause_of cause.BadAnswer = causes.Cause.BadAnswer
 
 -- a final head was out when the cause of a reply came
 abbrev pub was_head_out : Option Reply → Bool
 was_head_out None = false
 was_head_out (Some reply) = reply.head_out
 
--- the course of a request
+-- the course of a request; nothing more of it is looked at once there is a reply
 abbrev pub brief_of : Course → Brief
 brief_of course = record {
   begun = course.begun;
   declared = course.declared;
   octets = course.octets;
-  over = course.over;
+  over = course.over || is_some course.reply;
   cause = option_map (λ (reply : Reply). cause_of reply.cause) course.reply;
   head_out = was_head_out course.reply;
 }

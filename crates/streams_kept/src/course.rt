@@ -8,9 +8,10 @@ ghost use Rattle.model.specs.Malformed.{declared as declared_by};
 ghost use Rattle.conduct.specs.Rows.{fresh};
 ghost use Rattle.conduct.specs.Owing.{brief_behind};
 ghost use Rattle.streams_kept.specs.Courses.{is_malformed_with, brief_with};
-ghost use Rattle.streams_kept.specs.Views.{cause_of, brief_of};
+ghost use Rattle.causes.specs.Views.{cause_of};
+ghost use Rattle.streams_kept.specs.Views.{brief_of};
 
-use crate::cause::Cause;
+use causes::Cause;
 
 /// The gateway's own reply to a request.
 #[derive(Clone, Copy, Debug, PartialEq, Eq)]
@@ -30,7 +31,7 @@ pub struct Course {
     pub declared: Option<u64>,
     /// The octets of its body that came.
     pub octets: u32,
-    /// Whether nothing more of it is looked at.
+    /// Whether it has come to its end. Nothing more of it is looked at then, nor behind a reply.
     pub over: bool,
     /// The gateway's own reply to it.
     pub reply: Option<Reply>,
@@ -94,7 +95,7 @@ impl Course {
         requires fits { self.octets + count ≤ 4294967295 }
         ensures { (item : Item) (out : Bool) → length (body_of (item ∷ [])) ≡ count → ends_with item ≡ ends → (self.begun ≡ false → declared_by (item ∷ []) ≡ declared) → brief_of result ≡ brief_behind (brief_of self) false (item ∷ []) None out }
     {
-        if self.over {
+        if self.over || self.reply.is_some() {
             return self;
         }
         Course {

@@ -15,7 +15,6 @@ ghost use Rattle.conduct.specs.Tidy.{AreKept, IsTidy, is_above_all};
 ghost use Rattle.streams_kept.specs.Views.{brief_of};
 ghost use Rattle.stream_state.specs.Views.{kind_in, standing_in, verdict_in};
 
-mod cause;
 mod course;
 mod entries;
 mod live;
@@ -23,11 +22,11 @@ mod records;
 #[cfg(test)]
 mod tests;
 
-pub use crate::cause::Cause;
 pub use crate::course::{Course, Reply};
 use crate::entries::{Entry, Slot, last_id, place_of};
 pub use crate::live::Live;
 use crate::records::{Record, grant_at, live_at, make_place, shifts_past, state_of, take_at};
+pub use causes::Cause;
 use std::alloc::{AllocError, Global};
 use std::marker::Model;
 use stream_state::{Kind, Standing, Verdict, unopened_standing, verdict_at};
@@ -106,7 +105,7 @@ impl Streams {
     /// hasn't. Where both sides have ended it then, it is over (RFC 9113, section 5.1).
     pub fn take(&mut self, id: u32, octets: u32, course: Course, ended: bool)
         requires live { is_active self.old id ≡ true }
-        requires fits { pos octets ≤ℤ (kept_of self.old id).room }
+        requires fits { (octets == 0) ≡ false → pos octets ≤ℤ (kept_of self.old id).room }
         ensures is { self.new ≡ changed id (slot_of (taken octets (brief_of course) ended (kept_of self.old id))) self.old }
         ensures kept { AreKept self.new }
     {
@@ -123,7 +122,7 @@ impl Streams {
     /// The same, where it is active behind them.
     fn put(&mut self, id: u32, octets: u32, course: Course, ended: bool)
         requires live { is_active self.old id ≡ true }
-        requires fits { pos octets ≤ℤ (kept_of self.old id).room }
+        requires fits { (octets == 0) ≡ false → pos octets ≤ℤ (kept_of self.old id).room }
         requires goes_on { is_over_in (taken octets (brief_of course) ended (kept_of self.old id)) ≡ false }
         ensures is { self.new ≡ changed id (Active (taken octets (brief_of course) ended (kept_of self.old id))) self.old }
         ensures kept { AreKept self.new }

@@ -1,6 +1,6 @@
 //! What is kept of an active stream.
 
-ghost use Rattle.std.specs.Prelude.{◌≡◌, ◌||◌, pos, ◌+ℤ◌, ◌≤ℤ◌};
+ghost use Rattle.std.specs.Prelude.{◌≡◌, ◌==◌, ◌||◌, false, pos, ◌+ℤ◌, ◌≤ℤ◌};
 ghost use Rattle.model.specs.Windows.{IsSize};
 ghost use Rattle.streams_kept.specs.Steps.{granted, taken};
 ghost use Rattle.streams_kept.specs.Views.{brief_of};
@@ -122,13 +122,15 @@ impl Live {
         (ended || self.ended_by_client) && self.ended_by_gateway
     }
 
-    /// Takes so many octets of DATA, for which there is room (RFC 9113, section 6.9.1), or trailers, behind which this is its course, and
+    /// Takes so many octets of DATA, for which there is room (RFC 9113, section 6.9.1), or trailers of none, behind which this is its course, and
     /// with which its client ends it or doesn't.
     pub(crate) fn take(&mut self, octets: u32, course: Course, ended: bool)
-        requires { pos octets ≤ℤ self.old.room }
+        requires { (octets == 0) ≡ false → pos octets ≤ℤ self.old.room }
         ensures { self.new ≡ taken octets (brief_of course) ended self.old }
     {
-        self.room.take(octets);
+        if octets > 0 {
+            self.room.take(octets);
+        }
         self.course = course;
         self.ended_by_client = ended || self.ended_by_client;
     }

@@ -1,6 +1,6 @@
 //! Records of active streams, at keys.
 
-ghost use Rattle.std.specs.Prelude.{◌≡◌, ◌<◌, ◌≤◌, length, slice_set, Some, None, IfSome, IfNone, IfOk, OnErr, pos, ◌+ℤ◌, ◌≤ℤ◌};
+ghost use Rattle.std.specs.Prelude.{◌≡◌, ◌==◌, ◌<◌, ◌≤◌, length, slice_set, false, Some, None, IfSome, IfNone, IfOk, OnErr, pos, ◌+ℤ◌, ◌≤ℤ◌};
 ghost use Rattle.std.specs.List.{list_any};
 ghost use Rattle.model.specs.Windows.{greatest_window, IsSize};
 ghost use Rattle.streams_kept.specs.Steps.{granted, taken};
@@ -103,7 +103,7 @@ pub fn grant_at(records: &mut [Option<Record>], key: usize, increment: u32)
 
 /// Takes octets of DATA, or trailers, on the stream of a record.
 fn take_one(slot: &mut Option<Record>, octets: u32, course: Course, ended: bool)
-    requires { IfSome slot.old (λ r. pos octets ≤ℤ r.live.room) }
+    requires { (octets == 0) ≡ false → IfSome slot.old (λ r. pos octets ≤ℤ r.live.room) }
     ensures some { IfSome slot.old (λ r. slot.new ≡ Some (record r { live = taken octets (brief_of course) ended r.live })) }
     ensures none { IfNone slot.old (slot.new ≡ None) }
 {
@@ -115,7 +115,7 @@ fn take_one(slot: &mut Option<Record>, octets: u32, course: Course, ended: bool)
 /// Takes octets of DATA, or trailers, on the stream of the record at a key.
 pub fn take_at(records: &mut [Option<Record>], key: usize, octets: u32, course: Course, ended: bool)
     requires within { key < length records.old }
-    requires fits { IfSome (record_at records.old key) (λ r. pos octets ≤ℤ r.live.room) }
+    requires fits { (octets == 0) ≡ false → IfSome (record_at records.old key) (λ r. pos octets ≤ℤ r.live.room) }
     ensures { IfSome (record_at records.old key) (λ r. records.new ≡ slice_set records.old key (Some (record r { live = taken octets (brief_of course) ended r.live }))) }
 {
     take_one(&mut records[key], octets, course, ended)

@@ -28,6 +28,7 @@ pub fn read_block(
     ensures goes_on { OnOk result (decoder.new.fault ≡ None) }
     ensures unread { IfErr result (IsUnreadAs decoder.old.table block.now) }
     ensures stays { IfErr result (λ fault. decoder.new.fault ≡ Some fault) }
+    ensures table_stays { OnErr result (decoder.new.table ≡ decoder.old.table) }
 {
     decoder.decode(alloc, block, cap)
 }

@@ -1,4 +1,4 @@
-use Rattle.std.proofs.Common.{◌≡◌, ◌≤ℤ◌, pos, List, length, ap, sym, subst, ◌∙◌, arith, Some, false}
+use Rattle.std.proofs.Common.{◌≡◌, ◌==◌, ◌≤ℤ◌, pos, List, length, ap, sym, subst, ◌∙◌, arith, Some, false}
 use Rattle.std.specs.Prelude.{Option, IfSome, slice_set}
 use Rattle.std.specs.Vec.{with_items}
 use Rattle.std.proofs.lemmas.List.{with_items_is}
@@ -22,15 +22,15 @@ returns-in_default-clause-is c =
     not_both (is_active c.args.self.now c.args.id) c.requires.live (rw (← c.self.view_is) (none_here c.self.inside.entries.items c.self.inside.records.items c.args.id c.in_default.field-0 (rw (← c.deref.ensures.value) c.in_default.ensures.absent)))
 
 pub take_at-requires-clause-fits : goal.take_at-requires-clause-fits
-take_at-requires-clause-fits c =
+take_at-requires-clause-fits c = λ some.
     let es = c.self.inside.entries.items in
     let rs = c.self.inside.records.items in
     let is : IsAt es c.args.id c.in-Ok.place = rw (← c.deref.ensures.value) c.in-Ok.ensures.found in
     let there = read_at es c.in-Ok.place c.index.result.now is.within c.index.ensures in
     let here = here_at es rs c.self.inside.active c.args.id c.in-Ok.place c.in-Live.key c.self.invariant is (ap (λ e. e.slot) there ∙ c.in-Live.is) in
     let live = kept_here es rs c.self.inside.active c.args.id c.in-Ok.place c.in-Live.key here.0 c.self.invariant here.1 in
-    let fits : pos c.args.octets ≤ℤ here.0.live.room = subst (λ (k : Kept). pos c.args.octets ≤ℤ k.room) live.found (rw c.self.view_is c.requires.fits) in
-    rw c.deref_mut.ensures.value (subst (λ (o : Option Record). IfSome o (λ (r : Record). pos c.args.octets ≤ℤ r.live.room)) (sym here.1.there) fits)
+    let fits : (c.args.octets == 0) ≡ false → pos c.args.octets ≤ℤ here.0.live.room = subst (λ (k : Kept). (c.args.octets == 0) ≡ false → pos c.args.octets ≤ℤ k.room) live.found (rw c.self.view_is c.requires.fits) in
+    rw c.deref_mut.ensures.value (subst (λ (o : Option Record). IfSome o (λ (r : Record). pos c.args.octets ≤ℤ r.live.room)) (sym here.1.there) (fits some))
 
 pub invariant_of-self : goal.invariant_of-self
 invariant_of-self c =

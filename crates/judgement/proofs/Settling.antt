@@ -1,0 +1,117 @@
+-- What comes of a whole header block on its stream, by what the program did.
+use Rattle.std.proofs.Common.{◌≡◌, ℕ, ◌≤◌, Bool, true, false, not, ◌&&◌, ◌||◌, if◌then◌else◌, List, [], ◌∷◌, Option, Some, None, refl, sym, ◌∙◌, ap, arith}
+use Rattle.std.proofs.lemmas.Bool.{or_right}
+use Rattle.std.proofs.Math.Bool.{or-false}
+use Rattle.std.proofs.lemmas.Bool.Decides.{nat_tests}
+use Rattle.std.specs.Prelude.{is_some, option_map}
+use Rattle.model.specs.Messages.{Field, Item}
+use Rattle.model.specs.Messages.Item.{Block}
+use Rattle.model.specs.Frames.{protocol_error}
+use Rattle.model.specs.Setup.{Setup}
+use Rattle.model.specs.Tables.{total_size}
+use Rattle.model.specs.Tapes.Note.{Fields}
+use Rattle.model.specs.Errors.{Fault, or_else}
+use Rattle.model.specs.Errors.Fault.{Stream}
+use Rattle.model.specs.FrameErrors.{fault_if}
+use Rattle.model.specs.Malformed.{Carried, are_trailers, has_length, is_well_formed}
+use Rattle.model.specs.Http2.{declared_length}
+use Rattle.model.specs.ErrorTable.{fault_of, is_bad_block}
+use Rattle.model.specs.Causes.{Cause, are_large, largest_fields, cause_if, cause_of_head}
+use Rattle.model.specs.Causes.Cause.{LargeFields}
+use Rattle.model.specs.Courses.{cause_of_block}
+use Rattle.conduct.specs.Summary.{Brief, carried_in}
+use Rattle.conduct.specs.Owing.{brief_behind}
+use Rattle.conduct.specs.Rows.{Row, find, slot_of}
+use Rattle.causes.specs.Views.{cause_of}
+use Rattle.causes.specs.Openings.{is_bad_head, behind_head}
+use Rattle.streams_kept.specs.declared.course.Course.{Course}
+use Rattle.streams_kept.specs.declared.course.Reply.{Reply}
+use Rattle.streams_kept.specs.Views.{brief_of}
+use Rattle.streams_kept.specs.Asked.{verdict}
+use Rattle.judgement.specs.Blocks.{placed, kept_so, kept_with, is_malformed_behind, fault_on}
+
+-- ---- faults
+
+-- by the state of the stream
+pub refused_by : (rows : List Row) (id : ℕ) (fields : List Field) (ends : Bool) (f : Fault) → fault_of (verdict rows id 1) ≡ Some f → fault_on rows id fields ends ≡ Some f
+refused_by rows id fields ends f is = ap (λ (o : Option Fault). or_else o (fault_if (is_malformed_behind (find rows id).brief fields ends) (Stream protocol_error))) is
+
+-- by the block itself
+pub fault_by_block : (rows : List Row) (id : ℕ) (fields : List Field) (ends : Bool) → fault_of (verdict rows id 1) ≡ None → fault_on rows id fields ends ≡ fault_if (is_malformed_behind (find rows id).brief fields ends) (Stream protocol_error)
+fault_by_block rows id fields ends is = ap (λ (o : Option Fault). or_else o (fault_if (is_malformed_behind (find rows id).brief fields ends) (Stream protocol_error))) is
+
+pub malformed_by : (rows : List Row) (id : ℕ) (fields : List Field) (ends : Bool) (brief : Brief) (b : Bool) → fault_of (verdict rows id 1) ≡ None → brief ≡ (find rows id).brief → is_malformed_behind brief fields ends ≡ b → fault_on rows id fields ends ≡ fault_if b (Stream protocol_error)
+malformed_by rows id fields ends brief b passes same is =
+    fault_by_block rows id fields ends passes ∙ ap (λ (x : Brief). fault_if (is_malformed_behind x fields ends) (Stream protocol_error)) (sym same) ∙ ap (λ x. fault_if x (Stream protocol_error)) is
+
+-- a head: whatever else the stream carried
+pub bad_head : (brief : Brief) (fields : List Field) (ends b : Bool) → brief.cause ≡ None → brief.begun ≡ false → is_bad_head fields ends ≡ b → is_malformed_behind brief fields ends ≡ b
+bad_head brief fields ends b no_cause begun is =
+    ap (λ (o : Option Cause). not (is_some o) && is_bad_block (carried_in brief) ends (Fields fields)) no_cause
+    ∙ ap (λ x. not (are_large fields) && (if x then not ends || not (are_trailers fields) || not (has_length brief.declared brief.octets) else not (is_well_formed fields) || ends && not (has_length (declared_length fields) 0))) begun
+    ∙ is
+
+-- a later block
+pub bad_trailers : (brief : Brief) (fields : List Field) (ends b : Bool) → brief.cause ≡ None → brief.begun ≡ true → is_bad_block (behind_head brief.declared brief.octets (is_some brief.cause)) ends (Fields fields) ≡ b → is_malformed_behind brief fields ends ≡ b
+bad_trailers brief fields ends b no_cause begun is =
+    ap (λ (o : Option Cause). not (is_some o) && is_bad_block (carried_in brief) ends (Fields fields)) no_cause
+    ∙ ap (λ x. not (are_large fields) && (if x then not ends || not (are_trailers fields) || not (has_length brief.declared brief.octets) else not (is_well_formed fields) || ends && not (has_length (declared_length fields) 0))) begun
+    ∙ is
+
+-- one behind the gateway's own reply isn't malformed
+pub replied_is_well : (brief : Brief) (fields : List Field) (ends : Bool) → is_some brief.cause ≡ true → is_malformed_behind brief fields ends ≡ false
+replied_is_well brief fields ends replied = ap (λ x. not x && is_bad_block (carried_in brief) ends (Fields fields)) replied
+
+-- ---- causes
+
+pub fits_is_small : (fields : List Field) → total_size fields ≤ largest_fields → are_large fields ≡ false
+fits_is_small fields fits = grind (arith, nat_tests, fits)
+
+pub cause_of_trailers : (setup : Setup) (carried : Carried) (fields : List Field) → carried.begun ≡ true → are_large fields ≡ false → cause_of_block setup carried (Fields fields) ≡ None
+cause_of_trailers setup carried fields begun small =
+    ap (λ x. if x then cause_if (are_large fields) LargeFields else cause_of_head setup fields) begun ∙ ap (λ x. cause_if x LargeFields) small
+
+pub cause_of_first : (setup : Setup) (carried : Carried) (fields : List Field) (cause : Option Cause) → carried.begun ≡ false → cause_of_head setup fields ≡ cause → cause_of_block setup carried (Fields fields) ≡ cause
+cause_of_first setup carried fields cause begun is = ap (λ x. if x then cause_if (are_large fields) LargeFields else cause_of_head setup fields) begun ∙ is
+
+-- ---- what is kept
+
+-- the rows that a block without a fault leaves, by the course that was kept
+pub left_by : (setup : Setup) (rows new : List Row) (id : ℕ) (fields : List Field) (ends : Bool) (brief : Brief) (cause : Option Cause) → new ≡ placed rows id (slot_of (kept_so (find rows id) brief ends))
+    → cause_of_block setup (carried_in (find rows id).brief) (Fields fields) ≡ cause
+    → brief ≡ brief_behind (find rows id).brief (is_some cause) (Block fields ends ∷ []) cause (find rows id).head_out
+    → new ≡ placed rows id (slot_of (kept_with setup (find rows id) fields ends))
+left_by setup rows new id fields ends brief cause left cause_is brief_is =
+    left
+    ∙ ap (λ (x : Brief). placed rows id (slot_of (kept_so (find rows id) x ends))) brief_is
+    ∙ ap (λ (o : Option Cause). placed rows id (slot_of (kept_so (find rows id) (brief_behind (find rows id).brief (is_some o) (Block fields ends ∷ []) o (find rows id).head_out) ends))) (sym cause_is)
+
+-- a course that is over, with a reply, stays as it is
+over_so : (begun over was_out : Bool) (declared : Option ℕ) (octets : ℕ) (own : Option Cause) (x : Bool) (items : List Item) (cause : Option Cause) (out : Bool) → over ≡ true → is_some own ≡ true
+    → brief_behind (record { begun = begun; declared = declared; octets = octets; over = over; cause = own; head_out = was_out }) x items cause out ≡ record { begun = begun; declared = declared; octets = octets; over = over; cause = own; head_out = was_out }
+over_so begun true was_out declared octets (Some own) x items cause out is replied = refl
+over_so begun true was_out declared octets None x items cause out is replied = absurd (let no : false ≡ true = replied in cc)
+over_so begun false was_out declared octets own x items cause out is replied = absurd (let no : false ≡ true = is in cc)
+
+pub over_same : (brief : Brief) (x : Bool) (items : List Item) (cause : Option Cause) (out : Bool) → brief.over ≡ true → is_some brief.cause ≡ true → brief_behind brief x items cause out ≡ brief
+over_same brief x items cause out over replied = over_so brief.begun brief.over brief.head_out brief.declared brief.octets brief.cause x items cause out over replied
+
+-- ---- what a course says
+
+-- no reply is no cause
+pub no_reply : (course : Course) (brief : Brief) → brief_of course ≡ brief → course.reply ≡ None → brief.cause ≡ None
+no_reply course brief same none = sym (ap (λ (b : Brief). b.cause) same) ∙ ap (λ (r : Option Reply). option_map (λ (x : Reply). cause_of x.cause) r) none
+
+-- a reply is a cause, and nothing more is looked at
+pub reply_so : (course : Course) (brief : Brief) → brief_of course ≡ brief → is_some course.reply ≡ true → (is_some brief.cause ≡ true) × (brief.over ≡ true)
+reply_so course brief same some =
+    (sym (ap (λ (b : Brief). is_some b.cause) same) ∙ mapped course.reply some, sym (ap (λ (b : Brief). b.over) same) ∙ or_right course.over (is_some course.reply) some)
+  where
+    mapped : (r : Option Reply) → is_some r ≡ true → is_some (option_map (λ (x : Reply). cause_of x.cause) r) ≡ true
+    mapped None is = is
+    mapped (Some x) is = refl
+
+-- where there is none, it is over just where it has come to its end
+pub over_is : (course : Course) (brief : Brief) (b : Bool) → brief_of course ≡ brief → course.reply ≡ None → course.over ≡ b → brief.over ≡ b
+over_is course brief b same none is =
+    sym (ap (λ (x : Brief). x.over) same) ∙ ap (λ (r : Option Reply). course.over || is_some r) none ∙ or-false course.over ∙ is

@@ -1,0 +1,38 @@
+use Rattle.std.proofs.Common.{◌≡◌, ℕ, Bool, true, false, List, Option, None, [], ◌∷◌, sym, ◌∙◌, ap}
+use Rattle.model.specs.Messages.{Field}
+use Rattle.model.specs.Messages.Item.{Block}
+use Rattle.model.specs.Setup.{Setup}
+use Rattle.model.specs.Http2.{declared_length}
+use Rattle.conduct.specs.Summary.{Brief, carried_in}
+use Rattle.conduct.specs.Owing.{brief_behind}
+use Rattle.conduct.specs.Rows.{Row, find, slot_of}
+use Rattle.request_rules.specs.Heads.{HeadParts}
+use Rattle.causes.specs.Openings.{GoesOn}
+use Rattle.streams_kept.specs.Views.{brief_of}
+use Rattle.streams_kept.specs.declared.course.Course.{Course}
+use Rattle.judgement.specs.Blocks.{placed, kept_so, kept_with}
+use Rattle.judgement.proofs.Settling.{left_by, cause_of_first, over_is}
+use Rattle.judgement.proofs.blocks.begin.Goals as goal
+
+-- the rows that a head leaves which goes on
+left : (setup : Setup) (rows new : List Row) (id : ℕ) (fields : List Field) (ends : Bool) (head : HeadParts) (route : ℕ) (before next : Course) (length : Option ℕ) → brief_of before ≡ (find rows id).brief → before.begun ≡ false → GoesOn setup fields ends head route
+    → length ≡ head.length
+    → ((line : List Field) (out : Bool) → (before.begun ≡ false → declared_length line ≡ length) → brief_of next ≡ brief_behind (brief_of before) false (Block line ends ∷ []) None out)
+    → new ≡ placed rows id (slot_of (kept_so (find rows id) (brief_of next) ends)) → new ≡ placed rows id (slot_of (kept_with setup (find rows id) fields ends))
+left setup rows new id fields ends head route before next length same begun on length_is next_is new_is =
+    left_by setup rows new id fields ends (brief_of next) None new_is (cause_of_first setup (carried_in (find rows id).brief) fields None (sym (ap (λ (b : Brief). b.begun) same) ∙ begun) on.no_cause)
+    (next_is fields (find rows id).head_out (λ first. sym (length_is ∙ ap (λ (h : HeadParts). h.length) on.parts)) ∙ ap (λ (b : Brief). brief_behind b false (Block fields ends ∷ []) None (find rows id).head_out) same)
+
+pub returns-then-course : goal.returns-then-course
+returns-then-course c = λ setup fields faultless on. record {
+  faultless = faultless;
+  left = left setup c.args.streams.now c.keep.new.streams c.args.id fields c.args.ends c.args.head c.args.route c.args.course c.with_block-next.result c.length.result c.requires.course c.requires.begun on c.length.ensures c.with_block-next.ensures c.in_ok-keep.ensures;
+  says = over_is c.args.course (find c.args.streams.now c.args.id).brief true c.requires.course c.requires.none_yet c.if-course.true;
+}
+
+pub returns : goal.returns
+returns c = λ setup fields faultless on. record {
+  faultless = faultless;
+  left = left setup c.args.streams.now c.keep.new.streams c.args.id fields c.args.ends c.args.head c.args.route c.args.course c.with_block-next.result c.length.result c.requires.course c.requires.begun on c.length.ensures c.with_block-next.ensures c.in_ok-keep.ensures;
+  says = (sym (ap (λ (b : Brief). b.begun) c.requires.course) ∙ c.requires.begun, over_is c.args.course (find c.args.streams.now c.args.id).brief false c.requires.course c.requires.none_yet c.if-course.false, on);
+}

@@ -1,0 +1,25 @@
+use Rattle.std.proofs.Common.{false, List, [], ◌∷◌, refl, sym, ◌∙◌}
+use Rattle.std.specs.Prelude.{is_some}
+use Rattle.model.specs.Messages.Item.{Block}
+use Rattle.conduct.specs.Summary.{Brief}
+use Rattle.conduct.specs.Rows.{Row, find}
+use Rattle.streams_kept.specs.Views.{brief_of}
+use Rattle.model.specs.Tapes.Note.{Fields}
+use Rattle.model.specs.Courses.{cause_of_block}
+use Rattle.conduct.specs.Summary.{carried_in}
+use Rattle.judgement.proofs.Settling.{left_by, reply_so, malformed_by, replied_is_well, over_same}
+use Rattle.judgement.proofs.blocks.pass_over.Goals as goal
+
+pub returns : goal.returns
+returns c = λ setup fields.
+    let rows : List Row = c.args.streams.now in
+    let brief : Brief = (find rows c.args.id).brief in
+    let cause = cause_of_block setup (carried_in brief) (Fields fields) in
+    let replied = reply_so c.args.course brief c.requires.course c.requires.replied in
+    record {
+      faultless = malformed_by rows c.args.id fields c.args.ends brief false c.requires.passes refl (replied_is_well brief fields c.args.ends replied.0);
+      left = left_by setup rows c.keep.new.streams c.args.id fields c.args.ends (brief_of c.args.course) cause c.in_ok-keep.ensures refl (
+          c.requires.course ∙ sym (over_same brief (is_some cause) (Block fields c.args.ends ∷ []) cause (find rows c.args.id).head_out replied.1 replied.0)
+          );
+      says = replied.1;
+    }

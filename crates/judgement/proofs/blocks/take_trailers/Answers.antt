@@ -1,0 +1,68 @@
+use Rattle.std.proofs.Common.{◌≡◌, ℕ, Bool, true, false, List, None, [], ◌∷◌, refl, sym, ◌∙◌, ap}
+use Rattle.std.specs.Prelude.{◌≤◌, is_some}
+use Rattle.model.specs.Messages.{Field}
+use Rattle.model.specs.Messages.Item.{Block}
+use Rattle.model.specs.Setup.{Setup}
+use Rattle.model.specs.Tapes.Note.{Fields}
+use Rattle.model.specs.Http2.{declared_length}
+use Rattle.model.specs.Tables.{total_size}
+use Rattle.model.specs.Causes.{largest_fields}
+use Rattle.model.specs.ErrorTable.{fault_of, is_bad_block}
+use Rattle.model.specs.FrameErrors.{fault_if}
+use Rattle.model.specs.Errors.Fault.{Stream}
+use Rattle.conduct.specs.Summary.{Brief, carried_in}
+use Rattle.conduct.specs.Owing.{brief_behind}
+use Rattle.conduct.specs.Rows.{Row, find, slot_of}
+use Rattle.causes.specs.Openings.{behind_head}
+use Rattle.streams_kept.specs.Asked.{verdict}
+use Rattle.streams_kept.specs.Views.{brief_of}
+use Rattle.streams_kept.specs.declared.course.Course.{Course}
+use Rattle.judgement.specs.Blocks.{placed, kept_so, kept_with, fault_on}
+use Rattle.judgement.proofs.Kept.{if_ok}
+use Rattle.judgement.proofs.Settling.{left_by, malformed_by, bad_trailers, cause_of_trailers, fits_is_small, no_reply, over_is}
+use Rattle.judgement.proofs.blocks.take_trailers.Goals as goal
+
+-- its fault, by what was tested
+found : (rows : List Row) (id : ℕ) (fields : List Field) (ends : Bool) (course : Course) (octets : ℕ) (test : Bool) → fault_of (verdict rows id 1) ≡ None → brief_of course ≡ (find rows id).brief → course.begun ≡ true → course.reply ≡ None → octets ≡ course.octets
+    → ((waits : Bool) → test ≡ is_bad_block (behind_head course.declared octets waits) ends (Fields fields)) → fault_on rows id fields ends ≡ fault_if test (Stream 1)
+found rows id fields ends course octets test passes same begun none count tests =
+    malformed_by rows id fields ends (brief_of course) test passes same (bad_trailers (brief_of course) fields ends test (no_reply course (brief_of course) refl none) begun (
+    ap (λ n. is_bad_block (behind_head course.declared n (is_some (brief_of course).cause)) ends (Fields fields)) (sym count) ∙ sym (tests (is_some (brief_of course).cause))
+    ))
+
+-- the rows that it leaves
+left : (setup : Setup) (rows new : List Row) (id : ℕ) (fields : List Field) (ends : Bool) (before next : Course) → brief_of before ≡ (find rows id).brief → before.begun ≡ true → total_size fields ≤ largest_fields
+    → ((line : List Field) (out : Bool) → (before.begun ≡ false → declared_length line ≡ None) → brief_of next ≡ brief_behind (brief_of before) false (Block line ends ∷ []) None out)
+    → new ≡ placed rows id (slot_of (kept_so (find rows id) (brief_of next) ends)) → new ≡ placed rows id (slot_of (kept_with setup (find rows id) fields ends))
+left setup rows new id fields ends before next same begun fits next_is new_is =
+    left_by setup rows new id fields ends (brief_of next) None new_is (cause_of_trailers setup (carried_in (find rows id).brief) fields (sym (ap (λ (b : Brief). b.begun) same) ∙ begun) (fits_is_small fields fits))
+    (next_is fields (find rows id).head_out (λ first. absurd (let no : true ≡ false = sym begun ∙ first in cc)) ∙ ap (λ (b : Brief). brief_behind b false (Block fields ends ∷ []) None (find rows id).head_out) same)
+
+pub returns-then-are_malformed_trailers : goal.returns-then-are_malformed_trailers
+returns-then-are_malformed_trailers c = if_ok c.fail.result c.fail.ensures (λ answer settles setup.
+    settles setup c.args.fields.now c.args.ends (
+    found c.args.streams.now c.args.id c.args.fields.now c.args.ends c.args.course c.from.result c.are_malformed_trailers.result c.requires.passes c.requires.course c.requires.begun c.requires.none_yet c.from.ensures c.are_malformed_trailers.ensures
+    ∙ ap (λ x. fault_if x (Stream 1)) c.if-are_malformed_trailers.true
+    ))
+
+pub returns-then-course : goal.returns-then-course
+returns-then-course c = λ setup. record {
+  faultless =
+      found c.args.streams.now c.args.id c.args.fields.now c.args.ends c.args.course c.from.result c.are_malformed_trailers.result c.requires.passes c.requires.course c.requires.begun c.requires.none_yet c.from.ensures c.are_malformed_trailers.ensures
+      ∙ ap (λ x. fault_if x (Stream 1)) c.if-are_malformed_trailers.false;
+  left = left setup c.args.streams.now c.keep.new.streams c.args.id c.args.fields.now c.args.ends c.args.course c.with_block.result c.requires.course c.requires.begun c.requires.fits c.with_block.ensures c.in_ok-keep.ensures;
+  says = over_is c.args.course (find c.args.streams.now c.args.id).brief true c.requires.course c.requires.none_yet c.if-course.true;
+}
+
+pub returns : goal.returns
+returns c = λ setup. record {
+  faultless =
+      found c.args.streams.now c.args.id c.args.fields.now c.args.ends c.args.course c.from.result c.are_malformed_trailers.result c.requires.passes c.requires.course c.requires.begun c.requires.none_yet c.from.ensures c.are_malformed_trailers.ensures
+      ∙ ap (λ x. fault_if x (Stream 1)) c.if-are_malformed_trailers.false;
+  left = left setup c.args.streams.now c.keep.new.streams c.args.id c.args.fields.now c.args.ends c.args.course c.with_block.result c.requires.course c.requires.begun c.requires.fits c.with_block.ensures c.in_ok-keep.ensures;
+  says = (
+    sym (ap (λ (b : Brief). b.begun) c.requires.course) ∙ c.requires.begun,
+    over_is c.args.course (find c.args.streams.now c.args.id).brief false c.requires.course c.requires.none_yet c.if-course.false,
+    cause_of_trailers setup (carried_in (find c.args.streams.now c.args.id).brief) c.args.fields.now (sym (ap (λ (b : Brief). b.begun) c.requires.course) ∙ c.requires.begun) (fits_is_small c.args.fields.now c.requires.fits),
+  );
+}

@@ -70,6 +70,7 @@ module _ (setup : Setup) (outside : Outside) (before old : Inbound) (frame : Fra
     note = Fields fields;
     next = next;
     is_noted = noted_so (Fields fields) next noted;
+    read = λ unread. absurd (cc);
     table = table_left next a;
     judged = subst (λ (x : Book). IsNotedJudged setup (book_of outside before) (record { frame = frame; note = Fields fields }) x a) (heard_is rows next) (judged_by setup (book_of outside before) frame fields by.of (by.sound outside) block by.is_block of_stream kept refl rows a settles);
   }
@@ -80,6 +81,7 @@ module _ (setup : Setup) (outside : Outside) (before old : Inbound) (frame : Fra
     note = Undecodable;
     next = before.table;
     is_noted = noted_so Undecodable before.table (unread block refl);
+    read = λ unread. absurd (cc);
     table = tt;
     judged = record {
       is = block_fault (told_of outside before) (record { frame = frame; note = Undecodable }) by.of (by.sound outside) block by.is_block (find before.rows frame.id).brief;
@@ -94,6 +96,7 @@ goes_on_judged setup outside old new frame none faultless left table = record {
   note = NoBlock;
   next = old.table;
   is_noted = subst (λ o. IsNoted o (verdict_in (told_of outside old) frame).is_error old.table NoBlock old.table) (sym none) refl;
+  read = λ unread. absurd (cc);
   table = table;
   judged = record { faultless = faultless; left = left; says = none };
 }
@@ -103,7 +106,8 @@ pub frame_judged : (setup : Setup) (outside : Outside) (old : Inbound) (frame : 
 frame_judged setup outside old frame code is = record {
   note = note (completed_in old.block frame);
   next = old.table;
-  is_noted = noted (completed_in old.block frame) (verdict_in (told_of outside old) frame).is_error (ap is_some (first_within (frame_rows_in s frame) (values_in frame ∷ shift_in s frame ∷ connection_update_in s frame ∷ idle_in s frame ∷ connection_data_in s frame ∷ []) (Connection code) is));
+  is_noted = noted (completed_in old.block frame) (verdict_in (told_of outside old) frame).is_error wrong_before;
+  read = λ unread. wrong_before;
   table = tt;
   judged = record {
     is = ap (λ (x : Option Fault). or_else x (malformed_in (find old.rows frame.id).brief s (Came (record { frame = frame; note = note (completed_in old.block frame) })))) (first_within (frame_rows_in s frame) (values_in frame ∷ shift_in s frame ∷ connection_update_in s frame ∷ idle_in s frame ∷ connection_data_in s frame ∷ rows_behind_block_in s (record { frame = frame; note = note (completed_in old.block frame) })) (Connection code) is);
@@ -113,6 +117,9 @@ frame_judged setup outside old frame code is = record {
   where
     s : Summary
     s = told_of outside old
+
+    wrong_before : (verdict_in (told_of outside old) frame).is_error ≡ true
+    wrong_before = ap is_some (first_within (frame_rows_in s frame) (values_in frame ∷ shift_in s frame ∷ connection_update_in s frame ∷ idle_in s frame ∷ connection_data_in s frame ∷ []) (Connection code) is)
 
     note : Option Partial → Note
     note None = NoBlock

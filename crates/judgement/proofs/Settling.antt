@@ -18,7 +18,7 @@ use Rattle.model.specs.Http2.{declared_length}
 use Rattle.model.specs.ErrorTable.{fault_of, is_bad_block}
 use Rattle.model.specs.Causes.{Cause, are_large, largest_fields, cause_if, cause_of_head}
 use Rattle.model.specs.Causes.Cause.{LargeFields}
-use Rattle.model.specs.Courses.{cause_of_block}
+use Rattle.model.specs.Courses.{cause_of_block, first_of_both}
 use Rattle.conduct.specs.Summary.{Brief, carried_in}
 use Rattle.conduct.specs.Owing.{brief_behind}
 use Rattle.conduct.specs.Rows.{Row, find, slot_of}
@@ -115,3 +115,12 @@ reply_so course brief same some =
 pub over_is : (course : Course) (brief : Brief) (b : Bool) → brief_of course ≡ brief → course.reply ≡ None → course.over ≡ b → brief.over ≡ b
 over_is course brief b same none is =
     sym (ap (λ (x : Brief). x.over) same) ∙ ap (λ (r : Option Reply). course.over || is_some r) none ∙ or-false course.over ∙ is
+
+-- where there is a cause it stays, and where there comes none
+pub cause_stays : (old new : Option Cause) → is_some old ≡ true → first_of_both old new ≡ old
+cause_stays None new is = cc
+cause_stays (Some cause) new is = refl
+
+pub none_joins : (old : Option Cause) {new : Option Cause} → new ≡ None → first_of_both old new ≡ old
+none_joins None is = is
+none_joins (Some cause) is = refl

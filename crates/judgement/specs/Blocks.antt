@@ -10,7 +10,7 @@ use Rattle.model.specs.Errors.{or_else}
 use Rattle.model.specs.FrameErrors.{fault_if}
 use Rattle.model.specs.Lifetimes.{may_open}
 use Rattle.model.specs.ErrorTable.{fault_of, is_bad_block}
-use Rattle.model.specs.Courses.{cause_of_block}
+use Rattle.model.specs.Courses.{cause_of_block, first_of_both}
 use Rattle.conduct.specs.Summary.{Brief, carried_in, Stream as Kept}
 use Rattle.conduct.specs.Owing.{brief_behind}
 use Rattle.conduct.specs.Rows.{Row, Slot, ids_of, find, slot_of}
@@ -51,14 +51,15 @@ abbrev pub AreLeft : List Row → ℕ → errors.Fault → List Row → Type 0
 AreLeft old id (errors.Fault.Stream code) new = new ≡ placed old id (Over true)
 AreLeft old id _ new = new ≡ old
 
--- What an answer says of a block without a fault, behind this of its stream; each answer is one to other blocks.
+-- What an answer says of a block without a fault, behind this of its stream; each answer is one to other blocks. One that is ignored is no new cause
+-- of a reply.
 abbrev pub SaysOf : Setup → Brief → List Field → Bool → BlockJudged → Type 0
 SaysOf setup brief fields ends (judged.Failed found) = ⊥
 SaysOf setup brief fields ends judged.GoesOn = ⊥
 SaysOf setup brief fields ends (judged.Begins head route) = (brief.begun ≡ false) × (brief.over ≡ false) × GoesOn setup fields ends head route
 SaysOf setup brief fields ends (judged.Answered cause) = (brief.cause ≡ None) × (cause_of_block setup (carried_in brief) (Fields fields) ≡ Some (cause_of cause))
 SaysOf setup brief fields ends judged.Trailers = (brief.begun ≡ true) × (brief.over ≡ false) × (cause_of_block setup (carried_in brief) (Fields fields) ≡ None)
-SaysOf setup brief fields ends judged.Ignored = brief.over ≡ true
+SaysOf setup brief fields ends judged.Ignored = (brief.over ≡ true) × (first_of_both brief.cause (cause_of_block setup (carried_in brief) (Fields fields)) ≡ brief.cause)
 
 -- A block without a fault, and what it leaves.
 pub record IsSettled (setup : Setup) (old : List Row) (id : ℕ) (fields : List Field) (ends : Bool) (new : List Row) (answer : BlockJudged) : Type 0 where

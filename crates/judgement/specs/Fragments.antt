@@ -4,7 +4,7 @@ use Rattle.model.specs.Messages.{Field}
 use Rattle.model.specs.Tapes.{Note}
 use Rattle.model.specs.Tapes.Note.{Fields, Undecodable}
 use Rattle.model.specs.Tables.{Table}
-use Rattle.model.specs.Decoding.{Partial}
+use Rattle.model.specs.Decoding.{Partial, is_read}
 use Rattle.model.specs.Errors as errors
 use Rattle.model.specs.Errors.{first_of}
 use Rattle.conduct.specs.Judging.{completed_in, continuations_in, frame_rows_in}
@@ -85,6 +85,8 @@ pub record IsFragmentJudged (setup : Setup) (outside : Outside) (old : Inbound) 
   pub note : Note
   pub next : Table
   pub is_noted : IsNoted (completed_in old.block frame) (verdict_in (told_of outside old) frame).is_error old.table note next
+  -- a block was read, unless the frame is an error before that
+  pub read : is_read note ≡ false → (verdict_in (told_of outside old) frame).is_error ≡ true
   pub table : IsTableLeft next answer new.table
   pub judged : IsNotedJudged setup (book_of outside old) (record { frame = frame; note = note }) (book_of outside new) answer
 

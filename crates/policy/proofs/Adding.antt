@@ -53,7 +53,7 @@ module _ (setup : Setup) (noted : Noted) where
       then []
       else frame_items (completed_in v.block noted.frame) noted
 
-  none_wrong : (kept : Kept) (v : Summary) (fault : Fault) → fault_for kept.brief v (Came noted) ≡ Some fault → added_to setup kept v noted ≡ []
+  pub none_wrong : (kept : Kept) (v : Summary) (fault : Fault) → fault_for kept.brief v (Came noted) ≡ Some fault → added_to setup kept v noted ≡ []
   none_wrong kept v fault is =
       ap (given kept v) is
       ∙ ap (λ b. if b then [] else frame_items (completed_in v.block noted.frame) noted) (over_by kept.brief.over (is_ended_by (id == id) (Some fault)) _ _ (ended_by (id == id) (eq-eqb id id refl) fault))
@@ -69,7 +69,7 @@ module _ (setup : Setup) (noted : Noted) where
   either_none true xs e = refl
   either_none false xs e = e
 
-  none_idle : (kept : Kept) (v : Summary) → bears v noted.frame ≡ false → added_to setup kept v noted ≡ []
+  pub none_idle : (kept : Kept) (v : Summary) → bears v noted.frame ≡ false → added_to setup kept v noted ≡ []
   none_idle kept v idle = either_none _ (frame_items (completed_in v.block noted.frame) noted) (no_items v idle)
 
   -- ---- another view of the streams that will do

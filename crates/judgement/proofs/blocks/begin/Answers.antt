@@ -11,7 +11,7 @@ use Rattle.causes.specs.Openings.{GoesOn}
 use Rattle.streams_kept.specs.Views.{brief_of}
 use Rattle.streams_kept.specs.declared.course.Course.{Course}
 use Rattle.judgement.specs.Blocks.{placed, kept_so, kept_with}
-use Rattle.judgement.proofs.Settling.{left_by, cause_of_first, over_is}
+use Rattle.judgement.proofs.Settling.{left_by, cause_of_first, over_is, none_joins}
 use Rattle.judgement.proofs.blocks.begin.Goals as goal
 
 -- the rows that a head leaves which goes on
@@ -27,7 +27,10 @@ pub returns-then-course : goal.returns-then-course
 returns-then-course c = λ setup fields faultless on. record {
   faultless = faultless;
   left = left setup c.args.streams.now c.keep.new.streams c.args.id fields c.args.ends c.args.head c.args.route c.args.course c.with_block-next.result c.length.result c.requires.course c.requires.begun on c.length.ensures c.with_block-next.ensures c.in_ok-keep.ensures;
-  says = over_is c.args.course (find c.args.streams.now c.args.id).brief true c.requires.course c.requires.none_yet c.if-course.true;
+  says = (
+    over_is c.args.course (find c.args.streams.now c.args.id).brief true c.requires.course c.requires.none_yet c.if-course.true,
+    none_joins (find c.args.streams.now c.args.id).brief.cause (cause_of_first setup (carried_in (find c.args.streams.now c.args.id).brief) fields None (sym (ap (λ (b : Brief). b.begun) c.requires.course) ∙ c.requires.begun) on.no_cause),
+  );
 }
 
 pub returns : goal.returns

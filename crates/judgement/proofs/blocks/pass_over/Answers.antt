@@ -7,7 +7,7 @@ use Rattle.streams_kept.specs.Views.{brief_of}
 use Rattle.model.specs.Tapes.Note.{Fields}
 use Rattle.model.specs.Courses.{cause_of_block}
 use Rattle.conduct.specs.Summary.{carried_in}
-use Rattle.judgement.proofs.Settling.{left_by, reply_so, malformed_by, replied_is_well, over_same}
+use Rattle.judgement.proofs.Settling.{left_by, reply_so, malformed_by, replied_is_well, over_same, cause_stays}
 use Rattle.judgement.proofs.blocks.pass_over.Goals as goal
 
 pub returns : goal.returns
@@ -21,5 +21,5 @@ returns c = λ setup fields.
       left = left_by setup rows c.keep.new.streams c.args.id fields c.args.ends (brief_of c.args.course) cause c.in_ok-keep.ensures refl (
           c.requires.course ∙ sym (over_same brief (is_some cause) (Block fields c.args.ends ∷ []) cause (find rows c.args.id).head_out replied.1 replied.0)
           );
-      says = replied.1;
+      says = (replied.1, cause_stays brief.cause cause replied.0);
     }

@@ -19,7 +19,7 @@ use Rattle.streams_kept.specs.Views.{brief_of}
 use Rattle.streams_kept.specs.declared.course.Course.{Course}
 use Rattle.judgement.specs.Blocks.{placed, kept_so, kept_with, fault_on}
 use Rattle.judgement.proofs.Kept.{if_ok}
-use Rattle.judgement.proofs.Settling.{left_by, malformed_by, bad_trailers, cause_of_trailers, fits_is_small, no_reply, over_is}
+use Rattle.judgement.proofs.Settling.{left_by, malformed_by, bad_trailers, cause_of_trailers, fits_is_small, no_reply, over_is, none_joins}
 use Rattle.judgement.proofs.blocks.take_trailers.Goals as goal
 
 -- its fault, by what was tested
@@ -51,7 +51,10 @@ returns-then-course c = λ setup. record {
       found c.args.streams.now c.args.id c.args.fields.now c.args.ends c.args.course c.from.result c.are_malformed_trailers.result c.requires.passes c.requires.course c.requires.begun c.requires.none_yet c.from.ensures c.are_malformed_trailers.ensures
       ∙ ap (λ x. fault_if x (Stream 1)) c.if-are_malformed_trailers.false;
   left = left setup c.args.streams.now c.keep.new.streams c.args.id c.args.fields.now c.args.ends c.args.course c.with_block.result c.requires.course c.requires.begun c.requires.fits c.with_block.ensures c.in_ok-keep.ensures;
-  says = over_is c.args.course (find c.args.streams.now c.args.id).brief true c.requires.course c.requires.none_yet c.if-course.true;
+  says = (
+    over_is c.args.course (find c.args.streams.now c.args.id).brief true c.requires.course c.requires.none_yet c.if-course.true,
+    none_joins (find c.args.streams.now c.args.id).brief.cause (cause_of_trailers setup (carried_in (find c.args.streams.now c.args.id).brief) c.args.fields.now (sym (ap (λ (b : Brief). b.begun) c.requires.course) ∙ c.requires.begun) (fits_is_small c.args.fields.now c.requires.fits)),
+  );
 }
 
 pub returns : goal.returns

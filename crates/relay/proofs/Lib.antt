@@ -1,0 +1,4 @@
+pub mod Gaining
+pub mod Answered
+pub mod Owing
+pub mod Taking

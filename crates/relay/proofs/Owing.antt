@@ -1,0 +1,103 @@
+-- What frames of the client call for, by the answers of the judgement.
+use Rattle.std.proofs.Common.{◌≡◌, ℕ, ◌<◌, ◌≤◌, Bool, true, false, not, ◌&&◌, ◌||◌, ◌==◌, nat_lt, if◌then◌else◌, List, [], ◌∷◌, ◌++◌, append-nil, length, Option, Some, None, refl, sym, ◌∙◌, ap, arith}
+use Rattle.std.proofs.lemmas.Bool.{eqb-true, ltb-true, eq-eqb}
+use Rattle.std.specs.Prelude.{is_some}
+use Rattle.model.specs.Frames.{Frame, data_kind, settings_kind, ping_kind, rst_stream_kind, window_update_kind, is_ack, settings_ack, goaway, no_error}
+use Rattle.model.specs.Setup.{Setup}
+use Rattle.model.specs.Tapes.{Note, Noted}
+use Rattle.model.specs.Tapes.Note.{Fields}
+use Rattle.model.specs.Tapes.Entry.{Came}
+use Rattle.model.specs.Decoding.{Partial}
+use Rattle.model.specs.StreamStates.{most_streams}
+use Rattle.model.specs.Lifetimes.{opens_by}
+use Rattle.model.specs.WindowsOnTape.{has_settings}
+use Rattle.model.specs.Errors.{Fault}
+use Rattle.model.specs.Errors.Fault.{Connection, Stream, Discarded}
+use Rattle.model.specs.Causes.{Cause}
+use Rattle.model.specs.Courses.{first_of_both}
+use Rattle.model.specs.ErrorClause.{is_fatal, acks, ping_ack, reset_for, rst_stream}
+use Rattle.conduct.specs.Summary.{Summary, Brief}
+use Rattle.conduct.specs.Judging.{completed_in}
+use Rattle.conduct.specs.Owing.{fault_in, owed_first_in, last_farewell_in, opened_after, highest_in, resets_in, owes_in, cause_in}
+use Rattle.conduct.proofs.Wanted.{bears}
+use Rattle.conduct.proofs.Seen.{idle_cause}
+use Rattle.relay.specs.Owed.{reset_behind, owed_at_fault}
+use Rattle.relay.proofs.Gaining.{caused}
+
+-- no number is below another and the same
+below_or_same : (n m : ℕ) → (nat_lt n m && n == m) ≡ false
+below_or_same n m = by (nat_lt n m) refl (n == m) refl
+  where
+    by : (a : Bool) → nat_lt n m ≡ a → (b : Bool) → (n == m) ≡ b → (a && b) ≡ false
+    by false e b f = refl
+    by true e false f = refl
+    by true e true f = absurd (let less : n < m = ltb-true n m e in let same : n ≡ m = eqb-true n m f in omega (arith, less, same))
+
+-- where the cause stays there is no reset
+no_reset : (id : ℕ) (out : Bool) (cause : Option Cause) → reset_for id out cause cause ≡ []
+no_reset id true None = refl
+no_reset id false None = refl
+no_reset id true (Some cause) = refl
+no_reset id false (Some cause) = refl
+
+pub no_more : (cause : Option Cause) → first_of_both cause None ≡ cause
+no_more None = refl
+no_more (Some cause) = refl
+
+module _ (setup : Setup) (s : Summary) (noted : Noted) where
+  abbrev pub brief : Brief
+  brief = (s.stream noted.frame.id).brief
+
+  -- a frame that opens no stream calls for no farewell
+  pub no_farewell : opens_by s.opened (completed_in s.block noted.frame) noted.note ≡ false → last_farewell_in s (Came noted) ≡ []
+  no_farewell none =
+      ap (λ (b : Bool). if nat_lt (length s.opened) most_streams && length (if b then noted.frame.id ∷ s.opened else s.opened) == most_streams then goaway (highest_in (opened_after s (Came noted))) no_error ∷ [] else []) none
+      ∙ ap (λ (b : Bool). if b then goaway (highest_in (opened_after s (Came noted))) no_error ∷ [] else []) (below_or_same (length s.opened) most_streams)
+
+  -- where the cause stays, no reset of its stream
+  pub same_cause : first_of_both brief.cause (caused setup s noted) ≡ brief.cause → resets_in setup false s (Came noted) ≡ []
+  same_cause same =
+      ap (λ (c : Option Cause). reset_for noted.frame.id (if is_some brief.cause then brief.head_out else is_some (caused setup s noted) && (s.stream noted.frame.id).head_out) brief.cause c) same
+      ∙ no_reset noted.frame.id (if is_some brief.cause then brief.head_out else is_some (caused setup s noted) && (s.stream noted.frame.id).head_out) brief.cause
+
+  pub none_reset : caused setup s noted ≡ None → resets_in setup false s (Came noted) ≡ []
+  none_reset none = same_cause (ap (λ (c : Option Cause). first_of_both brief.cause c) none ∙ no_more brief.cause)
+
+  -- a frame without a fault that neither completes a header block nor is DATA is no cause
+  pub idle_no_cause : fault_in s (Came noted) ≡ None → bears s noted.frame ≡ false → caused setup s noted ≡ None
+  idle_no_cause faultless idle = by (noted.frame.id == noted.frame.id && nat_lt 0 noted.frame.id)
+    where
+      by : (b : Bool) → (if b then cause_in setup false brief s (Came noted) (fault_in s (Came noted)) else None) ≡ None
+      by false = refl
+      by true = ap (λ (found : Option Fault). cause_in setup false brief s (Came noted) found) faultless ∙ idle_cause setup brief s noted idle
+
+  -- where it is, the reset by whether a final head was out
+  pub a_reset : (cause : Cause) → brief.cause ≡ None → caused setup s noted ≡ Some cause → resets_in setup false s (Came noted) ≡ reset_behind noted.frame.id (s.stream noted.frame.id).head_out cause
+  a_reset cause none is =
+      ap (λ (c : Option Cause). reset_for noted.frame.id (if is_some brief.cause then brief.head_out else is_some c && (s.stream noted.frame.id).head_out) brief.cause (first_of_both brief.cause c)) is
+      ∙ ap (λ (b : Option Cause). reset_for noted.frame.id (if is_some b then brief.head_out else (s.stream noted.frame.id).head_out) b (first_of_both b (Some cause))) none
+
+  -- What a frame without a fault calls for: the farewell, its acknowledgement, a reset.
+  pub owes_faultless : fault_in s (Came noted) ≡ None → owes_in setup false s (Came noted) ≡ last_farewell_in s (Came noted) ++ (acks (Came noted) None ++ resets_in setup false s (Came noted))
+  owes_faultless faultless =
+      ap (λ (found : Option Fault). owed_first_in s (Came noted) found ++ (acks (Came noted) found ++ (resets_in setup false s (Came noted) ++ []))) faultless
+      ∙ ap (λ (xs : List Frame). last_farewell_in s (Came noted) ++ (acks (Came noted) None ++ xs)) (append-nil (resets_in setup false s (Came noted)))
+
+  -- a frame with a fault is no cause
+  not_caused : (fault : Fault) → fault_in s (Came noted) ≡ Some fault → caused setup s noted ≡ None
+  not_caused fault is = by (noted.frame.id == noted.frame.id && nat_lt 0 noted.frame.id)
+    where
+      by : (b : Bool) → (if b then cause_in setup false brief s (Came noted) (fault_in s (Came noted)) else None) ≡ None
+      by false = refl
+      by true = ap (λ (found : Option Fault). cause_in setup false brief s (Came noted) found) is
+
+  -- What one with a fault that isn't one of the connection calls for: the farewell, and the reset of its stream.
+  pub owes_at_fault : (fault : Fault) → is_fatal (Some fault) ≡ false → fault_in s (Came noted) ≡ Some fault → owes_in setup false s (Came noted) ≡ last_farewell_in s (Came noted) ++ owed_at_fault noted.frame.id fault
+  owes_at_fault (Connection code) mild is = cc
+  owes_at_fault (Stream code) mild is =
+      ap (λ (found : Option Fault). owed_first_in s (Came noted) found ++ (acks (Came noted) found ++ (resets_in setup false s (Came noted) ++ []))) is
+      ∙ ap (λ (xs : List Frame). (last_farewell_in s (Came noted) ++ rst_stream noted.frame.id code ∷ []) ++ (xs ++ [])) (none_reset (not_caused (Stream code) is))
+      ∙ append-nil (last_farewell_in s (Came noted) ++ rst_stream noted.frame.id code ∷ [])
+  owes_at_fault Discarded mild is =
+      ap (λ (found : Option Fault). owed_first_in s (Came noted) found ++ (acks (Came noted) found ++ (resets_in setup false s (Came noted) ++ []))) is
+      ∙ ap (λ (xs : List Frame). last_farewell_in s (Came noted) ++ (xs ++ [])) (none_reset (not_caused Discarded is))

@@ -1,0 +1,3 @@
+pub mod Gains
+pub mod Owed
+pub mod Taking

@@ -1,0 +1,2 @@
+//! The rooms of the gateway together.
+#![tactic(auto)]

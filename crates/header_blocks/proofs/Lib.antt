@@ -11,3 +11,4 @@ pub mod Faulted
 pub mod Followed
 pub mod OneFault
 pub mod RawStrings
+pub mod ShortStrings

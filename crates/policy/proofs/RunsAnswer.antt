@@ -12,6 +12,8 @@ use Rattle.model.specs.Tapes.{Noted}
 use Rattle.model.specs.Tapes.Note.{Fields}
 use Rattle.model.specs.Tapes.Entry.{Happened, Sent, Did}
 use Rattle.model.specs.ResponseHeads.{Head}
+use Rattle.header_blocks.specs.Chosen.{GoesIn}
+use Rattle.header_blocks.proofs.RawStrings.{one_octet, one_octet_chosen}
 use Rattle.conduct.specs.Summary.{Stream as Told}
 use Rattle.conduct.specs.Book.{Desk}
 use Rattle.conduct.specs.Rows.{Row, fresh}
@@ -200,84 +202,63 @@ unfolding static_table
 named_above zero other lt is same = let clash : ◌≡◌ {A = Option Field} None (Some other) = is in cc
 named_above (suc place) other lt is same = absent_below (λ (e : Field). is_length_name e.name) other (ap is_length_name same) 27 (static_table ++ []) refl place (omega (arith, lt)) is
 
+-- it goes into the table, with the name of an entry
+sized_inserted : GoesIn true first_table (92 ∷ 1 ∷ 50 ∷ []) sized encoded
+unfolding static_table keep
+sized_inserted = record {
+  absent = sized_nowhere;
+  inserted = record {
+    literal = record {
+      index = 28;
+      index_octets = 92 ∷ [];
+      name_octets = [];
+      value_octets = 1 ∷ 50 ∷ [];
+      is = refl;
+      marked = record { int = inl (record { first = 92; is = refl; low_bits = refl; not_ones = omega arith }); marked = refl };
+      name = inr (record { is_empty = refl; entry = field_of (codes "content-length") []; found = refl; same = refl });
+      string = inl (one_octet 50);
+    };
+    inserted = refl;
+  };
+  name = inl (record { entry = field_of (codes "content-length") []; here = refl; named = refl; least = named_above });
+  is_indexing = refl;
+  fits = omega arith;
+  strings = record { name = λ is_zero. absurd (let clash : 28 ≡ 0 = is_zero in omega (arith, clash)); value = one_octet_chosen 50 };
+}
+
 pub answer_encoded : IsEncoded at_closed.tables.encoding (record { id = 1; ends = false; fragments = 136 ∷ 92 ∷ 1 ∷ 50 ∷ [] }) (Fields (ok ∷ sized ∷ [])) encoded
-unfolding static_table keep total_size
-answer_encoded =
-    record {
-      fields = ok ∷ sized ∷ [];
-      is_noted = refl;
-      encodes = record {
-        maxima = [];
-        is_block = record {
-          front = [];
-          rest = 136 ∷ 92 ∷ 1 ∷ 50 ∷ [];
-          between = first_table;
-          is = refl;
-          are_maxima = (refl, refl);
-          are_fields = (
-            136 ∷ [],
-            92 ∷ 1 ∷ 50 ∷ [],
-            first_table,
-            refl,
-            inl (record { index = 8; marked = record { int = inl (record { first = 136; is = refl; low_bits = refl; not_ones = omega arith }); marked = refl }; found = refl; same = refl }),
-            (
-              92 ∷ 1 ∷ 50 ∷ [],
-              [],
-              encoded,
-              refl,
-              inr (inl (record {
-                literal = record {
-                  index = 28;
-                  index_octets = 92 ∷ [];
-                  name_octets = [];
-                  value_octets = 1 ∷ 50 ∷ [];
-                  is = refl;
-                  marked = record { int = inl (record { first = 92; is = refl; low_bits = refl; not_ones = omega arith }); marked = refl };
-                  name = inr (record { is_empty = refl; entry = field_of (codes "content-length") []; found = refl; same = refl });
-                  string = inl (record { header = 1 ∷ []; is = refl; number = record { int = inl (record { first = 1; is = refl; low_bits = refl; not_ones = omega arith }); marked = refl } });
-                };
-                inserted = refl;
-              })),
-              (refl, refl),
-            ),
-          );
-        };
-        due = λ limits none. subst (λ l. Maxima 4096 l []) (sym none) refl;
-        chosen = (
-          136 ∷ [],
-          92 ∷ 1 ∷ 50 ∷ [],
-          first_table,
-          refl,
-          inl (record { indexed = record { index = 8; marked = record { int = inl (record { first = 136; is = refl; low_bits = refl; not_ones = omega arith }); marked = refl }; found = refl; same = refl }; least = record { here = refl; least = status_above } }),
-          (
-            92 ∷ 1 ∷ 50 ∷ [],
-            [],
-            encoded,
-            refl,
-            inr (inl (record {
-              absent = sized_nowhere;
-              inserted = record {
-                literal = record {
-                  index = 28;
-                  index_octets = 92 ∷ [];
-                  name_octets = [];
-                  value_octets = 1 ∷ 50 ∷ [];
-                  is = refl;
-                  marked = record { int = inl (record { first = 92; is = refl; low_bits = refl; not_ones = omega arith }); marked = refl };
-                  name = inr (record { is_empty = refl; entry = field_of (codes "content-length") []; found = refl; same = refl });
-                  string = inl (record { header = 1 ∷ []; is = refl; number = record { int = inl (record { first = 1; is = refl; low_bits = refl; not_ones = omega arith }); marked = refl } });
-                };
-                inserted = refl;
-              };
-              name = inl (record { entry = field_of (codes "content-length") []; here = refl; named = refl; least = named_above });
-              is_indexing = refl;
-              fits = omega arith;
-            })),
-            (refl, refl),
-          ),
-        );
-      };
-    }
+unfolding static_table
+answer_encoded = record {
+  fields = ok ∷ sized ∷ [];
+  is_noted = refl;
+  encodes = record {
+    maxima = [];
+    is_block = record {
+      front = [];
+      rest = 136 ∷ 92 ∷ 1 ∷ 50 ∷ [];
+      between = first_table;
+      is = refl;
+      are_maxima = (refl, refl);
+      are_fields = (
+        136 ∷ [],
+        92 ∷ 1 ∷ 50 ∷ [],
+        first_table,
+        refl,
+        inl (record { index = 8; marked = record { int = inl (record { first = 136; is = refl; low_bits = refl; not_ones = omega arith }); marked = refl }; found = refl; same = refl }),
+        (92 ∷ 1 ∷ 50 ∷ [], [], encoded, refl, inr (inl sized_inserted.inserted), (refl, refl)),
+      );
+    };
+    due = λ limits none. subst (λ l. Maxima 4096 l []) (sym none) refl;
+    chosen = (
+      136 ∷ [],
+      92 ∷ 1 ∷ 50 ∷ [],
+      first_table,
+      refl,
+      inl (record { indexed = record { index = 8; marked = record { int = inl (record { first = 136; is = refl; low_bits = refl; not_ones = omega arith }); marked = refl }; found = refl; same = refl }; least = record { here = refl; least = status_above } }),
+      (92 ∷ 1 ∷ 50 ∷ [], [], encoded, refl, inr (inl sized_inserted), (refl, refl)),
+    );
+  };
+}
 
 -- ---- each may come
 

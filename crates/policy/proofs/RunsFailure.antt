@@ -6,12 +6,16 @@ use Rattle.model.specs.Messages.{Field}
 use Rattle.model.specs.Messages.Item.{Block}
 use Rattle.model.specs.Maxima.{Maxima}
 use Rattle.model.specs.Tables.{Table, total_size, static_table, keep, look_up, first_table, added, field_of}
+use Rattle.model.specs.Huffman.{Huff, huffman_code, bits, rows, row_codes, codes_from}
 use Rattle.model.specs.Logs.Event.{UpFailed}
 use Rattle.model.specs.Tapes.{Noted}
 use Rattle.model.specs.Tapes.Note.{Fields}
 use Rattle.model.specs.Tapes.Entry.{Happened, Sent}
 use Rattle.model.specs.Causes.{reply_head}
 use Rattle.model.specs.Causes.Cause.{BadAnswer}
+use Rattle.header_blocks.specs.Chosen.{GoesIn}
+use Rattle.header_blocks.proofs.RawStrings.{one_octet, one_octet_chosen}
+use Rattle.header_blocks.proofs.ShortStrings.{huffman_text, few_octets, few_octets_chosen}
 use Rattle.conduct.specs.Summary.{Stream as Told}
 use Rattle.conduct.specs.Rows.Slot.{Live, Over}
 use Rattle.offering.specs.Outbox.{replied}
@@ -48,7 +52,7 @@ with_both = added empty with_bad
 
 -- its HEADERS, which end the stream
 abbrev pub reply_block : List ℕ
-reply_block = 72 ∷ 3 ∷ 53 ∷ 48 ∷ 50 ∷ 92 ∷ 1 ∷ 48 ∷ []
+reply_block = 72 ∷ 130 ∷ 108 ∷ 2 ∷ 92 ∷ 1 ∷ 48 ∷ []
 
 abbrev pub reply_out : Noted
 reply_out = record { frame = frame 1 5 1 reply_block; note = Fields (bad ∷ empty ∷ []) }
@@ -88,7 +92,7 @@ at_failed = record at_forwarded {
 
 abbrev pub at_replied : State
 at_replied = record at_failed {
-  desk = desk_with (record { id = 1; slot = Over false }) 65535 47;
+  desk = desk_with (record { id = 1; slot = Over false }) 65535 46;
   offers = record { kept = []; last = 1 };
   tables = record at_failed.tables { encoding = record at_failed.tables.encoding { table = with_both } };
   windows = at_failed.windows;
@@ -104,7 +108,7 @@ is_bad field = get_or field.value 0 0 == 53 && get_or field.value 2 0 == 50
 abbrev is_status_name : List ℕ → Bool
 is_status_name name = get_or name 2 0 == 116
 
-pub bad_nowhere : (index : ℕ) → look_up first_table index ≡ Some bad → ⊥
+bad_nowhere : (index : ℕ) → look_up first_table index ≡ Some bad → ⊥
 unfolding static_table
 bad_nowhere zero is = let clash : ◌≡◌ {A = Option Field} None (Some bad) = is in cc
 bad_nowhere (suc place) is = absent is_bad bad refl (static_table ++ []) refl place is
@@ -114,18 +118,72 @@ unfolding static_table
 status_named_above zero other lt is same = let clash : ◌≡◌ {A = Option Field} None (Some other) = is in cc
 status_named_above (suc place) other lt is same = absent_below (λ (e : Field). is_status_name e.name) other (ap is_status_name same) 7 (static_table ++ []) refl place (omega (arith, lt)) is
 
-pub empty_nowhere : (index : ℕ) → look_up with_bad index ≡ Some empty → ⊥
+empty_nowhere : (index : ℕ) → look_up with_bad index ≡ Some empty → ⊥
 unfolding static_table keep
 empty_nowhere zero is = let clash : ◌≡◌ {A = Option Field} None (Some empty) = is in cc
 empty_nowhere (suc place) is = absent (λ (e : Field). is_length_name e.name && length e.value == 1) empty refl (static_table ++ with_bad.fields) refl place is
 
-pub length_named_above : (index : ℕ) (other : Field) → index < 28 → look_up with_bad index ≡ Some other → other.name ≡ empty.name → ⊥
+length_named_above : (index : ℕ) (other : Field) → index < 28 → look_up with_bad index ≡ Some other → other.name ≡ empty.name → ⊥
 unfolding static_table keep
 length_named_above zero other lt is same = let clash : ◌≡◌ {A = Option Field} None (Some other) = is in cc
 length_named_above (suc place) other lt is same = absent_below (λ (e : Field). is_length_name e.name) other (ap is_length_name same) 27 (static_table ++ with_bad.fields) refl place (omega (arith, lt)) is
 
+-- the status in the Huffman code, which is shorter than it
+bad_text : Huff (108 ∷ 2 ∷ []) (codes "502")
+unfolding huffman_code codes_from row_codes rows bits
+bad_text = huffman_text (108 ∷ 2 ∷ []) (codes "502") 0 refl (omega arith) refl
+
+-- both fields go into the table, each with the name of an entry
+pub bad_inserted : GoesIn true first_table (72 ∷ 130 ∷ 108 ∷ 2 ∷ []) bad with_bad
+unfolding static_table
+bad_inserted = record {
+  absent = bad_nowhere;
+  inserted = record {
+    literal = record {
+      index = 8;
+      index_octets = 72 ∷ [];
+      name_octets = [];
+      value_octets = 130 ∷ 108 ∷ 2 ∷ [];
+      is = refl;
+      marked = record { int = inl (record { first = 72; is = refl; low_bits = refl; not_ones = omega arith }); marked = refl };
+      name = inr (record { is_empty = refl; entry = field_of (codes ":status") (codes "200"); found = refl; same = refl });
+      string = inr (few_octets (108 ∷ 2 ∷ []) (codes "502") (omega arith) bad_text);
+    };
+    inserted = refl;
+  };
+  name = inl (record { entry = field_of (codes ":status") (codes "200"); here = refl; named = refl; least = status_named_above });
+  is_indexing = refl;
+  fits = omega arith;
+  strings = record {
+    name = λ is_zero. absurd (let clash : 8 ≡ 0 = is_zero in omega (arith, clash));
+    value = few_octets_chosen (108 ∷ 2 ∷ []) (codes "502") (omega arith) (omega arith) bad_text;
+  };
+}
+
+pub empty_inserted : GoesIn true with_bad (92 ∷ 1 ∷ 48 ∷ []) empty with_both
+unfolding static_table keep
+empty_inserted = record {
+  absent = empty_nowhere;
+  inserted = record {
+    literal = record {
+      index = 28;
+      index_octets = 92 ∷ [];
+      name_octets = [];
+      value_octets = 1 ∷ 48 ∷ [];
+      is = refl;
+      marked = record { int = inl (record { first = 92; is = refl; low_bits = refl; not_ones = omega arith }); marked = refl };
+      name = inr (record { is_empty = refl; entry = field_of (codes "content-length") []; found = refl; same = refl });
+      string = inl (one_octet 48);
+    };
+    inserted = refl;
+  };
+  name = inl (record { entry = field_of (codes "content-length") []; here = refl; named = refl; least = length_named_above });
+  is_indexing = refl;
+  fits = omega arith;
+  strings = record { name = λ is_zero. absurd (let clash : 28 ≡ 0 = is_zero in omega (arith, clash)); value = one_octet_chosen 48 };
+}
+
 pub reply_encoded : IsEncoded at_failed.tables.encoding (record { id = 1; ends = true; fragments = reply_block }) (Fields (bad ∷ empty ∷ [])) with_both
-unfolding static_table keep total_size
 reply_encoded = record {
   fields = bad ∷ empty ∷ [];
   is_noted = refl;
@@ -137,98 +195,10 @@ reply_encoded = record {
       between = first_table;
       is = refl;
       are_maxima = (refl, refl);
-      are_fields = (
-        72 ∷ 3 ∷ 53 ∷ 48 ∷ 50 ∷ [],
-        92 ∷ 1 ∷ 48 ∷ [],
-        with_bad,
-        refl,
-        inr (inl (record {
-          literal = record {
-            index = 8;
-            index_octets = 72 ∷ [];
-            name_octets = [];
-            value_octets = 3 ∷ 53 ∷ 48 ∷ 50 ∷ [];
-            is = refl;
-            marked = record { int = inl (record { first = 72; is = refl; low_bits = refl; not_ones = omega arith }); marked = refl };
-            name = inr (record { is_empty = refl; entry = field_of (codes ":status") (codes "200"); found = refl; same = refl });
-            string = inl (record { header = 3 ∷ []; is = refl; number = record { int = inl (record { first = 3; is = refl; low_bits = refl; not_ones = omega arith }); marked = refl } });
-          };
-          inserted = refl;
-        })),
-        (
-          92 ∷ 1 ∷ 48 ∷ [],
-          [],
-          with_both,
-          refl,
-          inr (inl (record {
-            literal = record {
-              index = 28;
-              index_octets = 92 ∷ [];
-              name_octets = [];
-              value_octets = 1 ∷ 48 ∷ [];
-              is = refl;
-              marked = record { int = inl (record { first = 92; is = refl; low_bits = refl; not_ones = omega arith }); marked = refl };
-              name = inr (record { is_empty = refl; entry = field_of (codes "content-length") []; found = refl; same = refl });
-              string = inl (record { header = 1 ∷ []; is = refl; number = record { int = inl (record { first = 1; is = refl; low_bits = refl; not_ones = omega arith }); marked = refl } });
-            };
-            inserted = refl;
-          })),
-          (refl, refl),
-        ),
-      );
+      are_fields = (72 ∷ 130 ∷ 108 ∷ 2 ∷ [], 92 ∷ 1 ∷ 48 ∷ [], with_bad, refl, inr (inl bad_inserted.inserted), (92 ∷ 1 ∷ 48 ∷ [], [], with_both, refl, inr (inl empty_inserted.inserted), (refl, refl)));
     };
     due = λ limits none. subst (λ l. Maxima 4096 l []) (sym none) refl;
-    chosen = (
-      72 ∷ 3 ∷ 53 ∷ 48 ∷ 50 ∷ [],
-      92 ∷ 1 ∷ 48 ∷ [],
-      with_bad,
-      refl,
-      inr (inl (record {
-        absent = bad_nowhere;
-        inserted = record {
-          literal = record {
-            index = 8;
-            index_octets = 72 ∷ [];
-            name_octets = [];
-            value_octets = 3 ∷ 53 ∷ 48 ∷ 50 ∷ [];
-            is = refl;
-            marked = record { int = inl (record { first = 72; is = refl; low_bits = refl; not_ones = omega arith }); marked = refl };
-            name = inr (record { is_empty = refl; entry = field_of (codes ":status") (codes "200"); found = refl; same = refl });
-            string = inl (record { header = 3 ∷ []; is = refl; number = record { int = inl (record { first = 3; is = refl; low_bits = refl; not_ones = omega arith }); marked = refl } });
-          };
-          inserted = refl;
-        };
-        name = inl (record { entry = field_of (codes ":status") (codes "200"); here = refl; named = refl; least = status_named_above });
-        is_indexing = refl;
-        fits = omega arith;
-      })),
-      (
-        92 ∷ 1 ∷ 48 ∷ [],
-        [],
-        with_both,
-        refl,
-        inr (inl (record {
-          absent = empty_nowhere;
-          inserted = record {
-            literal = record {
-              index = 28;
-              index_octets = 92 ∷ [];
-              name_octets = [];
-              value_octets = 1 ∷ 48 ∷ [];
-              is = refl;
-              marked = record { int = inl (record { first = 92; is = refl; low_bits = refl; not_ones = omega arith }); marked = refl };
-              name = inr (record { is_empty = refl; entry = field_of (codes "content-length") []; found = refl; same = refl });
-              string = inl (record { header = 1 ∷ []; is = refl; number = record { int = inl (record { first = 1; is = refl; low_bits = refl; not_ones = omega arith }); marked = refl } });
-            };
-            inserted = refl;
-          };
-          name = inl (record { entry = field_of (codes "content-length") []; here = refl; named = refl; least = length_named_above });
-          is_indexing = refl;
-          fits = omega arith;
-        })),
-        (refl, refl),
-      ),
-    );
+    chosen = (72 ∷ 130 ∷ 108 ∷ 2 ∷ [], 92 ∷ 1 ∷ 48 ∷ [], with_bad, refl, inr (inl bad_inserted), (92 ∷ 1 ∷ 48 ∷ [], [], with_both, refl, inr (inl empty_inserted), (refl, refl)));
   };
 }
 

@@ -5,7 +5,7 @@ use Rattle.std.proofs.lemmas.Bool.{eqb-true}
 use Rattle.std.specs.Prelude.{codes}
 use Rattle.model.specs.Messages.Item.{Block}
 use Rattle.model.specs.Frames.{setting, settings_ack}
-use Rattle.model.specs.Tables.{total_size, static_table, keep, first_table, field_of}
+use Rattle.model.specs.Tables.{total_size, keep, first_table}
 use Rattle.model.specs.Blocks.{AreMaxima}
 use Rattle.model.specs.Tapes.{Noted}
 use Rattle.model.specs.Tapes.Note.{Fields}
@@ -31,7 +31,7 @@ use Rattle.policy.proofs.RunsSteps.{goes, settles, rests}
 use Rattle.policy.proofs.RunsGreeting.{setup, frame, plain, never, none_kept}
 use Rattle.policy.proofs.RunsRequest.{forwarded, one_whole, only_one}
 use Rattle.policy.proofs.RunsAnswer.{one, at_forwarded, forwarded_leads, forwarded_rest}
-use Rattle.policy.proofs.RunsFailure.{bad, empty, with_bad, with_both, reply_block, failed_deed, caused, own_reply, bad_nowhere, status_named_above, empty_nowhere, length_named_above}
+use Rattle.policy.proofs.RunsFailure.{bad, empty, with_bad, with_both, reply_block, failed_deed, caused, own_reply, bad_inserted, empty_inserted}
 use Rattle.policy.proofs.RunsWindow.{desk_sized}
 
 -- ---- the moves
@@ -95,7 +95,7 @@ at_failed = record at_limited {
 
 abbrev pub at_replied : State
 at_replied = record at_failed {
-  desk = desk_sized 65535 [] (record { id = 1; slot = Over false }) 65535 60;
+  desk = desk_sized 65535 [] (record { id = 1; slot = Over false }) 65535 59;
   offers = record { kept = []; last = 1 };
   tables = record at_failed.tables { encoding = record at_failed.tables.encoding { table = with_both; limits = None } };
   windows = at_failed.windows;
@@ -114,7 +114,6 @@ maxima_read = (
 )
 
 pub limited_encoded : IsEncoded at_failed.tables.encoding (record { id = 1; ends = true; fragments = limited_block }) (Fields (bad ∷ empty ∷ [])) with_both
-unfolding static_table keep total_size
 limited_encoded = record {
   fields = bad ∷ empty ∷ [];
   is_noted = refl;
@@ -126,98 +125,10 @@ limited_encoded = record {
       between = first_table;
       is = refl;
       are_maxima = maxima_read;
-      are_fields = (
-        72 ∷ 3 ∷ 53 ∷ 48 ∷ 50 ∷ [],
-        92 ∷ 1 ∷ 48 ∷ [],
-        with_bad,
-        refl,
-        inr (inl (record {
-          literal = record {
-            index = 8;
-            index_octets = 72 ∷ [];
-            name_octets = [];
-            value_octets = 3 ∷ 53 ∷ 48 ∷ 50 ∷ [];
-            is = refl;
-            marked = record { int = inl (record { first = 72; is = refl; low_bits = refl; not_ones = omega arith }); marked = refl };
-            name = inr (record { is_empty = refl; entry = field_of (codes ":status") (codes "200"); found = refl; same = refl });
-            string = inl (record { header = 3 ∷ []; is = refl; number = record { int = inl (record { first = 3; is = refl; low_bits = refl; not_ones = omega arith }); marked = refl } });
-          };
-          inserted = refl;
-        })),
-        (
-          92 ∷ 1 ∷ 48 ∷ [],
-          [],
-          with_both,
-          refl,
-          inr (inl (record {
-            literal = record {
-              index = 28;
-              index_octets = 92 ∷ [];
-              name_octets = [];
-              value_octets = 1 ∷ 48 ∷ [];
-              is = refl;
-              marked = record { int = inl (record { first = 92; is = refl; low_bits = refl; not_ones = omega arith }); marked = refl };
-              name = inr (record { is_empty = refl; entry = field_of (codes "content-length") []; found = refl; same = refl });
-              string = inl (record { header = 1 ∷ []; is = refl; number = record { int = inl (record { first = 1; is = refl; low_bits = refl; not_ones = omega arith }); marked = refl } });
-            };
-            inserted = refl;
-          })),
-          (refl, refl),
-        ),
-      );
+      are_fields = (72 ∷ 130 ∷ 108 ∷ 2 ∷ [], 92 ∷ 1 ∷ 48 ∷ [], with_bad, refl, inr (inl bad_inserted.inserted), (92 ∷ 1 ∷ 48 ∷ [], [], with_both, refl, inr (inl empty_inserted.inserted), (refl, refl)));
     };
     due = first_due;
-    chosen = (
-      72 ∷ 3 ∷ 53 ∷ 48 ∷ 50 ∷ [],
-      92 ∷ 1 ∷ 48 ∷ [],
-      with_bad,
-      refl,
-      inr (inl (record {
-        absent = bad_nowhere;
-        inserted = record {
-          literal = record {
-            index = 8;
-            index_octets = 72 ∷ [];
-            name_octets = [];
-            value_octets = 3 ∷ 53 ∷ 48 ∷ 50 ∷ [];
-            is = refl;
-            marked = record { int = inl (record { first = 72; is = refl; low_bits = refl; not_ones = omega arith }); marked = refl };
-            name = inr (record { is_empty = refl; entry = field_of (codes ":status") (codes "200"); found = refl; same = refl });
-            string = inl (record { header = 3 ∷ []; is = refl; number = record { int = inl (record { first = 3; is = refl; low_bits = refl; not_ones = omega arith }); marked = refl } });
-          };
-          inserted = refl;
-        };
-        name = inl (record { entry = field_of (codes ":status") (codes "200"); here = refl; named = refl; least = status_named_above });
-        is_indexing = refl;
-        fits = omega arith;
-      })),
-      (
-        92 ∷ 1 ∷ 48 ∷ [],
-        [],
-        with_both,
-        refl,
-        inr (inl (record {
-          absent = empty_nowhere;
-          inserted = record {
-            literal = record {
-              index = 28;
-              index_octets = 92 ∷ [];
-              name_octets = [];
-              value_octets = 1 ∷ 48 ∷ [];
-              is = refl;
-              marked = record { int = inl (record { first = 92; is = refl; low_bits = refl; not_ones = omega arith }); marked = refl };
-              name = inr (record { is_empty = refl; entry = field_of (codes "content-length") []; found = refl; same = refl });
-              string = inl (record { header = 1 ∷ []; is = refl; number = record { int = inl (record { first = 1; is = refl; low_bits = refl; not_ones = omega arith }); marked = refl } });
-            };
-            inserted = refl;
-          };
-          name = inl (record { entry = field_of (codes "content-length") []; here = refl; named = refl; least = length_named_above });
-          is_indexing = refl;
-          fits = omega arith;
-        })),
-        (refl, refl),
-      ),
-    );
+    chosen = (72 ∷ 130 ∷ 108 ∷ 2 ∷ [], 92 ∷ 1 ∷ 48 ∷ [], with_bad, refl, inr (inl bad_inserted), (92 ∷ 1 ∷ 48 ∷ [], [], with_both, refl, inr (inl empty_inserted), (refl, refl)));
   };
 }
 

@@ -79,7 +79,7 @@ ack_again = Sends (plain settings_ack) with_both
 
 -- HEADERS of the interim head, and of the second response, whose length stands in the table then
 abbrev pub early_out : Noted
-early_out = record { frame = frame 1 4 1 (72 ∷ 3 ∷ 49 ∷ 48 ∷ 51 ∷ []); note = Fields (early ∷ []) }
+early_out = record { frame = frame 1 4 1 (72 ∷ 130 ∷ 8 ∷ 25 ∷ []); note = Fields (early ∷ []) }
 
 abbrev pub second_out : Noted
 second_out = record { frame = frame 1 4 3 (136 ∷ 190 ∷ []); note = Fields (ok ∷ sized ∷ []) }
@@ -222,7 +222,7 @@ at_told = record at_both_asked {
 
 abbrev pub at_hinted : State
 at_hinted = record at_told {
-  desk = desk_at 0 [] (get_row 3 ∷ get_row 1 ∷ []) both_given 3 65535 53;
+  desk = desk_at 0 [] (get_row 3 ∷ get_row 1 ∷ []) both_given 3 65535 52;
   offers = record { kept = silent_one 1 ∷ silent_one 3 ∷ []; last = 1 };
   tables = record at_told.tables { encoding = record at_told.tables.encoding { table = with_early } };
   windows = at_told.windows;
@@ -239,7 +239,7 @@ at_first_closed = record at_first_heard { requests = record at_first_heard.reque
 
 abbrev pub at_first_begun : State
 at_first_begun = record at_first_closed {
-  desk = desk_at 0 [] (both_rows (Live (one true)) (Live (one false))) both_given 3 65535 66;
+  desk = desk_at 0 [] (both_rows (Live (one true)) (Live (one false))) both_given 3 65535 65;
   offers = record { kept = boxed 1 body_left ∷ silent_one 3 ∷ []; last = 1 };
   tables = record at_first_closed.tables { encoding = record at_first_closed.tables.encoding { table = with_both } };
   windows = at_first_closed.windows;
@@ -256,45 +256,45 @@ at_second_closed = record at_second_heard { requests = record at_second_heard.re
 
 abbrev pub at_both_begun : State
 at_both_begun = record at_second_closed {
-  desk = desk_at 0 [] (both_rows (Live (one true)) (Live (one true))) both_given 3 65535 77;
+  desk = desk_at 0 [] (both_rows (Live (one true)) (Live (one true))) both_given 3 65535 76;
   offers = record { kept = boxed 1 body_left ∷ boxed 3 body_left ∷ []; last = 3 };
   windows = at_second_closed.windows;
 }
 
 abbrev pub at_raised : State
 at_raised = record at_both_begun {
-  desk = desk_at 10 (settings_ack ∷ []) (both_rows (Live (one true)) (Live (one true))) both_given 0 65535 77;
+  desk = desk_at 10 (settings_ack ∷ []) (both_rows (Live (one true)) (Live (one true))) both_given 0 65535 76;
   offers = at_both_begun.offers;
   windows = at_both_begun.windows;
 }
 
 abbrev pub at_acked_again : State
-at_acked_again = record at_raised { desk = desk_at 10 [] (both_rows (Live (one true)) (Live (one true))) both_given 0 65535 86 }
+at_acked_again = record at_raised { desk = desk_at 10 [] (both_rows (Live (one true)) (Live (one true))) both_given 0 65535 85 }
 
 abbrev pub at_first_half : State
 at_first_half = record at_acked_again {
-  desk = desk_at 10 [] (both_rows (Live sent_one) (Live (one true))) both_given 0 65534 96;
+  desk = desk_at 10 [] (both_rows (Live sent_one) (Live (one true))) both_given 0 65534 95;
   offers = record { kept = boxed 1 last_left ∷ boxed 3 body_left ∷ []; last = 1 };
   windows = at_acked_again.windows;
 }
 
 abbrev pub at_half_out : State
 at_half_out = record at_first_half {
-  desk = desk_at 10 [] (both_rows (Live sent_one) (Live sent_one)) both_given 0 65533 106;
+  desk = desk_at 10 [] (both_rows (Live sent_one) (Live sent_one)) both_given 0 65533 105;
   offers = record { kept = boxed 1 last_left ∷ boxed 3 last_left ∷ []; last = 3 };
   windows = at_first_half.windows;
 }
 
 abbrev pub at_first_out : State
 at_first_out = record at_half_out {
-  desk = desk_at 10 [] (both_rows (Over false) (Live sent_one)) both_given 0 65532 116;
+  desk = desk_at 10 [] (both_rows (Over false) (Live sent_one)) both_given 0 65532 115;
   offers = record { kept = boxed 3 last_left ∷ []; last = 1 };
   windows = at_half_out.windows;
 }
 
 abbrev pub at_both_out : State
 at_both_out = record at_first_out {
-  desk = desk_at 10 [] (both_rows (Over false) (Over false)) both_given 0 65531 126;
+  desk = desk_at 10 [] (both_rows (Over false) (Over false)) both_given 0 65531 125;
   offers = record { kept = []; last = 3 };
   windows = at_first_out.windows;
 }

@@ -1,3 +1,5 @@
 pub mod Gains
 pub mod Owed
 pub mod Taking
+pub mod Led
+pub mod Passing

@@ -4,3 +4,4 @@ pub mod Owing
 pub mod Taking
 pub mod Sound
 pub mod Passing
+pub mod Hearing

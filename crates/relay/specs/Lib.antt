@@ -3,3 +3,4 @@ pub mod Owed
 pub mod Taking
 pub mod Led
 pub mod Passing
+pub mod Hearing

@@ -1,0 +1,176 @@
+-- What an answer makes of an upstream's octets, and of the end of its connection, is so: the news, whether the response is whole, whether it failed.
+use Rattle.std.proofs.Common.{◌≡◌, ℕ, ◌<◌, ◌≤◌, ◌⊎◌, Bool, true, false, ◌||◌, ◌==◌, if◌then◌else◌, List, [], ◌∷◌, ◌++◌, append-nil, length, Option, Some, None, refl, sym, ◌∙◌, ap, subst, inl, inr}
+use Rattle.std.proofs.lemmas.Bool.{eq-eqb}
+use Rattle.std.proofs.lemmas.List.Folds.{list_any-append}
+use Rattle.model.specs.Messages.{Item}
+use Rattle.model.specs.Logs.{Event}
+use Rattle.model.specs.Logs.Event.{Up, UpEnd}
+use Rattle.model.specs.Setup.{Passing}
+use Rattle.model.specs.Setup.Passing.{Whole}
+use Rattle.model.specs.Tapes.{Entry}
+use Rattle.model.specs.Tapes.Entry.{Happened}
+use Rattle.model.specs.Openings.{Opened, opens, given, exchange_on, AreNumbered, AreApart}
+use Rattle.model.specs.Available.{heard, has_ended, IsIn}
+use Rattle.model.specs.Known.{Known}
+use Rattle.model.specs.Courses.{course, carried, items, interrupts, new_cause}
+use Rattle.model.specs.ErrorTable.{fault_with}
+use Rattle.model.specs.Responses.{IsComplete}
+use Rattle.model.specs.Failures.{is_asked_for_head, IsJudged}
+use Rattle.model.specs.Offers.{is_to_head, IsGiven}
+use Rattle.model.proofs.DeliveryReadings.{one_connection, one_number}
+use Rattle.model.proofs.GivenLaws.{given_is}
+use Rattle.h1_reader.specs.Parts.{Part}
+use Rattle.h1_reader.specs.Standing.{Stands, Hears, Breaks, IsEnd, is_end, is_done}
+use Rattle.h1_reader.specs.declared.reader.Ended.TheVariants.{Complete, Short}
+use Rattle.h1_reader.proofs.Telling.{done, not_done}
+use Rattle.offering.specs.Outbox.{News}
+use Rattle.offering.specs.Shown.{Tells}
+use Rattle.offering.specs.Rule as offers
+use Rattle.offering.specs.State.Move.{Hears as Brings}
+use Rattle.serving.specs.Meaning.{Verdict}
+use Rattle.read_answers.specs.Telling.{body_of, news_of, news_at_end}
+use Rattle.read_answers.proofs.Reading.{hears_news}
+use Rattle.read_answers.proofs.Ending.{ends_news}
+use Rattle.read_answers.proofs.Judging as judging
+use Rattle.answers.specs.Waiting.{Answer, passing_in, limit_in, Waits}
+use Rattle.answers.specs.Hearing.{IsTooLong}
+use Rattle.answers.specs.declared.answer.Passing.{Passing as Way}
+use Rattle.answers.specs.declared.answer.Passing.TheVariants as way
+use Rattle.policy.specs.Answered.{IsWholeBy}
+use Rattle.relay.specs.Hearing.{IsSetUp, IsHeard}
+
+-- an event leaves the items of a stream
+same_or_more : (b : Bool) (xs : List Item) → (if b then xs else xs ++ []) ≡ xs
+same_or_more true xs = refl
+same_or_more false xs = append-nil xs
+
+pub items_behind_event : (known : Known) (t : List Entry) (event : Event) (stream : ℕ) → items known stream (Happened event ∷ t) ≡ items known stream t
+items_behind_event known t event stream =
+    let before = course known stream t in
+    let found = fault_with (carried before) t (Happened event) in
+    same_or_more (before.over || interrupts stream (Happened event) found (new_cause known stream t (Happened event) before found)) before.items
+
+-- the octets that come are heard of this upstream
+heard_now : (k : ℕ) (octets : List ℕ) (t : List Entry) → heard k (Happened (Up k octets) ∷ t) ≡ heard k t ++ octets
+heard_now k octets t = ap (λ b. if b then heard k t ++ octets else heard k t) (eq-eqb k k refl)
+
+done_behind : (parts added : List Part) → is_done parts ≡ false → is_done (parts ++ added) ≡ is_done added
+done_behind parts added none = list_any-append is_end parts added ∙ ap (λ b. b || is_done added) none
+
+module _ (known : Known) (t : List Entry) (k stream : ℕ) (answer : Answer) (o : Opened) (there : IsIn o (opens t)) (number : o.k ≡ k) (of : o.stream ≡ stream) (numbered : AreNumbered (opens t)) (apart : AreApart (opens t)) (heard_so : IsHeard known t k answer) (open_yet : has_ended k t ≡ false) where
+  abbrev passing : Passing
+  passing = known.setup.passing
+
+  -- the connection is the stream's only one
+  only : (p : Opened) → IsGiven t stream p → p.k ≡ k
+  only p g = ap (λ (x : Opened). x.k) (one_connection (opens t) p o apart g.is_opened there (g.is_given ∙ sym of)) ∙ number
+
+  -- and the only one with its number
+  only_of : (p : Opened) → IsIn p (opens t) → p.k ≡ k → p.stream ≡ stream
+  only_of p i e = ap (λ (x : Opened). x.stream) (one_number (opens t) p o numbered i there (e ∙ sym number)) ∙ of
+
+  -- the request asks for a head alone or doesn't
+  to_head : answer.reader.to_head ≡ is_to_head (items known stream t)
+  to_head = heard_so.asked ∙ ap (λ n. is_to_head (items known n t)) (ap (λ n. given n (opens t)) (sym number) ∙ given_is (opens t) o numbered there ∙ of)
+
+  module _ (octets : List ℕ) (added : List Part) (new : Answer) (hears : Hears answer.reader octets added new.reader) where
+    abbrev behind : List Entry
+    behind = Happened (Up k octets) ∷ t
+
+    -- the news
+    pub octets_told : offers.IsTold known t (Brings (Up k octets) stream (news_of passing heard_so.parts added))
+    octets_told p g =
+        let tells : Tells passing (heard k t) false (heard k t ++ octets) false answer.reader.to_head (news_of passing heard_so.parts added) = hears_news passing (heard k t) octets heard_so.parts added answer.reader new.reader heard_so.stands hears heard_so.goes_on in
+        let here : Tells passing (heard k t) (has_ended k t) (heard k behind) (has_ended k behind) (is_to_head (items known stream t)) (news_of passing heard_so.parts added) =
+        subst (λ h. Tells passing (heard k t) (has_ended k t) (heard k behind) (has_ended k behind) h (news_of passing heard_so.parts added)) to_head
+        (subst (λ e. Tells passing (heard k t) e (heard k behind) e answer.reader.to_head (news_of passing heard_so.parts added)) (sym open_yet)
+        (subst (λ x. Tells passing (heard k t) false x false answer.reader.to_head (news_of passing heard_so.parts added)) (sym (heard_now k octets t)) tells)) in
+        subst (λ n. Tells passing (heard n t) (has_ended n t) (heard n behind) (has_ended n behind) (is_to_head (items known stream t)) (news_of passing heard_so.parts added)) (sym (only p g)) here
+
+    -- where the reader stands then
+    stands_now : Stands (heard k behind) (heard_so.parts ++ added) new.reader
+    stands_now = subst (λ x. Stands x (heard_so.parts ++ added) new.reader) (sym (heard_now k octets t)) (hears.stands (heard k t) heard_so.parts heard_so.stands)
+
+    -- what holds of all that was heard holds of the connection's
+    same_heard : (P : List ℕ → Bool → Bool → Type 0) (p : Opened) → IsIn p (opens t) → p.k ≡ k → P (heard k behind) false new.reader.to_head → P (heard p.k behind) (has_ended p.k behind) (is_to_head (items known p.stream behind))
+    same_heard P p i e holds =
+        subst (λ n. P (heard n behind) (has_ended n behind) (is_to_head (items known p.stream behind))) (sym e)
+        (subst (λ n. P (heard k behind) (has_ended k behind) (is_to_head (items known n behind))) (sym (only_of p i e))
+        (subst (λ (xs : List Item). P (heard k behind) (has_ended k behind) (is_to_head xs)) (sym (items_behind_event known t (Up k octets) stream))
+        (subst (λ b. P (heard k behind) b (is_to_head (items known stream t))) (sym open_yet)
+        (subst (λ h. P (heard k behind) false h) (hears.same ∙ to_head) holds))))
+
+    -- whether the response is whole
+    pub octets_whole : (whole : Bool) → is_done added ≡ whole → IsWholeBy known t (Up k octets) whole
+    octets_whole true is p i e =
+        same_heard (λ x b h. IsComplete x b h) p i e (done (heard k behind) (heard_so.parts ++ added) new.reader stands_now (done_behind heard_so.parts added heard_so.goes_on ∙ is))
+    octets_whole false is p i e =
+        same_heard (λ x b h. IsComplete x b h → ⊥) p i e (not_done (heard k behind) (heard_so.parts ++ added) new.reader stands_now (done_behind heard_so.parts added heard_so.goes_on ∙ is))
+
+    -- the answer doesn't fail where its body isn't too long, and does where it is
+    pub octets_judged : (passing ≡ Whole → length (body_of (heard_so.parts ++ added)) ≤ known.setup.max_response) → IsJudged known t (Up k octets) false
+    octets_judged fits = judging.goes_on known t k octets heard_so.parts added answer.reader new.reader heard_so.asked heard_so.stands hears fits
+
+    -- what is kept then stands for all that was heard
+    pub octets_heard : is_done added ≡ false → new.way ≡ answer.way → Waits (passing_in new.way) (heard_so.parts ++ added) new → IsHeard known behind k new
+    octets_heard goes_on same waits = record {
+      parts = heard_so.parts ++ added;
+      stands = stands_now;
+      goes_on = done_behind heard_so.parts added heard_so.goes_on ∙ goes_on;
+      waits = waits;
+      asked = hears.same ∙ heard_so.asked ∙ ap is_to_head (sym (items_behind_event known t (Up k octets) (given k (opens t))));
+      set_up = record { passing = ap passing_in same ∙ heard_so.set_up.passing; limit = λ whole. ap limit_in same ∙ heard_so.set_up.limit whole };
+    }
+
+  -- octets with which the answer fails
+  pub octets_failed : (octets : List ℕ) → Breaks answer.reader octets ⊎ IsTooLong answer octets → IsJudged known t (Up k octets) true
+  octets_failed octets (inl breaks) = judging.breaks known t k octets heard_so.parts answer.reader heard_so.asked heard_so.stands breaks
+  octets_failed octets (inr long) =
+      judging.too_long known t k octets heard_so.parts long.added answer.reader long.new heard_so.asked heard_so.stands long.hears (sym heard_so.set_up.passing ∙ whole_is answer.way long.limit)
+      (subst (λ n. n < length (body_of (heard_so.parts ++ long.added))) (most (heard_so.set_up.limit (sym heard_so.set_up.passing ∙ whole_is answer.way long.limit))) (long.long heard_so.parts heard_so.waits))
+    where
+      whole_is : (way : Way) → limit_in way ≡ Some long.most → passing_in way ≡ Whole
+      whole_is (way.Whole n) is = refl
+      whole_is way.Streaming is = cc
+
+      most : limit_in answer.way ≡ Some known.setup.max_response → long.most ≡ known.setup.max_response
+      most is = let same : Some long.most ≡ Some known.setup.max_response = sym long.limit ∙ is in cc
+
+  -- ---- the end of the connection
+
+  abbrev ended : List Entry
+  ended = Happened (UpEnd k) ∷ t
+
+  ends_now : has_ended k ended ≡ true
+  ends_now = ap (λ b. if b then true else has_ended k t) (eq-eqb k k refl)
+
+  -- the news where the response is whole with it
+  pub end_told : IsEnd Complete answer.reader → offers.IsTold known t (Brings (UpEnd k) stream (news_at_end passing heard_so.parts))
+  end_told whole p g =
+      let tells : Tells passing (heard k t) false (heard k t) true answer.reader.to_head (news_at_end passing heard_so.parts) = ends_news passing (heard k t) heard_so.parts answer.reader heard_so.stands heard_so.goes_on (whole (heard k t) heard_so.parts heard_so.stands) in
+      let here : Tells passing (heard k t) (has_ended k t) (heard k ended) (has_ended k ended) (is_to_head (items known stream t)) (news_at_end passing heard_so.parts) =
+      subst (λ h. Tells passing (heard k t) (has_ended k t) (heard k ended) (has_ended k ended) h (news_at_end passing heard_so.parts)) to_head
+      (subst (λ e. Tells passing (heard k t) e (heard k t) (has_ended k ended) answer.reader.to_head (news_at_end passing heard_so.parts)) (sym open_yet)
+      (subst (λ e. Tells passing (heard k t) false (heard k t) e answer.reader.to_head (news_at_end passing heard_so.parts)) (sym ends_now) tells)) in
+      subst (λ n. Tells passing (heard n t) (has_ended n t) (heard n ended) (has_ended n ended) (is_to_head (items known stream t)) (news_at_end passing heard_so.parts)) (sym (only p g)) here
+
+  same_ended : (P : List ℕ → Bool → Bool → Type 0) (p : Opened) → IsIn p (opens t) → p.k ≡ k → P (heard k t) true answer.reader.to_head → P (heard p.k ended) (has_ended p.k ended) (is_to_head (items known p.stream ended))
+  same_ended P p i e holds =
+      subst (λ n. P (heard n ended) (has_ended n ended) (is_to_head (items known p.stream ended))) (sym e)
+      (subst (λ n. P (heard k t) (has_ended k ended) (is_to_head (items known n ended))) (sym (only_of p i e))
+      (subst (λ (xs : List Item). P (heard k t) (has_ended k ended) (is_to_head xs)) (sym (items_behind_event known t (UpEnd k) stream))
+      (subst (λ b. P (heard k t) b (is_to_head (items known stream t))) (sym ends_now)
+      (subst (λ h. P (heard k t) true h) to_head holds))))
+
+  pub end_whole : IsEnd Complete answer.reader → IsWholeBy known t (UpEnd k) true
+  end_whole whole p i e = same_ended (λ x b h. IsComplete x b h) p i e (whole (heard k t) heard_so.parts heard_so.stands)
+
+  pub end_judged : IsEnd Complete answer.reader → IsJudged known t (UpEnd k) false
+  end_judged whole = judging.ends known t k heard_so.parts answer.reader heard_so.asked heard_so.stands whole
+
+  -- and where it is cut short with it
+  pub end_short : IsEnd Short answer.reader → IsWholeBy known t (UpEnd k) false × IsJudged known t (UpEnd k) true
+  end_short short = (
+    (λ p i e. same_ended (λ x b h. IsComplete x b h → ⊥) p i e (short (heard k t) heard_so.parts heard_so.stands)),
+    judging.ends_short known t k heard_so.parts answer.reader heard_so.asked heard_so.stands short,
+  )

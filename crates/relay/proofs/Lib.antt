@@ -5,3 +5,5 @@ pub mod Taking
 pub mod Sound
 pub mod Passing
 pub mod Hearing
+pub mod Beside
+pub mod Kept

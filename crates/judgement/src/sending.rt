@@ -47,7 +47,7 @@ impl Connection {
 
     /// Notes that so many octets were given back to the connection (RFC 9113, section 6.9), whose receiving window has room for them.
     pub fn gave_back(&mut self, octets: u32)
-        requires { self.old.room +ℤ pos octets ≤ℤ pos greatest_window }
+        requires { (self.old.room +ℤ pos octets) ≤ℤ pos greatest_window }
         ensures { self.new ≡ record self.old { room = self.old.room +ℤ pos octets } }
     {
         let _ = self.room.grant(octets);

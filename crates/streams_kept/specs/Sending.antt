@@ -48,7 +48,7 @@ AreSendable count kept = (count == 0) ≡ false → IsAboveLeast (kept.balance -
 
 -- The receiving window isn't past the greatest with these octets.
 abbrev pub AreReturnable : ℕ → Kept → Type 0
-AreReturnable count kept = kept.room +ℤ pos count ≤ℤ pos greatest_window
+AreReturnable count kept = (kept.room +ℤ pos count) ≤ℤ pos greatest_window
 
 -- The numbers that are kept have room for the step.
 abbrev pub HasRoom : Step → Kept → Type 0

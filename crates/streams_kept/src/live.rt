@@ -180,7 +180,7 @@ impl Live {
         ensures { self.new ≡ data_sent octets ends self.old }
     {
         if octets > 0 {
-            let _ = self.balance.shift(-i64::from(octets));
+            self.balance.spend(octets);
         }
         self.ended_by_gateway = ends || self.ended_by_gateway;
     }

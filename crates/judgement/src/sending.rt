@@ -3,15 +3,21 @@
 
 ghost use Rattle.std.specs.Prelude.{◌≡◌, ◌≤◌, true, pos, ◌+ℤ◌, ◌-ℤ◌, ◌≤ℤ◌};
 ghost use Rattle.model.specs.Windows.{greatest_window, IsSize};
+ghost use Rattle.conduct.specs.Judging.{window_in};
+ghost use Rattle.conduct.specs.Owing.{must_end_in};
 ghost use Rattle.conduct.specs.Rows.{find};
 ghost use Rattle.conduct.specs.Rows.Slot.{Over as Done};
 ghost use Rattle.conduct.specs.Tidy.{AreKept};
 ghost use Rattle.streams_kept.specs.Asked.{is_active, changed};
 ghost use Rattle.streams_kept.specs.Sending.{head_sent, data_sent, given_back, failed, AreReturnable, is_served};
+ghost use Rattle.judgement.specs.Inbound.{Outside, told_of};
 ghost use Rattle.judgement.specs.Sending.{with_kept, AreWithin};
 
 use crate::connection::Connection;
-use streams_kept::Streams;
+use streams_kept::{Live, Streams};
+
+/// How many streams are opened on a connection (this project's profile).
+const MOST_STREAMS: u32 = 10000;
 
 impl Connection {
     /// Notes that the last frame of a header block went out on an active stream (RFC 9113, section 8.1): whether it is a response's final head,
@@ -92,6 +98,21 @@ impl Connection {
         ensures in_range { self.now.first_size ≤ greatest_window }
     {
         self.settings.initial_window()
+    }
+
+    /// How many octets of DATA may be sent on one of its active streams (RFC 9113, sections 6.9.1 and 6.9.2).
+    pub fn window_on(&self, live: &Live) -> i64
+        ensures { result ≡ window_in self.now.first_size live.now }
+    {
+        i64::from(self.settings.initial_window()) + live.balance()
+    }
+
+    /// Whether the connection is to end, though nothing that came calls for it: all streams that it may have were opened, and none is active
+    /// any more (RFC 9113, section 6.8).
+    pub fn is_spent(&self) -> bool
+        ensures { (outside : Outside) → result ≡ must_end_in (told_of outside self.now) }
+    {
+        self.streams.count() == MOST_STREAMS && self.streams.active() == 0
     }
 
     /// The streams of the connection (RFC 9113, section 5.1).

@@ -46,7 +46,7 @@ fn send_data(connection: &mut Connection, octets: u32, ends: bool) -> bool {
     if count > 0 && count > connection.window() {
         return false;
     }
-    if count > 0 && count > i64::from(connection.first_size()) + live.balance() {
+    if count > 0 && count > connection.window_on(live) {
         return false;
     }
     connection.sent_data(1, octets, ends);
@@ -95,6 +95,12 @@ fn data_takes_windows(rt: HostRuntime) -> Result<(), Fail> {
             .streams()
             .find(1)
             .is_some_and(|live| live.balance() == -65534)
+    );
+    assert!(rt;
+        connection
+            .streams()
+            .find(1)
+            .is_some_and(|live| connection.window_on(live) == 1)
     );
     assert!(rt; !send_data(&mut connection, 2, false));
     assert!(rt; send_data(&mut connection, 1, false));
@@ -182,5 +188,26 @@ fn answers_fail(rt: HostRuntime) -> Result<(), Fail> {
         }
         None => assert!(rt; false),
     }
+    Ok(())
+}
+
+#[test]
+fn connections_are_spent(rt: HostRuntime) -> Result<(), Fail> {
+    let mut connection = Connection::new(rt.alloc());
+    for place in 0u32..10000 {
+        assert!(rt; !connection.is_spent());
+        if let Verdict::Open = connection.verdict(2 * place + 1, Kind::Headers) {
+            connection.open(2 * place + 1, Live::opened(BEGUN, true))?;
+        }
+        if connection.streams().find(2 * place + 1).is_some() {
+            connection.sent_head(2 * place + 1, true, place != 9999);
+        }
+    }
+    assert_eq!(rt; connection.streams().count(), 10000);
+    assert!(rt; !connection.is_spent());
+    if connection.streams().find(19999).is_some() {
+        connection.sent_reset(19999);
+    }
+    assert!(rt; connection.is_spent());
     Ok(())
 }

@@ -84,6 +84,17 @@ impl Live {
         *ended_by_client
     }
 
+    /// Whether the gateway has ended it (RFC 9113, section 5.1).
+    pub fn ended_by_gateway(&self) -> bool
+        ensures { result ≡ self.now.ended_by_gateway }
+    {
+        let Live {
+            ended_by_gateway,
+            ..
+        } = self;
+        *ended_by_gateway
+    }
+
     /// Whether the final head of a response was sent on it (RFC 9113, section 8.1).
     pub fn head_out(&self) -> bool
         ensures { result ≡ self.now.head_out }

@@ -72,7 +72,9 @@ fn responses_end_before_requests(rt: HostRuntime) -> Result<(), Fail> {
     assert!(rt; send_head(&mut streams, 5, true, false));
     assert!(rt; streams.find(5).is_some_and(|live| live.head_out()));
     assert_eq!(rt; streams.standing(5), Standing::Opened(State::Open));
+    assert!(rt; streams.find(5).is_some_and(|live| !live.ended_by_gateway()));
     assert!(rt; send_data(&mut streams, 5, 0, true));
+    assert!(rt; streams.find(5).is_some_and(|live| live.ended_by_gateway()));
     assert_eq!(rt;
         streams.standing(5),
         Standing::Opened(State::HalfClosedLocal)

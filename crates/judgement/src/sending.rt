@@ -39,7 +39,8 @@ impl Connection {
         if octets > 0 {
             self.window.take(octets);
         }
-        let _first = self.settings.initial_window();
+        // The first size is a window's, so what is kept without it is above the least.
+        let _first = self.first_size();
         self.streams.send_data(id, octets, ends);
     }
 

@@ -21,3 +21,4 @@ pub mod Contents
 pub mod SendingStreams
 pub mod SendingBooks
 pub mod SendingEvents
+pub mod SendingIncrements

@@ -19,5 +19,7 @@ mod tests;
 
 pub use crate::answers::{BlockJudged, Fault, Judged};
 pub use crate::connection::Connection;
-pub use crate::sending_laws::{acts_lead, desks_follow, events_lead, sent_frames_lead};
+pub use crate::sending_laws::{
+    acts_lead, desks_follow, events_lead, increments_are_told, sent_frames_lead,
+};
 pub use crate::terms::Terms;

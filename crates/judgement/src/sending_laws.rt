@@ -1,9 +1,9 @@
 //! What the gateway's own doing leads to in conduct's book.
 
-ghost use Rattle.std.specs.Prelude.{◌≡◌, ℕ, ◌-◌, Bool, true, false, ◌==◌, List, [], ◌∷◌, ◌++◌, Some, None};
+ghost use Rattle.std.specs.Prelude.{◌≡◌, ℕ, ◌-◌, ◌<◌, Bool, true, false, ◌==◌, List, [], ◌∷◌, ◌++◌, Some, None};
 ghost use Rattle.model.specs.Messages.{Field};
 ghost use Rattle.model.specs.Messages.Item.{Block};
-ghost use Rattle.model.specs.Frames.{Frame, data_kind, rst_stream_kind, window_update_kind, ends_headers, ends_stream};
+ghost use Rattle.model.specs.Frames.{Frame, data_kind, rst_stream_kind, window_update_kind, ends_headers, ends_stream, spell_number};
 ghost use Rattle.model.specs.Setup.{Setup};
 ghost use Rattle.model.specs.Logs.{Event, Act};
 ghost use Rattle.model.specs.Logs.Event.{ClientTook};
@@ -13,6 +13,7 @@ ghost use Rattle.model.specs.Tapes.Note.{Fields};
 ghost use Rattle.model.specs.Tapes.Entry.{Happened, Sent, Did};
 ghost use Rattle.model.specs.Decoding.{Partial, joined};
 ghost use Rattle.model.specs.Openings.{given};
+ghost use Rattle.model.specs.WindowsOnTape.{increment};
 ghost use Rattle.model.specs.Courses.{upstream_of, is_final};
 ghost use Rattle.conduct.specs.Turn.{rest_of};
 ghost use Rattle.conduct.specs.Judging.{completed_in};
@@ -20,6 +21,7 @@ ghost use Rattle.conduct.specs.Rule.{Move};
 ghost use Rattle.conduct.specs.Book.{Book, Desk, desk_after};
 ghost use Rattle.conduct.specs.Tidy.{AreKept};
 ghost use Rattle.conduct.specs.Quiet.{IsControl, sending, paid_of};
+ghost use Rattle.judgement.specs.Judgement.{update};
 ghost use Rattle.judgement.specs.Sending.{LeadsTo, behind_head, behind_data, behind_reset, behind_update, behind_stream_update, early_reset, is_of_upstream, behind_failure, reset_if_out};
 
 /// What a frame that is sent leads to: the book behind it, and what it calls for.
@@ -61,4 +63,9 @@ pub fn desks_follow()
     ensures sent { (setup : Setup) (fails : Bool) (desk : Desk) (noted : Noted) (new : Book) (called : List Frame) → LeadsTo setup fails desk.book (Sent noted) new called → desk_after setup desk (record { entry = Sent noted; fails = fails }) ≡ record { book = new; queue = rest_of desk.queue ++ called } }
     ensures did { (setup : Setup) (fails : Bool) (desk : Desk) (act : Act) (new : Book) (called : List Frame) → LeadsTo setup fails desk.book (Did act) new called → desk_after setup desk (record { entry = Did act; fails = fails }) ≡ record { book = new; queue = desk.queue } }
     ensures happened { (setup : Setup) (fails : Bool) (desk : Desk) (event : Event) (new : Book) (called : List Frame) → LeadsTo setup fails desk.book (Happened event) new called → desk_after setup desk (record { entry = Happened event; fails = fails }) ≡ record { book = new; queue = called } }
+{}
+
+/// The increment that a WINDOW_UPDATE is written with is the one that it is read with (RFC 9113, section 6.9).
+pub fn increments_are_told()
+    ensures { (flags id count : ℕ) → count < 2147483648 → increment (update flags id (spell_number count)) ≡ count }
 {}

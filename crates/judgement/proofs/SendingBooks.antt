@@ -1,12 +1,12 @@
 -- The book behind a frame that was sent, and what it calls for.
-use Rattle.std.proofs.Common.{◌≡◌, ℕ, Bool, true, false, not, ◌&&◌, ◌||◌, ◌==◌, ◌⊎◌, if◌then◌else◌, List, [], ◌∷◌, ◌++◌, map, length, Option, Some, None, refl, sym, ◌∙◌, ap, inl, inr}
-use Rattle.std.proofs.lemmas.Bool.{and_right, and_parts, cases_eq, ne_eqb, eq-eqb, eqb-true}
+use Rattle.std.proofs.Common.{◌≡◌, ℕ, Bool, true, false, not, ◌&&◌, ◌||◌, ◌==◌, if◌then◌else◌, List, [], ◌∷◌, ◌++◌, map, length, Option, Some, None, refl, sym, ◌∙◌, ap, inl, inr}
+use Rattle.std.proofs.lemmas.Bool.{and_parts, cases_eq, ne_eqb, eq-eqb, eqb-true}
 use Rattle.std.proofs.Math.Bool.{or-false}
 use Rattle.std.specs.Prelude.{ℤ, pos, ◌+ℤ◌, ◌-ℤ◌}
 use Rattle.std.specs.List.{list_any}
-use Rattle.model.specs.Messages.{Field, Item}
+use Rattle.model.specs.Messages.{Field}
 use Rattle.model.specs.Messages.Item.{Block, Content}
-use Rattle.model.specs.Frames.{Frame, data_kind, headers_kind, rst_stream_kind, window_update_kind, continuation_kind, has_flag, ends_headers, ends_stream, content, goaway, no_error}
+use Rattle.model.specs.Frames.{Frame, data_kind, headers_kind, rst_stream_kind, window_update_kind, continuation_kind, ends_headers, ends_stream, content, goaway, no_error}
 use Rattle.model.specs.Setup.{Setup}
 use Rattle.model.specs.Tapes.{Note, Noted}
 use Rattle.model.specs.Tapes.Note.{Fields}
@@ -23,7 +23,7 @@ use Rattle.conduct.specs.Summary.{Stream as Kept, Summary}
 use Rattle.conduct.specs.Judging.{completed_in}
 use Rattle.conduct.specs.Owing.{highest_in, next_brief, resets_in, reset_behind_in, owes_in}
 use Rattle.conduct.specs.After.{begun_after, grant, kept_behind}
-use Rattle.conduct.specs.Rows.{Row, Slot, kept_in, find, slot_of, slot_behind, row_behind, over_kept}
+use Rattle.conduct.specs.Rows.{Row, Slot, kept_in, find, slot_of, slot_behind, row_behind}
 use Rattle.conduct.specs.Rows.Slot.{Live, Over}
 use Rattle.conduct.specs.Book.{Book, summary_in, book_after}
 use Rattle.conduct.specs.Tidy.{IsTidy, IsRow, AreKept}

@@ -1,14 +1,13 @@
 -- The book behind acts and events, and what they call for.
-use Rattle.std.proofs.Common.{◌≡◌, ℕ, zero, suc, ◌-◌, Bool, true, false, not, ◌&&◌, ◌||◌, ◌==◌, if◌then◌else◌, List, [], ◌∷◌, ◌++◌, map, length, append-nil, Option, Some, None, refl, sym, ◌∙◌, ap, subst, arith}
+use Rattle.std.proofs.Common.{◌≡◌, ℕ, zero, suc, ◌-◌, Bool, true, false, ◌&&◌, ◌==◌, if◌then◌else◌, List, [], ◌∷◌, ◌++◌, map, length, append-nil, Option, Some, None, refl, sym, ◌∙◌, ap, subst, arith}
 use Rattle.std.proofs.lemmas.Bool.{eq-eqb, ne_eqb, lt-ltb}
 use Rattle.std.specs.Prelude.{nat_lt, is_some, is_none}
-use Rattle.model.specs.Messages.{Item}
 use Rattle.model.specs.Frames.{Frame, goaway, no_error, internal_error}
 use Rattle.model.specs.Setup.{Setup}
 use Rattle.model.specs.Logs.{Event, Act}
 use Rattle.model.specs.Logs.Event.{Client, ClientEnd, ClientTook, Up, UpEnd, UpFailed, UpTook}
 use Rattle.model.specs.Logs.Act.{Open, ToUp, Close, CloseClient}
-use Rattle.model.specs.Tapes.{Noted, Entry}
+use Rattle.model.specs.Tapes.{Noted}
 use Rattle.model.specs.Tapes.Entry.{Happened, Sent, Did}
 use Rattle.model.specs.StreamStates.{most_streams}
 use Rattle.model.specs.Openings.{given}
@@ -21,10 +20,9 @@ use Rattle.conduct.specs.Summary.{Brief, Stream as Kept, Summary}
 use Rattle.conduct.specs.Turn.{rest_of}
 use Rattle.conduct.specs.Owing.{highest_in, about_in, brief_behind, brief_from, next_brief, resets_in, owes_in}
 use Rattle.conduct.specs.After.{stream_from}
-use Rattle.conduct.specs.Rows.{Row, Slot, kept_in, find, slot_of, slot_behind, row_behind}
-use Rattle.conduct.specs.Rule.{Move}
+use Rattle.conduct.specs.Rows.{Row, Slot, kept_in, find, slot_of, row_behind}
 use Rattle.conduct.specs.Book.{Book, Desk, summary_in, book_after, desk_after}
-use Rattle.conduct.specs.Tidy.{IsSteady, IsRow, AreKept}
+use Rattle.conduct.specs.Tidy.{IsSteady, AreKept}
 use Rattle.conduct.proofs.Elsewhere.{kept_same, course_same, row_stays}
 use Rattle.conduct.proofs.Idle.{no_cause_if}
 use Rattle.conduct.proofs.Quiet.{all_stay}

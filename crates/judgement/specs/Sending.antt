@@ -1,5 +1,5 @@
 -- What entries of the gateway's own lead to: the book behind each, and what it calls for.
-use Rattle.std.specs.Prelude.{◌≡◌, ℕ, ◌-◌, Bool, true, false, not, ◌&&◌, ◌==◌, if◌then◌else◌, List, [], ◌∷◌, length, None, is_none, pos, ◌+ℤ◌, ◌-ℤ◌, ◌≤ℤ◌}
+use Rattle.std.specs.Prelude.{◌≡◌, ℕ, Bool, true, false, not, ◌&&◌, ◌==◌, if◌then◌else◌, List, [], ◌∷◌, length, None, is_none, pos, ◌+ℤ◌, ◌-ℤ◌, ◌≤ℤ◌}
 use Rattle.model.specs.Frames.{Frame, ends_stream, no_error, internal_error}
 use Rattle.model.specs.Setup.{Setup}
 use Rattle.model.specs.Logs.{Event}

@@ -52,6 +52,16 @@ impl Window {
         self.size -= i64::from(octets);
     }
 
+    /// Takes the octets of a DATA frame that went out from a window that is kept without its first size, so that it may fall below zero (RFC 9113,
+    /// sections 6.9.1 and 6.9.2), yet to -2,147,483,647 at the lowest.
+    pub fn spend(&mut self, octets: u32)
+        requires { IsAboveLeast (self.old -ℤ pos octets) }
+        ensures { self.new ≡ self.old -ℤ pos octets }
+    {
+        let count = i64::from(octets);
+        self.size -= count;
+    }
+
     /// Adds the increment of a WINDOW_UPDATE, in octets (RFC 9113, section 6.9.1). `Overflow` comes just where the window
     /// would pass 2,147,483,647, and leaves it as it was.
     pub fn grant(&mut self, increment: u32) -> Result<(), Overflow>

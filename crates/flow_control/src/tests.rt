@@ -50,3 +50,16 @@ fn windows_end_at_the_least(rt: HostRuntime) -> Result<(), Fail> {
     assert_eq!(rt; window.left(), 2147483647);
     Ok(())
 }
+
+#[test]
+fn octets_are_spent(rt: HostRuntime) -> Result<(), Fail> {
+    let mut window = Window::new(0);
+    window.spend(16384);
+    assert_eq!(rt; window.left(), -16384);
+    window.spend(2147467263);
+    assert_eq!(rt; window.left(), -2147483647);
+    window.spend(0);
+    assert_eq!(rt; window.grant(2147483647), Ok(()));
+    assert_eq!(rt; window.left(), 0);
+    Ok(())
+}

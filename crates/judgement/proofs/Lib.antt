@@ -18,3 +18,7 @@ pub mod Fragmenting
 pub mod DataFaults
 pub mod DataBehind
 pub mod Contents
+pub mod SendingStreams
+pub mod SendingBooks
+pub mod SendingEvents
+pub mod SendingIncrements

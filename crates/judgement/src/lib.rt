@@ -9,10 +9,17 @@ mod connection;
 #[cfg(test)]
 mod fragment_tests;
 mod fragments;
+mod sending;
+mod sending_laws;
+#[cfg(test)]
+mod sending_tests;
 mod terms;
 #[cfg(test)]
 mod tests;
 
 pub use crate::answers::{BlockJudged, Fault, Judged};
 pub use crate::connection::Connection;
+pub use crate::sending_laws::{
+    acts_lead, desks_follow, events_lead, increments_are_told, sent_frames_lead,
+};
 pub use crate::terms::Terms;

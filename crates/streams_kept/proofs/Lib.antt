@@ -4,3 +4,4 @@ pub mod Asked
 pub mod Changes
 pub mod Courses
 pub mod Openings
+pub mod Sending

@@ -8,4 +8,5 @@ pub mod Views
 pub mod Steps
 pub mod Courses
 pub mod Asked
+pub mod Sending
 pub mod Records

@@ -20,12 +20,18 @@ mod entries;
 mod live;
 mod records;
 #[cfg(test)]
+mod sending_tests;
+mod steps;
+#[cfg(test)]
 mod tests;
 
 pub use crate::course::{Course, Reply};
 use crate::entries::{Entry, Slot, last_id, place_of};
 pub use crate::live::Live;
-use crate::records::{Record, grant_at, live_at, make_place, shifts_past, state_of, take_at};
+use crate::records::{
+    Record, grant_at, live_at, make_place, shifts_past, state_of, step_at, take_at,
+};
+use crate::steps::Step;
 pub use causes::Cause;
 use std::alloc::{AllocError, Global};
 use std::marker::Model;
@@ -58,6 +64,7 @@ impl Model for Streams {
 impl Streams {
     ghost use Rattle.streams_kept.specs.Asked.{standing, verdict, AllowsOpening, MayOpen, active_in, is_active, shifts_past, changed, IsLive};
     ghost use Rattle.streams_kept.specs.Steps.{granted, taken};
+    ghost use Rattle.streams_kept.specs.Sending.{head_sent, data_sent, given_back, failed, stepped, AreSendable, AreReturnable, HasRoom, is_served};
 
     /// A connection on which no stream was opened.
     pub fn new(alloc: Global) -> Self
@@ -132,6 +139,90 @@ impl Streams {
         };
         if let Slot::Live(key) = self.entries[place].slot {
             take_at(&mut self.records, key as usize, octets, course, ended);
+        }
+    }
+
+    /// Notes a header block that went out on an active stream (RFC 9113, section 8.1), a response's final head or not, with which the
+    /// gateway ends the stream or doesn't; no other stream changes. Where both sides have ended it then, it is over (RFC 9113, section 5.1).
+    pub fn send_head(&mut self, id: u32, is_final: bool, ends: bool)
+        requires { is_active self.old id ≡ true }
+        ensures is { self.new ≡ changed id (slot_of (head_sent is_final ends (kept_of self.old id))) self.old }
+        ensures kept { AreKept self.new }
+    {
+        self.step(id, Step::Head { is_final, ends });
+    }
+
+    /// Notes octets of DATA that went out on an active stream (RFC 9113, section 6.9.1), all of the payload, with which the gateway ends
+    /// the stream or doesn't; no other changes. Where both sides have ended it then, it is over (RFC 9113, section 5.1).
+    pub fn send_data(&mut self, id: u32, octets: u32, ends: bool)
+        requires live { is_active self.old id ≡ true }
+        requires fits { AreSendable octets (kept_of self.old id) }
+        ensures is { self.new ≡ changed id (slot_of (data_sent octets ends (kept_of self.old id))) self.old }
+        ensures kept { AreKept self.new }
+    {
+        self.step(id, Step::Data { octets, ends });
+    }
+
+    /// Notes octets that were given back to an active stream (RFC 9113, section 6.9.1); no other changes. Its receiving window has room for
+    /// them.
+    pub fn give_back(&mut self, id: u32, octets: u32)
+        requires live { is_active self.old id ≡ true }
+        requires fits { AreReturnable octets (kept_of self.old id) }
+        ensures is { self.new ≡ changed id (slot_of (given_back octets (kept_of self.old id))) self.old }
+        ensures kept { AreKept self.new }
+    {
+        self.step(id, Step::GivenBack { octets });
+    }
+
+    /// Notes that the upstream's answer failed for an active stream: the gateway replies itself (RFC 9110, section 15.6.3), unless it did
+    /// before. No other changes.
+    pub fn fail(&mut self, id: u32)
+        requires { is_active self.old id ≡ true }
+        ensures is { self.new ≡ changed id (slot_of (failed (kept_of self.old id))) self.old }
+        ensures kept { AreKept self.new }
+    {
+        self.step(id, Step::Failed);
+    }
+
+    /// Does a step on an active stream, for which its numbers have room.
+    fn step(&mut self, id: u32, step: Step)
+        requires live { is_active self.old id ≡ true }
+        requires fits { HasRoom step (kept_of self.old id) }
+        ensures is { self.new ≡ changed id (slot_of (stepped step (kept_of self.old id))) self.old }
+        ensures kept { AreKept self.new }
+    {
+        let Some(live) = self.find(id) else {
+            return;
+        };
+        if !live.is_over_behind(step) {
+            return self.go_on(id, step);
+        }
+        self.close(id, false)
+    }
+
+    /// The same, where it is active behind it.
+    fn go_on(&mut self, id: u32, step: Step)
+        requires live { is_active self.old id ≡ true }
+        requires fits { HasRoom step (kept_of self.old id) }
+        requires goes_on { is_over_in (stepped step (kept_of self.old id)) ≡ false }
+        ensures is { self.new ≡ changed id (Active (stepped step (kept_of self.old id))) self.old }
+        ensures kept { AreKept self.new }
+    {
+        let Ok(place) = place_of(&self.entries, id) else {
+            return;
+        };
+        if let Slot::Live(key) = self.entries[place].slot {
+            step_at(&mut self.records, key as usize, step);
+        }
+    }
+
+    /// Whether a stream is served: it is active (RFC 9113, section 5.1), and the gateway doesn't reply to it itself.
+    pub fn is_served(&self, id: u32) -> bool
+        ensures { result ≡ is_served self.now id }
+    {
+        match self.find(id) {
+            Some(live) => !live.is_replied(),
+            None => false,
         }
     }
 

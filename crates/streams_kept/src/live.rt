@@ -1,14 +1,17 @@
 //! What is kept of an active stream.
 
-ghost use Rattle.std.specs.Prelude.{◌≡◌, ◌==◌, ◌||◌, false, pos, ◌+ℤ◌, ◌≤ℤ◌};
+ghost use Rattle.std.specs.Prelude.{◌≡◌, ◌==◌, ◌||◌, false, pos, ◌+ℤ◌, ◌≤ℤ◌, is_some};
 ghost use Rattle.model.specs.Windows.{IsSize};
 ghost use Rattle.streams_kept.specs.Steps.{granted, taken};
+ghost use Rattle.streams_kept.specs.Sending.{head_sent, data_sent, given_back, failed, stepped, AreSendable, AreReturnable, HasRoom};
 ghost use Rattle.streams_kept.specs.Views.{brief_of};
 ghost use Rattle.conduct.specs.Judging.{state_in as state_kept, is_over_in};
 ghost use Rattle.conduct.specs.Rows.{fresh};
 ghost use Rattle.stream_state.specs.Views.{state_in};
 
 use crate::course::Course;
+use crate::steps::Step;
+use causes::Cause;
 use flow_control::Window;
 use std::marker::Model;
 use stream_state::State;
@@ -81,11 +84,23 @@ impl Live {
         *ended_by_client
     }
 
+    /// Whether the gateway has ended it (RFC 9113, section 5.1).
+    pub fn ended_by_gateway(&self) -> bool
+        ensures { result ≡ self.now.ended_by_gateway }
+    {
+        let Live {
+            ended_by_gateway,
+            ..
+        } = self;
+        *ended_by_gateway
+    }
+
     /// Whether the final head of a response was sent on it (RFC 9113, section 8.1).
     pub fn head_out(&self) -> bool
         ensures { result ≡ self.now.head_out }
     {
-        self.head_out
+        let Live { head_out, .. } = self;
+        *head_out
     }
 
     /// What became of its request so far.
@@ -133,5 +148,66 @@ impl Live {
         }
         self.course = course;
         self.ended_by_client = ended || self.ended_by_client;
+    }
+
+    /// Whether the gateway replies to it itself.
+    pub fn is_replied(&self) -> bool
+        ensures { result ≡ is_some self.now.brief.cause }
+    {
+        self.course.reply.is_some()
+    }
+
+    /// Whether it is over behind a step (RFC 9113, section 5.1).
+    pub(crate) fn is_over_behind(&self, step: Step) -> bool
+        ensures { result ≡ is_over_in (stepped step self.now) }
+    {
+        self.ended_by_client && (step.ends() || self.ended_by_gateway)
+    }
+
+    /// Does a step, for which its numbers have room.
+    pub(crate) fn step(&mut self, step: Step)
+        requires { HasRoom step self.old }
+        ensures { self.new ≡ stepped step self.old }
+    {
+        match step {
+            Step::Head { is_final, ends } => self.send_head(is_final, ends),
+            Step::Data { octets, ends } => self.send_data(octets, ends),
+            Step::GivenBack { octets } => self.give_back(octets),
+            Step::Failed => self.fail(),
+        }
+    }
+
+    /// Notes a header block that went out, a final head or not, with which the gateway ends it or doesn't.
+    fn send_head(&mut self, is_final: bool, ends: bool)
+        ensures { self.new ≡ head_sent is_final ends self.old }
+    {
+        self.head_out = self.head_out || is_final;
+        self.ended_by_gateway = ends || self.ended_by_gateway;
+    }
+
+    /// Notes octets of DATA that went out, with which the gateway ends it or doesn't.
+    fn send_data(&mut self, octets: u32, ends: bool)
+        requires { AreSendable octets self.old }
+        ensures { self.new ≡ data_sent octets ends self.old }
+    {
+        if octets > 0 {
+            self.balance.spend(octets);
+        }
+        self.ended_by_gateway = ends || self.ended_by_gateway;
+    }
+
+    /// Notes octets that were given back.
+    fn give_back(&mut self, octets: u32)
+        requires { AreReturnable octets self.old }
+        ensures { self.new ≡ given_back octets self.old }
+    {
+        let _ = self.room.grant(octets);
+    }
+
+    /// Notes that its upstream's answer failed.
+    fn fail(&mut self)
+        ensures { self.new ≡ failed self.old }
+    {
+        self.course = self.course.replied(Cause::BadAnswer, self.head_out);
     }
 }

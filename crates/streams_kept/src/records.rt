@@ -4,6 +4,7 @@ ghost use Rattle.std.specs.Prelude.{◌≡◌, ◌==◌, ◌<◌, ◌≤◌, len
 ghost use Rattle.std.specs.List.{list_any};
 ghost use Rattle.model.specs.Windows.{greatest_window, IsSize};
 ghost use Rattle.streams_kept.specs.Steps.{granted, taken};
+ghost use Rattle.streams_kept.specs.Sending.{stepped, HasRoom};
 ghost use Rattle.conduct.specs.Judging.{state_in as state_kept};
 ghost use Rattle.conduct.specs.Rows.{kept_in};
 ghost use Rattle.stream_state.specs.Views.{state_in};
@@ -13,6 +14,7 @@ ghost use Rattle.streams_kept.specs.Records.{record_at, slot_in, IsHeld, IsPlace
 use crate::course::Course;
 use crate::entries::{Entry, Slot};
 use crate::live::Live;
+use crate::steps::Step;
 use std::alloc::AllocError;
 use stream_state::State;
 
@@ -119,6 +121,26 @@ pub fn take_at(records: &mut [Option<Record>], key: usize, octets: u32, course: 
     ensures { IfSome (record_at records.old key) (λ r. records.new ≡ slice_set records.old key (Some (record r { live = taken octets (brief_of course) ended r.live }))) }
 {
     take_one(&mut records[key], octets, course, ended)
+}
+
+/// Does a step on the stream of a record.
+fn step_one(slot: &mut Option<Record>, step: Step)
+    requires { IfSome slot.old (λ r. HasRoom step r.live) }
+    ensures some { IfSome slot.old (λ r. slot.new ≡ Some (record r { live = stepped step r.live })) }
+    ensures none { IfNone slot.old (slot.new ≡ None) }
+{
+    if let Some(record) = slot {
+        record.live.step(step);
+    }
+}
+
+/// Does a step on the stream of the record at a key.
+pub fn step_at(records: &mut [Option<Record>], key: usize, step: Step)
+    requires within { key < length records.old }
+    requires fits { IfSome (record_at records.old key) (λ r. HasRoom step r.live) }
+    ensures { IfSome (record_at records.old key) (λ r. records.new ≡ slice_set records.old key (Some (record r { live = stepped step r.live }))) }
+{
+    step_one(&mut records[key], step)
 }
 
 /// Whether the sending window of a record's stream is past the greatest with this first size.

@@ -7,3 +7,4 @@ pub mod Passing
 pub mod Hearing
 pub mod Beside
 pub mod Kept
+pub mod Performing

@@ -4,3 +4,5 @@ pub mod Taking
 pub mod Led
 pub mod Passing
 pub mod Hearing
+pub mod View
+pub mod Performing

@@ -1,0 +1,79 @@
+-- What the rooms together are seen as, and how that stands to the state of the rule.
+use Rattle.std.specs.Prelude.{◌≡◌, ℕ, false, List, [], Some}
+use Rattle.model.specs.Frames.{Frame}
+use Rattle.model.specs.Setup.{Setup}
+use Rattle.model.specs.Known.{Known}
+use Rattle.conduct.specs.Rule.{AreKnown}
+use Rattle.offering.specs.State as offering
+use Rattle.receiving.specs.State as receiving
+use Rattle.serving.specs.State as serving
+use Rattle.serving.specs.State.{Due, find}
+use Rattle.header_blocks.specs.Encoding.{Encoding}
+use Rattle.judgement.specs.Inbound.{Inbound, book_of}
+use Rattle.upstreams.specs.Kept as upstreams
+use Rattle.upstreams.specs.Connections.{Connection, number_of}
+use Rattle.policy.specs.Moves.{Move}
+use Rattle.policy.specs.State.{State, conducts, tape_of}
+use Rattle.policy.specs.Answered.{AreAnswered}
+use Rattle.policy.specs.Steps.{Stands}
+use Rattle.relay.specs.Hearing.{IsHeard}
+
+-- What is kept: of the client's frames and of its streams, of what is on offer for them, of requests and upstream connections, of the table
+-- of blocks to the client, and how many octets for the client aren't taken.
+pub record View : Type 0 where
+  pub inbound : Inbound
+  pub offers : offering.State
+  pub upstreams : upstreams.State
+  pub encoding : Encoding
+  pub untaken : ℕ
+
+-- What is to be done before anything may come in: frames that are owed, a connection or a text that is due, and octets of DATA that are
+-- to go back: those of the last frame whose effect isn't over, and then on the connection and on the last frame's stream.
+pub record Pending : Type 0 where
+  pub owed : List Frame
+  pub due : Due
+  pub fresh : ℕ
+  pub shared : ℕ
+  pub own : ℕ
+
+-- nothing is
+abbrev pub square : Pending
+square = record { owed = []; due = serving.Due.Nothing; fresh = 0; shared = 0; own = 0 }
+
+-- The octets that are to go back are these, and none wait: responses are passed on whole, so nothing waits for an upstream's side.
+pub record IsCredited (pending : Pending) (last : ℕ) (windows : receiving.Kept) : Type 0 where
+  pub fresh : windows.count ≡ pending.fresh
+  pub shared : windows.debt ≡ pending.shared
+  pub own : (windows.row last).debt ≡ pending.own
+  pub others : (id : ℕ) → (id ≡ last → ⊥) → (windows.row id).debt ≡ 0
+  pub none_wait : (id : ℕ) → (windows.row id).queue ≡ []
+
+-- The state is the one that is kept, with what is pending.
+pub record Keeps (kept : View) (pending : Pending) (s : State) : Type 0 where
+  pub book : s.desk.book ≡ book_of (record { given = s.desk.book.given; untaken = kept.untaken }) kept.inbound
+  pub owed : s.desk.queue ≡ pending.owed
+  pub offers : s.offers ≡ kept.offers
+  pub requests : s.requests ≡ upstreams.with_due kept.upstreams pending.due
+  pub decoding : s.tables.decoding ≡ kept.inbound.table
+  pub encoding : s.tables.encoding ≡ kept.encoding
+  pub read : s.tables.lost ≡ false
+  pub credited : IsCredited pending kept.inbound.last s.windows
+  pub counted : (k : ℕ) (c : Connection) → find number_of k kept.upstreams.live ≡ Some c → (s.windows.out k ≡ c.out) × (s.windows.took k ≡ c.took)
+
+-- ---- where moves led
+
+-- What moves say of upstreams' answers is so, whatever is known beside them.
+abbrev pub AreSo : Setup → List Move → Type 0
+AreSo setup run = (known : Known) → known.setup ≡ setup → AreKnown known (conducts run) → AreAnswered known run
+
+-- The answers that are kept stand for all that was heard.
+abbrev pub AreHeard : Setup → List Move → List Connection → Type 0
+AreHeard setup run live =
+    (known : Known) → known.setup ≡ setup → AreKnown known (conducts run) → (k : ℕ) (c : Connection) → find number_of k live ≡ Some c → c.live.whole ≡ false → IsHeard known (tape_of run) k c.answer
+
+-- The moves led to this state, and it is the one that is kept, with what is pending.
+pub record Leads (setup : Setup) (run : List Move) (kept : View) (pending : Pending) (s : State) : Type 0 where
+  pub stands : Stands setup run s
+  pub so : AreSo setup run
+  pub heard : AreHeard setup run kept.upstreams.live
+  pub keeps : Keeps kept pending s

@@ -8,3 +8,4 @@ pub mod Judgement
 pub mod Blocks
 pub mod Fragments
 pub mod Admission
+pub mod AnyFrame

@@ -11,6 +11,8 @@ const HEADERS: u8 = 1;
 
 const CONTINUATION: u8 = 9;
 
+const DATA: u8 = 0;
+
 /// Flags: END_STREAM, and END_HEADERS.
 const ENDS: u8 = 1;
 
@@ -47,6 +49,7 @@ const TRAILERS: [u8; 5] = [0x00, 0x01, 0x78, 0x01, 0x79];
 enum Told {
     NoSuchFrame,
     NoMemory,
+    Plain,
     Failed(Fault),
     GoesOn,
     Begins(u32),
@@ -79,6 +82,29 @@ impl Side {
         };
         connection.judge(settings, MOST);
         Ok(Side { connection, routes })
+    }
+
+    /// What comes of a frame of any type.
+    fn told_any(&mut self, kind: u8, flags: u8, id: u32, payload: &[u8]) -> Told {
+        if payload.len() > 16384 || self.routes.len() > 9 {
+            return Told::NoSuchFrame;
+        }
+        let view = View {
+            kind,
+            flags,
+            id,
+            payload,
+        };
+        let terms = Terms {
+            routes: &self.routes,
+            max_body: MOST,
+        };
+        match self.connection.judge_frame(view, terms) {
+            Ok(FrameJudged::Plain(Judged::Failed(fault))) => Told::Failed(fault),
+            Ok(FrameJudged::Plain(_)) => Told::Plain,
+            Ok(FrameJudged::OfBlock(judged)) => told_of(judged),
+            Err(_) => Told::NoMemory,
+        }
     }
 
     /// What comes of HEADERS or CONTINUATION.
@@ -116,6 +142,20 @@ fn told_of(judged: BlockJudged) -> Told {
         BlockJudged::Trailers => Told::Trailers,
         BlockJudged::Ignored => Told::Ignored,
     }
+}
+
+#[test]
+fn frames_of_any_type_are_judged(rt: HostRuntime) -> Result<(), Fail> {
+    let mut side = Side::new(rt.alloc(), b"/")?;
+    let alone = side.told_any(CONTINUATION, WHOLE, 1, &GET);
+    assert_eq!(rt; alone, Told::Failed(Fault::Connection(1)));
+    let idle = side.told_any(DATA, 0, 1, &TRAILERS);
+    assert_eq!(rt; idle, Told::Failed(Fault::Connection(1)));
+    let get = side.told_any(HEADERS, WHOLE, 1, &GET);
+    assert_eq!(rt; get, Told::Begins(0));
+    let content = side.told_any(DATA, 0, 1, &TRAILERS);
+    assert_eq!(rt; content, Told::Plain);
+    Ok(())
 }
 
 #[test]

@@ -2,6 +2,7 @@
 #![tactic(auto)]
 
 mod answers;
+mod any;
 mod blocks;
 mod bodies;
 mod codes;
@@ -13,6 +14,6 @@ mod terms;
 #[cfg(test)]
 mod tests;
 
-pub use crate::answers::{BlockJudged, Fault, Judged};
+pub use crate::answers::{BlockJudged, Fault, FrameJudged, Judged};
 pub use crate::connection::Connection;
 pub use crate::terms::Terms;

@@ -9,3 +9,4 @@ pub mod Blocks
 pub mod Fragments
 pub mod Admission
 pub mod Sending
+pub mod AnyFrame

@@ -9,6 +9,7 @@ ghost use Rattle.model.specs.Causes.{largest_fields};
 ghost use Rattle.model.specs.ErrorTable.{fault_of as fault_by};
 ghost use Rattle.conduct.specs.Rows.{find, slot_of};
 ghost use Rattle.conduct.specs.Rows.Slot.{Over};
+ghost use Rattle.conduct.specs.Tidy.{AreKept};
 ghost use Rattle.tables.specs.Answers.{IsNoteFor};
 ghost use Rattle.streams_kept.specs.Asked.{verdict};
 ghost use Rattle.streams_kept.specs.Views.{brief_of};
@@ -33,7 +34,8 @@ use streams_kept::{Course, Live, Streams};
 /// Keeps this course of a stream that is active or is opened with it, and whether its client ends it. An `Err` says that memory was refused.
 fn keep(streams: &mut Streams, id: u32, course: Course, ends: bool) -> Result<(), AllocError>
     requires wanted { IsOpenOrIdle streams.old id }
-    ensures { OnOk result (streams.new ≡ placed streams.old id (slot_of (kept_so (find streams.old id) (brief_of course) ends))) }
+    ensures is { OnOk result (streams.new ≡ placed streams.old id (slot_of (kept_so (find streams.old id) (brief_of course) ends))) }
+    ensures kept { AreKept streams.new }
 {
     if streams.find(id).is_some() {
         streams.take(id, 0, course, ends);
@@ -45,7 +47,8 @@ fn keep(streams: &mut Streams, id: u32, course: Course, ends: bool) -> Result<()
 /// Resets a stream that is active or is opened with it (RFC 9113, section 5.4.2). An `Err` says that memory was refused.
 fn reset(streams: &mut Streams, id: u32) -> Result<(), AllocError>
     requires wanted { IsOpenOrIdle streams.old id }
-    ensures { OnOk result (streams.new ≡ placed streams.old id (Over true)) }
+    ensures is { OnOk result (streams.new ≡ placed streams.old id (Over true)) }
+    ensures kept { AreKept streams.new }
 {
     if streams.find(id).is_some() {
         streams.close(id, true);
@@ -60,7 +63,9 @@ fn reset(streams: &mut Streams, id: u32) -> Result<(), AllocError>
 fn refuse(streams: &mut Streams, id: u32, fault: Fault) -> Result<BlockJudged, AllocError>
     requires is { fault_by (verdict streams.old id 1) ≡ Some (fault_told fault) }
     requires wanted { is_of_stream (Some (fault_told fault)) ≡ true → IsOpenOrIdle streams.old id }
-    ensures { IfOk result (λ answer. (setup : Setup) (fields : List Line) (ends : Bool) → Settles setup streams.old id fields ends streams.new answer) }
+    requires kept { AreKept streams.old }
+    ensures settled { IfOk result (λ answer. (setup : Setup) (fields : List Line) (ends : Bool) → Settles setup streams.old id fields ends streams.new answer) }
+    ensures kept { AreKept streams.new }
 {
     let Fault::Stream(_) = fault else {
         return Ok(BlockJudged::Failed(fault));
@@ -72,7 +77,8 @@ fn refuse(streams: &mut Streams, id: u32, fault: Fault) -> Result<BlockJudged, A
 /// Resets the stream of a block that is malformed (RFC 9113, section 8.1.1).
 fn fail(streams: &mut Streams, id: u32) -> Result<BlockJudged, AllocError>
     requires wanted { IsOpenOrIdle streams.old id }
-    ensures { IfOk result (λ answer. (setup : Setup) (fields : List Line) (ends : Bool) → fault_on streams.old id fields ends ≡ Some (StreamFault 1) → Settles setup streams.old id fields ends streams.new answer) }
+    ensures settled { IfOk result (λ answer. (setup : Setup) (fields : List Line) (ends : Bool) → fault_on streams.old id fields ends ≡ Some (StreamFault 1) → Settles setup streams.old id fields ends streams.new answer) }
+    ensures kept { AreKept streams.new }
 {
     reset(streams, id)?;
     Ok(BlockJudged::Failed(Fault::Stream(PROTOCOL_ERROR)))
@@ -115,7 +121,8 @@ fn answer(
     requires course { brief_of before.course ≡ (find streams.old id).brief }
     requires head_out { before.head_out ≡ (find streams.old id).head_out }
     requires none_yet { before.course.reply ≡ None }
-    ensures { IfOk result (λ answer. (setup : Setup) (fields : List Line) → fault_on streams.old id fields ends ≡ None → cause_of_block setup (carried_in (find streams.old id).brief) (Fields fields) ≡ Some (cause_of cause) → Settles setup streams.old id fields ends streams.new answer) }
+    ensures settled { IfOk result (λ answer. (setup : Setup) (fields : List Line) → fault_on streams.old id fields ends ≡ None → cause_of_block setup (carried_in (find streams.old id).brief) (Fields fields) ≡ Some (cause_of cause) → Settles setup streams.old id fields ends streams.new answer) }
+    ensures kept { AreKept streams.new }
 {
     let course = before.course.replied(cause, before.head_out);
     keep(streams, id, course, ends)?;
@@ -133,7 +140,8 @@ fn pass_over(
     requires wanted { IsOpenOrIdle streams.old id }
     requires course { brief_of course ≡ (find streams.old id).brief }
     requires replied { is_some course.reply ≡ true }
-    ensures { IfOk result (λ answer. (setup : Setup) (fields : List Line) → Settles setup streams.old id fields ends streams.new answer) }
+    ensures settled { IfOk result (λ answer. (setup : Setup) (fields : List Line) → Settles setup streams.old id fields ends streams.new answer) }
+    ensures kept { AreKept streams.new }
 {
     keep(streams, id, course, ends)?;
     Ok(BlockJudged::Ignored)
@@ -153,7 +161,8 @@ fn take_trailers(
     requires begun { course.begun ≡ true }
     requires none_yet { course.reply ≡ None }
     requires fits { total_size fields.now ≤ largest_fields }
-    ensures { IfOk result (λ answer. (setup : Setup) → Settles setup streams.old id fields.now ends streams.new answer) }
+    ensures settled { IfOk result (λ answer. (setup : Setup) → Settles setup streams.old id fields.now ends streams.new answer) }
+    ensures kept { AreKept streams.new }
 {
     if are_malformed_trailers(fields, ends, course.declared, u64::from(course.octets)) {
         return fail(streams, id);
@@ -178,7 +187,8 @@ fn begin(
     requires course { brief_of course ≡ (find streams.old id).brief }
     requires begun { course.begun ≡ false }
     requires none_yet { course.reply ≡ None }
-    ensures { IfOk result (λ answer. (setup : Setup) (fields : List Line) → fault_on streams.old id fields ends ≡ None → GoesOn setup fields ends head route → Settles setup streams.old id fields ends streams.new answer) }
+    ensures settled { IfOk result (λ answer. (setup : Setup) (fields : List Line) → fault_on streams.old id fields ends ≡ None → GoesOn setup fields ends head route → Settles setup streams.old id fields ends streams.new answer) }
+    ensures kept { AreKept streams.new }
 {
     let next = course.with_block(head.length(), ends);
     keep(streams, id, next, ends)?;
@@ -205,8 +215,10 @@ fn take_head(
     requires begun { before.course.begun ≡ false }
     requires none_yet { before.course.reply ≡ None }
     requires fits { total_size fields.now ≤ largest_fields }
+    requires kept { AreKept streams.old }
     requires few { length terms.routes.now ≤ u32.MAX }
-    ensures { IfOk result (λ answer. (setup : Setup) → IsFor setup terms.entry → Settles setup streams.old id fields.now ends streams.new answer) }
+    ensures settled { IfOk result (λ answer. (setup : Setup) → IsFor setup terms.entry → Settles setup streams.old id fields.now ends streams.new answer) }
+    ensures kept { AreKept streams.new }
 {
     match judge_head(alloc, terms.routes, terms.max_body, fields, ends)? {
         Opening::Malformed => fail(streams, id),
@@ -233,8 +245,10 @@ fn take_fields(
     requires head_out { before.head_out ≡ (find streams.old id).head_out }
     requires none_yet { before.course.reply ≡ None }
     requires fits { total_size fields.now ≤ largest_fields }
+    requires kept { AreKept streams.old }
     requires few { length terms.routes.now ≤ u32.MAX }
-    ensures { IfOk result (λ answer. (setup : Setup) → IsFor setup terms.entry → Settles setup streams.old id fields.now ends streams.new answer) }
+    ensures settled { IfOk result (λ answer. (setup : Setup) → IsFor setup terms.entry → Settles setup streams.old id fields.now ends streams.new answer) }
+    ensures kept { AreKept streams.new }
 {
     if before.course.begun {
         return take_trailers(streams, id, ends, before.course, fields);
@@ -255,7 +269,8 @@ pub fn settle(
     requires of_stream { (id == 0) ≡ false }
     requires fits { AreFitting decoded }
     requires few { length terms.routes.now ≤ u32.MAX }
-    ensures { IfOk result (λ answer. (setup : Setup) (fields : List Line) → IsFor setup terms.entry → IsNoteFor largest_fields decoded fields → Settles setup streams.old id fields ends streams.new answer) }
+    ensures settled { IfOk result (λ answer. (setup : Setup) (fields : List Line) → IsFor setup terms.entry → IsNoteFor largest_fields decoded fields → Settles setup streams.old id fields ends streams.new answer) }
+    ensures kept { AreKept streams.new }
 {
     if let Some(fault) = fault_of(streams.verdict(id, Kind::Headers)) {
         return refuse(streams, id, fault);

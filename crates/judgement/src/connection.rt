@@ -156,6 +156,7 @@ impl Connection {
         requires sound { (outside : Outside) → first_of (frame_rows_in (told_of outside self.old) (frame_of view)) ≡ None }
         ensures faultless { (outside : Outside) → fault_in (told_of outside self.old) (coming (frame_of view.entry)) ≡ None }
         ensures left { (setup : Setup) (outside : Outside) → book_of outside self.new ≡ behind setup (book_of outside self.old) (frame_of view.entry) }
+        ensures table { self.new.table ≡ self.old.table }
     {
         self.hear(view.id);
     }
@@ -165,7 +166,8 @@ impl Connection {
         requires settings { has_settings (frame_of view) ≡ true }
         requires entries { entries.now ≡ view.payload.now }
         requires sound { (outside : Outside) → first_of (frame_rows_in (told_of outside self.old) (frame_of view)) ≡ None }
-        ensures { (setup : Setup) (outside : Outside) → IsJudged setup (book_of outside self.old) (frame_of view.entry) (book_of outside self.new) result }
+        ensures judged { (setup : Setup) (outside : Outside) → IsJudged setup (book_of outside self.old) (frame_of view.entry) (book_of outside self.new) result }
+        ensures table { self.new.table ≡ self.old.table }
     {
         let checked = match self.settings.check(entries) {
             Ok(checked) => checked,
@@ -184,7 +186,8 @@ impl Connection {
         requires kind { frame_of view ≡ update view.flags 0 view.payload.now }
         requires counted { increment ≡ increment_of (frame_of view) }
         requires sound { (outside : Outside) → first_of (frame_rows_in (told_of outside self.old) (frame_of view)) ≡ None }
-        ensures { (setup : Setup) (outside : Outside) → IsJudged setup (book_of outside self.old) (frame_of view.entry) (book_of outside self.new) result }
+        ensures judged { (setup : Setup) (outside : Outside) → IsJudged setup (book_of outside self.old) (frame_of view.entry) (book_of outside self.new) result }
+        ensures table { self.new.table ≡ self.old.table }
     {
         if increment == 0 {
             return Judged::Failed(Fault::Connection(PROTOCOL_ERROR));
@@ -200,7 +203,8 @@ impl Connection {
     fn take_settings_or_ack<'a>(&mut self, view: View<'a>, entries: &'a [u8]) -> Judged<'a>
         requires says { Says (Entries entries) (frame_of view) }
         requires sound { (outside : Outside) → first_of (frame_rows_in (told_of outside self.old) (frame_of view)) ≡ None }
-        ensures { (setup : Setup) (outside : Outside) → IsJudged setup (book_of outside self.old) (frame_of view.entry) (book_of outside self.new) result }
+        ensures judged { (setup : Setup) (outside : Outside) → IsJudged setup (book_of outside self.old) (frame_of view.entry) (book_of outside self.new) result }
+        ensures table { self.new.table ≡ self.old.table }
     {
         if !has_settings(view) {
             self.take_quiet(view);
@@ -213,7 +217,8 @@ impl Connection {
     fn take_ping<'a>(&mut self, view: View<'a>, octets: &'a [u8]) -> Judged<'a>
         requires says { Says (Octets octets) (frame_of view) }
         requires sound { (outside : Outside) → first_of (frame_rows_in (told_of outside self.old) (frame_of view)) ≡ None }
-        ensures { (setup : Setup) (outside : Outside) → IsJudged setup (book_of outside self.old) (frame_of view.entry) (book_of outside self.new) result }
+        ensures judged { (setup : Setup) (outside : Outside) → IsJudged setup (book_of outside self.old) (frame_of view.entry) (book_of outside self.new) result }
+        ensures table { self.new.table ≡ self.old.table }
     {
         self.take_quiet(view);
         if is_ack(view) {
@@ -226,7 +231,8 @@ impl Connection {
     fn take_other<'a>(&mut self, view: View<'a>) -> Judged<'a>
         requires says { Says Unused (frame_of view) }
         requires sound { (outside : Outside) → first_of (frame_rows_in (told_of outside self.old) (frame_of view)) ≡ None }
-        ensures { (setup : Setup) (outside : Outside) → IsJudged setup (book_of outside self.old) (frame_of view.entry) (book_of outside self.new) result }
+        ensures judged { (setup : Setup) (outside : Outside) → IsJudged setup (book_of outside self.old) (frame_of view.entry) (book_of outside self.new) result }
+        ensures table { self.new.table ≡ self.old.table }
     {
         self.take_quiet(view);
         Judged::Ignored
@@ -238,7 +244,8 @@ impl Connection {
         requires is { (outside : Outside) → fault_in (told_of outside self.old) (coming (frame_of view)) ≡ Some (fault_told fault) }
         requires mild { is_of_stream (Some (fault_told fault)) ≡ false }
         requires left { is_fatal (Some (fault_told fault)) ≡ false → (setup : Setup) (outside : Outside) → behind setup (book_of outside self.old) (frame_of view) ≡ heard (book_of outside self.old) (frame_of view) }
-        ensures { (setup : Setup) (outside : Outside) → IsJudged setup (book_of outside self.old) (frame_of view.entry) (book_of outside self.new) result }
+        ensures judged { (setup : Setup) (outside : Outside) → IsJudged setup (book_of outside self.old) (frame_of view.entry) (book_of outside self.new) result }
+        ensures table { self.new.table ≡ self.old.table }
     {
         match fault {
             Fault::Discarded => {
@@ -254,7 +261,8 @@ impl Connection {
         requires kind { frame_of view ≡ reset view.flags view.id view.payload.now }
         requires of_stream { (view.id == 0) ≡ false }
         requires sound { (outside : Outside) → first_of (frame_rows_in (told_of outside self.old) (frame_of view)) ≡ None }
-        ensures { (setup : Setup) (outside : Outside) → IsJudged setup (book_of outside self.old) (frame_of view.entry) (book_of outside self.new) result }
+        ensures judged { (setup : Setup) (outside : Outside) → IsJudged setup (book_of outside self.old) (frame_of view.entry) (book_of outside self.new) result }
+        ensures table { self.new.table ≡ self.old.table }
     {
         if let Some(fault) = fault_of(self.streams.verdict(view.id, Kind::RstStream)) {
             return self.pass_over(view, fault);
@@ -270,7 +278,8 @@ impl Connection {
         requires counted { increment ≡ increment_of (frame_of view) }
         requires of_stream { (view.id == 0) ≡ false }
         requires sound { (outside : Outside) → first_of (frame_rows_in (told_of outside self.old) (frame_of view)) ≡ None }
-        ensures { (setup : Setup) (outside : Outside) → IsJudged setup (book_of outside self.old) (frame_of view.entry) (book_of outside self.new) result }
+        ensures judged { (setup : Setup) (outside : Outside) → IsJudged setup (book_of outside self.old) (frame_of view.entry) (book_of outside self.new) result }
+        ensures table { self.new.table ≡ self.old.table }
     {
         if let Some(fault) = fault_of(self.streams.verdict(view.id, Kind::WindowUpdate)) {
             return self.pass_over(view, fault);
@@ -316,7 +325,8 @@ impl Connection {
         requires sound { (outside : Outside) → first_of (frame_rows_in (told_of outside self.old) (frame_of view)) ≡ None }
         requires short { length view.payload.now ≤ 16384 }
         requires refused { IsRefused self.old (frame_of view) (fault_told fault) }
-        ensures { (setup : Setup) (outside : Outside) → IsJudged setup (book_of outside self.old) (frame_of view.entry) (book_of outside self.new) result }
+        ensures judged { (setup : Setup) (outside : Outside) → IsJudged setup (book_of outside self.old) (frame_of view.entry) (book_of outside self.new) result }
+        ensures table { self.new.table ≡ self.old.table }
     {
         match fault {
             Fault::Discarded => {
@@ -336,7 +346,8 @@ impl Connection {
         requires short { length view.payload.now ≤ 16384 }
         requires admitted { IsAdmitted self.old (frame_of view) }
         requires is { (outside : Outside) → fault_in (told_of outside self.old) (coming (frame_of view)) ≡ Some (StreamFault code) }
-        ensures { (setup : Setup) (outside : Outside) → IsJudged setup (book_of outside self.old) (frame_of view.entry) (book_of outside self.new) result }
+        ensures judged { (setup : Setup) (outside : Outside) → IsJudged setup (book_of outside self.old) (frame_of view.entry) (book_of outside self.new) result }
+        ensures table { self.new.table ≡ self.old.table }
     {
         self.room.take(view.payload.len() as u32);
         self.streams.close(view.id, true);
@@ -367,7 +378,8 @@ impl Connection {
         requires sound { (outside : Outside) → first_of (frame_rows_in (told_of outside self.old) (frame_of view)) ≡ None }
         requires short { length view.payload.now ≤ 16384 }
         requires bounded { max_body ≤ 1073741824 }
-        ensures { (setup : Setup) (outside : Outside) → setup.max_body ≡ max_body → IsJudged setup (book_of outside self.old) (frame_of view.entry) (book_of outside self.new) result }
+        ensures judged { (setup : Setup) (outside : Outside) → setup.max_body ≡ max_body → IsJudged setup (book_of outside self.old) (frame_of view.entry) (book_of outside self.new) result }
+        ensures table { self.new.table ≡ self.old.table }
     {
         if let Some(fault) = self.data_fault(view) {
             return self.discard(view, fault);
@@ -396,7 +408,8 @@ impl Connection {
         requires sound { (outside : Outside) → first_of (frame_rows_in (told_of outside self.old) (frame_of view)) ≡ None }
         requires short { length view.payload.now ≤ 16384 }
         requires bounded { max_body ≤ 1073741824 }
-        ensures { (setup : Setup) (outside : Outside) → setup.max_body ≡ max_body → IsJudged setup (book_of outside self.old) (frame_of view.entry) (book_of outside self.new) result }
+        ensures judged { (setup : Setup) (outside : Outside) → setup.max_body ≡ max_body → IsJudged setup (book_of outside self.old) (frame_of view.entry) (book_of outside self.new) result }
+        ensures table { self.new.table ≡ self.old.table }
     {
         match frame {
             Frame::Data(octets) => self.take_data(view, octets, max_body),
@@ -417,7 +430,8 @@ impl Connection {
         requires plain { IsPlain (frame_of view) }
         requires short { length view.payload.now ≤ 16384 }
         requires bounded { max_body ≤ 1073741824 }
-        ensures { (setup : Setup) (outside : Outside) → setup.max_body ≡ max_body → IsJudged setup (book_of outside self.old) (frame_of view.entry) (book_of outside self.new) result }
+        ensures judged { (setup : Setup) (outside : Outside) → setup.max_body ≡ max_body → IsJudged setup (book_of outside self.old) (frame_of view.entry) (book_of outside self.new) result }
+        ensures table { self.new.table ≡ self.old.table }
     {
         match self.parts(view) {
             Ok(frame) => self.take(view, frame, max_body),

@@ -104,10 +104,7 @@ impl Connection {
         };
         self.has_come = true;
         self.last = view.id;
-        let answer = settle(self.alloc, &mut self.streams, view.id, ends, decoded, terms);
-        // Its contract says that the rows are as they have to be.
-        let _ = self.streams.active();
-        answer
+        settle(self.alloc, &mut self.streams, view.id, ends, decoded, terms)
     }
 
     /// Takes a HEADERS that is right by itself (RFC 9113, section 6.2).

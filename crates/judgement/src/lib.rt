@@ -2,6 +2,7 @@
 #![tactic(auto)]
 
 mod answers;
+mod any;
 mod blocks;
 mod bodies;
 mod codes;
@@ -17,7 +18,7 @@ mod terms;
 #[cfg(test)]
 mod tests;
 
-pub use crate::answers::{BlockJudged, Fault, Judged};
+pub use crate::answers::{BlockJudged, Fault, FrameJudged, Judged};
 pub use crate::connection::Connection;
 pub use crate::sending_laws::{
     acts_lead, desks_follow, events_lead, increments_are_told, sent_frames_lead,

@@ -146,29 +146,26 @@ const BEGUN: Course = Course {
 };
 
 /// Opens a stream where HEADERS may, and says whether they may.
-fn open_if_idle(connection: &mut Connection, id: u32) -> Result<bool, Fail> {
+fn open_if_idle(connection: &mut Connection, id: u32) -> bool {
     open_with(connection, id, BEGUN)
 }
 
 /// The same, with a request of this course.
-fn open_with(connection: &mut Connection, id: u32, course: Course) -> Result<bool, Fail> {
+fn open_with(connection: &mut Connection, id: u32, course: Course) -> bool {
     match connection.verdict(id, Kind::Headers) {
-        Verdict::Open => {
-            connection.open(id, Live::opened(course, false))?;
-            Ok(true)
-        }
-        _ => Ok(false),
+        Verdict::Open => connection.open(id, Live::opened(course, false)).is_ok(),
+        _ => false,
     }
 }
 
 /// A connection on which settings came, and these streams were opened.
-fn opened(rt: &HostRuntime, ids: &[u32]) -> Result<Connection, Fail> {
+fn opened(rt: &HostRuntime, ids: &[u32]) -> Connection {
     let mut connection = Connection::new(rt.alloc());
     let _ = judge(&mut connection, 4, 0, 0, &NOTHING);
     for &id in ids {
-        let _ = open_if_idle(&mut connection, id)?;
+        let _ = open_if_idle(&mut connection, id);
     }
-    Ok(connection)
+    connection
 }
 
 /// The longest payload, what three leave of a window, and what two leave of the longest body.
@@ -185,7 +182,7 @@ fn is_content(judged: Judged<'_>, octets: &[u8]) -> bool {
 
 #[test]
 fn content_comes_without_padding(rt: HostRuntime) -> Result<(), Fail> {
-    let mut connection = opened(&rt, &[1])?;
+    let mut connection = opened(&rt, &[1]);
     assert!(rt; is_content(judge(&mut connection, 0, 0, 1, b"abc"), b"abc"));
     assert!(rt; is_content(judge(&mut connection, 0, 8, 1, &[2, 97, 0, 0]), b"a"));
     assert!(rt; is_content(judge(&mut connection, 0, 8, 1, &[3, 0, 0, 0]), b""));
@@ -199,7 +196,7 @@ fn content_comes_without_padding(rt: HostRuntime) -> Result<(), Fail> {
 
 #[test]
 fn content_keeps_to_the_connections_window(rt: HostRuntime) -> Result<(), Fail> {
-    let mut connection = opened(&rt, &[1, 3])?;
+    let mut connection = opened(&rt, &[1, 3]);
     for id in [1, 1, 3] {
         assert!(rt; is_content(judge(&mut connection, 0, 0, id, &WHOLE), &WHOLE));
     }
@@ -224,7 +221,7 @@ fn content_keeps_to_its_streams_window(rt: HostRuntime) -> Result<(), Fail> {
 
 #[test]
 fn content_comes_on_active_streams(rt: HostRuntime) -> Result<(), Fail> {
-    let mut connection = opened(&rt, &[3, 5])?;
+    let mut connection = opened(&rt, &[3, 5]);
     assert!(rt; ends_with(judge(&mut connection, 0, 0, 7, b"a"), 1));
     assert!(rt; ends_with(judge(&mut connection, 0, 0, 2, b"a"), 1));
     assert!(rt; ends_with(judge(&mut connection, 0, 0, 1, b"a"), 5));
@@ -241,7 +238,7 @@ fn content_comes_on_active_streams(rt: HostRuntime) -> Result<(), Fail> {
 
 #[test]
 fn discarded_octets_take_room(rt: HostRuntime) -> Result<(), Fail> {
-    let mut connection = opened(&rt, &[1])?;
+    let mut connection = opened(&rt, &[1]);
     let reset = judge(&mut connection, 8, 0, 1, &[0, 0, 0, 0]);
     assert_eq!(rt; reset, Judged::Failed(Fault::Stream(1)));
     let discarded = Judged::Failed(Fault::Discarded);
@@ -254,10 +251,10 @@ fn discarded_octets_take_room(rt: HostRuntime) -> Result<(), Fail> {
 
 #[test]
 fn bodies_have_their_declared_lengths(rt: HostRuntime) -> Result<(), Fail> {
-    let mut connection = opened(&rt, &[])?;
+    let mut connection = opened(&rt, &[]);
     for id in [1, 3, 5, 7] {
         let course = Course::new().with_block(Some(5), false);
-        assert!(rt; open_with(&mut connection, id, course)?);
+        assert!(rt; open_with(&mut connection, id, course));
     }
     let malformed = Judged::Failed(Fault::Stream(1));
     assert!(rt; is_content(judge(&mut connection, 0, 0, 1, b"abcd"), b"abcd"));
@@ -272,7 +269,7 @@ fn bodies_have_their_declared_lengths(rt: HostRuntime) -> Result<(), Fail> {
 
 #[test]
 fn bodies_keep_to_the_most(rt: HostRuntime) -> Result<(), Fail> {
-    let mut connection = opened(&rt, &[1])?;
+    let mut connection = opened(&rt, &[1]);
     for _ in 0..2 {
         assert!(rt; is_content(judge(&mut connection, 0, 0, 1, &WHOLE), &WHOLE));
     }
@@ -288,7 +285,7 @@ fn streams_are_granted_to_and_reset(rt: HostRuntime) -> Result<(), Fail> {
     let settings = judge(&mut connection, 4, 0, 0, &NOTHING);
     assert!(rt; matches!(settings, Judged::Settings(_)));
     for id in [3, 5, 9, 11] {
-        assert!(rt; open_if_idle(&mut connection, id)?);
+        assert!(rt; open_if_idle(&mut connection, id));
     }
     assert_eq!(rt;
         judge(&mut connection, 8, 0, 3, &[127, 255, 0, 0]),

@@ -8,12 +8,12 @@ use Rattle.streams_kept.specs.Views.{brief_of}
 use Rattle.judgement.proofs.Settling.{left_by, no_reply}
 use Rattle.judgement.proofs.blocks.answer.Goals as goal
 
-pub returns : goal.returns
-returns c = λ setup fields faultless cause_is.
+pub returns-clause-settled : goal.returns-clause-settled
+returns-clause-settled c = λ setup fields faultless cause_is.
     let rows : List Row = c.args.streams.now in
     record {
       faultless = faultless;
-      left = left_by setup rows c.keep.new.streams c.args.id fields c.args.ends (brief_of c.replied-course.result) (Some (cause_of c.args.cause)) c.in_ok-keep.ensures cause_is (
+      left = left_by setup rows c.keep.new.streams c.args.id fields c.args.ends (brief_of c.replied-course.result) (Some (cause_of c.args.cause)) c.in_ok-keep.ensures.is cause_is (
           c.replied-course.ensures (Block fields c.args.ends ∷ [])
           ∙ ap (λ (b : Brief). brief_behind b true (Block fields c.args.ends ∷ []) (Some (cause_of c.args.cause)) c.args.before.head_out) c.requires.course
           ∙ ap (λ out. brief_behind (find rows c.args.id).brief true (Block fields c.args.ends ∷ []) (Some (cause_of c.args.cause)) out) c.requires.head_out

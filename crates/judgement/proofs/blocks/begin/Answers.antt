@@ -23,19 +23,19 @@ left setup rows new id fields ends head route before next length same begun on l
     left_by setup rows new id fields ends (brief_of next) None new_is (cause_of_first setup (carried_in (find rows id).brief) fields None (sym (ap (λ (b : Brief). b.begun) same) ∙ begun) on.no_cause)
     (next_is fields (find rows id).head_out (λ first. sym (length_is ∙ ap (λ (h : HeadParts). h.length) on.parts)) ∙ ap (λ (b : Brief). brief_behind b false (Block fields ends ∷ []) None (find rows id).head_out) same)
 
-pub returns-then-course : goal.returns-then-course
-returns-then-course c = λ setup fields faultless on. record {
+pub returns-then-course-clause-settled : goal.returns-then-course-clause-settled
+returns-then-course-clause-settled c = λ setup fields faultless on. record {
   faultless = faultless;
-  left = left setup c.args.streams.now c.keep.new.streams c.args.id fields c.args.ends c.args.head c.args.route c.args.course c.with_block-next.result c.length.result c.requires.course c.requires.begun on c.length.ensures c.with_block-next.ensures c.in_ok-keep.ensures;
+  left = left setup c.args.streams.now c.keep.new.streams c.args.id fields c.args.ends c.args.head c.args.route c.args.course c.with_block-next.result c.length.result c.requires.course c.requires.begun on c.length.ensures c.with_block-next.ensures c.in_ok-keep.ensures.is;
   says = (
     over_is c.args.course (find c.args.streams.now c.args.id).brief true c.requires.course c.requires.none_yet c.if-course.true,
     none_joins (find c.args.streams.now c.args.id).brief.cause (cause_of_first setup (carried_in (find c.args.streams.now c.args.id).brief) fields None (sym (ap (λ (b : Brief). b.begun) c.requires.course) ∙ c.requires.begun) on.no_cause),
   );
 }
 
-pub returns : goal.returns
-returns c = λ setup fields faultless on. record {
+pub returns-clause-settled : goal.returns-clause-settled
+returns-clause-settled c = λ setup fields faultless on. record {
   faultless = faultless;
-  left = left setup c.args.streams.now c.keep.new.streams c.args.id fields c.args.ends c.args.head c.args.route c.args.course c.with_block-next.result c.length.result c.requires.course c.requires.begun on c.length.ensures c.with_block-next.ensures c.in_ok-keep.ensures;
+  left = left setup c.args.streams.now c.keep.new.streams c.args.id fields c.args.ends c.args.head c.args.route c.args.course c.with_block-next.result c.length.result c.requires.course c.requires.begun on c.length.ensures c.with_block-next.ensures c.in_ok-keep.ensures.is;
   says = (sym (ap (λ (b : Brief). b.begun) c.requires.course) ∙ c.requires.begun, over_is c.args.course (find c.args.streams.now c.args.id).brief false c.requires.course c.requires.none_yet c.if-course.false, on);
 }

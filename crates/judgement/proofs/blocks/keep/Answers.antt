@@ -9,16 +9,16 @@ use Rattle.judgement.proofs.BlockRows.{placed_active, placed_idle, idle_of, noth
 use Rattle.judgement.proofs.Kept.{active_found, none_found, on_ok}
 use Rattle.judgement.proofs.blocks.keep.Goals as goal
 
-pub returns-then-is_some : goal.returns-then-is_some
-returns-then-is_some c =
+pub returns-then-is_some-clause-is : goal.returns-then-is_some-clause-is
+returns-then-is_some-clause-is c =
     let rows : List Row = c.args.streams.now in
     let active : is_active rows c.args.id ≡ true = active_found _ rows c.args.id c.find.result (sym c.is_some.ensures ∙ c.if-is_some.true) c.find.ensures.live in
     c.take.ensures.is
     ∙ ap (λ (k : Kept). changed c.args.id (slot_of k) rows) (taken_none (brief_of c.args.course) c.args.ends (find rows c.args.id))
     ∙ sym (placed_active rows c.args.id (slot_of (kept_so (find rows c.args.id) (brief_of c.args.course) c.args.ends)) active)
 
-pub returns : goal.returns
-returns c =
+pub returns-clause-is : goal.returns-clause-is
+returns-clause-is c =
     let rows : List Row = c.args.streams.now in
     let may = idle_of rows c.args.id c.requires.wanted (none_found rows c.args.id c.find.result (sym c.is_some.ensures ∙ c.if-is_some.false) c.find.ensures.none) in
     let slot : Active c.opened.result ≡ slot_of (kept_so (find rows c.args.id) (brief_of c.args.course) c.args.ends) =

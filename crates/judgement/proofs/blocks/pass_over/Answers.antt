@@ -10,15 +10,15 @@ use Rattle.conduct.specs.Summary.{carried_in}
 use Rattle.judgement.proofs.Settling.{left_by, reply_so, malformed_by, replied_is_well, over_same, cause_stays}
 use Rattle.judgement.proofs.blocks.pass_over.Goals as goal
 
-pub returns : goal.returns
-returns c = λ setup fields.
+pub returns-clause-settled : goal.returns-clause-settled
+returns-clause-settled c = λ setup fields.
     let rows : List Row = c.args.streams.now in
     let brief : Brief = (find rows c.args.id).brief in
     let cause = cause_of_block setup (carried_in brief) (Fields fields) in
     let replied = reply_so c.args.course brief c.requires.course c.requires.replied in
     record {
       faultless = malformed_by rows c.args.id fields c.args.ends brief false c.requires.passes refl (replied_is_well brief fields c.args.ends replied.0);
-      left = left_by setup rows c.keep.new.streams c.args.id fields c.args.ends (brief_of c.args.course) cause c.in_ok-keep.ensures refl (
+      left = left_by setup rows c.keep.new.streams c.args.id fields c.args.ends (brief_of c.args.course) cause c.in_ok-keep.ensures.is refl (
           c.requires.course ∙ sym (over_same brief (is_some cause) (Block fields c.args.ends ∷ []) cause (find rows c.args.id).head_out replied.1 replied.0)
           );
       says = (replied.1, cause_stays brief.cause cause replied.0);

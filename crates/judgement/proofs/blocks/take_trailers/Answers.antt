@@ -38,31 +38,31 @@ left setup rows new id fields ends before next same begun fits next_is new_is =
     left_by setup rows new id fields ends (brief_of next) None new_is (cause_of_trailers setup (carried_in (find rows id).brief) fields (sym (ap (λ (b : Brief). b.begun) same) ∙ begun) (fits_is_small fields fits))
     (next_is fields (find rows id).head_out (λ first. absurd (let no : true ≡ false = sym begun ∙ first in cc)) ∙ ap (λ (b : Brief). brief_behind b false (Block fields ends ∷ []) None (find rows id).head_out) same)
 
-pub returns-then-are_malformed_trailers : goal.returns-then-are_malformed_trailers
-returns-then-are_malformed_trailers c = if_ok c.fail.result c.fail.ensures (λ answer settles setup.
+pub returns-then-are_malformed_trailers-clause-settled : goal.returns-then-are_malformed_trailers-clause-settled
+returns-then-are_malformed_trailers-clause-settled c = if_ok c.fail.result c.fail.ensures.settled (λ answer settles setup.
     settles setup c.args.fields.now c.args.ends (
     found c.args.streams.now c.args.id c.args.fields.now c.args.ends c.args.course c.from.result c.are_malformed_trailers.result c.requires.passes c.requires.course c.requires.begun c.requires.none_yet c.from.ensures c.are_malformed_trailers.ensures
     ∙ ap (λ x. fault_if x (Stream 1)) c.if-are_malformed_trailers.true
     ))
 
-pub returns-then-course : goal.returns-then-course
-returns-then-course c = λ setup. record {
+pub returns-then-course-clause-settled : goal.returns-then-course-clause-settled
+returns-then-course-clause-settled c = λ setup. record {
   faultless =
       found c.args.streams.now c.args.id c.args.fields.now c.args.ends c.args.course c.from.result c.are_malformed_trailers.result c.requires.passes c.requires.course c.requires.begun c.requires.none_yet c.from.ensures c.are_malformed_trailers.ensures
       ∙ ap (λ x. fault_if x (Stream 1)) c.if-are_malformed_trailers.false;
-  left = left setup c.args.streams.now c.keep.new.streams c.args.id c.args.fields.now c.args.ends c.args.course c.with_block.result c.requires.course c.requires.begun c.requires.fits c.with_block.ensures c.in_ok-keep.ensures;
+  left = left setup c.args.streams.now c.keep.new.streams c.args.id c.args.fields.now c.args.ends c.args.course c.with_block.result c.requires.course c.requires.begun c.requires.fits c.with_block.ensures c.in_ok-keep.ensures.is;
   says = (
     over_is c.args.course (find c.args.streams.now c.args.id).brief true c.requires.course c.requires.none_yet c.if-course.true,
     none_joins (find c.args.streams.now c.args.id).brief.cause (cause_of_trailers setup (carried_in (find c.args.streams.now c.args.id).brief) c.args.fields.now (sym (ap (λ (b : Brief). b.begun) c.requires.course) ∙ c.requires.begun) (fits_is_small c.args.fields.now c.requires.fits)),
   );
 }
 
-pub returns : goal.returns
-returns c = λ setup. record {
+pub returns-clause-settled : goal.returns-clause-settled
+returns-clause-settled c = λ setup. record {
   faultless =
       found c.args.streams.now c.args.id c.args.fields.now c.args.ends c.args.course c.from.result c.are_malformed_trailers.result c.requires.passes c.requires.course c.requires.begun c.requires.none_yet c.from.ensures c.are_malformed_trailers.ensures
       ∙ ap (λ x. fault_if x (Stream 1)) c.if-are_malformed_trailers.false;
-  left = left setup c.args.streams.now c.keep.new.streams c.args.id c.args.fields.now c.args.ends c.args.course c.with_block.result c.requires.course c.requires.begun c.requires.fits c.with_block.ensures c.in_ok-keep.ensures;
+  left = left setup c.args.streams.now c.keep.new.streams c.args.id c.args.fields.now c.args.ends c.args.course c.with_block.result c.requires.course c.requires.begun c.requires.fits c.with_block.ensures c.in_ok-keep.ensures.is;
   says = (
     sym (ap (λ (b : Brief). b.begun) c.requires.course) ∙ c.requires.begun,
     over_is c.args.course (find c.args.streams.now c.args.id).brief false c.requires.course c.requires.none_yet c.if-course.false,

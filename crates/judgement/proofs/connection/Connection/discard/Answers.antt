@@ -18,8 +18,8 @@ hear-requires c =
     let sound : IsSound (the_view c.self.inside) (frame_of c.args.view) = subst (λ (x : Inbound). IsSound x (frame_of c.args.view)) (sym c.self.view_is) c.requires.sound in
     no_block_of (the_view c.self.inside) (frame_of c.args.view) (subst (λ (f : Frame). IsPlain f) (sym c.requires.kind) (record { no_headers = refl; no_continuation = refl })) sound
 
-pub returns-in-Discarded : goal.returns-in-Discarded
-returns-in-Discarded c = λ setup outside.
+pub returns-in-Discarded-clause-judged : goal.returns-in-Discarded-clause-judged
+returns-in-Discarded-clause-judged c = λ setup outside.
     let i : Inbound = the_view c.self.inside in
     let frame : Frame = data_frame c.args.view.flags c.args.view.id c.args.view.payload.now in
     let sound : IsSound i frame = moved_back IsSound i c.args.self.now frame (frame_of c.args.view) c.self.view_is c.requires.kind c.requires.sound in

@@ -5,8 +5,8 @@ use Rattle.model.specs.Errors.Fault.{Connection as Fatal}
 use Rattle.judgement.proofs.Rows.{fault_of_frame}
 use Rattle.judgement.proofs.connection.Connection.judge.Goals as goal
 
-pub returns-in-Err : goal.returns-in-Err
-returns-in-Err c = λ setup outside bound. record {
+pub returns-in-Err-clause-judged : goal.returns-in-Err-clause-judged
+returns-in-Err-clause-judged c = λ setup outside bound. record {
   is = fault_of_frame (told_of outside c.args.self.now) (frame_of c.args.view) (Fatal c.in-Err.code) (c.in-Err.ensures.refused outside);
   left = refl;
 }

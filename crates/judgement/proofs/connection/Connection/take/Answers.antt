@@ -15,20 +15,20 @@ take_data-requires-clause-of_stream c =
     let says = subst (λ (f : Frame). Says f (frame_of c.args.view)) c.in-Data.is c.requires.says in
     data_of_stream c.args.self.now (frame_of c.args.view) says.0 c.requires.sound
 
-pub returns-in-Settings : goal.returns-in-Settings
-returns-in-Settings c = λ setup outside bound. c.take_settings_or_ack.ensures setup outside
+pub returns-in-Settings-clause-judged : goal.returns-in-Settings-clause-judged
+returns-in-Settings-clause-judged c = λ setup outside bound. c.take_settings_or_ack.ensures.judged setup outside
 
-pub returns-in-Ping : goal.returns-in-Ping
-returns-in-Ping c = λ setup outside bound. c.take_ping.ensures setup outside
+pub returns-in-Ping-clause-judged : goal.returns-in-Ping-clause-judged
+returns-in-Ping-clause-judged c = λ setup outside bound. c.take_ping.ensures.judged setup outside
 
-pub returns-in-WindowUpdate : goal.returns-in-WindowUpdate
-returns-in-WindowUpdate c = λ setup outside bound. c.take_update.ensures setup outside
+pub returns-in-WindowUpdate-clause-judged : goal.returns-in-WindowUpdate-clause-judged
+returns-in-WindowUpdate-clause-judged c = λ setup outside bound. c.take_update.ensures.judged setup outside
 
-pub returns-in-WindowUpdate-2 : goal.returns-in-WindowUpdate-2
-returns-in-WindowUpdate-2 c = λ setup outside bound. c.take_stream_update.ensures setup outside
+pub returns-in-WindowUpdate-2-clause-judged : goal.returns-in-WindowUpdate-2-clause-judged
+returns-in-WindowUpdate-2-clause-judged c = λ setup outside bound. c.take_stream_update.ensures.judged setup outside
 
-pub returns-in-RstStream : goal.returns-in-RstStream
-returns-in-RstStream c = λ setup outside bound. c.take_reset.ensures setup outside
+pub returns-in-RstStream-clause-judged : goal.returns-in-RstStream-clause-judged
+returns-in-RstStream-clause-judged c = λ setup outside bound. c.take_reset.ensures.judged setup outside
 
-pub returns-in-Other : goal.returns-in-Other
-returns-in-Other c = λ setup outside bound. c.take_other.ensures setup outside
+pub returns-in-Other-clause-judged : goal.returns-in-Other-clause-judged
+returns-in-Other-clause-judged c = λ setup outside bound. c.take_other.ensures.judged setup outside

@@ -20,12 +20,12 @@ returns-in_default c = λ setup outside before block for by ends octets.
     )
 
 pub returns : goal.returns
-returns c = if_ok c.settle-answer.result c.settle-answer.ensures (λ answer settles setup outside before block for by ends octets.
+returns c = if_ok c.settle.result c.settle.ensures.settled (λ answer settles setup outside before block for by ends octets.
     let read = some_so _ c.in_ok-decoded.field-0 c.in-Some.decoded c.in-Some.is c.in_ok-decoded.ensures.read in
     let same : c.self.inside.streams ≡ before.rows = ap (λ (o : Inbound). o.rows) (c.self.view_is ∙ c.in_ok-decoded.ensures.rest ∙ ap (λ (o : Inbound). record o { table = c.read.new.self.table }) by.same) in
     let next : Table = c.read.new.self.table in
     let noted : IsNoted (Some block) false before.table (Fields read.fields) next = subst (λ (t : Table). IsNoted (Some block) false t (Fields read.fields) next) (ap (λ (o : Inbound). o.table) by.same) (read.is_noted block octets) in
-    let settled : Settles setup before.rows c.args.view.id read.fields block.ends c.settle-answer.new.streams answer =
-    subst (λ (rows : List Row). Settles setup rows c.args.view.id read.fields block.ends c.settle-answer.new.streams answer) same (subst (λ (e : Bool). Settles setup c.self.inside.streams c.args.view.id read.fields e c.settle-answer.new.streams answer) (sym ends) (settles setup read.fields for read.of_answer)) in
-    subst (λ (o : Inbound). IsFragmentJudged setup outside before (frame_of c.args.view) (record o { has_come = true; last = c.args.view.id; rows = c.settle-answer.new.streams }) answer) (sym (c.self.view_is ∙ c.in_ok-decoded.ensures.rest))
-    (block_judged setup outside before c.args.self.now (frame_of c.args.view) block by c.requires.of_stream (subst AreKept same c.self.invariant.kept) read.fields next c.settle-answer.new.streams answer noted settled))
+    let settled : Settles setup before.rows c.args.view.id read.fields block.ends c.settle.new.streams answer =
+    subst (λ (rows : List Row). Settles setup rows c.args.view.id read.fields block.ends c.settle.new.streams answer) same (subst (λ (e : Bool). Settles setup c.self.inside.streams c.args.view.id read.fields e c.settle.new.streams answer) (sym ends) (settles setup read.fields for read.of_answer)) in
+    subst (λ (o : Inbound). IsFragmentJudged setup outside before (frame_of c.args.view) (record o { has_come = true; last = c.args.view.id; rows = c.settle.new.streams }) answer) (sym (c.self.view_is ∙ c.in_ok-decoded.ensures.rest))
+    (block_judged setup outside before c.args.self.now (frame_of c.args.view) block by c.requires.of_stream (subst AreKept same c.self.invariant.kept) read.fields next c.settle.new.streams answer noted settled))

@@ -20,8 +20,8 @@ use Rattle.judgement.proofs.Answering.{IsSound, no_block_of}
 use Rattle.judgement.proofs.Contents.{by_code, content_left, new_cause, no_new_cause}
 use Rattle.judgement.proofs.connection.Connection.take_data.Goals as goal
 
-pub returns-in-Some : goal.returns-in-Some
-returns-in-Some c = λ setup outside bound. c.discard.ensures setup outside
+pub returns-in-Some-clause-judged : goal.returns-in-Some-clause-judged
+returns-in-Some-clause-judged c = λ setup outside bound. c.discard.ensures.judged setup outside
 
 pub refuse-requires-clause-is : goal.refuse-requires-clause-is
 refuse-requires-clause-is c = λ outside.
@@ -36,15 +36,15 @@ refuse-requires-clause-is c = λ outside.
     by_code i c.args.view.flags c.args.view.id c.args.view.payload.now c.requires.of_stream sound admitted c.in-Some-find.live.now found c.ends_stream-ends.result ends c.body_code-code.result (c.body_code-code.ensures (content frame) (ap length (sym octets))) in
     subst (λ (f : Frame). fault_in (told_of outside i) (coming f) ≡ Some (Stream c.in-Some-code.code)) (sym c.requires.kind) (fault outside ∙ ap (option_map Stream) c.in-Some-code.is)
 
-pub returns-in-Some-code : goal.returns-in-Some-code
-returns-in-Some-code c = λ setup outside bound. c.refuse.ensures setup outside
+pub returns-in-Some-code-clause-judged : goal.returns-in-Some-code-clause-judged
+returns-in-Some-code-clause-judged c = λ setup outside bound. c.refuse.ensures.judged setup outside
 
 pub hear_content-requires-clause-none_begun : goal.hear_content-requires-clause-none_begun
 hear_content-requires-clause-none_begun c =
     no_block_of c.args.self.now (frame_of c.args.view) (subst (λ (f : Frame). IsPlain f) (sym c.requires.kind) (record { no_headers = refl; no_continuation = refl })) c.requires.sound
 
-pub returns-then-is_replied_now : goal.returns-then-is_replied_now
-returns-then-is_replied_now c = λ setup outside bound.
+pub returns-then-is_replied_now-clause-judged : goal.returns-then-is_replied_now-clause-judged
+returns-then-is_replied_now-clause-judged c = λ setup outside bound.
     let i : Inbound = c.args.self.now in
     let frame : Frame = data_frame c.args.view.flags c.args.view.id c.args.view.payload.now in
     let sound : IsSound i frame = subst (λ (f : Frame). IsSound i f) c.requires.kind c.requires.sound in
@@ -75,8 +75,8 @@ returns-then-is_replied_now c = λ setup outside bound.
       says = (refl, replied.0, replied.1);
     })
 
-pub returns : goal.returns
-returns c = λ setup outside bound.
+pub returns-clause-judged : goal.returns-clause-judged
+returns-clause-judged c = λ setup outside bound.
     let i : Inbound = c.args.self.now in
     let frame : Frame = data_frame c.args.view.flags c.args.view.id c.args.view.payload.now in
     let sound : IsSound i frame = subst (λ (f : Frame). IsSound i f) c.requires.kind c.requires.sound in

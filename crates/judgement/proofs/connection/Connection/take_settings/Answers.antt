@@ -10,16 +10,16 @@ use Rattle.judgement.proofs.Controls.{settings_control, control_plain, settings_
 use Rattle.judgement.proofs.Answering.{IsSound, no_block_of}
 use Rattle.judgement.proofs.connection.Connection.take_settings.Goals as goal
 
-pub returns-in-Err : goal.returns-in-Err
-returns-in-Err c = λ setup outside. record {
+pub returns-in-Err-clause-judged : goal.returns-in-Err-clause-judged
+returns-in-Err-clause-judged c = λ setup outside. record {
   is =
       settings_wrong setup (book_of outside c.args.self.now) (frame_of c.args.view) c.requires.settings (c.requires.sound outside) (fault_of c.in-Err.fault) (ap settings_fault (sym c.requires.entries) ∙ c.in-Err.ensures.refused)
       ∙ ap (λ (n : ℕ). Some (Fatal n)) (sym c.setting_code.ensures);
   left = refl;
 }
 
-pub returns-then-shifts_past : goal.returns-then-shifts_past
-returns-then-shifts_past c = λ setup outside.
+pub returns-then-shifts_past-clause-judged : goal.returns-then-shifts_past-clause-judged
+returns-then-shifts_past-clause-judged c = λ setup outside.
     let i : Inbound = the_view c.self.inside in
     let first = c.in-Ok.ensures.ok.initial_window ∙ ap (λ (xs : List ℕ). initial_window_after c.self.inside.settings (settings_in xs)) c.requires.entries in
     let sound : IsSound i (frame_of c.args.view) = subst (λ (x : Inbound). IsSound x (frame_of c.args.view)) (sym c.self.view_is) c.requires.sound in
@@ -33,8 +33,8 @@ hear-requires c =
     let sound : IsSound (the_view c.self.inside) (frame_of c.args.view) = subst (λ (x : Inbound). IsSound x (frame_of c.args.view)) (sym c.self.view_is) c.requires.sound in
     no_block_of (the_view c.self.inside) (frame_of c.args.view) (control_plain (frame_of c.args.view) (settings_control (frame_of c.args.view) c.requires.settings)) sound
 
-pub returns : goal.returns
-returns c = λ setup outside.
+pub returns-clause-judged : goal.returns-clause-judged
+returns-clause-judged c = λ setup outside.
     let i : Inbound = the_view c.self.inside in
     let first = c.in-Ok.ensures.ok.initial_window ∙ ap (λ (xs : List ℕ). initial_window_after c.self.inside.settings (settings_in xs)) c.requires.entries in
     let sound : IsSound i (frame_of c.args.view) = subst (λ (x : Inbound). IsSound x (frame_of c.args.view)) (sym c.self.view_is) c.requires.sound in

@@ -78,8 +78,8 @@ hear-requires-2 c =
     let sound : IsSound (the_view c.self.inside) (frame_of c.args.view) = subst (λ (x : Inbound). IsSound x (frame_of c.args.view)) (sym c.self.view_is) c.requires.sound in
     no_block_of (the_view c.self.inside) (frame_of c.args.view) (subst (λ (f : Frame). IsPlain f) (sym c.requires.kind) (record { no_headers = refl; no_continuation = refl })) sound
 
-pub returns-in-Some-update_code : goal.returns-in-Some-update_code
-returns-in-Some-update_code c = λ setup outside.
+pub returns-in-Some-update_code-clause-judged : goal.returns-in-Some-update_code-clause-judged
+returns-in-Some-update_code-clause-judged c = λ setup outside.
     let i : Inbound = the_view c.self.inside in
     let frame : Frame = update c.args.view.flags c.args.view.id c.args.view.payload.now in
     let sound : IsSound i frame = subst (λ (f : Frame). IsSound i f) c.requires.kind (subst (λ (x : Inbound). IsSound x (frame_of c.args.view)) (sym c.self.view_is) c.requires.sound) in
@@ -100,8 +100,8 @@ returns-in-Some-update_code c = λ setup outside.
       left = new;
     })
 
-pub returns : goal.returns
-returns c = λ setup outside.
+pub returns-clause-judged : goal.returns-clause-judged
+returns-clause-judged c = λ setup outside.
     let i : Inbound = the_view c.self.inside in
     let frame : Frame = update c.args.view.flags c.args.view.id c.args.view.payload.now in
     let sound : IsSound i frame = subst (λ (f : Frame). IsSound i f) c.requires.kind (subst (λ (x : Inbound). IsSound x (frame_of c.args.view)) (sym c.self.view_is) c.requires.sound) in

@@ -12,8 +12,8 @@ use Rattle.judgement.proofs.Controls.{nothing_granted, granted_past, update_faul
 use Rattle.judgement.proofs.Answering.{IsSound, no_block_of, past_is, not_past_is}
 use Rattle.judgement.proofs.connection.Connection.take_update.Goals as goal
 
-pub returns-then-increment-eq0 : goal.returns-then-increment-eq0
-returns-then-increment-eq0 c = λ setup outside.
+pub returns-then-increment-eq0-clause-judged : goal.returns-then-increment-eq0-clause-judged
+returns-then-increment-eq0-clause-judged c = λ setup outside.
     let frame : Frame = update c.args.view.flags 0 c.args.view.payload.now in
     let sound : IsSound c.args.self.now frame = subst (λ (f : Frame). IsSound c.args.self.now f) c.requires.kind c.requires.sound in
     let none : increment frame ≡ 0 = sym (ap increment c.requires.kind) ∙ sym c.requires.counted ∙ c.if-increment-eq0.true in
@@ -22,8 +22,8 @@ returns-then-increment-eq0 c = λ setup outside.
       left = refl;
     })
 
-pub returns-in_default : goal.returns-in_default
-returns-in_default c = λ setup outside.
+pub returns-in_default-clause-judged : goal.returns-in_default-clause-judged
+returns-in_default-clause-judged c = λ setup outside.
     let i : Inbound = the_view c.self.inside in
     let frame : Frame = update c.args.view.flags 0 c.args.view.payload.now in
     let sound : IsSound i frame = subst (λ (f : Frame). IsSound i f) c.requires.kind (subst (λ (x : Inbound). IsSound x (frame_of c.args.view)) (sym c.self.view_is) c.requires.sound) in
@@ -40,8 +40,8 @@ hear-requires c =
     let sound : IsSound (the_view c.self.inside) (frame_of c.args.view) = subst (λ (x : Inbound). IsSound x (frame_of c.args.view)) (sym c.self.view_is) c.requires.sound in
     no_block_of (the_view c.self.inside) (frame_of c.args.view) (subst (λ (f : Frame). IsPlain f) (sym c.requires.kind) (record { no_headers = refl; no_continuation = refl })) sound
 
-pub returns : goal.returns
-returns c = λ setup outside.
+pub returns-clause-judged : goal.returns-clause-judged
+returns-clause-judged c = λ setup outside.
     let i : Inbound = the_view c.self.inside in
     let frame : Frame = update c.args.view.flags 0 c.args.view.payload.now in
     let sound : IsSound i frame = subst (λ (f : Frame). IsSound i f) c.requires.kind (subst (λ (x : Inbound). IsSound x (frame_of c.args.view)) (sym c.self.view_is) c.requires.sound) in

@@ -1,0 +1,5 @@
+pub mod Rising
+pub mod Finding
+pub mod Readying
+pub mod Balances
+pub mod Heads

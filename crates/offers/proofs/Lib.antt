@@ -3,3 +3,4 @@ pub mod Finding
 pub mod Readying
 pub mod Balances
 pub mod Heads
+pub mod Changing

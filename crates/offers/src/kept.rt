@@ -87,6 +87,7 @@ impl Kept {
     pub fn answer(&mut self, alloc: Global, cause: Cause) -> Result<(), AllocError>
         ensures ok { OnOk result (self.new ≡ answered (cause_of cause) self.old) }
         ensures err { OnErr result (self.new ≡ self.old) }
+        ensures id { self.new.id ≡ self.old.id }
     {
         if self.outbox.is_begun() {
             self.cut = true;

@@ -5,6 +5,8 @@ mod kept;
 mod offers;
 mod places;
 mod reply;
+#[cfg(test)]
+mod tests;
 mod turns;
 
 pub use crate::offers::Offers;

@@ -9,7 +9,7 @@ ghost use Rattle.offers.specs.Asked.{is_kept, is_cut, is_above_all, is_head, are
 ghost use Rattle.offers.specs.Changes.{IsHeardFor, IsEndedFor, IsHeadGone, AreOctetsGone};
 
 use crate::kept::Kept;
-use crate::places::place_of;
+use crate::places::{place_of, remove_at};
 use crate::turns::next_of;
 use answers::{Answer, Ended, Heard};
 use causes::Cause;
@@ -67,7 +67,7 @@ impl Offers {
         ensures { self.new ≡ record self.old { kept = without id self.old.kept } }
     {
         if let Some(place) = place_of(&self.kept, id) {
-            let _over = self.kept.remove(place);
+            remove_at(&mut self.kept, place);
         }
     }
 
@@ -117,9 +117,10 @@ impl Offers {
     }
 
     /// The part of a stream's response that goes next, where so many octets of its body may; it has the end where nothing is held behind
-    /// it. There is none where nothing can go, or the stream isn't active.
+    /// it. There is none where nothing can go, or the stream isn't active. Where it is a head, `take_head` may be called.
     pub fn part(&self, id: u32, most: usize) -> Option<Part<'_>>
-        ensures { option_map part_in result ≡ part_for most id self.now.kept }
+        ensures is { option_map part_in result ≡ part_for most id self.now.kept }
+        ensures head { is_head (option_map part_in result) ≡ is_head (part_for 1 id self.now.kept) }
     {
         let Some(place) = place_of(&self.kept, id) else {
             return None;

@@ -1,6 +1,6 @@
 //! Streams that are kept, found by their ids.
 
-ghost use Rattle.std.specs.Prelude.{◌≡◌, None, IfSome, IfNone};
+ghost use Rattle.std.specs.Prelude.{◌≡◌, ◌<◌, None, length, remove, IfSome, IfNone};
 ghost use Rattle.offering.specs.State.{find};
 ghost use Rattle.offers.specs.Places.{AreRising, IsAt, IsSplit};
 
@@ -21,4 +21,12 @@ pub fn count_upto(kept: &[Kept], last: u32) -> usize
     ensures { IsSplit kept.now last result }
 {
     kept.partition_point(|stream| stream.id() <= last)
+}
+
+/// Takes out the stream at a place.
+pub fn remove_at(kept: &mut Vec<Kept>, place: usize)
+    requires { place < length kept.old.items }
+    ensures { kept.new.items ≡ remove kept.old.items place }
+{
+    let _over = kept.remove(place);
 }

@@ -26,7 +26,7 @@ impl Model for ResponseHead {
 
 impl ResponseHead {
     /// The head of this status and these fields.
-    pub(crate) fn new(status: u16, fields: Vec<Field>) -> Self
+    pub fn new(status: u16, fields: Vec<Field>) -> Self
         ensures status { result.status ≡ status }
         ensures fields { result.fields ≡ fields.items }
     {

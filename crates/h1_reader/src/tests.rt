@@ -1,4 +1,5 @@
 use super::*;
+use hpack_table::Field;
 use std::alloc::Global;
 use std::process::Abort;
 use std::test::*;
@@ -171,6 +172,18 @@ fn fields_are_taken_out(rt: HostRuntime) -> Result<(), Fail> {
     assert_eq!(rt; fields.len(), 1);
     assert_eq!(rt; fields[0].name(), b"a".as_slice());
     assert_eq!(rt; fields[0].value(), b"b".as_slice());
+    Ok(())
+}
+
+/// A head is made of a status and fields.
+#[test]
+fn heads_are_made(rt: HostRuntime) -> Result<(), Fail> {
+    let alloc = rt.alloc();
+    let mut fields = Vec::new(alloc);
+    fields.push(Field::of(alloc, b"content-length", b"0")?)?;
+    let head = ResponseHead::new(404, fields);
+    assert_eq!(rt; head.status(), 404);
+    assert_eq!(rt; head.fields().len(), 1);
     Ok(())
 }
 

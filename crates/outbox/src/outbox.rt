@@ -1,6 +1,6 @@
 //! The outbox of a stream.
 
-ghost use Rattle.std.specs.Prelude.{◌≡◌, ◌<◌, ◌≤◌, ◌&&◌, [], ◌∷◌, ◌++◌, true, false, None, Some, option_map, length, drop, MatchOption, OnOk, OnErr};
+ghost use Rattle.std.specs.Prelude.{◌≡◌, ◌<◌, ◌≤◌, ◌&&◌, [], ◌∷◌, ◌++◌, true, false, None, Some, option_map, length, drop, MatchOption, IfNone, OnOk, OnErr};
 ghost use Rattle.model.specs.Octets.{is_empty};
 ghost use Rattle.model.specs.ResponseHeads.{Head};
 ghost use Rattle.offering.specs.Outbox.{silent, grown, can_go, part_of, left, rest_of};
@@ -183,7 +183,8 @@ impl Outbox {
 
     /// Takes the head that goes next, and leaves what is behind it. There is none where octets are next, or nothing is.
     pub fn take_head(&mut self) -> Option<ResponseHead>
-        ensures { MatchOption result (self.new ≡ self.old) (λ head. (part : rule.Part) × (part_of 1 self.old ≡ Some part) × IsHead head part × (self.new ≡ left self.old part)) }
+        ensures head { MatchOption result (self.new ≡ self.old) (λ head. (part : rule.Part) × (part_of 1 self.old ≡ Some part) × IsHead head part × (self.new ≡ left self.old part)) }
+        ensures none { IfNone result ((part : rule.Part) → part_of 1 self.old ≡ Some part → AreOctets part) }
     {
         match mem::replace(&mut self.place, Place::Over) {
             Place::Before(mut interims, head, body, whole) => {

@@ -4,14 +4,14 @@ use Rattle.outbox.specs.Views.{outbox_in}
 use Rattle.outbox.proofs.Sent as laws
 use Rattle.outbox.proofs.outbox.Outbox.take_head.Goals as goal
 
-pub returns-in-Some : goal.returns-in-Some
-returns-in-Some c =
+pub returns-in-Some-clause-head : goal.returns-in-Some-clause-head
+returns-in-Some-clause-head c =
     let old : c.args.self.now ≡ Before c.in-Before.interims.items c.in-Before.head c.in-Before.body.items c.in-Before.whole = search rules in
     let front : c.in-Before.interims.items ≡ c.in-Some.first ∷ c.pop_front.new.self.items = search rules in
     laws.took_early c.args.self.now c.in-Before.interims.items c.pop_front.new.self.items c.in-Some.first c.in-Before.head c.in-Before.body.items c.in-Before.whole old front
 
-pub returns-in-Some-head : goal.returns-in-Some-head
-returns-in-Some-head c =
+pub returns-in-Some-head-clause-head : goal.returns-in-Some-head-clause-head
+returns-in-Some-head-clause-head c =
     let old : c.args.self.now ≡ Before c.in-Before.interims.items (Some c.in-Some-head.head) c.in-Before.body.items c.in-Before.whole = search rules in
     let none : c.in-Before.interims.items ≡ [] = search rules in
     laws.took_final c.args.self.now c.in-Before.interims.items c.in-Some-head.head c.in-Before.body.items c.in-Before.whole (outbox_in c.behind.result) old none c.behind.ensures.is

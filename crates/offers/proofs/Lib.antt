@@ -1,0 +1,6 @@
+pub mod Rising
+pub mod Finding
+pub mod Readying
+pub mod Balances
+pub mod Heads
+pub mod Changing

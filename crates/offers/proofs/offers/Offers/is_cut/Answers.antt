@@ -1,0 +1,14 @@
+use Rattle.std.proofs.Common.{sym, ap, ◌∙◌}
+use Rattle.offering.specs.State.{State}
+use Rattle.offers.specs.Places.{IsAt}
+use Rattle.offers.specs.Asked.{is_cut, is_cut_if}
+use Rattle.offers.proofs.Changing.{stream_found}
+use Rattle.offers.proofs.offers.Offers.is_cut.Goals as goal
+
+pub returns-in-Some : goal.returns-in-Some
+returns-in-Some c =
+    let s : State = record { kept = c.self.inside.kept.items; last = c.self.inside.last } in
+    let is : IsAt s.kept c.args.id c.in-Some.place = rw (← c.deref.ensures.value) c.in-Some.ensures.found in
+    c.is_cut.ensures
+    ∙ sym (ap is_cut_if (stream_found s c.args.id c.in-Some.place c.self.invariant is c.index.result.now c.index.ensures))
+    ∙ ap (λ (x : State). is_cut c.args.id x.kept) c.self.view_is

@@ -1,0 +1,15 @@
+use Rattle.std.proofs.Common.{◌≡◌, ℕ, subst, ap, ◌∙◌, List, None}
+use Rattle.std.specs.Prelude.{IfSome, IfNone}
+use Rattle.offering.specs.State.{Kept, State, find}
+use Rattle.offers.specs.Places.{IsAt}
+use Rattle.offers.specs.Asked.{is_kept}
+use Rattle.offers.proofs.Changing.{kept_is}
+use Rattle.offers.proofs.offers.Offers.is_kept.Goals as goal
+
+pub returns : goal.returns
+returns c =
+    let found = subst (λ (ks : List Kept). IfSome c.place_of.result (IsAt ks c.args.id)) c.deref.ensures.value c.place_of.ensures.found in
+    let absent = subst (λ (ks : List Kept). IfNone c.place_of.result (find c.args.id ks ≡ None)) c.deref.ensures.value c.place_of.ensures.absent in
+    c.is_some.ensures
+    ∙ kept_is c.args.id c.self.inside.kept.items c.place_of.result c.self.invariant found absent
+    ∙ ap (λ (s : State). is_kept c.args.id s.kept) c.self.view_is

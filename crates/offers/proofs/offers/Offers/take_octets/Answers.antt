@@ -1,0 +1,28 @@
+use Rattle.std.proofs.Common.{sym, ap, ◌∙◌, subst, set}
+use Rattle.offering.specs.State.{State, gone}
+use Rattle.offers.specs.Places.{IsAt}
+use Rattle.offers.specs.Asked.{part_for, are_octets}
+use Rattle.offers.specs.Changes.{AreOctetsGone}
+use Rattle.offers.proofs.Changing.{part_here, rising_to, octets_gone_to}
+use Rattle.offers.proofs.offers.Offers.take_octets.Goals as goal
+
+pub drop_octets-requires : goal.drop_octets-requires
+drop_octets-requires c =
+    let s : State = record { kept = c.self.inside.kept.items; last = c.self.inside.last } in
+    let is : IsAt s.kept c.args.id c.in-Some.place = rw (← c.deref.ensures.value) c.in-Some.ensures.found in
+    ap are_octets (sym (part_here s c.args.id c.in-Some.place c.self.invariant is c.index_mut.result.now c.index_mut.ensures.value c.args.most))
+    ∙ ap (λ (x : State). are_octets (part_for c.args.most c.args.id x.kept)) c.self.view_is
+    ∙ c.requires
+
+pub invariant_of-self : goal.invariant_of-self
+invariant_of-self c =
+    let s : State = record { kept = c.self.inside.kept.items; last = c.self.inside.last } in
+    let is : IsAt s.kept c.args.id c.in-Some.place = rw (← c.deref.ensures.value) c.in-Some.ensures.found in
+    rising_to s c.args.id c.in-Some.place c.self.invariant is c.index_mut.result.now c.index_mut.ensures.value c.drop_octets.new.self (ap (λ k. k.id) c.drop_octets.ensures.is)
+
+pub returns : goal.returns
+returns c =
+    let s : State = record { kept = c.self.inside.kept.items; last = c.self.inside.last } in
+    let is : IsAt s.kept c.args.id c.in-Some.place = rw (← c.deref.ensures.value) c.in-Some.ensures.found in
+    subst (λ (old : State). AreOctetsGone old c.args.id c.args.most (record { kept = set s.kept c.in-Some.place c.drop_octets.new.self; last = c.args.id })) c.self.view_is
+    (octets_gone_to s c.args.id c.in-Some.place c.self.invariant is c.index_mut.result.now c.index_mut.ensures.value c.drop_octets.new.self c.args.most c.drop_octets.ensures)

@@ -1,0 +1,32 @@
+//! Streams that are kept, found by their ids.
+
+ghost use Rattle.std.specs.Prelude.{◌≡◌, ◌<◌, None, length, remove, IfSome, IfNone};
+ghost use Rattle.offering.specs.State.{find};
+ghost use Rattle.offers.specs.Places.{AreRising, IsAt, IsSplit};
+
+use crate::kept::Kept;
+
+/// The place of the stream with this id, if it is kept.
+pub fn place_of(kept: &[Kept], id: u32) -> Option<usize>
+    requires { AreRising kept.now }
+    ensures found { IfSome result (IsAt kept.now id) }
+    ensures absent { IfNone result (find id kept.now ≡ None) }
+{
+    kept.binary_search_by_key(&id, |stream| stream.id()).ok()
+}
+
+/// How many streams have an id that isn't above this one.
+pub fn count_upto(kept: &[Kept], last: u32) -> usize
+    requires { AreRising kept.now }
+    ensures { IsSplit kept.now last result }
+{
+    kept.partition_point(|stream| stream.id() <= last)
+}
+
+/// Takes out the stream at a place.
+pub fn remove_at(kept: &mut Vec<Kept>, place: usize)
+    requires { place < length kept.old.items }
+    ensures { kept.new.items ≡ remove kept.old.items place }
+{
+    let _over = kept.remove(place);
+}

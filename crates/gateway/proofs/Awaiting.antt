@@ -29,7 +29,8 @@ use Rattle.h1_reader.specs.Parts.Part.{Interim, Final, Body, Done}
 use Rattle.h1_reader.specs.Standing.{State as Reader, Stands, TellsWhole, is_done, is_end}
 use Rattle.h1_reader.proofs.Telling.{whole}
 use Rattle.h1_reader.proofs.Steps.{stands_new}
-use Rattle.gateway.specs.Exchanges.{Awaited, awaited, gathered, head_after, body_of, has_interim, IsTold, exchange_at, with_exchange, section_of}
+use Rattle.outputs.specs.Sections.{section_of}
+use Rattle.gateway.specs.Exchanges.{Awaited, awaited, gathered, head_after, body_of, has_interim, IsTold, exchange_at, with_exchange}
 use Rattle.gateway.specs.Moves.Move.{Takes, Hears}
 use Rattle.gateway.specs.Moves.Outcome.{Served}
 use Rattle.gateway.specs.Moves.Hearing.{Told}

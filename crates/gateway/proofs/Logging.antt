@@ -9,10 +9,10 @@ use Rattle.model.specs.Logs as logs
 use Rattle.model.specs.Setup.{Setup}
 use Rattle.model.specs.Tapes.{Entry}
 use Rattle.model.specs.Faithful.{HasTape, Faithful}
-use Rattle.gateway.specs.declared.events.Event.{Event}
-use Rattle.gateway.specs.declared.events.Output.{Output}
+use Rattle.outputs.specs.declared.events.Event.{Event}
+use Rattle.outputs.specs.declared.events.Output.{Output}
 use Rattle.gateway.specs.Setups.{known_of, IsServable}
-use Rattle.gateway.specs.Views.{event_of, outputs_of}
+use Rattle.outputs.specs.Views.{event_of, outputs_of}
 use Rattle.gateway.specs.Runs.{log_of}
 use Rattle.gateway.specs.Policy.{is_admitted}
 use Rattle.gateway.specs.Stands.{Standing, admits, Stands, StandsNext, IsRefusedAt, fresh}

@@ -13,7 +13,8 @@ use Rattle.model.specs.Logs.Event.{Up}
 use Rattle.model.specs.Logs.Output.{ToClient, Does}
 use Rattle.model.specs.Tapes.{put}
 use Rattle.model.specs.Admission.{high_water}
-use Rattle.gateway.specs.Exchanges.{Awaited, head_after, body_of, status_field, section_of, exchange_at, with_exchange}
+use Rattle.outputs.specs.Sections.{status_field, section_of}
+use Rattle.gateway.specs.Exchanges.{Awaited, head_after, body_of, exchange_at, with_exchange}
 use Rattle.gateway.specs.Heard.{Gathers}
 use Rattle.gateway.specs.Connections.{without_exchange, awaiting, with_encoding, sent_frame, passed_back, put_response, Responds}
 use Rattle.gateway.specs.Moves.{Move, head_frame, last_data}

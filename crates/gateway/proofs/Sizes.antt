@@ -11,7 +11,7 @@ use Rattle.h1_reader.specs.declared.piece.Piece.{Piece}
 use Rattle.std.proofs.lemmas.List.Elements.{All-nil, All-cons}
 use Rattle.model.specs.Messages.{Field}
 use Rattle.header_blocks.specs.Chosen.{HasShortStrings}
-use Rattle.gateway.specs.Exchanges.{Awaited, gathered, head_after, body_of, is_interim, has_interim, awaited, section_of, status_field, text_size, head_size, IsSmall, awaited_size, exchanges_size, SmallIfSome, AreSmall, with_exchange}
+use Rattle.gateway.specs.Exchanges.{Awaited, gathered, head_after, body_of, is_interim, has_interim, awaited, text_size, IsSmall, awaited_size, exchanges_size, SmallIfSome, AreSmall, with_exchange}
 use Rattle.model.specs.Setup.{Setup}
 use Rattle.gateway.specs.State.{State}
 use Rattle.gateway.specs.Stands.{record_bound, IsHeldWithin}
@@ -143,9 +143,3 @@ held_small setup partial begun s dead short h =
       outside = omega (arith, short, a, b);
       records = record { few = few; each = small_records setup s.exchanges h.exchanges };
     }
-
--- the section of a head that is short
-pub section_short : (found : Option Head) (head : Head) → found ≡ Some head → head_size found ≤ 16384 → All HasShortStrings (section_of head)
-section_short found head e le =
-    let size : text_size head.fields ≤ 16384 = subst (λ h. head_size h ≤ 16384) e le in
-    All-cons HasShortStrings (status_field head.status) head.fields (record { name = omega arith; value = omega arith }) (short_strings head.fields (omega (arith, size)))

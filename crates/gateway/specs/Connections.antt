@@ -20,7 +20,8 @@ use Rattle.model.specs.ResponseHeads.{Head}
 use Rattle.model.specs.Blocks as blocks
 use Rattle.gateway.specs.Moves.{head_frame, last_data}
 use Rattle.gateway.specs.Moves.Move.{Acts}
-use Rattle.gateway.specs.Exchanges.{Awaited, awaited, with_exchange, section_of, AreSmall, exchanges_size}
+use Rattle.outputs.specs.Sections.{section_of}
+use Rattle.gateway.specs.Exchanges.{Awaited, awaited, with_exchange, AreSmall, exchanges_size}
 use Rattle.gateway.specs.declared.connection.Connection.TheInside.{Inside}
 use Rattle.gateway.specs.Setups.{setup_of}
 use Rattle.gateway.specs.Closing.{put_closes}

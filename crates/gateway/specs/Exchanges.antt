@@ -1,5 +1,5 @@
 -- What is awaited of the upstreams: for each connection the response to its request, as far as it has come.
-use Rattle.std.specs.Prelude.{◌≡◌, ℕ, zero, suc, ◌+◌, ◌/◌, ◌%◌, ◌≤◌, Bool, true, false, List, [], ◌∷◌, ◌++◌, length, set, get_or, Option, Some, None, codes}
+use Rattle.std.specs.Prelude.{◌≡◌, ℕ, zero, suc, ◌+◌, ◌≤◌, Bool, true, false, List, [], ◌∷◌, ◌++◌, length, set, get_or, Option, Some, None}
 use Rattle.std.specs.List.{list_any}
 use Rattle.model.specs.Messages.{Field}
 use Rattle.model.specs.ResponseHeads.{Head}
@@ -60,19 +60,6 @@ exchange_at exchanges (suc n) = get_or exchanges n None
 abbrev pub with_exchange : List (Option Awaited) → ℕ → Option Awaited → List (Option Awaited)
 with_exchange exchanges zero changed = exchanges
 with_exchange exchanges (suc n) changed = set exchanges n changed
-
--- ---- the field section of a head
-
--- a number below 1,000 in three digits
-abbrev pub three_digits : ℕ → List ℕ
-three_digits number = (48 + number / 100 % 10) ∷ (48 + number / 10 % 10) ∷ (48 + number % 10) ∷ []
-
-abbrev pub status_field : ℕ → Field
-status_field status = record { name = codes ":status"; value = three_digits status }
-
--- the status, and then the fields (RFC 9113, section 8.3.2)
-abbrev pub section_of : Head → List Field
-section_of head = status_field head.status ∷ head.fields
 
 -- ---- how much is held
 

@@ -1,4 +1,3 @@
-pub mod Views
 pub mod Setups
 pub mod Exchanges
 pub mod Heard
@@ -10,6 +9,7 @@ pub mod Policy
 pub mod Receiving
 pub mod Stands
 pub mod Runs
+pub use Rattle.outputs.specs.Views
 pub use Rattle.model.specs.Logs
 pub use Rattle.model.specs.Setup
 pub use Rattle.model.specs.Frames

@@ -21,7 +21,8 @@ use Rattle.model.specs.Admission.{high_water}
 use Rattle.model.specs.Causes.{has_field}
 use Rattle.h1_reader.specs.Parts.{Part}
 use Rattle.h1_reader.specs.Standing.{State as Reader}
-use Rattle.gateway.specs.Exchanges.{Awaited, IsTold, head_after, body_of, exchange_at, section_of}
+use Rattle.outputs.specs.Sections.{section_of}
+use Rattle.gateway.specs.Exchanges.{Awaited, IsTold, head_after, body_of, exchange_at}
 use Rattle.gateway.specs.Moves.{Move, Outcome, Hearing, Input, inputs, after_all, put_move, head_frame, last_data}
 use Rattle.gateway.specs.Moves.Move.{Takes, Breaks, Hears, Sends, SendsHead, Acts}
 use Rattle.gateway.specs.Moves.Hearing.{Noticed, Told, Completed, Abandoned}

@@ -8,9 +8,9 @@ use Rattle.gateway.specs.declared.runs.RunFault.TheVariants.{NotAdmitted, Memory
 use Rattle.gateway.specs.Stands.{IsRefusedAt}
 use Rattle.std.specs.declared.alloc.Global.{Global}
 use Rattle.model.specs.Logs.{Step}
-use Rattle.gateway.specs.declared.events.Event.{Event}
-use Rattle.gateway.specs.declared.events.Output.{Output}
-use Rattle.gateway.specs.Views.{event_of, outputs_of}
+use Rattle.outputs.specs.declared.events.Event.{Event}
+use Rattle.outputs.specs.declared.events.Output.{Output}
+use Rattle.outputs.specs.Views.{event_of, outputs_of}
 
 -- the log of these events and the outputs of each, the oldest step first
 abbrev pub log_of : List Event → List (Vec Output Global) → List Step

@@ -8,7 +8,7 @@ ghost use Rattle.model.specs.Logs.Act.{Open as DoesOpen, ToUp as DoesUp};
 ghost use Rattle.model.specs.Logs.Output.{ToClient, Does};
 ghost use Rattle.model.specs.Tapes.{put, listed};
 ghost use Rattle.frames.specs.Views.{frame_of};
-ghost use Rattle.gateway.specs.Views.{event_of};
+ghost use Rattle.outputs.specs.Views.{event_of};
 ghost use Rattle.gateway.specs.Setups.{setup_of};
 ghost use Rattle.gateway.specs.State.{start, after, upstream_at as spec_upstream_at};
 ghost use Rattle.gateway.specs.Moves.Input.{OfFrame, OfBreach, OfEvent};
@@ -21,19 +21,14 @@ ghost use Rattle.gateway.specs.Receiving.{Takes};
 ghost use Rattle.gateway.specs.Connections.{greeted, settled, served, ended, left, put_end, put_farewell, with_table, without_exchange, awaiting, sent_frame, sent_data, passed_back, put_response, Responds, IsHead, IsRequestIn, IsFaultIn, IsFirstCode, IsSmallState};
 
 use crate::config::Config;
-use crate::events::Event;
-use crate::exchange::{Exchange, Heard, put_at, section_of, take_at};
-use crate::outputs::Outputs;
+use crate::exchange::{Exchange, Heard, put_at, take_at};
 use crate::requests::{Sendable, read_request};
 use crate::upstream::{Upstream, close_each, set_upstream, upstream_at};
 use frames::{Split, View};
 use header_blocks::{DecodeFault, Decoded, Decoder, Encoder, Policy};
+use outputs::{Event, Outputs, section_of};
 use std::alloc::{AllocError, Global};
 use std::marker::Model;
-
-/// What the gateway announces: SETTINGS_MAX_CONCURRENT_STREAMS (3) 100, SETTINGS_MAX_HEADER_LIST_SIZE (6) 16,384
-/// (RFC 9113, section 6.5.2).
-const SETTINGS: [u8; 12] = [0, 3, 0, 0, 0, 100, 0, 6, 0, 0, 64, 0];
 
 /// The most that the sizes of a decoded block's fields may sum to.
 const LIST_LIMIT: usize = 16384;
@@ -46,11 +41,6 @@ const HIGH_WATER: u64 = 65536;
 
 /// The longest payload of a frame (RFC 9113, section 4.2).
 const LONGEST_PAYLOAD: usize = 16384;
-
-/// Flags of HEADERS, and the first of DATA too (RFC 9113, sections 6.1 and 6.2).
-const END_STREAM: u8 = 1;
-
-const END_HEADERS: u8 = 4;
 
 /// Error codes (RFC 9113, section 7).
 const PROTOCOL_ERROR: u32 = 1;
@@ -115,23 +105,6 @@ fn is_memory(fault: DecodeFault) -> bool
     matches!(fault, DecodeFault::Memory)
 }
 
-/// The payload of GOAWAY (RFC 9113, section 6.8): the last stream, and the error code.
-fn goaway_payload(last: u32, code: u32) -> [u8; 8]
-    requires { last < 2147483648 }
-    ensures { result ≡ spell_number last ++ spell_number code }
-{
-    [
-        (last / 16777216) as u8,
-        (last / 65536 % 256) as u8,
-        (last / 256 % 256) as u8,
-        (last % 256) as u8,
-        (code / 16777216) as u8,
-        (code / 65536 % 256) as u8,
-        (code / 256 % 256) as u8,
-        (code % 256) as u8,
-    ]
-}
-
 impl Connection {
     /// A connection to which nothing came.
     pub fn new(alloc: Global, config: Config) -> Connection
@@ -194,13 +167,7 @@ impl Connection {
         ensures outputs { OnOk result (out.new ≡ put out.old (ToClient (spell settings_frame))) }
         ensures small { IsSmallState self.old → IsSmallState self.new }
     {
-        let view = View {
-            kind: 4,
-            flags: 0,
-            id: 0,
-            payload: &SETTINGS,
-        };
-        out.send(&view)?;
+        out.send_settings()?;
         self.greeted = true;
         self.untaken += 21;
         Ok(())
@@ -225,13 +192,7 @@ impl Connection {
         ensures outputs { OnOk result (out.new ≡ put out.old (ToClient (spell settings_ack))) }
         ensures small { IsSmallState self.old → IsSmallState self.new }
     {
-        let view = View {
-            kind: 4,
-            flags: 1,
-            id: 0,
-            payload: &[],
-        };
-        out.send(&view)?;
+        out.send_settings_ack()?;
         self.greeted = true;
         self.settled = true;
         self.untaken += 9;
@@ -285,14 +246,7 @@ impl Connection {
         ensures outputs { OnOk result (out.new ≡ put_farewell out.old self.old code) }
         ensures small { IsSmallState self.old → IsSmallState self.new }
     {
-        let payload = goaway_payload(self.high, code);
-        let view = View {
-            kind: 7,
-            flags: 0,
-            id: 0,
-            payload: &payload,
-        };
-        out.send(&view)?;
+        out.send_goaway(self.high, code)?;
         self.greeted = true;
         self.closed = true;
         self.untaken += 17;
@@ -526,17 +480,7 @@ impl Connection {
         ensures outputs { OnOk result (out.new ≡ put out.old (ToClient (spell (head_frame stream ends block.now)))) }
         ensures small { IsSmallState self.old → IsSmallState self.new }
     {
-        let view = View {
-            kind: 1,
-            flags: if ends {
-                END_HEADERS + END_STREAM
-            } else {
-                END_HEADERS
-            },
-            id: stream,
-            payload: block,
-        };
-        out.send(&view)?;
+        out.send_block(stream, block, ends)?;
         self.greeted = true;
         self.untaken += 9 + block.len() as u64;
         Ok(())
@@ -553,13 +497,7 @@ impl Connection {
         ensures outputs { OnOk result (out.new ≡ put out.old (ToClient (spell (last_data stream body.now)))) }
         ensures small { IsSmallState self.old → IsSmallState self.new }
     {
-        let view = View {
-            kind: 0,
-            flags: END_STREAM,
-            id: stream,
-            payload: body,
-        };
-        out.send(&view)?;
+        out.send_data(stream, body, true)?;
         self.greeted = true;
         self.window -= body.len();
         self.untaken += 9 + body.len() as u64;

@@ -3,7 +3,7 @@
 ghost use Rattle.std.specs.Prelude.{◌≡◌, ◌<◌, ◌≤◌, IfOk, true, false, [], ◌∷◌, None, Some};
 ghost use Rattle.h1_reader.specs.Standing.{is_end, is_done};
 ghost use Rattle.h1_reader.specs.Views.{part_of, parts_of};
-ghost use Rattle.gateway.specs.Exchanges.{awaited, gathered, is_interim, has_interim, text_size, head_size, section_of, IsSmall, exchange_at, with_exchange};
+ghost use Rattle.gateway.specs.Exchanges.{awaited, gathered, is_interim, has_interim, text_size, head_size, IsSmall, exchange_at, with_exchange};
 ghost use Rattle.gateway.specs.Heard.{IsHeard};
 
 use h1_reader::{Piece, Reader, ResponseFault, ResponseHead};
@@ -200,20 +200,4 @@ impl Exchange {
             Ok(Heard::More)
         }
     }
-}
-
-/// The field section of a head (RFC 9113, section 8.3.2): the status in three digits, and the fields.
-pub fn section_of(alloc: Global, head: ResponseHead) -> Result<Vec<Field>, AllocError>
-    ensures { IfOk result (λ fields. fields.items ≡ section_of head) }
-{
-    let status = head.status();
-    let digits = [
-        48 + (status / 100 % 10) as u8,
-        48 + (status / 10 % 10) as u8,
-        48 + (status % 10) as u8,
-    ];
-    let status = Field::of(alloc, b":status", &digits)?;
-    let mut fields = head.into_fields();
-    fields.insert(0, status)?;
-    Ok(fields)
 }

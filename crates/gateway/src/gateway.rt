@@ -3,7 +3,7 @@
 ghost use Rattle.std.specs.Prelude.{◌≡◌, ◌≤◌, ◌<◌, ◌++◌, [], List, true, false, length, drop, OnOk, OnErr, IsErrOf, ◌↔◌, vec_len};
 ghost use Rattle.model.specs.Logs.{Step, Output as Put};
 ghost use Rattle.model.specs.Tapes.{Entry};
-ghost use Rattle.gateway.specs.Views.{event_of, outputs_of};
+ghost use Rattle.outputs.specs.Views.{event_of, outputs_of};
 ghost use Rattle.gateway.specs.Setups.{setup_of, IsServable};
 ghost use Rattle.model.specs.Admission.{is_admitted as is_admitted_by_tape, room};
 ghost use Rattle.gateway.specs.Policy.{is_admitted};
@@ -12,9 +12,8 @@ ghost use Rattle.gateway.specs.Stands.{Happens, StepsTo, Stands, StandsNext, IsH
 
 use crate::config::Config;
 use crate::connection::Connection;
-use crate::events::{Event, Output};
-use crate::outputs::Outputs;
 use crate::preface::{PREFACE, Start, read_preface};
+use outputs::{Event, Output, Outputs};
 use std::alloc::{AllocError, Global};
 use std::marker::Model;
 use std::mem;

@@ -3,18 +3,16 @@
 
 mod config;
 mod connection;
-mod events;
 mod exchange;
 mod gateway;
-mod outputs;
 mod preface;
 mod requests;
 mod runs;
 mod upstream;
 
 pub use config::{Config, Passing, Policy, Route};
-pub use events::{Event, Output};
 pub use gateway::{Fault, Gateway};
+pub use outputs::{Event, Output};
 pub use runs::{RunFault, run};
 
 #[cfg(test)]

@@ -2,13 +2,13 @@
 
 ghost use Rattle.std.specs.Prelude.{◌≡◌, length, map, IfOk, IfErr};
 ghost use Rattle.model.specs.Faithful.{Faithful};
-ghost use Rattle.gateway.specs.Views.{event_of};
+ghost use Rattle.outputs.specs.Views.{event_of};
 ghost use Rattle.gateway.specs.Runs.{log_of, Explains};
 ghost use Rattle.gateway.specs.Setups.{setup_of, IsServable};
 
 use crate::config::Config;
-use crate::events::{Event, Output};
 use crate::gateway::Gateway;
+use outputs::{Event, Output};
 use std::alloc::Global;
 
 /// Why a run is refused. The number is the event's place, from 0.

@@ -4,7 +4,7 @@ ghost use Rattle.std.specs.Prelude.{◌≡◌, ◌<◌, ◌^◌, length, OnOk, m
 ghost use Rattle.gateway.specs.State.{closed_up, upstream_at, with_upstream};
 ghost use Rattle.gateway.specs.Closing.{put_closes};
 
-use crate::outputs::Outputs;
+use outputs::Outputs;
 use std::alloc::AllocError;
 
 /// A connection to an upstream.

@@ -93,7 +93,7 @@ head_of_size spelled =
     let lines : field_octets fields ≤ length (flat_map print_field spelled.fields) = lines_size spelled.fields in
     simp length-append (omega arith)
 
-taken_size : (text : List ℕ) (spelled : grammar.ResponseHead) → IsTaken text spelled → field_octets (head_of spelled).fields ≤ length text
+pub taken_size : (text : List ℕ) (spelled : grammar.ResponseHead) → IsTaken text spelled → field_octets (head_of spelled).fields ≤ length text
 taken_size text spelled taken =
     let head = head_of_size spelled in
     let whole : length text ≡ length (print_response spelled) + 0 = ap length taken.reads.1 ∙ length-append (print_response spelled) [] in

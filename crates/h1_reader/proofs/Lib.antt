@@ -15,6 +15,7 @@ pub mod Telling
 pub mod Noticed
 pub mod Hopes
 pub mod HeadSizeLemmas
+pub mod PassedBack
 pub mod Rooms
 pub mod FaultReads
 pub mod FaultSteps

@@ -1,6 +1,7 @@
 //! What a response is told in.
 
 ghost use Rattle.std.specs.Prelude.{◌≡◌, ◌++◌, ◌∷◌, [], OnOk, OnErr};
+ghost use Rattle.h1_reader.specs.HeadSizes.{CanBePassedBack};
 ghost use Rattle.h1_reader.specs.Parts.Part.{Interim, Final, Body, Done};
 ghost use Rattle.h1_reader.specs.Views.{parts_of};
 ghost use Rattle.h1_reader.specs.GoesOn.{IsJoined};
@@ -9,7 +10,8 @@ use hpack_table::Field;
 use std::alloc::{AllocError, Global};
 use std::marker::Model;
 
-/// A head as it is passed back: its status, and its fields with names in lower case (RFC 9110, section 7.6.1).
+/// A head as it is passed back: its status, and its fields with names in lower case (RFC 9110, section 7.6.1). None of them is a
+/// pseudo-field, and their names and values have at most 16,384 octets.
 #[derive(Drop)]
 pub struct ResponseHead {
     status: u16,
@@ -22,11 +24,17 @@ impl Model for ResponseHead {
     ghost Value = { Head };
 
     ghost view = { λ head. record { status = head.status; fields = head.fields.items } };
+
+    ghost use Rattle.h1_reader.specs.HeadSizes.{CanBePassedBack};
+
+    ghost invariant = { λ head. CanBePassedBack (record { status = head.status; fields = head.fields.items }) };
 }
 
 impl ResponseHead {
-    /// The head of this status and these fields.
+    /// The head of this status, of three digits at most, and these fields, of which none is a pseudo-field, and whose names and values have at most
+    /// 16,384 octets.
     pub fn new(status: u16, fields: Vec<Field>) -> Self
+        requires { CanBePassedBack (record { status = status; fields = fields.items }) }
         ensures status { result.status ≡ status }
         ensures fields { result.fields ≡ fields.items }
     {
@@ -49,7 +57,8 @@ impl ResponseHead {
 
     /// The fields in their order, taken out of the head.
     pub fn into_fields(self) -> Vec<Field>
-        ensures { result.items ≡ self.fields }
+        ensures are { result.items ≡ self.fields }
+        ensures passed { CanBePassedBack self }
     {
         self.fields
     }

@@ -3,8 +3,8 @@ use Rattle.std.proofs.Common.{◌≡◌, ℕ, List, [], ◌∷◌, length, map, 
 use Rattle.std.specs.Prelude.{Vec}
 use Rattle.std.specs.declared.alloc.Global.{Global}
 use Rattle.model.specs.Faithful.{Faithful}
-use Rattle.gateway.specs.declared.events.Event.{Event}
-use Rattle.gateway.specs.declared.events.Output.{Output}
+use Rattle.outputs.specs.declared.events.Event.{Event}
+use Rattle.outputs.specs.declared.events.Output.{Output}
 use Rattle.gateway.specs.Views.{event_of, outputs_of}
 use Rattle.gateway.specs.Runs.{log_of}
 use Rattle.scripts.specs.Scripts.{lines_of, AllSay}

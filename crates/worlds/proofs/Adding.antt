@@ -13,8 +13,8 @@ use Rattle.model.specs.Faithful.{HasTape, Faithful}
 use Rattle.gateway.specs.Setups.{known_of}
 use Rattle.gateway.specs.Stands.{Standing, Stands, StandsNext, fresh}
 use Rattle.gateway.specs.Views.{event_of, output_of, outputs_of}
-use Rattle.gateway.specs.declared.events.Event.{Event}
-use Rattle.gateway.specs.declared.events.Output.{Output}
+use Rattle.outputs.specs.declared.events.Event.{Event}
+use Rattle.outputs.specs.declared.events.Output.{Output}
 use Rattle.worlds.specs.declared.services.Ended.{Ended}
 use Rattle.worlds.specs.Worlds.{Serves, AddsFrontTo, MayNotCome, came, with_outputs, closes, has_closed, is_closed}
 use Rattle.worlds.specs.Worlds.IsFrontOf.{Whole, Lacks}

@@ -7,7 +7,7 @@ use Rattle.model.specs.Tapes.{Entry}
 use Rattle.model.specs.Faithful.{Faithful}
 use Rattle.gateway.specs.Stands.{Standing, Stands}
 use Rattle.gateway.specs.Views.{event_of}
-use Rattle.gateway.specs.declared.events.Event.{Event}
+use Rattle.outputs.specs.declared.events.Event.{Event}
 use Rattle.model.specs.Admission.{is_admitted}
 use Rattle.std.specs.List.{list_any}
 use Rattle.model.specs.Logs.Output.{Does}

@@ -1,4 +1,4 @@
-use Rattle.std.proofs.Common.{◌≡◌, ◌<◌, ◌≤◌, ◌∙◌, sym, ap, List, arith}
+use Rattle.std.proofs.Common.{◌≡◌, ◌<◌, ◌≤◌, ◌∙◌, refl, sym, ap, List, arith}
 use Rattle.model.specs.Messages.{Field}
 use Rattle.httparse.specs.Grammar.{status_code}
 use Rattle.model.specs.ResponseHeads.{passed, without_framing, framing_for}
@@ -7,6 +7,7 @@ use Rattle.model.specs.Http1.{values_of}
 use Rattle.h1_reader.specs.Heads.{framing_fault}
 use Rattle.h1_reader.specs.Views.{framing_view}
 use Rattle.h1_reader.proofs.HeadLemmas.{taken, says, framed}
+use Rattle.h1_reader.proofs.PassedBack.{passed_back}
 use Rattle.h1_reader.proofs.FaultReads.{crowded, low, upgraded, unframed}
 use Rattle.h1_reader.proofs.head.take_head.Goals as goal
 
@@ -18,6 +19,18 @@ returns-then-found-lt100 c = λ _. low c.args.to_head c.args.text.now c.args.spa
 
 pub returns-then-found-eq101 : goal.returns-then-found-eq101
 returns-then-found-eq101 c = λ _. upgraded c.args.to_head c.args.text.now c.args.spans.now c.args.found c.requires.is_head c.requires.within c.requires.short c.if-found-gt-MOST_FIELDS.false c.if-found-eq101.true
+
+pub new-head-requires : goal.new-head-requires
+new-head-requires c =
+    let of = c.requires.is_head in
+    passed_back _ of.0 _ (taken c.args.text.now c.args.spans.now c.args.found of c.requires.within (λ k. (c.type_inv.text k).fits) c.requires.short c.if-found-gt-MOST_FIELDS.false c.if-found-lt100.false c.if-found-eq101.false)
+    (says c.args.text.now c.args.spans.now c.args.found c.in_ok-all.all.items c.in_ok-passed.passed.items (record { status = c.args.found.code; fields = c.in_ok-passed.passed.items }) of c.in_ok-all.ensures c.in_ok-passed.ensures refl refl)
+
+pub new-head-requires-2 : goal.new-head-requires-2
+new-head-requires-2 c =
+    let of = c.requires.is_head in
+    passed_back _ of.0 _ (taken c.args.text.now c.args.spans.now c.args.found of c.requires.within (λ k. (c.type_inv.text k).fits) c.requires.short c.if-found-gt-MOST_FIELDS.false c.if-found-lt100.false c.if-found-eq101.false)
+    (says c.args.text.now c.args.spans.now c.args.found c.in_ok-all.all.items c.in_ok-passed-2.passed.items (record { status = c.args.found.code; fields = c.in_ok-passed-2.passed.items }) of c.in_ok-all.ensures c.in_ok-passed-2.ensures refl refl)
 
 pub returns-then-found-lt200 : goal.returns-then-found-lt200
 returns-then-found-lt200 c =

@@ -1,17 +1,16 @@
 use Rattle.std.proofs.Common.{◌≡◌, ◌+◌, ◌<◌, ◌≤◌, [], ◌++◌, length, refl, inl, inr, ap, sym, ◌∙◌, subst, arith}
 use Rattle.model.specs.Blocks as blocks
 use Rattle.model.specs.Admission.{high_water}
-use Rattle.gateway.specs.Exchanges.{section_of}
+use Rattle.outputs.specs.Sections.{section_of}
 use Rattle.gateway.specs.Connections.{passed_back, put_response}
 use Rattle.std.specs.List.{All}
 use Rattle.header_blocks.specs.Chosen.{HasShortStrings}
 use Rattle.header_blocks.specs.Encoding.{StandsFor}
 use Rattle.gateway.proofs.Answering.{ok_both}
-use Rattle.gateway.proofs.Sizes.{section_short}
 use Rattle.gateway.proofs.connection.Connection.respond.Goals as goal
 
 pub encode-requires : goal.encode-requires
-encode-requires c = subst (All HasShortStrings) (sym (c.deref.ensures.value ∙ c.in_ok-fields.ensures)) (section_short c.into_response-head.result.0 c.in-Some.head c.in-Some.is c.into_response-head.ensures.short)
+encode-requires c = subst (All HasShortStrings) (sym c.deref.ensures.value) c.in_ok-fields.ensures.short
 
 pub returns-then-not-may_respond-clause-responds : goal.returns-then-not-may_respond-clause-responds
 returns-then-not-may_respond-clause-responds c =
@@ -27,7 +26,7 @@ returns-clause-responds c =
     let stream : c.stream-stream.result ≡ c.args.exchange.stream = c.stream-stream.ensures.is in
     let fits = c.may_respond.ensures c.if-not-may_respond.false in
     let no_maxima : written.is_written.maxima ≡ [] = written.is_written.due [] (subst (StandsFor []) (sym c.self.invariant.unlimited) refl) in
-    let fields : c.deref.result.now ≡ section_of c.in-Some.head = c.deref.ensures.value ∙ c.in_ok-fields.ensures in
+    let fields : c.deref.result.now ≡ section_of c.in-Some.head = c.deref.ensures.value ∙ c.in_ok-fields.ensures.fields in
     rw (← c.self.view_is) (ok_both c.pass_back.result c.pass_back.ensures.state c.pass_back.ensures.outputs
     (λ es eo. inr (record {
       head = c.in-Some.head;

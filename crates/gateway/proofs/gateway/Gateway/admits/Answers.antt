@@ -1,5 +1,5 @@
 use Rattle.std.proofs.Common.{◌∙◌, ap}
-use Rattle.gateway.specs.Views.{event_of}
+use Rattle.outputs.specs.Views.{event_of}
 use Rattle.gateway.specs.Policy.{is_admitted}
 use Rattle.gateway.specs.Stands.{Standing}
 use Rattle.gateway.proofs.Steps.{admits_by_tape}

@@ -1,5 +1,5 @@
 use Rattle.std.proofs.Common.{◌≡◌, true, false, ◌∙◌, sym, ap, subst, reverse}
-use Rattle.gateway.specs.Views.{event_of}
+use Rattle.outputs.specs.Views.{event_of}
 use Rattle.gateway.specs.Stands.{Standing, IsHeldWithin}
 use Rattle.gateway.proofs.Sizes.{held_small}
 use Rattle.gateway.proofs.Steps.{stands_next}

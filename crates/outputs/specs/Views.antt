@@ -1,10 +1,10 @@
 -- Events and outputs without where they lie in memory.
 use Rattle.std.specs.Prelude.{List, map}
 use Rattle.model.specs.Logs as logs
-use Rattle.gateway.specs.declared.events.Event.{Event}
-use Rattle.gateway.specs.declared.events.Event.TheVariants as event
-use Rattle.gateway.specs.declared.events.Output.{Output}
-use Rattle.gateway.specs.declared.events.Output.TheVariants as output
+use Rattle.outputs.specs.declared.events.Event.{Event}
+use Rattle.outputs.specs.declared.events.Event.TheVariants as event
+use Rattle.outputs.specs.declared.events.Output.{Output}
+use Rattle.outputs.specs.declared.events.Output.TheVariants as output
 
 abbrev pub event_of : Event → logs.Event
 event_of (event.Client piece) = logs.Event.Client piece.items

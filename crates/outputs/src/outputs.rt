@@ -6,7 +6,7 @@ ghost use Rattle.model.specs.Logs.Act.{Open as DoesOpen, ToUp as DoesUp, Close a
 ghost use Rattle.model.specs.Logs.Output.{ToClient, Does};
 ghost use Rattle.model.specs.Tapes.{put};
 ghost use Rattle.frames.specs.Views.{frame_of};
-ghost use Rattle.gateway.specs.Views.{outputs_of};
+ghost use Rattle.outputs.specs.Views.{outputs_of};
 
 use crate::events::Output;
 use frames::View;
@@ -23,7 +23,7 @@ pub struct Outputs {
 impl Model for Outputs {
     ghost use Rattle.std.specs.Prelude.{List, map, reverse};
     ghost use Rattle.model.specs.Logs.{Output as Put};
-    ghost use Rattle.gateway.specs.Views.{output_of};
+    ghost use Rattle.outputs.specs.Views.{output_of};
 
     ghost Value = { List Put };
 
@@ -55,7 +55,9 @@ impl Outputs {
         }
     }
 
-    /// Puts a frame out to the client.
+    /// Puts a frame out to the client (RFC 9113, section 4.1): its payload has at most 16,384 octets, its stream's number is below
+    /// 2,147,483,648. Nothing is allocated where the outputs end with octets for the client that have room. An `Err` says that memory
+    /// was refused, as from each call here that puts something out; then the outputs are of no use any more.
     pub fn send(&mut self, view: &View<'_>) -> Result<(), AllocError>
         requires { Fits (frame_of view.now) }
         ensures { OnOk result (self.new ≡ put self.old (ToClient (spell (frame_of view.now)))) }
@@ -66,7 +68,7 @@ impl Outputs {
         Ok(())
     }
 
-    /// Puts octets out to an upstream.
+    /// Puts octets out to the upstream connection `k`.
     pub fn send_up(&mut self, k: u32, octets: Vec<u8>) -> Result<(), AllocError>
         ensures { OnOk result (self.new ≡ put self.old (Does (DoesUp k octets.items))) }
     {
@@ -89,7 +91,7 @@ impl Outputs {
         Ok(())
     }
 
-    /// Opens an upstream.
+    /// Opens the upstream connection `k`, by the place of its route, from 0.
     pub fn open_up(&mut self, k: u32, route: u32) -> Result<(), AllocError>
         ensures { OnOk result (self.new ≡ put self.old (Does (DoesOpen k route))) }
     {
@@ -97,7 +99,7 @@ impl Outputs {
         Ok(())
     }
 
-    /// Closes an upstream.
+    /// Closes the upstream connection `k`.
     pub fn close_up(&mut self, k: u32) -> Result<(), AllocError>
         ensures { OnOk result (self.new ≡ put self.old (Does (DoesClose k))) }
     {
@@ -105,7 +107,7 @@ impl Outputs {
         Ok(())
     }
 
-    /// Closes the client.
+    /// Closes the client's connection.
     pub fn close_client(&mut self) -> Result<(), AllocError>
         ensures { OnOk result (self.new ≡ put self.old (Does DoesEnd)) }
     {
@@ -113,7 +115,7 @@ impl Outputs {
         Ok(())
     }
 
-    /// Moves all to the end of other outputs.
+    /// Moves all to the end of other outputs, which an `Err`, where memory was refused, leaves as they were.
     pub fn append_to(mut self, out: &mut Vec<Output>) -> Result<(), AllocError>
         ensures ok { OnOk result (outputs_of out.new.items ≡ outputs_of out.old.items ++ reverse self) }
         ensures err { OnErr result (out.new.items ≡ out.old.items) }

@@ -1,0 +1,4 @@
+pub mod Cuts
+pub mod Fragments
+pub mod Going
+pub mod HeadFields

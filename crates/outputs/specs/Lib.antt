@@ -1,0 +1,11 @@
+pub mod Views
+pub mod Sent
+pub mod Blocks
+pub mod Sections
+pub use Rattle.model.specs.Logs
+pub use Rattle.model.specs.Frames
+pub use Rattle.model.specs.Tapes
+pub use Rattle.model.specs.ErrorClause
+pub use Rattle.model.specs.Decoding
+pub use Rattle.model.specs.Deliveries
+pub use Rattle.header_blocks.specs.Chosen

@@ -4,18 +4,20 @@
 
 mod bodies;
 mod exchanges;
+mod judging;
 mod made;
 mod samples;
 mod tables;
 mod texts;
 
+use crate::judging::{Judging, Streams};
 use crate::made::Made;
 use std::alloc::Global;
 use std::env;
 use std::process::ExitCode;
 
 /// The names of the parts.
-const PARTS: [&str; 13] = [
+const PARTS: [&str; 23] = [
     "exchanges",
     "decode",
     "send",
@@ -29,6 +31,16 @@ const PARTS: [&str; 13] = [
     "huffman-decode",
     "huffman-encode",
     "find",
+    "few-none",
+    "few-ping",
+    "few-update",
+    "few-data",
+    "few-headers",
+    "many-none",
+    "many-ping",
+    "many-update",
+    "many-data",
+    "many-headers",
 ];
 
 /// The status is 1 for any command line but a part and a number of rounds, where a layer refuses the samples or memory is
@@ -72,6 +84,26 @@ fn run_part(part: &str, alloc: Global, rounds: u32, made: &mut Made) -> Option<(
         "huffman-decode" => texts::decode(alloc, rounds, made),
         "huffman-encode" => texts::encode(alloc, rounds, made),
         "find" => tables::find(alloc, rounds, made),
+        _ => {
+            let (streams, judging) = judged_by(part)?;
+            judging::judge(alloc, rounds, made, streams, judging)
+        }
+    }
+}
+
+/// Which frames a part judges, and on which connection.
+fn judged_by(part: &str) -> Option<(Streams, Judging)> {
+    match part {
+        "few-none" => Some((Streams::Few, Judging::Nothing)),
+        "few-ping" => Some((Streams::Few, Judging::Ping)),
+        "few-update" => Some((Streams::Few, Judging::WindowUpdate)),
+        "few-data" => Some((Streams::Few, Judging::Data)),
+        "few-headers" => Some((Streams::Few, Judging::Headers)),
+        "many-none" => Some((Streams::Many, Judging::Nothing)),
+        "many-ping" => Some((Streams::Many, Judging::Ping)),
+        "many-update" => Some((Streams::Many, Judging::WindowUpdate)),
+        "many-data" => Some((Streams::Many, Judging::Data)),
+        "many-headers" => Some((Streams::Many, Judging::Headers)),
         _ => None,
     }
 }

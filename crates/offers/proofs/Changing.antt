@@ -1,5 +1,5 @@
 -- How the streams change where the one at a place does.
-use Rattle.std.proofs.Common.{◌≡◌, ℕ, ◌<◌, Bool, true, false, List, length, set, get_or, Result, Ok, Err, refl, sym, ap, ◌∙◌, subst}
+use Rattle.std.proofs.Common.{◌≡◌, ℕ, List, set, get_or, Result, Ok, Err, refl, sym, ap, ◌∙◌, subst}
 use Rattle.std.specs.Prelude.{Option, Some, None, IfOk, IfSome, IfNone, is_some, option_and_then}
 use Rattle.std.proofs.lemmas.List.{get_or_default}
 use Rattle.model.specs.Causes.{Cause}
@@ -12,7 +12,7 @@ use Rattle.answers.specs.Hearing.{IsHeard, IsEnded}
 use Rattle.answers.specs.declared.answer.Heard.{Heard}
 use Rattle.answers.specs.declared.answer.Ended.{Ended}
 use Rattle.offers.specs.Places.{at, AreRising, IsAt}
-use Rattle.offers.specs.Asked.{is_kept, part_for, is_head, are_octets}
+use Rattle.offers.specs.Asked.{is_kept, part_for}
 use Rattle.offers.specs.Changes.{with_box, refilled, IsHeardFor, IsEndedFor, IsHeadTaken, AreOctetsTaken, behind_turn, IsHeadGone, AreOctetsGone}
 use Rattle.offers.proofs.Rising.{find_at, change_at, rising_changed}
 

@@ -1,7 +1,7 @@
 -- What a search by halves finds among streams whose ids rise.
-use Rattle.std.proofs.Common.{◌≡◌, ℕ, ◌+◌, ◌<◌, ◌≤◌, List, [], ◌∷◌, length, take, drop, Bool, true, false, Result, Ok, Err, refl, sym, ap, ◌∙◌, subst, inl, inr, arith, get_or, length-drop}
+use Rattle.std.proofs.Common.{◌≡◌, ℕ, ◌+◌, ◌<◌, ◌≤◌, List, length, take, drop, true, false, Result, Ok, Err, sym, ap, ◌∙◌, subst, inl, inr, arith, get_or, length-drop}
 use lib.Seq.{length-take-le}
-use Rattle.std.specs.Prelude.{Option, Some, None, nat_le, IfSome, IfNone}
+use Rattle.std.specs.Prelude.{None, nat_le, IfSome, IfNone}
 use Rattle.std.proofs.lemmas.List.{get_or_default, get_or-take, get_or-drop}
 use Rattle.std.proofs.lemmas.List.Elements.{recursion_from_All}
 use Rattle.std.specs.Result.{result_ok}

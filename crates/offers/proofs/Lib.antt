@@ -4,3 +4,4 @@ pub mod Readying
 pub mod Balances
 pub mod Heads
 pub mod Changing
+pub mod Hearing

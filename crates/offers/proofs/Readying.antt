@@ -1,15 +1,15 @@
 -- The stream that has the next turn, among streams whose ids rise.
-use Rattle.std.proofs.Common.{◌≡◌, ℕ, zero, suc, ◌+◌, ◌<◌, ◌≤◌, ◌==◌, ◌&&◌, ◌||◌, not, if◌then◌else◌, Bool, true, false, nat_lt, List, [], ◌∷◌, ◌++◌, length, get_or, take, drop, map, filter, refl, sym, ap, ◌∙◌, subst, inl, inr, arith}
-use Rattle.std.specs.Prelude.{Option, Some, None, ◌⊎◌, slice_index, EachIndex, ℤ, pos}
-use Rattle.std.specs.List.{list_all, AllByRecursion}
-use Rattle.std.proofs.lemmas.Bool.{and_parts, eq-eqb, ne_eqb, ltb-true, cases_lt}
+use Rattle.std.proofs.Common.{◌≡◌, ℕ, ◌+◌, ◌<◌, ◌≤◌, ◌==◌, ◌&&◌, ◌||◌, if◌then◌else◌, Bool, true, false, nat_lt, List, [], ◌∷◌, ◌++◌, length, get_or, take, drop, map, filter, refl, sym, ap, ◌∙◌, subst, inl, inr, arith}
+use Rattle.std.specs.Prelude.{Option, Some, None, slice_index}
+use Rattle.std.specs.List.{AllByRecursion}
+use Rattle.std.proofs.lemmas.Bool.{and_parts, eq-eqb, ne_eqb, cases_lt}
 use Rattle.std.proofs.lemmas.Bool.Decides.{eqb_tells}
 use Rattle.std.proofs.lemmas.List.{take-append-drop, at_drop_more, at_drop_all}
-use Rattle.model.specs.Turns.{IsNextTurn, IsNextAbove, IsFirstAgain}
+use Rattle.model.specs.Turns.{IsNextTurn}
 use Rattle.offering.specs.Outbox.{Outbox, can_go}
 use Rattle.offering.specs.Outbox.Outbox.{Before, Behind, Over}
-use Rattle.offering.specs.State.{Kept, State, Windows, blank, find, is_ready, is_ready_if, can_turn, ready}
-use Rattle.offering.proofs.Listing.{IsAmong, StandsAt, filter_in, filter_out, found_among}
+use Rattle.offering.specs.State.{Kept, State, Windows, find, is_ready, is_ready_if, can_turn, ready}
+use Rattle.offering.proofs.Listing.{StandsAt, filter_in, filter_out, found_among}
 use Rattle.offers.specs.Places.{is_below_all, AreRising, IsSplit}
 use Rattle.offers.specs.Asked.{first_ready}
 use Rattle.offers.proofs.Rising.{below_found}
@@ -222,3 +222,8 @@ module _ (w : Windows) (last place : ℕ) (ks : List Kept) (rising : AreRising k
   next_again none next first =
       subst (λ (xs : List Kept). IsNextTurn last (ready w (record { kept = xs; last = last })) next) whole
       (turn_again w last (take place ks) (drop place ks) (subst AreRising (sym whole) rising) is.upto is.above (sym none) next first)
+
+-- a stream that has the next turn is one of which something can go
+pub turn_goes : (w : Windows) (s : State) (id : ℕ) → IsNextTurn s.last (ready w s) (Some id) → can_turn w s id ≡ true
+turn_goes w s id (inl turn) = filter_out (can_turn w s) (map (λ (k : Kept). k.id) s.kept) id turn.is_ready
+turn_goes w s id (inr turn) = filter_out (can_turn w s) (map (λ (k : Kept). k.id) s.kept) id turn.is_ready

@@ -1,4 +1,4 @@
-use Rattle.std.proofs.Common.{◌≡◌, ◌+◌, drop, true, Some, sym, ap, ◌∙◌, subst, ℤ, w64, to_z, of_z}
+use Rattle.std.proofs.Common.{◌≡◌, drop, true, Some, sym, ap, ◌∙◌, subst, ℤ, w64, to_z, of_z}
 use Rattle.std.proofs.lemmas.Int.{to_z-of_z}
 use Rattle.offering.specs.State.{Windows, is_ready}
 use Rattle.offers.specs.Asked.{windows_over, first_ready}

@@ -1,4 +1,4 @@
-use Rattle.std.proofs.Common.{rules, ◌≡◌, drop, take, Some, None, ap, sym, ◌∙◌}
+use Rattle.std.proofs.Common.{rules, ◌≡◌, drop, take, Some, None}
 use Rattle.offers.specs.Asked.{windows_over, first_ready}
 use Rattle.offers.proofs.Readying.{next_above, next_again}
 use Rattle.offers.proofs.turns.next_of.Goals as goal

@@ -1,4 +1,4 @@
-use Rattle.std.proofs.Common.{◌≡◌, ℕ, subst, ap, ◌∙◌, List, None}
+use Rattle.std.proofs.Common.{◌≡◌, subst, ap, ◌∙◌, List, None}
 use Rattle.std.specs.Prelude.{IfSome, IfNone}
 use Rattle.offering.specs.State.{Kept, State, find}
 use Rattle.offers.specs.Places.{IsAt}

@@ -1,4 +1,4 @@
-use Rattle.std.proofs.Common.{◌≡◌, sym, ap, ◌∙◌, subst, true, List, [], ◌∷◌, ◌++◌}
+use Rattle.std.proofs.Common.{◌≡◌, sym, ap, ◌∙◌, subst, true, [], ◌∷◌, ◌++◌}
 use Rattle.offering.specs.State.{Kept, State, blank}
 use Rattle.offers.specs.Places.{AreRising}
 use Rattle.offers.specs.Asked.{is_above_all}

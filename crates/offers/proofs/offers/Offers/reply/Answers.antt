@@ -1,4 +1,4 @@
-use Rattle.std.proofs.Common.{◌≡◌, sym, ap, ◌∙◌, subst, set, List, Some, None, OnOk}
+use Rattle.std.proofs.Common.{◌≡◌, sym, ap, subst, set, List, None, OnOk}
 use Rattle.causes.specs.Views.{cause_of}
 use Rattle.offering.specs.State.{Kept, State, find, change, answered}
 use Rattle.offers.specs.Places.{IsAt}

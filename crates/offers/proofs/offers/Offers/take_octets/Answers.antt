@@ -1,5 +1,5 @@
 use Rattle.std.proofs.Common.{sym, ap, ◌∙◌, subst, set}
-use Rattle.offering.specs.State.{State, gone}
+use Rattle.offering.specs.State.{State}
 use Rattle.offers.specs.Places.{IsAt}
 use Rattle.offers.specs.Asked.{part_for, are_octets}
 use Rattle.offers.specs.Changes.{AreOctetsGone}

@@ -19,6 +19,7 @@ use Rattle.conduct.specs.Rows.{Row, ids_of, find, kept_in, row_behind, row_opene
 use Rattle.conduct.specs.Book.{Book, summary_in, book_after}
 use Rattle.conduct.specs.Tidy.{IsRow, AreKept}
 use Rattle.conduct.proofs.Elsewhere.{row_stays}
+use Rattle.relay.specs.Others.{SameOf}
 
 -- ---- faults of a frame
 
@@ -49,11 +50,6 @@ ids_same f ids [] = refl
 ids_same f ids (row ∷ rows) = ap (λ n. n ∷ ids_of (map f rows)) (ids row) ∙ ap (λ (ns : List ℕ). row.id ∷ ns) (ids_same f ids rows)
 
 -- ---- what is told of another stream
-
--- what is told of a stream: whether it was opened, and what is kept of it
-pub record SameOf (before behind : Book) (other : ℕ) : Type 0 where
-  pub opened : list_any (λ id. id == other) (ids_of behind.rows) ≡ list_any (λ id. id == other) (ids_of before.rows)
-  pub kept : find behind.rows other ≡ find before.rows other
 
 module _ (setup : Setup) (book : Book) (noted : Noted) (mild : is_fatal (fault_in (summary_in book) (Came noted)) ≡ false) (kept : AreKept book.rows) where
   abbrev changed : Row → Row

@@ -6,3 +6,4 @@ pub mod Passing
 pub mod Hearing
 pub mod View
 pub mod Performing
+pub mod Others

@@ -1,2 +1,100 @@
-//! The rooms of the gateway together.
+//! The rooms of the whole gateway together, and the rule that they follow: what each part of a step has to show, so that what the rooms'
+//! contracts say leads to moves of `policy`.
+//!
+//! No code yet but laws. What the rooms (`judgement`, `offers`, `upstreams`, an encoder) keep is seen together as a `View`; `Leads` says how
+//! that stands to the rule's state, behind moves and with what is pending in the midst of a step: frames that are owed, a connection or a text that is
+//! due, octets that are to go back. A part of a step *performs* (`Performs`): wherever moves led to what was kept, moves by the rule lead on to
+//! what is kept now, and put out what was put out. Parts behind one another perform together ([`parts_follow`]).
 #![tactic(auto)]
+
+ghost use Rattle.std.specs.Prelude.{◌≡◌, ◌≤◌, ◌==◌, ℕ, Bool, true, false, List, [], ◌++◌, length, map, reverse, Some, None};
+ghost use Rattle.model.specs.Messages.{Field, Item};
+ghost use Rattle.model.specs.Frames.{Frame};
+ghost use Rattle.model.specs.Logs.{Output};
+ghost use Rattle.model.specs.Setup.{Setup};
+ghost use Rattle.model.specs.Tables.{Table};
+ghost use Rattle.model.specs.Tapes.{Noted};
+ghost use Rattle.model.specs.Tapes.Note.{Fields};
+ghost use Rattle.model.specs.Tapes.Entry.{Came};
+ghost use Rattle.model.specs.Decoding.{Partial};
+ghost use Rattle.model.specs.StreamStates.{most_streams};
+ghost use Rattle.model.specs.Errors.{Fault};
+ghost use Rattle.model.specs.ErrorClause.{is_fatal};
+ghost use Rattle.model.specs.Known.{Known};
+ghost use Rattle.conduct.specs.Judging.{active_in, completed_in};
+ghost use Rattle.conduct.specs.Owing.{fault_in, last_farewell_in, owes_in};
+ghost use Rattle.conduct.specs.Rows.{ids_of, find};
+ghost use Rattle.conduct.specs.Quiet.{noted_of};
+ghost use Rattle.conduct.specs.Book.{Book, summary_in, book_after};
+ghost use Rattle.conduct.specs.Tidy.{AreKept};
+ghost use Rattle.offering.specs.Outbox.{Part};
+ghost use Rattle.offering.specs.Rule.{OpensNext};
+ghost use Rattle.offering.specs.Sight.{sight_in};
+ghost use Rattle.offering.specs.State.{Kept};
+ghost use Rattle.serving.specs.Rule.{MayOpen};
+ghost use Rattle.judgement.specs.Judgement.{IsPlain, IsTaken};
+ghost use Rattle.judgement.specs.Blocks.{SaysOf};
+ghost use Rattle.judgement.specs.Fragments.{IsOfBlock};
+ghost use Rattle.judgement.specs.declared.answers.Judged.{Judged};
+ghost use Rattle.judgement.specs.declared.answers.BlockJudged.{BlockJudged};
+ghost use Rattle.policy.specs.Moves.{Gain, Move};
+ghost use Rattle.policy.specs.Moves.Deed.{Takes, Sends, Goes};
+ghost use Rattle.policy.specs.Moves.Move.{Does};
+ghost use Rattle.policy.specs.State.{State};
+ghost use Rattle.policy.specs.Rule.{added_in};
+ghost use Rattle.policy.specs.Coming.{IsReady};
+ghost use Rattle.policy.specs.Steps.{told_by, MayGoOn};
+ghost use Rattle.relay.specs.Gains.{IsPlainGain, IsBlockGain};
+ghost use Rattle.relay.specs.Owed.{owed_for, owed_with_block, owed_at_fault};
+ghost use Rattle.relay.specs.Taking.{IsFrameTaken};
+ghost use Rattle.relay.specs.Passing.{PartGoes, FragmentGoes};
+ghost use Rattle.relay.specs.Led.{IsLed};
+ghost use Rattle.relay.specs.Others.{SameOf};
+ghost use Rattle.relay.specs.View.{View, Pending};
+ghost use Rattle.relay.specs.Performing.{Performs};
+
+/// What a frame of the client that has no fault gains its stream's request follows from the judgement's answer: octets of the body, a head,
+/// trailers, or nothing (RFC 9113, section 8.1). One that has a fault gains nothing.
+pub fn frames_gain()
+    ensures plain { (setup : Setup) (book : Book) (frame : Frame) → IsPlain frame → length (ids_of book.rows) ≤ most_streams → (new : Book) (answer : Judged) → IsTaken setup book frame new answer → IsPlainGain setup (summary_in book) (noted_of frame) answer }
+    ensures block { (setup : Setup) (book : Book) (noted : Noted) → IsOfBlock noted.frame → length (ids_of book.rows) ≤ most_streams → fault_in (summary_in book) (Came noted) ≡ None → (completed : Partial) → completed_in book.block noted.frame ≡ Some completed → (fields : List Field) → noted.note ≡ Fields fields → (answer : BlockJudged) → SaysOf setup (find book.rows noted.frame.id).brief fields completed.ends answer → IsBlockGain setup (summary_in book) noted fields completed.ends answer }
+    ensures part { (setup : Setup) (book : Book) (noted : Noted) → IsOfBlock noted.frame → length (ids_of book.rows) ≤ most_streams → completed_in book.block noted.frame ≡ None → added_in setup (summary_in book) noted ≡ [] }
+    ensures failed { (setup : Setup) (book : Book) (noted : Noted) → IsOfBlock noted.frame → length (ids_of book.rows) ≤ most_streams → (fault : Fault) → fault_in (summary_in book) (Came noted) ≡ Some fault → added_in setup (summary_in book) noted ≡ [] }
+{}
+
+/// What a frame of the client calls for follows from the answer too: an acknowledgement, a reset of its stream, and the farewell of the last stream
+/// that a connection may have (RFC 9113, sections 5.4.2, 6.5.3, 6.7 and 6.8).
+pub fn frames_call_for()
+    ensures plain { (setup : Setup) (book : Book) (frame : Frame) → IsPlain frame → (new : Book) (answer : Judged) → IsTaken setup book frame new answer → owes_in setup false (summary_in book) (Came (noted_of frame)) ≡ owed_for frame.id (find book.rows frame.id).head_out answer }
+    ensures plain_failed { (setup : Setup) (book : Book) (frame : Frame) → IsPlain frame → (fault : Fault) → is_fatal (Some fault) ≡ false → fault_in (summary_in book) (Came (noted_of frame)) ≡ Some fault → owes_in setup false (summary_in book) (Came (noted_of frame)) ≡ owed_at_fault frame.id fault }
+    ensures block { (setup : Setup) (book : Book) (noted : Noted) → IsOfBlock noted.frame → length (ids_of book.rows) ≤ most_streams → fault_in (summary_in book) (Came noted) ≡ None → (completed : Partial) → completed_in book.block noted.frame ≡ Some completed → (fields : List Field) → noted.note ≡ Fields fields → (answer : BlockJudged) → SaysOf setup (find book.rows noted.frame.id).brief fields completed.ends answer → owes_in setup false (summary_in book) (Came noted) ≡ last_farewell_in (summary_in book) (Came noted) ++ owed_with_block noted.frame.id (find book.rows noted.frame.id).head_out answer }
+    ensures part { (setup : Setup) (book : Book) (noted : Noted) → IsOfBlock noted.frame → length (ids_of book.rows) ≤ most_streams → fault_in (summary_in book) (Came noted) ≡ None → completed_in book.block noted.frame ≡ None → owes_in setup false (summary_in book) (Came noted) ≡ [] }
+    ensures block_failed { (setup : Setup) (book : Book) (noted : Noted) → IsOfBlock noted.frame → length (ids_of book.rows) ≤ most_streams → (fault : Fault) → is_fatal (Some fault) ≡ false → fault_in (summary_in book) (Came noted) ≡ Some fault → owes_in setup false (summary_in book) (Came noted) ≡ last_farewell_in (summary_in book) (Came noted) ++ owed_at_fault noted.frame.id fault }
+{}
+
+/// A frame of the client that is no error of the connection comes by the rule where the gateway rests, and leaves what is told of every other
+/// stream.
+pub fn frames_may_come()
+    ensures may { (setup : Setup) (s : State) → IsReady s → (noted : Noted) (next : Table) (gain : Gain) → IsFrameTaken setup s noted next gain → MayGoOn setup s (Does (Takes noted next gain)) }
+    ensures others { (setup : Setup) (book : Book) (noted : Noted) → is_fatal (fault_in (summary_in book) (Came noted)) ≡ false → AreKept book.rows → (other : ℕ) → (noted.frame.id == other) ≡ false → SameOf book (book_after setup false book (Came noted)) other }
+{}
+
+/// A frame of a response goes by the rule: one with which the next part of the stream whose turn it is is complete, and one of a header block
+/// that goes on in the next frame.
+pub fn parts_may_go()
+    ensures part { (setup : Setup) (s : State) (noted : Noted) (item : Item) (part : Part) (next : Table) → s.desk.book.ends ≡ false → PartGoes s noted item part next → MayGoOn setup s (Does (Goes noted item part next)) }
+    ensures fragment { (setup : Setup) (s : State) (noted : Noted) (next : Table) → s.desk.book.ends ≡ false → FragmentGoes s noted next → MayGoOn setup s (Does (Sends noted next)) }
+{}
+
+/// Where moves led, outboxes are kept of just the active streams, in the order in which they were opened; and the next connection is opened for
+/// the stream of the last frame, as the rule asks.
+pub fn states_are_sound()
+    ensures boxes { (known : Known) (run : List Move) (s : State) → IsLed known run s → map (λ k. k.id) s.offers.kept ≡ reverse (active_in (told_by s)) }
+    ensures opens { (known : Known) (run : List Move) (s : State) → IsLed known run s → (k route : ℕ) → MayOpen s.requests k route → OpensNext (sight_in (told_by s)) k }
+{}
+
+/// Parts of a step behind one another perform together; and doing nothing performs.
+pub fn parts_follow()
+    ensures none { (setup : Setup) (kept : View) (pending : Pending) (outputs : List Output) → Performs setup kept pending outputs kept pending outputs }
+    ensures together { (setup : Setup) (a b c : View) (x y z : Pending) (o p q : List Output) → Performs setup a x o b y p → Performs setup b y p c z q → Performs setup a x o c z q }
+{}

@@ -1,0 +1,8 @@
+use Rattle.relay.proofs.Sound as laws
+use Rattle.relay.proofs.states_are_sound.Goals as goal
+
+pub returns-clause-boxes : goal.returns-clause-boxes
+returns-clause-boxes c = laws.boxes
+
+pub returns-clause-opens : goal.returns-clause-opens
+returns-clause-opens c = laws.opens_next

@@ -25,14 +25,9 @@ fn with_stream(rt: &HostRuntime, ended: bool) -> Result<Connection, Fail> {
     Ok(connection)
 }
 
-/// Whether stream 1 is active.
-fn is_active(connection: &Connection) -> bool {
-    connection.streams().find(1).is_some()
-}
-
 /// Sends a header block on stream 1 where it is active.
 fn send_head(connection: &mut Connection, is_final: bool, ends: bool) {
-    if is_active(connection) {
+    if connection.streams().find(1).is_some() {
         connection.sent_head(1, is_final, ends);
     }
 }
@@ -117,7 +112,7 @@ fn data_takes_windows(rt: HostRuntime) -> Result<(), Fail> {
 #[test]
 fn resets_end_streams(rt: HostRuntime) -> Result<(), Fail> {
     let mut connection = with_stream(&rt, true)?;
-    if is_active(&connection) {
+    if connection.streams().find(1).is_some() {
         connection.sent_reset(1);
     }
     assert_eq!(rt;
@@ -173,7 +168,7 @@ fn answers_fail(rt: HostRuntime) -> Result<(), Fail> {
     assert!(rt; connection.is_served(1));
     assert!(rt; !connection.is_served(3));
     send_head(&mut connection, true, false);
-    if is_active(&connection) {
+    if connection.streams().find(1).is_some() {
         connection.answer_failed(1);
     }
     assert!(rt; !connection.is_served(1));

@@ -58,8 +58,8 @@ module _ (setup : Setup) (book : Book) (noted : Noted) (mild : is_fatal (fault_i
   stays : (other : ℕ) → (noted.frame.id == other) ≡ false → (row : Row) → IsRow row → (row.id == other) ≡ true → changed row ≡ row
   stays other apart row is here =
       row_stays setup false (summary_in book) (Came noted) row is (
-      ap (λ n. noted.frame.id == n) (eqb-true row.id other here) ∙ apart,
-      fatal_for (summary_in book) noted (kept_in row.slot).brief (find book.rows noted.frame.id).brief ∙ mild,
+        ap (λ n. noted.frame.id == n) (eqb-true row.id other here) ∙ apart,
+        fatal_for (summary_in book) noted (kept_in row.slot).brief (find book.rows noted.frame.id).brief ∙ mild,
       )
 
   changed_same : (other : ℕ) → (noted.frame.id == other) ≡ false → find (map changed book.rows) other ≡ find book.rows other

@@ -77,11 +77,15 @@ module _ (known : Known) (run : List Move) (s : State) (led : IsLed known run s)
   -- the stream that is kept with an open connection is the one that it was given to
   pub given_to : (k : ℕ) (live : Live) → live_of k s.requests.live ≡ Some live → (o : Opened) × IsIn o (opens t) × (o.k ≡ k) × (o.stream ≡ live.stream)
   given_to k live found =
-      let there = stands.there k live found in
-      (there.0, there.1, there.2, elim (stands.given there.0 there.1).lives [
-        | inl l ↦ (let same : Some l.live ≡ Some live = sym l.found ∙ ap (λ n. live_of n s.requests.live) there.2 ∙ found in sym l.same ∙ ap (λ (x : Live). x.stream) (let is : l.live ≡ live = cc in is))
-        | inr gone ↦ absurd (let no : None ≡ Some live = sym gone.missing ∙ ap (λ n. live_of n s.requests.live) there.2 ∙ found in cc)
-      ])
+      let there = stands.there k live found in (
+        there.0,
+        there.1,
+        there.2,
+        elim (stands.given there.0 there.1).lives [
+          | inl l ↦ (let same : Some l.live ≡ Some live = sym l.found ∙ ap (λ n. live_of n s.requests.live) there.2 ∙ found in sym l.same ∙ ap (λ (x : Live). x.stream) (let is : l.live ≡ live = cc in is))
+          | inr gone ↦ absurd (let no : None ≡ Some live = sym gone.missing ∙ ap (λ n. live_of n s.requests.live) there.2 ∙ found in cc)
+        ],
+      )
 
   -- An event of an open connection is of its stream, where something may come in.
   pub event_of : requests.MayCome (told_in (told_by s)) s.requests → (event : Event) (live : Live) → live_of (upstream_of event) s.requests.live ≡ Some live → (told_in (told_by s)).served live.stream ≡ true → IsEventOf (sight_in (told_by s)) event live.stream

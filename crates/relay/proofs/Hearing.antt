@@ -40,7 +40,7 @@ use Rattle.policy.specs.Answered.{IsWholeBy}
 use Rattle.relay.specs.Hearing.{IsSetUp, IsHeard}
 
 -- an event leaves the items of a stream
-same_or_more : (b : Bool) (xs : List Item) → (if b then xs else xs ++ []) ≡ xs
+pub same_or_more : (b : Bool) (xs : List Item) → (if b then xs else xs ++ []) ≡ xs
 same_or_more true xs = refl
 same_or_more false xs = append-nil xs
 

@@ -33,6 +33,11 @@ module _ (before behind : Told) (id : ℕ) (same : (other : ℕ) → (id == othe
     | inr apart ↦ ap (λ b. if b then h ∷ kept behind hs else kept behind hs) (same h.id (flipped h.id id apart.0) ∙ are.0) ∙ ap (λ (xs : List Held). h ∷ xs) (but_one off hs are.1) ∙ sym (ap (λ b. if b then without id_of id hs else h ∷ without id_of id hs) apart.0)
   ]
 
+-- where all streams are served as before, all stays
+pub all_kept : (told : Told) (hs : List Held) → AreServed told hs → kept told hs ≡ hs
+all_kept told [] are = refl
+all_kept told (h ∷ hs) are = ap (λ b. if b then h ∷ kept told hs else kept told hs) are.0 ∙ ap (λ (xs : List Held). h ∷ xs) (all_kept told hs are.1)
+
 -- What is held of streams that are served, where the other ones are behind the entry as before: it stays, but that of the one stream.
 pub held_behind : (before behind : Told) (id : ℕ) → ((other : ℕ) → (id == other) ≡ false → behind.served other ≡ before.served other) → (hs : List Held) → AreServed before hs → kept behind hs ≡ (if behind.served id then hs else without id_of id hs)
 held_behind before behind id same hs served = by (behind.served id) refl

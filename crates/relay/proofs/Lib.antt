@@ -8,3 +8,5 @@ pub mod Hearing
 pub mod Beside
 pub mod Kept
 pub mod Performing
+pub mod Served
+pub mod Paying

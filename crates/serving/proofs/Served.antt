@@ -21,14 +21,14 @@ use Rattle.model.proofs.DeliveryReadings.{one_number}
 use Rattle.model.proofs.GivenLaws.{given_zero}
 use Rattle.h1_writer.specs.Sending.{Stage}
 use Rattle.serving.specs.Told.{is_served, Told, IsTold}
-use Rattle.serving.specs.State.{Way, Held, id_of, held_of, held_with, held_opened, held_after, kept, drop_from, without, Live, k_of, live_of, live_acted, live_after, Due, to_open, to_send, due_opened, due_after, is_whole, goes_now, State, Move, entry_of, after, Turn, state_of, tape_of}
+use Rattle.serving.specs.State.{Way, Held, id_of, held_of, with_way, held_at, held_with, held_opened, held_after, kept, drop_from, without, Live, k_of, live_of, live_acted, live_after, Due, to_open, to_send, due_opened, due_after, is_whole, goes_now, State, Move, entry_of, after, Turn, state_of, tape_of}
 use Rattle.serving.specs.State.Way.{Going}
 use Rattle.serving.specs.State.Due.{Nothing, ToOpen, ToSend}
 use Rattle.serving.specs.State.Move.{Takes, Begins, Gathers, Passes, Drops, Breaks, Notes, Hears, Fails, Sends, Acts}
 use Rattle.serving.specs.Rule.{IsServing, MayPass, MayOpen, MayMove, told_of, AreAllowed}
 use Rattle.serving.specs.Meaning.{AreSo}
 use Rattle.serving.specs.Held.{AreApart}
-use Rattle.serving.proofs.Lists.{find_first, find_gone, find_other, find_map, held_beside}
+use Rattle.serving.proofs.Lists.{find_first, find_other, find_map, held_beside}
 use Rattle.serving.proofs.Standing.{IsOpening, IsDue, IsGoing, Stands}
 use Rattle.serving.proofs.Framing.{held_kept}
 use Rattle.serving.proofs.Closing.{drop_found, found_live, same_live}
@@ -252,13 +252,21 @@ apart_without n (h ∷ hs) apart = elim (eqb_tells h.id n) [
   | inr other ↦ subst (λ b. AreApart (if b then without id_of n hs else h ∷ without id_of n hs)) (sym other.0) (find_other id_of n h.id hs (λ e. other.1 (sym e)) ∙ apart.0, apart_without n hs apart.1)
 ]
 
-apart_with : (id : ℕ) (way : Option Way) (hs : List Held) → AreApart hs → AreApart (held_with id way hs)
+-- what is held of each may change
+apart_changed : (f : Held → Held) → ((h : Held) → (f h).id ≡ h.id) → (hs : List Held) → AreApart hs → AreApart (map f hs)
+apart_changed f keeps [] apart = tt
+apart_changed f keeps (h ∷ hs) apart = (ap (λ n. held_of n (map f hs)) (keeps h) ∙ find_map id_of f keeps h.id hs ∙ ap (option_map f) apart.0, apart_changed f keeps hs apart.1)
+
+pub apart_with : (id : ℕ) (way : Option Way) (hs : List Held) → AreApart hs → AreApart (held_with id way hs)
 apart_with id None hs apart = apart_without id hs apart
-apart_with id (Some way) hs apart = (find_gone id_of id hs, apart_without id hs apart)
+apart_with id (Some way) hs apart = by (held_of id hs) refl
+  where
+    by : (o : Option Held) → held_of id hs ≡ o → AreApart (held_at id way o hs)
+    by None none = (none, apart)
+    by (Some h) was = apart_changed (with_way id way) (λ y. refl) hs apart
 
 apart_dropped : (k : ℕ) (hs : List Held) → AreApart hs → AreApart (map (drop_from k) hs)
-apart_dropped k [] apart = tt
-apart_dropped k (h ∷ hs) apart = (find_map id_of (drop_from k) (λ x. refl) h.id hs ∙ ap (option_map (drop_from k)) apart.0, apart_dropped k hs apart.1)
+apart_dropped k hs apart = apart_changed (drop_from k) (λ x. refl) hs apart
 
 apart_opened : (due : Due) (k : ℕ) (hs : List Held) → AreApart hs → AreApart (held_opened due k hs)
 apart_opened Nothing k hs apart = apart

@@ -1,0 +1,13 @@
+use Rattle.std.proofs.Common.{rules}
+use Rattle.std.specs.Prelude.{IfSome, IfNone}
+use Rattle.std.proofs.lemmas.List.Sorted.{answers_always}
+use Rattle.upstreams.specs.Connections.{IsOpenAt, IsOpenNowhere}
+use Rattle.upstreams.proofs.Openings.{searched}
+use Rattle.upstreams.proofs.connections.place_of.Goals as goal
+
+-- the closure gives a connection's number
+pub returns : goal.returns
+returns c =
+    let facts = c.binary_search_by_key.ensures in
+    let by_number = facts.position (λ connection. connection.live.k) (answers_always _ _ _ (λ f a r g called. search rules)) in
+    rw c.ok.ensures.value (searched c.args.connections.now c.requires c.args.k c.binary_search_by_key.result facts.bound by_number)

@@ -1,0 +1,11 @@
+use Rattle.std.proofs.Common.{sym, subst}
+use Rattle.std.specs.Prelude.{reverse}
+use Rattle.serving.specs.Held.{AreApart}
+use Rattle.serving.proofs.Served.{apart_without}
+use Rattle.upstreams.proofs.upstreams.Upstreams.forget.Goals as goal
+
+pub invariant_of-self : goal.invariant_of-self
+invariant_of-self c = record {
+  apart = subst AreApart (sym c.take-request.ensures.rest) (apart_without c.args.id (reverse c.self.inside.held.items) c.self.invariant.apart);
+  below = c.self.invariant.below;
+}

@@ -1,0 +1,7 @@
+pub use Rattle.serving.specs.State
+pub use Rattle.serving.specs.Told
+pub use Rattle.serving.specs.Held
+pub mod Requests
+pub mod Connections
+pub mod Kept
+pub mod Places

@@ -1,7 +1,7 @@
 -- Open connections, whose numbers rise: where they are found, changed and removed.
 use Rattle.std.proofs.Common.{◌≡◌, ℕ, ◌+◌, ◌-◌, ◌<◌, ◌≤◌, ◌==◌, if◌then◌else◌, Bool, true, false, List, [], ◌∷◌, ◌++◌, length, map, set, get_or, Some, None, Result, Ok, Err, refl, sym, ap, ◌∙◌, subst, inl, inr, arith}
 use Rattle.std.specs.Prelude.{Option, zero, suc, reverse, IfSome, IfNone, MatchOption}
-use Rattle.std.specs.List.{remove}
+use Rattle.std.specs.List.{remove, push}
 use Rattle.std.specs.List.Sorted.{IsSearchInRange, IsBinarySearchResult, IsNonDecreasingBy}
 use Rattle.std.specs.Result.{result_ok}
 use Rattle.std.specs.Ordering.{nat_cmp, ordering_index}
@@ -9,11 +9,13 @@ use Rattle.std.proofs.lemmas.Cmp.{ranked}
 use Rattle.std.proofs.lemmas.List.Sorted.{IsNonDecreasingBy-from_default}
 use Rattle.std.proofs.lemmas.Bool.{cases_lt, eq-eqb, ne_eqb}
 use Rattle.std.proofs.lemmas.Bool.Decides.{eqb_tells, nat_tests}
-use Rattle.std.proofs.lemmas.List.{length-reverse, get_or-reverse}
+use Rattle.std.proofs.lemmas.List.{reverse-append, length-reverse, get_or-reverse}
 use Rattle.answers.specs.Waiting.{Answer}
-use Rattle.serving.specs.State.{Live, find, without, answered}
+use Rattle.serving.specs.State.{find, without}
+use Rattle.serving.specs.Told.{Told}
+use Rattle.serving.specs.Rule.{is_done}
 use Rattle.upstreams.specs.Places.{IsAt, IsNowhere}
-use Rattle.upstreams.specs.Connections.{Connection, number_of, no_connection, IsOpenAt, IsOpenNowhere, AreBelow, AreRising, whole_at, answer_at, put_at, taken_at}
+use Rattle.upstreams.specs.Connections.{Connection, number_of, stream_of, next_done, no_connection, IsOpenAt, IsOpenNowhere, AreBelow, AreRising, whole_at, answer_at, put_at, taken_at}
 use Rattle.upstreams.proofs.Lists.{IsOnly, find_none, find_only, without_none, without_only, map_none, map_only, turned_none, turned_alone}
 
 -- the number at a place
@@ -166,3 +168,27 @@ module _ (cs : List Connection) (k : ℕ) (none : IsOpenNowhere cs k) where
 
   pub none_taken : (count : ℕ) → reverse cs ≡ map (taken_at k count) (reverse cs)
   none_taken count = sym (none_changed (taken_at k count) (λ c apart. ap (λ b. let n : Connection = record c { took = if b then c.took + count else c.took } in n) (ne_eqb c.live.k k apart)))
+
+-- ---- walks from the newest on
+
+-- the newest connection is the first that is found
+pub newest_found : (id : ℕ) (cs : List Connection) (c : Connection) → c.live.stream ≡ id → find stream_of id (reverse (push cs c)) ≡ Some c
+newest_found id cs c same =
+    ap (find stream_of id) (reverse-append cs (c ∷ []))
+    ∙ ap (λ b. if b then Some c else find stream_of id (reverse cs)) (eq-eqb c.live.stream id same)
+
+pub newest_other : (id : ℕ) (cs : List Connection) (c : Connection) → (c.live.stream ≡ id → ⊥) → find stream_of id (reverse (push cs c)) ≡ find stream_of id (reverse cs)
+newest_other id cs c apart =
+    ap (find stream_of id) (reverse-append cs (c ∷ []))
+    ∙ ap (λ b. if b then Some c else find stream_of id (reverse cs)) (ne_eqb c.live.stream id apart)
+
+-- it is done with, or isn't
+pub newest_done : (told : Told) (cs : List Connection) (c : Connection) → is_done told c.live ≡ true → next_done told (reverse (push cs c)) ≡ Some c.live.k
+newest_done told cs c done =
+    ap (next_done told) (reverse-append cs (c ∷ []))
+    ∙ ap (λ b. if b then Some c.live.k else next_done told (reverse cs)) done
+
+pub newest_goes_on : (told : Told) (cs : List Connection) (c : Connection) → is_done told c.live ≡ false → next_done told (reverse (push cs c)) ≡ next_done told (reverse cs)
+newest_goes_on told cs c on =
+    ap (next_done told) (reverse-append cs (c ∷ []))
+    ∙ ap (λ b. if b then Some c.live.k else next_done told (reverse cs)) on

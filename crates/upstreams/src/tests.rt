@@ -1,5 +1,5 @@
 use super::*;
-use answers::Passing;
+use answers::{Answer, Heard, Passing};
 use hpack_table::Field;
 use outbox::Outbox;
 use request_rules::{RequestHead, check_head};
@@ -22,14 +22,17 @@ fn head_of(
     Ok(check_head(alloc, &fields, ended).expect(rt, "a head"))
 }
 
-/// The numbers of the connections of three streams.
-fn three_open(upstreams: &mut Upstreams) -> Result<(u32, u32, u32), AllocError>
-    requires { upstreams.old ≡ Rattle.upstreams.specs.Kept.nothing }
-{
-    let first = upstreams.open(5, false, Passing::Streaming)?;
-    let second = upstreams.open(3, true, Passing::Whole(10))?;
-    let third = upstreams.open(7, false, Passing::Streaming)?;
-    Ok((first, second, third))
+/// The stream of an open connection, whether its response is whole, and how many octets wait for its side.
+fn facts_of(connection: Option<&Connection>) -> Option<(u32, u32, bool, u64)> {
+    match connection {
+        Some(connection) => Some((
+            connection.number(),
+            connection.stream(),
+            connection.is_whole(),
+            connection.untaken(),
+        )),
+        None => None,
+    }
 }
 
 #[test]
@@ -45,5 +48,92 @@ fn a_request_without_a_body_is_due_at_once(rt: HostRuntime) -> Result<(), Fail> 
         due.text.as_slice(),
         b"GET / HTTP/1.1\r\nhost: h\r\nvia: 2.0 h2gw\r\nconnection: close\r\n\r\n".as_slice()
     );
+    Ok(())
+}
+
+#[test]
+fn a_body_is_due_once_it_is_whole(rt: HostRuntime) -> Result<(), Fail> {
+    let mut upstreams = Upstreams::new(rt.alloc());
+    let head = head_of(rt.alloc(), &rt, b"POST", false)?;
+    assert!(rt; head.length().is_none());
+    assert!(rt; upstreams.begin(3, 7, &head, false)?.is_none());
+    upstreams.gather(3, b"hel")?;
+    let due = upstreams.finish(3, b"lo")?;
+    assert_eq!(rt; (due.stream, due.route), (3, 7));
+    assert_eq!(rt;
+        due.text.as_slice(),
+        b"POST / HTTP/1.1\r\nhost: h\r\nvia: 2.0 h2gw\r\ntransfer-encoding: chunked\r\nconnection: close\r\n\r\n5\r\nhello\r\n0\r\n\r\n".as_slice()
+    );
+    Ok(())
+}
+
+#[test]
+fn connections_are_found_by_number_and_by_stream(rt: HostRuntime) -> Result<(), Fail> {
+    let mut upstreams = Upstreams::new(rt.alloc());
+    assert_eq!(rt; upstreams.open(5, false, Passing::Streaming)?, 1);
+    assert_eq!(rt; upstreams.open(3, false, Passing::Streaming)?, 2);
+    assert_eq!(rt; facts_of(upstreams.find(1)), Some((1, 5, false, 0)));
+    assert_eq!(rt; facts_of(upstreams.of_stream(3)), Some((2, 3, false, 0)));
+    upstreams.close(1);
+    assert_eq!(rt; facts_of(upstreams.find(1)), None);
+    assert_eq!(rt; facts_of(upstreams.of_stream(5)), None);
+    assert_eq!(rt; facts_of(upstreams.find(2)), Some((2, 3, false, 0)));
+    Ok(())
+}
+
+#[test]
+fn octets_are_put_out_and_taken(rt: HostRuntime) -> Result<(), Fail> {
+    let mut upstreams = Upstreams::new(rt.alloc());
+    let k = upstreams.open(5, false, Passing::Streaming)?;
+    upstreams.put(k, 10);
+    assert_eq!(rt; facts_of(upstreams.find(k)), Some((1, 5, false, 10)));
+    upstreams.take(k, 4);
+    assert_eq!(rt; facts_of(upstreams.find(k)), Some((1, 5, false, 6)));
+    Ok(())
+}
+
+#[test]
+fn one_connection_after_another_is_done_with(rt: HostRuntime) -> Result<(), Fail> {
+    let mut upstreams = Upstreams::new(rt.alloc());
+    let first = upstreams.open(5, false, Passing::Streaming)?;
+    let second = upstreams.open(7, false, Passing::Streaming)?;
+    assert_eq!(rt; upstreams.next_done(|_| true), None);
+    upstreams.mark_whole(first);
+    assert_eq!(rt; upstreams.next_done(|_| true), Some(first));
+    assert_eq!(rt; upstreams.next_done(|stream| stream != 7), Some(second));
+    upstreams.close(second);
+    assert_eq!(rt; upstreams.next_done(|stream| stream != 7), Some(first));
+    Ok(())
+}
+
+#[test]
+fn an_answer_is_lent_out_and_put_back(rt: HostRuntime) -> Result<(), Fail> {
+    let mut upstreams = Upstreams::new(rt.alloc());
+    let mut outbox = Outbox::new(rt.alloc());
+    let k = upstreams.open(5, false, Passing::Streaming)?;
+    let empty = Answer::new(rt.alloc(), false, Passing::Streaming);
+    let mut answer = upstreams.replace_answer(k, empty);
+    assert_eq!(rt;
+        answer.hear(b"HTTP/1.1 204 No Content\r\n", &mut outbox)?,
+        Heard::GoesOn
+    );
+    let _empty = upstreams.replace_answer(k, answer);
+    let mut rest = upstreams.replace_answer(k, Answer::new(rt.alloc(), false, Passing::Streaming));
+    assert_eq!(rt; rest.hear(b"\r\n", &mut outbox)?, Heard::Whole);
+    Ok(())
+}
+
+#[test]
+fn nothing_is_held_of_a_stream_that_is_forgotten(rt: HostRuntime) -> Result<(), Fail> {
+    let mut upstreams = Upstreams::new(rt.alloc());
+    let head = head_of(rt.alloc(), &rt, b"POST", false)?;
+    assert!(rt; head.length().is_none());
+    assert!(rt; upstreams.begin(3, 7, &head, false)?.is_none());
+    assert!(rt; upstreams.begin(5, 7, &head, false)?.is_none());
+    upstreams.forget(3);
+    upstreams.gather(3, b"x")?;
+    let due = upstreams.finish(5, b"y")?;
+    assert_eq!(rt; due.stream, 5);
+    assert!(rt; due.text.ends_with(b"1\r\ny\r\n0\r\n\r\n"));
     Ok(())
 }

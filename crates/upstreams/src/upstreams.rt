@@ -114,12 +114,7 @@ impl Upstreams {
 
     /// A connection is opened for a stream, whose request's method is HEAD or isn't: it has the next number, which is the answer. At most
     /// 10,000 are ever opened, one for a stream. An `Err` says that memory was refused; it changes nothing.
-    pub fn open(
-        &mut self,
-        stream: u32,
-        to_head: bool,
-        passing: Passing,
-    ) -> Result<u32, AllocError>
+    pub fn open(&mut self, stream: u32, to_head: bool, passing: Passing) -> Result<u32, AllocError>
         requires { self.old.count < most_streams }
         ensures number { IfOk result (λ k. k ≡ suc self.old.count) }
         ensures stands { Stands [] [] (opened (suc self.old.count) stream to_head passing).answer.reader }

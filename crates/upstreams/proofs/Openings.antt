@@ -1,6 +1,6 @@
 -- Open connections, whose numbers rise: where they are found, changed and removed.
-use Rattle.std.proofs.Common.{◌≡◌, ℕ, ◌+◌, ◌-◌, ◌<◌, ◌≤◌, ◌==◌, if◌then◌else◌, Bool, true, false, List, [], ◌∷◌, ◌++◌, length, map, set, get_or, Some, None, Result, Ok, Err, refl, sym, ap, ◌∙◌, subst, inl, inr, arith}
-use Rattle.std.specs.Prelude.{Option, zero, suc, reverse, IfSome, IfNone, MatchOption}
+use Rattle.std.proofs.Common.{◌≡◌, ℕ, ◌+◌, ◌-◌, ◌<◌, ◌≤◌, ◌==◌, if◌then◌else◌, Bool, true, false, List, [], ◌∷◌, length, map, set, get_or, Some, None, Result, Ok, Err, sym, ap, ◌∙◌, subst, inl, inr, arith}
+use Rattle.std.specs.Prelude.{zero, suc, reverse, IfSome, IfNone}
 use Rattle.std.specs.List.{remove, push}
 use Rattle.std.specs.List.Sorted.{IsSearchInRange, IsBinarySearchResult, IsNonDecreasingBy}
 use Rattle.std.specs.Result.{result_ok}
@@ -8,13 +8,13 @@ use Rattle.std.specs.Ordering.{nat_cmp, ordering_index}
 use Rattle.std.proofs.lemmas.Cmp.{ranked}
 use Rattle.std.proofs.lemmas.List.Sorted.{IsNonDecreasingBy-from_default}
 use Rattle.std.proofs.lemmas.Bool.{cases_lt, eq-eqb, ne_eqb}
-use Rattle.std.proofs.lemmas.Bool.Decides.{eqb_tells, nat_tests}
+use Rattle.std.proofs.lemmas.Bool.Decides.{nat_tests}
 use Rattle.std.proofs.lemmas.List.{reverse-append, length-reverse, get_or-reverse}
 use Rattle.answers.specs.Waiting.{Answer}
 use Rattle.serving.specs.State.{find, without}
 use Rattle.serving.specs.Told.{Told}
 use Rattle.serving.specs.Rule.{is_done}
-use Rattle.upstreams.specs.Places.{IsAt, IsNowhere}
+use Rattle.upstreams.specs.Places.{IsNowhere}
 use Rattle.upstreams.specs.Connections.{Connection, number_of, stream_of, next_done, no_connection, IsOpenAt, IsOpenNowhere, AreBelow, AreRising, whole_at, answer_at, put_at, taken_at}
 use Rattle.upstreams.proofs.Lists.{IsOnly, find_none, find_only, without_none, without_only, map_none, map_only, turned_none, turned_alone}
 

@@ -1,15 +1,13 @@
 -- What is held of requests, where it is found, changed and taken out.
-use Rattle.std.proofs.Common.{◌≡◌, ℕ, ◌+◌, ◌-◌, ◌<◌, ◌==◌, if◌then◌else◌, List, [], ◌∷◌, ◌++◌, length, set, get_or, Some, None, Result, Ok, Err, OnOk, OnErr, refl, sym, ap, ◌∙◌, subst, arith}
+use Rattle.std.proofs.Common.{◌≡◌, ℕ, ◌<◌, List, [], ◌∷◌, ◌++◌, length, set, get_or, Some, None, Result, Ok, Err, OnOk, OnErr, refl, sym, ap, ◌∙◌, subst, arith}
 use Rattle.std.specs.Prelude.{Option, zero, suc, reverse}
 use Rattle.std.specs.List.{remove}
-use Rattle.std.proofs.lemmas.Bool.Decides.{eqb_tells}
-use Rattle.std.proofs.lemmas.List.{reverse-append, length-reverse, get_or-reverse}
+use Rattle.std.proofs.lemmas.List.{reverse-append}
 use Rattle.serving.specs.State.{Way, Held, id_of, held_of, held_at, held_with, with_way, without}
 use Rattle.serving.specs.Held.{AreApart}
 use Rattle.serving.proofs.Lists.{way_of_own, way_of_other, found_key}
 use Rattle.serving.proofs.Served.{apart_with}
 use Rattle.upstreams.specs.declared.held.Outgoing.{Outgoing}
-use Rattle.upstreams.specs.Places.{IsAt, IsNowhere}
 use Rattle.upstreams.specs.Requests.{no_held, IsHeldAt, IsHeldNowhere, gathered_in, gathered, gathered_at, IsEnded, IsEndedFor}
 use Rattle.upstreams.proofs.Lists.{IsOnly, find_none, find_only, without_none, without_only, map_only, turned_none, turned_alone, nowhere}
 

@@ -1,5 +1,5 @@
 -- Open connections.
-use Rattle.std.specs.Prelude.{◌≡◌, ℕ, ◌+◌, ◌<◌, ◌==◌, ◌^◌, Bool, true, false, if◌then◌else◌, suc, List, [], ◌∷◌, map, reverse, Option, Some, None}
+use Rattle.std.specs.Prelude.{◌≡◌, ℕ, ◌+◌, ◌<◌, ◌==◌, ◌^◌, Bool, true, false, if◌then◌else◌, List, [], ◌∷◌, map, reverse, Option, Some, None}
 use Rattle.h1_reader.specs.declared.reader.Place.TheVariants as place
 use Rattle.answers.specs.Waiting.{Answer}
 use Rattle.answers.specs.declared.answer.Passing.{Passing}

@@ -1,10 +1,10 @@
 -- Requests that are held, and whole ones.
-use Rattle.std.specs.Prelude.{◌≡◌, ℕ, List, [], ◌∷◌, ◌++◌, Option, Some, None}
+use Rattle.std.specs.Prelude.{◌≡◌, ℕ, List, ◌++◌, Option, Some, None}
 use Rattle.requests.specs.Waits as requests
 use Rattle.requests.specs.Waits.{Request}
 use Rattle.h1_writer.specs.Sending.Stage.{Whole}
 use Rattle.serving.specs.State.{Way, Held, id_of, held_of, held_with, Due}
-use Rattle.serving.specs.State.Way.{Waiting, Going, Dropped}
+use Rattle.serving.specs.State.Way.{Waiting, Dropped}
 use Rattle.serving.specs.State.Due.{Nothing, ToOpen}
 use Rattle.upstreams.specs.declared.held.Outgoing.{Outgoing}
 use Rattle.upstreams.specs.Places.{IsAt, IsNowhere}

@@ -72,7 +72,8 @@ impl Connection {
     pub fn is_whole(&self) -> bool
         ensures { result ≡ self.now.live.whole }
     {
-        self.whole
+        let Connection { whole, .. } = self;
+        *whole
     }
 
     /// How many octets that were put out for it its side hasn't taken yet.

@@ -1,5 +1,5 @@
-use Rattle.std.proofs.Common.{◌≡◌, ◌+◌, ◌<◌, ◌≤◌, ◌^◌, true, ◌∙◌, ap, sym, subst}
-use Rattle.std.specs.Prelude.{Option, IfSome, reverse, slice_set, slice_index_or}
+use Rattle.std.proofs.Common.{◌≡◌, true, ◌∙◌, ap}
+use Rattle.std.specs.Prelude.{reverse, slice_set, slice_index_or}
 use Rattle.std.proofs.lemmas.List.{get_or_read}
 use Rattle.upstreams.specs.Connections.{Connection, no_connection, IsOpenAt}
 use Rattle.upstreams.proofs.Openings.{whole_there, none_whole}

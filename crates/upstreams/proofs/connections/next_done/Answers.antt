@@ -1,9 +1,8 @@
-use Rattle.std.proofs.Common.{rules, ◌≡◌, ◌<◌, ◌^◌, ◌∙◌, ap, sym, subst, length, ℕ, Bool, true, false, refl}
+use Rattle.std.proofs.Common.{rules, ◌≡◌, ◌∙◌, ap, sym, true, false}
 use Rattle.std.specs.Prelude.{reverse, not, ◌||◌, Some}
 use Rattle.std.proofs.lemmas.List.{nil_from_length}
-use Rattle.serving.specs.Told.{Told}
 use Rattle.serving.specs.Rule.{is_done}
-use Rattle.upstreams.specs.Connections.{next_done, Answers}
+use Rattle.upstreams.specs.Connections.{next_done}
 use Rattle.upstreams.proofs.Openings.{newest_done, newest_goes_on}
 use Rattle.upstreams.proofs.connections.next_done.Goals as goal
 use Rattle.upstreams.proofs.connections.next_done.Goals.{then-is_whole-via-then-is_whole, then-is_whole-via-else-is_whole+then-not-is_served}

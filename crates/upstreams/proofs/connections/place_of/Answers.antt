@@ -1,7 +1,5 @@
 use Rattle.std.proofs.Common.{rules}
-use Rattle.std.specs.Prelude.{IfSome, IfNone}
 use Rattle.std.proofs.lemmas.List.Sorted.{answers_always}
-use Rattle.upstreams.specs.Connections.{IsOpenAt, IsOpenNowhere}
 use Rattle.upstreams.proofs.Openings.{searched}
 use Rattle.upstreams.proofs.connections.place_of.Goals as goal
 

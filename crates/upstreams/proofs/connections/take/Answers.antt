@@ -1,4 +1,4 @@
-use Rattle.std.proofs.Common.{◌≡◌, ◌+◌, ◌<◌, ◌≤◌, ◌^◌, true, ◌∙◌, ap, sym, subst}
+use Rattle.std.proofs.Common.{◌≡◌, ◌+◌, ◌≤◌, ◌∙◌, ap, subst}
 use Rattle.std.specs.Prelude.{Option, IfSome, reverse, slice_set, slice_index_or}
 use Rattle.std.proofs.lemmas.List.{get_or_read}
 use Rattle.upstreams.specs.Connections.{Connection, no_connection, IsOpenAt}

@@ -1,9 +1,9 @@
-use Rattle.std.proofs.Common.{◌≡◌, ◌∙◌, ap, sym}
+use Rattle.std.proofs.Common.{◌≡◌, ◌∙◌, ap}
 use Rattle.std.specs.Prelude.{reverse, slice_set, slice_index_or}
 use Rattle.std.proofs.lemmas.List.{get_or_read}
 use Rattle.std.proofs.lemmas.Result.{on_ok_weaker}
 use Rattle.serving.specs.State.{Held}
-use Rattle.upstreams.specs.Requests.{no_held, IsHeldAt, gathered, gathered_in}
+use Rattle.upstreams.specs.Requests.{no_held, IsHeldAt, gathered_in}
 use Rattle.upstreams.proofs.Requests.{gathered_there, none_gathered}
 use Rattle.upstreams.proofs.held.gather.Goals as goal
 

@@ -1,4 +1,4 @@
-use Rattle.std.proofs.Common.{◌≡◌, ◌∙◌, ap}
+use Rattle.std.proofs.Common.{◌∙◌, ap}
 use Rattle.upstreams.specs.Requests.{way_of, IsHeldAt}
 use Rattle.upstreams.proofs.Requests.{held_there, held_new}
 use Rattle.std.specs.Prelude.{reverse}

@@ -1,5 +1,5 @@
-use Rattle.std.proofs.Common.{◌≡◌, ◌∙◌, ap, sym}
-use Rattle.std.specs.Prelude.{reverse, Some, slice_index_or}
+use Rattle.std.proofs.Common.{◌∙◌, ap, sym}
+use Rattle.std.specs.Prelude.{reverse, Some}
 use Rattle.std.proofs.lemmas.List.{get_or_read}
 use Rattle.upstreams.specs.Requests.{no_held, IsHeldAt}
 use Rattle.upstreams.proofs.Requests.{found, taken_out, not_found, none_taken}

@@ -1,4 +1,4 @@
-use Rattle.std.proofs.Common.{refl, sym, subst}
+use Rattle.std.proofs.Common.{sym, subst}
 use Rattle.std.specs.Prelude.{suc, reverse}
 use Rattle.upstreams.specs.Connections.{AreBelow}
 use Rattle.upstreams.proofs.Openings.{below_without}

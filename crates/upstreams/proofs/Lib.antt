@@ -1,3 +1,4 @@
 pub mod Lists
 pub mod Requests
 pub mod Openings
+pub mod Waiting

@@ -124,16 +124,14 @@ fn an_answer_is_lent_out_and_put_back(rt: HostRuntime) -> Result<(), Fail> {
 }
 
 #[test]
-fn nothing_is_held_of_a_stream_that_is_forgotten(rt: HostRuntime) -> Result<(), Fail> {
+fn only_the_stream_that_is_told_is_forgotten(rt: HostRuntime) -> Result<(), Fail> {
     let mut upstreams = Upstreams::new(rt.alloc());
     let head = head_of(rt.alloc(), &rt, b"POST", false)?;
     assert!(rt; head.length().is_none());
     assert!(rt; upstreams.begin(3, 7, &head, false)?.is_none());
-    assert!(rt; upstreams.begin(5, 7, &head, false)?.is_none());
-    upstreams.forget(3);
-    upstreams.gather(3, b"x")?;
-    let due = upstreams.finish(5, b"y")?;
-    assert_eq!(rt; due.stream, 5);
+    upstreams.forget(5);
+    let due = upstreams.finish(3, b"y")?;
+    assert_eq!(rt; due.stream, 3);
     assert!(rt; due.text.ends_with(b"1\r\ny\r\n0\r\n\r\n"));
     Ok(())
 }

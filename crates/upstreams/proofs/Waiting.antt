@@ -1,10 +1,8 @@
 -- A request that was begun may end, where its head declares no length.
-use Rattle.std.proofs.Common.{◌≡◌, ℕ, Bool, true, false, List, [], ◌++◌, Some, None, refl, sym, ap, ◌∙◌, subst}
+use Rattle.std.proofs.Common.{◌≡◌, ℕ, true, false, List, [], ◌++◌, Some, None, refl, sym, ap, ◌∙◌, subst}
 use Rattle.std.specs.Prelude.{Option, option_map}
 use Rattle.model.specs.Http2.{HasLength}
 use Rattle.request_rules.specs.Heads.{HeadParts}
-use Rattle.requests.specs.Waits as requests
-use Rattle.h1_writer.specs.Sending.{Stage}
 use Rattle.h1_writer.specs.Sending.Stage.{Whole}
 use Rattle.serving.specs.State.{Way, Held, id_of, held_of, held_at, held_with, with_way, is_whole}
 use Rattle.serving.specs.State.Way.{Waiting}

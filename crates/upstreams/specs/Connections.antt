@@ -4,7 +4,7 @@ use Rattle.h1_reader.specs.declared.reader.Place.TheVariants as place
 use Rattle.answers.specs.Waiting.{Answer}
 use Rattle.answers.specs.declared.answer.Passing.{Passing}
 use Rattle.answers.specs.declared.answer.Passing.TheVariants.{Streaming}
-use Rattle.serving.specs.State.{Live, answered}
+use Rattle.serving.specs.State.{Live, find, answered}
 use Rattle.serving.specs.Told.{Told}
 use Rattle.serving.specs.Rule.{is_done}
 use Rattle.upstreams.specs.Places.{IsAt, IsNowhere}
@@ -60,6 +60,12 @@ taken_at k count c = record { live = c.live; answer = c.answer; out = c.out; too
 abbrev pub next_done : Told → List Connection → Option ℕ
 next_done told [] = None
 next_done told (c ∷ cs) = if is_done told c.live then Some c.live.k else next_done told cs
+
+-- The open connection with this number is done with.
+pub record IsDone (told : Told) (cs : List Connection) (k : ℕ) : Type 0 where
+  pub connection : Connection
+  pub found : find number_of k cs ≡ Some connection
+  pub done : is_done told connection.live ≡ true
 
 -- A test of streams answers what is told of them.
 abbrev pub Answers : (ℕ → Bool → Type 0) → Told → Type 0

@@ -1,13 +1,15 @@
 //! Requests that wait, and open connections.
 
-ghost use Rattle.std.specs.Prelude.{◌≡◌, ◌+◌, ◌<◌, ◌≤◌, ◌^◌, ◌∷◌, [], suc, map, true, Some, None, MatchOption, IfSome, IfNone, OnOk, OnErr, IfOk};
+ghost use Rattle.std.specs.Prelude.{◌≡◌, ◌+◌, ◌<◌, ◌≤◌, ◌^◌, ◌∷◌, [], suc, map, true, false, Some, None, MatchOption, IfSome, IfNone, OnOk, OnErr, IfOk};
 ghost use Rattle.model.specs.Http2.{HasLength};
 ghost use Rattle.model.specs.StreamStates.{most_streams};
 ghost use Rattle.h1_reader.specs.Standing.{Stands};
 ghost use Rattle.serving.specs.State.{id_of, held_of, find, without};
 ghost use Rattle.serving.specs.Told.{Told};
+ghost use Rattle.serving.specs.Rule.{is_done};
+ghost use Rattle.std.specs.List.{list_any};
 ghost use Rattle.upstreams.specs.Requests.{gathered, MayEndFor, IsEndedFor};
-ghost use Rattle.upstreams.specs.Connections.{number_of, stream_of, opened, whole_at, answer_at, put_at, taken_at, next_done, Answers};
+ghost use Rattle.upstreams.specs.Connections.{number_of, stream_of, opened, whole_at, answer_at, put_at, taken_at, next_done, IsDone, Answers, lives};
 ghost use Rattle.upstreams.specs.Kept.{nothing, Begins};
 
 use crate::connection::Connection;
@@ -184,7 +186,9 @@ impl Upstreams {
     /// The number of the newest connection that is done with, if one is: its response is whole, or its stream isn't served any more.
     pub fn next_done<F: Fn(u32) -> bool>(&self, is_served: F) -> Option<u32>
         requires { F.IsAlwaysCallable is_served }
-        ensures { (told : Told) → Answers (F.post is_served) told → result ≡ next_done told self.now.live }
+        ensures is { (told : Told) → Answers (F.post is_served) told → result ≡ next_done told self.now.live }
+        ensures done { (told : Told) → Answers (F.post is_served) told → IfSome result (IsDone told self.now.live) }
+        ensures none { (told : Told) → Answers (F.post is_served) told → IfNone result (list_any (is_done told) (lives self.now.live) ≡ false) }
     {
         connections::next_done(&self.connections, is_served)
     }

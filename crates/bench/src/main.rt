@@ -3,11 +3,11 @@
 #![tactic(auto)]
 
 mod bodies;
+mod encoders;
 mod exchanges;
 mod judging;
 mod made;
 mod samples;
-mod tables;
 mod texts;
 
 use crate::judging::{Judging, Streams};
@@ -76,14 +76,14 @@ fn run_part(part: &str, alloc: Global, rounds: u32, made: &mut Made) -> Option<(
         "send" => exchanges::send(alloc, rounds, made),
         "small-head" => exchanges::read_small(alloc, rounds, made),
         "large-head" => exchanges::read_large(alloc, rounds, made),
-        "encode" => tables::encode(alloc, rounds, made),
-        "encode-known" => tables::encode_known(alloc, rounds, made),
-        "encode-new" => tables::encode_new(alloc, rounds, made),
+        "encode" => encoders::encode(alloc, rounds, made),
+        "encode-known" => encoders::encode_known(alloc, rounds, made),
+        "encode-new" => encoders::encode_new(alloc, rounds, made),
         "sized-body" => bodies::read_sized(alloc, rounds, made),
         "chunked-body" => bodies::read_chunked(alloc, rounds, made),
         "huffman-decode" => texts::decode(alloc, rounds, made),
         "huffman-encode" => texts::encode(alloc, rounds, made),
-        "find" => tables::find(alloc, rounds, made),
+        "find" => encoders::find(alloc, rounds, made),
         _ => {
             let (streams, judging) = judged_by(part)?;
             judging::judge(alloc, rounds, made, streams, judging)

@@ -70,6 +70,7 @@ module _ (setup : Setup) (outside : Outside) (before old : Inbound) (frame : Fra
     note = Fields fields;
     next = next;
     is_noted = noted_so (Fields fields) next noted;
+    stays = λ none. absurd (let no : None ≡ Some block = sym none ∙ by.is_block in cc);
     read = λ unread. absurd (cc);
     table = table_left next a;
     judged = subst (λ (x : Book). IsNotedJudged setup (book_of outside before) (record { frame = frame; note = Fields fields }) x a) (heard_is rows next) (judged_by setup (book_of outside before) frame fields by.of (by.sound outside) block by.is_block of_stream kept refl rows a settles);
@@ -81,6 +82,7 @@ module _ (setup : Setup) (outside : Outside) (before old : Inbound) (frame : Fra
     note = Undecodable;
     next = before.table;
     is_noted = noted_so Undecodable before.table (unread block refl);
+    stays = λ none. refl;
     read = λ unread. absurd (cc);
     table = tt;
     judged = record {
@@ -96,6 +98,7 @@ goes_on_judged setup outside old new frame none faultless left table = record {
   note = NoBlock;
   next = old.table;
   is_noted = subst (λ o. IsNoted o (verdict_in (told_of outside old) frame).is_error old.table NoBlock old.table) (sym none) refl;
+  stays = λ none. refl;
   read = λ unread. absurd (cc);
   table = table;
   judged = record { faultless = faultless; left = left; says = none };
@@ -107,6 +110,7 @@ frame_judged setup outside old frame code is = record {
   note = note (completed_in old.block frame);
   next = old.table;
   is_noted = noted (completed_in old.block frame) (verdict_in (told_of outside old) frame).is_error wrong_before;
+  stays = λ none. refl;
   read = λ unread. wrong_before;
   table = tt;
   judged = record {

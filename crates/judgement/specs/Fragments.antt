@@ -85,6 +85,8 @@ pub record IsFragmentJudged (setup : Setup) (outside : Outside) (old : Inbound) 
   pub note : Note
   pub next : Table
   pub is_noted : IsNoted (completed_in old.block frame) (verdict_in (told_of outside old) frame).is_error old.table note next
+  -- a frame that completes none leaves the table
+  pub stays : completed_in old.block frame ≡ None → next ≡ old.table
   -- a block was read, unless the frame is an error before that
   pub read : is_read note ≡ false → (verdict_in (told_of outside old) frame).is_error ≡ true
   pub table : IsTableLeft next answer new.table

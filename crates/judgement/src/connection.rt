@@ -2,6 +2,7 @@
 
 ghost use Rattle.std.specs.Prelude.{◌≡◌, ◌≤◌, ◌==◌, ◌&&◌, not, ℕ, List, [], ◌∷◌, length, false, true, None, Some, IfOk, IfErr, IfSome, IfNone, OnOk, OnErr, option_map, is_some, pos, ◌+ℤ◌, ◌-ℤ◌, int_lt};
 ghost use Rattle.model.specs.Setup.{Setup};
+ghost use Rattle.model.specs.Tables.{first_table};
 ghost use Rattle.model.specs.Errors.{first_of};
 ghost use Rattle.model.specs.Errors.Fault.{Connection as Fatal, Stream as StreamFault};
 ghost use Rattle.model.specs.FrameErrors.{fault_if};
@@ -82,7 +83,8 @@ impl Model for Connection {
 impl Connection {
     /// A connection on which nothing came.
     pub fn new(alloc: Global) -> Self
-        ensures { (setup : Setup) → book_of (record { given = []; untaken = 0 }) result ≡ (first_desk setup).book }
+        ensures book { (setup : Setup) → book_of (record { given = []; untaken = 0 }) result ≡ (first_desk setup).book }
+        ensures table { result.table ≡ first_table }
     {
         Connection {
             has_come: false,

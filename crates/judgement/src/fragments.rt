@@ -40,6 +40,7 @@ impl Connection {
         requires sound { (outside : Outside) → first_of (frame_rows_in (told_of outside self.old) (frame_of view)) ≡ None }
         ensures faultless { OnOk result ((outside : Outside) → fault_in (told_of outside self.old) (coming (frame_of view.entry)) ≡ None) }
         ensures left { OnOk result ((setup : Setup) (outside : Outside) → book_of outside self.new ≡ behind setup (book_of outside self.old) (frame_of view.entry)) }
+        ensures table { OnOk result (self.new.table ≡ self.old.table) }
         ensures unchanged { OnErr result (self.new ≡ self.old) }
     {
         self.joiner.first(view.id, ends_stream(view), fragment)?;
@@ -58,6 +59,7 @@ impl Connection {
         requires sound { (outside : Outside) → first_of (frame_rows_in (told_of outside self.old) (frame_of view)) ≡ None }
         ensures faultless { OnOk result ((outside : Outside) → fault_in (told_of outside self.old) (coming (frame_of view.entry)) ≡ None) }
         ensures left { OnOk result ((setup : Setup) (outside : Outside) → book_of outside self.new ≡ behind setup (book_of outside self.old) (frame_of view.entry)) }
+        ensures table { OnOk result (self.new.table ≡ self.old.table) }
         ensures unchanged { OnErr result (self.new ≡ self.old) }
     {
         self.joiner.more(fragment)?;

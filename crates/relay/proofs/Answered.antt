@@ -208,10 +208,10 @@ module _ (setup : Setup) (book : Book) (noted : Noted) (of : IsOfBlock noted.fra
   abbrev pub told_then : Summary
   told_then = summary_in book
 
-  not_data : (noted.frame.kind == data_kind) ≡ false
+  pub not_data : (noted.frame.kind == data_kind) ≡ false
   not_data = elim of [ inl is ↦ ap (λ k. k == data_kind) is | inr is ↦ ap (λ k. k == data_kind) is ]
 
-  not_reset : (noted.frame.kind == rst_stream_kind) ≡ false
+  pub not_reset : (noted.frame.kind == rst_stream_kind) ≡ false
   not_reset = elim of [ inl is ↦ ap (λ k. k == rst_stream_kind) is | inr is ↦ ap (λ k. k == rst_stream_kind) is ]
 
   -- it isn't acknowledged
@@ -229,7 +229,7 @@ module _ (setup : Setup) (book : Book) (noted : Noted) (of : IsOfBlock noted.fra
 
   module _ (faultless : fault_in told_then (Came noted) ≡ None) (completed : Partial) (is_block : completed_in book.block noted.frame ≡ Some completed) (fields : List Field) (note : noted.note ≡ Fields fields) where
     -- it is of a stream
-    of_stream : (noted.frame.id == 0) ≡ false
+    pub of_stream : (noted.frame.id == 0) ≡ false
     of_stream = on_stream (noted.frame.id == 0) refl
       where
         passes : fault_on_in told_then noted.frame.id (Some headers_kind) ≡ None
@@ -243,7 +243,7 @@ module _ (setup : Setup) (book : Book) (noted : Noted) (of : IsOfBlock noted.fra
             absurd (let no : None ≡ Some (Connection protocol_error) = sym passes ∙ wrong in cc)
 
     -- the cause that the frame is for its stream is that of its block
-    caused_by : caused setup told_then noted ≡ cause_of_block setup (carried_in (find book.rows noted.frame.id).brief) (Fields fields)
+    pub caused_by : caused setup told_then noted ≡ cause_of_block setup (carried_in (find book.rows noted.frame.id).brief) (Fields fields)
     caused_by =
         ap (λ b. if b && nat_lt 0 noted.frame.id then cause_in setup false (find book.rows noted.frame.id).brief told_then (Came noted) (fault_in told_then (Came noted)) else None) (eq-eqb noted.frame.id noted.frame.id refl)
         ∙ ap (λ b. if b then cause_in setup false (find book.rows noted.frame.id).brief told_then (Came noted) (fault_in told_then (Came noted)) else None) (positive noted.frame.id of_stream)
@@ -264,7 +264,7 @@ module _ (setup : Setup) (book : Book) (noted : Noted) (of : IsOfBlock noted.fra
       goes_on = unended_with_block told_then noted few faultless (idle_unended book.rows noted.frame.id) completed is_block;
     }
 
-    head_none : (brief : Brief) → brief.begun ≡ false → cause_of_head setup fields ≡ None → cause_of_block setup (carried_in brief) (Fields fields) ≡ None
+    pub head_none : (brief : Brief) → brief.begun ≡ false → cause_of_head setup fields ≡ None → cause_of_block setup (carried_in brief) (Fields fields) ≡ None
     head_none brief begun none = ap (λ b. if b then cause_if (are_large fields) LargeFields else cause_of_head setup fields) begun ∙ none
 
     uncaused : cause_of_block setup (carried_in (find book.rows noted.frame.id).brief) (Fields fields) ≡ None → owes_in setup false told_then (Came noted) ≡ last_farewell_in told_then (Came noted) ++ []

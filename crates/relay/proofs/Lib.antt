@@ -8,3 +8,14 @@ pub mod Hearing
 pub mod Beside
 pub mod Kept
 pub mod Performing
+pub mod Bringing
+pub mod Staying
+pub mod Lives
+pub mod Ways
+pub mod Coming
+pub mod Resets
+pub mod Resting
+pub mod Waits
+pub mod Halves
+pub mod Heads
+pub mod Starting

@@ -84,7 +84,7 @@ module _ (setup : Setup) (s : Summary) (noted : Noted) where
       ∙ ap (λ (xs : List Frame). last_farewell_in s (Came noted) ++ (acks (Came noted) None ++ xs)) (append-nil (resets_in setup false s (Came noted)))
 
   -- a frame with a fault is no cause
-  not_caused : (fault : Fault) → fault_in s (Came noted) ≡ Some fault → caused setup s noted ≡ None
+  pub not_caused : (fault : Fault) → fault_in s (Came noted) ≡ Some fault → caused setup s noted ≡ None
   not_caused fault is = by (noted.frame.id == noted.frame.id && nat_lt 0 noted.frame.id)
     where
       by : (b : Bool) → (if b then cause_in setup false brief s (Came noted) (fault_in s (Came noted)) else None) ≡ None

@@ -16,7 +16,7 @@ tape_behind [] earlier = refl
 tape_behind (Does d ∷ later) earlier = ap (λ (t : List Entry). entry_of d ∷ t) (tape_behind later earlier)
 tape_behind (Settles ∷ later) earlier = tape_behind later earlier
 
-put_behind : (outputs : List Output) (later earlier : List Entry) → put_all outputs (later ++ earlier) ≡ put_all (put_all outputs earlier) later
+pub put_behind : (outputs : List Output) (later earlier : List Entry) → put_all outputs (later ++ earlier) ≡ put_all (put_all outputs earlier) later
 put_behind outputs [] earlier = refl
 put_behind outputs (e ∷ later) earlier = ap (λ (o : List Output). put_entry o e) (put_behind outputs later earlier)
 

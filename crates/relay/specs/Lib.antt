@@ -6,4 +6,7 @@ pub mod Passing
 pub mod Hearing
 pub mod View
 pub mod Performing
+pub mod Rest
 pub mod Others
+pub mod Bringing
+pub mod Waits

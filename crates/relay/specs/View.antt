@@ -1,14 +1,16 @@
 -- What the rooms together are seen as, and how that stands to the state of the rule.
-use Rattle.std.specs.Prelude.{◌≡◌, ℕ, false, List, [], Some}
+use Rattle.std.specs.Prelude.{◌≡◌, ℕ, true, false, List, [], Some}
 use Rattle.model.specs.Frames.{Frame}
 use Rattle.model.specs.Setup.{Setup}
 use Rattle.model.specs.Known.{Known}
+use Rattle.conduct.specs.Rows as rows
 use Rattle.conduct.specs.Rule.{AreKnown}
 use Rattle.offering.specs.State as offering
 use Rattle.receiving.specs.State as receiving
 use Rattle.serving.specs.State as serving
 use Rattle.serving.specs.State.{Due, find}
 use Rattle.header_blocks.specs.Encoding.{Encoding}
+use Rattle.streams_kept.specs.Asked.{is_active}
 use Rattle.judgement.specs.Inbound.{Inbound, book_of}
 use Rattle.upstreams.specs.Kept as upstreams
 use Rattle.upstreams.specs.Connections.{Connection, number_of}
@@ -40,12 +42,17 @@ pub record Pending : Type 0 where
 abbrev pub square : Pending
 square = record { owed = []; due = serving.Due.Nothing; fresh = 0; shared = 0; own = 0 }
 
--- The octets that are to go back are these, and none wait: responses are passed on whole, so nothing waits for an upstream's side.
-pub record IsCredited (pending : Pending) (last : ℕ) (windows : receiving.Kept) : Type 0 where
+-- Octets go back on a stream while it is active and the client hasn't ended it.
+pub record GoBack (inbound : Inbound) (id : ℕ) : Type 0 where
+  pub active : is_active inbound.rows id ≡ true
+  pub goes_on : (rows.find inbound.rows id).ended_by_client ≡ false
+
+-- The octets that are to go back are these, and none wait: requests are passed on whole, so nothing waits for an upstream's side.
+pub record IsCredited (pending : Pending) (inbound : Inbound) (windows : receiving.Kept) : Type 0 where
   pub fresh : windows.count ≡ pending.fresh
   pub shared : windows.debt ≡ pending.shared
-  pub own : (windows.row last).debt ≡ pending.own
-  pub others : (id : ℕ) → (id ≡ last → ⊥) → (windows.row id).debt ≡ 0
+  pub own : GoBack inbound inbound.last → (windows.row inbound.last).debt ≡ pending.own
+  pub others : (id : ℕ) → (id ≡ inbound.last → ⊥) → GoBack inbound id → (windows.row id).debt ≡ 0
   pub none_wait : (id : ℕ) → (windows.row id).queue ≡ []
 
 -- The state is the one that is kept, with what is pending.
@@ -57,7 +64,7 @@ pub record Keeps (kept : View) (pending : Pending) (s : State) : Type 0 where
   pub decoding : s.tables.decoding ≡ kept.inbound.table
   pub encoding : s.tables.encoding ≡ kept.encoding
   pub read : s.tables.lost ≡ false
-  pub credited : IsCredited pending kept.inbound.last s.windows
+  pub credited : IsCredited pending kept.inbound s.windows
   pub counted : (k : ℕ) (c : Connection) → find number_of k kept.upstreams.live ≡ Some c → (s.windows.out k ≡ c.out) × (s.windows.took k ≡ c.took)
 
 -- ---- where moves led

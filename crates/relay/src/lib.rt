@@ -1,11 +1,13 @@
 //! The rooms of the whole gateway together, and the rule that they follow: what each part of a step has to show, so that what the rooms'
 //! contracts say leads to moves of `policy`.
 //!
-//! No code yet but laws. What the rooms (`judgement`, `offers`, `upstreams`, an encoder) keep is seen together as a `View`; `Leads` says how
+//! What the rooms (`judgement`, `offers`, `upstreams`, an encoder) keep is seen together as a `View`; `Leads` says how
 //! that stands to the rule's state, behind moves and with what is pending in the midst of a step: frames that are owed, a connection or a text that is
 //! due, octets that are to go back. A part of a step *performs* (`Performs`): wherever moves led to what was kept, moves by the rule lead on to
 //! what is kept now, and put out what was put out. Parts behind one another perform together ([`parts_follow`]).
 #![tactic(auto)]
+
+mod rooms;
 
 ghost use Rattle.std.specs.Prelude.{◌≡◌, ◌≤◌, ◌==◌, ℕ, Bool, true, false, List, [], ◌++◌, length, map, reverse, Some, None};
 ghost use Rattle.model.specs.Messages.{Field, Item};
@@ -13,7 +15,7 @@ ghost use Rattle.model.specs.Frames.{Frame};
 ghost use Rattle.model.specs.Logs.{Output};
 ghost use Rattle.model.specs.Setup.{Setup};
 ghost use Rattle.model.specs.Tables.{Table};
-ghost use Rattle.model.specs.Tapes.{Noted};
+ghost use Rattle.model.specs.Tapes.{Entry, Noted};
 ghost use Rattle.model.specs.Tapes.Note.{Fields};
 ghost use Rattle.model.specs.Tapes.Entry.{Came};
 ghost use Rattle.model.specs.Decoding.{Partial};
@@ -50,8 +52,12 @@ ghost use Rattle.relay.specs.Taking.{IsFrameTaken};
 ghost use Rattle.relay.specs.Passing.{PartGoes, FragmentGoes};
 ghost use Rattle.relay.specs.Led.{IsLed};
 ghost use Rattle.relay.specs.Others.{SameOf};
-ghost use Rattle.relay.specs.View.{View, Pending};
+ghost use Rattle.relay.specs.View.{View, Pending, square, Leads};
 ghost use Rattle.relay.specs.Performing.{Performs};
+ghost use Rattle.relay.specs.Bringing.{Brings, PerformsOwn};
+ghost use Rattle.relay.specs.Rest.{IsAtRest};
+
+pub use crate::rooms::Rooms;
 
 /// What a frame of the client that has no fault gains its stream's request follows from the judgement's answer: octets of the body, a head,
 /// trailers, or nothing (RFC 9113, section 8.1). One that has a fault gains nothing.
@@ -97,4 +103,16 @@ pub fn states_are_sound()
 pub fn parts_follow()
     ensures none { (setup : Setup) (kept : View) (pending : Pending) (outputs : List Output) → Performs setup kept pending outputs kept pending outputs }
     ensures together { (setup : Setup) (a b c : View) (x y z : Pending) (o p q : List Output) → Performs setup a x o b y p → Performs setup b y p c z q → Performs setup a x o c z q }
+{}
+
+/// Parts of a step with which nothing comes in follow one another, and behind a part with which something does; doing nothing is such a part.
+pub fn courses_follow()
+    ensures none { (setup : Setup) (kept : View) (pending : Pending) (outputs : List Output) → PerformsOwn setup kept pending outputs kept pending outputs }
+    ensures own { (setup : Setup) (a b c : View) (x y z : Pending) (o p q : List Output) → PerformsOwn setup a x o b y p → PerformsOwn setup b y p c z q → PerformsOwn setup a x o c z q }
+    ensures brings { (setup : Setup) (a b c : View) (x y z : Pending) (o p q : List Output) (entry : Entry) → Brings setup a x o entry b y p → PerformsOwn setup b y p c z q → Brings setup a x o entry c z q }
+{}
+
+/// Where moves led to what is kept, nothing is pending, and what is kept is at rest, something may come in.
+pub fn rests_are_ready()
+    ensures { (setup : Setup) (run : List Move) (kept : View) (s : State) → Leads setup run kept square s → IsAtRest kept → IsReady s }
 {}

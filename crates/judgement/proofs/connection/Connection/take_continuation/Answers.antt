@@ -1,14 +1,15 @@
-use Rattle.std.proofs.Common.{◌≡◌, ◌==◌, ℕ, suc, ◌+◌, ◌≤◌, ◌<◌, List, ◌++◌, length, Option, Some, None, sym, ◌∙◌, ap, subst, arith}
+use Rattle.std.proofs.Common.{◌≡◌, ◌==◌, if◌then◌else◌, ℕ, suc, ◌+◌, ◌≤◌, ◌<◌, List, ◌++◌, length, Option, Some, None, sym, ◌∙◌, ap, subst, arith}
 use Rattle.std.specs.Prelude.{is_some, option_map}
 use Rattle.std.proofs.lemmas.Bool.{eqb-true}
 use Rattle.model.specs.Frames.{Frame, content}
-use Rattle.model.specs.Decoding.{Partial}
+use Rattle.model.specs.Decoding.{Partial, joined}
 use Rattle.model.specs.FrameErrors.{longest_block, most_continuations}
 use Rattle.frames.specs.Views.{frame_of}
 use Rattle.header_blocks.specs.Joining.{Joining, continues}
 use Rattle.judgement.specs.Inbound.{Inbound}
 use Rattle.judgement.specs.contracts.connection.Connection.{the_view}
 use Rattle.judgement.proofs.Answering.{IsSound}
+use Rattle.judgement.proofs.Fragmenting.{goes_on_judged}
 use Rattle.judgement.proofs.Kept.{if_ok}
 use Rattle.judgement.proofs.Gathering.{IsBegun, continuation_later, IsShort, still_short, continuation_completes}
 use Rattle.judgement.proofs.connection.Connection.take_continuation.Goals as goal
@@ -72,3 +73,8 @@ returns c = if_ok c.take_block.result c.take_block.ensures (λ answer told setup
     ))
     (sym (c.ends.ensures ∙ ap (λ (p : Partial). p.ends) whole))
     (sym (c.fragments.ensures ∙ ap (λ (p : Partial). p.fragments) whole)))
+
+pub returns-then-not-ends_headers : goal.returns-then-not-ends_headers
+returns-then-not-ends_headers c = λ setup outside for.
+    goes_on_judged setup outside c.args.self.now c.keep_more.new.self (frame_of c.args.view) (ap (λ b. if b then joined c.args.self.now.block (frame_of c.args.view) else None) (sym c.ends_headers.ensures ∙ c.if-not-ends_headers.true))
+    (c.in_ok-keep_more.ensures.faultless outside) (c.in_ok-keep_more.ensures.left setup outside) c.in_ok-keep_more.ensures.table

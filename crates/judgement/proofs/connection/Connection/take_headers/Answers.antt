@@ -1,10 +1,12 @@
-use Rattle.std.proofs.Common.{◌≡◌, true, false, sym, ◌∙◌, ap, subst}
+use Rattle.std.proofs.Common.{◌≡◌, true, false, if◌then◌else◌, Option, None, sym, ◌∙◌, ap, subst}
 use Rattle.std.specs.Prelude.{is_some}
 use Rattle.model.specs.Frames.{ends_stream, content}
+use Rattle.model.specs.Decoding.{joined}
 use Rattle.frames.specs.Views.{frame_of}
 use Rattle.judgement.specs.Inbound.{Inbound}
 use Rattle.judgement.specs.contracts.connection.Connection.{the_view}
 use Rattle.judgement.proofs.Answering.{IsSound}
+use Rattle.judgement.proofs.Fragmenting.{goes_on_judged}
 use Rattle.judgement.proofs.Kept.{if_ok}
 use Rattle.judgement.proofs.Gathering.{headers_first, headers_of_stream, headers_complete}
 use Rattle.judgement.proofs.connection.Connection.take_headers.Goals as goal
@@ -31,3 +33,8 @@ returns c = if_ok c.take_block.result c.take_block.ensures (λ answer told setup
     (headers_complete c.args.self.now _ (frame_of c.args.view) c.requires.kind (sym c.ends_headers.ensures ∙ c.if-not-ends_headers.false) c.requires.sound (ap (λ (o : Inbound). record o { continuations = 0 }) c.self.view_is))
     (sym c.ends_stream.ensures)
     (sym c.requires.fragment))
+
+pub returns-then-not-ends_headers : goal.returns-then-not-ends_headers
+returns-then-not-ends_headers c = λ setup outside for.
+    goes_on_judged setup outside c.args.self.now c.keep_first.new.self (frame_of c.args.view) (ap (λ b. if b then joined c.args.self.now.block (frame_of c.args.view) else None) (sym c.ends_headers.ensures ∙ c.if-not-ends_headers.true))
+    (c.in_ok-keep_first.ensures.faultless outside) (c.in_ok-keep_first.ensures.left setup outside) c.in_ok-keep_first.ensures.table

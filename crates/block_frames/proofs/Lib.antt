@@ -1,0 +1,10 @@
+mod Lists
+mod Streams
+mod Before
+mod Cases
+mod Gains
+mod Passed
+mod Assembled
+mod Requests
+mod Replies
+mod Judged

@@ -1,0 +1,67 @@
+-- What is kept of a stream follows what the judgement left of it, and a farewell that is owed.
+use Rattle.std.specs.Prelude.{◌≡◌, ◌+◌, ℕ, Bool, true, false, if◌then◌else◌, List, [], ◌∷◌, ◌++◌, length, Option, Some, None, nat_lt, ◌==◌, ◌&&◌}
+use Rattle.model.specs.Frames.{Frame, spell, goaway, no_error}
+use Rattle.model.specs.StreamStates.{most_streams}
+use Rattle.model.specs.Logs.{Output}
+use Rattle.model.specs.Logs.Output.{ToClient}
+use Rattle.model.specs.Tapes.{put}
+use Rattle.model.specs.ErrorClause.{rst_stream}
+use Rattle.conduct.specs.Owing.{highest_in}
+use Rattle.conduct.specs.Rows.{Row, ids_of}
+use Rattle.offering.specs.State as offering
+use Rattle.offering.specs.State.{blank}
+use Rattle.offers.specs.Asked.{is_kept, is_above_all}
+use Rattle.serving.specs.State.{Held, id_of, without}
+use Rattle.streams_kept.specs.Asked.{is_active}
+use Rattle.streams_kept.specs.Sending.{is_served}
+use Rattle.relay.specs.View.{View}
+
+-- ---- one stream
+
+-- what is on offer for a stream that is active is kept, or begins to be; else none is
+abbrev pub offers_if : Bool → ℕ → offering.State → offering.State
+offers_if true id offers = if is_kept id offers.kept then offers else record offers { kept = offers.kept ++ blank id ∷ [] }
+offers_if false id offers = record offers { kept = offering.without id offers.kept }
+
+-- what is held of a request stays where its stream is served
+abbrev pub held_if : Bool → ℕ → List Held → List Held
+held_if true id hs = hs
+held_if false id hs = without id_of id hs
+
+-- both by the rows
+abbrev pub followed : ℕ → View → View
+followed id kept = record kept {
+  offers = offers_if (is_active kept.inbound.rows id) id kept.offers;
+  upstreams = record kept.upstreams { held = held_if (is_served kept.inbound.rows id) id kept.upstreams.held };
+}
+
+-- A stream for which something is to be on offer from now on is above all others.
+abbrev pub IsNewest : Bool → ℕ → offering.State → Type 0
+IsNewest active id offers = active ≡ true → is_kept id offers.kept ≡ false → is_above_all id offers.kept ≡ true
+
+-- nothing is kept of a stream any more
+abbrev pub forgotten : ℕ → View → View
+forgotten id kept = record kept {
+  offers = record kept.offers { kept = offering.without id kept.offers.kept };
+  upstreams = record kept.upstreams { held = without id_of id kept.upstreams.held };
+}
+
+-- ---- the farewell of the last stream that a connection may have (RFC 9113, section 6.8)
+
+-- the last stream, where it was opened just now
+abbrev pub farewell_behind : ℕ → List Row → Option ℕ
+farewell_behind before rows = if nat_lt before most_streams && length rows == most_streams then Some (highest_in (ids_of rows)) else None
+
+-- the frame that is owed
+abbrev pub farewell_frames : Option ℕ → List Frame
+farewell_frames None = []
+farewell_frames (Some last) = goaway last no_error ∷ []
+
+-- what is kept, and put out, once it is sent
+abbrev pub with_farewell : Option ℕ → View → View
+with_farewell None kept = kept
+with_farewell (Some last) kept = record kept { untaken = kept.untaken + length (spell (goaway last no_error)) }
+
+abbrev pub put_farewell : Option ℕ → List Output → List Output
+put_farewell None outputs = outputs
+put_farewell (Some last) outputs = put outputs (ToClient (spell (goaway last no_error)))

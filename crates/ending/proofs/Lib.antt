@@ -1,0 +1,4 @@
+pub mod Closes
+pub mod Farewells
+pub mod Ends
+pub mod Shutting

@@ -1,0 +1,12 @@
+pub mod Asking
+pub mod Where
+pub mod Few
+pub mod Opens
+pub mod Coming
+pub mod Hears
+pub mod FailedRows
+pub mod Fails
+pub mod Brings
+pub mod Pays
+pub mod Lends
+pub mod Closes

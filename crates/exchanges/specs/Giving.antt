@@ -1,0 +1,67 @@
+-- What is kept where the gateway replies to a stream itself, since its upstream's answer failed, and what is put out then.
+use Rattle.std.specs.Prelude.{◌≡◌, ℕ, ◌+◌, Bool, true, false, List, length}
+use Rattle.model.specs.Frames.{spell, internal_error}
+use Rattle.model.specs.Causes.Cause.{BadAnswer}
+use Rattle.model.specs.ErrorClause.{rst_stream}
+use Rattle.model.specs.Logs.{Output}
+use Rattle.model.specs.Logs.Output.{ToClient}
+use Rattle.model.specs.Tapes.{put}
+use Rattle.conduct.specs.Rows.{find}
+use Rattle.conduct.specs.Rows.Slot.{Over}
+use Rattle.offering.specs.State.{change, answered}
+use Rattle.offering.specs.State as offering
+use Rattle.offers.specs.Asked.{is_cut}
+use Rattle.serving.specs.State.{id_of, without}
+use Rattle.streams_kept.specs.Asked.{changed}
+use Rattle.streams_kept.specs.Sending.{failed}
+use Rattle.judgement.specs.Sending.{with_kept}
+use Rattle.upstreams.specs.Connections.{number_of}
+use Rattle.relay.specs.View.{View}
+
+-- the gateway replies to the stream, and nothing is held of it
+abbrev pub replied_to : ℕ → View → View
+replied_to stream kept = record {
+  inbound = record kept.inbound { rows = with_kept stream (failed (find kept.inbound.rows stream)) kept.inbound.rows };
+  offers = record kept.offers { kept = change stream (answered BadAnswer) kept.offers.kept };
+  upstreams = record kept.upstreams { held = without id_of stream kept.upstreams.held };
+  encoding = kept.encoding;
+  untaken = kept.untaken;
+}
+
+-- the stream was reset with INTERNAL_ERROR (RFC 9113, section 7)
+abbrev pub reset_behind : ℕ → View → View
+reset_behind stream kept = record {
+  inbound = record kept.inbound { rows = changed stream (Over true) kept.inbound.rows };
+  offers = record kept.offers { kept = offering.without stream kept.offers.kept };
+  upstreams = kept.upstreams;
+  encoding = kept.encoding;
+  untaken = kept.untaken + length (spell (rst_stream stream internal_error));
+}
+
+-- it was, where a reset is owed
+abbrev pub reset_if : Bool → ℕ → View → View
+reset_if true stream kept = reset_behind stream kept
+reset_if false stream kept = kept
+
+abbrev pub put_if : Bool → ℕ → List Output → List Output
+put_if true stream outputs = put outputs (ToClient (spell (rst_stream stream internal_error)))
+put_if false stream outputs = outputs
+
+-- a reset is owed, once the gateway replies
+abbrev pub is_cut_then : ℕ → View → Bool
+is_cut_then stream kept = is_cut stream (change stream (answered BadAnswer) kept.offers.kept)
+
+-- The gateway replies to the stream itself, or resets it where it is too late for that.
+pub record IsGivenUp (stream : ℕ) (old : View) (outputs : List Output) (new : View) (put_out : List Output) : Type 0 where
+  pub kept : new ≡ reset_if (is_cut_then stream old) stream (replied_to stream old)
+  pub puts : put_out ≡ put_if (is_cut_then stream old) stream outputs
+
+-- all that is kept, without a connection
+abbrev pub closed_at : ℕ → View → View
+closed_at k kept = record {
+  inbound = kept.inbound;
+  offers = kept.offers;
+  upstreams = record kept.upstreams { live = without number_of k kept.upstreams.live };
+  encoding = kept.encoding;
+  untaken = kept.untaken;
+}

@@ -1,0 +1,38 @@
+-- What octets of an upstream come to, and the end of its connection: its answer goes on, and what is news of it is on offer.
+use Rattle.std.specs.Prelude.{◌≡◌, ℕ, List, map, Some}
+use Rattle.answers.specs.Waiting.{Answer}
+use Rattle.answers.specs.declared.answer.Heard.{Heard}
+use Rattle.answers.specs.declared.answer.Ended.{Ended}
+use Rattle.offering.specs.State as offering
+use Rattle.offers.specs.Changes.{IsHeardFor, IsEndedFor}
+use Rattle.serving.specs.State.{find}
+use Rattle.upstreams.specs.Connections.{Connection, number_of, answer_at}
+use Rattle.relay.specs.View.{View}
+
+-- all that is kept, where these are the offers, and a connection's answer is this
+abbrev pub answered_with : ℕ → Answer → offering.State → View → View
+answered_with k answer offers kept = record {
+  inbound = kept.inbound;
+  offers = offers;
+  upstreams = record kept.upstreams { live = map (answer_at k answer) kept.upstreams.live };
+  encoding = kept.encoding;
+  untaken = kept.untaken;
+}
+
+-- The octets come to this, on the open connection with this number.
+pub record AreTaken (old : View) (k : ℕ) (octets : List ℕ) (heard : Heard) (new : View) : Type 0 where
+  pub connection : Connection
+  pub found : find number_of k old.upstreams.live ≡ Some connection
+  pub answer : Answer
+  pub offers : offering.State
+  pub hears : IsHeardFor old.offers connection.live.stream connection.answer octets heard answer offers
+  pub is : new ≡ answered_with k answer offers old
+
+-- So does its end.
+pub record IsEndTaken (old : View) (k : ℕ) (ended : Ended) (new : View) : Type 0 where
+  pub connection : Connection
+  pub found : find number_of k old.upstreams.live ≡ Some connection
+  pub answer : Answer
+  pub offers : offering.State
+  pub ends : IsEndedFor old.offers connection.live.stream connection.answer ended offers
+  pub is : new ≡ answered_with k answer offers old

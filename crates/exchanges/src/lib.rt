@@ -1,0 +1,13 @@
+//! Exchanges with upstreams, as parts of a step: a connection is opened for a whole request, an upstream is heard, and its connection ends or
+//! fails.
+#![tactic(auto)]
+
+mod failing;
+mod hearing;
+mod listening;
+mod opening;
+#[cfg(test)]
+mod tests;
+
+pub use crate::hearing::{end, fail, hear};
+pub use crate::opening::open;

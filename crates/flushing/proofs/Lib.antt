@@ -1,0 +1,12 @@
+pub mod Rows
+pub mod Placed
+pub mod Facts
+pub mod Paths
+pub mod Sending
+pub mod Statuses
+pub mod Blocks
+pub mod Ends
+pub mod Performing
+pub mod After
+pub mod Within
+pub mod Octets

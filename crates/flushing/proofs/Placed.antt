@@ -1,0 +1,186 @@
+-- The state as it is kept, in one form, and moves from one such state to the next.
+use Rattle.std.proofs.Common.{◌≡◌, ℕ, ◌+◌, Bool, true, false, not, ◌==◌, List, [], ◌∷◌, ◌++◌, Option, Some, None, refl, ◌∙◌, ap, subst, if◌then◌else◌, add-zero}
+use Rattle.model.specs.Messages.{Item}
+use Rattle.model.specs.Frames.{Frame, rst_stream_kind, window_update_kind}
+use Rattle.model.specs.Setup.{Setup}
+use Rattle.model.specs.Tables.{Table}
+use Rattle.model.specs.Tapes.{Noted}
+use Rattle.model.specs.Tapes.Entry.{Sent}
+use Rattle.model.specs.Openings.{Opened}
+use Rattle.model.specs.Decoding.{Partial}
+use Rattle.conduct.specs.Summary.{Summary}
+use Rattle.conduct.specs.Judging.{completed_in, is_active_in}
+use Rattle.conduct.specs.Turn.{rest_of}
+use Rattle.conduct.specs.Book.{Book, Desk, desk_after, summary_in}
+use Rattle.offering.specs.Outbox.{Part}
+use Rattle.offering.specs.Sight.{Sight, sight_in}
+use Rattle.offering.specs.State as offering
+use Rattle.receiving.specs.State as receiving
+use Rattle.receiving.specs.Rule.{is_over_by}
+use Rattle.receiving.specs.Marks.{total}
+use Rattle.serving.specs.State as serving
+use Rattle.serving.specs.State.{Held, find}
+use Rattle.serving.specs.State.Due.{Nothing}
+use Rattle.serving.specs.Told.{Told}
+use Rattle.tables.specs.State as tables
+use Rattle.judgement.specs.Inbound.{book_of}
+use Rattle.judgement.specs.Sending.{LeadsTo}
+use Rattle.judgement.proofs.SendingEvents.{sent_desk}
+use Rattle.upstreams.specs.Kept as upstreams
+use Rattle.upstreams.specs.Connections.{Connection, number_of}
+use Rattle.policy.specs.Moves.{Deed, Move, conduct_of, offer_of, request_of, table_of, window_of, given_or_sent, told_in}
+use Rattle.policy.specs.Moves.Deed.{Sends, Goes}
+use Rattle.policy.specs.Moves.Move.{Does}
+use Rattle.policy.specs.State.{State}
+use Rattle.policy.specs.Rule.{rooms_in}
+use Rattle.policy.specs.Steps.{Stands, told_by, next}
+use Rattle.relay.specs.View.{View, Pending, square, IsCredited, Keeps, AreSo, AreHeard, Leads}
+use Rattle.relay.proofs.Kept.{AreServed}
+
+-- ---- the form
+
+-- the book, where this was begun of a header block to the client
+abbrev pub book_at : View → Option Partial → List Opened → Book
+book_at u begun given = record (book_of (record { given = given; untaken = u.untaken }) u.inbound) { block_out = begun }
+
+-- the state: what is kept, with this owed and begun, and what the rule keeps beside it
+abbrev pub state_at : View → List Frame → Option Partial → List Opened → tables.State → receiving.Kept → State
+state_at u owed begun given rest windows = record {
+  desk = record { book = book_at u begun given; queue = owed };
+  offers = u.offers;
+  requests = upstreams.with_due u.upstreams Nothing;
+  tables = record rest { decoding = u.inbound.table; lost = false; encoding = u.encoding };
+  windows = windows;
+}
+
+-- what is pending where only frames are owed
+abbrev pub owing : List Frame → Pending
+owing owed = record square { owed = owed }
+
+-- octets of connections are counted
+abbrev pub AreCounted : View → receiving.Kept → Type 0
+AreCounted u windows = (k : ℕ) (c : Connection) → find number_of k u.upstreams.live ≡ Some c → (windows.out k ≡ c.out) × (windows.took k ≡ c.took)
+
+-- Moves led to it.
+pub record At (setup : Setup) (run : List Move) (u : View) (owed : List Frame) (begun : Option Partial) (given : List Opened) (rest : tables.State) (windows : receiving.Kept) : Type 0 where
+  pub stands : Stands setup run (state_at u owed begun given rest windows)
+  pub so : AreSo setup run
+  pub heard : AreHeard setup run u.upstreams.live
+  pub credited : IsCredited square u.inbound windows
+  pub counted : AreCounted u windows
+
+-- a state by its parts
+by_parts : (s : State) (d : Desk) (o : offering.State) (r : serving.State) (t : tables.State) → s.desk ≡ d → s.offers ≡ o → s.requests ≡ r → s.tables ≡ t → s ≡ record { desk = d; offers = o; requests = r; tables = t; windows = s.windows }
+by_parts s d o r t e f g h =
+    ap (λ (x : Desk). record s { desk = x }) e
+    ∙ ap (λ (x : offering.State). record s { desk = d; offers = x }) f
+    ∙ ap (λ (x : serving.State). record s { desk = d; offers = o; requests = x }) g
+    ∙ ap (λ (x : tables.State). record s { desk = d; offers = o; requests = r; tables = x }) h
+
+-- The state that is kept has the form.
+pub state_is : (u : View) (owed : List Frame) (s : State) → Keeps u (owing owed) s → s ≡ state_at u owed None s.desk.book.given s.tables s.windows
+state_is u owed s keeps =
+    by_parts s (record { book = book_at u None s.desk.book.given; queue = owed }) u.offers (upstreams.with_due u.upstreams Nothing) (record s.tables { decoding = u.inbound.table; lost = false; encoding = u.encoding })
+    (ap (λ (b : Book). record s.desk { book = b }) keeps.book ∙ ap (λ (q : List Frame). record { book = book_at u None s.desk.book.given; queue = q }) keeps.owed)
+    keeps.offers keeps.requests
+    (ap (λ (t : Table). record s.tables { decoding = t }) keeps.decoding
+    ∙ ap (λ b. record s.tables { decoding = u.inbound.table; lost = b }) keeps.read
+    ∙ ap (λ e. record s.tables { decoding = u.inbound.table; lost = false; encoding = e }) keeps.encoding)
+
+-- Where moves led to what is kept they led to the form, and back.
+pub led_at : (setup : Setup) (run : List Move) (u : View) (owed : List Frame) (s : State) → Leads setup run u (owing owed) s → At setup run u owed None s.desk.book.given s.tables s.windows
+led_at setup run u owed s leads = record {
+  stands = subst (Stands setup run) (state_is u owed s leads.keeps) leads.stands;
+  so = leads.so;
+  heard = leads.heard;
+  credited = record { fresh = leads.keeps.credited.fresh; shared = leads.keeps.credited.shared; own = leads.keeps.credited.own; others = leads.keeps.credited.others; none_wait = leads.keeps.credited.none_wait };
+  counted = leads.keeps.counted;
+}
+
+pub at_led : (setup : Setup) (run : List Move) (u : View) (owed : List Frame) (given : List Opened) (rest : tables.State) (windows : receiving.Kept) → At setup run u owed None given rest windows → Leads setup run u (owing owed) (state_at u owed None given rest windows)
+at_led setup run u owed given rest windows at = record {
+  stands = at.stands;
+  so = at.so;
+  heard = at.heard;
+  keeps = record { book = refl; owed = refl; offers = refl; requests = refl; decoding = refl; encoding = refl; read = refl; credited = record { fresh = at.credited.fresh; shared = at.credited.shared; own = at.credited.own; others = at.credited.others; none_wait = at.credited.none_wait }; counted = at.counted };
+}
+
+-- ---- a frame is sent
+
+-- all that is held of streams that are served stays
+all_kept : (told : Told) (hs : List Held) → AreServed told hs → serving.kept told hs ≡ hs
+all_kept told [] are = refl
+all_kept told (h ∷ hs) are = ap (λ b. if b then h ∷ serving.kept told hs else serving.kept told hs) are.0 ∙ ap (λ (xs : List Held). h ∷ xs) (all_kept told hs are.1)
+
+-- and what is served where the same streams are served
+served_same : (before behind : Told) → ((id : ℕ) → behind.served id ≡ before.served id) → (hs : List Held) → AreServed before hs → AreServed behind hs
+served_same before behind same [] are = tt
+served_same before behind same (h ∷ hs) are = (same h.id ∙ are.0, served_same before behind same hs are.1)
+
+pub held_same : (before behind : Told) → ((id : ℕ) → behind.served id ≡ before.served id) → (hs : List Held) → AreServed before hs → serving.kept behind hs ≡ hs
+held_same before behind same hs are = all_kept behind hs (served_same before behind same hs are)
+
+-- nothing that waits goes back with a stream
+none_dropped : (over : Bool) (n : ℕ) (s : receiving.State) (id : ℕ) → (s.row id).queue ≡ [] → (n + receiving.dropped over s id) ≡ n
+none_dropped true n s id none = ap (λ q. n + total q) none ∙ add-zero n
+none_dropped false n s id none = add-zero n
+
+module _ (setup : Setup) (u : View) (owed : List Frame) (begun : Option Partial) (given : List Opened) (rest : tables.State) (windows : receiving.Kept) (noted : Noted) (table : Table) (new : Book) (called : List Frame) where
+  abbrev s : State
+  s = state_at u owed begun given rest windows
+
+  abbrev before : Sight
+  before = sight_in (told_by s)
+
+  abbrev behind : Summary
+  behind = summary_in new
+
+  -- the state behind it, where this is the book then
+  abbrev state_then : Desk → Deed → State
+  state_then desk d = record {
+    desk = desk;
+    offers = offering.after u.offers (offer_of before (sight_in (summary_in desk.book)) d);
+    requests = serving.after setup (told_in (summary_in desk.book)) s.requests (request_of d);
+    tables = tables.after s.tables (table_of (told_by s) d);
+    windows = receiving.kept_of (receiving.after setup.passing (rooms_in (told_by s) s) (window_of before (sight_in (summary_in desk.book)) d));
+  }
+
+  abbrev desk_then : Desk
+  desk_then = record { book = new; queue = rest_of owed ++ called }
+
+  -- octets that wait don't go back, since there are none
+  windows_then : ((id : ℕ) → (windows.row id).queue ≡ []) → (noted.frame.kind == window_update_kind) ≡ false
+      → receiving.kept_of (receiving.after setup.passing (rooms_in (told_by s) s) (given_or_sent (noted.frame.kind == window_update_kind) before (sight_in behind) noted)) ≡ windows
+  windows_then none_wait no_update =
+      ap (λ b. receiving.kept_of (receiving.after setup.passing (rooms_in (told_by s) s) (given_or_sent b before (sight_in behind) noted))) no_update
+      ∙ ap (λ n. record windows { debt = n }) (none_dropped (is_over_by before (sight_in behind) noted.frame.id) windows.debt (rooms_in (told_by s) s) noted.frame.id (none_wait noted.frame.id))
+
+  module _ (leads : LeadsTo setup false (book_at u begun given) (Sent noted) new called) (no_update : (noted.frame.kind == window_update_kind) ≡ false) (none_wait : (id : ℕ) → (windows.row id).queue ≡ []) (held : List Held) (held_is : serving.kept (told_in behind) u.upstreams.held ≡ held) where
+    desk_is : (d : Deed) → conduct_of d ≡ record { entry = Sent noted; fails = false } → desk_after setup s.desk (conduct_of d) ≡ desk_then
+    desk_is d same = ap (desk_after setup s.desk) same ∙ sent_desk setup false s.desk noted new called leads
+
+    -- The state behind a frame that brings no stream an item.
+    pub behind_sent : next setup s (Does (Sends noted table)) ≡ record {
+      desk = desk_then;
+      offers = record u.offers { kept = offering.unless_over (noted.frame.kind == rst_stream_kind) noted.frame.id u.offers.kept };
+      requests = upstreams.with_due (record u.upstreams { held = held }) Nothing;
+      tables = record rest { decoding = u.inbound.table; lost = false; encoding = tables.encoding_after (completed_in begun noted.frame) table u.encoding };
+      windows = windows;
+    }
+    behind_sent =
+        ap (λ (x : Desk). state_then x (Sends noted table)) (desk_is (Sends noted table) refl)
+        ∙ ap (λ (hs : List Held). record (state_then desk_then (Sends noted table)) { requests = upstreams.with_due (record u.upstreams { held = hs }) Nothing }) held_is
+        ∙ ap (λ (w : receiving.Kept). record (state_then desk_then (Sends noted table)) { requests = upstreams.with_due (record u.upstreams { held = held }) Nothing; windows = w }) (windows_then none_wait no_update)
+
+    -- That behind one with which a part is complete.
+    pub behind_part : (item : Item) (part : Part) → next setup s (Does (Goes noted item part table)) ≡ record {
+      desk = desk_then;
+      offers = record { kept = offering.unless_over (not (is_active_in noted.frame.id behind)) noted.frame.id (offering.change noted.frame.id (offering.gone part) u.offers.kept); last = noted.frame.id };
+      requests = upstreams.with_due (record u.upstreams { held = held }) Nothing;
+      tables = record rest { decoding = u.inbound.table; lost = false; encoding = tables.encoding_after (completed_in begun noted.frame) table u.encoding };
+      windows = windows;
+    }
+    behind_part item part =
+        ap (λ (x : Desk). state_then x (Goes noted item part table)) (desk_is (Goes noted item part table) refl)
+        ∙ ap (λ (hs : List Held). record (state_then desk_then (Goes noted item part table)) { requests = upstreams.with_due (record u.upstreams { held = hs }) Nothing }) held_is
+        ∙ ap (λ (w : receiving.Kept). record (state_then desk_then (Goes noted item part table)) { requests = upstreams.with_due (record u.upstreams { held = held }) Nothing; windows = w }) (windows_then none_wait no_update)

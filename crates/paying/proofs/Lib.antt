@@ -1,0 +1,11 @@
+pub mod Held
+pub mod Windows
+pub mod Paying
+pub mod Closes
+pub mod Noting
+pub mod Rows
+pub mod Giving
+pub mod Settling
+pub mod Fitting
+pub mod Settled
+pub mod Firsts

@@ -1,0 +1,12 @@
+pub mod Streams
+pub mod Faults
+pub mod Standing
+pub mod Coming
+pub mod Quiet
+pub mod Limits
+pub mod Begun
+pub mod Ending
+pub mod Bodies
+pub mod Replies
+pub mod Contents
+pub mod Acting

@@ -1,0 +1,348 @@
+-- A frame of the client is taken that is no error of the connection: where that leads, by what is kept.
+use Rattle.std.proofs.Common.{◌≡◌, ℕ, ◌+◌, Bool, true, false, not, ◌&&◌, ◌||◌, ◌==◌, List, [], ◌∷◌, ◌++◌, map, Option, Some, None, refl, sym, ◌∙◌, ap, subst, inl, inr, if◌then◌else◌}
+use Rattle.std.proofs.lemmas.Bool.{and_parts, and_from, or_parts, eqb-true, eq-eqb, cases_Bool}
+use Rattle.std.proofs.lemmas.Bool.Decides.{eqb_tells}
+use Rattle.std.specs.List.{list_any}
+use Rattle.model.specs.Frames.{Frame}
+use Rattle.model.specs.Logs.{Output}
+use Rattle.model.specs.Setup.{Setup}
+use Rattle.model.specs.Tables.{Table}
+use Rattle.model.specs.Tapes.{Note, Noted, Entry}
+use Rattle.model.specs.Tapes.Entry.{Came}
+use Rattle.model.specs.Decoding.{Partial, is_read}
+use Rattle.model.specs.Lifetimes.{opens_by}
+use Rattle.model.specs.ErrorClause.{is_fatal}
+use Rattle.model.specs.WindowsOnTape.{is_any, data_length}
+use Rattle.model.proofs.OpenedLaws.{not_opened}
+use Rattle.conduct.specs.Summary.{Stream as Kept, Summary}
+use Rattle.conduct.specs.Judging.{is_over_in, completed_in, fault_for}
+use Rattle.conduct.specs.Owing.{fault_in, owes_in}
+use Rattle.conduct.specs.After.{kept_behind, ended_by_client_after}
+use Rattle.conduct.specs.Rows.{Row, ids_of, slot_of, kept_in, row_behind, rows_after, find}
+use Rattle.conduct.specs.Rows.Slot.{Live, Over}
+use Rattle.conduct.specs.Rows as rows
+use Rattle.conduct.specs.Book.{Book, summary_in, book_after}
+use Rattle.conduct.specs.Tidy.{AreKept}
+use Rattle.conduct.proofs.Rows.{find_changed, over_stays, slot_alike}
+use Rattle.conduct.proofs.RowsKept.{opens_own}
+use Rattle.offering.specs.Rule.{found_by}
+use Rattle.offering.specs.State as offering
+use Rattle.receiving.specs.Marks.{Mark, total}
+use Rattle.receiving.specs.State as receiving
+use Rattle.serving.specs.Told.{Told}
+use Rattle.serving.specs.State as serving
+use Rattle.serving.specs.State.{Due, Held, id_of, without}
+use Rattle.header_blocks.specs.Encoding.{Encoding}
+use Rattle.tables.specs.State as tables
+use Rattle.tables.specs.State.{limits_and, named_by}
+use Rattle.tables.specs.Verdicts.{verdict_in}
+use Rattle.streams_kept.specs.Asked.{has, is_active}
+use Rattle.judgement.specs.Inbound.{Inbound, Outside, book_of, told_of}
+use Rattle.upstreams.specs.Kept as upstreams
+use Rattle.upstreams.specs.Connections.{Connection, lives, number_of}
+use Rattle.policy.specs.Moves.{Gain, Deed, Move, told_in, gained}
+use Rattle.policy.specs.Moves.Deed.{Takes}
+use Rattle.policy.specs.Moves.Move.{Does}
+use Rattle.policy.specs.State.{State}
+use Rattle.policy.specs.Coming.{IsReady}
+use Rattle.policy.specs.Steps as policy
+use Rattle.policy.specs.Steps.{Stands, told_by, told_behind, next, MayGoOn}
+use Rattle.policy.proofs.Stepping.{one_more}
+use Rattle.relay.specs.Others.{SameOf}
+use Rattle.relay.specs.Taking.{IsFrameTaken}
+use Rattle.relay.specs.View.{View, Pending, square, GoBack, IsCredited, Keeps, AreSo, AreHeard, Leads}
+use Rattle.relay.specs.Bringing.{Course}
+use Rattle.relay.proofs.Beside.{others_stay, served_stays}
+use Rattle.relay.proofs.Kept.{held_behind, AreServed}
+use Rattle.relay.proofs.Staying.{so_stays, heard_stays, rows_kept, all_held_served}
+use Rattle.relay.proofs.Taking.{taken_goes_on}
+
+-- ---- what is kept behind a frame
+
+-- what isn't kept of the book for the client's frames doesn't matter to them
+abbrev pub no_outside : Outside
+no_outside = record { given = []; untaken = 0 }
+
+-- what is kept for the client's frames, of a book and a table
+abbrev pub inbound_in : Table → Book → Inbound
+inbound_in table book = record {
+  has_come = book.has_come;
+  block = book.block;
+  continuations = book.continuations;
+  first_size = book.first_size;
+  window = book.window;
+  room = book.room;
+  rows = book.rows;
+  last = book.last;
+  table = table;
+}
+
+-- what is kept for them behind a frame, whose header block leaves this table
+abbrev pub inbound_behind : Setup → Inbound → Noted → Table → Inbound
+inbound_behind setup inbound noted next_table =
+    inbound_in (tables.table_after (completed_in inbound.block noted.frame) next_table inbound.table) (book_after setup false (book_of no_outside inbound) (Came noted))
+
+-- the book behind a frame with which the connection goes on
+pub frame_book : (setup : Setup) (outside : Outside) (inbound : Inbound) (noted : Noted) (next_table : Table) → is_fatal (fault_in (told_of outside inbound) (Came noted)) ≡ false
+    → book_after setup false (book_of outside inbound) (Came noted) ≡ book_of outside (inbound_behind setup inbound noted next_table)
+frame_book setup outside inbound noted next_table mild = ap (λ b. record (book_after setup false (book_of outside inbound) (Came noted)) { ends = b }) mild
+
+-- what a frame changes of its stream, by the rows before it and behind it
+abbrev pub change_between : List Row → List Row → ℕ → offering.Change
+change_between old new id = record {
+  opens = not (is_active old id) && is_active new id;
+  over = is_active old id && not (is_active new id);
+  caused = found_by (rows.find old id).brief.cause (rows.find new id).brief.cause;
+}
+
+-- what is on offer behind such a change
+abbrev pub offers_with : ℕ → offering.Change → offering.State → offering.State
+offers_with id c offers = record offers { kept = offering.unless_over c.over id (offering.change id (offering.answered_if c.caused) (offering.with_new c.opens id offers.kept)) }
+
+-- the encoder behind limits that a frame names
+abbrev pub encoding_with : List ℕ → Encoding → Encoding
+encoding_with named encoding = record encoding { limits = limits_and encoding.limits named }
+
+-- what is told of a stream's service by rows
+abbrev pub told_of_rows : Inbound → Told
+told_of_rows inbound = told_in (told_of no_outside inbound)
+
+-- ---- streams behind a frame
+
+-- a stream that is over doesn't go on
+alive : (setup : Setup) (s : Summary) (noted : Noted) (id : ℕ) (kept : Kept) → is_over_in (kept_in (slot_of (kept_behind setup false s (Came noted) id kept))) ≡ false → (is_over_in kept ≡ false) × (kept_in (slot_of (kept_behind setup false s (Came noted) id kept)) ≡ kept_behind setup false s (Came noted) id kept)
+alive setup s noted id kept on =
+    let behind : Kept = kept_behind setup false s (Came noted) id kept in
+    let alike = slot_alike behind in
+    let goes_on : is_over_in behind ≡ false = sym alike.over ∙ on in
+    (by (is_over_in kept) refl goes_on, alike.live goes_on)
+  where
+    by : (b : Bool) → is_over_in kept ≡ b → is_over_in (kept_behind setup false s (Came noted) id kept) ≡ false → is_over_in kept ≡ false
+    by false is goes_on = is
+    by true is goes_on = absurd (let no : true ≡ false = sym (over_stays setup false s (Came noted) id kept (fault_for kept.brief s (Came noted)) is) ∙ goes_on in cc)
+
+-- a stream that the client didn't end with the frame wasn't ended before
+not_ended : (id : ℕ) (s : Summary) (noted : Noted) (before : Bool) → ended_by_client_after id s (Came noted) before ≡ false → before ≡ false
+not_ended id s noted before is = (or_parts _ before is).1
+
+module _ (setup : Setup) (b : Book) (noted : Noted) (mild : is_fatal (fault_in (summary_in b) (Came noted)) ≡ false) (kept : AreKept b.rows) where
+  abbrev now : List Row
+  now = (book_after setup false b (Came noted)).rows
+
+  abbrev newly : Bool
+  newly = not (has b.rows noted.frame.id) && has now noted.frame.id
+
+  -- a stream that was opened before is found as the frame leaves it
+  found_now : has b.rows noted.frame.id ≡ true → rows.find now noted.frame.id ≡ kept_in (slot_of (kept_behind setup false (summary_in b) (Came noted) noted.frame.id (rows.find b.rows noted.frame.id)))
+  found_now there = by (opens_by (ids_of b.rows) (completed_in b.block noted.frame) noted.note) refl
+    where
+      changed : List Row
+      changed = map (row_behind setup false (summary_in b) (Came noted)) b.rows
+
+      by : (x : Bool) → opens_by (ids_of b.rows) (completed_in b.block noted.frame) noted.note ≡ x
+          → rows.find (if x then rows.row_opened setup false (summary_in b) (Came noted) noted.frame.id ∷ changed else changed) noted.frame.id ≡ kept_in (slot_of (kept_behind setup false (summary_in b) (Came noted) noted.frame.id (rows.find b.rows noted.frame.id)))
+      by false is = find_changed setup false (summary_in b) (Came noted) b.rows noted.frame.id there
+      by true is =
+          absurd (let no : false ≡ true = sym (not_opened (ids_of b.rows) noted.frame.id (opens_own (ids_of b.rows) b.block noted.frame noted.note is)) ∙ there in cc)
+
+  -- Octets go back behind the frame on streams on which they did before, but for one that it opens.
+  pub goes_back : (id : ℕ) → is_active now id ≡ true → (rows.find now id).ended_by_client ≡ false → ((noted.frame.id == id) && newly) ≡ false → (is_active b.rows id ≡ true) × ((rows.find b.rows id).ended_by_client ≡ false)
+  goes_back id active on old = by (noted.frame.id == id) refl
+    where
+      by : (x : Bool) → (noted.frame.id == id) ≡ x → (is_active b.rows id ≡ true) × ((rows.find b.rows id).ended_by_client ≡ false)
+      by false apart =
+          let same : SameOf b (book_after setup false b (Came noted)) id = others_stay setup b noted mild kept id apart in (
+            sym (ap (λ x. x && not (is_over_in (rows.find now id))) same.opened ∙ ap (λ (k : Kept). has b.rows id && not (is_over_in k)) same.kept) ∙ active,
+            ap (λ (k : Kept). k.ended_by_client) (sym same.kept) ∙ on,
+          )
+      by true own =
+          let is : noted.frame.id ≡ id = eqb-true noted.frame.id id own in
+          subst (λ n. (is_active b.rows n ≡ true) × ((rows.find b.rows n).ended_by_client ≡ false)) is
+          (own_stream (subst (λ n. is_active now n ≡ true) (sym is) active) (subst (λ n. (rows.find now n).ended_by_client ≡ false) (sym is) on) (sym (ap (λ x. x && newly) own) ∙ old))
+        where
+          there_before : (x y : Bool) → (not x && y) ≡ false → y ≡ true → x ≡ true
+          there_before true y is there = refl
+          there_before false y is there = absurd (let no : true ≡ false = sym there ∙ is in cc)
+
+          flipped : (x : Bool) → not x ≡ true → x ≡ false
+          flipped false is = refl
+          flipped true is = cc
+
+          own_stream : is_active now noted.frame.id ≡ true → (rows.find now noted.frame.id).ended_by_client ≡ false → newly ≡ false → (is_active b.rows noted.frame.id ≡ true) × ((rows.find b.rows noted.frame.id).ended_by_client ≡ false)
+          own_stream live goes_on none =
+              let parts = and_parts (has now noted.frame.id) (not (is_over_in (rows.find now noted.frame.id))) live in
+              let there = there_before (has b.rows noted.frame.id) (has now noted.frame.id) none parts.0 in
+              let found = found_now there in
+              let was = alive setup (summary_in b) noted noted.frame.id (rows.find b.rows noted.frame.id) (ap is_over_in (sym found) ∙ flipped (is_over_in (rows.find now noted.frame.id)) parts.1) in (
+                and_from (has b.rows noted.frame.id) (not (is_over_in (rows.find b.rows noted.frame.id))) there (ap not was.0),
+                not_ended noted.frame.id (summary_in b) noted (rows.find b.rows noted.frame.id).ended_by_client (ap (λ (k : Kept). k.ended_by_client) (sym (found ∙ was.1)) ∙ goes_on),
+              )
+
+-- ---- the move
+
+none_lost : (lost read error : Bool) → lost ≡ false → (read ≡ false → error ≡ true) → (lost || not read && not error) ≡ false
+none_lost lost true error none by = ap (λ x. x || false) none
+none_lost lost false error none by = ap (λ x. x || not error) none ∙ ap not (by refl)
+
+module _ (setup : Setup) (run : List Move) (kept : View) (s : State) (leads : Leads setup run kept square s) (ready : IsReady s) (noted : Noted) (next_table : Table) (gain : Gain) (taken : IsFrameTaken setup s noted next_table gain) where
+  abbrev pub deed : Deed
+  deed = Takes noted next_table gain
+
+  abbrev pub outside : Outside
+  outside = record { given = s.desk.book.given; untaken = kept.untaken }
+
+  -- what is kept for the client's frames behind it
+  abbrev pub behind : Inbound
+  behind = inbound_behind setup kept.inbound noted next_table
+
+  -- The move may come.
+  pub may_come : MayGoOn setup s (Does deed)
+  may_come = taken_goes_on setup s ready noted next_table gain taken
+
+  abbrev pub then_state : State
+  then_state = next setup s (Does deed)
+
+  pub stands_then : Stands setup (Does deed ∷ run) then_state
+  stands_then = one_more setup run s (Does deed) leads.stands may_come
+
+  pub so_then : AreSo setup (Does deed ∷ run)
+  so_then = so_stays setup run deed tt leads.so
+
+  live_kept : s.requests.live ≡ lives kept.upstreams.live
+  live_kept = ap (λ (r : serving.State). r.live) leads.keeps.requests
+
+  pub heard_then : AreHeard setup (Does deed ∷ run) kept.upstreams.live
+  heard_then = heard_stays setup run s leads.stands leads.so kept.upstreams.live live_kept deed tt leads.heard
+
+  rows_so : AreKept s.desk.book.rows
+  rows_so = rows_kept setup run s leads.stands
+
+  mild_kept : is_fatal (fault_in (told_of outside kept.inbound) (Came noted)) ≡ false
+  mild_kept = subst (λ (b : Book). is_fatal (fault_in (summary_in b) (Came noted)) ≡ false) leads.keeps.book taken.mild
+
+  -- The book behind it.
+  pub book_then : then_state.desk.book ≡ book_of outside behind
+  book_then = ap (λ (b : Book). book_after setup false b (Came noted)) leads.keeps.book ∙ frame_book setup outside kept.inbound noted next_table mild_kept
+
+  -- What is owed behind it.
+  pub queue_then : then_state.desk.queue ≡ owes_in setup false (told_of outside kept.inbound) (Came noted)
+  queue_then = ap (λ (b : Book). owes_in setup false (summary_in b) (Came noted)) leads.keeps.book
+
+  -- What is on offer behind it.
+  pub offers_then : then_state.offers ≡ offers_with noted.frame.id (change_between kept.inbound.rows behind.rows noted.frame.id) kept.offers
+  offers_then =
+      ap (λ (b : Book). offers_with noted.frame.id (change_between s.desk.book.rows b.rows noted.frame.id) s.offers) book_then
+      ∙ ap (λ (b : Book). offers_with noted.frame.id (change_between b.rows behind.rows noted.frame.id) s.offers) leads.keeps.book
+      ∙ ap (λ (o : offering.State). offers_with noted.frame.id (change_between kept.inbound.rows behind.rows noted.frame.id) o) leads.keeps.offers
+
+  -- What is kept of requests behind it.
+  pub requests_then : then_state.requests ≡ serving.after setup (told_of_rows behind) (upstreams.with_due kept.upstreams Due.Nothing) (gained noted gain)
+  requests_then =
+      ap (λ (b : Book). serving.after setup (told_in (summary_in b)) s.requests (gained noted gain)) book_then
+      ∙ ap (λ (r : serving.State). serving.after setup (told_of_rows behind) r (gained noted gain)) leads.keeps.requests
+
+  -- What is held, where only streams that are served stay: that of the frame's stream where it isn't served behind it.
+  pub held_then : serving.kept (told_of_rows behind) kept.upstreams.held ≡ (if (told_of_rows behind).served noted.frame.id then kept.upstreams.held else without id_of noted.frame.id kept.upstreams.held)
+  held_then =
+      held_behind (told_of_rows kept.inbound) (told_of_rows behind) noted.frame.id others kept.upstreams.held
+      (subst (λ (hs : List Held). AreServed (told_of_rows kept.inbound) hs) (ap (λ (r : serving.State). r.held) leads.keeps.requests)
+      (subst (λ (b : Book). AreServed (told_in (summary_in b)) s.requests.held) leads.keeps.book (all_held_served setup run s leads.stands leads.so)))
+    where
+      others : (other : ℕ) → (noted.frame.id == other) ≡ false → (told_of_rows behind).served other ≡ (told_of_rows kept.inbound).served other
+      others other apart =
+          sym (ap (λ (b : Book). (told_in (summary_in b)).served other) book_then)
+          ∙ served_stays s.desk.book then_state.desk.book other (others_stay setup s.desk.book noted taken.mild rows_so other apart)
+          ∙ ap (λ (b : Book). (told_in (summary_in b)).served other) leads.keeps.book
+
+  -- ---- octets of DATA that go back
+
+  abbrev opens_it : Bool
+  opens_it = not (has s.desk.book.rows noted.frame.id) && has then_state.desk.book.rows noted.frame.id
+
+  abbrev over_with_it : Bool
+  over_with_it = is_active s.desk.book.rows noted.frame.id && not (is_active then_state.desk.book.rows noted.frame.id)
+
+  -- nothing was to go back
+  old_debt : (id : ℕ) → GoBack kept.inbound id → (s.windows.row id).debt ≡ 0
+  old_debt id back = elim (eqb_tells id kept.inbound.last) [
+    | inl is ↦ ap (λ n. (s.windows.row n).debt) is.1 ∙ leads.keeps.credited.own (subst (GoBack kept.inbound) is.1 back)
+    | inr apart ↦ leads.keeps.credited.others id apart.1 back
+  ]
+
+  none_behind : (id : ℕ) → GoBack behind id → (then_state.windows.row id).debt ≡ 0
+  none_behind id back = by opens_it refl (noted.frame.id == id) refl
+    where
+      rows_now : is_active then_state.desk.book.rows id ≡ true
+      rows_now = ap (λ (b : Book). is_active b.rows id) book_then ∙ back.active
+
+      before : ((noted.frame.id == id) && opens_it) ≡ false → (s.windows.row id).debt ≡ 0
+      before old =
+          let was = goes_back setup s.desk.book noted taken.mild rows_so id rows_now (ap (λ (b : Book). (find b.rows id).ended_by_client) book_then ∙ back.goes_on) old in
+          old_debt id (record { active = sym (ap (λ (b : Book). is_active b.rows id) leads.keeps.book) ∙ was.0; goes_on = sym (ap (λ (b : Book). (find b.rows id).ended_by_client) leads.keeps.book) ∙ was.1 })
+
+      neither : (x : Bool) → (x && false) ≡ false
+      neither true = refl
+      neither false = refl
+
+      by : (x : Bool) → opens_it ≡ x → (y : Bool) → (noted.frame.id == id) ≡ y → ((if x then receiving.change noted.frame.id (λ r. receiving.blank) s.windows.row else s.windows.row) id).debt ≡ 0
+      by false opened y own = before (ap (λ x. (noted.frame.id == id) && x) opened ∙ neither (noted.frame.id == id))
+      by true opened true own = ap (λ x. (if x then receiving.blank else s.windows.row id).debt) own
+      by true opened false own = ap (λ x. (if x then receiving.blank else s.windows.row id).debt) own ∙ before (ap (λ x. x && opens_it) own)
+
+  waits_none : (id : ℕ) → (then_state.windows.row id).queue ≡ []
+  waits_none id = by opens_it (noted.frame.id == id) refl
+    where
+      by : (x y : Bool) → (noted.frame.id == id) ≡ y → ((if x then receiving.change noted.frame.id (λ r. receiving.blank) s.windows.row else s.windows.row) id).queue ≡ []
+      by false y own = leads.keeps.credited.none_wait id
+      by true true own = ap (λ x. (if x then receiving.blank else s.windows.row id).queue) own
+      by true false own = ap (λ x. (if x then receiving.blank else s.windows.row id).queue) own ∙ leads.keeps.credited.none_wait id
+
+  none_dropped : (if over_with_it then total (s.windows.row noted.frame.id).queue else 0) ≡ 0
+  none_dropped = by over_with_it
+    where
+      by : (x : Bool) → (if x then total (s.windows.row noted.frame.id).queue else 0) ≡ 0
+      by false = refl
+      by true = ap (λ (marks : List Mark). total marks) (leads.keeps.credited.none_wait noted.frame.id)
+
+  -- ---- all of it
+
+  -- Where this is what is kept then: on offer, of requests with what is due, and by the encoder; and this is owed.
+  pub leads_then : (owed : List Frame) (due : Due) (offers : offering.State) (upstream : upstreams.State) → upstream.live ≡ kept.upstreams.live → owes_in setup false (told_of outside kept.inbound) (Came noted) ≡ owed
+      → offers_with noted.frame.id (change_between kept.inbound.rows behind.rows noted.frame.id) kept.offers ≡ offers → serving.after setup (told_of_rows behind) (upstreams.with_due kept.upstreams Due.Nothing) (gained noted gain) ≡ upstreams.with_due upstream due
+      → Leads setup (Does deed ∷ run) (record { inbound = behind; offers = offers; upstreams = upstream; encoding = encoding_with (named_by (verdict_in (told_of outside kept.inbound) noted.frame) noted.frame) kept.encoding; untaken = kept.untaken })
+      (record square { owed = owed; due = due; fresh = data_length is_any noted.frame }) then_state
+  leads_then owed due offers upstream same_live owes on_offer requests = record {
+    stands = stands_then;
+    so = so_then;
+    heard = subst (λ (cs : List Connection). AreHeard setup (Does deed ∷ run) cs) (sym same_live) heard_then;
+    keeps = record {
+      book = book_then;
+      owed = queue_then ∙ owes;
+      offers = offers_then ∙ on_offer;
+      requests = requests_then ∙ requests;
+      decoding =
+          ap (λ (b : Book). tables.table_after (completed_in b.block noted.frame) next_table s.tables.decoding) leads.keeps.book
+          ∙ ap (λ (t : Table). tables.table_after (completed_in kept.inbound.block noted.frame) next_table t) leads.keeps.decoding;
+      encoding =
+          ap (λ (b : Book). encoding_with (named_by (verdict_in (summary_in b) noted.frame) noted.frame) s.tables.encoding) leads.keeps.book
+          ∙ ap (λ (e : Encoding). encoding_with (named_by (verdict_in (told_of outside kept.inbound) noted.frame) noted.frame) e) leads.keeps.encoding;
+      read = none_lost s.tables.lost (is_read noted.note) (verdict_in (told_by s) noted.frame).is_error leads.keeps.read taken.read;
+      credited = record {
+        fresh = refl;
+        shared = ap (λ n. s.windows.debt + n) none_dropped ∙ ap (λ n. n + 0) leads.keeps.credited.shared;
+        own = none_behind behind.last;
+        others = λ id apart back. none_behind id back;
+        none_wait = waits_none;
+      };
+      counted = λ k c found. leads.keeps.counted k c (subst (λ (cs : List Connection). serving.find number_of k cs ≡ Some c) same_live found);
+    };
+  }
+
+  -- The frame begins a course that leads there, with which nothing is put out.
+  pub begins : (outputs : List Output) (new : View) (pending : Pending) → Leads setup (Does deed ∷ run) new pending then_state → Course setup run s outputs (Came noted) new pending outputs
+  begins outputs new pending there = record {
+    segment = record { moves = Does deed ∷ []; state = then_state; by_rule = (s, refl, may_come, refl); leads = there; puts = refl };
+    own = [];
+    begins = refl;
+    are_own = tt;
+  }

@@ -1,0 +1,101 @@
+-- Open connections as the rule of requests has them: what a call changes is what the rule's move changes.
+use Rattle.std.proofs.Common.{◌≡◌, ℕ, ◌<◌, ◌==◌, ◌||◌, if◌then◌else◌, Bool, true, false, List, [], ◌∷◌, map, Some, None, refl, sym, ap, ◌∙◌, arith}
+use Rattle.std.specs.Prelude.{Option, option_map}
+use Rattle.std.specs.List.{list_any}
+use Rattle.std.proofs.lemmas.Bool.{eq-eqb, ne_eqb}
+use Rattle.answers.specs.Waiting.{Answer}
+use Rattle.serving.specs.State.{k_of, live_of, find, without, answered}
+use Rattle.serving.specs.Told.{Told}
+use Rattle.serving.specs.Rule.{is_done}
+use Rattle.upstreams.specs.Connections.{Connection, number_of, lives, whole_at, answer_at, next_done, AreBelow}
+
+-- ---- what is found
+
+pub lives_found : (k : ℕ) (cs : List Connection) → live_of k (lives cs) ≡ option_map (λ (c : Connection). c.live) (find number_of k cs)
+lives_found k [] = refl
+lives_found k (c ∷ cs) = by (c.live.k == k) (lives_found k cs)
+  where
+    by : (b : Bool) → live_of k (lives cs) ≡ option_map (λ (x : Connection). x.live) (find number_of k cs)
+        → (if b then Some c.live else live_of k (lives cs)) ≡ option_map (λ (x : Connection). x.live) (if b then Some c else find number_of k cs)
+    by true more = refl
+    by false more = more
+
+-- ---- changes
+
+pub lives_whole : (k : ℕ) (cs : List Connection) → lives (map (whole_at k) cs) ≡ map (answered true k) (lives cs)
+lives_whole k [] = refl
+lives_whole k (c ∷ cs) = ap (λ ls. answered true k c.live ∷ ls) (lives_whole k cs)
+
+pub lives_same : (f : Connection → Connection) → ((c : Connection) → (f c).live ≡ c.live) → (cs : List Connection) → lives (map f cs) ≡ lives cs
+lives_same f same [] = refl
+lives_same f same (c ∷ cs) = ap (λ l. l ∷ lives (map f cs)) (same c) ∙ ap (λ ls. c.live ∷ ls) (lives_same f same cs)
+
+pub lives_closed : (k : ℕ) (cs : List Connection) → lives (without number_of k cs) ≡ without k_of k (lives cs)
+lives_closed k [] = refl
+lives_closed k (c ∷ cs) = by (c.live.k == k) (lives_closed k cs)
+  where
+    by : (b : Bool) → lives (without number_of k cs) ≡ without k_of k (lives cs)
+        → lives (if b then without number_of k cs else c ∷ without number_of k cs) ≡ (if b then without k_of k (lives cs) else c.live ∷ without k_of k (lives cs))
+    by true more = more
+    by false more = ap (λ ls. c.live ∷ ls) more
+
+-- an answer that is lent out and put back
+pub answer_twice : (k : ℕ) (first last : Answer) (cs : List Connection) → map (answer_at k last) (map (answer_at k first) cs) ≡ map (answer_at k last) cs
+answer_twice k first last [] = refl
+answer_twice k first last (c ∷ cs) = ap (λ x. x ∷ map (answer_at k last) (map (answer_at k first) cs)) (by (c.live.k == k)) ∙ ap (λ xs. answer_at k last c ∷ xs) (answer_twice k first last cs)
+  where
+    by : (b : Bool) → record c { answer = if b then last else (if b then first else c.answer) } ≡ record c { answer = if b then last else c.answer }
+    by true = refl
+    by false = refl
+
+-- ---- which is done with
+
+-- The open connection with this number is done with.
+pub record IsDone (told : Told) (cs : List Connection) (k : ℕ) : Type 0 where
+  pub connection : Connection
+  pub found : find number_of k cs ≡ Some connection
+  pub done : is_done told connection.live ≡ true
+
+pub none_done : (told : Told) (cs : List Connection) → next_done told cs ≡ None → list_any (is_done told) (lives cs) ≡ false
+none_done told [] none = refl
+none_done told (c ∷ cs) none = by (is_done told c.live) refl (λ rest. none_done told cs rest)
+  where
+    by : (b : Bool) → is_done told c.live ≡ b → (next_done told cs ≡ None → list_any (is_done told) (lives cs) ≡ false) → list_any (is_done told) (lives (c ∷ cs)) ≡ false
+    by true done more = let clash : ◌≡◌ {A = Option ℕ} (Some c.live.k) None = sym (ap (λ b. if b then Some c.live.k else next_done told cs) done) ∙ none in cc
+    by false on more = ap (λ b. b || list_any (is_done told) (lives cs)) on ∙ more (sym (ap (λ b. if b then Some c.live.k else next_done told cs) on) ∙ none)
+
+-- the number of one that is done with is below
+done_below : (told : Told) (top k : ℕ) (cs : List Connection) → AreBelow top cs → next_done told cs ≡ Some k → k < top
+done_below told top k [] below is = let clash : ◌≡◌ {A = Option ℕ} None (Some k) = is in cc
+done_below told top k (c ∷ cs) below is = by (is_done told c.live) refl (λ rest. done_below told c.live.k k cs below.1 rest)
+  where
+    by : (b : Bool) → is_done told c.live ≡ b → (next_done told cs ≡ Some k → k < c.live.k) → k < top
+    by true done more =
+        let both : Some c.live.k ≡ Some k = sym (ap (λ b. if b then Some c.live.k else next_done told cs) done) ∙ is in
+        let same : c.live.k ≡ k = cc in
+        let first = below.0 in
+        omega (arith, first, same)
+    by false on more =
+        let less = more (sym (ap (λ b. if b then Some c.live.k else next_done told cs) on) ∙ is) in
+        let first = below.0 in
+        omega (arith, first, less)
+
+-- where one is done with, the first that is is open with its number
+pub one_done : (told : Told) (top k : ℕ) (cs : List Connection) → AreBelow top cs → next_done told cs ≡ Some k → IsDone told cs k
+one_done told top k [] below is = let clash : ◌≡◌ {A = Option ℕ} None (Some k) = is in cc
+one_done told top k (c ∷ cs) below is = by (is_done told c.live) refl (λ rest. one_done told c.live.k k cs below.1 rest)
+  where
+    by : (b : Bool) → is_done told c.live ≡ b → (next_done told cs ≡ Some k → IsDone told cs k) → IsDone told (c ∷ cs) k
+    by true done more =
+        let both : Some c.live.k ≡ Some k = sym (ap (λ b. if b then Some c.live.k else next_done told cs) done) ∙ is in
+        let same : c.live.k ≡ k = cc in
+        record { connection = c; found = ap (λ b. if b then Some c else find number_of k cs) (eq-eqb c.live.k k same); done = done }
+    by false on more =
+        let rest : next_done told cs ≡ Some k = sym (ap (λ b. if b then Some c.live.k else next_done told cs) on) ∙ is in
+        let less = done_below told c.live.k k cs below.1 rest in
+        let one = more rest in
+        record {
+          connection = one.connection;
+          found = ap (λ b. if b then Some c else find number_of k cs) (ne_eqb c.live.k k (λ same. omega (arith, less, same))) ∙ one.found;
+          done = one.done;
+        }

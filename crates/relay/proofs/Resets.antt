@@ -1,0 +1,251 @@
+-- A reset that is owed next is sent, and its stream is over with it.
+use Rattle.std.proofs.Common.{◌≡◌, ℕ, ◌+◌, Bool, true, false, not, ◌&&◌, ◌||◌, ◌==◌, List, [], ◌∷◌, ◌++◌, append-nil, length, map, None, refl, sym, ◌∙◌, ap, subst, inl, inr, if◌then◌else◌, arith}
+use Rattle.std.proofs.lemmas.Bool.{eqb-true}
+use Rattle.std.specs.Prelude.{is_none}
+use Rattle.std.specs.List.{list_any}
+use Rattle.model.specs.Frames.{Frame, Fits, spell}
+use Rattle.model.specs.Logs.{Output}
+use Rattle.model.specs.Logs.Output.{ToClient}
+use Rattle.model.specs.Setup.{Setup}
+use Rattle.model.specs.Tapes.{put}
+use Rattle.model.specs.Lifetimes.{may_open}
+use Rattle.model.specs.ErrorClause.{rst_stream}
+use Rattle.model.specs.Openings.{Opened}
+use Rattle.conduct.specs.Summary.{Stream as Kept, Summary}
+use Rattle.conduct.specs.Judging.{is_over_in}
+use Rattle.conduct.specs.Turn.{rest_of}
+use Rattle.conduct.specs.Rows.{Row, Slot, ids_of, kept_in}
+use Rattle.conduct.specs.Rows.Slot.{Over}
+use Rattle.conduct.specs.Rows as rows
+use Rattle.conduct.specs.Quiet.{noted_of}
+use Rattle.conduct.specs.Book.{Book, Desk, desk_after, summary_in}
+use Rattle.offering.specs.State as offering
+use Rattle.receiving.specs.Marks.{Mark, total}
+use Rattle.serving.specs.Told.{Told}
+use Rattle.serving.specs.State as serving
+use Rattle.serving.specs.State.{Held, id_of, without}
+use Rattle.serving.specs.State.Due.{Nothing}
+use Rattle.streams_kept.specs.Asked.{has, is_active, with_slot, changed}
+use Rattle.streams_kept.proofs.Changes.{same_ids}
+use Rattle.judgement.specs.Inbound.{Inbound, Outside, book_of}
+use Rattle.judgement.specs.Sending.{behind_reset}
+use Rattle.judgement.proofs.SendingBooks.{reset_leads}
+use Rattle.judgement.proofs.SendingEvents.{sent_desk}
+use Rattle.upstreams.specs.Kept as upstreams
+use Rattle.upstreams.specs.Connections.{lives}
+use Rattle.policy.specs.Moves.{Deed, Move, conduct_of, told_in}
+use Rattle.policy.specs.Moves.Deed.{Sends}
+use Rattle.policy.specs.Moves.Move.{Does}
+use Rattle.policy.specs.State.{State}
+use Rattle.policy.specs.Steps.{told_by, told_behind, next, MayGoOn}
+use Rattle.policy.proofs.Going.{may_pay}
+use Rattle.policy.proofs.Stepping.{one_more}
+use Rattle.relay.specs.View.{View, Pending, GoBack, Leads}
+use Rattle.relay.specs.Bringing.{OwnSegment, PerformsOwn}
+use Rattle.relay.proofs.Kept.{AreServed, held_behind}
+use Rattle.relay.proofs.Staying.{so_stays, heard_stays, rows_kept, all_held_served}
+
+-- ---- rows of which one is changed
+
+-- what is found of a stream whose row is changed
+pub find_own : (id : ℕ) (slot : Slot) (all : List Row) → has all id ≡ true → rows.find (changed id slot all) id ≡ kept_in slot
+find_own id slot [] there = cc
+find_own id slot (row ∷ all) there = by (row.id == id) refl (find_own id slot all)
+  where
+    by : (b : Bool) → (row.id == id) ≡ b → (has all id ≡ true → rows.find (changed id slot all) id ≡ kept_in slot) → rows.find (changed id slot (row ∷ all)) id ≡ kept_in slot
+    by true is rest =
+        ap (λ b. rows.find ((if b then record { id = row.id; slot = slot } else row) ∷ changed id slot all) id) is ∙ ap (λ b. if b then kept_in slot else rows.find (changed id slot all) id) is
+    by false is rest =
+        ap (λ b. rows.find ((if b then record { id = row.id; slot = slot } else row) ∷ changed id slot all) id) is
+        ∙ ap (λ b. if b then kept_in row.slot else rows.find (changed id slot all) id) is
+        ∙ rest (sym (ap (λ b. b || has all id) is) ∙ there)
+
+-- and of any other
+pub find_other : (id other : ℕ) (slot : Slot) (all : List Row) → (id == other) ≡ false → rows.find (changed id slot all) other ≡ rows.find all other
+find_other id other slot [] apart = refl
+find_other id other slot (row ∷ all) apart = by (row.id == id) refl (find_other id other slot all apart)
+  where
+    by : (b : Bool) → (row.id == id) ≡ b → rows.find (changed id slot all) other ≡ rows.find all other → rows.find (changed id slot (row ∷ all)) other ≡ rows.find (row ∷ all) other
+    by false is rest =
+        ap (λ b. rows.find ((if b then record { id = row.id; slot = slot } else row) ∷ changed id slot all) other) is
+        ∙ ap (λ (k : Kept). if row.id == other then kept_in row.slot else k) rest
+    by true is rest =
+        let not_it : (row.id == other) ≡ false = ap (λ n. n == other) (eqb-true row.id id is) ∙ apart in
+        ap (λ b. rows.find ((if b then record { id = row.id; slot = slot } else row) ∷ changed id slot all) other) is
+        ∙ ap (λ b. if b then kept_in slot else rows.find (changed id slot all) other) not_it
+        ∙ rest
+        ∙ sym (ap (λ b. if b then kept_in row.slot else rows.find all other) not_it)
+
+pub has_same : (id other : ℕ) (slot : Slot) (all : List Row) → has (changed id slot all) other ≡ has all other
+has_same id other slot all = ap (λ (ids : List ℕ). list_any (λ n. n == other) ids) (same_ids id slot all)
+
+-- a stream that is over isn't active
+pub inactive : (id : ℕ) (by_us : Bool) (all : List Row) → is_active (changed id (Over by_us) all) id ≡ false
+inactive id by_us all = ap (λ b. b && not (is_over_in (rows.find (changed id (Over by_us) all) id))) (has_same id id (Over by_us) all) ∙ by (has all id) refl
+  where
+    closed : (us : Bool) → (us || false || true) ≡ true
+    closed true = refl
+    closed false = refl
+
+    by : (b : Bool) → has all id ≡ b → (b && not (is_over_in (rows.find (changed id (Over by_us) all) id))) ≡ false
+    by false there = refl
+    by true there = ap (λ (k : Kept). not (is_over_in k)) (find_own id (Over by_us) all there) ∙ ap not (closed by_us)
+
+pub active_same : (id other : ℕ) (slot : Slot) (all : List Row) → (id == other) ≡ false → is_active (changed id slot all) other ≡ is_active all other
+active_same id other slot all apart =
+    ap (λ b. b && not (is_over_in (rows.find (changed id slot all) other))) (has_same id other slot all) ∙ ap (λ (k : Kept). has all other && not (is_over_in k)) (find_other id other slot all apart)
+
+-- ---- the reset
+
+-- what is kept behind it
+abbrev pub reset_view : View → ℕ → ℕ → View
+reset_view kept id code = record {
+  inbound = record kept.inbound { rows = changed id (Over true) kept.inbound.rows };
+  offers = record kept.offers { kept = offering.without id kept.offers.kept };
+  upstreams = record kept.upstreams { held = without id_of id kept.upstreams.held };
+  encoding = kept.encoding;
+  untaken = kept.untaken + length (spell (rst_stream id code));
+}
+
+module _ (setup : Setup) (kept : View) (pending : Pending) (rest : List Frame) (id code : ℕ) (front : pending.owed ≡ rst_stream id code ∷ rest) (nothing_due : pending.due ≡ Nothing) (known : may_open (ids_of kept.inbound.rows) id ≡ false) (fits : Fits (rst_stream id code)) (outputs : List Output) where
+  abbrev frame : Frame
+  frame = rst_stream id code
+
+  abbrev new : View
+  new = reset_view kept id code
+
+  module _ (run : List Move) (s : State) (leads : Leads setup run kept pending s) where
+    abbrev deed : Deed
+    deed = Sends (noted_of frame) s.tables.encoding.table
+
+    abbrev book : Book
+    book = s.desk.book
+
+    abbrev outside : Outside
+    outside = record { given = book.given; untaken = kept.untaken }
+
+    none_begun : book.block_out ≡ None
+    none_begun = ap (λ (b : Book). b.block_out) leads.keeps.book
+
+    queue : s.desk.queue ≡ frame ∷ rest
+    queue = leads.keeps.owed ∙ front
+
+    -- the desk behind it
+    desk : desk_after setup s.desk (conduct_of deed) ≡ record { book = behind_reset book frame; queue = rest }
+    desk =
+        sent_desk setup false s.desk (noted_of frame) (behind_reset book frame) [] (reset_leads setup book (noted_of frame) (rows_kept setup run s leads.stands) none_begun refl)
+        ∙ ap (λ (q : List Frame). record { book = behind_reset book frame; queue = rest_of q ++ [] }) queue
+        ∙ ap (λ (q : List Frame). record { book = behind_reset book frame; queue = q }) (append-nil rest)
+
+    told : told_behind setup s deed ≡ summary_in (behind_reset book frame)
+    told = ap (λ (d : Desk). summary_in d.book) desk
+
+    may : MayGoOn setup s (Does deed)
+    may = (
+      ap (λ (d : Desk). d.book.ends) desk ∙ ap (λ (b : Book). b.ends) leads.keeps.book,
+      may_pay setup (told_behind setup s deed) s (noted_of frame) s.tables.encoding.table (record {
+        between = record {
+          open_yet = ap (λ (b : Book). b.closed) leads.keeps.book;
+          none_begun = none_begun;
+          nothing_due = ap (λ (r : serving.State). r.due) leads.keeps.requests ∙ nothing_due;
+          no_note = refl;
+          not_to_open = ap (λ (b : Book). may_open (ids_of b.rows) id) leads.keeps.book ∙ known;
+        };
+        front = subst (λ (q : List Frame). q ≡ frame ∷ rest_of q) (sym queue) refl;
+        control = refl;
+      }),
+    )
+
+    abbrev then_state : State
+    then_state = next setup s (Does deed)
+
+    book_kept : then_state.desk.book ≡ book_of (record { given = then_state.desk.book.given; untaken = new.untaken }) new.inbound
+    book_kept =
+        ap (λ (d : Desk). d.book) desk
+        ∙ ap (λ (b : Book). behind_reset b frame) leads.keeps.book
+        ∙ ap (λ (os : List Opened). book_of (record { given = os; untaken = new.untaken }) new.inbound) (sym (ap (λ (d : Desk). d.book.given) desk))
+
+    -- ---- what is held
+
+    abbrev after_it : Told
+    after_it = told_in (summary_in (behind_reset book frame))
+
+    others_served : (other : ℕ) → (id == other) ≡ false → after_it.served other ≡ (told_in (told_by s)).served other
+    others_served other apart =
+        ap (λ b. b && is_none (rows.find (changed id (Over true) book.rows) other).brief.cause) (active_same id other (Over true) book.rows apart)
+        ∙ ap (λ (k : Kept). is_active book.rows other && is_none k.brief.cause) (find_other id other (Over true) book.rows apart)
+
+    not_served : after_it.served id ≡ false
+    not_served = ap (λ b. b && is_none (rows.find (changed id (Over true) book.rows) id).brief.cause) (inactive id true book.rows)
+
+    held_then : serving.kept after_it s.requests.held ≡ without id_of id s.requests.held
+    held_then =
+        held_behind (told_in (told_by s)) after_it id others_served s.requests.held (all_held_served setup run s leads.stands leads.so)
+        ∙ ap (λ b. if b then s.requests.held else without id_of id s.requests.held) not_served
+
+    requests_kept : then_state.requests ≡ upstreams.with_due new.upstreams pending.due
+    requests_kept =
+        ap (λ (u : Summary). serving.after setup (told_in u) s.requests (serving.Move.Sends (noted_of frame))) told
+        ∙ ap (λ (hs : List Held). record s.requests { held = hs }) held_then
+        ∙ ap (λ (r : serving.State). record r { held = without id_of id r.held }) leads.keeps.requests
+
+    -- ---- octets that go back
+
+    abbrev over_with_it : Bool
+    over_with_it = is_active book.rows id && not (is_active then_state.desk.book.rows id)
+
+    none_dropped : (if over_with_it then total (s.windows.row id).queue else 0) ≡ 0
+    none_dropped = by over_with_it
+      where
+        by : (x : Bool) → (if x then total (s.windows.row id).queue else 0) ≡ 0
+        by false = refl
+        by true = ap (λ (marks : List Mark). total marks) (leads.keeps.credited.none_wait id)
+
+    -- they go back on other streams than this as before
+    back_before : (other : ℕ) → GoBack new.inbound other → GoBack kept.inbound other
+    back_before other back = by (id == other) refl
+      where
+        by : (b : Bool) → (id == other) ≡ b → GoBack kept.inbound other
+        by true is =
+            absurd (let no : true ≡ false = sym (subst (λ n. is_active (changed id (Over true) kept.inbound.rows) n ≡ true) (sym (eqb-true id other is)) back.active) ∙ inactive id true kept.inbound.rows in cc)
+        by false apart = record {
+          active = sym (active_same id other (Over true) kept.inbound.rows apart) ∙ back.active;
+          goes_on = ap (λ (k : Kept). k.ended_by_client) (sym (find_other id other (Over true) kept.inbound.rows apart)) ∙ back.goes_on;
+        }
+
+    -- A reset that is owed next is sent, and its stream is over.
+    pub reset_paid : OwnSegment setup run s outputs new (record pending { owed = rest }) (put outputs (ToClient (spell frame)))
+    reset_paid = record {
+      segment = record {
+        moves = Does deed ∷ [];
+        state = then_state;
+        by_rule = (s, refl, may, refl);
+        leads = record {
+          stands = one_more setup run s (Does deed) leads.stands may;
+          so = so_stays setup run deed tt leads.so;
+          heard = heard_stays setup run s leads.stands leads.so kept.upstreams.live (ap (λ (r : serving.State). r.live) leads.keeps.requests) deed tt leads.heard;
+          keeps = record {
+            book = book_kept;
+            owed = ap (λ (d : Desk). d.queue) desk;
+            offers = ap (λ (o : offering.State). record o { kept = offering.without id o.kept }) leads.keeps.offers;
+            requests = requests_kept;
+            decoding = leads.keeps.decoding;
+            encoding = leads.keeps.encoding;
+            read = leads.keeps.read;
+            credited = record {
+              fresh = leads.keeps.credited.fresh;
+              shared = ap (λ n. s.windows.debt + n) none_dropped ∙ plus_none s.windows.debt ∙ leads.keeps.credited.shared;
+              own = λ back. leads.keeps.credited.own (back_before kept.inbound.last back);
+              others = λ other apart back. leads.keeps.credited.others other apart (back_before other back);
+              none_wait = leads.keeps.credited.none_wait;
+            };
+            counted = leads.keeps.counted;
+          };
+        };
+        puts = refl;
+      };
+      are_own = (fits, tt);
+    }
+      where
+        plus_none : (n : ℕ) → n + 0 ≡ n
+        plus_none n = omega (arith)

@@ -1,0 +1,43 @@
+-- Before anything came: rooms in which nothing is kept yet stand for the first state, with the gateway's settings owed.
+use Rattle.std.proofs.Common.{◌≡◌, ℕ, List, [], ◌∷◌, Option, Some, None, refl, sym, ◌∙◌, ap}
+use Rattle.model.specs.Frames.{settings_frame}
+use Rattle.model.specs.Setup.{Setup}
+use Rattle.model.specs.Tables.{first_table}
+use Rattle.conduct.specs.Book.{first_desk}
+use Rattle.offering.specs.State as offering
+use Rattle.serving.specs.State as serving
+use Rattle.serving.specs.State.{find}
+use Rattle.tables.specs.State.{inserts}
+use Rattle.header_blocks.specs.Encoding.{first_encoding}
+use Rattle.judgement.specs.Inbound.{book_of}
+use Rattle.upstreams.specs.Kept.{State, nothing, with_due}
+use Rattle.upstreams.specs.Connections.{Connection, number_of}
+use Rattle.policy.specs.State as policy
+use Rattle.relay.specs.View.{View, Pending, square, Leads}
+
+-- what is to be done first: the gateway's settings are owed
+abbrev pub first_pending : Pending
+first_pending = record square { owed = settings_frame ∷ [] }
+
+module _ (setup : Setup) (kept : View) (book : book_of (record { given = []; untaken = 0 }) kept.inbound ≡ (first_desk setup).book) (offers : kept.offers ≡ offering.start) (upstreams : kept.upstreams ≡ nothing) (table : kept.inbound.table ≡ first_table) (encoding : kept.encoding ≡ first_encoding (inserts setup.policy)) (untaken : kept.untaken ≡ 0) where
+  none_open : (k : ℕ) (c : Connection) → find number_of k kept.upstreams.live ≡ Some c → ⊥
+  none_open k c found = let no : ◌≡◌ {A = Option Connection} None (Some c) = sym (ap (λ (u : State). find number_of k u.live) upstreams) ∙ found in cc
+
+  -- No move led there.
+  pub first_leads : Leads setup [] kept first_pending (policy.state_of setup [])
+  first_leads = record {
+    stands = record { allowed = tt; is = refl; goes_on = refl };
+    so = λ known same knows. tt;
+    heard = λ known same knows k c found goes_on. absurd (none_open k c found);
+    keeps = record {
+      book = sym book ∙ ap (λ n. book_of (record { given = []; untaken = n }) kept.inbound) (sym untaken);
+      owed = refl;
+      offers = sym offers;
+      requests = ap (λ (u : State). with_due u serving.Due.Nothing) (sym upstreams);
+      decoding = sym table;
+      encoding = sym encoding;
+      read = refl;
+      credited = record { fresh = refl; shared = refl; own = λ goes. refl; others = λ id apart goes. refl; none_wait = λ id. refl };
+      counted = λ k c found. absurd (none_open k c found);
+    };
+  }

@@ -1,0 +1,189 @@
+-- Where requests are passed on whole, all that is held waits, where moves led; and the numbers of open connections fall.
+use Rattle.std.proofs.Common.{◌≡◌, ℕ, suc, ◌<◌, ◌≤◌, Bool, true, false, ◌||◌, ◌==◌, List, [], ◌∷◌, ◌++◌, map, filter, Option, Some, None, refl, sym, ◌∙◌, ap, subst, if◌then◌else◌, arith}
+use Rattle.model.specs.Setup.{Setup, Passing}
+use Rattle.model.specs.Setup.Passing.{Whole as WholePassing, Streaming}
+use Rattle.model.specs.Logs.{Event}
+use Rattle.model.specs.Logs.Act.{Open, ToUp, Close, CloseClient}
+use Rattle.model.specs.Courses.{upstream_of}
+use Rattle.h1_writer.specs.Sending.{Stage}
+use Rattle.serving.specs.Written.{octets_of}
+use Rattle.serving.specs.Told.{Told}
+use Rattle.serving.specs.State.{Way, Held, Live, Due, State, Move, Turn, id_of, held_of, k_of, find, without, kept, with_way, held_at, held_with, unless_whole, waits_from, goes_now, is_streaming, is_whole, drop_from, dropped, held_opened, held_acted, held_after, answered, due_stream, live_acted, live_after, to_send, to_open, due_opened, due_acted, due_after, count_after, after, state_of}
+use Rattle.serving.specs.State.Way.{Waiting, Going, Dropped}
+use Rattle.serving.specs.State.Due.{Nothing, ToOpen, ToSend}
+use Rattle.serving.specs.State.Move.{Takes, Begins, Gathers, Passes, Drops, Breaks, Notes, Hears, Fails, Sends, Acts}
+use Rattle.serving.specs.Rule.{MayOpen, MayMove, told_of, AreAllowed}
+use Rattle.upstreams.specs.Connections.{Connection, lives, AreBelow}
+use Rattle.policy.specs.Moves.{Move as PolicyMove}
+use Rattle.policy.specs.State as policy
+use Rattle.policy.specs.State.{turns_of}
+use Rattle.policy.specs.Steps.{Stands}
+use Rattle.policy.proofs.Placing.{turns_may}
+
+-- ---- what is held waits
+
+-- the way of a request that waits
+abbrev pub IsWaiting : Way → Type 0
+IsWaiting (Waiting route text stage body) = Unit {0}
+IsWaiting way = ⊥
+
+abbrev pub AreWaiting : List Held → Type 0
+AreWaiting [] = Unit {0}
+AreWaiting (h ∷ hs) = IsWaiting h.way × AreWaiting hs
+
+-- a connection is due for a whole text
+abbrev IsWholeDue : Due → Type 0
+IsWholeDue (ToOpen stream route text stage) = is_whole stage ≡ true
+IsWholeDue due = Unit {0}
+
+-- some go
+kept_wait : (told : Told) (hs : List Held) → AreWaiting hs → AreWaiting (kept told hs)
+kept_wait told [] are = tt
+kept_wait told (h ∷ hs) are = by (told.served h.id) (kept_wait told hs are.1)
+  where
+    by : (b : Bool) → AreWaiting (kept told hs) → AreWaiting (if b then h ∷ kept told hs else kept told hs)
+    by true rest = (are.0, rest)
+    by false rest = rest
+
+without_wait : (id : ℕ) (hs : List Held) → AreWaiting hs → AreWaiting (without id_of id hs)
+without_wait id [] are = tt
+without_wait id (h ∷ hs) are = by (h.id == id) (without_wait id hs are.1)
+  where
+    by : (b : Bool) → AreWaiting (without id_of id hs) → AreWaiting (if b then without id_of id hs else h ∷ without id_of id hs)
+    by true rest = rest
+    by false rest = (are.0, rest)
+
+-- what waits isn't dropped with a connection
+pub drop_none : (k : ℕ) (hs : List Held) → AreWaiting hs → map (drop_from k) hs ≡ hs
+drop_none k [] are = refl
+drop_none k (h ∷ hs) are = ap (λ (x : Held). x ∷ map (drop_from k) hs) (one h.way refl are.0) ∙ ap (λ (xs : List Held). h ∷ xs) (drop_none k hs are.1)
+  where
+    one : (way : Way) → h.way ≡ way → IsWaiting h.way → drop_from k h ≡ h
+    one (Waiting route text stage body) is waits = ap (λ (w : Way). record { id = h.id; way = dropped k w }) is ∙ ap (λ (w : Way). record { id = h.id; way = w }) (sym is)
+    one (Going j stage) is waits = absurd (subst IsWaiting is waits)
+    one Dropped is waits = absurd (subst IsWaiting is waits)
+
+-- one waits now, in its place or before the others
+changed_wait : (id : ℕ) (way : Way) (hs : List Held) → IsWaiting way → AreWaiting hs → AreWaiting (map (with_way id way) hs)
+changed_wait id way [] waits are = tt
+changed_wait id way (h ∷ hs) waits are = (by (h.id == id), changed_wait id way hs waits are.1)
+  where
+    by : (b : Bool) → IsWaiting (if b then way else h.way)
+    by true = waits
+    by false = are.0
+
+with_wait : (id : ℕ) (way : Way) (hs : List Held) → IsWaiting way → AreWaiting hs → AreWaiting (held_with id (Some way) hs)
+with_wait id way hs waits are = by (held_of id hs)
+  where
+    by : (o : Option Held) → AreWaiting (held_at id way o hs)
+    by None = (waits, are)
+    by (Some h) = changed_wait id way hs waits are
+
+-- it waits, or isn't held any more
+either_waits : (b : Bool) (id : ℕ) (way : Way) (hs : List Held) → IsWaiting way → AreWaiting hs → AreWaiting (held_with id (if b then None else Some way) hs)
+either_waits true id way hs waits are = without_wait id hs are
+either_waits false id way hs waits are = with_wait id way hs waits are
+
+-- what is found waits
+found_waits : (id : ℕ) (hs : List Held) (h : Held) → AreWaiting hs → held_of id hs ≡ Some h → IsWaiting h.way
+found_waits id [] h are is = cc
+found_waits id (x ∷ hs) h are is = by (x.id == id) is (λ rest. found_waits id hs h are.1 rest)
+  where
+    by : (b : Bool) → (if b then Some x else held_of id hs) ≡ Some h → (held_of id hs ≡ Some h → IsWaiting h.way) → IsWaiting h.way
+    by true is more = let same : x ≡ h = cc in subst (λ (y : Held). IsWaiting y.way) same are.0
+    by false is more = more is
+
+-- a whole text is due, or none
+whole_due : (goes whole : Bool) (stream route : ℕ) (text : List ℕ) (stage : Stage) → goes ≡ whole → is_whole stage ≡ whole → IsWholeDue (to_open goes stream route text stage)
+whole_due true true stream route text stage same is = is
+whole_due false whole stream route text stage same is = tt
+whole_due true false stream route text stage same is = cc
+
+sent_due : (k : ℕ) (written : List ℕ) → IsWholeDue (to_send k written)
+sent_due k [] = tt
+sent_due k (octet ∷ octets) = tt
+
+-- ---- numbers fall
+
+-- numbers of open connections, the newest first, fall from below this one
+abbrev pub AreFalling : ℕ → List Live → Type 0
+AreFalling top [] = Unit {0}
+AreFalling top (l ∷ ls) = (l.k < top) × AreFalling l.k ls
+
+falling_from : (low top : ℕ) (ls : List Live) → low ≤ top → AreFalling low ls → AreFalling top ls
+falling_from low top [] le fall = tt
+falling_from low top (l ∷ ls) le fall = (let first = fall.0 in omega (arith, le, first), fall.1)
+
+falling_without : (k top : ℕ) (ls : List Live) → AreFalling top ls → AreFalling top (without k_of k ls)
+falling_without k top [] fall = tt
+falling_without k top (l ∷ ls) fall = by (l.k == k) (falling_without k l.k ls fall.1)
+  where
+    by : (b : Bool) → AreFalling l.k (without k_of k ls) → AreFalling top (if b then without k_of k ls else l ∷ without k_of k ls)
+    by true rest = falling_from l.k top (without k_of k ls) (let first = fall.0 in omega (arith, first)) rest
+    by false rest = (fall.0, rest)
+
+falling_answered : (whole : Bool) (k top : ℕ) (ls : List Live) → AreFalling top ls → AreFalling top (map (answered whole k) ls)
+falling_answered whole k top [] fall = tt
+falling_answered whole k top (l ∷ ls) fall = (fall.0, falling_answered whole k l.k ls fall.1)
+
+-- ---- behind each move
+
+record Holds (setup : Setup) (s : State) : Type 0 where
+  pub waiting : AreWaiting s.held
+  pub due : IsWholeDue s.due
+  pub falling : AreFalling (suc s.count) s.live
+
+module _ (setup : Setup) (whole : setup.passing ≡ WholePassing) where
+  goes_whole : (stage : Stage) → goes_now setup stage ≡ is_whole stage
+  goes_whole stage = ap (λ (p : Passing). is_streaming p || is_whole stage) whole
+
+  module _ (before behind : Told) (s : State) (h : Holds setup s) where
+    opened : (k route : ℕ) → MayOpen s k route → Holds setup (after setup behind s (Acts (Open k route)))
+    opened k route may = record {
+      waiting = subst (λ (d : Due). AreWaiting (held_opened d k s.held)) (sym may.due) (subst (λ b. AreWaiting (held_with may.stream (if b then None else Some (Going k may.stage)) s.held)) (sym (subst IsWholeDue may.due h.due)) (without_wait may.stream s.held h.waiting));
+      due = subst (λ (d : Due). IsWholeDue (due_opened d k)) (sym may.due) tt;
+      falling = (let next = may.next in omega (arith, next), subst (λ n. AreFalling n s.live) (sym may.next) h.falling);
+    }
+
+    hold_behind : (m : Move) → MayMove setup before behind s m → Holds setup (after setup behind s m)
+    hold_behind (Takes noted) may = record { waiting = kept_wait behind s.held h.waiting; due = h.due; falling = h.falling }
+    hold_behind (Begins noted head ended route text stage) may = record {
+      waiting = either_waits (goes_now setup stage) noted.frame.id (Waiting route text stage []) s.held tt h.waiting;
+      due = whole_due (goes_now setup stage) (is_whole stage) noted.frame.id route text stage (goes_whole stage) refl;
+      falling = h.falling;
+    }
+    hold_behind (Gathers noted item route text old body written stage) may = record {
+      waiting = either_waits (is_whole stage) noted.frame.id (Waiting route text stage (body ++ octets_of item)) s.held tt h.waiting;
+      due = whole_due (is_whole stage) (is_whole stage) noted.frame.id route (text ++ written) stage refl refl;
+      falling = h.falling;
+    }
+    hold_behind (Passes noted item k old written stage) may = absurd (found_waits noted.frame.id s.held (record { id = noted.frame.id; way = Going k old }) h.waiting may.1.found)
+    hold_behind (Drops noted item) may = record { waiting = h.waiting; due = h.due; falling = h.falling }
+    hold_behind (Breaks breach) may = record { waiting = h.waiting; due = h.due; falling = h.falling }
+    hold_behind (Notes event) may = record { waiting = h.waiting; due = h.due; falling = h.falling }
+    hold_behind (Hears event b) may = record { waiting = kept_wait behind s.held h.waiting; due = h.due; falling = falling_answered b (upstream_of event) (suc s.count) s.live h.falling }
+    hold_behind (Fails k) may = record { waiting = subst (λ (hs : List Held). AreWaiting (kept behind hs)) (sym (drop_none k s.held h.waiting)) (kept_wait behind s.held h.waiting); due = h.due; falling = falling_without k (suc s.count) s.live h.falling }
+    hold_behind (Sends noted) may = record { waiting = kept_wait behind s.held h.waiting; due = h.due; falling = h.falling }
+    hold_behind (Acts (Open k route)) may = opened k route may
+    hold_behind (Acts (ToUp k octets)) may = record { waiting = h.waiting; due = tt; falling = h.falling }
+    hold_behind (Acts (Close k)) may = record { waiting = subst AreWaiting (sym (drop_none k s.held h.waiting)) h.waiting; due = h.due; falling = falling_without k (suc s.count) s.live h.falling }
+    hold_behind (Acts CloseClient) may = record { waiting = tt; due = h.due; falling = h.falling }
+
+  all_hold : (turns : List Turn) → AreAllowed setup turns → Holds setup (state_of setup turns)
+  all_hold [] all = record { waiting = tt; due = tt; falling = tt }
+  all_hold (turn ∷ turns) all = hold_behind (told_of turns) turn.told (state_of setup turns) (all_hold turns all.0) turn.move all.1.may
+
+  -- where moves led
+  state_holds : (run : List PolicyMove) (s : policy.State) → Stands setup run s → Holds setup s.requests
+  state_holds run s stands = subst (λ (x : policy.State). Holds setup x.requests) stands.is (all_hold (turns_of setup run) (turns_may setup run stands.allowed))
+
+  pub all_wait : (run : List PolicyMove) (s : policy.State) → Stands setup run s → AreWaiting s.requests.held
+  all_wait run s stands = (state_holds run s stands).waiting
+
+  pub all_fall : (run : List PolicyMove) (s : policy.State) → Stands setup run s → AreFalling (suc s.requests.count) s.requests.live
+  all_fall run s stands = (state_holds run s stands).falling
+
+-- numbers of connections fall as those of the rule do
+pub falling_below : (top : ℕ) (cs : List Connection) → AreFalling top (lives cs) → AreBelow top cs
+falling_below top [] fall = tt
+falling_below top (c ∷ cs) fall = (fall.0, falling_below c.live.k cs fall.1)

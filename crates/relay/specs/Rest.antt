@@ -1,0 +1,46 @@
+-- Where a gateway rests by what is kept, so that something may come in.
+use Rattle.std.specs.Prelude.{◌≡◌, ℕ, ◌<◌, Bool, true, false, List, [], Some, None}
+use Rattle.std.specs.List.{list_any}
+use Rattle.model.specs.Setup.{Setup}
+use Rattle.model.specs.Admission.{high_water}
+use Rattle.conduct.specs.Owing.{must_end_in}
+use Rattle.offering.specs.State as offering
+use Rattle.serving.specs.Told.{Told}
+use Rattle.serving.specs.Rule.{is_done}
+use Rattle.judgement.specs.Inbound.{told_of}
+use Rattle.upstreams.specs.Connections.{lives}
+use Rattle.offers.specs.Asked.{windows_over}
+use Rattle.policy.specs.Moves.{Move, told_in}
+use Rattle.policy.specs.State.{State}
+use Rattle.relay.specs.View.{View, Pending, Leads}
+
+-- what is told of streams, and of the end; it doesn't depend on which connections were opened
+abbrev pub told_view : View → Told
+told_view kept = told_in (told_of (record { given = []; untaken = kept.untaken }) kept.inbound)
+
+-- A reset of no stream is owed.
+abbrev pub NoneCut : offering.State → Type 0
+NoneCut offers = (id : ℕ) (stream : offering.Kept) → offering.find id offers.kept ≡ Some stream → stream.cut ≡ false
+
+-- No connection is done with.
+abbrev pub NoneDone : View → Type 0
+NoneDone kept = list_any (is_done (told_view kept)) (lives kept.upstreams.live) ≡ false
+
+-- the connection isn't to end
+abbrev pub GoesOn : View → Type 0
+GoesOn kept = (told_view kept).ends ≡ false
+
+-- No part of a response can go, while few octets for the client are untaken.
+abbrev pub IsFlushed : View → Type 0
+IsFlushed kept = kept.untaken < high_water → offering.ready (windows_over kept.inbound.rows kept.inbound.first_size kept.inbound.window) kept.offers ≡ []
+
+-- Something may come in.
+pub record IsAtRest (kept : View) : Type 0 where
+  pub goes_on : GoesOn kept
+  pub none_cut : NoneCut kept.offers
+  pub none_done : NoneDone kept
+  pub flushed : IsFlushed kept
+
+-- Moves led to what is kept, with what is pending.
+abbrev pub Reached : Setup → View → Pending → Type 0
+Reached setup kept pending = (run : List Move) × (s : State) × Leads setup run kept pending s

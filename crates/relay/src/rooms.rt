@@ -1,0 +1,32 @@
+//! All that is kept of a connection.
+
+use header_blocks::Encoder;
+use judgement::Connection;
+use offers::Offers;
+use std::marker::Model;
+use upstreams::Upstreams;
+
+/// All that is kept of a connection to a client whose frames can be read, beside octets of a frame that isn't complete: of the client's frames and
+/// of its streams, of what is on offer for them, of requests that aren't whole and of open connections to upstreams, the encoder of blocks to the
+/// client, and how many octets that were put out for the client its side hasn't taken. A clause sees it as a `View`.
+#[derive(Drop)]
+pub struct Rooms {
+    /// What is kept for the client's frames: its streams, windows, settings and header table.
+    pub inbound: Connection,
+    /// What is on offer for its active streams.
+    pub offers: Offers,
+    /// Requests that aren't whole, and open connections to upstreams.
+    pub upstreams: Upstreams,
+    /// The encoder of header blocks to the client.
+    pub encoder: Encoder,
+    /// How many octets for the client aren't taken.
+    pub untaken: u64,
+}
+
+impl Model for Rooms {
+    ghost use Rattle.relay.specs.View.{View};
+
+    ghost Value = { View };
+
+    ghost view = { λ rooms. record { inbound = rooms.inbound; offers = rooms.offers; upstreams = rooms.upstreams; encoding = rooms.encoder; untaken = rooms.untaken } };
+}

@@ -1,0 +1,101 @@
+-- A frame of the client comes in, and what it calls for follows; or it is an error of the connection, which ends.
+use Rattle.std.proofs.Common.{◌≡◌, ℕ, ◌<◌, ◌⊎◌, ◌==◌, true, List, [], ◌∷◌, Option, Some, None, inl, inr, refl, sym, ◌∙◌, ap, subst}
+use Rattle.std.specs.List.{list_any}
+use Rattle.model.specs.Errors.Fault.{Connection}
+use Rattle.model.specs.Frames.{Frame}
+use Rattle.model.specs.Logs.{Output}
+use Rattle.model.specs.Setup.{Setup}
+use Rattle.model.specs.Tables.{Table}
+use Rattle.model.specs.Tapes.{Note, Noted}
+use Rattle.model.specs.Tapes.Entry.{Came}
+use Rattle.model.specs.WindowsOnTape.{is_any, data_length}
+use Rattle.conduct.specs.Owing.{fault_in}
+use Rattle.conduct.specs.Quiet.{noted_of}
+use Rattle.conduct.specs.Rows.{ids_of}
+use Rattle.streams_kept.specs.Asked.{has}
+use Rattle.upstreams.specs.Requests.{due_in}
+use Rattle.upstreams.specs.declared.held.Outgoing.{Outgoing}
+use Rattle.policy.specs.Ending.{IsFatal, ending_on_tape}
+use Rattle.policy.specs.Moves.{Deed, Move}
+use Rattle.policy.specs.Moves.Deed.{Takes}
+use Rattle.policy.specs.Moves.Gain.{Nothing}
+use Rattle.policy.specs.State.{State}
+use Rattle.policy.specs.Steps.{told_by}
+use Rattle.relay.specs.View.{View, square, Leads}
+use Rattle.relay.specs.Rest.{IsAtRest}
+use Rattle.relay.specs.Performing.{put_all}
+use Rattle.relay.specs.Bringing.{PerformsOwn, Brings}
+use Rattle.relay.proofs.Bringing.{brings_then}
+use Rattle.ending.specs.Reasons.{IsBy}
+use Rattle.ending.specs.declared.ending.Ending.TheVariants as ending
+use Rattle.plain_frames.specs.Taken as plain
+use Rattle.plain_frames.specs.declared.taking.Taken.{Taken}
+use Rattle.plain_frames.specs.declared.taking.Taken.TheVariants as plain_taken
+use Rattle.block_frames.specs.Following.{farewell_frames}
+use Rattle.block_frames.specs.Taken as block
+use Rattle.block_frames.specs.declared.taking.BlockTaken.{BlockTaken}
+use Rattle.block_frames.specs.declared.taking.BlockTaken.TheVariants as block_taken
+use Rattle.steps.specs.Comings.{ComesFrom}
+use Rattle.steps.specs.Inputs.Input.{OfFrame}
+use Rattle.steps.specs.Resting.{AreNumbered}
+use Rattle.steps.proofs.Ends.{ends_come}
+
+-- ---- streams have numbers of 31 bits behind the frame
+
+pub numbered_as : (a b : View) → ids_of b.inbound.rows ≡ ids_of a.inbound.rows → AreNumbered a → AreNumbered b
+numbered_as a b same numbered id kept = numbered id (subst (λ (ids : List ℕ). list_any (λ other. other == id) ids ≡ true) same kept)
+
+pub numbered_with : (a b : View) (new : ℕ) → ((id : ℕ) → has b.inbound.rows id ≡ true → (has a.inbound.rows id ≡ true) ⊎ (new ≡ id)) → new < 2147483648 → AreNumbered a → AreNumbered b
+numbered_with a b new only few numbered id kept =
+    elim (only id kept) [
+      | inl before ↦ numbered id before
+      | inr is ↦ subst (λ n. n < 2147483648) is few
+    ]
+
+module _ (setup : Setup) where
+  -- ---- what was answered
+
+  pub plain_goes : (old new : View) (o p : List Output) (frame : Frame) (answer : Taken) (request : Option Outgoing) → answer ≡ plain_taken.Goes request → plain.IsPlainTaken setup old o frame answer new p → plain.IsPassed setup old o frame request new p
+  plain_goes old new o p frame answer request is taken = subst (λ (t : Taken). plain.IsPlainTaken setup old o frame t new p) is taken
+
+  pub plain_ends : (old new : View) (o p : List Output) (frame : Frame) (answer : Taken) (code : ℕ) → answer ≡ plain_taken.Fatal code → plain.IsPlainTaken setup old o frame answer new p → plain.IsFatalFrame setup old o frame code new p
+  plain_ends old new o p frame answer code is taken = subst (λ (t : Taken). plain.IsPlainTaken setup old o frame t new p) is taken
+
+  pub block_goes : (old new : View) (o p : List Output) (frame : Frame) (answer : BlockTaken) (request : Option Outgoing) (farewell : Option ℕ) → answer ≡ block_taken.Goes request farewell → block.IsBlockTaken setup old o frame answer new p → block.IsPassed setup old o frame request farewell new p
+  block_goes old new o p frame answer request farewell is taken = subst (λ (t : BlockTaken). block.IsBlockTaken setup old o frame t new p) is taken
+
+  pub block_ends : (old new : View) (o p : List Output) (frame : Frame) (answer : BlockTaken) (code : ℕ) → answer ≡ block_taken.Fatal code → block.IsBlockTaken setup old o frame answer new p → block.IsFatalFrame setup old o frame code new p
+  block_ends old new o p frame answer code is taken = subst (λ (t : BlockTaken). block.IsBlockTaken setup old o frame t new p) is taken
+
+  -- ---- it goes on
+
+  -- a frame without a fragment, and then the connection for a request that is due
+  pub plain_brings : (a b c : View) (o p q : List Output) (frame : Frame) (request : Option Outgoing) (fresh : ℕ) → fresh ≡ data_length is_any frame → plain.IsPassed setup a o frame request b p
+      → ((owed : List Frame) (n : ℕ) → PerformsOwn setup b (record square { owed = owed; due = due_in request; fresh = n }) p c (record square { owed = owed; fresh = n }) q)
+      → Brings setup a square o (Came (noted_of frame)) c (record square { fresh = fresh }) q
+  plain_brings a b c o p q frame request fresh is passed serves =
+      subst (λ n. Brings setup a square o (Came (noted_of frame)) c (record square { fresh = n }) q) (sym is)
+      (brings_then setup a b c square (record square { due = due_in request; fresh = data_length is_any frame }) (record square { fresh = data_length is_any frame }) o p q (Came (noted_of frame)) passed.brings (serves [] (data_length is_any frame)))
+
+  -- a frame with one, the connection for a request that is due, and the farewell where it is owed
+  pub block_brings : (a b c d : View) (o p q r : List Output) (frame : Frame) (request : Option Outgoing) (farewell : Option ℕ) (passed : block.IsPassed setup a o frame request farewell b p)
+      → ((owed : List Frame) (n : ℕ) → PerformsOwn setup b (record square { owed = owed; due = due_in request; fresh = n }) p c (record square { owed = owed; fresh = n }) q)
+      → PerformsOwn setup c (record square { owed = farewell_frames farewell }) q d square r
+      → Brings setup a square o (Came (record { frame = frame; note = passed.note })) d square r
+  block_brings a b c d o p q r frame request farewell passed serves says =
+      let noted : Noted = record { frame = frame; note = passed.note } in
+      brings_then setup a c d square (record square { owed = farewell_frames farewell }) square o q r (Came noted)
+      (brings_then setup a b c square (record square { owed = farewell_frames farewell; due = due_in request }) (record square { owed = farewell_frames farewell }) o p q (Came noted) passed.brings (serves (farewell_frames farewell) 0)) says
+
+  -- ---- it is an error of the connection
+
+  pub fatal_comes : (before after : View) (o p q : List Output) (frame : Frame) (note : Note) (next : State → Table) (code : ℕ) → IsAtRest before → p ≡ o → after.upstreams ≡ before.upstreams → after.inbound.rows ≡ before.inbound.rows
+      → ((run : List Move) (s : State) → Leads setup run before square s → fault_in (told_by s) (Came (record { frame = frame; note = note })) ≡ Some (Connection code))
+      → ((run : List Move) (s : State) → Leads setup run before square s → IsFatal s (record { frame = frame; note = note }) (next s))
+      → ((run : List Move) (s : State) (kept : View) (d : Deed) → kept.upstreams ≡ after.upstreams → kept.inbound.rows ≡ after.inbound.rows → Leads setup run kept square s → IsBy s (ending.Frame code) d → q ≡ put_all p (ending_on_tape s d))
+      → ComesFrom setup before square o (OfFrame frame ∷ []) square None q
+  fatal_comes before after o p q frame note next code rest nothing upstreams rows fault fatal ends =
+      let noted : Noted = record { frame = frame; note = note } in
+      ends_come setup before (ending.Frame code) (OfFrame frame) o q rest
+      (λ run s leads. (Takes noted (next s) Nothing, (noted, next s, refl, fault run s leads, fatal run s leads), refl))
+      (λ run s d leads by. subst (λ (x : List Output). q ≡ put_all x (ending_on_tape s d)) nothing (ends run s before d (sym upstreams) (sym rows) leads by))

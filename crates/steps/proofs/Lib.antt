@@ -1,0 +1,6 @@
+pub mod Following
+pub mod Admitting
+pub mod Ends
+pub mod Results
+pub mod Stays
+pub mod Frames

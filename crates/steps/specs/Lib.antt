@@ -1,0 +1,5 @@
+pub mod Inputs
+pub mod Comings
+pub mod Admission
+pub mod Leaving
+pub mod Resting

@@ -1,0 +1,98 @@
+//! Events of upstreams, and what the sides took.
+
+ghost use Rattle.std.specs.Prelude.{◌≡◌, ◌≤◌, List, [], ◌∷◌, length, true, IfOk};
+ghost use Rattle.model.specs.Setup.{Setup};
+ghost use Rattle.model.specs.Setup.Passing.{Whole};
+ghost use Rattle.model.specs.Logs.Event.{ClientTook, Up, UpEnd, UpFailed, UpTook};
+ghost use Rattle.relay.specs.View.{square};
+ghost use Rattle.relay.specs.Rest.{Reached};
+ghost use Rattle.steps.specs.Admission.{admits};
+ghost use Rattle.steps.specs.Comings.{ComesFrom};
+ghost use Rattle.steps.specs.Inputs.Input.{OfEvent};
+ghost use Rattle.steps.specs.Resting.{now_of, IsSettled, RestsSo};
+
+use crate::resting::{Went, rest};
+use outputs::Outputs;
+use paying::{note_client_took, note_up_took};
+use relay::Rooms;
+use std::alloc::{AllocError, Global};
+
+/// Takes octets of an open upstream, at most 65,536. An `Err` says that memory was refused; then what is kept and the outputs are of no use any more.
+pub fn hear(
+    alloc: Global,
+    rooms: &mut Rooms,
+    k: u32,
+    octets: &[u8],
+    out: &mut Outputs,
+) -> Result<Went, AllocError>
+    requires admitted { admits rooms.old (Up k octets.now) ≡ true }
+    requires settled { IsSettled rooms.old }
+    requires reached { (setup : Setup) × (setup.passing ≡ Whole) × Reached setup rooms.old square }
+    ensures comes { IfOk result (λ went. (setup : Setup) → setup.passing ≡ Whole → ComesFrom setup rooms.old square out.old (OfEvent (Up k octets.now) ∷ []) square (now_of went rooms.new) out.new) }
+    ensures rests { IfOk result (λ went. RestsSo went rooms.new) }
+{
+    exchanges::hear(alloc, rooms, k, octets, out)?;
+    rest(alloc, rooms, out)
+}
+
+/// Takes the end of an open upstream's connection. An `Err` says that memory was refused; then what is kept and the outputs are of no use any more.
+pub fn end(alloc: Global, rooms: &mut Rooms, k: u32, out: &mut Outputs) -> Result<Went, AllocError>
+    requires admitted { admits rooms.old (UpEnd k) ≡ true }
+    requires settled { IsSettled rooms.old }
+    requires reached { (setup : Setup) × (setup.passing ≡ Whole) × Reached setup rooms.old square }
+    ensures comes { IfOk result (λ went. (setup : Setup) → setup.passing ≡ Whole → ComesFrom setup rooms.old square out.old (OfEvent (UpEnd k) ∷ []) square (now_of went rooms.new) out.new) }
+    ensures rests { IfOk result (λ went. RestsSo went rooms.new) }
+{
+    exchanges::end(alloc, rooms, k, out)?;
+    rest(alloc, rooms, out)
+}
+
+/// Takes the failure of an open upstream's connection. An `Err` says that memory was refused; then what is kept and the outputs are of no use any
+/// more.
+pub fn fail(alloc: Global, rooms: &mut Rooms, k: u32, out: &mut Outputs) -> Result<Went, AllocError>
+    requires admitted { admits rooms.old (UpFailed k) ≡ true }
+    requires settled { IsSettled rooms.old }
+    requires reached { (setup : Setup) × (setup.passing ≡ Whole) × Reached setup rooms.old square }
+    ensures comes { IfOk result (λ went. (setup : Setup) → setup.passing ≡ Whole → ComesFrom setup rooms.old square out.old (OfEvent (UpFailed k) ∷ []) square (now_of went rooms.new) out.new) }
+    ensures rests { IfOk result (λ went. RestsSo went rooms.new) }
+{
+    exchanges::fail(rooms, k, out)?;
+    rest(alloc, rooms, out)
+}
+
+/// Notes that the client's side took so many octets; responses may go on then. An `Err` says that memory was refused; then what is kept and the
+/// outputs are of no use any more.
+pub fn client_took(
+    alloc: Global,
+    rooms: &mut Rooms,
+    count: u64,
+    out: &mut Outputs,
+) -> Result<Went, AllocError>
+    requires admitted { admits rooms.old (ClientTook count) ≡ true }
+    requires settled { IsSettled rooms.old }
+    requires reached { (setup : Setup) × (setup.passing ≡ Whole) × Reached setup rooms.old square }
+    ensures comes { IfOk result (λ went. (setup : Setup) → setup.passing ≡ Whole → ComesFrom setup rooms.old square out.old (OfEvent (ClientTook count) ∷ []) square (now_of went rooms.new) out.new) }
+    ensures rests { IfOk result (λ went. RestsSo went rooms.new) }
+{
+    note_client_took(rooms, count);
+    rest(alloc, rooms, out)
+}
+
+/// Notes that an open upstream's side took so many octets. An `Err` says that memory was refused; then what is kept and the outputs are of no use
+/// any more.
+pub fn up_took(
+    alloc: Global,
+    rooms: &mut Rooms,
+    k: u32,
+    count: u64,
+    out: &mut Outputs,
+) -> Result<Went, AllocError>
+    requires admitted { admits rooms.old (UpTook k count) ≡ true }
+    requires settled { IsSettled rooms.old }
+    requires reached { (setup : Setup) × (setup.passing ≡ Whole) × Reached setup rooms.old square }
+    ensures comes { IfOk result (λ went. (setup : Setup) → setup.passing ≡ Whole → ComesFrom setup rooms.old square out.old (OfEvent (UpTook k count) ∷ []) square (now_of went rooms.new) out.new) }
+    ensures rests { IfOk result (λ went. RestsSo went rooms.new) }
+{
+    note_up_took(rooms, k, count);
+    rest(alloc, rooms, out)
+}

@@ -1,0 +1,18 @@
+//! What comes in does, whole: a frame of the client, the end of its octets, an event of an upstream. Behind each the gateway rests, or the
+//! connection to the client was closed.
+//!
+//! The parts are those of `plain_frames`, `block_frames`, `exchanges`, `paying`, `flushing` and `ending`, in the order in which the rule takes them: what came
+//! in; a connection for a request that is due; the farewell behind the last stream; octets that go back; responses; connections that are done with.
+#![tactic(auto)]
+
+mod hearing;
+mod leaving;
+mod resting;
+mod taking;
+#[cfg(test)]
+mod tests;
+
+pub use crate::hearing::{client_took, end, fail, hear, up_took};
+pub use crate::leaving::{Breach, leave, leave_at};
+pub use crate::resting::Went;
+pub use crate::taking::{Service, take_frame};

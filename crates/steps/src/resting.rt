@@ -1,0 +1,45 @@
+//! Where the gateway rests behind something that came in.
+
+ghost use Rattle.std.specs.Prelude.{◌≡◌, ℕ, true, ◌<◌, IfOk};
+ghost use Rattle.model.specs.Setup.{Setup};
+ghost use Rattle.model.specs.Setup.Passing.{Whole};
+ghost use Rattle.streams_kept.specs.Asked.{has};
+ghost use Rattle.relay.specs.View.{square};
+ghost use Rattle.relay.specs.Rest.{NoneCut, Reached};
+ghost use Rattle.steps.specs.Comings.{FollowsFrom};
+ghost use Rattle.steps.specs.Resting.{now_of, RestsSo};
+
+use ending::shut;
+use flushing::flush;
+use outputs::Outputs;
+use paying::close_done;
+use relay::Rooms;
+use std::alloc::{AllocError, Global};
+
+/// Whether the connection to the client goes on.
+#[derive(Clone, Copy, Debug, PartialEq, Eq)]
+pub enum Went {
+    /// It does.
+    On,
+    /// It was closed; what is kept is of no use any more.
+    Over,
+}
+
+/// Connections to upstreams that are done with are closed, responses go on, each in its turn, and connections with which that is done are closed;
+/// then the gateway rests. A connection that is spent is shut.
+pub(crate) fn rest(alloc: Global, rooms: &mut Rooms, out: &mut Outputs) -> Result<Went, AllocError>
+    requires reached { (setup : Setup) × (setup.passing ≡ Whole) × Reached setup rooms.old square }
+    requires none_cut { NoneCut rooms.old.offers }
+    requires numbered { (id : ℕ) → has rooms.old.inbound.rows id ≡ true → id < 2147483648 }
+    ensures follows { IfOk result (λ went. (setup : Setup) → setup.passing ≡ Whole → FollowsFrom setup rooms.old square out.old square (now_of went rooms.new) out.new) }
+    ensures rests { IfOk result (λ went. RestsSo went rooms.new) }
+{
+    close_done(rooms, out)?;
+    flush(alloc, rooms, out)?;
+    close_done(rooms, out)?;
+    if rooms.inbound.is_spent() {
+        shut(rooms, out)?;
+        return Ok(Went::Over);
+    }
+    Ok(Went::On)
+}

@@ -1,0 +1,216 @@
+//! A frame of the client, taken whole.
+
+ghost use Rattle.std.specs.Prelude.{◌≡◌, ◌≤◌, ◌<◌, ◌==◌, ◌||◌, ℕ, List, [], ◌∷◌, length, true, false, if◌then◌else◌, IfOk, OnOk};
+ghost use Rattle.model.specs.Frames.{Frame, data_kind};
+ghost use Rattle.model.specs.Setup.{Setup};
+ghost use Rattle.model.specs.Setup.Passing.{Whole};
+ghost use Rattle.model.specs.WindowsOnTape.{is_any, data_length};
+ghost use Rattle.frames.specs.Views.{frame_of};
+ghost use Rattle.streams_kept.specs.Asked.{has};
+ghost use Rattle.judgement.specs.AnyFrame.{has_fragment};
+ghost use Rattle.upstreams.specs.Requests.{due_in};
+ghost use Rattle.relay.specs.View.{square};
+ghost use Rattle.relay.specs.Rest.{NoneCut, Reached};
+ghost use Rattle.relay.specs.Bringing.{PerformsOwn};
+ghost use Rattle.block_frames.specs.Following.{farewell_frames};
+ghost use Rattle.steps.specs.Comings.{FollowsFrom, ComesFrom};
+ghost use Rattle.steps.specs.Inputs.Input.{OfFrame};
+ghost use Rattle.steps.specs.Resting.{now_of, IsSettled, RestsSo, IsServed};
+
+use crate::resting::{Went, rest};
+use block_frames::{BlockTaken, take_block};
+use ending::{Ending, end, shut};
+use exchanges::open;
+use frames::View;
+use judgement::Terms;
+use outputs::Outputs;
+use paying::{Control, pay, settle};
+use plain_frames::{Taken, take_plain};
+use relay::Rooms;
+use std::alloc::{AllocError, Global};
+use upstreams::Outgoing;
+
+/// DATA (RFC 9113, section 6.1), and the types of frames that have a fragment of a header block (sections 6.2 and 6.10).
+const DATA: u8 = 0;
+
+const HEADERS: u8 = 1;
+
+const CONTINUATION: u8 = 9;
+
+/// The code with which a connection ends that made no error (RFC 9113, section 7).
+const NO_ERROR: u32 = 0;
+
+/// By what a connection is served: by what requests are judged, and how many octets the body of a response may have.
+#[derive(Clone, Copy)]
+pub struct Service<'a> {
+    /// By what requests are judged.
+    pub terms: Terms<'a>,
+    /// The most octets of a response's body.
+    pub max_response: u64,
+}
+
+/// Whether a frame has a fragment of a header block.
+pub(crate) fn has_fragment(view: View<'_>) -> bool
+    ensures { result ≡ has_fragment (frame_of view.entry) }
+{
+    view.kind == HEADERS || view.kind == CONTINUATION
+}
+
+/// How many octets of DATA a frame has that are given back, its padding among them (RFC 9113, section 6.9.1).
+pub(crate) fn data_octets(view: View<'_>) -> u32
+    requires { length view.payload.now ≤ 16384 }
+    ensures { result ≡ data_length is_any (frame_of view.entry) }
+{
+    if view.kind == DATA {
+        view.payload.len() as u32
+    } else {
+        0
+    }
+}
+
+/// Opens the connection for a request that is due, if one is.
+fn serve(
+    rooms: &mut Rooms,
+    request: Option<Outgoing>,
+    max_response: u64,
+    out: &mut Outputs,
+) -> Result<(), AllocError>
+    requires reached { (setup : Setup) × (setup.passing ≡ Whole) × (setup.max_response ≡ max_response) × (owed : List Frame) × (fresh : ℕ) × Reached setup rooms.old (record square { owed = owed; due = due_in request; fresh = fresh }) }
+    ensures performs { OnOk result ((setup : Setup) (owed : List Frame) (fresh : ℕ) → setup.passing ≡ Whole → setup.max_response ≡ max_response → PerformsOwn setup rooms.old (record square { owed = owed; due = due_in request; fresh = fresh }) out.old rooms.new (record square { owed = owed; fresh = fresh }) out.new) }
+    ensures stays { OnOk result ((rooms.new.inbound ≡ rooms.old.inbound) × (rooms.new.offers ≡ rooms.old.offers)) }
+{
+    match request {
+        Some(request) => open(rooms, request, max_response, out),
+        None => Ok(()),
+    }
+}
+
+/// What follows a frame of the client: its octets of DATA are given back on the connection and on its stream, and then the gateway comes to rest.
+fn follow(
+    alloc: Global,
+    rooms: &mut Rooms,
+    id: u32,
+    octets: u32,
+    out: &mut Outputs,
+) -> Result<Went, AllocError>
+    requires reached { (setup : Setup) × (setup.passing ≡ Whole) × Reached setup rooms.old (record square { fresh = octets }) }
+    requires last { id ≡ rooms.old.inbound.last }
+    requires few { octets ≤ 16384 }
+    requires none_cut { NoneCut rooms.old.offers }
+    requires numbered { (id : ℕ) → has rooms.old.inbound.rows id ≡ true → id < 2147483648 }
+    ensures follows { IfOk result (λ went. (setup : Setup) → setup.passing ≡ Whole → FollowsFrom setup rooms.old (record square { fresh = octets }) out.old square (now_of went rooms.new) out.new) }
+    ensures rests { IfOk result (λ went. RestsSo went rooms.new) }
+{
+    if rooms.inbound.is_spent() {
+        shut(rooms, out)?;
+        return Ok(Went::Over);
+    }
+    settle(rooms, id, octets, out)?;
+    rest(alloc, rooms, out)
+}
+
+/// Takes a frame without a fragment of a header block.
+fn take_other(
+    alloc: Global,
+    rooms: &mut Rooms,
+    view: View<'_>,
+    service: Service<'_>,
+    out: &mut Outputs,
+) -> Result<Went, AllocError>
+    requires short { length view.payload.now ≤ 16384 }
+    requires bounded { service.terms.max_body ≤ 1073741824 }
+    requires other { has_fragment (frame_of view) ≡ false }
+    requires of_stream { view.id < 2147483648 }
+    requires settled { IsSettled rooms.old }
+    requires reached { (setup : Setup) × IsServed setup service × Reached setup rooms.old square }
+    ensures comes { IfOk result (λ went. (setup : Setup) → IsServed setup service.entry → ComesFrom setup rooms.old square out.old (OfFrame (frame_of view.entry) ∷ []) square (now_of went rooms.new) out.new) }
+    ensures rests { IfOk result (λ went. RestsSo went rooms.new) }
+{
+    match take_plain(rooms, view, service.terms.max_body, out)? {
+        Taken::Fatal(code) => {
+            end(rooms, Ending::Frame(code), out)?;
+            Ok(Went::Over)
+        }
+        Taken::Goes { request } => {
+            serve(rooms, request, service.max_response, out)?;
+            follow(alloc, rooms, view.id, data_octets(view), out)
+        }
+    }
+}
+
+/// Takes a frame with a fragment of a header block.
+fn take_fragment(
+    alloc: Global,
+    rooms: &mut Rooms,
+    view: View<'_>,
+    service: Service<'_>,
+    out: &mut Outputs,
+) -> Result<Went, AllocError>
+    requires short { length view.payload.now ≤ 16384 }
+    requires few { length service.terms.routes.now ≤ u32.MAX }
+    requires bounded { service.terms.max_body ≤ 1073741824 }
+    requires fragment { has_fragment (frame_of view) ≡ true }
+    requires of_stream { view.id < 2147483648 }
+    requires settled { IsSettled rooms.old }
+    requires reached { (setup : Setup) × IsServed setup service × Reached setup rooms.old square }
+    ensures comes { IfOk result (λ went. (setup : Setup) → IsServed setup service.entry → ComesFrom setup rooms.old square out.old (OfFrame (frame_of view.entry) ∷ []) square (now_of went rooms.new) out.new) }
+    ensures rests { IfOk result (λ went. RestsSo went rooms.new) }
+{
+    match take_block(rooms, view, service.terms, out)? {
+        BlockTaken::Fatal(code) => {
+            end(rooms, Ending::Frame(code), out)?;
+            Ok(Went::Over)
+        }
+        BlockTaken::Goes { request, farewell } => {
+            serve(rooms, request, service.max_response, out)?;
+            say_farewell(rooms, farewell, out)?;
+            rest(alloc, rooms, out)
+        }
+    }
+}
+
+/// Says farewell behind the last stream that a connection may have, where that is owed (RFC 9113, section 6.8).
+pub(crate) fn say_farewell(
+    rooms: &mut Rooms,
+    last: Option<u32>,
+    out: &mut Outputs,
+) -> Result<(), AllocError>
+    ensures performs { OnOk result ((setup : Setup) → PerformsOwn setup rooms.old (record square { owed = farewell_frames last }) out.old rooms.new square out.new) }
+    ensures stays { OnOk result ((rooms.new.inbound ≡ rooms.old.inbound) × (rooms.new.offers ≡ rooms.old.offers)) }
+{
+    match last {
+        Some(last) => {
+            let farewell = Control::Farewell {
+                last,
+                code: NO_ERROR,
+            };
+            pay(rooms, farewell, out)
+        }
+        None => Ok(()),
+    }
+}
+
+/// Takes a frame of the client, whole: what it calls for, the request that it completes, octets that go back, and responses that can go on. An
+/// `Err` says that memory was refused; then what is kept and the outputs are of no use any more.
+pub fn take_frame(
+    alloc: Global,
+    rooms: &mut Rooms,
+    view: View<'_>,
+    service: Service<'_>,
+    out: &mut Outputs,
+) -> Result<Went, AllocError>
+    requires short { length view.payload.now ≤ 16384 }
+    requires few { length service.terms.routes.now ≤ u32.MAX }
+    requires bounded { service.terms.max_body ≤ 1073741824 }
+    requires of_stream { view.id < 2147483648 }
+    requires settled { IsSettled rooms.old }
+    requires reached { (setup : Setup) × IsServed setup service × Reached setup rooms.old square }
+    ensures comes { IfOk result (λ went. (setup : Setup) → IsServed setup service.entry → ComesFrom setup rooms.old square out.old (OfFrame (frame_of view.entry) ∷ []) square (now_of went rooms.new) out.new) }
+    ensures rests { IfOk result (λ went. RestsSo went rooms.new) }
+{
+    if has_fragment(view) {
+        take_fragment(alloc, rooms, view, service, out)
+    } else {
+        take_other(alloc, rooms, view, service, out)
+    }
+}

@@ -2,13 +2,11 @@
 #![tactic(auto)]
 
 mod config;
-mod connection;
-mod exchange;
 mod gateway;
+mod phase;
 mod preface;
-mod requests;
+mod reading;
 mod runs;
-mod upstream;
 
 pub use config::{Config, Passing, Policy, Route};
 pub use gateway::{Fault, Gateway};

@@ -8,7 +8,7 @@ use std::alloc::{AllocError, Global};
 static PIECE: [u8; 16384] = [b'x'; 16384];
 
 /// Reads a response whose body of 65,536 octets has its length declared, and comes in pieces of 16,384.
-pub fn read_sized(alloc: Global, rounds: u32, made: &mut Made) -> Option<()> {
+pub(crate) fn read_sized(alloc: Global, rounds: u32, made: &mut Made) -> Option<()> {
     for _ in 0..rounds {
         made.clear();
         read_sized_once(alloc, &mut made.pieces)?;
@@ -29,7 +29,7 @@ fn read_sized_once(alloc: Global, pieces: &mut Vec<Piece>) -> Option<()> {
 }
 
 /// Reads a response whose body of 65,536 octets comes in chunks of 64, whose text comes in pieces of 16,384 octets.
-pub fn read_chunked(alloc: Global, rounds: u32, made: &mut Made) -> Option<()> {
+pub(crate) fn read_chunked(alloc: Global, rounds: u32, made: &mut Made) -> Option<()> {
     let mut text = Vec::new(alloc);
     push_chunked(&mut text).ok()?;
     for _ in 0..rounds {

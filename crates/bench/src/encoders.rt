@@ -8,7 +8,7 @@ use hpack_table::{Field, Found, Table};
 use std::alloc::Global;
 
 /// Encodes 8 fields, of which none is inserted.
-pub fn encode(alloc: Global, rounds: u32, made: &mut Made) -> Option<()> {
+pub(crate) fn encode(alloc: Global, rounds: u32, made: &mut Made) -> Option<()> {
     let fields = fields_of(alloc, SMALL_HEAD)?;
     let mut encoder = Encoder::new(alloc, Policy::Plain);
     for _ in 0..rounds {
@@ -19,7 +19,7 @@ pub fn encode(alloc: Global, rounds: u32, made: &mut Made) -> Option<()> {
 }
 
 /// Encodes 8 fields that stand in the table.
-pub fn encode_known(alloc: Global, rounds: u32, made: &mut Made) -> Option<()> {
+pub(crate) fn encode_known(alloc: Global, rounds: u32, made: &mut Made) -> Option<()> {
     let fields = fields_of(alloc, SMALL_HEAD)?;
     let mut encoder = Encoder::new(alloc, Policy::Indexing);
     encode_one(&mut encoder, &fields, &mut made.octets)?;
@@ -32,7 +32,7 @@ pub fn encode_known(alloc: Global, rounds: u32, made: &mut Made) -> Option<()> {
 
 /// Encodes 8 fields that don't stand in the full table, as Huffman text: each time the next 8 of 96, of which it has room for
 /// 83.
-pub fn encode_new(alloc: Global, rounds: u32, made: &mut Made) -> Option<()> {
+pub(crate) fn encode_new(alloc: Global, rounds: u32, made: &mut Made) -> Option<()> {
     let fields = numbered_fields(alloc)?;
     let mut encoder = Encoder::new(alloc, Policy::Indexing);
     encode_one(&mut encoder, &fields, &mut made.octets)?;
@@ -47,7 +47,7 @@ pub fn encode_new(alloc: Global, rounds: u32, made: &mut Made) -> Option<()> {
 }
 
 /// Looks a field up by its hashes whose name doesn't stand in the full table, but is as long as all names there.
-pub fn find(alloc: Global, rounds: u32, made: &mut Made) -> Option<()> {
+pub(crate) fn find(alloc: Global, rounds: u32, made: &mut Made) -> Option<()> {
     let mut table = Table::with_index(alloc, 4096);
     for field in numbered_fields(alloc)? {
         table.add(field).ok()?;

@@ -33,7 +33,11 @@ fn block_at(place: usize) -> &'static [u8] {
 }
 
 /// The fields of the next block.
-pub fn next_fields(alloc: Global, decoder: &mut Decoder, block: &[u8]) -> Option<Vec<Field>> {
+pub(crate) fn next_fields(
+    alloc: Global,
+    decoder: &mut Decoder,
+    block: &[u8],
+) -> Option<Vec<Field>> {
     match decoder.decode(alloc, block, LIST_LIMIT).ok()? {
         Decoded::Fields(fields) => Some(fields),
         Decoded::TooLarge => None,
@@ -67,7 +71,7 @@ fn are_short(fields: &[Field]) -> bool
 }
 
 /// Encodes fields.
-pub fn encode_one(encoder: &mut Encoder, fields: &[Field], out: &mut Vec<u8>) -> Option<()> {
+pub(crate) fn encode_one(encoder: &mut Encoder, fields: &[Field], out: &mut Vec<u8>) -> Option<()> {
     if !are_short(fields) {
         return None;
     }
@@ -81,7 +85,7 @@ fn read_one(alloc: Global, head: &[u8], pieces: &mut Vec<Piece>) -> Option<()> {
 }
 
 /// The fields of a response's head.
-pub fn fields_of(alloc: Global, head: &[u8]) -> Option<Vec<Field>> {
+pub(crate) fn fields_of(alloc: Global, head: &[u8]) -> Option<Vec<Field>> {
     let mut pieces = Vec::new(alloc);
     read_one(alloc, head, &mut pieces)?;
     match pieces.pop()? {
@@ -92,7 +96,7 @@ pub fn fields_of(alloc: Global, head: &[u8]) -> Option<Vec<Field>> {
 
 /// 100 requests of ten fields on a connection, each decoded, checked and written, and a response's head of 8 fields for each,
 /// read and encoded.
-pub fn exchange(alloc: Global, rounds: u32, made: &mut Made) -> Option<()> {
+pub(crate) fn exchange(alloc: Global, rounds: u32, made: &mut Made) -> Option<()> {
     for _ in 0..rounds {
         made.clear();
         exchange_once(alloc, &mut made.octets)?;
@@ -114,7 +118,7 @@ fn exchange_once(alloc: Global, out: &mut Vec<u8>) -> Option<()> {
 }
 
 /// Decodes the blocks of 100 requests.
-pub fn decode(alloc: Global, rounds: u32, made: &mut Made) -> Option<()> {
+pub(crate) fn decode(alloc: Global, rounds: u32, made: &mut Made) -> Option<()> {
     for _ in 0..rounds {
         made.clear();
         decode_once(alloc, &mut made.fields)?;
@@ -132,7 +136,7 @@ fn decode_once(alloc: Global, kept: &mut Vec<Field>) -> Option<()> {
 }
 
 /// Checks a request's head of ten fields and writes its text.
-pub fn send(alloc: Global, rounds: u32, made: &mut Made) -> Option<()> {
+pub(crate) fn send(alloc: Global, rounds: u32, made: &mut Made) -> Option<()> {
     let mut decoder = Decoder::new(alloc, FIRST_MAXIMUM);
     let request = next_fields(alloc, &mut decoder, FIRST_BLOCK)?;
     for _ in 0..rounds {
@@ -143,7 +147,7 @@ pub fn send(alloc: Global, rounds: u32, made: &mut Made) -> Option<()> {
 }
 
 /// Reads a response's head of 8 fields.
-pub fn read_small(alloc: Global, rounds: u32, made: &mut Made) -> Option<()> {
+pub(crate) fn read_small(alloc: Global, rounds: u32, made: &mut Made) -> Option<()> {
     for _ in 0..rounds {
         made.clear();
         read_one(alloc, SMALL_HEAD, &mut made.pieces)?;
@@ -152,7 +156,7 @@ pub fn read_small(alloc: Global, rounds: u32, made: &mut Made) -> Option<()> {
 }
 
 /// Reads a response's head of 30 fields.
-pub fn read_large(alloc: Global, rounds: u32, made: &mut Made) -> Option<()> {
+pub(crate) fn read_large(alloc: Global, rounds: u32, made: &mut Made) -> Option<()> {
     for _ in 0..rounds {
         made.clear();
         read_one(alloc, LARGE_HEAD, &mut made.pieces)?;

@@ -190,7 +190,7 @@ fn judge_frames(client: &mut Client, judging: Judging, out: &mut Vec<u8>) -> Opt
 }
 
 /// Three frames a round, each round on a new connection: PING, WINDOW_UPDATE or DATA on its first stream, HEADERS on new ones.
-pub fn judge(
+pub(crate) fn judge(
     alloc: Global,
     rounds: u32,
     made: &mut Made,

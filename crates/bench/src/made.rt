@@ -14,7 +14,7 @@ pub struct Made {
 
 impl Made {
     /// Nothing.
-    pub fn new(alloc: Global) -> Self {
+    pub(crate) fn new(alloc: Global) -> Self {
         Made {
             octets: Vec::new(alloc),
             fields: Vec::new(alloc),
@@ -23,14 +23,14 @@ impl Made {
     }
 
     /// Drops all, and keeps the room.
-    pub fn clear(&mut self) {
+    pub(crate) fn clear(&mut self) {
         self.octets.clear();
         self.fields.clear();
         self.pieces.clear();
     }
 
     /// The FNV-1a hash, of 64 bits, of the octets, then of the fields and of the pieces.
-    pub fn checksum(&self) -> u64 {
+    pub(crate) fn checksum(&self) -> u64 {
         let sum = hash(0xcbf2_9ce4_8422_2325, &self.octets);
         hash_pieces(hash_fields(sum, &self.fields), &self.pieces)
     }

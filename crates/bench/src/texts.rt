@@ -5,7 +5,7 @@ use crate::samples::TEXT;
 use std::alloc::Global;
 
 /// Decodes Huffman text of 175 octets.
-pub fn decode(alloc: Global, rounds: u32, made: &mut Made) -> Option<()> {
+pub(crate) fn decode(alloc: Global, rounds: u32, made: &mut Made) -> Option<()> {
     let mut text = Vec::new(alloc);
     huffman::encode(TEXT, &mut text).ok()?;
     for _ in 0..rounds {
@@ -16,7 +16,7 @@ pub fn decode(alloc: Global, rounds: u32, made: &mut Made) -> Option<()> {
 }
 
 /// Encodes a text of 175 octets.
-pub fn encode(_alloc: Global, rounds: u32, made: &mut Made) -> Option<()> {
+pub(crate) fn encode(_alloc: Global, rounds: u32, made: &mut Made) -> Option<()> {
     for _ in 0..rounds {
         made.clear();
         huffman::encode(TEXT, &mut made.octets).ok()?;

@@ -1,6 +1,8 @@
 //! The connections of clients.
 
+ghost use Rattle.std.specs.Prelude.{◌≤◌, IfErr};
 ghost use Rattle.gateway.specs.Setups.{setup_of, IsServable};
+ghost use Rattle.h2gw.specs.Stops.{status_of};
 
 use crate::setting::Setting;
 use crate::stops::Stop;
@@ -13,6 +15,7 @@ use worlds::{ServeFault, serve};
 /// Says where clients connect to, and serves their connections one after another.
 pub fn serve_clients(rt: &HostRuntime, setting: &Setting) -> Result<(), Stop>
     requires { IsServable (setup_of setting.now.config) }
+    ensures { IfErr result (λ stop. 2 ≤ status_of stop) }
 {
     let Ok(listener) = TcpListener::bind(rt, setting.listen) else {
         return Err(Stop::Bind);
@@ -35,6 +38,7 @@ pub fn serve_clients(rt: &HostRuntime, setting: &Setting) -> Result<(), Stop>
 /// Serves the connection of a client. That one fails ends it alone, unless no memory was left.
 fn serve_client(rt: &HostRuntime, setting: &Setting, client: TcpStream) -> Result<(), Stop>
     requires { IsServable (setup_of setting.now.config) }
+    ensures { IfErr result (λ stop. 2 ≤ status_of stop) }
 {
     if client.set_nonblocking(true).is_err() {
         return Ok(());

@@ -1,6 +1,6 @@
 //! Why the program stops.
 
-ghost use Rattle.std.specs.Prelude.{◌≡◌};
+ghost use Rattle.std.specs.Prelude.{◌≡◌, ◌⊎◌, max};
 ghost use Rattle.h2gw.specs.Stops.{status_of};
 
 use command_line::{Word, WordsFault};
@@ -68,8 +68,11 @@ impl From<WordsFault> for Stop {
     }
 }
 
-/// Says why the program stops, in one line on standard error; help goes to standard output. The answer is the exit status.
-pub fn report(rt: &HostRuntime, stop: &Stop) -> u8 {
+/// Says why the program stops, in one line on standard error; help goes to standard output. The answer is the exit status; where
+/// that can't be said, it is 2 at least.
+pub fn report(rt: &HostRuntime, stop: &Stop) -> u8
+    ensures { (result ≡ status_of stop.now) ⊎ (result ≡ max (status_of stop.now) 2) }
+{
     let printed = match stop {
         Stop::Words(error) => error.print(rt),
         Stop::Missing(word) => eprintln!(rt; "{}: missing", word.name()),

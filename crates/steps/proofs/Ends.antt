@@ -20,10 +20,10 @@ use Rattle.relay.specs.Rest.{IsAtRest, told_view}
 use Rattle.relay.specs.Performing.{put_all}
 use Rattle.relay.specs.Bringing.{AreOwn}
 use Rattle.relay.proofs.Performing.{tape_behind}
-use Rattle.ending.specs.Closing.{IsShut, IsEnded}
-use Rattle.ending.specs.Reasons.{IsBy}
-use Rattle.ending.specs.declared.ending.Ending.{Ending}
-use Rattle.ending.proofs.Ends.{is_ended}
+use Rattle.steps.specs.ending.Closing.{IsShut, IsEnded}
+use Rattle.steps.specs.ending.Reasons.{IsBy}
+use Rattle.steps.specs.declared.ending.reason.Ending.{Ending}
+use Rattle.steps.proofs.ending.Ends.{is_ended}
 use Rattle.steps.specs.Inputs.{Input, inputs_in}
 use Rattle.steps.specs.Comings.{IsOver, StandsAt, FollowsFrom, Comes, ComesFrom}
 use Rattle.steps.proofs.Following.{IsInput, inputs_so, spelled_so, follow_so}

@@ -26,15 +26,15 @@ use Rattle.relay.specs.Rest.{IsAtRest}
 use Rattle.relay.specs.Performing.{put_all}
 use Rattle.relay.specs.Bringing.{PerformsOwn, Brings}
 use Rattle.relay.proofs.Bringing.{brings_then}
-use Rattle.ending.specs.Reasons.{IsBy}
-use Rattle.ending.specs.declared.ending.Ending.TheVariants as ending
-use Rattle.plain_frames.specs.Taken as plain
-use Rattle.plain_frames.specs.declared.taking.Taken.{Taken}
-use Rattle.plain_frames.specs.declared.taking.Taken.TheVariants as plain_taken
-use Rattle.block_frames.specs.Following.{farewell_frames}
-use Rattle.block_frames.specs.Taken as block
-use Rattle.block_frames.specs.declared.taking.BlockTaken.{BlockTaken}
-use Rattle.block_frames.specs.declared.taking.BlockTaken.TheVariants as block_taken
+use Rattle.steps.specs.ending.Reasons.{IsBy}
+use Rattle.steps.specs.declared.ending.reason.Ending.TheVariants as ending
+use Rattle.steps.specs.plain_frames.Taken as plain
+use Rattle.steps.specs.declared.plain_frames.taking.Taken.{Taken}
+use Rattle.steps.specs.declared.plain_frames.taking.Taken.TheVariants as plain_taken
+use Rattle.steps.specs.block_frames.Following.{farewell_frames}
+use Rattle.steps.specs.block_frames.Taken as block
+use Rattle.steps.specs.declared.block_frames.taking.BlockTaken.{BlockTaken}
+use Rattle.steps.specs.declared.block_frames.taking.BlockTaken.TheVariants as block_taken
 use Rattle.steps.specs.Comings.{ComesFrom}
 use Rattle.steps.specs.Inputs.Input.{OfFrame}
 use Rattle.steps.specs.Resting.{AreNumbered}

@@ -3,3 +3,9 @@ pub mod Comings
 pub mod Admission
 pub mod Leaving
 pub mod Resting
+pub mod paying
+pub mod plain_frames
+pub mod block_frames
+pub mod exchanges
+pub mod flushing
+pub mod ending

@@ -11,9 +11,10 @@ ghost use Rattle.steps.specs.Comings.{ComesFrom};
 ghost use Rattle.steps.specs.Inputs.Input.{OfEvent};
 ghost use Rattle.steps.specs.Resting.{now_of, IsSettled, RestsSo};
 
+use crate::exchanges;
+use crate::paying::{note_client_took, note_up_took};
 use crate::resting::{Went, rest};
 use outputs::Outputs;
-use paying::{note_client_took, note_up_took};
 use relay::Rooms;
 use std::alloc::{AllocError, Global};
 

@@ -10,7 +10,7 @@ ghost use Rattle.steps.specs.Comings.{ComesFrom};
 ghost use Rattle.steps.specs.Inputs.Input.{OfBreach, OfEvent};
 ghost use Rattle.steps.specs.Leaving.{breach_of};
 
-use ending::{Ending, end};
+use crate::ending::{Ending, end};
 use outputs::Outputs;
 use relay::Rooms;
 use std::alloc::AllocError;

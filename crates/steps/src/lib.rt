@@ -1,12 +1,18 @@
 //! What comes in does, whole: a frame of the client, the end of its octets, an event of an upstream. Behind each the gateway rests, or the
 //! connection to the client was closed.
 //!
-//! The parts are those of `plain_frames`, `block_frames`, `exchanges`, `paying`, `flushing` and `ending`, in the order in which the rule takes them: what came
+//! The parts are `plain_frames`, `block_frames`, `exchanges`, `paying`, `flushing` and `ending`, in the order in which the rule takes them: what came
 //! in; a connection for a request that is due; the farewell behind the last stream; octets that go back; responses; connections that are done with.
 #![tactic(auto)]
 
+pub mod block_frames;
+pub mod ending;
+pub mod exchanges;
+pub mod flushing;
 mod hearing;
 mod leaving;
+pub mod paying;
+pub mod plain_frames;
 mod resting;
 mod taking;
 #[cfg(test)]

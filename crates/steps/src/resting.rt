@@ -9,10 +9,10 @@ ghost use Rattle.relay.specs.Rest.{NoneCut, Reached};
 ghost use Rattle.steps.specs.Comings.{FollowsFrom};
 ghost use Rattle.steps.specs.Resting.{now_of, RestsSo};
 
-use ending::shut;
-use flushing::flush;
+use crate::ending::shut;
+use crate::flushing::flush;
+use crate::paying::close_done;
 use outputs::Outputs;
-use paying::close_done;
 use relay::Rooms;
 use std::alloc::{AllocError, Global};
 

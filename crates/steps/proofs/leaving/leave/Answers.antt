@@ -2,7 +2,7 @@ use Rattle.std.proofs.Common.{refl}
 use Rattle.model.specs.Logs.Event.{ClientEnd}
 use Rattle.policy.specs.Moves.Deed.{Notes}
 use Rattle.steps.specs.Inputs.Input.{OfEvent}
-use Rattle.ending.specs.declared.ending.Ending.TheVariants.{Gone}
+use Rattle.steps.specs.declared.ending.reason.Ending.TheVariants.{Gone}
 use Rattle.steps.proofs.Ends.{ends_come}
 use Rattle.steps.proofs.Results.{on_ok}
 use Rattle.steps.proofs.leaving.leave.Goals as goal

@@ -6,8 +6,8 @@ use Rattle.steps.specs.Inputs.Input.{OfBreach}
 use Rattle.steps.specs.Comings.{ComesFrom}
 use Rattle.steps.specs.Leaving.{breach_of}
 use Rattle.steps.specs.declared.leaving.Breach.{Breach}
-use Rattle.ending.specs.Reasons.{IsBy}
-use Rattle.ending.specs.declared.ending.Ending.TheVariants.{Breach as Broken}
+use Rattle.steps.specs.ending.Reasons.{IsBy}
+use Rattle.steps.specs.declared.ending.reason.Ending.TheVariants.{Breach as Broken}
 use Rattle.steps.proofs.Ends.{ends_come}
 use Rattle.steps.proofs.Results.{on_ok}
 use Rattle.steps.proofs.leaving.leave_at.Goals as goal

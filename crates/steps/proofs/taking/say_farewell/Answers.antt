@@ -3,7 +3,7 @@ use Rattle.model.specs.Frames.{goaway, no_error}
 use Rattle.relay.specs.View.{square}
 use Rattle.relay.specs.Bringing.{PerformsOwn}
 use Rattle.relay.proofs.Bringing.{own_none}
-use Rattle.block_frames.specs.Following.{farewell_frames}
+use Rattle.steps.specs.block_frames.Following.{farewell_frames}
 use Rattle.steps.proofs.Results.{on_ok}
 use Rattle.steps.proofs.taking.say_farewell.Goals as goal
 

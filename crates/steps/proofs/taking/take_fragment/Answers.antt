@@ -4,7 +4,7 @@ use Rattle.frames.specs.Views.{frame_of}
 use Rattle.judgement.specs.Inbound.{Inbound}
 use Rattle.offering.specs.State as offering
 use Rattle.streams_kept.specs.Asked.{has}
-use Rattle.block_frames.specs.Following.{farewell_frames}
+use Rattle.steps.specs.block_frames.Following.{farewell_frames}
 use Rattle.relay.specs.View.{square}
 use Rattle.relay.specs.Rest.{NoneCut}
 use Rattle.steps.specs.Inputs.Input.{OfFrame}

@@ -1,9 +1,0 @@
-//! The parts of responses that can go are sent, each stream in its turn, while the client's side hasn't left too much untaken.
-#![tactic(auto)]
-
-mod parts;
-#[cfg(test)]
-mod tests;
-mod turns;
-
-pub use crate::turns::flush;

@@ -1,0 +1,196 @@
+-- What a frame with a fragment of a header block brings, by what it gains and by what it calls for.
+use Rattle.std.proofs.Common.{◌≡◌, ℕ, ◌<◌, ◌≤◌, ◌+◌, Bool, true, false, not, ◌&&◌, ◌||◌, ◌==◌, if◌then◌else◌, List, [], ◌∷◌, ◌++◌, length, Option, Some, None, refl, sym, ◌∙◌, ap, subst, inl, inr, arith}
+use Rattle.std.specs.Prelude.{is_none, is_some}
+use Rattle.std.specs.List.{list_any}
+use Rattle.std.proofs.lemmas.Bool.{eq-eqb}
+use Rattle.model.specs.Messages.{Item}
+use Rattle.model.specs.Frames.{Frame, Fits, goaway, no_error, spell}
+use Rattle.model.specs.Logs.{Output}
+use Rattle.model.specs.Logs.Output.{ToClient}
+use Rattle.model.specs.Setup.{Setup}
+use Rattle.model.specs.Tables.{Table}
+use Rattle.model.specs.Tapes.{Note, Noted, put}
+use Rattle.model.specs.Tapes.Note.{NoBlock, Fields, Undecodable, Unread}
+use Rattle.model.specs.Tapes.Entry.{Came}
+use Rattle.model.specs.Causes.{Cause}
+use Rattle.model.specs.Decoding.{Partial, is_read}
+use Rattle.model.specs.Errors.{Fault, first_of}
+use Rattle.model.specs.ErrorClause.{is_fatal, rst_stream}
+use Rattle.model.specs.Lifetimes.{may_open, opens_by}
+use Rattle.model.proofs.OpenedLaws.{not_opened}
+use Rattle.conduct.specs.Judging.{completed_in, rows_before_block_in}
+use Rattle.conduct.specs.Owing.{fault_in, owes_in}
+use Rattle.conduct.specs.Rows.{Row, ids_of, find}
+use Rattle.conduct.specs.Rows.Slot.{Over}
+use Rattle.conduct.specs.Book.{Book, summary_in, book_after, is_told}
+use Rattle.conduct.proofs.Calm.{fatal_before_block, idle_frame_is}
+use Rattle.conduct.proofs.Rows.{ids_changed}
+use Rattle.offering.specs.State as offering
+use Rattle.offering.specs.Rule.{found_by}
+use Rattle.serving.specs.State as serving
+use Rattle.serving.specs.State.{Held, Due, id_of}
+use Rattle.serving.specs.State.Due.{Nothing}
+use Rattle.tables.specs.Rule.{IsNoted}
+use Rattle.tables.specs.Verdicts.{verdict_in}
+use Rattle.streams_kept.specs.Asked.{has, is_active, changed}
+use Rattle.streams_kept.specs.Sending.{is_served}
+use Rattle.judgement.specs.Inbound.{Inbound, book_of, told_of}
+use Rattle.judgement.specs.Fragments.{IsOfBlock}
+use Rattle.upstreams.specs.Kept as upstreams
+use Rattle.upstreams.specs.Kept.{with_due}
+use Rattle.policy.specs.Moves.{Gain, Move}
+use Rattle.policy.specs.Moves.Gain.{Nothing as NoGain}
+use Rattle.policy.specs.Moves.Deed.{Takes}
+use Rattle.policy.specs.State.{State}
+use Rattle.policy.specs.Rule.{added_in}
+use Rattle.policy.specs.Coming.{IsGained}
+use Rattle.policy.specs.Steps.{told_by, told_behind}
+use Rattle.relay.specs.View.{View, square, Leads}
+use Rattle.relay.specs.Rest.{IsAtRest}
+use Rattle.relay.specs.Bringing.{Course, Brings, PerformsOwn}
+use Rattle.relay.proofs.Bringing.{own_none, own_then, brings_then}
+use Rattle.relay.proofs.Coming.{no_outside, inbound_behind, change_between, offers_with, told_of_rows}
+use Rattle.relay.proofs.Coming as coming
+use Rattle.relay.proofs.Resets.{reset_view, reset_paid}
+use Rattle.steps.proofs.paying.Paying.{pays_control}
+use Rattle.steps.specs.declared.paying.control.Control.TheVariants as control
+use Rattle.steps.specs.block_frames.Following.{offers_if, held_if, followed, forgotten, farewell_frames, with_farewell, put_farewell}
+use Rattle.steps.proofs.block_frames.Lists.{offers_followed, offers_replied, offers_gone, held_by, held_gone}
+use Rattle.steps.proofs.block_frames.Before.{ready, kept_rows, box_there, is_taken, leads_there}
+
+-- the farewell is paid, if it is owed
+pub pays_farewell : (setup : Setup) (kept : View) (last : Option ℕ) (rest : List Frame) (outputs : List Output)
+    → PerformsOwn setup kept (record square { owed = farewell_frames last ++ rest }) outputs (with_farewell last kept) (record square { owed = rest }) (put_farewell last outputs)
+pays_farewell setup kept None rest outputs = own_none setup kept (record square { owed = rest }) outputs
+pays_farewell setup kept (Some last) rest outputs = pays_control setup kept (record square { owed = goaway last no_error ∷ rest }) rest (control.Farewell last no_error) tt refl refl outputs
+
+-- it changes nothing but what is untaken
+farewell_view : (last : Option ℕ) (kept : View) → with_farewell last kept ≡ record kept { untaken = (with_farewell last kept).untaken }
+farewell_view None kept = refl
+farewell_view (Some last) kept = refl
+
+fits_reset : (id code : ℕ) → id < 2147483648 → Fits (rst_stream id code)
+fits_reset id code of = record { kind = omega arith; flags = omega arith; id = of; payload = omega arith }
+
+module _ (setup : Setup) (old : View) (rest : IsAtRest old) (noted : Noted) (next : Table) (of : IsOfBlock noted.frame) (mild : is_fatal (fault_in (told_of no_outside old.inbound) (Came noted)) ≡ false)
+    (is_noted : IsNoted (completed_in old.inbound.block noted.frame) (verdict_in (told_of no_outside old.inbound) noted.frame).is_error old.inbound.table noted.note next) (read : is_read noted.note ≡ false → (verdict_in (told_of no_outside old.inbound) noted.frame).is_error ≡ true) where
+  abbrev id : ℕ
+  id = noted.frame.id
+
+  abbrev pub behind : Inbound
+  behind = inbound_behind setup old.inbound noted next
+
+  abbrev pub behind_view : View
+  behind_view = record old { inbound = behind }
+
+  abbrev served : Bool
+  served = is_served behind.rows id
+
+  -- what is held behind it, where nothing is gained
+  abbrev held_now : upstreams.State
+  held_now = record old.upstreams { held = held_if served id old.upstreams.held }
+
+  module _ (adds : added_in setup (told_of no_outside old.inbound) noted ≡ []) where
+    gains_none : (run : List Move) (s : State) (leads : Leads setup run old square s) → IsGained setup (told_behind setup s (Takes noted next NoGain)) s noted NoGain
+    gains_none run s leads = ap (λ (b : Book). added_in setup (summary_in b) noted) leads.keeps.book ∙ adds
+
+    -- It leads on, with nothing gained.
+    pub brings_none : (owed : List Frame) (offers : offering.State) → owes_in setup false (told_of no_outside old.inbound) (Came noted) ≡ owed
+        → ((run : List Move) (s : State) → Leads setup run old square s → offers_with id (change_between old.inbound.rows behind.rows id) old.offers ≡ offers)
+        → (outputs : List Output) → Brings setup old square outputs (Came noted) (record behind_view { offers = offers; upstreams = held_now }) (record square { owed = owed }) outputs
+    brings_none owed offers owes on_offer outputs run s leads =
+        leads_there setup old rest run s leads noted next of mild is_noted read NoGain (gains_none run s leads) owed Nothing offers held_now refl owes (on_offer run s leads)
+        (ap (λ (hs : List Held). record (with_due old.upstreams Nothing) { held = hs }) (coming.held_then setup run old s leads (ready setup old rest run s leads) noted next NoGain (is_taken setup old rest run s leads noted next of mild is_noted read NoGain (gains_none run s leads)) ∙ held_by served id old.upstreams.held))
+        outputs
+
+    -- What is kept of its stream follows.
+    pub brings_followed : (owed : List Frame) → owes_in setup false (told_of no_outside old.inbound) (Came noted) ≡ owed → found_by (find old.inbound.rows id).brief.cause (find behind.rows id).brief.cause ≡ None
+        → (outputs : List Output) → Brings setup old square outputs (Came noted) (followed id behind_view) (record square { owed = owed }) outputs
+    brings_followed owed owes no_cause outputs =
+        brings_none owed (offers_if (is_active behind.rows id) id old.offers) owes (λ run s leads.
+        ap (λ (c : Option Cause). offers_with id (record { opens = not (is_active old.inbound.rows id) && is_active behind.rows id; over = is_active old.inbound.rows id && not (is_active behind.rows id); caused = c }) old.offers) no_cause
+        ∙ offers_followed (is_active old.inbound.rows id) (is_active behind.rows id) id old.offers (box_there setup old rest run s leads id)) outputs
+
+    -- The gateway's reply is on offer.
+    pub brings_replied : (owed : List Frame) (cause : Cause) → owes_in setup false (told_of no_outside old.inbound) (Came noted) ≡ owed → found_by (find old.inbound.rows id).brief.cause (find behind.rows id).brief.cause ≡ Some cause → is_active behind.rows id ≡ true
+        → (outputs : List Output) → Brings setup old square outputs (Came noted) (record (followed id behind_view) { offers = record (followed id behind_view).offers { kept = offering.change id (offering.answered cause) (followed id behind_view).offers.kept } }) (record square { owed = owed }) outputs
+    brings_replied owed cause owes caused active outputs =
+        brings_none owed (record (offers_if (is_active behind.rows id) id old.offers) { kept = offering.change id (offering.answered cause) (offers_if (is_active behind.rows id) id old.offers).kept }) owes (λ run s leads.
+        ap (λ (c : Option Cause). offers_with id (record { opens = not (is_active old.inbound.rows id) && is_active behind.rows id; over = is_active old.inbound.rows id && not (is_active behind.rows id); caused = c }) old.offers) caused
+        ∙ ap (λ b. offers_with id (record { opens = not (is_active old.inbound.rows id) && b; over = is_active old.inbound.rows id && not b; caused = Some cause }) old.offers) active
+        ∙ offers_replied (is_active old.inbound.rows id) id cause old.offers (box_there setup old rest run s leads id)
+        ∙ ap (λ b. record (offers_if b id old.offers) { kept = offering.change id (offering.answered cause) (offers_if b id old.offers).kept }) (sym active)) outputs
+
+    -- The stream is reset, behind the farewell.
+    pub brings_reset : (last : Option ℕ) (code : ℕ) → owes_in setup false (told_of no_outside old.inbound) (Came noted) ≡ farewell_frames last ++ rst_stream id code ∷ [] → may_open (ids_of behind.rows) id ≡ false → id < 2147483648
+        → (outputs : List Output)
+        → Brings setup old square outputs (Came noted) (record (forgotten id (record old { inbound = record behind { rows = changed id (Over true) behind.rows } })) { untaken = (with_farewell last old).untaken + length (spell (rst_stream id code)) }) square (put (put_farewell last outputs) (ToClient (spell (rst_stream id code))))
+    brings_reset last code owes known small outputs =
+        subst (λ (v : View). Brings setup old square outputs (Came noted) v square (put (put_farewell last outputs) (ToClient (spell (rst_stream id code))))) same
+        (brings_then setup old first (reset_view paid id code) square (record square { owed = farewell_frames last ++ rst_stream id code ∷ [] }) square outputs outputs (put (put_farewell last outputs) (ToClient (spell (rst_stream id code)))) (Came noted)
+        (brings_none (farewell_frames last ++ rst_stream id code ∷ []) (offers_with id (change_between old.inbound.rows behind.rows id) old.offers) owes (λ run s leads. refl) outputs)
+        (own_then setup first paid (reset_view paid id code) (record square { owed = farewell_frames last ++ rst_stream id code ∷ [] }) (record square { owed = rst_stream id code ∷ [] }) square outputs (put_farewell last outputs) (put (put_farewell last outputs) (ToClient (spell (rst_stream id code))))
+        (subst (λ (v : View). PerformsOwn setup first (record square { owed = farewell_frames last ++ rst_stream id code ∷ [] }) outputs v (record square { owed = rst_stream id code ∷ [] }) (put_farewell last outputs)) (farewell_view last first)
+        (pays_farewell setup first last (rst_stream id code ∷ []) outputs))
+        (reset_paid setup paid (record square { owed = rst_stream id code ∷ [] }) [] id code refl refl known (fits_reset id code small) (put_farewell last outputs))))
+      where
+        first : View
+        first = record behind_view { offers = offers_with id (change_between old.inbound.rows behind.rows id) old.offers; upstreams = held_now }
+
+        paid : View
+        paid = record first { untaken = (with_farewell last first).untaken }
+
+        untaken_same : (l : Option ℕ) → (with_farewell l first).untaken ≡ (with_farewell l old).untaken
+        untaken_same None = refl
+        untaken_same (Some n) = refl
+
+        target : View
+        target = record (forgotten id (record old { inbound = record behind { rows = changed id (Over true) behind.rows } })) { untaken = (with_farewell last old).untaken + length (spell (rst_stream id code)) }
+
+        same : reset_view paid id code ≡ target
+        same =
+            ap (λ n. record (reset_view paid id code) { untaken = n + length (spell (rst_stream id code)) }) (untaken_same last)
+            ∙ ap (λ (ks : List offering.Kept). record target { offers = record old.offers { kept = ks }; upstreams = record old.upstreams { held = serving.without id_of id (held_if served id old.upstreams.held) } }) (offers_gone id (change_between old.inbound.rows behind.rows id) old.offers)
+            ∙ ap (λ (hs : List Held). record target { upstreams = record old.upstreams { held = hs } }) (held_gone served id old.upstreams.held)
+
+  -- ---- a frame with a fault
+
+  -- the note says what its block is
+  says_so : is_some (completed_in old.inbound.block noted.frame) ≡ true → is_told noted.note ≡ true
+  says_so = by (completed_in old.inbound.block noted.frame) (verdict_in (told_of no_outside old.inbound) noted.frame).is_error noted.note is_noted read (no_error (verdict_in (told_of no_outside old.inbound) noted.frame).is_error refl)
+    where
+      no_error : (b : Bool) → (verdict_in (told_of no_outside old.inbound) noted.frame).is_error ≡ b → (verdict_in (told_of no_outside old.inbound) noted.frame).is_error ≡ false
+      no_error false is = is
+      no_error true is = absurd (let no : true ≡ false = sym (fatal_before_block (told_of no_outside old.inbound) noted is) ∙ mild in cc)
+
+      by : (o : Option Partial) (e : Bool) (n : Note) → IsNoted o e old.inbound.table n next → (is_read n ≡ false → e ≡ true) → e ≡ false → is_some o ≡ true → is_told n ≡ true
+      by None e n right so none some = cc
+      by (Some block) true n right so none some = cc
+      by (Some block) false NoBlock right so none some = absurd right
+      by (Some block) false (Fields fields) right so none some = refl
+      by (Some block) false Undecodable right so none some = refl
+      by (Some block) false Unread right so none some = absurd (let no : false ≡ true = so refl in cc)
+
+  -- Its stream can't be opened any more behind it.
+  pub not_to_open : (fault : Fault) → fault_in (told_of no_outside old.inbound) (Came noted) ≡ Some fault → may_open (ids_of behind.rows) id ≡ false
+  not_to_open fault is = by (opens_by (ids_of old.inbound.rows) (completed_in old.inbound.block noted.frame) noted.note) refl
+    where
+      rows_changed : List Row
+      rows_changed = Rattle.std.specs.Prelude.map (Rattle.conduct.specs.Rows.row_behind setup false (told_of no_outside old.inbound) (Came noted)) old.inbound.rows
+
+      front : Row
+      front = Rattle.conduct.specs.Rows.row_opened setup false (told_of no_outside old.inbound) (Came noted) id
+
+      none_again : (b : Bool) → may_open (id ∷ ids_of rows_changed) id ≡ b → may_open (id ∷ ids_of rows_changed) id ≡ false
+      none_again false e = e
+      none_again true e = absurd (let no : true ≡ false = sym (ap (λ b. b || list_any (λ other. other == id) (ids_of rows_changed)) (eq-eqb id id refl)) ∙ not_opened (id ∷ ids_of rows_changed) id e in cc)
+
+      none_yet : opens_by (ids_of old.inbound.rows) (completed_in old.inbound.block noted.frame) noted.note ≡ false → (b : Bool) → may_open (ids_of old.inbound.rows) id ≡ b → may_open (ids_of old.inbound.rows) id ≡ false
+      none_yet closed false e = e
+      none_yet closed true e =
+          let idle = idle_frame_is (told_of no_outside old.inbound) noted (find old.inbound.rows id).brief e closed mild says_so in
+          absurd (let no : None ≡ Some fault = sym idle.no_fault ∙ is in cc)
+
+      by : (b : Bool) → opens_by (ids_of old.inbound.rows) (completed_in old.inbound.block noted.frame) noted.note ≡ b → may_open (ids_of (if b then front ∷ rows_changed else rows_changed)) id ≡ false
+      by true e = none_again (may_open (id ∷ ids_of rows_changed) id) refl
+      by false e = ap (λ (ids : List ℕ). may_open ids id) (ids_changed setup false (told_of no_outside old.inbound) (Came noted) old.inbound.rows) ∙ none_yet e (may_open (ids_of old.inbound.rows) id) refl

@@ -1,0 +1,227 @@
+-- A request begins, or ends with trailers: what that brings.
+use Rattle.std.proofs.Common.{◌≡◌, ℕ, ◌<◌, ◌≤◌, ◌+◌, Bool, true, false, not, ◌&&◌, ◌||◌, ◌==◌, if◌then◌else◌, List, [], ◌∷◌, ◌++◌, append-nil, length, Option, Some, None, refl, sym, ◌∙◌, ap, subst, inl, inr, arith}
+use Rattle.std.specs.Prelude.{is_none, is_some}
+use Rattle.std.proofs.lemmas.Bool.{or_parts, eqb-false}
+use Rattle.model.specs.Messages.{Field, Item, ends_with}
+use Rattle.model.specs.Messages.Item.{Block}
+use Rattle.model.specs.Frames.{Frame, rst_stream_kind}
+use Rattle.model.specs.Logs.{Output}
+use Rattle.model.specs.Http2.{authority_of, path_of}
+use Rattle.model.specs.Malformed.{is_malformed_block, are_trailers, has_length}
+use Rattle.model.specs.Setup.{Setup, Passing}
+use Rattle.model.specs.Setup.Passing.{Whole as WholePassing}
+use Rattle.model.specs.Tables.{Table}
+use Rattle.model.specs.Tapes.{Note, Noted}
+use Rattle.model.specs.Tapes.Note.{Fields}
+use Rattle.model.specs.Tapes.Entry.{Came}
+use Rattle.model.specs.Causes.{Cause, are_large, cause_if}
+use Rattle.model.specs.Causes.Cause.{LargeFields}
+use Rattle.model.specs.Courses.{cause_of_block, first_of_both}
+use Rattle.model.specs.Decoding.{Partial, is_read}
+use Rattle.model.specs.Errors.{Fault, first_of, or_else}
+use Rattle.model.specs.Errors.Fault.{Stream}
+use Rattle.model.specs.ErrorClause.{is_fatal}
+use Rattle.model.specs.FrameErrors.{fault_if}
+use Rattle.model.specs.ErrorTable.{is_malformed}
+use Rattle.h1_writer.specs.Sending.{Stage}
+use Rattle.h1_writer.specs.Sending.Stage.{Whole}
+use Rattle.request_rules.specs.Heads.{parts_of}
+use Rattle.causes.specs.Openings.{GoesOn}
+use Rattle.conduct.specs.Summary.{Stream as Kept, Brief, Summary, carried_in}
+use Rattle.conduct.specs.Judging.{completed_in, rows_in, malformed_in}
+use Rattle.conduct.specs.Owing.{fault_in, owes_in, must_end_in}
+use Rattle.conduct.specs.Rows.{Row, find}
+use Rattle.conduct.specs.Book.{Book, summary_in, book_after}
+use Rattle.offering.specs.State as offering
+use Rattle.offering.specs.Rule.{found_by}
+use Rattle.serving.specs.State as serving
+use Rattle.serving.specs.State.{Held, Due, id_of, held_of, held_with, goes_now, waits_from, is_whole, is_streaming}
+use Rattle.serving.specs.State.Due.{Nothing, ToOpen}
+use Rattle.serving.specs.State.Way.{Waiting}
+use Rattle.serving.specs.Rule.{IsServing}
+use Rattle.tables.specs.Rule.{IsNoted}
+use Rattle.tables.specs.Verdicts.{verdict_in}
+use Rattle.streams_kept.specs.Asked.{is_active}
+use Rattle.streams_kept.specs.Sending.{is_served}
+use Rattle.judgement.specs.Inbound.{Inbound, book_of, told_of}
+use Rattle.judgement.specs.Fragments.{IsOfBlock}
+use Rattle.upstreams.specs.Kept as upstreams
+use Rattle.upstreams.specs.Kept.{with_due, Begins}
+use Rattle.upstreams.specs.Requests.{due_in, due_for, MayEndFor, IsEndedFor}
+use Rattle.upstreams.specs.declared.held.Outgoing.{Outgoing}
+use Rattle.policy.specs.Moves.{Gain, Move, told_in}
+use Rattle.policy.specs.Moves.Deed.{Takes}
+use Rattle.policy.specs.State.{State}
+use Rattle.policy.specs.Rule.{Adds, AddsHead}
+use Rattle.policy.specs.Coming.{IsGained}
+use Rattle.policy.specs.Steps.{told_by, told_behind}
+use Rattle.relay.specs.View.{View, square, Leads}
+use Rattle.relay.specs.Rest.{IsAtRest}
+use Rattle.relay.specs.Bringing.{Brings}
+use Rattle.relay.specs.Waits.{WaitsFor}
+use Rattle.relay.proofs.Coming.{no_outside, inbound_behind, change_between, offers_with, told_of_rows}
+use Rattle.relay.proofs.Waits.{all_so, waits_for}
+use Rattle.steps.specs.block_frames.Following.{offers_if, held_if, followed}
+use Rattle.steps.proofs.block_frames.Lists.{offers_followed}
+use Rattle.steps.proofs.block_frames.Streams.{goes_on_with}
+use Rattle.steps.proofs.block_frames.Before.{box_there, leads_there}
+
+module _ (setup : Setup) (whole : setup.passing ≡ WholePassing) (old : View) (rest : IsAtRest old) (noted : Noted) (next : Table) (of : IsOfBlock noted.frame) (mild : is_fatal (fault_in (told_of no_outside old.inbound) (Came noted)) ≡ false)
+    (is_noted : IsNoted (completed_in old.inbound.block noted.frame) (verdict_in (told_of no_outside old.inbound) noted.frame).is_error old.inbound.table noted.note next) (read : is_read noted.note ≡ false → (verdict_in (told_of no_outside old.inbound) noted.frame).is_error ≡ true)
+    (counted : (noted.frame.id == 0) ≡ false) (active : is_active (inbound_behind setup old.inbound noted next).rows noted.frame.id ≡ true) (no_cause : (find (inbound_behind setup old.inbound noted next).rows noted.frame.id).brief.cause ≡ None) where
+  abbrev id : ℕ
+  id = noted.frame.id
+
+  abbrev behind : Inbound
+  behind = inbound_behind setup old.inbound noted next
+
+  abbrev behind_view : View
+  behind_view = record old { inbound = behind }
+
+  served : is_served behind.rows id ≡ true
+  served = ap (λ b. b && is_none (find behind.rows id).brief.cause) active ∙ ap (λ (c : Option Cause). is_none c) no_cause
+
+  -- the stream is served behind the frame, and the connection goes on
+  serving_now : (g : Gain) (run : List Move) (s : State) → Leads setup run old square s → IsServing (told_in (told_behind setup s (Takes noted next g))) noted
+  serving_now g run s leads = subst (λ (b : Book). IsServing (told_in (summary_in (book_after setup false b (Came noted)))) noted) (sym leads.keeps.book) (record {
+    counted = (let some = eqb-false id 0 counted in omega (arith, some));
+    served = served;
+    goes_on = goes_on_with (summary_in (book_after setup false (book_of no_outside old.inbound) (Came noted))) id mild active;
+  })
+
+  followed_there : (run : List Move) (s : State) → Leads setup run old square s → offers_with id (change_between old.inbound.rows behind.rows id) old.offers ≡ offers_if (is_active behind.rows id) id old.offers
+  followed_there run s leads =
+      ap (λ (c : Option Cause). offers_with id (record { opens = not (is_active old.inbound.rows id) && is_active behind.rows id; over = is_active old.inbound.rows id && not (is_active behind.rows id); caused = c }) old.offers) (none_found (find old.inbound.rows id).brief.cause)
+      ∙ offers_followed (is_active old.inbound.rows id) (is_active behind.rows id) id old.offers (box_there setup old rest run s leads id)
+    where
+      none_found : (c : Option Cause) → found_by c (find behind.rows id).brief.cause ≡ None
+      none_found None = no_cause
+      none_found (Some cause) = refl
+
+  -- ---- a request begins
+
+  module _ (fields : List Field) (ends : Bool) (route : ℕ) (adds : AddsHead setup (told_of no_outside old.inbound) noted (Block fields ends)) where
+    pub brings_begun : (owed : List Frame) → owes_in setup false (told_of no_outside old.inbound) (Came noted) ≡ owed → (parts : Rattle.request_rules.specs.Heads.HeadParts) → GoesOn setup fields ends parts route
+        → (request : Option Outgoing) (new : upstreams.State) → Begins (followed id behind_view).upstreams id route parts ends request new
+        → (outputs : List Output) → Brings setup old square outputs (Came noted) (record (followed id behind_view) { upstreams = new }) (record square { owed = owed; due = due_in request }) outputs
+    brings_begun owed owes parts goes request new begun outputs run s leads =
+        leads_there setup old rest run s leads noted next of mild is_noted read gained_by is_so owed (due_in request) (offers_if (is_active behind.rows id) id old.offers) new
+        (ap (λ (u : upstreams.State). u.live) begun.kept) owes (followed_there run s leads) requests outputs
+      where
+        gained_by : Gain
+        gained_by = Gain.Begins fields ends route begun.text begun.stage
+
+        is_so : IsGained setup (told_behind setup s (Takes noted next gained_by)) s noted gained_by
+        is_so = (
+          subst (λ (b : Book). AddsHead setup (summary_in b) noted (Block fields ends)) (sym leads.keeps.book) (record { first = adds.first; adds = record { adds = adds.adds.adds; goes_on = adds.adds.goes_on } }),
+          record {
+            serving = serving_now gained_by run s leads;
+            by_route = goes.by_route;
+            sending = subst (λ (p : Rattle.request_rules.specs.Heads.HeadParts). Rattle.h1_writer.specs.Sending.Sending p ends begun.text [] begun.stage) goes.parts begun.sending;
+            whole = begun.whole;
+          },
+        )
+
+        goes_so : goes_now setup begun.stage ≡ ends
+        goes_so = ap (λ (p : Passing). is_streaming p || is_whole begun.stage) whole ∙ begun.whole
+
+        requests : serving.after setup (told_of_rows behind) (with_due old.upstreams Nothing) (serving.Move.Begins noted fields ends route begun.text begun.stage) ≡ with_due new (due_in request)
+        requests =
+            ap (λ b. record (with_due old.upstreams Nothing) { held = held_with id (waits_from b (Waiting route begun.text begun.stage [])) old.upstreams.held; due = serving.to_open b id route begun.text begun.stage }) goes_so
+            ∙ ap (λ (d : Due). record (with_due old.upstreams Nothing) { held = held_with id (waits_from ends (Waiting route begun.text begun.stage [])) old.upstreams.held; due = d }) (sym begun.due_is)
+            ∙ ap (λ b. record (with_due old.upstreams (due_in request)) { held = held_with id (waits_from ends (Waiting route begun.text begun.stage [])) (held_if b id old.upstreams.held) }) (sym served)
+            ∙ ap (λ (u : upstreams.State). with_due u (due_in request)) (sym begun.kept)
+
+  -- ---- trailers end one
+
+  module _ (fields : List Field) (adds : Adds setup (told_of no_outside old.inbound) noted (Block fields true)) where
+    pub brings_ended : (owed : List Frame) → owes_in setup false (told_of no_outside old.inbound) (Came noted) ≡ owed
+        → ((run : List Move) (s : State) → Leads setup run old square s → WaitsFor (find old.inbound.rows id).brief id old.upstreams.held)
+        → (request : Outgoing) → IsEndedFor id [] old.upstreams.held request
+        → (outputs : List Output) → is_active old.inbound.rows id ≡ true
+        → Brings setup old square outputs (Came noted) (record behind_view { upstreams = record old.upstreams { held = serving.without id_of id old.upstreams.held } }) (record square { owed = owed; due = due_in (Some request) }) outputs
+    brings_ended owed owes waits request ended outputs was run s leads =
+        leads_there setup old rest run s leads noted next of mild is_noted read gained_by is_so owed (due_for request) old.offers (record old.upstreams { held = serving.without id_of id old.upstreams.held })
+        refl owes (followed_there run s leads ∙ stays) requests outputs
+      where
+        w : WaitsFor (find old.inbound.rows id).brief id old.upstreams.held
+        w = waits run s leads
+
+        whole_text : (x : List ℕ) × (due_for request ≡ ToOpen id w.route x Whole) × Rattle.requests.specs.Waits.IsEnded (record { route = w.route; text = w.text; stage = w.stage; body = w.body }) [] x
+        whole_text = ended (record { id = id; way = Waiting w.route w.text w.stage w.body }) w.found
+
+        gained_by : Gain
+        gained_by = Gain.Gathers (Block fields true) w.route w.text w.stage w.body whole_text.2.written Whole
+
+        is_so : IsGained setup (told_behind setup s (Takes noted next gained_by)) s noted gained_by
+        is_so = (
+          subst (λ (b : Book). Adds setup (summary_in b) noted (Block fields true)) (sym leads.keeps.book) (record { adds = adds.adds; goes_on = adds.goes_on }),
+          record {
+            serving = serving_now gained_by run s leads;
+            found = ap (λ (r : serving.State). held_of id r.held) leads.keeps.requests ∙ w.found;
+            gathered = (whole_text.2.continues, refl);
+          },
+        )
+
+        stays : offers_if (is_active behind.rows id) id old.offers ≡ old.offers
+        stays =
+            ap (λ b. offers_if b id old.offers) active
+            ∙ ap (λ b. if b then old.offers else record old.offers { kept = old.offers.kept ++ offering.blank id ∷ [] }) (box_there setup old rest run s leads id ∙ was)
+
+        requests : serving.after setup (told_of_rows behind) (with_due old.upstreams Nothing) (serving.Move.Gathers noted (Block fields true) w.route w.text w.stage w.body whole_text.2.written Whole) ≡ with_due (record old.upstreams { held = serving.without id_of id old.upstreams.held }) (due_for request)
+        requests =
+            ap (λ (x : List ℕ). record (with_due old.upstreams Nothing) { held = serving.without id_of id old.upstreams.held; due = ToOpen id w.route x Whole }) (sym whole_text.2.is)
+            ∙ ap (λ (d : Due). record (with_due old.upstreams Nothing) { held = serving.without id_of id old.upstreams.held; due = d }) (sym whole_text.1)
+
+-- ---- trailers without a fault
+
+second_none : (a b : Option Fault) → or_else a b ≡ None → b ≡ None
+second_none None b e = e
+second_none (Some fault) b e = cc
+
+no_fault : (b : Bool) (fault : Fault) → fault_if b fault ≡ None → b ≡ false
+no_fault false fault e = refl
+no_fault true fault e = cc
+
+not_not : (b : Bool) → not b ≡ false → b ≡ true
+not_not true e = refl
+not_not false e = cc
+
+not_large : (b : Bool) (cause : Cause) → cause_if b cause ≡ None → b ≡ false
+not_large false cause e = refl
+not_large true cause e = cc
+
+-- They end the stream, behind as many octets as were declared.
+pub trailers_end : (setup : Setup) (s : Summary) (noted : Noted) (block : Partial) (fields : List Field) → completed_in s.block noted.frame ≡ Some block → noted.note ≡ Fields fields → fault_in s (Came noted) ≡ None
+    → (s.stream noted.frame.id).brief.cause ≡ None → (s.stream noted.frame.id).brief.begun ≡ true → cause_of_block setup (carried_in (s.stream noted.frame.id).brief) (Fields fields) ≡ None
+    → (block.ends ≡ true) × (has_length (s.stream noted.frame.id).brief.declared ((s.stream noted.frame.id).brief.octets + 0) ≡ true)
+trailers_end setup s noted block fields is_block note faultless no_cause begun none = (not_not block.ends second.0, ap (λ n. has_length brief.declared n) plain ∙ not_not (has_length brief.declared brief.octets) first.1)
+  where
+    brief : Brief
+    brief = (s.stream noted.frame.id).brief
+
+    plain : brief.octets + 0 ≡ brief.octets
+    plain = omega arith
+
+    fine : is_malformed (carried_in brief) (completed_in s.block noted.frame) noted ≡ false
+    fine =
+        sym (ap (λ (c : Option Cause). not (is_some c) && is_malformed (carried_in brief) (completed_in s.block noted.frame) noted) no_cause)
+        ∙ no_fault (not (is_some brief.cause) && is_malformed (carried_in brief) (completed_in s.block noted.frame) noted) _ (second_none (first_of (rows_in s noted)) (malformed_in brief s (Came noted)) faultless)
+
+    small : are_large fields ≡ false
+    small = not_large (are_large fields) LargeFields (sym (ap (λ b. if b then cause_if (are_large fields) LargeFields else Rattle.model.specs.Causes.cause_of_head setup fields) begun) ∙ none)
+
+    rules : ((not block.ends || not (are_trailers fields)) || not (has_length brief.declared brief.octets)) ≡ false
+    rules =
+        sym (
+        ap (λ (o : Option Partial). is_malformed (carried_in brief) o noted) is_block
+        ∙ ap (λ (n : Note). Rattle.model.specs.ErrorTable.is_bad_block (carried_in brief) block.ends n) note
+        ∙ ap (λ b. not b && is_malformed_block (carried_in brief) fields block.ends) small
+        ∙ ap (λ b. if b then (not block.ends || not (are_trailers fields)) || not (has_length brief.declared brief.octets) else not (Rattle.model.specs.Malformed.is_well_formed fields) || block.ends && not (has_length (Rattle.model.specs.Http2.declared_length fields) 0)) begun)
+        ∙ fine
+
+    first : ((not block.ends || not (are_trailers fields)) ≡ false) × (not (has_length brief.declared brief.octets) ≡ false)
+    first = or_parts (not block.ends || not (are_trailers fields)) (not (has_length brief.declared brief.octets)) rules
+
+    second : (not block.ends ≡ false) × (not (are_trailers fields) ≡ false)
+    second = or_parts (not block.ends) (not (are_trailers fields)) first.0

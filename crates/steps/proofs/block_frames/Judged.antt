@@ -1,0 +1,147 @@
+-- What has to be so before the answer is acted on, and what comes of it, by where moves led.
+use Rattle.std.proofs.Common.{◌≡◌, ℕ, ◌<◌, ◌≤◌, ◌⊎◌, Bool, true, false, if◌then◌else◌, List, [], ◌∷◌, length, Option, Some, None, refl, sym, ◌∙◌, ap, subst, inl, inr}
+use Rattle.model.specs.Messages.{Field}
+use Rattle.model.specs.Frames.{Frame}
+use Rattle.model.specs.Http2.{HasLength}
+use Rattle.model.specs.Logs.{Output}
+use Rattle.model.specs.Setup.{Setup}
+use Rattle.model.specs.Setup.Passing.{Whole as WholePassing}
+use Rattle.model.specs.StreamStates.{most_streams}
+use Rattle.model.specs.Tapes.{Noted}
+use Rattle.model.specs.Tapes.Note.{Fields}
+use Rattle.model.specs.Tapes.Entry.{Came}
+use Rattle.model.specs.Causes.{Cause, reset_code, cause_if, are_large, cause_of_head}
+use Rattle.model.specs.Causes.Cause.{LargeFields}
+use Rattle.model.specs.Courses.{cause_of_block}
+use Rattle.model.specs.Decoding.{Partial}
+use Rattle.model.specs.ErrorClause.{is_fatal}
+use Rattle.causes.specs.Views.{cause_of}
+use Rattle.causes.specs.declared.cause.Cause.{Cause as Why}
+use Rattle.conduct.specs.Judging.{is_over_in, completed_in}
+use Rattle.conduct.specs.Rows.{Row, ids_of, find}
+use Rattle.conduct.specs.Rows.Slot.{Over}
+use Rattle.conduct.specs.Book.{Book, book_after}
+use Rattle.conduct.specs.Tidy.{AreKept}
+use Rattle.offering.specs.State as offering
+use Rattle.request_rules.specs.Heads.{HeadParts}
+use Rattle.streams_kept.specs.Asked.{is_active}
+use Rattle.judgement.specs.Inbound.{Inbound, book_of, told_of}
+use Rattle.judgement.specs.Fragments.{IsOfBlock, IsFragmentJudged}
+use Rattle.judgement.specs.declared.answers.Fault.TheVariants as fault
+use Rattle.judgement.specs.declared.answers.BlockJudged.{BlockJudged}
+use Rattle.judgement.specs.declared.answers.BlockJudged.TheVariants as judged
+use Rattle.policy.specs.Moves.{Move}
+use Rattle.policy.specs.State.{State}
+use Rattle.relay.specs.View.{View, square, Leads}
+use Rattle.relay.specs.Rest.{IsAtRest}
+use Rattle.relay.proofs.Coming.{no_outside, inbound_behind}
+use Rattle.relay.proofs.Heads.{none_cut_behind, begun_if_out}
+use Rattle.relay.proofs.Resets.{inactive}
+use Rattle.relay.proofs.Waits.{all_so}
+use Rattle.steps.specs.block_frames.Following.{IsNewest, farewell_behind}
+use Rattle.steps.specs.block_frames.Acting.{IsActed, MayAct}
+use Rattle.steps.specs.block_frames.Taken.{IsBlockTaken}
+use Rattle.steps.specs.declared.block_frames.taking.BlockTaken.{BlockTaken}
+use Rattle.steps.proofs.block_frames.Before.{left_is, kept_rows, few, not_half, box_there, newest_behind}
+use Rattle.steps.proofs.block_frames.Assembled.{reset_is, fatal_taken, stream_taken, discarded_taken, part_taken, ignored_taken}
+use Rattle.steps.proofs.block_frames.Requests.{active, ended_is, begun_taken, may_end_then, ended_taken}
+use Rattle.steps.proofs.block_frames.Replies.{replied_taken}
+
+module _ (setup : Setup) (whole : setup.passing ≡ WholePassing) (old : View) (rest : IsAtRest old) (run : List Move) (s : State) (leads : Leads setup run old square s) (frame : Frame) (of : IsOfBlock frame) where
+  abbrev id : ℕ
+  id = frame.id
+
+  rows_are : AreKept old.inbound.rows
+  rows_are = kept_rows setup old rest run s leads
+
+  few_are : length (ids_of old.inbound.rows) ≤ most_streams
+  few_are = few setup old rest run s leads
+
+  half : is_over_in (find old.inbound.rows id) ≡ false → (find old.inbound.rows id).ended_by_gateway ≡ false
+  half = not_half setup old rest run s leads id
+
+  calm : (find old.inbound.rows id).brief.over ≡ false → (find old.inbound.rows id).brief.cause ≡ None
+  calm =
+      subst (λ (b : Book). (find b.rows id).brief.over ≡ false → (find b.rows id).brief.cause ≡ None) leads.keeps.book
+      ((all_so setup run s leads.stands leads.so whole (ap (λ (b : Book). b.closed) leads.keeps.book)).no_cause id)
+
+  -- a reply leaves no reset owed where no final head is out, or its cause has no code
+  module _ (judging : Setup) (why : Why) (fields : List Field) (no_cause : (find old.inbound.rows id).brief.cause ≡ None) (because : cause_of_block judging (Rattle.conduct.specs.Summary.carried_in (find old.inbound.rows id).brief) (Fields fields) ≡ Some (cause_of why)) where
+    pub none_cut_own : (k : offering.Kept) → offering.find id old.offers.kept ≡ Some k → ((find old.inbound.rows id).head_out ≡ false) ⊎ (reset_code (cause_of why) ≡ None) → (offering.answered (cause_of why) k).cut ≡ false
+    none_cut_own k found late = elim late [ inl out ↦ early out | inr coded ↦ by (find old.inbound.rows id).head_out refl coded ]
+      where
+        there : offering.find id s.offers.kept ≡ Some k
+        there = ap (λ (o : offering.State). offering.find id o.kept) leads.keeps.offers ∙ found
+
+        early : (find old.inbound.rows id).head_out ≡ false → (offering.answered (cause_of why) k).cut ≡ false
+        early out = none_cut_behind setup run s leads.stands leads.so id k there (rest.none_cut id k found) (ap (λ (b : Book). (find b.rows id).head_out) leads.keeps.book ∙ out) (cause_of why)
+
+        large : (b : Bool) → cause_if b LargeFields ≡ Some (cause_of why) → reset_code (cause_of why) ≡ None → (offering.answered (cause_of why) k).cut ≡ false
+        large true is coded = (let same : LargeFields ≡ cause_of why = cc in let no : reset_code LargeFields ≡ None = ap reset_code same ∙ coded in cc)
+        large false is coded = cc
+
+        by : (b : Bool) → (find old.inbound.rows id).head_out ≡ b → reset_code (cause_of why) ≡ None → (offering.answered (cause_of why) k).cut ≡ false
+        by false out coded = early out
+        by true out coded =
+            let begun : (find old.inbound.rows id).brief.begun ≡ true =
+            ap (λ (b : Book). (find b.rows id).brief.begun) (sym leads.keeps.book)
+            ∙ begun_if_out setup run s leads.stands leads.so id k there (rest.none_cut id k found) (ap (λ (b : Book). (find b.rows id).head_out) leads.keeps.book ∙ out) (ap (λ (b : Book). (find b.rows id).brief.cause) leads.keeps.book ∙ no_cause) in
+            large (are_large fields) (sym (ap (λ b. if b then cause_if (are_large fields) LargeFields else cause_of_head judging fields) begun) ∙ because) coded
+
+  -- ---- before the answer is acted on
+
+  module _ (mid : Inbound) (outputs : List Output) (small : id < 2147483648) where
+    abbrev mid_view : View
+    mid_view = record old { inbound = mid }
+
+    newest_if : (rows : List Row) → mid.rows ≡ rows → IsNewest (is_active rows id) id old.offers → IsNewest (is_active mid.rows id) id old.offers
+    newest_if rows same is = subst (λ (rs : List Row). IsNewest (is_active rs id) id old.offers) (sym same) is
+
+    newest_taken : (answer : BlockJudged) (is : IsFragmentJudged setup no_outside old.inbound frame mid answer) → is_fatal (Rattle.conduct.specs.Owing.fault_in (told_of no_outside old.inbound) (Came (record { frame = frame; note = is.note }))) ≡ false
+        → mid ≡ inbound_behind setup old.inbound (record { frame = frame; note = is.note }) is.next → IsNewest (is_active mid.rows id) id old.offers
+    newest_taken answer is mild same =
+        newest_if (inbound_behind setup old.inbound (record { frame = frame; note = is.note }) is.next).rows (ap (λ (i : Inbound). i.rows) same)
+        (newest_behind setup old rest run s leads (record { frame = frame; note = is.note }) is.next of mild is.is_noted is.read)
+
+    -- An outbox may be made for the stream, where one is to be.
+    pub newest : (answer : BlockJudged) → IsFragmentJudged setup no_outside old.inbound frame mid answer → IsNewest (is_active mid.rows id) id old.offers
+    newest (judged.Failed (fault.Connection code)) is = λ on none. absurd (let no : true ≡ false = sym (ap (λ (rows : List Row). is_active rows id) (sym is.judged.left) ∙ on) ∙ (sym (box_there setup old rest run s leads id) ∙ none) in cc)
+    newest (judged.Failed (fault.Stream code)) is = λ on none.
+        absurd (let no : true ≡ false = sym (ap (λ (i : Inbound). is_active i.rows id) (sym (reset_is setup old.inbound mid (record { frame = frame; note = is.note }) is.next code rows_are is.judged.left is.stays is.table)) ∙ on) ∙ inactive id true (inbound_behind setup old.inbound (record { frame = frame; note = is.note }) is.next).rows in cc)
+    newest (judged.Failed fault.Discarded) is = newest_taken (judged.Failed fault.Discarded) is (ap is_fatal is.judged.is) (left_is setup old.inbound mid (record { frame = frame; note = is.note }) is.next is.judged.left is.stays is.table)
+    newest judged.GoesOn is = newest_taken judged.GoesOn is (ap is_fatal is.judged.faultless) (left_is setup old.inbound mid (record { frame = frame; note = is.note }) is.next is.judged.left is.stays is.table)
+    newest (judged.Begins head route) is = newest_taken (judged.Begins head route) is (ap is_fatal is.judged.faultless) (left_is setup old.inbound mid (record { frame = frame; note = is.note }) is.next is.judged.left is.stays is.table)
+    newest (judged.Answered why) is = newest_taken (judged.Answered why) is (ap is_fatal is.judged.faultless) (left_is setup old.inbound mid (record { frame = frame; note = is.note }) is.next is.judged.left is.stays is.table)
+    newest judged.Trailers is = newest_taken judged.Trailers is (ap is_fatal is.judged.faultless) (left_is setup old.inbound mid (record { frame = frame; note = is.note }) is.next is.judged.left is.stays is.table)
+    newest judged.Ignored is = newest_taken judged.Ignored is (ap is_fatal is.judged.faultless) (left_is setup old.inbound mid (record { frame = frame; note = is.note }) is.next is.judged.left is.stays is.table)
+
+    -- The answer may be acted on.
+    pub may_act : (answer : BlockJudged) → IsFragmentJudged setup no_outside old.inbound frame mid answer → MayAct id answer mid_view
+    may_act (judged.Failed found) is = tt
+    may_act judged.GoesOn is = tt
+    may_act judged.Ignored is = tt
+    may_act (judged.Begins head route) is =
+        let says = is.judged.says in
+        let same = left_is setup old.inbound mid (record { frame = frame; note = is.note }) is.next is.judged.left is.stays is.table in
+        record {
+          active = ap (λ (i : Inbound). is_active i.rows id) same ∙ active setup whole old rest frame mid of rows_are few_are outputs small half calm (judged.Begins head route) is is.judged.faultless says.0 says.2 says.1 says.3;
+          no_body = λ ended. says.4.2.no_body (sym (ended_is setup whole old rest frame mid of rows_are few_are outputs small half calm (judged.Begins head route) is is.judged.faultless says.0 says.2 says.1 says.3) ∙ (ap (λ (i : Inbound). (find i.rows id).ended_by_client) (sym same) ∙ ended));
+        }
+    may_act (judged.Answered why) is =
+        let says = is.judged.says in
+        let same = left_is setup old.inbound mid (record { frame = frame; note = is.note }) is.next is.judged.left is.stays is.table in
+        ap (λ (i : Inbound). is_active i.rows id) same ∙ active setup whole old rest frame mid of rows_are few_are outputs small half calm (judged.Answered why) is is.judged.faultless says.0 says.2 says.1 says.3
+    may_act judged.Trailers is = may_end_then setup whole old rest frame mid of rows_are few_are outputs small half calm is run s leads
+
+    -- ---- what comes of it, for any setup
+
+    pub all_taken : (judging : Setup) → judging.passing ≡ WholePassing → (answer : BlockJudged) → IsFragmentJudged judging no_outside old.inbound frame mid answer → (result : BlockTaken) (new : View) (put_out : List Output) → IsActed id answer (farewell_behind (length old.inbound.rows) mid.rows) mid_view outputs result new put_out → IsBlockTaken judging old outputs frame result new put_out
+    all_taken judging passes (judged.Failed (fault.Connection code)) is result new put_out acted = fatal_taken judging old rest frame mid of rows_are few_are outputs small code is result new put_out acted
+    all_taken judging passes (judged.Failed (fault.Stream code)) is result new put_out acted = stream_taken judging old rest frame mid of rows_are few_are outputs small code is result new put_out acted
+    all_taken judging passes (judged.Failed fault.Discarded) is result new put_out acted = discarded_taken judging old rest frame mid of rows_are few_are outputs small is result new put_out acted
+    all_taken judging passes judged.GoesOn is result new put_out acted = part_taken judging old rest frame mid of rows_are few_are outputs small is result new put_out acted
+    all_taken judging passes judged.Ignored is result new put_out acted = ignored_taken judging old rest frame mid of rows_are few_are outputs small is result new put_out acted
+    all_taken judging passes (judged.Begins head route) is result new put_out acted = begun_taken judging passes old rest frame mid of rows_are few_are outputs small half calm head route is result new put_out acted
+    all_taken judging passes judged.Trailers is result new put_out acted = ended_taken judging passes old rest frame mid of rows_are few_are outputs small half calm is result new put_out acted
+    all_taken judging passes (judged.Answered why) is result new put_out acted =
+        replied_taken judging passes old rest frame mid of rows_are few_are outputs small half calm why is (none_cut_own judging why is.judged.says.1 is.judged.says.4.0 is.judged.says.4.1) result new put_out acted

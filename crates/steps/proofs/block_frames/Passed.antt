@@ -1,0 +1,190 @@
+-- What comes of a frame with a fragment, by the judgement's answer and what was done.
+use Rattle.std.proofs.Common.{◌≡◌, ℕ, ◌<◌, ◌≤◌, ◌+◌, ◌⊎◌, Bool, true, false, not, ◌&&◌, ◌||◌, ◌==◌, if◌then◌else◌, List, [], ◌∷◌, ◌++◌, append-nil, length, Option, Some, None, refl, sym, ◌∙◌, ap, subst, inl, inr}
+use Rattle.std.specs.Prelude.{is_none, is_some}
+use Rattle.model.specs.Messages.{Field}
+use Rattle.model.specs.Frames.{Frame, rst_stream_kind, data_kind}
+use Rattle.model.specs.Http2.{HasLength}
+use Rattle.model.specs.Logs.{Output}
+use Rattle.model.specs.Setup.{Setup}
+use Rattle.model.specs.Setup.Passing.{Whole as WholePassing}
+use Rattle.model.specs.Tables.{Table}
+use Rattle.model.specs.StreamStates.{most_streams}
+use Rattle.model.specs.Tapes.{Note, Noted}
+use Rattle.model.specs.Tapes.Note.{Fields}
+use Rattle.model.specs.Tapes.Entry.{Came}
+use Rattle.model.specs.Causes.{Cause, reset_code}
+use Rattle.model.specs.Courses.{cause_of_block, first_of_both}
+use Rattle.model.specs.Decoding.{Partial, is_read}
+use Rattle.model.specs.Errors as errors
+use Rattle.model.specs.ErrorClause.{is_fatal, rst_stream}
+use Rattle.model.specs.Lifetimes.{opens_by, may_open}
+use Rattle.conduct.specs.Summary.{Stream as Kept, Brief, Summary, carried_in}
+use Rattle.conduct.specs.Judging.{is_over_in, completed_in}
+use Rattle.conduct.specs.Owing.{fault_in, last_farewell_in, owes_in}
+use Rattle.conduct.specs.Rows.{Row, ids_of, find}
+use Rattle.conduct.specs.Rows.Slot.{Over}
+use Rattle.conduct.specs.Book.{Book, summary_in, book_after}
+use Rattle.conduct.specs.Tidy.{AreKept}
+use Rattle.conduct.specs.Quiet.{sending}
+use Rattle.conduct.proofs.Tidy.{kept_behind_entry}
+use Rattle.conduct.proofs.Wanted.{bears}
+use Rattle.causes.specs.Views.{cause_of}
+use Rattle.offering.specs.Rule.{found_by}
+use Rattle.serving.specs.State.Due.{Nothing}
+use Rattle.streams_kept.specs.Asked.{has, is_active, changed}
+use Rattle.streams_kept.proofs.Changes.{same_ids}
+use Rattle.judgement.specs.Inbound.{Inbound, book_of, told_of}
+use Rattle.judgement.specs.Judgement.{fault_told}
+use Rattle.judgement.specs.Blocks.{SaysOf}
+use Rattle.judgement.specs.Fragments.{IsOfBlock, IsFragmentJudged, IsNotedFailed, IsNotedTaken, noted_behind}
+use Rattle.judgement.specs.declared.answers.Fault.TheVariants as fault
+use Rattle.judgement.specs.declared.answers.BlockJudged.{BlockJudged}
+use Rattle.judgement.specs.declared.answers.BlockJudged.TheVariants as judged
+use Rattle.judgement.proofs.SendingBooks.{reset_leads}
+use Rattle.upstreams.specs.Requests.{due_in}
+use Rattle.upstreams.specs.declared.held.Outgoing.{Outgoing}
+use Rattle.policy.specs.Moves.{Move}
+use Rattle.policy.specs.State.{State}
+use Rattle.policy.specs.Steps.{told_by}
+use Rattle.policy.specs.Rule.{added_in}
+use Rattle.relay.specs.View.{View, square, Leads}
+use Rattle.relay.specs.Rest.{IsAtRest, NoneCut}
+use Rattle.relay.specs.Bringing.{Brings}
+use Rattle.relay.specs.Gains.{IsBlockGain}
+use Rattle.relay.proofs.Answered.{part_gain, part_owes, whole_gain, whole_owes, block_owes_at_fault, block_failed, caused_by, not_reset, not_data, head_none}
+use Rattle.relay.proofs.Answered as answered
+use Rattle.relay.proofs.Owing.{idle_no_cause, not_caused, no_farewell, no_more}
+use Rattle.relay.proofs.Gaining.{caused}
+use Rattle.relay.proofs.Coming.{no_outside, inbound_in, inbound_behind}
+use Rattle.relay.proofs.Waits.{IsGone, behind_rows}
+use Rattle.steps.specs.block_frames.Following.{followed, farewell_behind, farewell_frames, with_farewell, put_farewell}
+use Rattle.steps.specs.block_frames.Acting.{IsActed, IsFollowed, IsReset, Goes}
+use Rattle.steps.specs.block_frames.Taken.{IsPassed, IsFatalFrame, IsBlockTaken}
+use Rattle.steps.specs.declared.block_frames.taking.BlockTaken.{BlockTaken}
+use Rattle.steps.specs.declared.block_frames.taking.BlockTaken.TheVariants as taken
+use Rattle.steps.proofs.block_frames.Lists.{cut_followed, cut_without}
+use Rattle.steps.proofs.block_frames.Streams.{ids_behind}
+use Rattle.steps.proofs.block_frames.Before.{farewell_is, left_is, kept_rows, few}
+use Rattle.steps.proofs.block_frames.Cases.{brings_followed, brings_reset, not_to_open}
+
+module _ (setup : Setup) (old : View) (rest : IsAtRest old) (frame : Frame) (mid : Inbound) (of : IsOfBlock frame) (kept : AreKept old.inbound.rows) (few_rows : length (ids_of old.inbound.rows) ≤ most_streams) (outputs : List Output) (small : frame.id < 2147483648) where
+  abbrev id : ℕ
+  id = frame.id
+
+  abbrev told : Summary
+  told = told_of no_outside old.inbound
+
+  abbrev last : Option ℕ
+  last = farewell_behind (length old.inbound.rows) mid.rows
+
+  abbrev mid_view : View
+  mid_view = record old { inbound = mid }
+
+  module _ (answer : BlockJudged) (is : IsFragmentJudged setup no_outside old.inbound frame mid answer) where
+    abbrev noted : Noted
+    noted = record { frame = frame; note = is.note }
+
+    abbrev behind : Inbound
+    behind = inbound_behind setup old.inbound noted is.next
+
+    -- ---- an error of the connection
+
+    pub fatal_so : (code : ℕ) → fault_in told (Came noted) ≡ Some (errors.Fault.Connection code) → mid.rows ≡ old.inbound.rows → (new : View) (put_out : List Output) → new ≡ mid_view → put_out ≡ outputs → IsFatalFrame setup old outputs frame code new put_out
+    fatal_so code fault rows new put_out same puts = record {
+      nothing_put = puts;
+      upstreams = ap (λ (v : View). v.upstreams) same;
+      encoding = ap (λ (v : View). v.encoding) same;
+      untaken = ap (λ (v : View). v.untaken) same;
+      rows = ap (λ (v : View). v.inbound.rows) same ∙ rows;
+      note = is.note;
+      next = is.next;
+      fault = λ run s leads. subst (λ (b : Book). fault_in (summary_in b) (Came noted) ≡ Some (errors.Fault.Connection code)) (sym leads.keeps.book) fault;
+      fatal = λ run s leads. record {
+        fatal = subst (λ (b : Book). is_fatal (fault_in (summary_in b) (Came noted)) ≡ true) (sym leads.keeps.book) (ap is_fatal fault);
+        noted_right = record {
+          is_noted =
+              subst (λ (b : Book). Rattle.tables.specs.Rule.IsNoted (completed_in b.block frame) (Rattle.tables.specs.Verdicts.verdict_in (summary_in b) frame).is_error s.tables.decoding is.note is.next) (sym leads.keeps.book)
+              (subst (λ (t : Table). Rattle.tables.specs.Rule.IsNoted (completed_in old.inbound.block frame) (Rattle.tables.specs.Verdicts.verdict_in told frame).is_error t is.note is.next) (sym leads.keeps.decoding) is.is_noted);
+        };
+        read = subst (λ (b : Book). is_read is.note ≡ false → (Rattle.tables.specs.Verdicts.verdict_in (summary_in b) frame).is_error ≡ true) (sym leads.keeps.book) is.read;
+      };
+    }
+
+    -- ---- no stream is opened but the frame's
+
+    pub opened_so : (rows : List Row) → ids_of rows ≡ ids_of behind.rows → (other : ℕ) → has rows other ≡ true → (has old.inbound.rows other ≡ true) ⊎ (id ≡ other)
+    opened_so rows same other there = by (opens_by (ids_of old.inbound.rows) (completed_in old.inbound.block frame) is.note) (ap (λ (ids : List ℕ). Rattle.std.specs.List.list_any (λ n. n == other) ids) (sym (same ∙ ids_behind setup (book_of no_outside old.inbound) noted kept)) ∙ there)
+      where
+        by : (b : Bool) → Rattle.std.specs.List.list_any (λ n. n == other) (if b then id ∷ ids_of old.inbound.rows else ids_of old.inbound.rows) ≡ true → (has old.inbound.rows other ≡ true) ⊎ (id ≡ other)
+        by false e = inl e
+        by true e = elim (Rattle.std.proofs.lemmas.Bool.Decides.eqb_tells id other) [
+          | inl own ↦ inr own.1
+          | inr apart ↦ inl (sym (ap (λ b. b || has old.inbound.rows other) apart.0) ∙ e)
+        ]
+
+    pub farewell : ids_of mid.rows ≡ ids_of behind.rows → last_farewell_in told (Came noted) ≡ farewell_frames last
+    farewell same = farewell_is setup old.inbound noted kept mid.rows same
+
+    -- it is no cause where its stream's cause stays
+    pub none_caused : first_of_both (find old.inbound.rows id).brief.cause (caused setup told noted) ≡ (find old.inbound.rows id).brief.cause → found_by (find old.inbound.rows id).brief.cause (find behind.rows id).brief.cause ≡ None
+    none_caused same = elim (behind_rows setup false told (Came noted) old.inbound.rows refl id) [
+      | inl goes ↦ by (find old.inbound.rows id).brief.cause (find behind.rows id).brief.cause (inl (ap (λ (k : Kept). k.brief.cause) goes ∙ same))
+      | inr gone ↦ by (find old.inbound.rows id).brief.cause (find behind.rows id).brief.cause (inr (ap (λ (b : Brief). b.cause) gone.brief))
+    ]
+      where
+        by : (a b : Option Cause) → (b ≡ a) ⊎ (b ≡ None) → found_by a b ≡ None
+        by None b (inl e) = e
+        by None b (inr e) = e
+        by (Some cause) b e = refl
+
+    -- ---- what is kept follows
+
+    module _ (mild : is_fatal (fault_in told (Came noted)) ≡ false) where
+      pub passed_none : mid ≡ behind → added_in setup told noted ≡ [] → owes_in setup false told (Came noted) ≡ farewell_frames last → first_of_both (find old.inbound.rows id).brief.cause (caused setup told noted) ≡ (find old.inbound.rows id).brief.cause
+          → (result : BlockTaken) (new : View) (put_out : List Output) → IsFollowed id last mid_view outputs result new put_out → IsBlockTaken setup old outputs frame result new put_out
+      passed_none same adds owes cause (taken.Fatal code) new put_out acted = absurd acted.goes
+      passed_none same adds owes cause (taken.Goes request farewell) new put_out acted = record {
+        note = is.note;
+        brings =
+            subst (λ (o : List Output). Brings setup old square outputs (Came noted) new (record square { owed = farewell_frames farewell; due = due_in request }) o) (sym acted.puts)
+            (subst (λ (v : View). Brings setup old square outputs (Came noted) v (record square { owed = farewell_frames farewell; due = due_in request }) outputs) (sym acted.kept)
+            (subst (λ (r : Option Outgoing). Brings setup old square outputs (Came noted) (followed id mid_view) (record square { owed = farewell_frames farewell; due = due_in r }) outputs) (sym acted.goes.0)
+            (subst (λ (l : Option ℕ). Brings setup old square outputs (Came noted) (followed id mid_view) (record square { owed = farewell_frames l }) outputs) (sym acted.goes.1)
+            (subst (λ (i : Inbound). Brings setup old square outputs (Came noted) (followed id (record old { inbound = i })) (record square { owed = farewell_frames last }) outputs) (sym same)
+            (brings_followed setup old rest noted is.next of mild is.is_noted is.read adds (farewell_frames last) owes (none_caused cause) outputs)))));
+        none_cut = subst (λ (v : View). NoneCut v.offers) (sym acted.kept) (cut_followed (is_active mid.rows id) id old.offers rest.none_cut);
+        ids = λ other there. opened_so new.inbound.rows (ap (λ (v : View). ids_of v.inbound.rows) acted.kept ∙ ap (λ (i : Inbound). ids_of i.rows) same) other there;
+      }
+
+      -- ---- the stream is reset
+
+      pub passed_reset : (code : ℕ) → mid ≡ record behind { rows = changed id (Over true) behind.rows } → fault_in told (Came noted) ≡ Some (errors.Fault.Stream code)
+          → (result : BlockTaken) (new : View) (put_out : List Output) → IsReset id code last mid_view outputs result new put_out → IsBlockTaken setup old outputs frame result new put_out
+      passed_reset code same fault (taken.Fatal told_code) new put_out acted = absurd acted.goes
+      passed_reset code same fault (taken.Goes request farewell_left) new put_out acted = record {
+        note = is.note;
+        brings =
+            subst (λ (o : List Output). Brings setup old square outputs (Came noted) new (record square { owed = farewell_frames farewell_left; due = due_in request }) o) (sym acted.puts)
+            (subst (λ (v : View). Brings setup old square outputs (Came noted) v (record square { owed = farewell_frames farewell_left; due = due_in request }) out_then) (sym (acted.kept ∙ untaken_same last))
+            (subst (λ (r : Option Outgoing). Brings setup old square outputs (Came noted) target (record square { owed = farewell_frames farewell_left; due = due_in r }) out_then) (sym acted.goes.0)
+            (subst (λ (l : Option ℕ). Brings setup old square outputs (Came noted) target (record square { owed = farewell_frames l }) out_then) (sym acted.goes.1)
+            (subst (λ (i : Inbound). Brings setup old square outputs (Came noted) (record (Rattle.steps.specs.block_frames.Following.forgotten id (record old { inbound = i })) { untaken = (with_farewell last old).untaken + length (Rattle.model.specs.Frames.spell (rst_stream id code)) }) square out_then) (sym same)
+            (brings_reset setup old rest noted is.next of mild is.is_noted is.read (block_failed setup (book_of no_outside old.inbound) noted of few_rows (errors.Fault.Stream code) fault) last code
+            (block_owes_at_fault setup (book_of no_outside old.inbound) noted of few_rows (errors.Fault.Stream code) refl fault ∙ ap (λ (fs : List Frame). fs ++ rst_stream id code ∷ []) (farewell same_rows))
+            (not_to_open setup old rest noted is.next of mild is.is_noted is.read (errors.Fault.Stream code) fault) small outputs)))));
+        none_cut = subst (λ (v : View). NoneCut v.offers) (sym acted.kept) (cut_without id old.offers rest.none_cut);
+        ids = λ other there. opened_so new.inbound.rows (ap (λ (v : View). ids_of v.inbound.rows) acted.kept ∙ same_rows) other there;
+      }
+        where
+          same_rows : ids_of mid.rows ≡ ids_of behind.rows
+          same_rows = ap (λ (i : Inbound). ids_of i.rows) same ∙ same_ids id (Over true) behind.rows
+
+          out_then : List Output
+          out_then = Rattle.model.specs.Tapes.put (put_farewell last outputs) (Rattle.model.specs.Logs.Output.ToClient (Rattle.model.specs.Frames.spell (rst_stream id code)))
+
+          target : View
+          target = record (Rattle.steps.specs.block_frames.Following.forgotten id mid_view) { untaken = (with_farewell last old).untaken + length (Rattle.model.specs.Frames.spell (rst_stream id code)) }
+
+          untaken_same : (l : Option ℕ) → record (Rattle.steps.specs.block_frames.Following.forgotten id mid_view) { untaken = (with_farewell l mid_view).untaken + length (Rattle.model.specs.Frames.spell (rst_stream id code)) } ≡ record (Rattle.steps.specs.block_frames.Following.forgotten id mid_view) { untaken = (with_farewell l old).untaken + length (Rattle.model.specs.Frames.spell (rst_stream id code)) }
+          untaken_same None = refl
+          untaken_same (Some n) = refl

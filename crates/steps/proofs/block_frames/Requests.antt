@@ -1,0 +1,195 @@
+-- A request begins, or ends with trailers, as the judgement says: all that comes of it.
+use Rattle.std.proofs.Common.{◌≡◌, ℕ, ◌<◌, ◌≤◌, ◌+◌, Bool, true, false, not, ◌&&◌, ◌||◌, ◌==◌, if◌then◌else◌, List, [], ◌∷◌, ◌++◌, append-nil, length, Option, Some, None, refl, sym, ◌∙◌, ap, subst}
+use Rattle.std.proofs.lemmas.Bool.{eq-eqb}
+use Rattle.model.specs.Messages.{Field}
+use Rattle.model.specs.Messages.Item.{Block}
+use Rattle.model.specs.Frames.{Frame}
+use Rattle.model.specs.Http2.{HasLength}
+use Rattle.model.specs.Logs.{Output}
+use Rattle.model.specs.Setup.{Setup}
+use Rattle.model.specs.Setup.Passing.{Whole as WholePassing}
+use Rattle.model.specs.StreamStates.{most_streams}
+use Rattle.model.specs.Tapes.{Note, Noted}
+use Rattle.model.specs.Tapes.Note.{Fields}
+use Rattle.model.specs.Tapes.Entry.{Came}
+use Rattle.model.specs.Causes.{Cause}
+use Rattle.model.specs.Courses.{first_of_both, cause_of_block}
+use Rattle.model.specs.Decoding.{Partial}
+use Rattle.model.specs.Errors as errors
+use Rattle.model.specs.ErrorClause.{is_fatal}
+use Rattle.model.specs.Lifetimes.{ends_by}
+use Rattle.conduct.specs.Summary.{Stream as Kept, Summary, carried_in}
+use Rattle.conduct.specs.Judging.{is_over_in, completed_in}
+use Rattle.conduct.specs.Owing.{fault_in, owes_in}
+use Rattle.conduct.specs.Rows.{Row, ids_of, find}
+use Rattle.conduct.specs.Book.{Book, summary_in}
+use Rattle.conduct.specs.Tidy.{AreKept}
+use Rattle.request_rules.specs.Heads.{HeadParts}
+use Rattle.serving.specs.State as serving
+use Rattle.serving.specs.State.{id_of}
+use Rattle.streams_kept.specs.Asked.{is_active}
+use Rattle.judgement.specs.Inbound.{Inbound, book_of, told_of}
+use Rattle.judgement.specs.Blocks.{SaysOf}
+use Rattle.judgement.specs.Fragments.{IsOfBlock, IsFragmentJudged}
+use Rattle.judgement.specs.declared.answers.BlockJudged.{BlockJudged}
+use Rattle.judgement.specs.declared.answers.BlockJudged.TheVariants as judged
+use Rattle.upstreams.specs.Kept.{Begins}
+use Rattle.upstreams.specs.Requests.{due_in, IsEndedFor, MayEndFor}
+use Rattle.upstreams.specs.declared.held.Outgoing.{Outgoing}
+use Rattle.policy.specs.Moves.{Move}
+use Rattle.policy.specs.State.{State}
+use Rattle.policy.specs.Rule.{Adds}
+use Rattle.relay.specs.View.{View, square, Leads}
+use Rattle.relay.specs.Rest.{IsAtRest, NoneCut}
+use Rattle.relay.specs.Bringing.{Brings}
+use Rattle.relay.specs.Waits.{WaitsFor}
+use Rattle.relay.proofs.Answered.{whole_gain, whole_owes, caused_by, head_none, not_reset}
+use Rattle.relay.proofs.Answered as answered
+use Rattle.relay.proofs.Coming.{no_outside, inbound_behind}
+use Rattle.relay.proofs.Waits.{waits_for, begun_active}
+use Rattle.steps.specs.block_frames.Following.{followed, farewell_behind, farewell_frames}
+use Rattle.steps.specs.block_frames.Acting.{IsActed, HasBegun, HasEnded}
+use Rattle.steps.specs.block_frames.Taken.{IsBlockTaken}
+use Rattle.steps.specs.declared.block_frames.taking.BlockTaken.{BlockTaken}
+use Rattle.steps.specs.declared.block_frames.taking.BlockTaken.TheVariants as taken
+use Rattle.steps.proofs.block_frames.Before.{left_is}
+use Rattle.steps.proofs.block_frames.Gains.{brings_begun, brings_ended, trailers_end}
+use Rattle.steps.proofs.block_frames.Lists.{cut_followed}
+use Rattle.steps.proofs.block_frames.Passed.{farewell, opened_so}
+use Rattle.steps.proofs.block_frames.Streams.{active_behind, found_behind, unended}
+
+module _ (setup : Setup) (whole : setup.passing ≡ WholePassing) (old : View) (rest : IsAtRest old) (frame : Frame) (mid : Inbound) (of : IsOfBlock frame) (kept : AreKept old.inbound.rows) (few_rows : length (ids_of old.inbound.rows) ≤ most_streams) (outputs : List Output) (small : frame.id < 2147483648)
+    (not_half : is_over_in (find old.inbound.rows frame.id) ≡ false → (find old.inbound.rows frame.id).ended_by_gateway ≡ false) (calm : (find old.inbound.rows frame.id).brief.over ≡ false → (find old.inbound.rows frame.id).brief.cause ≡ None) where
+  abbrev id : ℕ
+  id = frame.id
+
+  abbrev told : Summary
+  told = told_of no_outside old.inbound
+
+  abbrev book : Book
+  book = book_of no_outside old.inbound
+
+  abbrev last : Option ℕ
+  last = farewell_behind (length old.inbound.rows) mid.rows
+
+  module _ (answer : BlockJudged) (is : IsFragmentJudged setup no_outside old.inbound frame mid answer) where
+    abbrev noted : Noted
+    noted = record { frame = frame; note = is.note }
+
+    abbrev behind : Inbound
+    behind = inbound_behind setup old.inbound noted is.next
+
+    module _ (faultless : fault_in told (Came noted) ≡ None) (block : Partial) (is_block : completed_in old.inbound.block frame ≡ Some block) (fields : List Field) (note : is.note ≡ Fields fields) where
+      of_stream : (id == 0) ≡ false
+      of_stream = answered.of_stream setup book noted of few_rows faultless block is_block fields note
+
+      pub active : is_active behind.rows id ≡ true
+      active = active_behind setup book noted kept few_rows faultless block is_block fields note of_stream (not_reset setup book noted of few_rows) not_half
+
+      -- the client ends the stream just where the block does
+      pub ended_is : (find behind.rows id).ended_by_client ≡ block.ends
+      ended_is =
+          ap (λ (k : Kept). k.ended_by_client) (found_behind setup book noted kept active)
+          ∙ ap (λ b. b && ends_by (completed_in old.inbound.block frame) frame || (find old.inbound.rows id).ended_by_client) (eq-eqb id id refl)
+          ∙ ap (λ (o : Option Partial). ends_by o frame || (find old.inbound.rows id).ended_by_client) is_block
+          ∙ ap (λ b. block.ends || b) (unended setup book noted kept few_rows faultless block is_block fields note of_stream (not_reset setup book noted of few_rows))
+          ∙ or_none block.ends
+        where
+          or_none : (b : Bool) → (b || false) ≡ b
+          or_none true = refl
+          or_none false = refl
+
+      -- where the block is no cause, the gateway doesn't reply
+      pub no_reply : (find old.inbound.rows id).brief.over ≡ false → cause_of_block setup (carried_in (find old.inbound.rows id).brief) (Fields fields) ≡ None → (find behind.rows id).brief.cause ≡ None
+      no_reply on none =
+          ap (λ (k : Kept). k.brief.cause) (found_behind setup book noted kept active)
+          ∙ ap (λ (c : Option Cause). first_of_both (find old.inbound.rows id).brief.cause c) (caused_by setup book noted of few_rows faultless block is_block fields note ∙ none)
+          ∙ ap (λ (c : Option Cause). first_of_both c None) (calm on)
+
+  -- a request begins
+  pub begun_taken : (head : HeadParts) (route : ℕ) (is : IsFragmentJudged setup no_outside old.inbound frame mid (judged.Begins head route)) (result : BlockTaken) (new : View) (put_out : List Output) → HasBegun id route head last (record old { inbound = mid }) outputs result new put_out → IsBlockTaken setup old outputs frame result new put_out
+  begun_taken head route is (taken.Fatal code) new put_out acted = absurd acted.begun
+  begun_taken head route is (taken.Goes request farewell_left) new put_out acted = record {
+    note = is.note;
+    brings =
+        subst (λ (o : List Output). Brings setup old square outputs (Came noted_here) new (record square { owed = farewell_frames farewell_left; due = due_in request }) o) (sym acted.puts)
+        (subst (λ (v : View). Brings setup old square outputs (Came noted_here) v (record square { owed = farewell_frames farewell_left; due = due_in request }) outputs) (sym (acted.kept ∙ ap (λ (i : Inbound). record (followed id (record old { inbound = i })) { upstreams = new.upstreams }) same))
+        (subst (λ (l : Option ℕ). Brings setup old square outputs (Came noted_here) (record (followed id (record old { inbound = there })) { upstreams = new.upstreams }) (record square { owed = farewell_frames l; due = due_in request }) outputs) (sym acted.begun.1)
+        (brings_begun setup whole old rest noted_here is.next of (ap is_fatal is.judged.faultless) is.is_noted is.read (of_stream (judged.Begins head route) is is.judged.faultless says.0 says.2 says.1 says.3) live (no_reply (judged.Begins head route) is is.judged.faultless says.0 says.2 says.1 says.3 says.4.1 none) says.1 says.0.ends route
+        (whole_gain setup book noted_here of few_rows is.judged.faultless says.0 says.2 says.1 says.3 (judged.Begins head route) says.4)
+        (farewell_frames last)
+        (whole_owes setup book noted_here of few_rows is.judged.faultless says.0 says.2 says.1 says.3 (judged.Begins head route) says.4 ∙ append-nil _ ∙ farewell setup old rest frame mid of kept few_rows outputs small (judged.Begins head route) is (ap (λ (i : Inbound). ids_of i.rows) same))
+        head says.4.2 request new.upstreams
+        (subst (λ b. Begins (followed id (record old { inbound = there })).upstreams id route head b request new.upstreams) (ended_is (judged.Begins head route) is is.judged.faultless says.0 says.2 says.1 says.3)
+        (subst (λ (i : Inbound). Begins (followed id (record old { inbound = i })).upstreams id route head (find i.rows id).ended_by_client request new.upstreams) same acted.begun.0)) outputs)));
+    none_cut = subst (λ (v : View). NoneCut v.offers) (sym acted.kept) (cut_followed (is_active mid.rows id) id old.offers rest.none_cut);
+    ids = λ other found. opened_so setup old rest frame mid of kept few_rows outputs small (judged.Begins head route) is new.inbound.rows (ap (λ (v : View). ids_of v.inbound.rows) acted.kept ∙ ap (λ (i : Inbound). ids_of i.rows) same) other found;
+  }
+    where
+      noted_here : Noted
+      noted_here = record { frame = frame; note = is.note }
+
+      there : Inbound
+      there = inbound_behind setup old.inbound noted_here is.next
+
+      says : (block : Partial) × (fields : List Field) × (completed_in old.inbound.block frame ≡ Some block) × (is.note ≡ Fields fields) × SaysOf setup (find old.inbound.rows id).brief fields block.ends (judged.Begins head route)
+      says = is.judged.says
+
+      same : mid ≡ there
+      same = left_is setup old.inbound mid noted_here is.next is.judged.left is.stays is.table
+
+      live : is_active there.rows id ≡ true
+      live = active (judged.Begins head route) is is.judged.faultless says.0 says.2 says.1 says.3
+
+      none : cause_of_block setup (carried_in (find old.inbound.rows id).brief) (Fields says.1) ≡ None
+      none = head_none setup book noted_here of few_rows is.judged.faultless says.0 says.2 says.1 says.3 (find old.inbound.rows id).brief says.4.0 says.4.2.no_cause
+
+  -- the request of a stream whose items go on waits
+  waits_so : (run : List Move) (s : State) → Leads setup run old square s → (find old.inbound.rows id).brief.begun ≡ true → (find old.inbound.rows id).brief.over ≡ false → WaitsFor (find old.inbound.rows id).brief id old.upstreams.held
+  waits_so run s leads begun over =
+      subst (λ (r : serving.State). WaitsFor (find old.inbound.rows id).brief id r.held) leads.keeps.requests
+      (subst (λ (b : Book). WaitsFor (find b.rows id).brief id s.requests.held) leads.keeps.book
+      (waits_for setup run s leads.stands leads.so whole (ap (λ (b : Book). b.closed) leads.keeps.book) id
+      (subst (λ (b : Book). (find b.rows id).brief.begun ≡ true) (sym leads.keeps.book) begun) (subst (λ (b : Book). (find b.rows id).brief.over ≡ false) (sym leads.keeps.book) over)))
+
+  module _ (is : IsFragmentJudged setup no_outside old.inbound frame mid judged.Trailers) where
+    abbrev noted_then : Noted
+    noted_then = record { frame = frame; note = is.note }
+
+    abbrev behind_then : Inbound
+    behind_then = inbound_behind setup old.inbound noted_then is.next
+
+    says_then : (block : Partial) × (fields : List Field) × (completed_in old.inbound.block frame ≡ Some block) × (is.note ≡ Fields fields) × SaysOf setup (find old.inbound.rows id).brief fields block.ends judged.Trailers
+    says_then = is.judged.says
+
+    -- trailers end the stream, behind as many octets as are declared
+    ends_so : (says_then.0.ends ≡ true) × (Rattle.model.specs.Malformed.has_length (find old.inbound.rows id).brief.declared ((find old.inbound.rows id).brief.octets + 0) ≡ true)
+    ends_so = trailers_end setup told noted_then says_then.0 says_then.1 says_then.2 says_then.3 is.judged.faultless (calm says_then.4.1) says_then.4.0 says_then.4.2
+
+    -- So the request may end.
+    pub may_end_then : (run : List Move) (s : State) → Leads setup run old square s → MayEndFor id [] old.upstreams.held
+    may_end_then run s leads =
+        let w = waits_so run s leads says_then.4.0 says_then.4.1 in
+        record { held = record { id = id; way = serving.Way.Waiting w.route w.text w.stage w.body }; found = w.found; may = w.may_end [] ends_so.1 }
+
+    pub ended_taken : (result : BlockTaken) (new : View) (put_out : List Output) → HasEnded id last (record old { inbound = mid }) outputs result new put_out → IsBlockTaken setup old outputs frame result new put_out
+    ended_taken (taken.Fatal code) new put_out acted = absurd acted.whole
+    ended_taken (taken.Goes None farewell_left) new put_out acted = absurd acted.whole
+    ended_taken (taken.Goes (Some request) farewell_left) new put_out acted = record {
+      note = is.note;
+      brings =
+          subst (λ (o : List Output). Brings setup old square outputs (Came noted_then) new (record square { owed = farewell_frames farewell_left; due = due_in (Some request) }) o) (sym acted.puts)
+          (subst (λ (v : View). Brings setup old square outputs (Came noted_then) v (record square { owed = farewell_frames farewell_left; due = due_in (Some request) }) outputs) (sym (acted.kept ∙ ap (λ (i : Inbound). record old { inbound = i; upstreams = record old.upstreams { held = serving.without id_of id old.upstreams.held } }) same))
+          (subst (λ (l : Option ℕ). Brings setup old square outputs (Came noted_then) (record old { inbound = behind_then; upstreams = record old.upstreams { held = serving.without id_of id old.upstreams.held } }) (record square { owed = farewell_frames l; due = due_in (Some request) }) outputs) (sym acted.whole.1)
+          (brings_ended setup whole old rest noted_then is.next of (ap is_fatal is.judged.faultless) is.is_noted is.read (of_stream judged.Trailers is is.judged.faultless says_then.0 says_then.2 says_then.1 says_then.3) (active judged.Trailers is is.judged.faultless says_then.0 says_then.2 says_then.1 says_then.3)
+          (no_reply judged.Trailers is is.judged.faultless says_then.0 says_then.2 says_then.1 says_then.3 says_then.4.1 says_then.4.2) says_then.1
+          (subst (λ b. Adds setup told noted_then (Block says_then.1 b)) ends_so.0 (whole_gain setup book noted_then of few_rows is.judged.faultless says_then.0 says_then.2 says_then.1 says_then.3 judged.Trailers says_then.4))
+          (farewell_frames last)
+          (whole_owes setup book noted_then of few_rows is.judged.faultless says_then.0 says_then.2 says_then.1 says_then.3 judged.Trailers says_then.4 ∙ append-nil _ ∙ farewell setup old rest frame mid of kept few_rows outputs small judged.Trailers is (ap (λ (i : Inbound). ids_of i.rows) same))
+          (λ run s leads. waits_so run s leads says_then.4.0 says_then.4.1) request acted.whole.0 outputs (begun_active old.inbound.rows kept id says_then.4.0))));
+      none_cut = subst (λ (v : View). NoneCut v.offers) (sym acted.kept) rest.none_cut;
+      ids = λ other found. opened_so setup old rest frame mid of kept few_rows outputs small judged.Trailers is new.inbound.rows (ap (λ (v : View). ids_of v.inbound.rows) acted.kept ∙ ap (λ (i : Inbound). ids_of i.rows) same) other found;
+    }
+      where
+        same : mid ≡ behind_then
+        same = left_is setup old.inbound mid noted_then is.next is.judged.left is.stays is.table

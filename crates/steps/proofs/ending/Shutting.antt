@@ -1,0 +1,232 @@
+-- A connection that is spent is shut: its moves come by the rule, and lead to rest.
+use Rattle.std.proofs.Common.{◌≡◌, ℕ, Bool, true, false, ◌&&◌, ◌||◌, ◌==◌, List, [], ◌∷◌, ◌++◌, map, reverse, length, append_assoc, Option, Some, None, refl, sym, ◌∙◌, ap, subst, if◌then◌else◌, inr, arith}
+use Rattle.std.proofs.lemmas.Bool.{eqb-true, eq-eqb}
+use Rattle.std.specs.List.{list_any}
+use Rattle.model.specs.Known.{Known}
+use Rattle.model.specs.Logs.{Output}
+use Rattle.model.specs.Logs.Act.{Close, CloseClient}
+use Rattle.model.specs.Setup.{Setup}
+use Rattle.model.specs.StreamStates.{most_streams}
+use Rattle.model.specs.Tapes.{Entry}
+use Rattle.model.specs.Tapes.Entry.{Did}
+use Rattle.conduct.specs.Summary.{Summary}
+use Rattle.conduct.specs.Judging.{active_in}
+use Rattle.conduct.specs.Owing.{must_end_in}
+use Rattle.conduct.specs.Rule.{known_of}
+use Rattle.conduct.specs.Book.{Book, Desk, desk_after, summary_in}
+use Rattle.conduct.proofs.Knowing.{known_so}
+use Rattle.offering.specs.State as offering
+use Rattle.offering.specs.Sight.{sight_in, windows_in}
+use Rattle.serving.specs.State as serving
+use Rattle.serving.specs.State.{Live, k_of, live_of, without}
+use Rattle.serving.specs.State.Due.{Nothing}
+use Rattle.serving.specs.Rule.{is_done}
+use Rattle.judgement.proofs.SendingEvents.{closes_lead, shuts_lead, did_desk}
+use Rattle.upstreams.specs.Connections.{lives}
+use Rattle.policy.specs.Moves.{Deed, Move, conduct_of, told_in}
+use Rattle.policy.specs.Moves.Deed.{Acts}
+use Rattle.policy.specs.Moves.Move.{Does}
+use Rattle.policy.specs.State.{State, conducts, tape_of, state_of}
+use Rattle.policy.specs.Rule.{Rests, RestsBehind}
+use Rattle.policy.specs.Ending.{closes_of, closed_all}
+use Rattle.policy.specs.Steps as policy
+use Rattle.policy.specs.Steps.{told_by, told_behind, next, MayGoOn, Stands}
+use Rattle.policy.proofs.Going.{may_act}
+use Rattle.policy.proofs.Stepping.{before_is, one_more, leads_then}
+use Rattle.relay.specs.Bringing.{AreOwn}
+use Rattle.relay.specs.Led.{IsLed}
+use Rattle.relay.specs.Performing.{put_all}
+use Rattle.relay.specs.Rest.{told_view}
+use Rattle.relay.specs.View.{View, square, AreSo, Leads}
+use Rattle.relay.proofs.Performing.{tape_behind}
+use Rattle.relay.proofs.Sound.{boxes}
+use Rattle.relay.proofs.Staying.{so_stays, rows_kept}
+use Rattle.steps.specs.ending.Closing.{AreApart, IsShut}
+use Rattle.steps.proofs.ending.Closes.{first_goes}
+use Rattle.steps.proofs.ending.Farewells.{apart_in, closed_own}
+
+-- ---- what holds until the client is closed
+
+-- The moves led to this state, in which the connection is to end, though nothing that came calls for it; these connections are open yet.
+record IsSpent (setup : Setup) (run : List Move) (s : State) (ls : List Live) : Type 0 where
+  pub stands : Stands setup run s
+  pub so : AreSo setup run
+  pub ends : must_end_in (told_by s) ≡ true
+  pub open_yet : s.desk.book.closed ≡ false
+  pub owes : s.desk.queue ≡ []
+  pub none_begun : s.desk.book.block_out ≡ None
+  pub live : s.requests.live ≡ ls
+  pub due : s.requests.due ≡ Nothing
+  pub read : s.tables.lost ≡ false
+  pub none_kept : s.offers.kept ≡ []
+
+-- ---- a connection is closed
+
+module _ (setup : Setup) (run : List Move) (s : State) (l : Live) (ls : List Live) (apart : AreApart (l ∷ ls)) (spent : IsSpent setup run s (l ∷ ls)) where
+  abbrev closes : Deed
+  closes = Acts (Close l.k)
+
+  same_desk : desk_after setup s.desk (conduct_of closes) ≡ s.desk
+  same_desk = did_desk setup false s.desk (Close l.k) s.desk.book [] (closes_lead setup s.desk.book l.k (rows_kept setup run s spent.stands))
+
+  may_close : MayGoOn setup s (Does closes)
+  may_close = (
+    ap (λ (d : Desk). d.book.ends) same_desk ∙ spent.stands.goes_on,
+    may_act setup (told_behind setup s closes) s (Close l.k) spent.open_yet (record {
+      nothing = spent.due;
+      live = l;
+      found = ap (λ (xs : List Live). live_of l.k xs) spent.live ∙ ap (λ b. if b then Some l else live_of l.k ls) (eq-eqb l.k l.k refl);
+      why = inr spent.ends;
+    }),
+  )
+
+  closed_one : IsSpent setup (Does closes ∷ run) (next setup s (Does closes)) ls
+  closed_one = record {
+    stands = one_more setup run s (Does closes) spent.stands may_close;
+    so = so_stays setup run closes tt spent.so;
+    ends = ap (λ (d : Desk). must_end_in (summary_in d.book)) same_desk ∙ spent.ends;
+    open_yet = ap (λ (d : Desk). d.book.closed) same_desk ∙ spent.open_yet;
+    owes = ap (λ (d : Desk). d.queue) same_desk ∙ spent.owes;
+    none_begun = ap (λ (d : Desk). d.book.block_out) same_desk ∙ spent.none_begun;
+    live = ap (λ (xs : List Live). without k_of l.k xs) spent.live ∙ first_goes l ls apart;
+    due = spent.due;
+    read = spent.read;
+    none_kept = spent.none_kept;
+  }
+
+-- All of them are closed: moves by the rule lead on, and no connection is open behind them.
+record AreClosed (setup : Setup) (run : List Move) (s : State) (moves : List Move) : Type 0 where
+  pub state : State
+  pub by_rule : policy.Leads setup s moves state
+  pub spent : IsSpent setup (moves ++ run) state []
+
+close_each : (setup : Setup) (ls : List Live) (run : List Move) (s : State) → AreApart ls → IsSpent setup run s ls → AreClosed setup run s (closes_of ls)
+close_each setup [] run s apart spent = record { state = s; by_rule = refl; spent = spent }
+close_each setup (l ∷ ls) run s apart spent =
+    let m : Move = Does (Acts (Close l.k)) in
+    let rest = close_each setup ls (m ∷ run) (next setup s m) apart.1 (closed_one setup run s l ls apart spent) in
+    record {
+      state = rest.state;
+      by_rule = leads_then setup s (next setup s m) rest.state (m ∷ []) (closes_of ls) (s, refl, may_close setup run s l ls apart spent, refl) rest.by_rule;
+      spent = subst (λ (moves : List Move). IsSpent setup moves rest.state []) (sym (append_assoc (closes_of ls) (m ∷ []) run)) rest.spent;
+    }
+
+-- ---- the client is closed
+
+module _ (setup : Setup) (run : List Move) (s : State) (spent : IsSpent setup run s []) where
+  abbrev shuts : Move
+  shuts = Does (Acts CloseClient)
+
+  abbrev shut_state : State
+  shut_state = next setup s shuts
+
+  shut_desk : desk_after setup s.desk (conduct_of (Acts CloseClient)) ≡ record { book = record s.desk.book { closed = true }; queue = s.desk.queue }
+  shut_desk = did_desk setup false s.desk CloseClient (record s.desk.book { closed = true }) [] (shuts_lead setup s.desk.book (rows_kept setup run s spent.stands))
+
+  may_shut : MayGoOn setup s shuts
+  may_shut = (
+    ap (λ (d : Desk). d.book.ends) shut_desk ∙ spent.stands.goes_on,
+    may_act setup (told_behind setup s (Acts CloseClient)) s CloseClient spent.open_yet (record {
+      nothing = spent.owes;
+      to_end = spent.ends;
+      none_open = record { nothing = spent.due; none = spent.live };
+    }),
+  )
+
+  shut_stands : Stands setup (shuts ∷ run) shut_state
+  shut_stands = one_more setup run s shuts spent.stands may_shut
+
+  is_closed : shut_state.desk.book.closed ≡ true
+  is_closed = ap (λ (d : Desk). d.book.closed) shut_desk
+
+  not_found : (ks : List offering.Kept) → ks ≡ [] → (stream : ℕ) (k : offering.Kept) → offering.find stream ks ≡ Some k → k.cut ≡ false
+  not_found ks none stream k found = absurd (let clash : ◌≡◌ {A = Option offering.Kept} None (Some k) = sym (ap (λ (xs : List offering.Kept). offering.find stream xs) none) ∙ found in cc)
+
+  shut_rests : Rests (told_by shut_state) shut_state
+  shut_rests = record {
+    conduct = record { nothing = ap (λ (d : Desk). d.queue) shut_desk ∙ spent.owes; none_begun = ap (λ (d : Desk). d.book.block_out) shut_desk ∙ spent.none_begun; ended = λ ends. is_closed };
+    flushed = record {
+      none_cut = not_found s.offers.kept spent.none_kept;
+      none_ready = λ few. ap (λ (ks : List offering.Kept). offering.ready (windows_in (sight_in (told_by shut_state))) (record { kept = ks; last = s.offers.last })) spent.none_kept;
+    };
+    served = record { nothing = spent.due; none_done = ap (λ (ls : List Live). list_any (is_done (told_in (told_by shut_state))) ls) spent.live; ended = λ ends. is_closed };
+    read = spent.read;
+    given_back = λ open_yet. absurd (let no : true ≡ false = sym is_closed ∙ open_yet in cc);
+  }
+
+  shut_rests_behind : RestsBehind setup (shuts ∷ run)
+  shut_rests_behind =
+      subst (λ (u : Summary). Rests u (state_of setup (shuts ∷ run))) (sym (before_is setup (shuts ∷ run) shut_state shut_stands))
+      (subst (λ (x : State). Rests (told_by shut_state) x) (sym shut_stands.is) shut_rests)
+
+-- ---- what is on the tape
+
+closes_tape : (ls : List Live) → tape_of (closes_of ls) ≡ closed_all ls
+closes_tape [] = refl
+closes_tape (l ∷ ls) = tape_behind (closes_of ls) (Does (Acts (Close l.k)) ∷ []) ∙ ap (λ (t : List Entry). t ++ Did (Close l.k) ∷ []) (closes_tape ls)
+
+-- ---- all of it
+
+-- Where the connection is to end, though nothing that came calls for it, no stream is active.
+last_of : (a b c : Bool) → a ≡ false → (a || b && c) ≡ true → c ≡ true
+last_of true b c is ends = let no : true ≡ false = is in cc
+last_of false true c is ends = ends
+last_of false false c is ends = let no : false ≡ true = ends in cc
+
+none_of : (xs : List ℕ) → length xs ≡ 0 → xs ≡ []
+none_of [] is = refl
+none_of (x ∷ xs) is = absurd (omega (arith, is))
+
+none_kept : (ks : List offering.Kept) → map (λ (k : offering.Kept). k.id) ks ≡ [] → ks ≡ []
+none_kept [] is = refl
+none_kept (k ∷ ks) is = cc
+
+module _ (setup : Setup) (run : List Move) (kept : View) (s : State) (fresh : ℕ) (leads : Leads setup run kept (record square { fresh = fresh }) s) (ends : (told_view kept).ends ≡ true) where
+  abbrev known : Known
+  known = known_of setup (conducts run)
+
+  ends_told : must_end_in (told_by s) ≡ true
+  ends_told = ap (λ (b : Book). must_end_in (summary_in b)) leads.keeps.book ∙ ends
+
+  none_active : active_in (told_by s) ≡ []
+  none_active = none_of (active_in (told_by s)) (eqb-true (length (active_in (told_by s))) 0 (last_of (told_by s).ends (length (told_by s).opened == most_streams) (length (active_in (told_by s)) == 0) leads.stands.goes_on ends_told))
+
+  led : IsLed known run s
+  led = record { knows = known_so setup (conducts run); answered = leads.so known refl (known_so setup (conducts run)); stands = leads.stands }
+
+  is_spent : IsSpent setup run s (lives kept.upstreams.live)
+  is_spent = record {
+    stands = leads.stands;
+    so = leads.so;
+    ends = ends_told;
+    open_yet = ap (λ (b : Book). b.closed) leads.keeps.book;
+    owes = leads.keeps.owed;
+    none_begun = ap (λ (b : Book). b.block_out) leads.keeps.book;
+    live = ap (λ (r : serving.State). r.live) leads.keeps.requests;
+    due = ap (λ (r : serving.State). r.due) leads.keeps.requests;
+    read = leads.keeps.read;
+    none_kept = none_kept s.offers.kept (boxes known run s led ∙ ap (λ (ids : List ℕ). reverse ids) none_active);
+  }
+
+  apart : AreApart (lives kept.upstreams.live)
+  apart = subst AreApart (ap (λ (r : serving.State). r.live) leads.keeps.requests) (apart_in setup run s leads.stands)
+
+  abbrev closed : AreClosed setup run s (closes_of (lives kept.upstreams.live))
+  closed = close_each setup (lives kept.upstreams.live) run s apart is_spent
+
+  abbrev behind : List Move
+  behind = closes_of (lives kept.upstreams.live) ++ run
+
+  -- It is shut.
+  pub is_shut : (outputs put_out : List Output) → (AreApart (lives kept.upstreams.live) → put_out ≡ put_all outputs (Did CloseClient ∷ closed_all (lives kept.upstreams.live))) → IsShut setup run s outputs put_out
+  is_shut outputs put_out puts = record {
+    moves = shuts setup behind closed.state closed.spent ∷ closes_of (lives kept.upstreams.live);
+    state = shut_state setup behind closed.state closed.spent;
+    by_rule = (closed.state, closed.by_rule, may_shut setup behind closed.state closed.spent, refl);
+    puts = puts apart ∙ ap (λ (t : List Entry). put_all outputs (Did CloseClient ∷ t)) (sym (closes_tape (lives kept.upstreams.live)));
+    are_own = subst AreOwn (sym (closes_tape (lives kept.upstreams.live))) (closed_own (lives kept.upstreams.live));
+    closed = refl;
+    stands = shut_stands setup behind closed.state closed.spent;
+    rests = shut_rests_behind setup behind closed.state closed.spent;
+    so = so_stays setup behind (Acts CloseClient) tt closed.spent.so;
+  }

@@ -1,0 +1,37 @@
+use Rattle.std.proofs.Common.{◌≡◌, ℕ, List, ◌∷◌, Option, sym, ◌∙◌, ap, subst}
+use Rattle.model.specs.Frames.{spell, goaway}
+use Rattle.model.specs.Logs.Act.{CloseClient}
+use Rattle.model.specs.Logs.Output.{ToClient}
+use Rattle.model.specs.Tapes.{put}
+use Rattle.model.specs.Tapes.Entry.{Did}
+use Rattle.conduct.specs.Owing.{highest_in}
+use Rattle.conduct.specs.Rows.{Row, ids_of}
+use Rattle.upstreams.specs.Connections.{lives}
+use Rattle.policy.specs.Ending.{frames_sent, closed_all}
+use Rattle.relay.specs.Performing.{put_all}
+use Rattle.relay.specs.View.{View}
+use Rattle.steps.specs.ending.Closing.{AreApart}
+use Rattle.steps.specs.ending.Reasons.{code_in}
+use Rattle.steps.proofs.ending.Closes.{on_ok}
+use Rattle.steps.proofs.ending.Farewells.{farewells, ends}
+use Rattle.steps.proofs.ending.closing.end.Goals as goal
+use Rattle.steps.proofs.ending.closing.end.Goals.{in-Some+in_ok-send_goaway, in_default}
+
+pub returns : goal.returns
+returns c =
+    let last : ℕ = highest_in (ids_of c.args.rooms.now.inbound.rows) in
+    -- the farewell is put out, where there is one
+    let told : c.match-code.out ≡ put_all c.args.out.now (frames_sent (farewells last (code_in c.args.why))) = elim c.match-code.branch [
+      | in-Some+in_ok-send_goaway w ↦
+          w.out-is
+          ∙ w.in_ok-send_goaway.ensures
+          ∙ ap (λ (n : ℕ). put c.args.out.now (ToClient (spell (goaway n w.in-Some.code)))) (w.highest.ensures ∙ ap (λ (rows : List Row). highest_in (ids_of rows)) (w.streams.ensures.is ∙ ap (λ (v : View). v.inbound.rows) c.rooms.view_is))
+          ∙ ap (λ (code : Option ℕ). put_all c.args.out.now (frames_sent (farewells last code))) (sym w.in-Some.is ∙ c.code.ensures)
+      | in_default w ↦ w.out-is ∙ ap (λ (code : Option ℕ). put_all c.args.out.now (frames_sent (farewells last code))) (sym w.in_default.is ∙ c.code.ensures)
+    ] in
+    on_ok c.close_all.result
+    (λ closes setup run s before d same rows leads by.
+    ends setup run s before c.args.rooms.now c.args.why d c.args.out.now c.match-code.out c.close_all.new.out told
+    (subst (λ (v : View). AreApart (lives v.upstreams.live) → c.close_all.new.out ≡ put_all c.match-code.out (Did CloseClient ∷ closed_all (lives v.upstreams.live))) c.rooms.view_is closes)
+    same rows leads by)
+    c.close_all.ensures

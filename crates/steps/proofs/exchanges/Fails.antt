@@ -1,0 +1,358 @@
+-- An upstream's answer fails: the gateway replies to its stream itself, and the connection is closed, or is gone with it. This performs.
+use Rattle.std.proofs.Common.{◌≡◌, ℕ, Bool, true, false, not, ◌&&◌, ◌||◌, ◌==◌, List, [], ◌∷◌, map, Option, Some, None, refl, sym, ◌∙◌, ap, subst, inl, if◌then◌else◌}
+use Rattle.std.specs.Prelude.{option_map, is_none}
+use Rattle.std.proofs.lemmas.Bool.{ne_eqb, and_parts, or_right}
+use Rattle.model.specs.Frames.{Frame, internal_error}
+use Rattle.model.specs.Logs.{Event, Output}
+use Rattle.model.specs.Logs.Act.{Close}
+use Rattle.model.specs.Logs.Output.{Does as Puts}
+use Rattle.model.specs.Setup.{Setup}
+use Rattle.model.specs.Setup.Passing.{Whole as WholePassing}
+use Rattle.model.specs.Tapes.{put}
+use Rattle.model.specs.Tapes.Entry.{Happened, Did}
+use Rattle.model.specs.ErrorClause.{rst_stream}
+use Rattle.model.specs.Causes.Cause.{BadAnswer}
+use Rattle.model.specs.Openings.{Opened, opens, given}
+use Rattle.model.specs.Known.{Known}
+use Rattle.model.specs.Lifetimes.{is_opened, is_over, is_active}
+use Rattle.model.specs.Courses.{items, upstream_of}
+use Rattle.model.proofs.OpenedLaws.{none_zero}
+use Rattle.model.proofs.ItemLaws.{head_stays}
+use Rattle.conduct.specs.Judging.{is_active_in}
+use Rattle.conduct.specs.Rule.{AreKnown}
+use Rattle.conduct.specs.Rows as rows
+use Rattle.conduct.specs.Book.{Book, Desk, desk_after, summary_in}
+use Rattle.offering.specs.State as offering
+use Rattle.offering.specs.State.{answered}
+use Rattle.receiving.specs.Policy.{Gates, may_come}
+use Rattle.receiving.specs.State as receiving
+use Rattle.serving.specs.Told.{Told}
+use Rattle.serving.specs.State as serving
+use Rattle.serving.specs.State.{Held, Live, find, id_of, k_of, live_of, without, drop_from}
+use Rattle.serving.specs.State.Due.{Nothing}
+use Rattle.serving.specs.Rule.{is_done}
+use Rattle.serving.proofs.Lists.{find_gone, find_map}
+use Rattle.streams_kept.specs.Asked as asked
+use Rattle.judgement.specs.Inbound.{Inbound, book_of}
+use Rattle.judgement.specs.Sending.{behind_failure, reset_if_out}
+use Rattle.judgement.proofs.SendingEvents.{fails_lead, closes_lead, happened_desk, did_desk}
+use Rattle.upstreams.specs.Kept as upstreams
+use Rattle.upstreams.specs.Connections.{Connection, number_of, lives}
+use Rattle.policy.specs.Moves.{Deed, Move, conduct_of, told_in, failed as failed_request}
+use Rattle.policy.specs.Moves.Deed.{Fails, Acts}
+use Rattle.policy.specs.Moves.Move.{Does}
+use Rattle.policy.specs.State.{State, conducts, tape_of}
+use Rattle.policy.specs.Rule.{rooms_in}
+use Rattle.policy.specs.Answered.{IsAnswered}
+use Rattle.policy.specs.Coming.{MayBreakOff}
+use Rattle.policy.specs.Steps.{told_by, told_behind, next, MayGoOn, Stands}
+use Rattle.policy.proofs.Coming.{may_fail}
+use Rattle.policy.proofs.Going.{may_act}
+use Rattle.policy.proofs.Stepping.{one_more}
+use Rattle.relay.specs.View.{View, square, Keeps, GoBack, Leads, AreSo, AreHeard}
+use Rattle.relay.specs.Rest.{IsAtRest}
+use Rattle.relay.specs.Bringing.{Course}
+use Rattle.relay.proofs.Hearing.{items_behind_event}
+use Rattle.relay.proofs.Kept.{held_behind}
+use Rattle.relay.proofs.Lives.{lives_closed}
+use Rattle.relay.proofs.Staying.{so_stays, found_live, found_before, open_begun, rows_kept, all_held_served}
+use Rattle.relay.proofs.Ways.{AreWaiting, drop_none, all_wait}
+use Rattle.steps.proofs.exchanges.Coming as coming
+use Rattle.steps.proofs.exchanges.FailedRows as failing
+use Rattle.steps.proofs.exchanges.Where.{right_here}
+
+-- a connection that goes, whether its response is whole or not
+without_answered : (w : Bool) (k : ℕ) (ls : List Live) → without k_of k (map (serving.answered w k) ls) ≡ without k_of k ls
+without_answered w k [] = refl
+without_answered w k (l ∷ ls) = by (l.k == k) refl (without_answered w k ls)
+  where
+    by : (b : Bool) → (l.k == k) ≡ b → without k_of k (map (serving.answered w k) ls) ≡ without k_of k ls → without k_of k (map (serving.answered w k) (l ∷ ls)) ≡ without k_of k (l ∷ ls)
+    by true is more =
+        ap (λ b. if b then without k_of k (map (serving.answered w k) ls) else serving.answered w k l ∷ without k_of k (map (serving.answered w k) ls)) is
+        ∙ more ∙ sym (ap (λ b. if b then without k_of k ls else l ∷ without k_of k ls) is)
+    by false is more =
+        ap (λ b. if b then without k_of k (map (serving.answered w k) ls) else serving.answered w k l ∷ without k_of k (map (serving.answered w k) ls)) is
+        ∙ ap (λ b. let x : Live = record { k = l.k; stream = l.stream; whole = if b then w else l.whole } in x ∷ without k_of k (map (serving.answered w k) ls)) is
+        ∙ ap (λ (xs : List Live). l ∷ xs) more
+        ∙ sym (ap (λ b. if b then without k_of k ls else l ∷ without k_of k ls) is)
+
+-- ---- what is kept behind the failure
+
+-- the client's streams, where the answer for one failed
+abbrev pub failed_inbound : Inbound → ℕ → Inbound
+failed_inbound inbound stream = record inbound { rows = failing.failed_rows_of inbound.rows stream }
+
+-- all that is kept: the gateway replies to the stream, nothing is held of it, and its connection is gone
+abbrev pub failed_view : View → ℕ → ℕ → View
+failed_view kept stream k = record {
+  inbound = failed_inbound kept.inbound stream;
+  offers = record kept.offers { kept = offering.change stream (answered BadAnswer) kept.offers.kept };
+  upstreams = record kept.upstreams { held = without id_of stream kept.upstreams.held; live = without number_of k kept.upstreams.live };
+  encoding = kept.encoding;
+  untaken = kept.untaken;
+}
+
+-- the reset that is owed, where a final head is out
+abbrev pub resets_for : View → ℕ → List Frame
+resets_for kept stream = if is_none (rows.find kept.inbound.rows stream).brief.cause && (rows.find kept.inbound.rows stream).head_out then rst_stream stream internal_error ∷ [] else []
+
+module _ (setup : Setup) (whole : setup.passing ≡ WholePassing) (kept : View) (rest : IsAtRest kept) (run : List Move) (s : State) (leads : Leads setup run kept square s) (k : ℕ) (c : Connection) (found : find number_of k kept.upstreams.live ≡ Some c)
+    (event : Event) (of : upstream_of event ≡ k) (breaks_off : MayBreakOff event)
+    (quiet : (x : receiving.State) → receiving.with_event x event ≡ record x { settled = false }) (comes : (gates : Gates) (rooms : receiving.State) → gates.is_up k ≡ true → may_come gates rooms event ≡ true)
+    (w : Bool) (so : (known : Known) → known.setup ≡ setup → AreKnown known (conducts run) → IsAnswered known (tape_of run) (Fails event c.live.stream w)) where
+  abbrev stream : ℕ
+  stream = c.live.stream
+
+  abbrev deed : Deed
+  deed = Fails event stream w
+
+  abbrev book : Book
+  book = s.desk.book
+
+  abbrev one : State
+  one = next setup s (Does deed)
+
+  abbrev one_run : List Move
+  one_run = Does deed ∷ run
+
+  active_here : asked.is_active book.rows stream ≡ true
+  active_here = (coming.event_of setup kept rest run s leads k c found event of).active
+
+  no_cause : (rows.find book.rows stream).brief.cause ≡ None
+  no_cause = (coming.event_of setup kept rest run s leads k c found event of).no_cause
+
+  given_here : given (upstream_of event) book.given ≡ stream
+  given_here =
+      ap (λ n. given n book.given) of
+      ∙ ap (λ (os : List Opened). given k os) (right_here setup run s leads.stands leads.so).given
+      ∙ coming.given_is_stream setup kept rest run s leads k c found
+
+  stream_some : (stream == 0) ≡ false
+  stream_some = ne_eqb stream 0 (λ zero.
+      let on : is_active stream (tape_of run) ≡ true = sym ((right_here setup run s leads.stands leads.so).active stream) ∙ active_here in
+      let opened : is_opened stream (tape_of run) ≡ true = (and_parts (is_opened stream (tape_of run)) (not (is_over stream (tape_of run))) on).0 in
+      let no : true ≡ false = sym opened ∙ ap (λ n. is_opened n (tape_of run)) zero ∙ none_zero (tape_of run) in
+      absurd (let clash : true ≡ false = no in cc))
+
+  -- ---- the answer fails
+
+  desk_one : desk_after setup s.desk (conduct_of deed) ≡ record { book = behind_failure book stream; queue = reset_if_out book stream }
+  desk_one =
+      happened_desk setup true s.desk event (behind_failure book stream) (reset_if_out book stream)
+      (fails_lead setup book event stream (rows_kept setup run s leads.stands) (ap (λ n. n == 0) of ∙ coming.number_some setup kept rest run s leads k c found) given_here stream_some)
+
+  may_one : MayGoOn setup s (Does deed)
+  may_one = (
+    ap (λ (d : Desk). d.book.ends) desk_one,
+    may_fail setup (told_behind setup s deed) s (coming.ready setup kept rest run s leads k c found) event stream w (record {
+      answer = coming.may_answer setup kept rest run s leads k c found event of comes;
+      of_upstream = breaks_off;
+      about = ap (λ n. is_active_in n (told_by s)) given_here ∙ active_here;
+      caused = ap (λ (d : Desk). (rows.find d.book.rows stream).brief.cause) desk_one ∙ failing.cause_then book.rows stream active_here no_cause;
+    }),
+  )
+
+  stands_one : Stands setup one_run one
+  stands_one = one_more setup run s (Does deed) leads.stands may_one
+
+  so_one : AreSo setup one_run
+  so_one known same knows = (leads.so known same knows.0, so known same knows.0)
+
+  -- ---- what is held
+
+  abbrev told_one : Told
+  told_one = told_in (summary_in (behind_failure book stream))
+
+  not_served : told_one.served stream ≡ false
+  not_served = failing.not_served book.rows stream active_here no_cause
+
+  held_one : serving.kept told_one s.requests.held ≡ without id_of stream s.requests.held
+  held_one =
+      held_behind (told_in (told_by s)) told_one stream (failing.served_other book.rows stream active_here) s.requests.held (all_held_served setup run s leads.stands leads.so)
+      ∙ ap (λ b. if b then s.requests.held else without id_of stream s.requests.held) not_served
+
+  -- ---- fields that are the same behind both
+
+  windows_one : one.windows ≡ record s.windows { settled = false }
+  windows_one = ap receiving.kept_of (quiet (rooms_in (told_by s) s))
+
+  abbrev new : View
+  new = failed_view kept stream k
+
+  book_one : one.desk.book ≡ book_of (record { given = book.given; untaken = kept.untaken }) new.inbound
+  book_one = ap (λ (d : Desk). d.book) desk_one ∙ ap (λ (b : Book). behind_failure b stream) leads.keeps.book
+
+  queue_one : one.desk.queue ≡ resets_for kept stream
+  queue_one = ap (λ (d : Desk). d.queue) desk_one ∙ ap (λ (b : Book). reset_if_out b stream) leads.keeps.book
+
+  offers_one : one.offers ≡ new.offers
+  offers_one = ap (λ (o : offering.State). record o { kept = offering.change stream (answered BadAnswer) o.kept }) leads.keeps.offers
+
+  active_kept : asked.is_active kept.inbound.rows stream ≡ true
+  active_kept = ap (λ (b : Book). asked.is_active b.rows stream) (sym leads.keeps.book) ∙ active_here
+
+  back_before : (id : ℕ) → GoBack new.inbound id → GoBack kept.inbound id
+  back_before id back = record {
+    active = sym (failing.active_then kept.inbound.rows stream active_kept id) ∙ back.active;
+    goes_on = sym (failing.ended_then kept.inbound.rows stream active_kept id) ∙ back.goes_on;
+  }
+
+  -- ---- answers of the others
+
+  begun_one : (known : Known) → known.setup ≡ setup → AreKnown known (conducts run) → (j : ℕ) (x : Connection) → find number_of j kept.upstreams.live ≡ Some x → items known (given j (opens (tape_of run))) (Happened event ∷ tape_of run) ≡ [] → ⊥
+  begun_one known same knows j x there none =
+      open_begun setup run s leads.stands leads.so kept.upstreams.live (coming.lives_are setup kept rest run s leads k c found) known same knows j x there
+      (sym (items_behind_event known (tape_of run) event (given j (opens (tape_of run)))) ∙ none)
+
+  apart_from : (j : ℕ) (x : Connection) → find number_of j (without number_of k kept.upstreams.live) ≡ Some x → j ≡ k → ⊥
+  apart_from j x is same = let clash : ◌≡◌ {A = Option Connection} None (Some x) = sym (find_gone number_of k kept.upstreams.live) ∙ ap (λ n. find number_of n (without number_of k kept.upstreams.live)) (sym same) ∙ is in absurd (let no : ◌≡◌ {A = Option Connection} None (Some x) = clash in cc)
+
+  heard_one : AreHeard setup one_run (without number_of k kept.upstreams.live)
+  heard_one known same knows j x is on =
+      coming.heard_beside setup kept rest run s leads k c found event of known same knows.0 j x (apart_from j x is) (found_before k j kept.upstreams.live x is) on
+
+  -- ---- the connection is closed then
+
+  module _ (as_heard : failed_request event w ≡ serving.Move.Hears event w) where
+    requests_one : one.requests ≡ record { held = without id_of stream kept.upstreams.held; live = map (serving.answered w k) (lives kept.upstreams.live); due = Nothing; count = kept.upstreams.count }
+    requests_one =
+        ap (λ (m : serving.Move). serving.after setup (told_in (told_behind setup s deed)) s.requests m) as_heard
+        ∙ ap (λ (d : Desk). serving.after setup (told_in (summary_in d.book)) s.requests (serving.Move.Hears event w)) desk_one
+        ∙ ap (λ (hs : List Held). record { held = hs; live = map (serving.answered w (upstream_of event)) s.requests.live; due = s.requests.due; count = s.requests.count }) held_one
+        ∙ ap (λ n. record { held = without id_of stream s.requests.held; live = map (serving.answered w n) s.requests.live; due = s.requests.due; count = s.requests.count }) of
+        ∙ ap (λ (r : serving.State). record { held = without id_of stream r.held; live = map (serving.answered w k) r.live; due = r.due; count = r.count }) leads.keeps.requests
+
+    abbrev second : Deed
+    second = Acts (Close k)
+
+    abbrev two : State
+    two = next setup one (Does second)
+
+    desk_two : desk_after setup one.desk (conduct_of second) ≡ record { book = one.desk.book; queue = one.desk.queue }
+    desk_two = did_desk setup false one.desk (Close k) one.desk.book [] (closes_lead setup one.desk.book k (rows_kept setup one_run one stands_one))
+
+    live_one : live_of k one.requests.live ≡ Some (serving.answered w k c.live)
+    live_one =
+        ap (λ (r : serving.State). live_of k r.live) requests_one
+        ∙ find_map k_of (serving.answered w k) (λ l. refl) k (lives kept.upstreams.live)
+        ∙ ap (option_map (serving.answered w k)) (found_live k kept.upstreams.live c found)
+
+    done_one : is_done (told_in (told_by one)) (serving.answered w k c.live) ≡ true
+    done_one =
+        ap (λ (d : Desk). (serving.answered w k c.live).whole || not ((told_in (summary_in d.book)).served stream)) desk_one
+        ∙ or_right (serving.answered w k c.live).whole (not (told_one.served stream)) (ap not not_served)
+
+    may_two : MayGoOn setup one (Does second)
+    may_two = (
+      ap (λ (d : Desk). d.book.ends) desk_two ∙ stands_one.goes_on,
+      may_act setup (told_behind setup one second) one (Close k) (ap (λ (b : Book). b.closed) book_one)
+          (record { nothing = ap (λ (r : serving.State). r.due) requests_one; live = serving.answered w k c.live; found = live_one; why = inl done_one }),
+    )
+
+    waiting_one : AreWaiting (without id_of stream kept.upstreams.held)
+    waiting_one = subst AreWaiting (ap (λ (r : serving.State). r.held) requests_one) (all_wait setup whole one_run one stands_one)
+
+    requests_two : two.requests ≡ upstreams.with_due new.upstreams Nothing
+    requests_two =
+        ap (λ (r : serving.State). serving.after setup (told_in (told_behind setup one second)) r (serving.Move.Acts (Close k))) requests_one
+        ∙ ap (λ (hs : List Held). record { held = hs; live = without k_of k (map (serving.answered w k) (lives kept.upstreams.live)); due = Nothing; count = kept.upstreams.count }) (drop_none k (without id_of stream kept.upstreams.held) waiting_one)
+        ∙ ap (λ (ls : List Live). record { held = without id_of stream kept.upstreams.held; live = ls; due = Nothing; count = kept.upstreams.count }) (without_answered w k (lives kept.upstreams.live) ∙ sym (lives_closed k kept.upstreams.live))
+
+    book_two : two.desk.book ≡ book_of (record { given = two.desk.book.given; untaken = kept.untaken }) new.inbound
+    book_two =
+        ap (λ (d : Desk). d.book) desk_two ∙ book_one
+        ∙ ap (λ (os : List Opened). book_of (record { given = os; untaken = kept.untaken }) new.inbound) (sym (ap (λ (d : Desk). d.book.given) desk_two ∙ ap (λ (b : Book). b.given) book_one))
+
+    heard_two : AreHeard setup (Does second ∷ one_run) (without number_of k kept.upstreams.live)
+    heard_two known same knows j x is on =
+        let was = heard_one known same knows.0 j x is on in
+        record {
+          parts = was.parts;
+          stands = was.stands;
+          goes_on = was.goes_on;
+          waits = was.waits;
+          asked = was.asked ∙ head_stays known (given j (opens (tape_of run))) (Happened event ∷ tape_of run) (Did (Close k)) (begun_one known same knows.0.0 j x (found_before k j kept.upstreams.live x is));
+          set_up = was.set_up;
+        }
+
+    keeps_two : Keeps new (record square { owed = resets_for kept stream }) two
+    keeps_two = record {
+      book = book_two;
+      owed = ap (λ (d : Desk). d.queue) desk_two ∙ queue_one;
+      offers = offers_one;
+      requests = requests_two;
+      decoding = leads.keeps.decoding;
+      encoding = leads.keeps.encoding;
+      read = leads.keeps.read;
+      credited = record {
+        fresh = ap (λ (x : receiving.Kept). x.count) windows_one ∙ leads.keeps.credited.fresh;
+        shared = ap (λ (x : receiving.Kept). x.debt) windows_one ∙ leads.keeps.credited.shared;
+        own = λ back. ap (λ (x : receiving.Kept). (x.row kept.inbound.last).debt) windows_one ∙ leads.keeps.credited.own (back_before kept.inbound.last back);
+        others = λ id apart back. ap (λ (x : receiving.Kept). (x.row id).debt) windows_one ∙ leads.keeps.credited.others id apart (back_before id back);
+        none_wait = λ id. ap (λ (x : receiving.Kept). (x.row id).queue) windows_one ∙ leads.keeps.credited.none_wait id;
+      };
+      counted = λ j x is. let was = leads.keeps.counted j x (found_before k j kept.upstreams.live x is) in (ap (λ (y : receiving.Kept). y.out j) windows_one ∙ was.0, ap (λ (y : receiving.Kept). y.took j) windows_one ∙ was.1);
+    }
+
+    -- The answer fails with octets or with the end of its connection, which is closed then.
+    pub failed_performs : (outputs : List Output) → Course setup run s outputs (Happened event) new (record square { owed = resets_for kept stream }) (put outputs (Puts (Close k)))
+    failed_performs outputs = record {
+      segment = record {
+        moves = Does second ∷ Does deed ∷ [];
+        state = two;
+        by_rule = (one, (s, refl, may_one, refl), may_two, refl);
+        leads = record { stands = one_more setup one_run one (Does second) stands_one may_two; so = so_stays setup one_run second tt so_one; heard = heard_two; keeps = keeps_two };
+        puts = refl;
+      };
+      own = Did (Close k) ∷ [];
+      begins = refl;
+      are_own = tt;
+    }
+
+  -- ---- the connection is gone with it
+
+  module _ (as_failed : failed_request event w ≡ serving.Move.Fails k) where
+    requests_gone : one.requests ≡ upstreams.with_due new.upstreams Nothing
+    requests_gone =
+        ap (λ (m : serving.Move). serving.after setup (told_in (told_behind setup s deed)) s.requests m) as_failed
+        ∙ ap (λ (d : Desk). serving.after setup (told_in (summary_in d.book)) s.requests (serving.Move.Fails k)) desk_one
+        ∙ ap (λ (hs : List Held). record { held = serving.kept told_one hs; live = without k_of k s.requests.live; due = s.requests.due; count = s.requests.count }) (drop_none k s.requests.held (all_wait setup whole run s leads.stands))
+        ∙ ap (λ (hs : List Held). record { held = hs; live = without k_of k s.requests.live; due = s.requests.due; count = s.requests.count }) held_one
+        ∙ ap (λ (r : serving.State). record { held = without id_of stream r.held; live = without k_of k r.live; due = r.due; count = r.count }) leads.keeps.requests
+        ∙ ap (λ (ls : List Live). record { held = without id_of stream kept.upstreams.held; live = ls; due = Nothing; count = kept.upstreams.count }) (sym (lives_closed k kept.upstreams.live))
+
+    -- The answer fails with its connection.
+    pub gone_performs : (outputs : List Output) → Course setup run s outputs (Happened event) new (record square { owed = resets_for kept stream }) outputs
+    gone_performs outputs = record {
+      segment = record {
+        moves = Does deed ∷ [];
+        state = one;
+        by_rule = (s, refl, may_one, refl);
+        leads = record {
+          stands = stands_one;
+          so = so_one;
+          heard = heard_one;
+          keeps = record {
+            book = book_one ∙ ap (λ (os : List Opened). book_of (record { given = os; untaken = kept.untaken }) new.inbound) (sym (ap (λ (b : Book). b.given) book_one));
+            owed = queue_one;
+            offers = offers_one;
+            requests = requests_gone;
+            decoding = leads.keeps.decoding;
+            encoding = leads.keeps.encoding;
+            read = leads.keeps.read;
+            credited = record {
+              fresh = ap (λ (x : receiving.Kept). x.count) windows_one ∙ leads.keeps.credited.fresh;
+              shared = ap (λ (x : receiving.Kept). x.debt) windows_one ∙ leads.keeps.credited.shared;
+              own = λ back. ap (λ (x : receiving.Kept). (x.row kept.inbound.last).debt) windows_one ∙ leads.keeps.credited.own (back_before kept.inbound.last back);
+              others = λ id apart back. ap (λ (x : receiving.Kept). (x.row id).debt) windows_one ∙ leads.keeps.credited.others id apart (back_before id back);
+              none_wait = λ id. ap (λ (x : receiving.Kept). (x.row id).queue) windows_one ∙ leads.keeps.credited.none_wait id;
+            };
+            counted = λ j x is. let was = leads.keeps.counted j x (found_before k j kept.upstreams.live x is) in (ap (λ (y : receiving.Kept). y.out j) windows_one ∙ was.0, ap (λ (y : receiving.Kept). y.took j) windows_one ∙ was.1);
+          };
+        };
+        puts = refl;
+      };
+      own = [];
+      begins = refl;
+      are_own = tt;
+    }

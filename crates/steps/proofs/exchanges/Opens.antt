@@ -1,0 +1,432 @@
+-- A connection that is due is opened, and its text goes out there: this performs.
+use Rattle.std.proofs.Common.{◌≡◌, ℕ, suc, ◌+◌, ◌<◌, Bool, true, false, ◌==◌, List, [], ◌∷◌, map, length, Option, Some, None, codes, refl, sym, ◌∙◌, ap, subst, inl, inr, if◌then◌else◌, arith}
+use Rattle.std.specs.Prelude.{is_some, option_map}
+use Rattle.std.proofs.lemmas.Bool.{eq-eqb, ne_eqb, and_parts}
+use Rattle.std.proofs.lemmas.Bool.Decides.{eqb_tells}
+use Rattle.model.specs.Frames.{Frame}
+use Rattle.model.specs.Logs.{Output}
+use Rattle.model.specs.Logs.Act.{Open, ToUp}
+use Rattle.model.specs.Logs.Output.{Does as Puts}
+use Rattle.model.specs.Setup.{Setup}
+use Rattle.model.specs.Setup.Passing.{Whole as WholePassing, Streaming}
+use Rattle.model.specs.Tapes.{Entry, put}
+use Rattle.model.specs.Tapes.Entry.{Did}
+use Rattle.model.specs.Causes.{is_front_of}
+use Rattle.model.specs.Openings.{Opened, opens, given, last_stream}
+use Rattle.model.specs.Known.{Known}
+use Rattle.model.specs.Lifetimes.{opened, is_opened, is_active}
+use Rattle.model.specs.Courses.{items}
+use Rattle.model.specs.Offers.{is_to_head}
+use Rattle.model.specs.StreamStates.{most_streams}
+use Rattle.model.proofs.ItemLaws.{head_stays}
+use Rattle.conduct.specs.Summary.{summary_of}
+use Rattle.conduct.specs.Rule.{AreKnown}
+use Rattle.conduct.specs.Book.{Book, Desk, desk_after, desk_of}
+use Rattle.conduct.specs.Told as conduct
+use Rattle.conduct.proofs.Telling.{book_told}
+use Rattle.receiving.specs.Policy as windows
+use Rattle.receiving.specs.State as receiving
+use Rattle.receiving.proofs.Resting.{Receiving}
+use Rattle.receiving.proofs.Incoming.{live_among}
+use Rattle.h1_reader.specs.Standing.{Stands as Reads}
+use Rattle.h1_writer.specs.Sending.Stage.{Whole}
+use Rattle.answers.specs.declared.answer.Passing.TheVariants as way
+use Rattle.serving.specs.State as serving
+use Rattle.serving.specs.State.{Way, Held, Live, Due, id_of, held_of, find, without}
+use Rattle.serving.specs.State.Way.{Waiting, Going, Dropped}
+use Rattle.serving.specs.State.Due.{Nothing, ToOpen, ToSend}
+use Rattle.serving.specs.Rule as requests
+use Rattle.serving.proofs.Lists.{found_key, find_map}
+use Rattle.serving.proofs.Opening.{given_none_in}
+use Rattle.serving.proofs.Standing as standing
+use Rattle.serving.proofs.Standing.{IsOpening, IsDue, IsFresh, IsOnWay}
+use Rattle.serving.proofs.Texts.{none_end}
+use Rattle.judgement.specs.Inbound.{book_of}
+use Rattle.judgement.proofs.SendingEvents.{opens_lead, puts_lead, did_desk}
+use Rattle.upstreams.specs.Kept as upstreams
+use Rattle.upstreams.specs.Connections.{Connection, number_of, lives, put_at}
+use Rattle.upstreams.specs.Connections as connections
+use Rattle.policy.specs.Moves.{Deed, Move, conduct_of, told_in}
+use Rattle.policy.specs.Moves.Deed.{Acts}
+use Rattle.policy.specs.Moves.Move.{Does}
+use Rattle.policy.specs.State.{State, conducts, tape_of}
+use Rattle.policy.specs.Rule.{rooms_in}
+use Rattle.policy.specs.Steps.{told_by, told_behind, next, MayGoOn, Stands}
+use Rattle.policy.proofs.Going.{may_act}
+use Rattle.policy.proofs.Stepping.{one_more}
+use Rattle.policy.proofs.Telling.{all_moved}
+use Rattle.relay.specs.View.{View, Pending, square, Keeps, Leads, AreSo, AreHeard}
+use Rattle.relay.specs.Hearing.{IsHeard}
+use Rattle.relay.specs.Bringing.{OwnSegment, PerformsOwn}
+use Rattle.relay.proofs.Lives.{lives_same}
+use Rattle.relay.proofs.Sound as sound
+use Rattle.relay.proofs.Staying.{so_stays, heard_stays, heard_of_changed, open_begun, rows_kept}
+use Rattle.steps.proofs.exchanges.Asking.{asked_is}
+use Rattle.steps.proofs.exchanges.Few.{few_given, none_connected}
+use Rattle.steps.proofs.exchanges.Where.{led_to, own, own_led, right_here, stands_here, windows_here}
+
+-- ---- what is held
+
+-- where nothing is found nothing goes
+none_without : (id : ℕ) (hs : List Held) → held_of id hs ≡ None → without id_of id hs ≡ hs
+none_without id [] none = refl
+none_without id (h ∷ hs) none = by (h.id == id) none (none_without id hs)
+  where
+    by : (b : Bool) → (if b then Some h else held_of id hs) ≡ None → (held_of id hs ≡ None → without id_of id hs ≡ hs) → (if b then without id_of id hs else h ∷ without id_of id hs) ≡ h ∷ hs
+    by true none rest = let clash : ◌≡◌ {A = Option Held} (Some h) None = none in cc
+    by false none rest = ap (λ (xs : List Held). h ∷ xs) (rest none)
+
+-- nothing is held of a stream for which a connection is due
+none_on_way : (known : Known) (t : List Entry) (s : serving.State) (stream route : ℕ) (text : List ℕ) (w : Way) → IsOpening known t stream route text Whole → IsOnWay known t s stream w → ⊥
+none_on_way known t s stream route text (Waiting r x stage body) due on = none_end (items known stream t) on.awaited.goes_on (due.written.ends refl)
+none_on_way known t s stream route text (Going k stage) due on = due.none_given on.o on.given
+none_on_way known t s stream route text Dropped due on = due.none_given on.o on.given
+
+-- ---- whether the request asks for a head
+
+-- a request's items ask for a head just where its text begins so
+asks_as_text : (known : Known) (t : List Entry) (stream route : ℕ) (text : List ℕ) → IsOpening known t stream route text Whole → is_front_of (codes "HEAD ") text ≡ is_to_head (items known stream t)
+asks_as_text known t stream route text due =
+    let w = due.written in
+    asked_is w.head w.ended text w.pieces w.well_formed.method_holds w.sending ∙ sym (ap is_to_head w.is)
+
+-- ---- rows of windows
+
+debt_same : (b : Bool) (k : ℕ) (r : receiving.Row) → (if b then receiving.given k r else r).debt ≡ r.debt
+debt_same true k r = refl
+debt_same false k r = refl
+
+queue_same : (b : Bool) (k : ℕ) (r : receiving.Row) → (if b then receiving.given k r else r).queue ≡ r.queue
+queue_same true k r = refl
+queue_same false k r = refl
+
+module _ (setup : Setup) (whole : setup.passing ≡ WholePassing) (kept : View) (owed : List Frame) (fresh stream route : ℕ) (text : List ℕ) where
+  -- what is pending before and behind it
+  abbrev pub due_before : Pending
+  due_before = record square { owed = owed; due = ToOpen stream route text Whole; fresh = fresh }
+
+  abbrev pub due_behind : Pending
+  due_behind = record square { owed = owed; fresh = fresh }
+
+  -- the number of the connection
+  abbrev pub number : ℕ
+  number = suc kept.upstreams.count
+
+  module _ (run : List Move) (s : State) (leads : Leads setup run kept due_before s) where
+    abbrev t : List Entry
+    t = tape_of run
+
+    stand : standing.Stands (own setup run s leads.stands leads.so) t s.requests
+    stand = stands_here setup run s leads.stands leads.so
+
+    due_is : s.requests.due ≡ ToOpen stream route text Whole
+    due_is = ap (λ (r : serving.State). r.due) leads.keeps.requests
+
+    count_is : s.requests.count ≡ kept.upstreams.count
+    count_is = ap (λ (r : serving.State). r.count) leads.keeps.requests
+
+    -- what is due can be done, whatever is known
+    due_for : (known : Known) → known.setup ≡ setup → AreKnown known (conducts run) → IsOpening known t stream route text Whole
+    due_for known same knows = subst (IsDue known t s.requests) due_is (sound.stands known run s (led_to known setup run s same knows leads.stands leads.so)).due
+
+    due : IsOpening (own setup run s leads.stands leads.so) t stream route text Whole
+    due = subst (IsDue (own setup run s leads.stands leads.so) t s.requests) due_is stand.due
+
+    -- nothing is known of the connection yet
+    new : IsFresh t number
+    new = stand.fresh number (let same = count_is in omega (arith, same))
+
+    last_is : (told_by s).last ≡ stream
+    last_is = (right_here setup run s leads.stands leads.so).last ∙ due.last
+
+    none_held : held_of stream s.requests.held ≡ None
+    none_held = by (held_of stream s.requests.held) refl
+      where
+        by : (o : Option Held) → held_of stream s.requests.held ≡ o → held_of stream s.requests.held ≡ None
+        by None is = is
+        by (Some h) is = absurd (none_on_way (own setup run s leads.stands leads.so) t s.requests stream route text h.way due (stand.held stream h is))
+
+    -- ---- how many there are
+
+    stream_opened : is_opened stream t ≡ true
+    stream_opened = (and_parts (is_opened stream t) _ due.in_time.active).0
+
+    -- another connection may be opened
+    pub room_for_one : kept.upstreams.count < most_streams
+    room_for_one =
+        let told : conduct.IsTold (desk_of setup (conducts run)).book (summary_of (own setup run s leads.stands leads.so) t) =
+        book_told (own setup run s leads.stands leads.so) (conducts run) (own_led setup run s leads.stands leads.so).knows (all_moved (own setup run s leads.stands leads.so) run leads.stands.allowed) (ap (λ (x : State). x.desk.book.ends) leads.stands.is ∙ leads.stands.goes_on) in
+        let few = told.stand.few in
+        let less = few_given (opens t) (opened t) stream stand.apart (λ o i. (stand.given o i).started) (given_none_in stream (opens t) (λ o i same. due.none_given o (record { is_opened = i; is_given = same }))) stream_opened in
+        let count = sym count_is ∙ stand.count in
+        omega (arith, few, less, count)
+
+    -- ---- the connection is opened
+
+    abbrev first : Deed
+    first = Acts (Open number route)
+
+    abbrev one : State
+    one = next setup s (Does first)
+
+    abbrev given_one : List Opened
+    given_one = record { k = number; route = route; stream = s.desk.book.last } ∷ s.desk.book.given
+
+    desk_one : desk_after setup s.desk (conduct_of first) ≡ record { book = record s.desk.book { given = given_one }; queue = s.desk.queue }
+    desk_one = did_desk setup false s.desk (Open number route) (record s.desk.book { given = given_one }) [] (opens_lead setup s.desk.book number route (rows_kept setup run s leads.stands))
+
+    may_open : requests.MayOpen s.requests number route
+    may_open = record { stream = stream; text = text; stage = Whole; due = due_is; next = ap suc (sym count_is) }
+
+    rooms : Receiving setup.passing t (rooms_in (told_by s) s)
+    rooms = windows_here setup run s leads.stands leads.so
+
+    active_here : is_active (told_by s).last t ≡ true
+    active_here = ap (λ n. is_active n t) last_is ∙ due.in_time.active
+
+    none_out : s.windows.out number ≡ 0
+    none_out = rooms.counting.out number ∙ ap (λ (x : List ℕ). length x) new.unsent
+
+    none_taken : s.windows.took number ≡ 0
+    none_taken = let less = rooms.counting.within number in let none = none_out in omega (arith, less, none)
+
+    window : windows.MayOpen (rooms_in (told_by s) s) number
+    window = record {
+      active = live_among setup.passing t (rooms_in (told_by s) s) (told_by s).last rooms.keeping ∙ active_here;
+      counted = omega arith;
+      first =
+          (rooms.keeping.streams (told_by s).last active_here).connection
+          ∙ ap (λ n. Rattle.model.specs.Openings.connection_of n (opens t)) last_is
+          ∙ none_connected stream (opens t) (given_none_in stream (opens t) (λ o i same. due.none_given o (record { is_opened = i; is_given = same })));
+      unused = none_out;
+      untaken = none_taken;
+    }
+
+    may_one : MayGoOn setup s (Does first)
+    may_one = (
+      ap (λ (d : Desk). d.book.ends) desk_one ∙ leads.stands.goes_on,
+      may_act setup (told_behind setup s first) s (Open number route) (ap (λ (b : Book). b.closed) leads.keeps.book)
+          (record { opens = sound.opens_next (own setup run s leads.stands leads.so) run s (own_led setup run s leads.stands leads.so) number route may_open; due = may_open; window = window }),
+    )
+
+    stands_one : Stands setup (Does first ∷ run) one
+    stands_one = one_more setup run s (Does first) leads.stands may_one
+
+    so_one : AreSo setup (Does first ∷ run)
+    so_one = so_stays setup run first tt leads.so
+
+    abbrev new_live : Live
+    new_live = record { k = number; stream = stream; whole = false }
+
+    requests_one : one.requests ≡ record { held = kept.upstreams.held; live = new_live ∷ lives kept.upstreams.live; due = ToSend number text; count = number }
+    requests_one =
+        ap (λ (r : serving.State). serving.after setup (told_in (told_behind setup s first)) r (serving.Move.Acts (Open number route))) leads.keeps.requests
+        ∙ ap (λ (hs : List Held). record { held = hs; live = new_live ∷ lives kept.upstreams.live; due = ToSend number text; count = number })
+        (none_without stream kept.upstreams.held (sym (ap (λ (r : serving.State). held_of stream r.held) leads.keeps.requests) ∙ none_held))
+
+    -- ---- its text goes out
+
+    abbrev second : Deed
+    second = Acts (ToUp number text)
+
+    abbrev two : State
+    two = next setup one (Does second)
+
+    desk_two : desk_after setup one.desk (conduct_of second) ≡ record { book = one.desk.book; queue = one.desk.queue }
+    desk_two = did_desk setup false one.desk (ToUp number text) one.desk.book [] (puts_lead setup one.desk.book number text (rows_kept setup (Does first ∷ run) one stands_one))
+
+    closed_one : one.desk.book.closed ≡ false
+    closed_one = ap (λ (d : Desk). d.book.closed) desk_one ∙ ap (λ (b : Book). b.closed) leads.keeps.book
+
+    may_two : MayGoOn setup one (Does second)
+    may_two = (
+      ap (λ (d : Desk). d.book.ends) desk_two ∙ stands_one.goes_on,
+      may_act setup (told_behind setup one second) one (ToUp number text) closed_one (record {
+        due = ap (λ (r : serving.State). r.due) requests_one;
+        window = record {
+          opened = ap (λ (r : serving.State). is_some (serving.live_of number r.live)) requests_one ∙ ap (λ b. is_some (if b then Some new_live else serving.live_of number (lives kept.upstreams.live))) (eq-eqb number number refl);
+          in_effect = λ streaming. let clash : WholePassing ≡ Streaming = sym whole ∙ streaming in cc;
+        };
+      }),
+    )
+
+    requests_two : two.requests ≡ record { held = kept.upstreams.held; live = new_live ∷ lives kept.upstreams.live; due = Nothing; count = number }
+    requests_two = ap (λ (r : serving.State). serving.after setup (told_in (told_behind setup one second)) r (serving.Move.Acts (ToUp number text))) requests_one
+
+    book_two : two.desk.book ≡ record s.desk.book { given = given_one }
+    book_two = ap (λ (d : Desk). d.book) desk_two ∙ ap (λ (d : Desk). d.book) desk_one
+
+    -- ---- what was heard
+
+    -- the tape behind the opening
+    abbrev opened_tape : List Entry
+    opened_tape = Did (Open number route) ∷ t
+
+    given_new : given number (opens opened_tape) ≡ stream
+    given_new = ap (λ b. if b then last_stream t else given number (opens t)) (eq-eqb number number refl) ∙ due.last
+
+    given_other : (j : ℕ) → (number ≡ j → ⊥) → given j (opens opened_tape) ≡ given j (opens t)
+    given_other j apart = ap (λ b. if b then last_stream t else given j (opens t)) (ne_eqb number j apart)
+
+    module _ (to_head : Bool) (max : ℕ) (asks : to_head ≡ is_front_of (codes "HEAD ") text) (most : setup.max_response ≡ max) (reads : Reads [] [] (connections.opened number stream to_head (way.Whole max)).answer.reader) where
+      abbrev pub new_connection : Connection
+      new_connection = connections.opened number stream to_head (way.Whole max)
+
+      -- the new answer stands for nothing
+      heard_new : (known : Known) → known.setup ≡ setup → AreKnown known (conducts run) → IsHeard known opened_tape number new_connection.answer
+      heard_new known same knows =
+          let it = due_for known same knows in
+          let some : items known stream t ≡ [] → ⊥ = standing.some_items (items known stream t) it.head it.has_head in
+          record {
+            parts = [];
+            stands = subst (λ x. Reads x [] new_connection.answer.reader) (sym new.unheard) reads;
+            goes_on = refl;
+            waits = (refl, refl);
+            asked =
+                asks ∙ asks_as_text known t stream route text it
+                ∙ head_stays known stream t (Did (Open number route)) some
+                ∙ ap (λ n. is_to_head (items known n opened_tape)) (sym given_new);
+            set_up = record { passing = sym (ap (λ (x : Setup). x.passing) same ∙ whole); limit = λ w. ap (λ n. Some n) (sym (ap (λ (x : Setup). x.max_response) same ∙ most)) };
+          }
+
+      -- and the others as before
+      heard_other : (known : Known) → known.setup ≡ setup → AreKnown known (conducts run) → (j : ℕ) (c : Connection) → (number ≡ j → ⊥) → find number_of j kept.upstreams.live ≡ Some c → IsHeard known t j c.answer → IsHeard known opened_tape j c.answer
+      heard_other known same knows j c apart found is = record {
+        parts = is.parts;
+        stands = is.stands;
+        goes_on = is.goes_on;
+        waits = is.waits;
+        asked =
+            is.asked
+            ∙ head_stays known (given j (opens t)) t (Did (Open number route)) (open_begun setup run s leads.stands leads.so kept.upstreams.live (ap (λ (r : serving.State). r.live) leads.keeps.requests) known same knows j c found)
+            ∙ ap (λ n. is_to_head (items known n opened_tape)) (sym (given_other j apart));
+        set_up = is.set_up;
+      }
+
+      heard_one : AreHeard setup (Does first ∷ run) (new_connection ∷ kept.upstreams.live)
+      heard_one known same knows j c found goes_on = elim (eqb_tells number j) [
+        | inl is ↦ (
+            let it : Some new_connection ≡ Some c = sym (ap (λ b. if b then Some new_connection else find number_of j kept.upstreams.live) is.0) ∙ found in
+            let this : new_connection ≡ c = cc in
+            subst (λ n. IsHeard known opened_tape n c.answer) is.1 (subst (λ (x : Connection). IsHeard known opened_tape number x.answer) this (heard_new known same knows.0))
+            )
+        | inr off ↦ (
+            let before : find number_of j kept.upstreams.live ≡ Some c = sym (ap (λ b. if b then Some new_connection else find number_of j kept.upstreams.live) off.0) ∙ found in
+            heard_other known same knows.0 j c off.1 before (leads.heard known same knows.0 j c before goes_on)
+            )
+      ]
+
+      -- ---- what is kept then
+
+      abbrev pub put_out : List Connection → List Connection
+      put_out cs = map (put_at number (length text)) cs
+
+      -- how much was put out for each connection, and how much of it was taken
+      counted_one : (j : ℕ) (x : Connection) → find number_of j (new_connection ∷ kept.upstreams.live) ≡ Some x → (two.windows.out j ≡ (put_at number (length text) x).out) × (two.windows.took j ≡ (put_at number (length text) x).took)
+      counted_one j x found = elim (eqb_tells number j) [
+        | inl is ↦ (
+            let it : Some new_connection ≡ Some x = sym (ap (λ b. if b then Some new_connection else find number_of j kept.upstreams.live) is.0) ∙ found in
+            let this : new_connection ≡ x = cc in
+            subst (λ (y : Connection). (two.windows.out j ≡ (put_at number (length text) y).out) × (two.windows.took j ≡ (put_at number (length text) y).took)) this
+            (subst (λ n. (two.windows.out n ≡ (put_at number (length text) new_connection).out) × (two.windows.took n ≡ (put_at number (length text) new_connection).took)) is.1 counted_new)
+            )
+        | inr off ↦ (
+            let before : find number_of j kept.upstreams.live ≡ Some x = sym (ap (λ b. if b then Some new_connection else find number_of j kept.upstreams.live) off.0) ∙ found in
+            let was = leads.keeps.counted j x before in
+            let here : (j == number) ≡ false = ne_eqb j number (λ same. off.1 (sym same)) in
+            let there : (x.live.k == number) ≡ false = ne_eqb x.live.k number (λ same. off.1 (sym same ∙ found_key number_of j kept.upstreams.live x before)) in (
+              ap (λ b. if b then s.windows.out j + length text else s.windows.out j) here ∙ was.0 ∙ sym (ap (λ b. if b then x.out + length text else x.out) there),
+              was.1,
+            )
+            )
+      ]
+        where
+          counted_new : (two.windows.out number ≡ (put_at number (length text) new_connection).out) × (two.windows.took number ≡ (put_at number (length text) new_connection).took)
+          counted_new = (
+            ap (λ b. if b then s.windows.out number + length text else s.windows.out number) (eq-eqb number number refl)
+                ∙ ap (λ n. n + length text) none_out
+                ∙ sym (ap (λ b. if b then 0 + length text else 0) (eq-eqb number number refl)),
+            none_taken,
+          )
+
+      counted_two : (j : ℕ) (c : Connection) → find number_of j (put_out (new_connection ∷ kept.upstreams.live)) ≡ Some c → (two.windows.out j ≡ c.out) × (two.windows.took j ≡ c.took)
+      counted_two j c found =
+          by (find number_of j (new_connection ∷ kept.upstreams.live)) refl (sym (find_map number_of (put_at number (length text)) (λ x. refl) j (new_connection ∷ kept.upstreams.live)) ∙ found)
+        where
+          by : (o : Option Connection) → find number_of j (new_connection ∷ kept.upstreams.live) ≡ o → option_map (put_at number (length text)) o ≡ Some c → (two.windows.out j ≡ c.out) × (two.windows.took j ≡ c.took)
+          by None is none = let clash : ◌≡◌ {A = Option Connection} None (Some c) = none in cc
+          by (Some x) is some =
+              let this : put_at number (length text) x ≡ c = cc in
+              subst (λ (y : Connection). (two.windows.out j ≡ y.out) × (two.windows.took j ≡ y.took)) this (counted_one j x is)
+
+      abbrev pub opened_view : View
+      opened_view = record kept { upstreams = record kept.upstreams { live = put_out (new_connection ∷ kept.upstreams.live); count = number } }
+
+      keeps_two : Keeps opened_view due_behind two
+      keeps_two = record {
+        book =
+            book_two
+            ∙ ap (λ (b : Book). record b { given = given_one }) leads.keeps.book
+            ∙ ap (λ (os : List Opened). book_of (record { given = os; untaken = kept.untaken }) kept.inbound) (sym (ap (λ (b : Book). b.given) book_two));
+        owed = ap (λ (d : Desk). d.queue) desk_two ∙ ap (λ (d : Desk). d.queue) desk_one ∙ leads.keeps.owed;
+        offers = leads.keeps.offers;
+        requests = requests_two ∙ ap (λ (ls : List Live). record { held = kept.upstreams.held; live = ls; due = Nothing; count = number }) (sym (lives_same (put_at number (length text)) (λ c. refl) (new_connection ∷ kept.upstreams.live)));
+        decoding = leads.keeps.decoding;
+        encoding = leads.keeps.encoding;
+        read = leads.keeps.read;
+        credited = record {
+          fresh = leads.keeps.credited.fresh;
+          shared = leads.keeps.credited.shared;
+          own = λ back. debt_same ((told_by s).last == kept.inbound.last) number (s.windows.row kept.inbound.last) ∙ leads.keeps.credited.own back;
+          others = λ id apart back. debt_same ((told_by s).last == id) number (s.windows.row id) ∙ leads.keeps.credited.others id apart back;
+          none_wait = λ id. queue_same ((told_by s).last == id) number (s.windows.row id) ∙ leads.keeps.credited.none_wait id;
+        };
+        counted = counted_two;
+      }
+
+      -- A connection that is due is opened, and its text goes out.
+      pub opened_performs : (outputs : List Output) → OwnSegment setup run s outputs opened_view due_behind (put (put outputs (Puts (Open number route))) (Puts (ToUp number text)))
+      opened_performs outputs = record {
+        segment = record {
+          moves = Does second ∷ Does first ∷ [];
+          state = two;
+          by_rule = (one, (s, refl, may_one, refl), may_two, refl);
+          leads = record {
+            stands = one_more setup (Does first ∷ run) one (Does second) stands_one may_two;
+            so = so_stays setup (Does first ∷ run) second tt so_one;
+            heard = heard_of_changed setup (Does second ∷ Does first ∷ run) (new_connection ∷ kept.upstreams.live) (put_at number (length text)) (λ c. refl) (λ c. refl)
+                (heard_stays setup (Does first ∷ run) one stands_one so_one (new_connection ∷ kept.upstreams.live) (ap (λ (r : serving.State). r.live) requests_one) second tt heard_one);
+            keeps = keeps_two;
+          };
+          puts = refl;
+        };
+        are_own = tt;
+      }
+
+-- ---- in the words of the calls
+
+module _ (kept : View) (stream route max : ℕ) (text : List ℕ) (to_head : Bool) (middle behind : upstreams.State) (k count : ℕ) (before between after : List Output)
+    (asks : to_head ≡ is_front_of (codes "HEAD ") text) (reads : Reads [] [] (connections.opened (suc kept.upstreams.count) stream to_head (way.Whole max)).answer.reader)
+    (is_number : k ≡ suc kept.upstreams.count) (is_count : count ≡ length text)
+    (opened_is : middle ≡ record kept.upstreams { live = connections.opened (suc kept.upstreams.count) stream to_head (way.Whole max) ∷ kept.upstreams.live; count = suc kept.upstreams.count })
+    (put_is : behind ≡ record middle { live = map (put_at k count) middle.live })
+    (opens_out : between ≡ put before (Puts (Open k route))) (puts_out : after ≡ put between (Puts (ToUp k text))) where
+  upstreams_are : record kept.upstreams { live = map (put_at (suc kept.upstreams.count) (length text)) (connections.opened (suc kept.upstreams.count) stream to_head (way.Whole max) ∷ kept.upstreams.live); count = suc kept.upstreams.count } ≡ behind
+  upstreams_are =
+      ap (λ n. let u : upstreams.State = record kept.upstreams { live = map (put_at n (length text)) (connections.opened (suc kept.upstreams.count) stream to_head (way.Whole max) ∷ kept.upstreams.live); count = suc kept.upstreams.count } in u) (sym is_number)
+      ∙ ap (λ n. let u : upstreams.State = record kept.upstreams { live = map (put_at k n) (connections.opened (suc kept.upstreams.count) stream to_head (way.Whole max) ∷ kept.upstreams.live); count = suc kept.upstreams.count } in u) (sym is_count)
+      ∙ ap (λ (u : upstreams.State). record u { live = map (put_at k count) u.live }) (sym opened_is)
+      ∙ sym put_is
+
+  outputs_are : put (put before (Puts (Open (suc kept.upstreams.count) route))) (Puts (ToUp (suc kept.upstreams.count) text)) ≡ after
+  outputs_are =
+      ap (λ n. put (put before (Puts (Open n route))) (Puts (ToUp n text))) (sym is_number)
+      ∙ ap (λ (o : List Output). put o (Puts (ToUp k text))) (sym opens_out)
+      ∙ sym puts_out
+
+  -- The calls perform.
+  pub calls_perform : (setup : Setup) (owed : List Frame) (fresh : ℕ) → setup.passing ≡ WholePassing → setup.max_response ≡ max → PerformsOwn setup kept (record square { owed = owed; due = ToOpen stream route text Whole; fresh = fresh }) before (record kept { upstreams = behind }) (record square { owed = owed; fresh = fresh }) after
+  calls_perform setup owed fresh whole most run s leads =
+      subst (λ (u : upstreams.State). OwnSegment setup run s before (record kept { upstreams = u }) (record square { owed = owed; fresh = fresh }) after) upstreams_are
+      (subst (λ (o : List Output). OwnSegment setup run s before (opened_view setup whole kept owed fresh stream route text run s leads to_head max asks most reads) (record square { owed = owed; fresh = fresh }) o) outputs_are
+      (opened_performs setup whole kept owed fresh stream route text run s leads to_head max asks most reads before))

@@ -1,0 +1,70 @@
+use Rattle.std.proofs.Common.{◌<◌, sym, ◌∙◌, ap, subst}
+use Rattle.std.proofs.lemmas.Result.{on_ok_weaker}
+use Rattle.model.specs.Logs.Act.{Close}
+use Rattle.model.specs.Logs.Output.{Does}
+use Rattle.model.specs.Tapes.{put}
+use Rattle.answers.specs.declared.answer.Ended.{Ended}
+use Rattle.answers.specs.declared.answer.Ended.TheVariants as ended
+use Rattle.streams_kept.specs.Asked.{has, is_active}
+use Rattle.relay.specs.View.{View}
+use Rattle.relay.specs.Rest.{NoneCut}
+use Rattle.steps.specs.exchanges.Giving.{closed_at}
+use Rattle.steps.specs.exchanges.Taking.{IsEndTaken}
+use Rattle.steps.proofs.exchanges.Closes.{stream_active, stream_numbered, stream_kept, completes, cut_short, end_none_cut, given_up_none_cut, given_up_numbered}
+use Rattle.steps.proofs.exchanges.hearing.end.Goals as goal
+
+pub take_end-requires-clause-kept : goal.take_end-requires-clause-kept
+take_end-requires-clause-kept c =
+    let r = c.requires.reached in
+    stream_kept c.args.rooms.now c.requires.rest r.0 r.2.0 r.2.1 r.2.2 c.args.k c.stream_of-stream.result c.requires.opened c.stream_of-stream.ensures
+
+pub abandon-requires-clause-live : goal.abandon-requires-clause-live
+abandon-requires-clause-live c =
+    let r = c.requires.reached in
+    ap (λ (v : View). is_active v.inbound.rows c.stream_of-stream.result) c.in_ok-take_end.ensures.is
+    ∙ stream_active c.args.rooms.now c.requires.rest r.0 r.2.0 r.2.1 r.2.2 c.args.k c.stream_of-stream.result c.requires.opened c.stream_of-stream.ensures
+
+pub abandon-requires-clause-numbered : goal.abandon-requires-clause-numbered
+abandon-requires-clause-numbered c =
+    let r = c.requires.reached in
+    stream_numbered c.args.rooms.now c.requires.rest r.0 r.2.0 r.2.1 r.2.2 c.args.k c.stream_of-stream.result c.requires.opened c.stream_of-stream.ensures c.requires.numbered
+
+pub returns-in-Complete-clause-brings : goal.returns-in-Complete-clause-brings
+returns-in-Complete-clause-brings c setup whole =
+    let middle : View = record { inbound = c.rooms.inside.inbound; offers = c.rooms.inside.offers; upstreams = c.rooms.inside.upstreams; encoding = c.rooms.inside.encoder; untaken = c.rooms.inside.untaken } in
+    completes c.args.rooms.now c.requires.rest c.args.k c.args.out.now setup whole middle (record middle { upstreams = c.mark_whole.new.self })
+    (subst (λ (v : View). IsEndTaken c.args.rooms.now c.args.k ended.Complete v) (sym c.rooms.view_is)
+    (subst (λ (h : Ended). IsEndTaken c.args.rooms.now c.args.k h c.take_end.new.rooms) c.in-Complete.is c.in_ok-take_end.ensures))
+    (ap (λ u. let v : View = record middle { upstreams = u } in v) c.mark_whole.ensures)
+
+pub returns-in-Complete-clause-none_cut : goal.returns-in-Complete-clause-none_cut
+returns-in-Complete-clause-none_cut c =
+    subst (λ (v : View). NoneCut v.offers) (sym c.rooms.view_is)
+    (end_none_cut c.args.rooms.now c.args.k c.in_ok-take_end.field-0 c.take_end.new.rooms c.requires.rest.none_cut c.in_ok-take_end.ensures)
+
+pub returns-in-Short-clause-brings : goal.returns-in-Short-clause-brings
+returns-in-Short-clause-brings c =
+    let r = c.requires.reached in
+    let few : c.stream_of-stream.result < 2147483648 = stream_numbered c.args.rooms.now c.requires.rest r.0 r.2.0 r.2.1 r.2.2 c.args.k c.stream_of-stream.result c.requires.opened c.stream_of-stream.ensures c.requires.numbered in
+    on_ok_weaker c.abandon.result
+    (λ given setup whole.
+    cut_short c.args.rooms.now c.requires.rest c.args.k c.args.out.now setup whole c.stream_of-stream.result c.take_end.new.rooms c.abandon.new.rooms c.abandon.new.out
+    (subst (λ (h : Ended). IsEndTaken c.args.rooms.now c.args.k h c.take_end.new.rooms) c.in-Short.is c.in_ok-take_end.ensures)
+    c.stream_of-stream.ensures few given)
+    c.abandon.ensures
+
+pub returns-in-Short-clause-none_cut : goal.returns-in-Short-clause-none_cut
+returns-in-Short-clause-none_cut c =
+    on_ok_weaker c.abandon.result
+    (λ given.
+    given_up_none_cut c.stream_of-stream.result (closed_at c.args.k c.take_end.new.rooms) c.abandon.new.rooms (put c.args.out.now (Does (Close c.args.k))) c.abandon.new.out
+    (end_none_cut c.args.rooms.now c.args.k c.in_ok-take_end.field-0 c.take_end.new.rooms c.requires.rest.none_cut c.in_ok-take_end.ensures) given)
+    c.abandon.ensures
+
+pub returns-in-Short-clause-numbered : goal.returns-in-Short-clause-numbered
+returns-in-Short-clause-numbered c =
+    on_ok_weaker c.abandon.result
+    (λ given.
+    given_up_numbered c.stream_of-stream.result (closed_at c.args.k c.take_end.new.rooms) c.abandon.new.rooms (put c.args.out.now (Does (Close c.args.k))) c.abandon.new.out
+    (λ id there. c.requires.numbered id (sym (ap (λ (v : View). has v.inbound.rows id) c.in_ok-take_end.ensures.is) ∙ there)) given)
+    c.abandon.ensures

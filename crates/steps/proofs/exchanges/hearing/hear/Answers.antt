@@ -1,0 +1,78 @@
+use Rattle.std.proofs.Common.{◌<◌, sym, ◌∙◌, ap, subst}
+use Rattle.std.proofs.lemmas.Result.{on_ok_weaker}
+use Rattle.model.specs.Logs.Act.{Close}
+use Rattle.model.specs.Logs.Output.{Does}
+use Rattle.model.specs.Tapes.{put}
+use Rattle.answers.specs.declared.answer.Heard.{Heard}
+use Rattle.answers.specs.declared.answer.Heard.TheVariants as heard
+use Rattle.streams_kept.specs.Asked.{has, is_active}
+use Rattle.relay.specs.View.{View}
+use Rattle.relay.specs.Rest.{NoneCut}
+use Rattle.steps.specs.exchanges.Giving.{closed_at}
+use Rattle.steps.specs.exchanges.Taking.{AreTaken}
+use Rattle.steps.proofs.exchanges.Closes.{stream_active, stream_numbered, stream_kept, goes_on, is_whole, fails, taken_none_cut, given_up_none_cut, given_up_numbered}
+use Rattle.steps.proofs.exchanges.hearing.hear.Goals as goal
+
+pub take_octets-requires-clause-kept : goal.take_octets-requires-clause-kept
+take_octets-requires-clause-kept c =
+    let r = c.requires.reached in
+    stream_kept c.args.rooms.now c.requires.rest r.0 r.2.0 r.2.1 r.2.2 c.args.k c.stream_of-stream.result c.requires.opened c.stream_of-stream.ensures
+
+pub abandon-requires-clause-live : goal.abandon-requires-clause-live
+abandon-requires-clause-live c =
+    let r = c.requires.reached in
+    ap (λ (v : View). is_active v.inbound.rows c.stream_of-stream.result) c.in_ok-take_octets.ensures.is
+    ∙ stream_active c.args.rooms.now c.requires.rest r.0 r.2.0 r.2.1 r.2.2 c.args.k c.stream_of-stream.result c.requires.opened c.stream_of-stream.ensures
+
+pub abandon-requires-clause-numbered : goal.abandon-requires-clause-numbered
+abandon-requires-clause-numbered c =
+    let r = c.requires.reached in
+    stream_numbered c.args.rooms.now c.requires.rest r.0 r.2.0 r.2.1 r.2.2 c.args.k c.stream_of-stream.result c.requires.opened c.stream_of-stream.ensures c.requires.numbered
+
+pub returns-in-GoesOn-clause-brings : goal.returns-in-GoesOn-clause-brings
+returns-in-GoesOn-clause-brings c setup whole =
+    goes_on c.args.rooms.now c.requires.rest c.args.k c.args.out.now setup whole c.args.octets.now c.requires.short c.take_octets.new.rooms
+    (subst (λ (h : Heard). AreTaken c.args.rooms.now c.args.k c.args.octets.now h c.take_octets.new.rooms) c.in-GoesOn.is c.in_ok-take_octets.ensures)
+
+pub returns-in-GoesOn-clause-none_cut : goal.returns-in-GoesOn-clause-none_cut
+returns-in-GoesOn-clause-none_cut c = taken_none_cut c.args.rooms.now c.args.k c.args.octets.now c.in_ok-take_octets.field-0 c.take_octets.new.rooms c.requires.rest.none_cut c.in_ok-take_octets.ensures
+
+pub returns-in-Whole-clause-brings : goal.returns-in-Whole-clause-brings
+returns-in-Whole-clause-brings c setup whole =
+    let middle : View = record { inbound = c.rooms.inside.inbound; offers = c.rooms.inside.offers; upstreams = c.rooms.inside.upstreams; encoding = c.rooms.inside.encoder; untaken = c.rooms.inside.untaken } in
+    is_whole c.args.rooms.now c.requires.rest c.args.k c.args.out.now setup whole c.args.octets.now c.requires.short middle (record middle { upstreams = c.mark_whole.new.self })
+    (subst (λ (v : View). AreTaken c.args.rooms.now c.args.k c.args.octets.now heard.Whole v) (sym c.rooms.view_is)
+    (subst (λ (h : Heard). AreTaken c.args.rooms.now c.args.k c.args.octets.now h c.take_octets.new.rooms) c.in-Whole.is c.in_ok-take_octets.ensures))
+    (ap (λ u. let v : View = record middle { upstreams = u } in v) c.mark_whole.ensures)
+
+pub returns-in-Whole-clause-none_cut : goal.returns-in-Whole-clause-none_cut
+returns-in-Whole-clause-none_cut c =
+    subst (λ (v : View). NoneCut v.offers) (sym c.rooms.view_is)
+    (taken_none_cut c.args.rooms.now c.args.k c.args.octets.now c.in_ok-take_octets.field-0 c.take_octets.new.rooms c.requires.rest.none_cut c.in_ok-take_octets.ensures)
+
+pub returns-in-Failed-clause-brings : goal.returns-in-Failed-clause-brings
+returns-in-Failed-clause-brings c =
+    let r = c.requires.reached in
+    let few : c.stream_of-stream.result < 2147483648 = stream_numbered c.args.rooms.now c.requires.rest r.0 r.2.0 r.2.1 r.2.2 c.args.k c.stream_of-stream.result c.requires.opened c.stream_of-stream.ensures c.requires.numbered in
+    on_ok_weaker c.abandon.result
+    (λ given setup whole.
+    fails c.args.rooms.now c.requires.rest c.args.k c.args.out.now setup whole c.args.octets.now c.requires.short c.stream_of-stream.result c.take_octets.new.rooms c.abandon.new.rooms c.abandon.new.out
+    (subst (λ (h : Heard). AreTaken c.args.rooms.now c.args.k c.args.octets.now h c.take_octets.new.rooms) c.in-Failed.is c.in_ok-take_octets.ensures)
+    c.stream_of-stream.ensures few given)
+    c.abandon.ensures
+
+pub returns-in-Failed-clause-none_cut : goal.returns-in-Failed-clause-none_cut
+returns-in-Failed-clause-none_cut c =
+    on_ok_weaker c.abandon.result
+    (λ given.
+    given_up_none_cut c.stream_of-stream.result (closed_at c.args.k c.take_octets.new.rooms) c.abandon.new.rooms (put c.args.out.now (Does (Close c.args.k))) c.abandon.new.out
+    (taken_none_cut c.args.rooms.now c.args.k c.args.octets.now c.in_ok-take_octets.field-0 c.take_octets.new.rooms c.requires.rest.none_cut c.in_ok-take_octets.ensures) given)
+    c.abandon.ensures
+
+pub returns-in-Failed-clause-numbered : goal.returns-in-Failed-clause-numbered
+returns-in-Failed-clause-numbered c =
+    on_ok_weaker c.abandon.result
+    (λ given.
+    given_up_numbered c.stream_of-stream.result (closed_at c.args.k c.take_octets.new.rooms) c.abandon.new.rooms (put c.args.out.now (Does (Close c.args.k))) c.abandon.new.out
+    (λ id there. c.requires.numbered id (sym (ap (λ (v : View). has v.inbound.rows id) c.in_ok-take_octets.ensures.is) ∙ there)) given)
+    c.abandon.ensures

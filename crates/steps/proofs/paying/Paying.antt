@@ -1,0 +1,199 @@
+-- A control frame that is owed next is sent: this performs.
+use Rattle.std.proofs.Common.{◌≡◌, ℕ, ◌+◌, false, ◌&&◌, ◌||◌, ◌==◌, List, [], ◌∷◌, ◌++◌, append-nil, length, Option, Some, None, Result, Ok, Err, OnOk, refl, sym, ◌∙◌, ap, subst, if◌then◌else◌, arith}
+use Rattle.model.specs.Frames.{Frame, Fits, spell, continuation_kind, has_flag}
+use Rattle.model.specs.Logs.{Output}
+use Rattle.model.specs.Logs.Output.{ToClient}
+use Rattle.model.specs.Setup.{Setup}
+use Rattle.model.specs.Tapes.{put}
+use Rattle.model.specs.Openings.{Opened}
+use Rattle.model.specs.Decoding.{Partial, joined}
+use Rattle.model.specs.Lifetimes.{may_open}
+use Rattle.conduct.specs.Summary.{Summary}
+use Rattle.conduct.specs.Judging.{completed_in}
+use Rattle.conduct.specs.Turn.{rest_of}
+use Rattle.conduct.specs.Quiet.{IsControl, noted_of, paid_of}
+use Rattle.conduct.specs.Book.{Book, Desk, desk_after, summary_in}
+use Rattle.conduct.proofs.Paying.{no_passing}
+use Rattle.offering.specs.State as offering
+use Rattle.offering.specs.Sight.{sight_in}
+use Rattle.receiving.specs.State as receiving
+use Rattle.serving.specs.State as serving
+use Rattle.serving.specs.State.Due.{Nothing}
+use Rattle.serving.specs.State.{find}
+use Rattle.tables.specs.State as tables
+use Rattle.judgement.specs.Inbound.{book_of}
+use Rattle.judgement.proofs.SendingBooks.{control_leads}
+use Rattle.judgement.proofs.SendingEvents.{sent_desk}
+use Rattle.upstreams.specs.Kept as upstreams
+use Rattle.upstreams.specs.Connections.{Connection, number_of}
+use Rattle.policy.specs.Moves.{Deed, Move, conduct_of, told_in}
+use Rattle.policy.specs.Moves.Deed.{Sends}
+use Rattle.policy.specs.Moves.Move.{Does}
+use Rattle.policy.specs.State.{State, gates_in}
+use Rattle.policy.specs.Steps.{told_by, told_behind, next, MayGoOn}
+use Rattle.policy.proofs.Going.{may_pay}
+use Rattle.policy.proofs.Stepping.{one_more}
+use Rattle.relay.specs.View.{View, Pending, Keeps, Leads, IsCredited}
+use Rattle.relay.specs.Bringing.{PerformsOwn}
+use Rattle.steps.proofs.paying.Held.{all_kept}
+use Rattle.relay.proofs.Staying.{so_stays, heard_stays, rows_kept, all_held_served}
+use Rattle.steps.specs.paying.Controls.{frame_of, IsShort}
+use Rattle.steps.specs.declared.paying.control.Control.{Control}
+use Rattle.steps.specs.declared.paying.control.Control.TheVariants as control
+use Rattle.steps.proofs.paying.Windows.{windows_sent}
+
+-- it completes no header block
+completes_none : (before : Option Partial) (frame : Frame) → IsControl frame → completed_in before frame ≡ None
+completes_none before frame c =
+    ap (λ b. if (b || frame.kind == continuation_kind) && has_flag 4 frame then joined before frame else None) c.no_headers
+    ∙ ap (λ b. if b && has_flag 4 frame then joined before frame else None) c.no_continuation
+
+module _ (setup : Setup) (kept : View) (pending : Pending) (rest : List Frame) (frame : Frame) (control : IsControl frame) (of_connection : frame.id ≡ 0) (fits : Fits frame) (front : pending.owed ≡ frame ∷ rest) (nothing_due : pending.due ≡ Nothing) (outputs : List Output) where
+  -- what is kept then, and what is pending
+  abbrev pub paid_view : View
+  paid_view = record kept { untaken = kept.untaken + length (spell frame) }
+
+  abbrev pub paid_pending : Pending
+  paid_pending = record pending { owed = rest }
+
+  module _ (run : List Move) (s : State) (leads : Leads setup run kept pending s) where
+    abbrev deed : Deed
+    deed = Sends (noted_of frame) s.tables.encoding.table
+
+    abbrev book : Book
+    book = s.desk.book
+
+    none_begun : book.block_out ≡ None
+    none_begun = ap (λ (b : Book). b.block_out) leads.keeps.book
+
+    open_yet : book.closed ≡ false
+    open_yet = ap (λ (b : Book). b.closed) leads.keeps.book
+
+    goes_on : book.ends ≡ false
+    goes_on = ap (λ (b : Book). b.ends) leads.keeps.book
+
+    queue : s.desk.queue ≡ frame ∷ rest
+    queue = leads.keeps.owed ∙ front
+
+    -- the desk behind it
+    desk : desk_after setup s.desk (conduct_of deed) ≡ record { book = paid_of book frame; queue = rest }
+    desk =
+        sent_desk setup false s.desk (noted_of frame) (paid_of book frame) [] (control_leads setup book frame (rows_kept setup run s leads.stands) none_begun control)
+        ∙ ap (λ (q : List Frame). record { book = paid_of book frame; queue = rest_of q ++ [] }) queue
+        ∙ ap (λ (q : List Frame). record { book = paid_of book frame; queue = q }) (append-nil rest)
+
+    told : told_behind setup s deed ≡ summary_in (paid_of book frame)
+    told = ap (λ (d : Desk). summary_in d.book) desk
+
+    may : MayGoOn setup s (Does deed)
+    may = (
+      ap (λ (d : Desk). d.book.ends) desk ∙ goes_on,
+      may_pay setup (told_behind setup s deed) s (noted_of frame) s.tables.encoding.table (record {
+        between = record {
+          open_yet = open_yet;
+          none_begun = none_begun;
+          nothing_due = ap (λ (r : serving.State). r.due) leads.keeps.requests ∙ nothing_due;
+          no_note = refl;
+          not_to_open = ap (λ n. may_open (told_by s).opened n) of_connection;
+        };
+        front = subst (λ (q : List Frame). q ≡ frame ∷ rest_of q) (sym queue) refl;
+        control = no_passing frame control;
+      }),
+    )
+
+    abbrev then_state : State
+    then_state = next setup s (Does deed)
+
+    -- each field behind it
+    book_kept : then_state.desk.book ≡ book_of (record { given = then_state.desk.book.given; untaken = paid_view.untaken }) kept.inbound
+    book_kept =
+        ap (λ (d : Desk). d.book) desk
+        ∙ ap (λ (b : Book). paid_of b frame) leads.keeps.book
+        ∙ ap (λ (os : List Opened). book_of (record { given = os; untaken = paid_view.untaken }) kept.inbound) (sym (ap (λ (d : Desk). d.book.given) desk))
+
+    offers_kept : then_state.offers ≡ kept.offers
+    offers_kept = ap (λ b. record { kept = offering.unless_over b frame.id s.offers.kept; last = s.offers.last }) control.no_reset ∙ leads.keeps.offers
+
+    requests_kept : then_state.requests ≡ upstreams.with_due kept.upstreams pending.due
+    requests_kept =
+        ap (λ (u : Summary). serving.after setup (told_in u) s.requests (serving.Move.Sends (noted_of frame))) told
+        ∙ ap (λ (hs : List serving.Held). record { held = hs; live = s.requests.live; due = s.requests.due; count = s.requests.count }) (all_kept (told_in (summary_in (paid_of book frame))) s.requests.held (all_held_served setup run s leads.stands leads.so))
+        ∙ leads.keeps.requests
+
+    encoding_kept : then_state.tables.encoding ≡ kept.encoding
+    encoding_kept = ap (λ (b : Option Partial). tables.encoding_after b s.tables.encoding.table s.tables.encoding) (completes_none (told_by s).block_out frame control) ∙ leads.keeps.encoding
+
+    windows_kept : then_state.windows ≡ s.windows
+    windows_kept = windows_sent setup.passing (gates_in (told_by s) s.requests) s.windows (sight_in (told_by s)) (sight_in (told_behind setup s deed)) (noted_of frame) control.no_update leads.keeps.credited.none_wait
+
+    credited : IsCredited paid_pending kept.inbound then_state.windows
+    credited =
+        let was = leads.keeps.credited in
+        subst (λ (w : receiving.Kept). IsCredited paid_pending kept.inbound w) (sym windows_kept) (record { fresh = was.fresh; shared = was.shared; own = was.own; others = was.others; none_wait = was.none_wait })
+
+    counted : (k : ℕ) (c : Connection) → find number_of k kept.upstreams.live ≡ Some c → (then_state.windows.out k ≡ c.out) × (then_state.windows.took k ≡ c.took)
+    counted k c found = subst (λ (w : receiving.Kept). (w.out k ≡ c.out) × (w.took k ≡ c.took)) (sym windows_kept) (leads.keeps.counted k c found)
+
+    keeps : Keeps paid_view paid_pending then_state
+    keeps = record {
+      book = book_kept;
+      owed = ap (λ (d : Desk). d.queue) desk;
+      offers = offers_kept;
+      requests = requests_kept;
+      decoding = leads.keeps.decoding;
+      encoding = encoding_kept;
+      read = leads.keeps.read;
+      credited = credited;
+      counted = counted;
+    }
+
+    leads_on : Leads setup (Does deed ∷ run) paid_view paid_pending then_state
+    leads_on = record {
+      stands = one_more setup run s (Does deed) leads.stands may;
+      so = so_stays setup run deed tt leads.so;
+      heard = heard_stays setup run s leads.stands leads.so kept.upstreams.live (ap (λ (r : serving.State). r.live) leads.keeps.requests) deed tt leads.heard;
+      keeps = keeps;
+    }
+
+  -- A frame that is owed is sent, and then it is owed no more.
+  pub pays : PerformsOwn setup kept pending outputs paid_view paid_pending (put outputs (ToClient (spell frame)))
+  pays run s leads = record {
+    segment = record {
+      moves = Does (deed run s leads) ∷ [];
+      state = then_state run s leads;
+      by_rule = (s, refl, may run s leads, refl);
+      leads = leads_on run s leads;
+      puts = refl;
+    };
+    are_own = (fits, tt);
+  }
+
+-- ---- the frames that are control frames
+
+abbrev is_control : (frame : Control) → IsControl (frame_of frame)
+is_control control.Settings = record { no_data = refl; no_headers = refl; no_reset = refl; no_update = refl; no_continuation = refl }
+is_control control.SettingsAck = record { no_data = refl; no_headers = refl; no_reset = refl; no_update = refl; no_continuation = refl }
+is_control (control.PingAck octets) = record { no_data = refl; no_headers = refl; no_reset = refl; no_update = refl; no_continuation = refl }
+is_control (control.Farewell last code) = record { no_data = refl; no_headers = refl; no_reset = refl; no_update = refl; no_continuation = refl }
+
+on_connection : (frame : Control) → (frame_of frame).id ≡ 0
+on_connection control.Settings = refl
+on_connection control.SettingsAck = refl
+on_connection (control.PingAck octets) = refl
+on_connection (control.Farewell last code) = refl
+
+all_fit : (frame : Control) → IsShort frame → Fits (frame_of frame)
+all_fit control.Settings short = record { kind = omega arith; flags = omega arith; id = omega arith; payload = omega arith }
+all_fit control.SettingsAck short = record { kind = omega arith; flags = omega arith; id = omega arith; payload = omega arith }
+all_fit (control.PingAck octets) short = record { kind = omega arith; flags = omega arith; id = omega arith; payload = short }
+all_fit (control.Farewell last code) short = record { kind = omega arith; flags = omega arith; id = omega arith; payload = omega arith }
+
+-- So what code does when it pays performs.
+pub pays_control : (setup : Setup) (kept : View) (pending : Pending) (rest : List Frame) (frame : Control) → IsShort frame → pending.owed ≡ frame_of frame ∷ rest → pending.due ≡ Nothing → (outputs : List Output)
+    → PerformsOwn setup kept pending outputs (record kept { untaken = kept.untaken + length (spell (frame_of frame)) }) (record pending { owed = rest }) (put outputs (ToClient (spell (frame_of frame))))
+pays_control setup kept pending rest frame short front nothing_due outputs = pays setup kept pending rest (frame_of frame) (is_control frame) (on_connection frame) (all_fit frame short) front nothing_due outputs
+
+-- What is promised where something succeeds may be said in other words.
+pub on_ok : {T : Type 0} {E : Type 0} {A : Type 0} {B : Type 0} (r : Result T E) → (A → B) → OnOk r A → OnOk r B
+on_ok (Ok x) f a = f a
+on_ok (Err e) f a = tt

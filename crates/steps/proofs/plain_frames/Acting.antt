@@ -1,0 +1,321 @@
+-- What is done by the judgement's answer is right of the frame.
+use Rattle.std.proofs.Common.{◌≡◌, ℕ, ◌<◌, ◌≤◌, Bool, true, false, not, ◌&&◌, ◌||◌, ◌==◌, if◌then◌else◌, List, [], ◌∷◌, ◌++◌, length, Option, Some, None, refl, sym, ◌∙◌, ap, subst, arith}
+use Rattle.std.proofs.lemmas.Bool.{and_parts, eqb-true}
+use Rattle.std.specs.Prelude.{is_none, option_map}
+use Rattle.model.specs.Frames.{Frame, Fits, data_kind, rst_stream_kind, window_update_kind, settings_kind, ping_kind, settings_ack, enhance_your_calm, is_ack, content, ends_stream, flow_control_error}
+use Rattle.model.specs.Logs.{Output}
+use Rattle.model.specs.Setup.{Setup}
+use Rattle.model.specs.Setup.Passing.{Whole}
+use Rattle.model.specs.SettingValues.{settings_in, settings_fault, values_of, header_table_size, initial_window_after, SettingsFault, code_of_fault}
+use Rattle.model.specs.Tapes.Note.{NoBlock}
+use Rattle.model.specs.Decoding.{Partial}
+use Rattle.model.specs.Errors.{Fault, first_of, or_else}
+use Rattle.model.specs.Errors.Fault.{Connection}
+use Rattle.model.specs.ErrorClause.{is_fatal, rst_stream, ping_ack}
+use Rattle.model.specs.WindowsOnTape.{is_any, data_length, has_settings}
+use Rattle.model.specs.Messages.Item.{Content}
+use Rattle.model.specs.FrameErrors.{fault_if}
+use Rattle.conduct.specs.Summary.{Summary}
+use Rattle.conduct.specs.Judging.{completed_in, rows_in, frame_rows_in, shifts_past_in, malformed_in}
+use Rattle.conduct.specs.Owing.{fault_in, owes_in}
+use Rattle.conduct.specs.After.{is_sound}
+use Rattle.conduct.specs.Rows.{ids_of, find}
+use Rattle.conduct.specs.Rows.Slot.{Over}
+use Rattle.conduct.specs.Quiet.{noted_of, coming, sending}
+use Rattle.conduct.specs.Book.{Book, summary_in, book_after}
+use Rattle.conduct.specs.Tidy.{AreKept}
+use Rattle.conduct.proofs.Seen.{none_at}
+use Rattle.conduct.proofs.Rows.{ids_changed}
+use Rattle.serving.specs.State.{Due}
+use Rattle.serving.specs.State.Due.{Nothing}
+use Rattle.header_blocks.specs.Encoding.{Encoding}
+use Rattle.tables.specs.Rule.{IsNoted}
+use Rattle.tables.specs.State.{named_by}
+use Rattle.tables.specs.Verdicts.{verdict_in}
+use Rattle.streams_kept.proofs.Changes.{same_ids}
+use Rattle.judgement.specs.Inbound.{Inbound, Outside, book_of, told_of}
+use Rattle.judgement.specs.Judgement.{IsPlain, IsJudged, IsTaken, behind, cause_before, cause_behind}
+use Rattle.judgement.specs.declared.answers.Fault.TheVariants as fault
+use Rattle.judgement.specs.declared.answers.Judged.{Judged}
+use Rattle.judgement.specs.declared.answers.Judged.TheVariants as judged
+use Rattle.upstreams.specs.Requests.{due_in}
+use Rattle.policy.specs.Moves.{Move}
+use Rattle.policy.specs.State.{State}
+use Rattle.policy.specs.Steps.{told_by}
+use Rattle.policy.specs.Rule.{Adds, added_in}
+use Rattle.relay.specs.View.{View, square, Leads}
+use Rattle.relay.specs.Rest.{IsAtRest, NoneCut, Reached}
+use Rattle.relay.specs.Bringing.{Brings}
+use Rattle.relay.proofs.Answered.{plain_gain, plain_owes}
+use Rattle.relay.proofs.Bringing.{brings_then}
+use Rattle.relay.proofs.Staying.{rows_kept}
+use Rattle.relay.proofs.Coming.{no_outside, encoding_with}
+use Rattle.relay.specs.Gains.{GoesOn}
+use Rattle.steps.specs.plain_frames.Acting.{goes_on, Goes, Ends, IsPaid, IsActed, IsContentIf, IsRepliedBy, IsLeft, MayAct}
+use Rattle.steps.specs.plain_frames.Kept.{limited}
+use Rattle.steps.specs.plain_frames.Taken.{IsPassed, IsPlainTaken}
+use Rattle.steps.specs.declared.plain_frames.taking.Taken.{Taken}
+use Rattle.steps.specs.declared.plain_frames.taking.Taken.TheVariants as taken
+use Rattle.steps.proofs.plain_frames.Streams.{none_completed, ids_now}
+use Rattle.steps.proofs.plain_frames.Faults.{names_none}
+use Rattle.steps.proofs.plain_frames.Coming.{few, kept_rows}
+use Rattle.steps.proofs.plain_frames.Quiet.{quiet, taken_by, passed_over}
+use Rattle.steps.proofs.plain_frames.Ending.{none_cut_without, reset_by_client, refused}
+use Rattle.steps.proofs.plain_frames.Bodies.{is_active_now}
+use Rattle.steps.proofs.plain_frames.Contents.{left_alone, may_end, gathers, finishes}
+use Rattle.steps.proofs.plain_frames.Replies.{head_same, offered, offered_cuts_none, cut_short}
+
+-- a reset fits to be spelled
+fits : (id code : ℕ) → id < 2147483648 → Fits (rst_stream id code)
+fits id code small = record { kind = omega arith; flags = omega arith; id = small; payload = omega arith }
+
+-- ---- settings that are taken
+
+first_rows : (rows later : List (Option Fault)) → first_of (rows ++ later) ≡ None → first_of rows ≡ None
+first_rows [] later none = refl
+first_rows (None ∷ rows) later none = first_rows rows later none
+first_rows (Some fault ∷ rows) later none = cc
+
+none_mapped : (o : Option SettingsFault) → option_map (λ fault. Connection (code_of_fault fault)) o ≡ None → is_none o ≡ true
+none_mapped None is = refl
+none_mapped (Some fault) is = cc
+
+none_shifted : (x : Bool) (code : ℕ) → fault_if x (Connection code) ≡ None → not x ≡ true
+none_shifted false code is = refl
+none_shifted true code is = cc
+
+rows_none : (a b : Option Fault) → or_else a b ≡ None → a ≡ None
+rows_none None b e = refl
+rows_none (Some fault) b e = e
+
+all_true : (a b c d : Bool) → a ≡ true → b ≡ true → c ≡ true → d ≡ true → (a && (b && c && d)) ≡ true
+all_true true true true true a b c d = refl
+all_true false b c d e f g h = cc
+all_true true false c d e f g h = cc
+all_true true true false d e f g h = cc
+all_true true true true false e f g h = cc
+
+module _ (s : Summary) (frame : Frame) (has : has_settings frame ≡ true) (faultless : fault_in s (coming frame) ≡ None) where
+  rows : first_of (rows_in s (noted_of frame)) ≡ None
+  rows = rows_none (first_of (rows_in s (noted_of frame))) (malformed_in (s.stream frame.id).brief s (coming frame)) faultless
+
+  sound : is_sound s frame ≡ true
+  sound = ap (λ (o : Option Fault). is_none o) (first_rows (frame_rows_in s frame) _ rows)
+
+  values : is_none (settings_fault frame.payload) ≡ true
+  values = none_mapped (settings_fault frame.payload) (sym (ap (λ x. if x then option_map (λ fault. Connection (code_of_fault fault)) (settings_fault frame.payload) else None) has) ∙ none_at 6 (rows_in s (noted_of frame)) rows)
+
+  unshifted : not (shifts_past_in (initial_window_after s.first_size (settings_in frame.payload)) s) ≡ true
+  unshifted = none_shifted (shifts_past_in (initial_window_after s.first_size (settings_in frame.payload)) s) _ (sym (ap (λ x. fault_if (x && shifts_past_in (initial_window_after s.first_size (settings_in frame.payload)) s) (Connection flow_control_error)) has) ∙ none_at 7 (rows_in s (noted_of frame)) rows)
+
+  settings_named : (encoding : Encoding) → encoding_with (named_by (verdict_in s frame) frame) encoding ≡ limited (values_of header_table_size (settings_in frame.payload)) encoding
+  settings_named encoding =
+      ap (λ x. encoding_with (named_by (record (verdict_in s frame) { is_taken = x }) frame) encoding)
+      (all_true (is_sound s frame) (has_settings frame) (is_none (settings_fault frame.payload)) (not (shifts_past_in (initial_window_after s.first_size (settings_in frame.payload)) s)) sound has values unshifted)
+
+-- ---- one frame
+
+module _ (setup : Setup) (whole : setup.passing ≡ Whole) (old : View) (rest : IsAtRest old) (setup' : Setup) (reached : Reached setup' old square) (frame : Frame) (plain : IsPlain frame) (small : frame.id < 2147483648) (inbound : Inbound) (table : inbound.table ≡ old.inbound.table) where
+  abbrev b : Book
+  b = book_of no_outside old.inbound
+
+  abbrev mid : View
+  mid = record old { inbound = inbound }
+
+  kept : AreKept old.inbound.rows
+  kept = kept_rows setup' reached.0 old reached.1 reached.2
+
+  -- what is done, in words of the answer that is given
+  finish : (due : Due) (answer : Taken) (outputs new_outputs put_out : List Output) (target new : View) → Goes due answer → new ≡ target → put_out ≡ new_outputs
+      → Brings setup old square outputs (coming frame) target (record square { due = due; fresh = data_length is_any frame }) new_outputs → NoneCut target.offers → ids_of target.inbound.rows ≡ ids_of old.inbound.rows → target.inbound.last ≡ frame.id
+      → IsPlainTaken setup old outputs frame answer new put_out
+  finish due (taken.Fatal code) outputs new_outputs put_out target new goes new_is puts brings none_cut ids last = absurd goes
+  finish due (taken.Goes request) outputs new_outputs put_out target new goes new_is puts brings none_cut ids last =
+      subst (λ (v : View). IsPassed setup old outputs frame request v put_out) (sym new_is)
+      (subst (λ (o : List Output). IsPassed setup old outputs frame request target o) (sym puts)
+      (record {
+        brings = subst (λ (d : Due). Brings setup old square outputs (coming frame) target (record square { due = d; fresh = data_length is_any frame }) new_outputs) (sym goes) brings;
+        none_cut = none_cut;
+        ids = ids;
+        last = last;
+      }))
+
+  module _ (left : book_of no_outside inbound ≡ behind setup b frame) where
+    ids_left : ids_of inbound.rows ≡ ids_of old.inbound.rows
+    ids_left = ap (λ (x : Book). ids_of x.rows) left ∙ ids_now setup b frame plain kept
+
+    last_left : inbound.last ≡ frame.id
+    last_left = ap (λ (x : Book). x.last) left
+
+  -- ---- an error of the connection
+
+  completes_none : (x : Book) → AreKept x.rows → completed_in x.block frame ≡ None
+  completes_none x kept = none_completed setup x frame plain kept
+
+  fatal_so : (code : ℕ) (answer : Taken) (outputs put_out : List Output) (new : View) → ((outside : Outside) → IsJudged setup (book_of outside old.inbound) frame (book_of outside inbound) (judged.Failed (fault.Connection code)))
+      → Ends code answer → new ≡ mid → put_out ≡ outputs → IsPlainTaken setup old outputs frame answer new put_out
+  fatal_so code (taken.Goes request) outputs put_out new failed ends new_is puts = absurd ends
+  fatal_so code (taken.Fatal told) outputs put_out new failed ends new_is puts = record {
+    nothing_put = puts;
+    upstreams = ap (λ (v : View). v.upstreams) new_is;
+    encoding = ap (λ (v : View). v.encoding) new_is;
+    untaken = ap (λ (v : View). v.untaken) new_is;
+    rows = ap (λ (v : View). v.inbound.rows) new_is ∙ ap (λ (x : Book). x.rows) (failed no_outside).left;
+    fault = λ run s leads. by_book run s leads ∙ ap (λ n. Some (Connection n)) (sym ends);
+    fatal = λ run s leads. record {
+      fatal = ap is_fatal (by_book run s leads);
+      noted_right = record { is_noted = subst (λ (o : Option Partial). IsNoted o (verdict_in (told_by s) frame).is_error s.tables.decoding NoBlock s.tables.decoding) (sym (completes_none s.desk.book (rows_kept setup run s leads.stands))) refl };
+      read = λ unread. absurd (let no : true ≡ false = unread in cc);
+    };
+  }
+    where
+      by_book : (run : List Move) (s : State) → Leads setup run old square s → fault_in (told_by s) (coming frame) ≡ Some (Connection code)
+      by_book run s leads = ap (λ (x : Book). fault_in (summary_in x) (coming frame)) leads.keeps.book ∙ (failed (record { given = s.desk.book.given; untaken = old.untaken })).is
+
+  -- ---- each answer
+
+  -- a frame that gains nothing and calls for nothing
+  quiet_so : (answer : Judged) → ((outside : Outside) → IsTaken setup (book_of outside old.inbound) frame (book_of outside inbound) answer) → (kind : ℕ) → frame.kind ≡ kind → (kind == data_kind) ≡ false → (kind == rst_stream_kind) ≡ false → has_settings (record frame { kind = kind }) ≡ false
+      → ((outside : Outside) → owes_in setup false (told_of outside old.inbound) (coming frame) ≡ []) → ((run : List Move) (s : State) → Leads setup run old square s → added_in setup (told_by s) (noted_of frame) ≡ [])
+      → (given : Taken) (outputs put_out : List Output) (new : View) → IsLeft mid outputs given new put_out → IsPlainTaken setup old outputs frame given new put_out
+  quiet_so answer taken kind is no_data no_reset no_settings owes adds given outputs put_out new left =
+      finish Nothing given outputs outputs put_out mid new left.goes left.kept left.puts
+      (quiet setup old rest frame plain inbound table answer taken (ap (λ k. k == data_kind) is ∙ no_data) (ap (λ k. k == rst_stream_kind) is ∙ no_reset) [] old.encoding owes
+      (λ outside. names_none (told_of outside old.inbound) frame (ap (λ k. has_settings (record frame { kind = k })) is ∙ no_settings) old.encoding) adds outputs)
+      rest.none_cut (ids_left (taken no_outside).left) (last_left (taken no_outside).left)
+
+  -- a control frame is owed, and was sent
+  paid_so : (answer : Judged) → ((outside : Outside) → IsTaken setup (book_of outside old.inbound) frame (book_of outside inbound) answer) → (kind : ℕ) → frame.kind ≡ kind → (kind == data_kind) ≡ false → (kind == rst_stream_kind) ≡ false → (encoding : Encoding)
+      → ((outside : Outside) → encoding_with (named_by (verdict_in (told_of outside old.inbound) frame) frame) old.encoding ≡ encoding) → (owed : Frame)
+      → ((outside : Outside) → owes_in setup false (told_of outside old.inbound) (coming frame) ≡ owed ∷ []) → ((run : List Move) (s : State) → Leads setup run old square s → added_in setup (told_by s) (noted_of frame) ≡ [])
+      → (given : Taken) (outputs put_out : List Output) (new : View) → IsPaid owed (record mid { encoding = encoding }) outputs given new put_out → IsPlainTaken setup old outputs frame given new put_out
+  paid_so answer taken kind is no_data no_reset encoding encodes owed owes adds given outputs put_out new paid =
+      finish Nothing given outputs put_out put_out new new paid.goes refl refl
+      (brings_then setup old (record mid { encoding = encoding }) new square (record square { owed = owed ∷ []; fresh = data_length is_any frame }) (record square { fresh = data_length is_any frame }) outputs outputs put_out (coming frame)
+      (quiet setup old rest frame plain inbound table answer taken (ap (λ k. k == data_kind) is ∙ no_data) (ap (λ k. k == rst_stream_kind) is ∙ no_reset) (owed ∷ []) encoding owes encodes adds outputs)
+      (paid.performs setup [] (record square { owed = owed ∷ []; fresh = data_length is_any frame }) refl refl))
+      (subst (λ (v : View). NoneCut v.offers) (sym paid.kept) rest.none_cut)
+      (ap (λ (v : View). ids_of v.inbound.rows) paid.kept ∙ ids_left (taken no_outside).left)
+      (ap (λ (v : View). v.inbound.last) paid.kept ∙ last_left (taken no_outside).left)
+
+  -- DATA
+  content_so : (answer : Judged) (so : (outside : Outside) → IsTaken setup (book_of outside old.inbound) frame (book_of outside inbound) answer) (kind : frame.kind ≡ data_kind)
+      → (octets : List ℕ) (ends : Bool) → octets ≡ content frame → ends ≡ ends_stream frame → cause_behind setup b frame ≡ cause_before b frame
+      → ((outside : Outside) → owes_in setup false (told_of outside old.inbound) (coming frame) ≡ [])
+      → ((run : List Move) (s : State) → Leads setup run old square s → (GoesOn (told_by s) frame.id → Adds setup (told_by s) (noted_of frame) (Content octets ends)) × (((told_by s).stream frame.id).brief.over ≡ true → added_in setup (told_by s) (noted_of frame) ≡ []))
+      → (on : Bool) → goes_on old.inbound.rows frame.id ≡ on → (last : Bool) → ends ≡ last → (given : Taken) (outputs put_out : List Output) (new : View) → IsContentIf on last frame.id octets mid outputs given new put_out → IsPlainTaken setup old outputs frame given new put_out
+  content_so answer so kind octets ends a c d owes gains false on last ends_is given outputs put_out new left =
+      finish Nothing given outputs outputs put_out mid new left.goes left.kept left.puts
+      (left_alone setup old rest frame plain inbound table answer so kind octets ends a c d owes gains on outputs)
+      rest.none_cut (ids_left (so no_outside).left) (last_left (so no_outside).left)
+  content_so answer so kind octets ends a c d owes gains true on false ends_is given outputs put_out new done =
+      finish Nothing given outputs outputs put_out _ new done.0.goes done.0.kept done.1
+      (gathers setup old rest frame plain inbound table answer so kind octets ends a c d owes gains whole on ends_is outputs)
+      rest.none_cut (ids_left (so no_outside).left) (last_left (so no_outside).left)
+  content_so answer so kind octets ends a c d owes gains true on true ends_is (taken.Fatal code) outputs put_out new done = absurd done.0.whole
+  content_so answer so kind octets ends a c d owes gains true on true ends_is (taken.Goes None) outputs put_out new done = absurd done.0.whole
+  content_so answer so kind octets ends a c d owes gains true on true ends_is (taken.Goes (Some request)) outputs put_out new done =
+      finish (due_in (Some request)) (taken.Goes (Some request)) outputs outputs put_out _ new refl done.0.kept done.1
+      (finishes setup old rest frame plain inbound table answer so kind octets ends a c d owes gains whole on ends_is request done.0.whole outputs)
+      rest.none_cut (ids_left (so no_outside).left) (last_left (so no_outside).left)
+
+  -- a body that is too long
+  replied_so : (taken : (outside : Outside) → IsTaken setup (book_of outside old.inbound) frame (book_of outside inbound) judged.LargeBody) → ((outside : Outside) → IsTaken setup' (book_of outside old.inbound) frame (book_of outside inbound) judged.LargeBody) → (out : Bool) → (find old.inbound.rows frame.id).head_out ≡ out
+      → (given : Taken) (outputs put_out : List Output) (new : View) → IsRepliedBy out frame.id mid outputs given new put_out → IsPlainTaken setup old outputs frame given new put_out
+  replied_so taken taken' false out given outputs put_out new done =
+      finish Nothing given outputs outputs put_out _ new done.goes done.kept done.puts
+      (offered setup old rest frame plain inbound table taken out outputs)
+      (offered_cuts_none setup' old rest frame plain inbound table taken' out reached.0 reached.1 reached.2)
+      (ids_left (taken no_outside).left) (last_left (taken no_outside).left)
+  replied_so taken taken' true out given outputs put_out new done =
+      finish Nothing given outputs _ put_out _ new done.goes done.kept done.puts
+      (cut_short setup old rest frame plain inbound table taken out (fits frame.id enhance_your_calm small) outputs)
+      (none_cut_without frame.id old.offers rest.none_cut)
+      (same_ids frame.id (Over true) inbound.rows ∙ ids_left (taken no_outside).left) (last_left (taken no_outside).left)
+
+  -- What is done by an answer is right of the frame.
+  pub acted_so : (answer : Judged) → ((outside : Outside) → IsJudged setup (book_of outside old.inbound) frame (book_of outside inbound) answer) → ((outside : Outside) → IsJudged setup' (book_of outside old.inbound) frame (book_of outside inbound) answer) → (given : Taken) (outputs put_out : List Output) (new : View)
+      → IsActed (goes_on old.inbound.rows frame.id) frame.id answer mid outputs given new put_out → IsPlainTaken setup old outputs frame given new put_out
+  acted_so (judged.Failed (fault.Connection code)) so so' given outputs put_out new done = fatal_so code given outputs put_out new so done.0 done.1 done.2
+  acted_so (judged.Failed (fault.Stream code)) so so' given outputs put_out new done =
+      finish Nothing given outputs _ put_out _ new done.goes done.kept done.puts
+      (refused setup old rest frame plain inbound table code (fits frame.id code small) (λ outside. (so outside).is) (so no_outside).left outputs)
+      (none_cut_without frame.id old.offers rest.none_cut)
+      ids last
+    where
+      reset_book : inbound.rows ≡ (book_after setup false (behind setup b frame) (sending (rst_stream frame.id code))).rows
+      reset_book = ap (λ (x : Book). x.rows) (so no_outside).left
+
+      ids : ids_of inbound.rows ≡ ids_of old.inbound.rows
+      ids =
+          ap ids_of reset_book
+          ∙ ids_changed setup false (summary_in (behind setup b frame)) (sending (rst_stream frame.id code)) (behind setup b frame).rows
+          ∙ ids_now setup b frame plain kept
+
+      last : inbound.last ≡ frame.id
+      last = ap (λ (x : Book). x.last) (so no_outside).left
+  acted_so (judged.Failed fault.Discarded) so so' given outputs put_out new done =
+      finish Nothing given outputs outputs put_out mid new done.goes done.kept done.puts
+      (passed_over setup old rest frame plain inbound table (λ outside. (so outside).left) (λ outside. (so outside).is) outputs)
+      rest.none_cut (ids_left (so no_outside).left) (last_left (so no_outside).left)
+  acted_so judged.Ignored so so' given outputs put_out new done =
+      quiet_so judged.Ignored so frame.kind refl parts.0 parts.1 parts.2
+      (λ outside. plain_owes setup (book_of outside old.inbound) frame plain (book_of outside inbound) judged.Ignored (so outside))
+      (λ run s leads. plain_gain setup s.desk.book frame plain (few setup run old s leads) (book_of (record { given = s.desk.book.given; untaken = old.untaken }) inbound) judged.Ignored (taken_by setup old rest frame plain inbound table judged.Ignored so run s leads))
+      given outputs put_out new done
+    where
+      ignored : (a b c d e : Bool) → not (a || b || c || d || e) ≡ true → (a ≡ false) × (b ≡ false) × (d ≡ false)
+      ignored false false false false false is = (refl, refl, refl)
+      ignored true b c d e is = cc
+      ignored false true c d e is = cc
+      ignored false false true d e is = cc
+      ignored false false false true e is = cc
+      ignored false false false false true is = cc
+
+      parts : ((frame.kind == data_kind) ≡ false) × ((frame.kind == rst_stream_kind) ≡ false) × (has_settings frame ≡ false)
+      parts = ignored (frame.kind == data_kind) (frame.kind == rst_stream_kind) (frame.kind == window_update_kind) (has_settings frame) (frame.kind == ping_kind && not (is_ack frame)) (so no_outside).says
+  acted_so judged.Granted so so' given outputs put_out new done =
+      quiet_so judged.Granted so window_update_kind (so no_outside).says refl refl refl
+      (λ outside. plain_owes setup (book_of outside old.inbound) frame plain (book_of outside inbound) judged.Granted (so outside))
+      (λ run s leads. plain_gain setup s.desk.book frame plain (few setup run old s leads) (book_of (record { given = s.desk.book.given; untaken = old.untaken }) inbound) judged.Granted (taken_by setup old rest frame plain inbound table judged.Granted so run s leads))
+      given outputs put_out new done
+  acted_so (judged.Settings change) so so' given outputs put_out new done =
+      paid_so (judged.Settings change) so settings_kind (eqb-true frame.kind settings_kind (and_parts (frame.kind == settings_kind) (not (is_ack frame)) (so no_outside).says.0).0) refl refl (limited (values_of header_table_size (settings_in frame.payload)) old.encoding)
+      (λ outside. settings_named (told_of outside old.inbound) frame (so outside).says.0 (so outside).faultless old.encoding) settings_ack
+      (λ outside. plain_owes setup (book_of outside old.inbound) frame plain (book_of outside inbound) (judged.Settings change) (so outside))
+      (λ run s leads. plain_gain setup s.desk.book frame plain (few setup run old s leads) (book_of (record { given = s.desk.book.given; untaken = old.untaken }) inbound) (judged.Settings change) (taken_by setup old rest frame plain inbound table (judged.Settings change) so run s leads))
+      given outputs put_out new (done (settings_in frame.payload) (so no_outside).says.1.smallest (so no_outside).says.1.last)
+  acted_so (judged.Ping octets) so so' given outputs put_out new done =
+      paid_so (judged.Ping octets) so ping_kind (so no_outside).says.0 refl refl old.encoding
+      (λ outside. names_none (told_of outside old.inbound) frame (ap (λ k. has_settings (record frame { kind = k })) (so no_outside).says.0) old.encoding) (ping_ack octets.now)
+      (λ outside. plain_owes setup (book_of outside old.inbound) frame plain (book_of outside inbound) (judged.Ping octets) (so outside))
+      (λ run s leads. plain_gain setup s.desk.book frame plain (few setup run old s leads) (book_of (record { given = s.desk.book.given; untaken = old.untaken }) inbound) (judged.Ping octets) (taken_by setup old rest frame plain inbound table (judged.Ping octets) so run s leads))
+      given outputs put_out new done
+  acted_so judged.Reset so so' given outputs put_out new done =
+      finish Nothing given outputs outputs put_out _ new done.goes done.kept done.puts
+      (reset_by_client setup old rest frame plain inbound table so (so no_outside).says outputs)
+      (none_cut_without frame.id old.offers rest.none_cut)
+      (ids_left (so no_outside).left) (last_left (so no_outside).left)
+  acted_so (judged.Content octets ends) so so' given outputs put_out new done =
+      content_so (judged.Content octets ends) so (so no_outside).says.0 octets.now ends (so no_outside).says.1 (so no_outside).says.2 (so no_outside).says.3
+      (λ outside. plain_owes setup (book_of outside old.inbound) frame plain (book_of outside inbound) (judged.Content octets ends) (so outside))
+      (λ run s leads. plain_gain setup s.desk.book frame plain (few setup run old s leads) (book_of (record { given = s.desk.book.given; untaken = old.untaken }) inbound) (judged.Content octets ends) (taken_by setup old rest frame plain inbound table (judged.Content octets ends) so run s leads))
+      (goes_on old.inbound.rows frame.id) refl ends refl given outputs put_out new done
+  acted_so judged.LargeBody so so' given outputs put_out new done =
+      replied_so so so' (find old.inbound.rows frame.id).head_out refl given outputs put_out new
+      (subst (λ out. IsRepliedBy out frame.id mid outputs given new put_out) (head_same setup' old rest frame plain inbound table so' reached.0 reached.1 reached.2) done)
+
+  -- What has to be so for it is.
+  pub may_act : setup'.passing ≡ Whole → (answer : Judged) → ((outside : Outside) → IsJudged setup' (book_of outside old.inbound) frame (book_of outside inbound) answer) → length frame.payload ≤ 16384 → MayAct (goes_on old.inbound.rows frame.id) frame.id answer mid
+  may_act whole' (judged.Failed fault) so short = tt
+  may_act whole' judged.Ignored so short = tt
+  may_act whole' (judged.Settings change) so short = tt
+  may_act whole' (judged.Ping octets) so short = subst (λ (xs : List ℕ). length xs ≤ 16384) (sym (so no_outside).says.2) short
+  may_act whole' judged.Granted so short = tt
+  may_act whole' judged.Reset so short = tt
+  may_act whole' (judged.Content octets ends) so short = λ on last.
+      may_end setup' old rest frame plain inbound table (judged.Content octets ends) so (so no_outside).says.0 octets.now ends (so no_outside).says.1 (so no_outside).says.2 (so no_outside).says.3
+      (λ outside. plain_owes setup' (book_of outside old.inbound) frame plain (book_of outside inbound) (judged.Content octets ends) (so outside))
+      (λ run s leads. plain_gain setup' s.desk.book frame plain (few setup' run old s leads) (book_of (record { given = s.desk.book.given; untaken = old.untaken }) inbound) (judged.Content octets ends) (taken_by setup' old rest frame plain inbound table (judged.Content octets ends) so run s leads))
+      whole' on reached.0 reached.1 reached.2 last
+  may_act whole' judged.LargeBody so short = is_active_now setup' old rest frame plain inbound table judged.LargeBody so (so no_outside).says.0 reached.0 reached.1 reached.2

@@ -1,0 +1,135 @@
+-- A body that is longer than the gateway takes: it replies itself, or resets the stream where the final head of a response is out.
+use Rattle.std.proofs.Common.{◌≡◌, ◌+◌, true, false, not, ◌&&◌, List, [], ◌∷◌, length, Option, Some, None, refl, sym, ◌∙◌, ap, subst, inl, inr}
+use Rattle.std.proofs.lemmas.Bool.Decides.{eqb_tells}
+use Rattle.std.specs.Prelude.{is_none, option_map}
+use Rattle.model.specs.Frames.{Frame, Fits, spell, data_kind, enhance_your_calm}
+use Rattle.model.specs.Logs.{Output}
+use Rattle.model.specs.Logs.Output.{ToClient}
+use Rattle.model.specs.Setup.{Setup}
+use Rattle.model.specs.Tapes.{put}
+use Rattle.model.specs.Causes.{Cause}
+use Rattle.model.specs.ErrorClause.{rst_stream, reset_for}
+use Rattle.model.specs.WindowsOnTape.{is_any, data_length}
+use Rattle.conduct.specs.Summary.{Stream as Kept}
+use Rattle.conduct.specs.Rows.{find}
+use Rattle.conduct.specs.Rows.Slot.{Over}
+use Rattle.conduct.specs.Quiet.{coming}
+use Rattle.conduct.specs.Book.{Book}
+use Rattle.offering.specs.State as offering
+use Rattle.offering.specs.State.{Change, answered}
+use Rattle.offering.specs.Rule.{found_by}
+use Rattle.offering.proofs.Keeping.{find_changed, find_other, answered_id}
+use Rattle.serving.specs.State.{Held, Due, id_of, without}
+use Rattle.streams_kept.specs.Asked.{is_active, changed}
+use Rattle.judgement.proofs.BlockRows.{active_closed}
+use Rattle.judgement.specs.Inbound.{Inbound, Outside, book_of}
+use Rattle.judgement.specs.Judgement.{IsPlain, IsTaken}
+use Rattle.judgement.specs.declared.answers.Judged.TheVariants as judged
+use Rattle.upstreams.specs.Kept as upstreams
+use Rattle.policy.specs.Moves.{Gain, Move}
+use Rattle.policy.specs.State.{State}
+use Rattle.relay.specs.View.{View, Pending, square, Leads}
+use Rattle.relay.specs.Rest.{IsAtRest, NoneCut}
+use Rattle.relay.specs.Bringing.{Brings, PerformsOwn}
+use Rattle.relay.proofs.Answered.{plain_gain, plain_owes}
+use Rattle.relay.proofs.Bringing.{brings_then}
+use Rattle.relay.proofs.Heads.{none_cut_behind}
+use Rattle.relay.proofs.Kept.{changed_goes}
+use Rattle.relay.proofs.Resets.{reset_view, reset_paid}
+use Rattle.relay.proofs.Coming.{no_outside, change_between, offers_with}
+use Rattle.relay.specs.Owed.{owed_for}
+use Rattle.steps.specs.plain_frames.Kept.{forgotten}
+use Rattle.steps.proofs.plain_frames.Coming.{Passes, few, held_goes, came}
+use Rattle.steps.proofs.plain_frames.Quiet.{taken_by}
+use Rattle.steps.proofs.plain_frames.Ending.{held_twice}
+use Rattle.steps.proofs.plain_frames.Bodies.{mild, names, was_active, is_active_now, found_now}
+
+module _ (setup : Setup) (old : View) (rest : IsAtRest old) (frame : Frame) (plain : IsPlain frame) (inbound : Inbound) (table : inbound.table ≡ old.inbound.table) (taken : (outside : Outside) → IsTaken setup (book_of outside old.inbound) frame (book_of outside inbound) judged.LargeBody) where
+  abbrev kind : frame.kind ≡ data_kind
+  kind = (taken no_outside).says.0
+
+  abbrev replied : List offering.Kept
+  replied = offering.change frame.id (answered Cause.LargeBody) old.offers.kept
+
+  abbrev mid : View
+  mid = record { inbound = inbound; offers = record old.offers { kept = replied }; upstreams = record old.upstreams { held = without id_of frame.id old.upstreams.held }; encoding = old.encoding; untaken = old.untaken }
+
+  module _ (run : List Move) (s : State) (leads : Leads setup run old square s) where
+    now_active : is_active inbound.rows frame.id ≡ true
+    now_active = is_active_now setup old rest frame plain inbound table judged.LargeBody taken kind run s leads
+
+    -- whether a final head is out doesn't change
+    pub head_same : (find inbound.rows frame.id).head_out ≡ (find old.inbound.rows frame.id).head_out
+    head_same = ap (λ (k : Kept). k.head_out) (found_now setup old rest frame plain inbound table judged.LargeBody taken kind run s leads)
+
+    caused : (find inbound.rows frame.id).brief.cause ≡ Some Cause.LargeBody
+    caused = ap (λ (k : Kept). k.brief.cause) (found_now setup old rest frame plain inbound table judged.LargeBody taken kind run s leads) ∙ (taken no_outside).says.2
+
+    change : change_between old.inbound.rows inbound.rows frame.id ≡ record { opens = false; over = false; caused = Some Cause.LargeBody }
+    change =
+        ap (λ x. let c : Change = record { opens = not (is_active old.inbound.rows frame.id) && x; over = is_active old.inbound.rows frame.id && not x; caused = found_by (find old.inbound.rows frame.id).brief.cause (find inbound.rows frame.id).brief.cause } in c) now_active
+        ∙ ap (λ x. let c : Change = record { opens = not x && true; over = x && false; caused = found_by (find old.inbound.rows frame.id).brief.cause (find inbound.rows frame.id).brief.cause } in c) (was_active setup old rest frame plain inbound table judged.LargeBody taken kind run s leads)
+        ∙ ap (λ (o : Option Cause). let c : Change = record { opens = false; over = false; caused = found_by o (find inbound.rows frame.id).brief.cause } in c) (taken no_outside).says.1
+        ∙ ap (λ (o : Option Cause). let c : Change = record { opens = false; over = false; caused = found_by None o } in c) caused
+
+  comes : (owed : List Frame) → ((outside : Outside) → owed_for frame.id (find old.inbound.rows frame.id).head_out judged.LargeBody ≡ owed) → (outputs : List Output)
+      → Brings setup old square outputs (coming frame) mid (record square { owed = owed; fresh = data_length is_any frame }) outputs
+  comes owed owes outputs =
+      came setup old rest frame plain inbound table (taken no_outside).left (mild setup old rest frame plain inbound table judged.LargeBody taken kind) owed Due.Nothing
+      (record old.offers { kept = replied }) (record old.upstreams { held = without id_of frame.id old.upstreams.held }) old.encoding refl
+      (λ outside. plain_owes setup (book_of outside old.inbound) frame plain (book_of outside inbound) judged.LargeBody (taken outside) ∙ owes outside)
+      (names setup old rest frame plain inbound table judged.LargeBody taken kind)
+      passes outputs
+    where
+      passes : (run : List Move) (s : State) (leads : Leads setup run old square s) → Passes setup old rest frame plain inbound table (taken no_outside).left (mild setup old rest frame plain inbound table judged.LargeBody taken kind) (record old.offers { kept = replied }) (record old.upstreams { held = without id_of frame.id old.upstreams.held }) Due.Nothing s
+      passes run s leads =
+          let none = plain_gain setup s.desk.book frame plain (few setup run old s leads) (book_of (record { given = s.desk.book.given; untaken = old.untaken }) inbound) judged.LargeBody (taken_by setup old rest frame plain inbound table judged.LargeBody taken run s leads) in
+          record {
+            gain = Gain.Nothing;
+            right = none;
+            requests =
+                ap (λ (hs : List Held). upstreams.with_due (record old.upstreams { held = hs }) Due.Nothing)
+                (held_goes setup old rest frame plain inbound table (taken no_outside).left (mild setup old rest frame plain inbound table judged.LargeBody taken kind) run s leads none
+                (ap (λ x. x && is_none (find inbound.rows frame.id).brief.cause) (now_active run s leads) ∙ ap (λ (o : Option Cause). is_none o) (caused run s leads)));
+            on_offer = ap (λ (c : Change). offers_with frame.id c old.offers) (change run s leads);
+          }
+
+  -- The gateway's reply is on offer.
+  pub offered : (find old.inbound.rows frame.id).head_out ≡ false → (outputs : List Output) → Brings setup old square outputs (coming frame) mid (record square { fresh = data_length is_any frame }) outputs
+  offered not_out outputs = comes [] (λ outside. ap (λ out. reset_for frame.id out None (Some Cause.LargeBody)) not_out) outputs
+
+  -- no reset is owed then
+  pub offered_cuts_none : (find old.inbound.rows frame.id).head_out ≡ false → (run : List Move) (s : State) → Leads setup run old square s → NoneCut (record old.offers { kept = replied })
+  offered_cuts_none not_out run s leads other k found = elim (eqb_tells frame.id other) [
+    | inr apart ↦ rest.none_cut other k (sym (find_other frame.id other (answered Cause.LargeBody) old.offers.kept (answered_id Cause.LargeBody) apart.1) ∙ found)
+    | inl is ↦ by (offering.find frame.id old.offers.kept) refl (sym (find_changed frame.id (answered Cause.LargeBody) old.offers.kept (answered_id Cause.LargeBody)) ∙ ap (λ n. offering.find n replied) is.1 ∙ found)
+  ]
+    where
+      by : (o : Option offering.Kept) → offering.find frame.id old.offers.kept ≡ o → option_map (answered Cause.LargeBody) o ≡ Some k → k.cut ≡ false
+      by None there is = cc
+      by (Some x) there is =
+          let same : answered Cause.LargeBody x ≡ k = cc in
+          ap (λ (y : offering.Kept). y.cut) (sym same)
+          ∙ none_cut_behind setup run s leads.stands leads.so frame.id x (ap (λ (o : offering.State). offering.find frame.id o.kept) leads.keeps.offers ∙ there) (rest.none_cut frame.id x there) (ap (λ (b : Book). (find b.rows frame.id).head_out) leads.keeps.book ∙ not_out) Cause.LargeBody
+
+  -- ---- where it is too late to reply
+
+  abbrev final : View
+  final = record (forgotten frame.id (record old { inbound = record inbound { rows = changed frame.id (Over true) inbound.rows } })) { untaken = old.untaken + length (spell (rst_stream frame.id enhance_your_calm)) }
+
+  abbrev owing : Pending
+  owing = record square { owed = rst_stream frame.id enhance_your_calm ∷ []; fresh = data_length is_any frame }
+
+  -- The stream is reset, and nothing is kept of it any more.
+  pub cut_short : (find old.inbound.rows frame.id).head_out ≡ true → Fits (rst_stream frame.id enhance_your_calm) → (outputs : List Output)
+      → Brings setup old square outputs (coming frame) final (record square { fresh = data_length is_any frame }) (put outputs (ToClient (spell (rst_stream frame.id enhance_your_calm))))
+  cut_short out fits outputs run s leads =
+      brings_then setup old mid final square owing (record square { fresh = data_length is_any frame }) outputs outputs (put outputs (ToClient (spell (rst_stream frame.id enhance_your_calm)))) (coming frame)
+      (comes (rst_stream frame.id enhance_your_calm ∷ []) (λ outside. ap (λ out. reset_for frame.id out None (Some Cause.LargeBody)) out) outputs)
+      (subst (λ (v : View). PerformsOwn setup mid owing outputs v (record square { fresh = data_length is_any frame }) (put outputs (ToClient (spell (rst_stream frame.id enhance_your_calm))))) final_is (reset_paid setup mid owing [] frame.id enhance_your_calm refl refl (active_closed inbound.rows frame.id (now_active run s leads)) fits outputs))
+      run s leads
+    where
+      final_is : reset_view mid frame.id enhance_your_calm ≡ final
+      final_is =
+          ap (λ (ks : List offering.Kept). record (reset_view mid frame.id enhance_your_calm) { offers = record old.offers { kept = ks } }) (changed_goes frame.id (answered Cause.LargeBody) (answered_id Cause.LargeBody) old.offers.kept)
+          ∙ ap (λ (hs : List Held). record final { upstreams = record old.upstreams { held = hs } }) (held_twice frame.id old.upstreams.held)

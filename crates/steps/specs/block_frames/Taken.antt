@@ -1,0 +1,48 @@
+-- What comes of a frame of the client with a fragment of a header block.
+use Rattle.std.specs.Prelude.{◌≡◌, ◌⊎◌, ℕ, true, List, Option, Some}
+use Rattle.model.specs.Frames.{Frame}
+use Rattle.model.specs.Logs.{Output}
+use Rattle.model.specs.Setup.{Setup}
+use Rattle.model.specs.Tables.{Table}
+use Rattle.model.specs.Tapes.{Note}
+use Rattle.model.specs.Tapes.Entry.{Came}
+use Rattle.model.specs.Errors.Fault.{Connection}
+use Rattle.conduct.specs.Owing.{fault_in}
+use Rattle.streams_kept.specs.Asked.{has}
+use Rattle.upstreams.specs.Requests.{due_in}
+use Rattle.upstreams.specs.declared.held.Outgoing.{Outgoing}
+use Rattle.policy.specs.Moves.{Move}
+use Rattle.policy.specs.State.{State}
+use Rattle.policy.specs.Steps.{told_by}
+use Rattle.policy.specs.Ending.{IsFatal}
+use Rattle.relay.specs.View.{View, square, Leads}
+use Rattle.relay.specs.Rest.{NoneCut}
+use Rattle.relay.specs.Bringing.{Brings}
+use Rattle.steps.specs.block_frames.Following.{farewell_frames}
+use Rattle.steps.specs.declared.block_frames.taking.BlockTaken.{BlockTaken}
+use Rattle.steps.specs.declared.block_frames.taking.BlockTaken.TheVariants as taken
+
+-- The connection goes on: the frame came, with what is noted of its block, and what it calls for was sent; a request may be due, and the
+-- farewell of the last stream may be owed yet. No stream is opened but that of the frame.
+pub record IsPassed (setup : Setup) (old : View) (outputs : List Output) (frame : Frame) (request : Option Outgoing) (farewell : Option ℕ) (new : View) (put_out : List Output) : Type 0 where
+  pub note : Note
+  pub brings : Brings setup old square outputs (Came (record { frame = frame; note = note })) new (record square { owed = farewell_frames farewell; due = due_in request }) put_out
+  pub none_cut : NoneCut new.offers
+  pub ids : (id : ℕ) → has new.inbound.rows id ≡ true → (has old.inbound.rows id ≡ true) ⊎ (frame.id ≡ id)
+
+-- The frame is an error of the connection with this code. Nothing is put out yet, and all that the end needs is as it was.
+pub record IsFatalFrame (setup : Setup) (old : View) (outputs : List Output) (frame : Frame) (code : ℕ) (new : View) (put_out : List Output) : Type 0 where
+  pub nothing_put : put_out ≡ outputs
+  pub upstreams : new.upstreams ≡ old.upstreams
+  pub encoding : new.encoding ≡ old.encoding
+  pub untaken : new.untaken ≡ old.untaken
+  pub rows : new.inbound.rows ≡ old.inbound.rows
+  pub note : Note
+  pub next : Table
+  pub fault : (run : List Move) (s : State) → Leads setup run old square s → fault_in (told_by s) (Came (record { frame = frame; note = note })) ≡ Some (Connection code)
+  pub fatal : (run : List Move) (s : State) → Leads setup run old square s → IsFatal s (record { frame = frame; note = note }) next
+
+-- What was answered is so.
+abbrev pub IsBlockTaken : Setup → View → List Output → Frame → BlockTaken → View → List Output → Type 0
+IsBlockTaken setup old outputs frame (taken.Fatal code) new put_out = IsFatalFrame setup old outputs frame code new put_out
+IsBlockTaken setup old outputs frame (taken.Goes request farewell) new put_out = IsPassed setup old outputs frame request farewell new put_out

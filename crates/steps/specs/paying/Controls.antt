@@ -1,0 +1,18 @@
+-- Control frames that are owed.
+use Rattle.std.specs.Prelude.{◌≤◌, length}
+use Rattle.model.specs.Frames.{Frame, settings_frame, settings_ack, goaway}
+use Rattle.model.specs.ErrorClause.{ping_ack}
+use Rattle.steps.specs.declared.paying.control.Control.{Control}
+use Rattle.steps.specs.declared.paying.control.Control.TheVariants as control
+
+-- the frame
+abbrev pub frame_of : Control → Frame
+frame_of control.Settings = settings_frame
+frame_of control.SettingsAck = settings_ack
+frame_of (control.PingAck octets) = ping_ack octets.now
+frame_of (control.Farewell last code) = goaway last code
+
+-- The octets of a PING are no more than a frame may have.
+abbrev pub IsShort : Control → Type 0
+IsShort (control.PingAck octets) = length octets.now ≤ 16384
+IsShort control = Unit {0}

@@ -1,0 +1,45 @@
+-- What comes of a frame of the client without a fragment of a header block.
+use Rattle.std.specs.Prelude.{◌≡◌, ℕ, List, Some, Option}
+use Rattle.model.specs.Frames.{Frame}
+use Rattle.model.specs.Logs.{Output}
+use Rattle.model.specs.Setup.{Setup}
+use Rattle.model.specs.Tapes.Entry.{Came}
+use Rattle.model.specs.Errors.Fault.{Connection}
+use Rattle.model.specs.WindowsOnTape.{is_any, data_length}
+use Rattle.conduct.specs.Owing.{fault_in}
+use Rattle.conduct.specs.Quiet.{noted_of}
+use Rattle.conduct.specs.Rows.{ids_of}
+use Rattle.upstreams.specs.Requests.{due_in}
+use Rattle.upstreams.specs.declared.held.Outgoing.{Outgoing}
+use Rattle.policy.specs.Moves.{Move}
+use Rattle.policy.specs.State.{State}
+use Rattle.policy.specs.Steps.{told_by}
+use Rattle.policy.specs.Ending.{IsFatal}
+use Rattle.relay.specs.View.{View, square, Leads}
+use Rattle.relay.specs.Rest.{NoneCut}
+use Rattle.relay.specs.Bringing.{Brings}
+use Rattle.steps.specs.declared.plain_frames.taking.Taken.{Taken}
+use Rattle.steps.specs.declared.plain_frames.taking.Taken.TheVariants as taken
+
+-- The connection goes on: the frame came, all that it calls for was sent, and a request may be due; its octets of DATA go back once its
+-- effect is over. No stream is opened, and it was the last frame's stream.
+pub record IsPassed (setup : Setup) (old : View) (outputs : List Output) (frame : Frame) (due : Option Outgoing) (new : View) (put_out : List Output) : Type 0 where
+  pub brings : Brings setup old square outputs (Came (noted_of frame)) new (record square { due = due_in due; fresh = data_length is_any frame }) put_out
+  pub none_cut : NoneCut new.offers
+  pub ids : ids_of new.inbound.rows ≡ ids_of old.inbound.rows
+  pub last : new.inbound.last ≡ frame.id
+
+-- The frame is an error of the connection with this code. Nothing is put out yet, and all that the end needs is as it was.
+pub record IsFatalFrame (setup : Setup) (old : View) (outputs : List Output) (frame : Frame) (code : ℕ) (new : View) (put_out : List Output) : Type 0 where
+  pub nothing_put : put_out ≡ outputs
+  pub upstreams : new.upstreams ≡ old.upstreams
+  pub encoding : new.encoding ≡ old.encoding
+  pub untaken : new.untaken ≡ old.untaken
+  pub rows : new.inbound.rows ≡ old.inbound.rows
+  pub fault : (run : List Move) (s : State) → Leads setup run old square s → fault_in (told_by s) (Came (noted_of frame)) ≡ Some (Connection code)
+  pub fatal : (run : List Move) (s : State) → Leads setup run old square s → IsFatal s (noted_of frame) s.tables.decoding
+
+-- What was answered is so.
+abbrev pub IsPlainTaken : Setup → View → List Output → Frame → Taken → View → List Output → Type 0
+IsPlainTaken setup old outputs frame (taken.Fatal code) new put_out = IsFatalFrame setup old outputs frame code new put_out
+IsPlainTaken setup old outputs frame (taken.Goes request) new put_out = IsPassed setup old outputs frame request new put_out

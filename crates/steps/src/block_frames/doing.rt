@@ -1,0 +1,148 @@
+//! What is done behind the judgement of a frame.
+
+ghost use Rattle.std.specs.Prelude.{◌≡◌, ◌+◌, ◌<◌, true, length, OnOk};
+ghost use Rattle.model.specs.Frames.{spell};
+ghost use Rattle.model.specs.ErrorClause.{rst_stream};
+ghost use Rattle.model.specs.Logs.Output.{ToClient};
+ghost use Rattle.model.specs.Tapes.{put};
+ghost use Rattle.conduct.specs.Rows.{find};
+ghost use Rattle.streams_kept.specs.Asked.{is_active};
+ghost use Rattle.steps.specs.block_frames.Following.{followed, forgotten, farewell_behind, held_if, offers_if, put_farewell, with_farewell, IsNewest};
+
+use crate::paying::{Control, pay};
+use judgement::Connection;
+use offers::Offers;
+use outputs::Outputs;
+use relay::Rooms;
+use std::alloc::AllocError;
+use streams_kept::Streams;
+use upstreams::Upstreams;
+
+/// The octets of a RST_STREAM on the wire (RFC 9113, sections 4.1 and 6.4).
+const RESET_OCTETS: u64 = 13;
+
+/// The end of a connection without an error (RFC 9113, section 7).
+const NO_ERROR: u32 = 0;
+
+/// How many streams are opened on a connection (this project's profile).
+const MOST_STREAMS: u32 = 10000;
+
+/// Whether a stream is active (RFC 9113, section 5.1).
+fn is_active(streams: &Streams, id: u32) -> bool
+    ensures { result ≡ is_active streams.now id }
+{
+    streams.find(id).is_some()
+}
+
+/// Whether the client has ended an active stream (RFC 9113, section 5.1).
+pub(crate) fn has_ended(inbound: &Connection, id: u32) -> bool
+    requires { is_active inbound.now.rows id ≡ true }
+    ensures { result ≡ (find inbound.now.rows id).ended_by_client }
+{
+    match inbound.streams().find(id) {
+        Some(live) => live.ended_by_client(),
+        None => unreachable!(),
+    }
+}
+
+/// Whether the final head of a response is out on an active stream.
+pub(crate) fn head_out(inbound: &Connection, id: u32) -> bool
+    requires { is_active inbound.now.rows id ≡ true }
+    ensures { result ≡ (find inbound.now.rows id).head_out }
+{
+    match inbound.streams().find(id) {
+        Some(live) => live.head_out(),
+        None => unreachable!(),
+    }
+}
+
+/// The last stream that the connection may have, where it was opened just now: so many were opened before (RFC 9113, section 6.8).
+pub(crate) fn farewell_behind(before: u32, streams: &Streams) -> Option<u32>
+    ensures { result ≡ farewell_behind before streams.now }
+{
+    if before < MOST_STREAMS && streams.count() == MOST_STREAMS {
+        return Some(streams.highest());
+    }
+    None
+}
+
+/// Begins to keep what is on offer for a stream that became active, and ends to where it is no longer. An `Err` says that memory was refused.
+fn follow_offers(offers: &mut Offers, id: u32, active: bool) -> Result<(), AllocError>
+    requires { IsNewest active id offers.old }
+    ensures { OnOk result (offers.new ≡ offers_if active id offers.old) }
+{
+    if !active {
+        offers.close(id);
+        return Ok(());
+    }
+    if offers.is_kept(id) {
+        return Ok(());
+    }
+    offers.open(id)
+}
+
+/// Nothing is held of a request whose stream isn't served any more.
+fn follow_requests(upstreams: &mut Upstreams, id: u32, served: bool)
+    ensures { upstreams.new ≡ record upstreams.old { held = held_if served id upstreams.old.held } }
+{
+    if !served {
+        upstreams.forget(id);
+    }
+}
+
+/// What is kept of a stream follows what the judgement left of it. An `Err` says that memory was refused.
+pub(crate) fn follow(rooms: &mut Rooms, id: u32) -> Result<(), AllocError>
+    requires { IsNewest (is_active rooms.old.inbound.rows id) id rooms.old.offers }
+    ensures { OnOk result (rooms.new ≡ followed id rooms.old) }
+{
+    let active = is_active(rooms.inbound.streams(), id);
+    follow_offers(&mut rooms.offers, id, active)?;
+    let served = rooms.inbound.is_served(id);
+    follow_requests(&mut rooms.upstreams, id, served);
+    Ok(())
+}
+
+/// Pays the farewell, where it is owed (RFC 9113, section 6.8). An `Err` says that memory was refused.
+fn pay_farewell(
+    rooms: &mut Rooms,
+    farewell: Option<u32>,
+    out: &mut Outputs,
+) -> Result<(), AllocError>
+    ensures kept { OnOk result (rooms.new ≡ with_farewell farewell rooms.old) }
+    ensures sent { OnOk result (out.new ≡ put_farewell farewell out.old) }
+{
+    match farewell {
+        Some(last) => pay(
+            rooms,
+            Control::Farewell {
+                last,
+                code: NO_ERROR,
+            },
+            out,
+        ),
+        None => Ok(()),
+    }
+}
+
+/// Sends the reset of a stream behind the farewell, if that is owed; nothing is kept of the stream any more (RFC 9113, section 6.4). An `Err` says
+/// that memory was refused.
+pub(crate) fn reset(
+    rooms: &mut Rooms,
+    id: u32,
+    code: u32,
+    farewell: Option<u32>,
+    out: &mut Outputs,
+) -> Result<(), AllocError>
+    requires { id < 2147483648 }
+    ensures kept { OnOk result (rooms.new ≡ record (forgotten id rooms.old) { untaken = (with_farewell farewell rooms.old).untaken + length (spell (rst_stream id code)) }) }
+    ensures sent { OnOk result (out.new ≡ put (put_farewell farewell out.old) (ToClient (spell (rst_stream id code)))) }
+{
+    pay_farewell(rooms, farewell, out)?;
+    rooms.offers.close(id);
+    rooms.upstreams.forget(id);
+    let Some(untaken) = rooms.untaken.checked_add(RESET_OCTETS) else {
+        return Err(AllocError);
+    };
+    rooms.untaken = untaken;
+    out.send_rst_stream(id, code)
+}

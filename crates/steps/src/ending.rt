@@ -1,0 +1,28 @@
+//! The end of a connection to a client: GOAWAY where the client made an error of the connection (RFC 9113, section 5.4.1), a close for each connection
+//! to an upstream, and the client's own.
+//!
+//! [`end`] is for what comes in and ends the connection, [`shut`] for a connection whose streams were all opened and are over.
+
+ghost use Rattle.std.specs.Prelude.{List};
+ghost use Rattle.model.specs.Setup.{Setup};
+ghost use Rattle.policy.specs.Moves.{Deed, Move};
+ghost use Rattle.policy.specs.State.{State};
+ghost use Rattle.relay.specs.Rest.{IsAtRest};
+ghost use Rattle.relay.specs.View.{View, square, Leads};
+ghost use Rattle.steps.specs.ending.Closing.{IsEnded};
+ghost use Rattle.steps.specs.ending.Reasons.{IsBy};
+ghost use Rattle.steps.specs.declared.ending.reason.Ending.{Ending as Reason};
+
+mod closing;
+mod reason;
+#[cfg(test)]
+mod tests;
+
+pub use crate::ending::closing::{end, shut};
+pub use crate::ending::reason::Ending;
+
+/// Where nothing is pending and what is kept is at rest, the connection may end with each thing that [`end`] is for: all that is put out then
+/// comes by the rule, and the gateway rests behind it.
+pub fn ends_come_by_the_rule()
+    ensures { (setup : Setup) (run : List Move) (before : View) (s : State) (why : Reason) (d : Deed) → Leads setup run before square s → IsAtRest before → IsBy s why d → IsEnded setup run s d }
+{}

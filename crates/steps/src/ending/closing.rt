@@ -1,0 +1,54 @@
+//! Connections are closed.
+
+ghost use Rattle.std.specs.Prelude.{◌≡◌, ℕ, List, [], ◌∷◌, true, OnOk};
+ghost use Rattle.model.specs.Setup.{Setup};
+ghost use Rattle.model.specs.Logs.Act.{CloseClient};
+ghost use Rattle.model.specs.Tapes.Entry.{Did};
+ghost use Rattle.upstreams.specs.Connections.{lives};
+ghost use Rattle.policy.specs.Moves.{Deed, Move};
+ghost use Rattle.policy.specs.State.{State};
+ghost use Rattle.policy.specs.Ending.{closed_all, ending_on_tape};
+ghost use Rattle.relay.specs.View.{View, square, Leads};
+ghost use Rattle.relay.specs.Performing.{put_all};
+ghost use Rattle.relay.specs.Rest.{told_view};
+ghost use Rattle.steps.specs.ending.Closing.{AreApart, IsShut};
+ghost use Rattle.steps.specs.ending.Reasons.{IsBy};
+
+use crate::ending::reason::Ending;
+use outputs::Outputs;
+use relay::Rooms;
+use std::alloc::AllocError;
+use upstreams::Upstreams;
+
+/// Ends a connection with what came in: it says farewell where that is an error, with the highest stream and the code (RFC 9113, section 6.8),
+/// and closes each open connection to an upstream and the client's. What is kept is of no use behind it, whatever it answers. An `Err` says
+/// that memory was refused.
+pub fn end(rooms: &mut Rooms, why: Ending, out: &mut Outputs) -> Result<(), AllocError>
+    ensures { OnOk result ((setup : Setup) (run : List Move) (s : State) (before : View) (d : Deed) → before.upstreams ≡ rooms.old.upstreams → before.inbound.rows ≡ rooms.old.inbound.rows → Leads setup run before square s → IsBy s why d → out.new ≡ put_all out.old (ending_on_tape s d)) }
+{
+    if let Some(code) = why.code() {
+        out.send_goaway(rooms.inbound.streams().highest(), code)?;
+    }
+    close_all(&mut rooms.upstreams, out)
+}
+
+/// Shuts a connection that is spent: all streams that it may have were opened, and none is active any more. It closes each open connection to an
+/// upstream, and the client's. What is kept is of no use behind it, whatever it answers. An `Err` says that memory was refused.
+pub fn shut(rooms: &mut Rooms, out: &mut Outputs) -> Result<(), AllocError>
+    requires spent { (told_view rooms.old).ends ≡ true }
+    ensures { OnOk result ((setup : Setup) (run : List Move) (s : State) (fresh : ℕ) → Leads setup run rooms.old (record square { fresh = fresh }) s → IsShut setup run s out.old out.new) }
+{
+    close_all(&mut rooms.upstreams, out)
+}
+
+/// Closes each open connection to an upstream, the newest first, and then the client's. An `Err` says that memory was refused.
+fn close_all(upstreams: &mut Upstreams, out: &mut Outputs) -> Result<(), AllocError>
+    ensures { OnOk result (AreApart (lives upstreams.old.live) → out.new ≡ put_all out.old (Did CloseClient ∷ closed_all (lives upstreams.old.live))) }
+{
+    // No stream is served any more, so that each connection is done with.
+    while let Some(k) = upstreams.next_done(|_stream| false) {
+        upstreams.close(k);
+        out.close_up(k)?;
+    }
+    out.close_client()
+}

@@ -1,0 +1,12 @@
+//! Exchanges with upstreams, as parts of a step: a connection is opened for a whole request, an upstream is heard, and its connection ends or
+//! fails.
+
+mod failing;
+mod hearing;
+mod listening;
+mod opening;
+#[cfg(test)]
+mod tests;
+
+pub use crate::exchanges::hearing::{end, fail, hear};
+pub use crate::exchanges::opening::open;

@@ -1,0 +1,78 @@
+//! What comes of an upstream goes to its answer, and what is news of that is on offer.
+
+ghost use Rattle.std.specs.Prelude.{◌≡◌, ◌<◌, true, IfSome, IfOk, OnOk, is_some};
+ghost use Rattle.model.specs.Logs.Act.{Close};
+ghost use Rattle.model.specs.Logs.Output.{Does};
+ghost use Rattle.model.specs.Tapes.{put};
+ghost use Rattle.offers.specs.Asked.{is_kept};
+ghost use Rattle.serving.specs.State.{find};
+ghost use Rattle.streams_kept.specs.Asked.{is_active};
+ghost use Rattle.upstreams.specs.Connections.{number_of};
+ghost use Rattle.steps.specs.exchanges.Giving.{closed_at, IsGivenUp};
+ghost use Rattle.steps.specs.exchanges.Taking.{AreTaken, IsEndTaken};
+
+use crate::exchanges::failing::give_up;
+use answers::{Answer, Ended, Heard, Passing};
+use outputs::Outputs;
+use relay::Rooms;
+use std::alloc::{AllocError, Global};
+
+/// The stream of an open connection.
+pub(crate) fn stream_of(rooms: &Rooms, k: u32) -> u32
+    requires { is_some (find number_of k rooms.now.upstreams.live) ≡ true }
+    ensures { IfSome (find number_of k rooms.now.upstreams.live) (λ connection. result ≡ connection.live.stream) }
+{
+    let Some(connection) = rooms.upstreams.find(k) else {
+        unreachable!();
+    };
+    connection.stream()
+}
+
+/// Octets of an upstream go to its answer, which is lent out for that. An `Err` says that memory was refused.
+pub(crate) fn take_octets(
+    alloc: Global,
+    rooms: &mut Rooms,
+    k: u32,
+    octets: &[u8],
+) -> Result<Heard, AllocError>
+    requires opened { is_some (find number_of k rooms.old.upstreams.live) ≡ true }
+    requires kept { IfSome (find number_of k rooms.old.upstreams.live) (λ connection. is_kept connection.live.stream rooms.old.offers.kept ≡ true) }
+    ensures { IfOk result (λ heard. AreTaken rooms.old k octets.now heard rooms.new) }
+{
+    let stream = stream_of(rooms, k);
+    let nothing = Answer::new(alloc, false, Passing::Streaming);
+    let mut answer = rooms.upstreams.replace_answer(k, nothing);
+    let heard = rooms.offers.hear(stream, &mut answer, octets)?;
+    rooms.upstreams.replace_answer(k, answer);
+    Ok(heard)
+}
+
+/// The end of an upstream's connection goes to its answer, which is lent out for that. An `Err` says that memory was refused.
+pub(crate) fn take_end(alloc: Global, rooms: &mut Rooms, k: u32) -> Result<Ended, AllocError>
+    requires opened { is_some (find number_of k rooms.old.upstreams.live) ≡ true }
+    requires kept { IfSome (find number_of k rooms.old.upstreams.live) (λ connection. is_kept connection.live.stream rooms.old.offers.kept ≡ true) }
+    ensures { IfOk result (λ ended. IsEndTaken rooms.old k ended rooms.new) }
+{
+    let stream = stream_of(rooms, k);
+    let nothing = Answer::new(alloc, false, Passing::Streaming);
+    let mut answer = rooms.upstreams.replace_answer(k, nothing);
+    let ended = rooms.offers.end(stream, &mut answer)?;
+    rooms.upstreams.replace_answer(k, answer);
+    Ok(ended)
+}
+
+/// Closes the connection whose answer failed, and gives its stream up. An `Err` says that memory was refused.
+pub(crate) fn abandon(
+    rooms: &mut Rooms,
+    k: u32,
+    stream: u32,
+    out: &mut Outputs,
+) -> Result<(), AllocError>
+    requires live { is_active rooms.old.inbound.rows stream ≡ true }
+    requires numbered { stream < 2147483648 }
+    ensures { OnOk result (IsGivenUp stream (closed_at k rooms.old) (put out.old (Does (Close k))) rooms.new out.new) }
+{
+    rooms.upstreams.close(k);
+    out.close_up(k)?;
+    give_up(rooms, stream, out)
+}

@@ -1,0 +1,178 @@
+//! The next part of a stream's response goes out, and what is left of it is kept.
+
+ghost use Rattle.std.specs.Prelude.{◌≡◌, ◌+◌, ◌*◌, ◌-◌, ◌/◌, ◌<◌, ◌≤◌, ◌^◌, true, false, not, ◌≤ℤ◌, pos, IfOk, OnOk, MatchOption};
+ghost use Rattle.model.specs.Admission.{high_water};
+ghost use Rattle.conduct.specs.Judging.{window_in};
+ghost use Rattle.conduct.specs.Rows.{find};
+ghost use Rattle.offering.specs.State.{are_open, can_turn};
+ghost use Rattle.streams_kept.specs.Asked.{is_active};
+ghost use Rattle.offers.specs.Asked.{is_head, part_for, windows_over};
+ghost use Rattle.steps.specs.flushing.Changes.{ended, put_at_end, IsHeadPart, IsHeadSent, AreOctetsSent, IsPartSent};
+
+use judgement::Connection;
+use offers::Offers;
+use outbox::Part;
+use outputs::{Outputs, section_of};
+use relay::Rooms;
+use std::alloc::{AllocError, Global};
+
+/// The most octets of a frame's payload (RFC 9113, section 4.2).
+const LONGEST: usize = 16384;
+
+/// The octets of a frame's header (RFC 9113, section 4.1).
+const HEADER: u64 = 9;
+
+/// The octets of RST_STREAM's payload (RFC 9113, section 6.4).
+const CODE: u64 = 4;
+
+/// The error code NO_ERROR (RFC 9113, section 7).
+const NO_ERROR: u32 = 0;
+
+/// A head that goes next on a stream.
+#[derive(Clone, Copy)]
+struct NextHead {
+    /// It is a response's final head, and no interim one.
+    is_final: bool,
+    /// It ends the stream.
+    ends: bool,
+}
+
+/// The head that goes next on a stream, if what goes next is one.
+fn next_head(offers: &Offers, id: u32) -> Option<NextHead>
+    ensures { MatchOption result (is_head (part_for 1 id offers.now.kept) ≡ false) (λ next. IsHeadPart (part_for 1 id offers.now.kept) next.is_final next.ends) }
+{
+    match offers.part(id, 1) {
+        Some(Part::Early(_)) => Some(NextHead {
+            is_final: false,
+            ends: false,
+        }),
+        Some(Part::Final(_, ends)) => Some(NextHead {
+            is_final: true,
+            ends,
+        }),
+        _ => None,
+    }
+}
+
+/// How many octets the frames of a header block are (RFC 9113, sections 4.1, 6.2 and 6.10), by its own.
+fn octets_of_block(block: usize) -> u64
+    requires { block < 2 ^ 63 }
+    ensures { result ≡ block + 9 * ((block - 1) / 16384 + 1) }
+{
+    let further = block.saturating_sub(1) / LONGEST;
+    block as u64 + HEADER * (further as u64 + 1)
+}
+
+/// Sends the head that goes next on an active stream, in the frames of one header block (RFC 9113, sections 6.2, 6.10 and 8.1). An `Err` says
+/// that memory was refused.
+fn send_head(
+    alloc: Global,
+    rooms: &mut Rooms,
+    id: u32,
+    next: NextHead,
+    out: &mut Outputs,
+) -> Result<(), AllocError>
+    requires head { IsHeadPart (part_for 1 id rooms.old.offers.kept) next.is_final next.ends }
+    requires live { is_active rooms.old.inbound.rows id ≡ true }
+    requires small { id < 2147483648 }
+    requires few { rooms.old.untaken < high_water }
+    ensures sent { OnOk result (IsHeadSent rooms.old out.old id next.is_final next.ends rooms.new out.new) }
+    ensures room { OnOk result (rooms.new.untaken + 13 < 2 ^ 64) }
+{
+    let head = rooms.offers.take_head(id);
+    let fields = section_of(alloc, head)?;
+    let mut block = Vec::new(alloc);
+    rooms.encoder.encode(&fields, &mut block)?;
+    out.send_block(id, &block, next.ends)?;
+    rooms.untaken += octets_of_block(block.len());
+    rooms.inbound.sent_head(id, next.is_final, next.ends);
+    Ok(())
+}
+
+/// How many octets of DATA may go on a stream at once, at least one: what a frame holds and, where both windows are open, what they let through
+/// (RFC 9113, sections 4.2 and 6.9.1).
+fn most_octets(inbound: &Connection, id: u32) -> usize
+    ensures some { 0 < result }
+    ensures few { result ≤ 16384 }
+    ensures shared { are_open (windows_over inbound.now.rows inbound.now.first_size inbound.now.window) id ≡ true → pos result ≤ℤ inbound.now.window }
+    ensures own { are_open (windows_over inbound.now.rows inbound.now.first_size inbound.now.window) id ≡ true → is_active inbound.now.rows id ≡ true → pos result ≤ℤ window_in inbound.now.first_size (find inbound.now.rows id) }
+{
+    let shared = inbound.window();
+    let own = match inbound.streams().find(id) {
+        Some(live) => inbound.window_on(live),
+        None => 0,
+    };
+    let most = if own < shared { own } else { shared };
+    if most <= 0 {
+        1
+    } else if most < 16384 {
+        most as usize
+    } else {
+        LONGEST
+    }
+}
+
+/// Sends octets that go next on an active stream, or its end without octets, in one frame (RFC 9113, section 6.1); whether that ends the stream
+/// is the answer. An `Err` says that memory was refused.
+fn send_octets(rooms: &mut Rooms, id: u32, out: &mut Outputs) -> Result<bool, AllocError>
+    requires no_head { is_head (part_for 1 id rooms.old.offers.kept) ≡ false }
+    requires ready { can_turn (windows_over rooms.old.inbound.rows rooms.old.inbound.first_size rooms.old.inbound.window) rooms.old.offers id ≡ true }
+    requires live { is_active rooms.old.inbound.rows id ≡ true }
+    requires small { id < 2147483648 }
+    requires few { rooms.old.untaken < high_water }
+    ensures sent { IfOk result (λ ends. AreOctetsSent rooms.old out.old id ends rooms.new out.new) }
+    ensures room { OnOk result (rooms.new.untaken + 13 < 2 ^ 64) }
+{
+    let most = most_octets(&rooms.inbound, id);
+    let Some(Part::Octets(octets, ends)) = rooms.offers.part(id, most) else {
+        unreachable!();
+    };
+    let count = octets.len();
+    out.send_data(id, octets, ends)?;
+    rooms.offers.take_octets(id, most);
+    rooms.untaken += HEADER + count as u64;
+    rooms.inbound.sent_data(id, count as u32, ends);
+    Ok(ends)
+}
+
+/// Sends the next part of an active stream of which something can go: a head or octets; whether that ends the stream is the answer. An `Err`
+/// says that memory was refused.
+pub fn send_part(
+    alloc: Global,
+    rooms: &mut Rooms,
+    id: u32,
+    out: &mut Outputs,
+) -> Result<bool, AllocError>
+    requires ready { can_turn (windows_over rooms.old.inbound.rows rooms.old.inbound.first_size rooms.old.inbound.window) rooms.old.offers id ≡ true }
+    requires live { is_active rooms.old.inbound.rows id ≡ true }
+    requires small { id < 2147483648 }
+    requires few { rooms.old.untaken < high_water }
+    ensures sent { IfOk result (λ ends. IsPartSent rooms.old out.old id ends rooms.new out.new) }
+    ensures room { OnOk result (rooms.new.untaken + 13 < 2 ^ 64) }
+{
+    match next_head(&rooms.offers, id) {
+        Some(next) => {
+            send_head(alloc, rooms, id, next, out)?;
+            Ok(next.ends)
+        }
+        None => send_octets(rooms, id, out),
+    }
+}
+
+/// A stream is over that the gateway ended: where the client hasn't ended it, it is reset (RFC 9113, section 8.1). Nothing is on offer for it any
+/// more, and nothing is held of its request. An `Err` says that memory was refused.
+pub fn end_stream(rooms: &mut Rooms, id: u32, out: &mut Outputs) -> Result<(), AllocError>
+    requires small { id < 2147483648 }
+    requires room { rooms.old.untaken + 13 < 2 ^ 64 }
+    ensures kept { OnOk result (rooms.new ≡ ended id rooms.old) }
+    ensures puts { OnOk result (out.new ≡ put_at_end id rooms.old out.old) }
+{
+    if rooms.inbound.streams().find(id).is_some() {
+        out.send_rst_stream(id, NO_ERROR)?;
+        rooms.untaken += HEADER + CODE;
+        rooms.inbound.sent_reset(id);
+    }
+    rooms.offers.close(id);
+    rooms.upstreams.forget(id);
+    Ok(())
+}

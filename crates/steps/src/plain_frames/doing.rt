@@ -1,0 +1,56 @@
+//! What is done behind the judgement of a frame.
+
+ghost use Rattle.std.specs.Prelude.{◌≡◌, ◌+◌, ◌<◌, List, length, OnOk};
+ghost use Rattle.model.specs.Frames.{spell};
+ghost use Rattle.model.specs.ErrorClause.{rst_stream};
+ghost use Rattle.model.specs.Logs.Output.{ToClient};
+ghost use Rattle.model.specs.SettingValues.{Setting, smallest_value, last_value, values_of, header_table_size};
+ghost use Rattle.model.specs.Tapes.{put};
+ghost use Rattle.steps.specs.plain_frames.Kept.{forgotten, limited};
+
+use header_blocks::Encoder;
+use outputs::Outputs;
+use relay::Rooms;
+use settings::Change;
+use std::alloc::AllocError;
+
+/// The octets of a RST_STREAM on the wire (RFC 9113, sections 4.1 and 6.4).
+const RESET_OCTETS: u64 = 13;
+
+/// Nothing is kept any more of a stream that is over.
+pub(crate) fn forget(rooms: &mut Rooms, id: u32)
+    ensures { rooms.new ≡ forgotten id rooms.old }
+{
+    rooms.offers.close(id);
+    rooms.upstreams.forget(id);
+}
+
+/// Sends the reset of a stream (RFC 9113, section 6.4), of which nothing is kept any more. An `Err` says that memory was refused.
+pub(crate) fn reset(
+    rooms: &mut Rooms,
+    id: u32,
+    code: u32,
+    out: &mut Outputs,
+) -> Result<(), AllocError>
+    requires { id < 2147483648 }
+    ensures kept { OnOk result (rooms.new ≡ record (forgotten id rooms.old) { untaken = rooms.old.untaken + length (spell (rst_stream id code)) }) }
+    ensures sent { OnOk result (out.new ≡ put out.old (ToClient (spell (rst_stream id code)))) }
+{
+    forget(rooms, id);
+    let Some(untaken) = rooms.untaken.checked_add(RESET_OCTETS) else {
+        return Err(AllocError);
+    };
+    rooms.untaken = untaken;
+    out.send_rst_stream(id, code)
+}
+
+/// Notes the limits of the header table that settings name: the smallest and the last stand for all (RFC 7541, section 4.2).
+pub(crate) fn note_limits(encoder: &mut Encoder, change: Change)
+    ensures { (settings : List Setting) → change.smallest ≡ smallest_value header_table_size settings → change.last ≡ last_value header_table_size settings → encoder.new ≡ limited (values_of header_table_size settings) encoder.old }
+{
+    let Some(smallest) = change.smallest else {
+        return;
+    };
+    encoder.peer_limit(smallest);
+    encoder.peer_limit(change.last.unwrap_or(smallest));
+}

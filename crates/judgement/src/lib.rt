@@ -7,16 +7,10 @@ mod blocks;
 mod bodies;
 mod codes;
 mod connection;
-#[cfg(test)]
-mod fragment_tests;
 mod fragments;
 mod sending;
 mod sending_laws;
-#[cfg(test)]
-mod sending_tests;
 mod terms;
-#[cfg(test)]
-mod tests;
 
 pub use crate::answers::{BlockJudged, Fault, FrameJudged, Judged};
 pub use crate::connection::Connection;

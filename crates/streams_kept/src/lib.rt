@@ -19,11 +19,7 @@ mod course;
 mod entries;
 mod live;
 mod records;
-#[cfg(test)]
-mod sending_tests;
 mod steps;
-#[cfg(test)]
-mod tests;
 
 pub use crate::course::{Course, Reply};
 use crate::entries::{Entry, Slot, last_id, place_of};

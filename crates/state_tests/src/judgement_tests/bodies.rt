@@ -1,0 +1,174 @@
+//! The rows of the error table for DATA, each beside a frame that just keeps within.
+
+use super::plain::{
+    DISCARDED, FLOW_CONTROL_ERROR, FRAME_SIZE_ERROR, PROTOCOL_ERROR, Row, STREAM_CLOSED,
+    first_that_differs, opened, opened_with,
+};
+use judgement::{Connection, Fault, Judged};
+use std::alloc::Global;
+use std::test::*;
+use streams_kept::Course;
+
+/// The longest payload, what three leave of a window, the same less one octet, and what two leave of the longest body.
+static WHOLE: [u8; 16384] = [7; 16384];
+
+static REST: [u8; 16383] = [7; 16383];
+
+static LESS: [u8; 16382] = [7; 16382];
+
+static LAST: [u8; 7232] = [7; 7232];
+
+/// The first of these frames of which something else comes where these streams are open.
+fn first_on(alloc: Global, ids: &[u32], rows: &[Row<'_>]) -> Result<Option<usize>, Fail> {
+    let mut connection = opened(alloc, ids)?;
+    Ok(first_that_differs(&mut connection, rows))
+}
+
+static PADDED: [Row<'static>; 7] = [
+    (0, 0, 1, b"abc", Judged::Content(b"abc", false)),
+    (0, 8, 1, &[2, 97, 0, 0], Judged::Content(b"a", false)),
+    (0, 8, 1, &[3, 0, 0, 0], Judged::Content(b"", false)),
+    (0, 9, 1, &[1, 97, 0], Judged::Content(b"a", true)),
+    (0, 8, 1, &[4, 0, 0, 0], PROTOCOL_ERROR),
+    (0, 8, 1, b"", FRAME_SIZE_ERROR),
+    (0, 0, 0, b"abc", PROTOCOL_ERROR),
+];
+
+#[test]
+fn content_comes_without_padding(rt: HostRuntime) -> Result<(), Fail> {
+    assert_eq!(rt; first_on(rt.alloc(), &[1], &PADDED)?, None);
+    Ok(())
+}
+
+#[test]
+fn content_keeps_to_the_connections_window(rt: HostRuntime) -> Result<(), Fail> {
+    let rows: [Row<'_>; 8] = [
+        (0, 0, 1, &WHOLE, Judged::Content(&WHOLE, false)),
+        (0, 0, 1, &WHOLE, Judged::Content(&WHOLE, false)),
+        (0, 0, 3, &WHOLE, Judged::Content(&WHOLE, false)),
+        (0, 0, 7, &WHOLE, PROTOCOL_ERROR),
+        (0, 0, 3, &WHOLE, FLOW_CONTROL_ERROR),
+        (0, 0, 3, &REST, Judged::Content(&REST, false)),
+        (0, 0, 3, b"a", FLOW_CONTROL_ERROR),
+        (0, 0, 3, b"", Judged::Content(b"", false)),
+    ];
+    assert_eq!(rt; first_on(rt.alloc(), &[1, 3], &rows)?, None);
+    Ok(())
+}
+
+/// Gives an octet back to the connection alone, and tells what comes of one more on stream 1, if it isn't this.
+fn differs_past_window(connection: &mut Connection, wanted: Judged<'static>) -> Option<usize> {
+    if connection.room() > 1000000 {
+        return Some(0);
+    }
+    connection.gave_back(1);
+    first_that_differs(connection, &[(0, 0, 1, b"a", wanted)])
+}
+
+/// A connection on whose stream 1 all came that the windows take, but for 16,383 octets. The gateway replies itself, as that is past the most
+/// octets of a body.
+fn filled(alloc: Global) -> Result<Connection, Fail> {
+    let rows: [Row<'_>; 3] = [
+        (0, 0, 1, &WHOLE, Judged::Content(&WHOLE, false)),
+        (0, 0, 1, &WHOLE, Judged::Content(&WHOLE, false)),
+        (0, 0, 1, &WHOLE, Judged::LargeBody),
+    ];
+    let mut connection = opened(alloc, &[1])?;
+    if first_that_differs(&mut connection, &rows).is_some() {
+        return Err(Fail::from("the windows aren't filled"));
+    }
+    Ok(connection)
+}
+
+#[test]
+fn content_keeps_to_its_streams_window(rt: HostRuntime) -> Result<(), Fail> {
+    let mut connection = filled(rt.alloc())?;
+    let rows: [Row<'_>; 1] = [(0, 0, 1, &REST, Judged::Content(&REST, false))];
+    assert_eq!(rt; first_that_differs(&mut connection, &rows), None);
+    let past = Judged::Failed(Fault::Stream(3));
+    assert_eq!(rt; differs_past_window(&mut connection, past), None);
+    Ok(())
+}
+
+/// Behind its request's end, octets for which the stream has no room are an error of flow control first.
+#[test]
+fn windows_go_before_ends(rt: HostRuntime) -> Result<(), Fail> {
+    let mut connection = filled(rt.alloc())?;
+    let rows: [Row<'_>; 1] = [(0, 1, 1, &REST, Judged::Content(&REST, true))];
+    assert_eq!(rt; first_that_differs(&mut connection, &rows), None);
+    let past = Judged::Failed(Fault::Stream(3));
+    assert_eq!(rt; differs_past_window(&mut connection, past), None);
+    Ok(())
+}
+
+#[test]
+fn ends_are_ends_within_windows(rt: HostRuntime) -> Result<(), Fail> {
+    let mut connection = filled(rt.alloc())?;
+    let rows: [Row<'_>; 2] = [
+        (0, 1, 1, &LESS, Judged::Content(&LESS, true)),
+        (0, 0, 1, b"a", Judged::Failed(Fault::Stream(5))),
+    ];
+    assert_eq!(rt; first_that_differs(&mut connection, &rows), None);
+    Ok(())
+}
+
+static STATES: [Row<'static>; 8] = [
+    (0, 0, 7, b"a", PROTOCOL_ERROR),
+    (0, 0, 2, b"a", PROTOCOL_ERROR),
+    (0, 0, 1, b"a", STREAM_CLOSED),
+    (0, 1, 3, b"a", Judged::Content(b"a", true)),
+    (0, 0, 3, b"a", Judged::Failed(Fault::Stream(5))),
+    (0, 0, 3, b"a", DISCARDED),
+    (3, 0, 5, b"code", Judged::Reset),
+    (0, 0, 5, b"a", STREAM_CLOSED),
+];
+
+#[test]
+fn content_comes_on_active_streams(rt: HostRuntime) -> Result<(), Fail> {
+    assert_eq!(rt; first_on(rt.alloc(), &[3, 5], &STATES)?, None);
+    Ok(())
+}
+
+#[test]
+fn discarded_octets_take_room(rt: HostRuntime) -> Result<(), Fail> {
+    let rows: [Row<'_>; 5] = [
+        (8, 0, 1, &[0, 0, 0, 0], Judged::Failed(Fault::Stream(1))),
+        (0, 0, 1, &WHOLE, DISCARDED),
+        (0, 0, 1, &WHOLE, DISCARDED),
+        (0, 0, 1, &WHOLE, DISCARDED),
+        (0, 0, 1, &WHOLE, FLOW_CONTROL_ERROR),
+    ];
+    assert_eq!(rt; first_on(rt.alloc(), &[1], &rows)?, None);
+    Ok(())
+}
+
+/// Bodies of which the head declares five octets.
+static DECLARED: [Row<'static>; 6] = [
+    (0, 0, 1, b"abcd", Judged::Content(b"abcd", false)),
+    (0, 1, 1, b"e", Judged::Content(b"e", true)),
+    (0, 0, 3, b"abcdef", Judged::Failed(Fault::Stream(1))),
+    (0, 1, 5, b"abcd", Judged::Failed(Fault::Stream(1))),
+    (0, 0, 7, b"abcde", Judged::Content(b"abcde", false)),
+    (0, 0, 7, b"f", Judged::Failed(Fault::Stream(1))),
+];
+
+#[test]
+fn bodies_have_their_declared_lengths(rt: HostRuntime) -> Result<(), Fail> {
+    let course = Course::new().with_block(Some(5), false);
+    let mut connection = opened_with(rt.alloc(), &[1, 3, 5, 7], course)?;
+    assert_eq!(rt; first_that_differs(&mut connection, &DECLARED), None);
+    Ok(())
+}
+
+#[test]
+fn bodies_keep_to_the_most(rt: HostRuntime) -> Result<(), Fail> {
+    let rows: [Row<'_>; 5] = [
+        (0, 0, 1, &WHOLE, Judged::Content(&WHOLE, false)),
+        (0, 0, 1, &WHOLE, Judged::Content(&WHOLE, false)),
+        (0, 0, 1, &LAST, Judged::Content(&LAST, false)),
+        (0, 0, 1, b"a", Judged::LargeBody),
+        (0, 0, 1, b"a", Judged::Content(b"a", false)),
+    ];
+    assert_eq!(rt; first_on(rt.alloc(), &[1], &rows)?, None);
+    Ok(())
+}

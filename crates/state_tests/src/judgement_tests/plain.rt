@@ -1,0 +1,224 @@
+//! The rows of the error table for frames without a fragment of a header block, each beside a frame that just keeps within.
+
+use super::open_if_idle;
+use crate::streams_seen::BEGUN;
+use frames::View;
+use judgement::{Connection, Fault, Judged};
+use settings::Change;
+use std::alloc::Global;
+use std::test::*;
+use stream_state::{Kind, Verdict};
+use streams_kept::Course;
+
+/// The most octets of a body.
+const MOST: u64 = 40000;
+
+/// The type, the flags and the stream's number of a frame, its payload, and what is wanted of it.
+pub type Row<'a> = (u8, u8, u32, &'a [u8], Judged<'a>);
+
+/// Errors of the connection, with their codes.
+pub const PROTOCOL_ERROR: Judged<'static> = Judged::Failed(Fault::Connection(1));
+
+pub const FLOW_CONTROL_ERROR: Judged<'static> = Judged::Failed(Fault::Connection(3));
+
+pub const STREAM_CLOSED: Judged<'static> = Judged::Failed(Fault::Connection(5));
+
+pub const FRAME_SIZE_ERROR: Judged<'static> = Judged::Failed(Fault::Connection(6));
+
+pub const DISCARDED: Judged<'static> = Judged::Failed(Fault::Discarded);
+
+/// Settings that change the first size of windows by so many octets: by none, to 10, from 10 to the most, and to one more than at first.
+const UNCHANGED: Change = Change {
+    difference: 0,
+    smallest: None,
+    last: None,
+};
+
+const TO_TEN: Change = Change {
+    difference: -65525,
+    smallest: None,
+    last: None,
+};
+
+const TO_THE_MOST: Change = Change {
+    difference: 2147483637,
+    smallest: None,
+    last: None,
+};
+
+const BY_ONE: Change = Change {
+    difference: 1,
+    smallest: None,
+    last: None,
+};
+
+/// SETTINGS without settings, and what comes of it.
+pub const SETTINGS: Row<'static> = (4, 0, 0, b"", Judged::Settings(UNCHANGED));
+
+/// Judges a frame that has no fragment of a header block; nothing comes of another.
+fn judged<'a>(connection: &mut Connection, view: View<'a>) -> Option<Judged<'a>> {
+    if view.kind == 1 || view.kind == 9 || view.payload.len() > 16384 {
+        return None;
+    }
+    Some(connection.judge(view, MOST))
+}
+
+/// The first of these frames, which a connection takes in turn, of which something else comes.
+pub fn first_that_differs(connection: &mut Connection, rows: &[Row<'_>]) -> Option<usize> {
+    for (place, (kind, flags, id, payload, wanted)) in rows.iter().enumerate() {
+        let view = View {
+            kind: *kind,
+            flags: *flags,
+            id: *id,
+            payload,
+        };
+        if judged(connection, view) != Some(*wanted) {
+            return Some(place);
+        }
+    }
+    None
+}
+
+/// The same, on a connection on which nothing came.
+fn first_that_differs_at_first(alloc: Global, rows: &[Row<'_>]) -> Option<usize> {
+    first_that_differs(&mut Connection::new(alloc), rows)
+}
+
+/// A connection on which settings came, and these streams were opened with requests of this course.
+pub fn opened_with(alloc: Global, ids: &[u32], course: Course) -> Result<Connection, Fail> {
+    let mut connection = Connection::new(alloc);
+    if first_that_differs(&mut connection, &[SETTINGS]).is_some() {
+        return Err(Fail::from("settings aren't taken"));
+    }
+    for id in ids {
+        if !open_if_idle(&mut connection, *id, course, false)? {
+            return Err(Fail::from("a stream isn't opened"));
+        }
+    }
+    Ok(connection)
+}
+
+/// The same, with requests that declare nothing.
+pub fn opened(alloc: Global, ids: &[u32]) -> Result<Connection, Fail> {
+    opened_with(alloc, ids, BEGUN)
+}
+
+#[test]
+fn the_first_frame_has_settings(rt: HostRuntime) {
+    let rows: [Row<'_>; 5] = [
+        (6, 0, 0, b"12345678", PROTOCOL_ERROR),
+        (4, 1, 0, b"", PROTOCOL_ERROR),
+        SETTINGS,
+        (6, 0, 0, b"12345678", Judged::Ping(b"12345678")),
+        (6, 1, 0, b"12345678", Judged::Ignored),
+    ];
+    assert_eq!(rt; first_that_differs_at_first(rt.alloc(), &rows), None);
+}
+
+/// Frames on streams where they may not stand, and where they may.
+static PLACES: [Row<'static>; 10] = [
+    SETTINGS,
+    (4, 0, 1, b"", PROTOCOL_ERROR),
+    (6, 0, 1, b"12345678", PROTOCOL_ERROR),
+    (7, 0, 1, b"12345678", PROTOCOL_ERROR),
+    (2, 0, 0, b"12345", PROTOCOL_ERROR),
+    (3, 0, 0, b"1234", PROTOCOL_ERROR),
+    (5, 0, 1, b"1234", PROTOCOL_ERROR),
+    (2, 0, 1, b"12345", Judged::Ignored),
+    (7, 0, 0, b"12345678", Judged::Ignored),
+    (200, 255, 77, b"123", Judged::Ignored),
+];
+
+#[test]
+fn frames_stand_where_they_may(rt: HostRuntime) {
+    assert_eq!(rt; first_that_differs_at_first(rt.alloc(), &PLACES), None);
+}
+
+static LENGTHS: [Row<'static>; 8] = [
+    SETTINGS,
+    (6, 0, 0, b"1234567", FRAME_SIZE_ERROR),
+    (2, 0, 1, b"1234", FRAME_SIZE_ERROR),
+    (3, 0, 1, b"12345", FRAME_SIZE_ERROR),
+    (4, 0, 0, b"12345", FRAME_SIZE_ERROR),
+    (4, 1, 0, b"123456", FRAME_SIZE_ERROR),
+    (7, 0, 0, b"1234567", FRAME_SIZE_ERROR),
+    (8, 0, 0, b"12345", FRAME_SIZE_ERROR),
+];
+
+#[test]
+fn payloads_have_their_lengths(rt: HostRuntime) {
+    assert_eq!(rt; first_that_differs_at_first(rt.alloc(), &LENGTHS), None);
+}
+
+static VALUES: [Row<'static>; 5] = [
+    (4, 0, 0, &[0, 2, 0, 0, 0, 2], PROTOCOL_ERROR),
+    (4, 0, 0, &[0, 4, 128, 0, 0, 0], FLOW_CONTROL_ERROR),
+    (4, 0, 0, &[0, 5, 0, 0, 0, 1], PROTOCOL_ERROR),
+    (4, 0, 0, &[0, 4, 0, 0, 0, 10], Judged::Settings(TO_TEN)),
+    (
+        4,
+        0,
+        0,
+        &[0, 4, 127, 255, 255, 255],
+        Judged::Settings(TO_THE_MOST),
+    ),
+];
+
+#[test]
+fn settings_are_taken(rt: HostRuntime) {
+    assert_eq!(rt; first_that_differs_at_first(rt.alloc(), &VALUES), None);
+}
+
+#[test]
+fn windows_grow(rt: HostRuntime) {
+    let rows: [Row<'_>; 5] = [
+        SETTINGS,
+        (8, 0, 0, &[0, 0, 0, 0], PROTOCOL_ERROR),
+        (8, 0, 0, &[127, 255, 0, 1], FLOW_CONTROL_ERROR),
+        (8, 0, 0, &[127, 255, 0, 0], Judged::Granted),
+        (8, 0, 0, &[0, 0, 0, 1], FLOW_CONTROL_ERROR),
+    ];
+    assert_eq!(rt; first_that_differs_at_first(rt.alloc(), &rows), None);
+}
+
+#[test]
+fn idle_streams_are_left_alone(rt: HostRuntime) {
+    let rows: [Row<'_>; 4] = [
+        SETTINGS,
+        (3, 0, 1, b"1234", PROTOCOL_ERROR),
+        (8, 0, 1, &[0, 0, 0, 1], PROTOCOL_ERROR),
+        (8, 0, 2, &[0, 0, 0, 1], PROTOCOL_ERROR),
+    ];
+    assert_eq!(rt; first_that_differs_at_first(rt.alloc(), &rows), None);
+}
+
+/// Windows of streams 3, 5 and 9 that grow or grow too large, and resets, beside frames on streams that aren't active any more.
+static GRANTS: [Row<'static>; 16] = [
+    (8, 0, 3, &[127, 255, 0, 0], Judged::Granted),
+    (4, 0, 0, &[0, 4, 0, 1, 0, 0], FLOW_CONTROL_ERROR),
+    (8, 0, 3, &[0, 0, 0, 1], Judged::Failed(Fault::Stream(3))),
+    (8, 0, 5, &[0, 0, 0, 0], Judged::Failed(Fault::Stream(1))),
+    (8, 0, 9, &[0, 0, 0, 1], Judged::Granted),
+    (3, 0, 9, b"code", Judged::Reset),
+    (3, 0, 1, b"code", DISCARDED),
+    (8, 0, 1, &[0, 0, 0, 0], DISCARDED),
+    (3, 0, 3, b"code", DISCARDED),
+    (8, 0, 3, &[0, 0, 0, 0], DISCARDED),
+    (3, 0, 5, b"code", DISCARDED),
+    (8, 0, 5, &[0, 0, 0, 0], DISCARDED),
+    (3, 0, 7, b"code", DISCARDED),
+    (8, 0, 7, &[0, 0, 0, 0], DISCARDED),
+    (3, 0, 9, b"code", DISCARDED),
+    (8, 0, 9, &[0, 0, 0, 0], DISCARDED),
+];
+
+#[test]
+fn streams_are_granted_to_and_reset(rt: HostRuntime) -> Result<(), Fail> {
+    let mut connection = opened(rt.alloc(), &[3, 5, 9, 11])?;
+    assert_eq!(rt; first_that_differs(&mut connection, &GRANTS), None);
+    assert_eq!(rt; connection.verdict(3, Kind::Data), Verdict::Discard);
+    assert_eq!(rt; connection.verdict(9, Kind::Data), Verdict::Connection(5));
+    let rows: [Row<'_>; 1] = [(4, 0, 0, &[0, 4, 0, 1, 0, 0], Judged::Settings(BY_ONE))];
+    assert_eq!(rt; first_that_differs(&mut connection, &rows), None);
+    Ok(())
+}

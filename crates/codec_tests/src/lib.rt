@@ -1,0 +1,12 @@
+//! Tests of the crates that read and write the two protocols, through the functions that they offer.
+//!
+//! There is nothing here but tests, one module or two for each crate. They stand apart from the crates so that no crate has
+//! to be proved a second time together with its tests. Rows of tables say what goes in and what is wanted.
+#![tactic(auto)]
+
+#[cfg(test)]
+mod flags_tests;
+#[cfg(test)]
+mod frames_tests;
+#[cfg(test)]
+mod payloads_tests;

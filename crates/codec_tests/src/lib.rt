@@ -5,8 +5,18 @@
 #![tactic(auto)]
 
 #[cfg(test)]
+mod decoder_tests;
+#[cfg(test)]
+mod encoder_tests;
+#[cfg(test)]
 mod flags_tests;
 #[cfg(test)]
 mod frames_tests;
 #[cfg(test)]
+mod joiner_tests;
+#[cfg(test)]
+mod lines;
+#[cfg(test)]
 mod payloads_tests;
+#[cfg(test)]
+mod request_rules_tests;

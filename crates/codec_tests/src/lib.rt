@@ -13,6 +13,8 @@ mod flags_tests;
 #[cfg(test)]
 mod frames_tests;
 #[cfg(test)]
+mod h1_reader_tests;
+#[cfg(test)]
 mod joiner_tests;
 #[cfg(test)]
 mod lines;

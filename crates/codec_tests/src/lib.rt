@@ -5,6 +5,8 @@
 #![tactic(auto)]
 
 #[cfg(test)]
+mod causes_tests;
+#[cfg(test)]
 mod decoder_tests;
 #[cfg(test)]
 mod encoder_tests;
@@ -22,3 +24,9 @@ mod lines;
 mod payloads_tests;
 #[cfg(test)]
 mod request_rules_tests;
+#[cfg(test)]
+mod settings_tests;
+#[cfg(test)]
+mod tables_tests;
+#[cfg(test)]
+mod transfers_tests;

@@ -1,7 +1,7 @@
 use Rattle.std.proofs.Common.{ap, arith}
 use Rattle.model.specs.Tables.{total_size}
 use Rattle.hpack_table.proofs.Kept.{total_none, total_last}
-use Rattle.causes.proofs.tests.fields_of.Goals as goal
+use Rattle.codec_tests.proofs.causes_tests.fields_of.Goals as goal
 
 pub loop-line-init : goal.loop-line-init
 loop-line-init c = rw (c.new-fields.ensures.items, total_none) omega arith

@@ -17,6 +17,12 @@ mod frames_tests;
 #[cfg(test)]
 mod h1_reader_tests;
 #[cfg(test)]
+mod h1_writer_tests;
+#[cfg(test)]
+mod huffman_tests;
+#[cfg(test)]
+mod integers_tests;
+#[cfg(test)]
 mod joiner_tests;
 #[cfg(test)]
 mod lines;
@@ -27,6 +33,14 @@ mod request_rules_tests;
 #[cfg(test)]
 mod settings_tests;
 #[cfg(test)]
+mod streams_tests;
+#[cfg(test)]
 mod tables_tests;
 #[cfg(test)]
 mod transfers_tests;
+#[cfg(test)]
+mod turns_tests;
+#[cfg(test)]
+mod waiting_tests;
+#[cfg(test)]
+mod windows_tests;

@@ -1,8 +1,8 @@
 //! Slow programs of the definition, with which the tests compare: they walk the set of codes for each symbol, and share
 //! nothing with the crate's code. They take at most 64 bits.
 
-use crate::decoder::HuffFault;
-use crate::printed_codes::{CODES, END};
+use super::printed_codes::{CODES, END};
+use huffman::HuffFault;
 
 /// Bits: so many low bits of a number.
 #[derive(Clone, Copy, PartialEq, Eq)]

@@ -4,8 +4,6 @@
 mod cause;
 mod opening;
 mod route;
-#[cfg(test)]
-mod tests;
 mod trailers;
 
 pub use crate::cause::Cause;

@@ -111,6 +111,3 @@ fn sum_of(size: i64, difference: i64) -> Result<i64, Overflow>
     }
     Ok(size + difference)
 }
-
-#[cfg(test)]
-mod tests;

@@ -91,10 +91,3 @@ fn header_of(view: &View<'_>) -> [u8; 9]
         (view.id % 256) as u8,
     ]
 }
-
-#[cfg(test)]
-mod flag_tests;
-#[cfg(test)]
-mod payload_tests;
-#[cfg(test)]
-mod tests;

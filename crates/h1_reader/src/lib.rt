@@ -12,8 +12,6 @@ mod octets;
 mod piece;
 mod reader;
 mod room;
-#[cfg(test)]
-mod tests;
 mod trailers;
 
 pub use crate::fault::ResponseFault;

@@ -5,7 +5,5 @@ pub mod laws;
 mod lines;
 mod numbers;
 mod sender;
-#[cfg(test)]
-mod tests;
 
 pub use crate::sender::Sender;

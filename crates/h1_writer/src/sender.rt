@@ -177,10 +177,7 @@ impl Sender {
         self.waiting = Waiting::Nothing;
         Ok(())
     }
-}
 
-#[cfg(test)]
-impl Sender {
     /// Whether so many octets may be pushed.
     pub fn may_push(&self, count: usize) -> bool
         ensures { MatchBool result (MayPush self.now count) (MayPush self.now count → ⊥) }

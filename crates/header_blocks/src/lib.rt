@@ -4,23 +4,17 @@
 mod block;
 mod decoder;
 mod encoder;
-#[cfg(test)]
-mod encoder_tests;
 mod fault;
 mod fields;
 mod gather;
 mod join_fault;
 mod joiner;
-#[cfg(test)]
-mod joiner_tests;
 pub mod laws;
 mod limits;
 mod maxima;
 mod policy;
 mod representations;
 mod strings;
-#[cfg(test)]
-mod tests;
 
 pub use crate::block::Block;
 pub use crate::decoder::Decoder;

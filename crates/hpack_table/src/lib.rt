@@ -13,8 +13,6 @@ mod found;
 mod index;
 mod static_table;
 mod table;
-#[cfg(test)]
-mod tests;
 
 pub use crate::field::Field;
 pub use crate::found::Found;

@@ -10,13 +10,7 @@ mod decoder;
 mod encoder;
 mod long_codes;
 mod pending;
-#[cfg(test)]
-mod plain;
-#[cfg(test)]
-mod printed_codes;
 mod short_codes;
-#[cfg(test)]
-mod tests;
 mod upcoming;
 mod words;
 

@@ -96,23 +96,3 @@ fn drop_all(marks: &mut VecDeque<Mark>, taken: u64) -> u64
     }
     sum
 }
-
-#[cfg(test)]
-mod tests {
-    use super::*;
-    use std::test::Fail;
-
-    #[test]
-    fn marks_are_reached_in_turn(rt: HostRuntime) -> Result<(), Fail> {
-        let mut waiting = Waiting::new(rt.alloc());
-        waiting.wait(10, 4)?;
-        waiting.wait(10, 2)?;
-        waiting.wait(25, 9)?;
-        assert_eq!(rt; waiting.reach(9), 0);
-        assert_eq!(rt; waiting.reach(10), 6);
-        assert_eq!(rt; waiting.reach(24), 0);
-        assert_eq!(rt; waiting.reach(40), 9);
-        assert_eq!(rt; waiting.reach(50), 0);
-        Ok(())
-    }
-}

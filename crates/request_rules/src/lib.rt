@@ -5,15 +5,9 @@ mod body_count;
 mod check;
 mod fields;
 mod head;
-#[cfg(test)]
-mod length_tables;
 mod octets;
 mod rule;
 mod rules;
-#[cfg(test)]
-mod tables;
-#[cfg(test)]
-mod tests;
 
 pub use crate::body_count::BodyCount;
 pub use crate::check::{check_head, check_trailers};

@@ -34,27 +34,3 @@ fn least_above(last: u32, ready: &[u32]) -> Option<u32>
     }
     least
 }
-
-#[cfg(test)]
-mod tests {
-    use super::*;
-
-    #[test]
-    fn each_in_turn(rt: HostRuntime) {
-        assert_eq!(rt; Turn::next(0, &[3, 5]), Some(3));
-        assert_eq!(rt; Turn::next(3, &[3, 5]), Some(5));
-        assert_eq!(rt; Turn::next(5, &[3, 5]), Some(3));
-        assert_eq!(rt; Turn::next(5, &[]), None);
-    }
-
-    #[test]
-    fn turns_go_round(rt: HostRuntime) {
-        assert_eq!(rt; Turn::next(0, &[5, 1, 3]), Some(1));
-        assert_eq!(rt; Turn::next(1, &[5, 1, 3]), Some(3));
-        assert_eq!(rt; Turn::next(3, &[5, 1, 3]), Some(5));
-        assert_eq!(rt; Turn::next(5, &[5, 1, 3]), Some(1));
-        assert_eq!(rt; Turn::next(4, &[3, 1]), Some(1));
-        assert_eq!(rt; Turn::next(4294967295, &[7]), Some(7));
-        assert_eq!(rt; Turn::next(2, &[]), None);
-    }
-}

@@ -7,8 +7,6 @@ ghost use Rattle.model.specs.StreamStates.Change.{RemoteEnds, LocalEnds, PeerRes
 
 mod records;
 mod states;
-#[cfg(test)]
-mod tests;
 mod verdicts;
 
 use crate::records::{Record, highest_id, place_of};

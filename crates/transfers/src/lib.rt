@@ -6,6 +6,3 @@ mod outgoing;
 
 pub use incoming::{Got, read_piece};
 pub use outgoing::{Outgoing, PutFault};
-
-#[cfg(test)]
-mod tests;

@@ -1,0 +1,60 @@
+//! Responses as they are read, in any cuts.
+
+use crate::lines::{Line, are_fields, push_fields};
+use h1_reader::{Ended, Piece, Reader, ResponseFault, ResponseHead};
+use std::alloc::{AllocError, Global};
+use std::test::*;
+
+mod faults;
+mod framings;
+mod limits;
+mod passing;
+
+/// One text behind another.
+fn joined(alloc: Global, front: &[u8], back: &[u8]) -> Result<Vec<u8>, AllocError> {
+    let mut text = Vec::from_slice(alloc, front)?;
+    text.extend_from_slice(back)?;
+    Ok(text)
+}
+
+/// Reads octets, and tells the fault, if there is one.
+fn fault_at(reader: &mut Reader, octets: &[u8], pieces: &mut Vec<Piece>) -> Option<ResponseFault> {
+    reader.feed(octets, pieces).err()
+}
+
+const CHUNKED: &[u8] = b"HTTP/1.1 200 OK\r\nTransfer-Encoding: chunked\r\n\r\n";
+
+#[test]
+fn fields_are_taken_out(rt: HostRuntime) -> Result<(), Fail> {
+    let text = b"HTTP/1.1 200 OK\r\nA: b\r\n\r\n";
+    assert!(rt; are_taken_out(rt.alloc(), text, &[(b"a", b"b")]));
+    Ok(())
+}
+
+/// Whether the fields of these names and values are taken out of a text's head, the last piece of it.
+fn are_taken_out(alloc: Global, text: &[u8], wanted: &[Line<'_>]) -> bool {
+    let mut reader = Reader::new(alloc, false);
+    let mut pieces = Vec::new(alloc);
+    if fault_at(&mut reader, text, &mut pieces).is_some() {
+        return false;
+    }
+    match pieces.pop() {
+        Some(Piece::Head(head)) => are_fields(&head.into_fields(), wanted),
+        _ => false,
+    }
+}
+
+/// Whether a head has this status and these fields.
+fn is_head(head: &ResponseHead, status: u16, wanted: &[Line<'_>]) -> bool {
+    head.status() == status && are_fields(head.fields(), wanted)
+}
+
+/// A head is made of a status and fields.
+#[test]
+fn heads_are_made(rt: HostRuntime) -> Result<(), Fail> {
+    let mut fields = Vec::new(rt.alloc());
+    fields.push(hpack_table::Field::of(rt.alloc(), b"content-length", b"0")?)?;
+    let head = ResponseHead::new(404, fields);
+    assert!(rt; is_head(&head, 404, &[(b"content-length", b"0")]));
+    Ok(())
+}

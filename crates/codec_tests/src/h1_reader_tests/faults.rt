@@ -1,0 +1,234 @@
+//! Texts that are refused, each at the octet at which it can't go on.
+
+use super::*;
+
+/// How many octets are taken one by one, and the fault at the next.
+fn taken(alloc: Global, text: &[u8]) -> (usize, Option<ResponseFault>) {
+    let mut reader = Reader::new(alloc, false);
+    let mut pieces = Vec::new(alloc);
+    for (place, octet) in text.iter().enumerate() {
+        let fault = fault_at(&mut reader, std::slice::from_ref(octet), &mut pieces);
+        if fault.is_some() {
+            return (place, fault);
+        }
+    }
+    (text.len(), None)
+}
+
+/// Whether these octets have the fault and add nothing.
+fn refuses(
+    reader: &mut Reader,
+    octets: &[u8],
+    pieces: &mut Vec<Piece>,
+    fault: ResponseFault,
+) -> bool {
+    let before = pieces.len();
+    fault_at(reader, octets, pieces) == Some(fault) && pieces.len() == before
+}
+
+/// Whether the back of a text, behind its front, has the fault and adds nothing, and so has each later text.
+fn refuses_behind(alloc: Global, front: &[u8], back: &[u8], fault: ResponseFault) -> bool {
+    let mut reader = Reader::new(alloc, false);
+    let mut pieces = Vec::new(alloc);
+    if fault_at(&mut reader, front, &mut pieces).is_some() {
+        return false;
+    }
+    for octets in [back, b"", b"HTTP/1.1 200 OK\r\n\r\n"] {
+        if !refuses(&mut reader, octets, &mut pieces, fault) {
+            return false;
+        }
+    }
+    reader.end() == Ended::Short
+}
+
+/// The first cut, up to the bad octet, behind which the call that brings that octet doesn't answer the fault.
+fn first_cut_that_differs(
+    alloc: Global,
+    text: &[u8],
+    bad: usize,
+    fault: ResponseFault,
+) -> Option<usize> {
+    for cut in 0..bad.saturating_add(1) {
+        let (front, back) = text.split_at(cut.min(text.len()));
+        if !refuses_behind(alloc, front, back, fault) {
+            return Some(cut);
+        }
+    }
+    None
+}
+
+/// Whether a text whose last octet is the bad one is refused at it.
+fn is_refused(alloc: Global, text: &[u8], fault: ResponseFault) -> Result<bool, AllocError> {
+    let bad = text.len().saturating_sub(1);
+    let longer = joined(alloc, text, b"0\r\n\r\n")?;
+    Ok(
+        taken(alloc, text) == (bad, Some(fault))
+            && first_cut_that_differs(alloc, &longer, bad, fault).is_none(),
+    )
+}
+
+/// A text whose last octet is the bad one, and the fault.
+type Row<'a> = (&'a [u8], ResponseFault);
+
+/// The first row that isn't refused so behind some front: the front, and the row.
+fn first_that_differs(
+    alloc: Global,
+    fronts: &[&[u8]],
+    rows: &[Row<'_>],
+) -> Result<Option<(usize, usize)>, AllocError> {
+    for (at, front) in fronts.iter().enumerate() {
+        for (place, (text, fault)) in rows.iter().enumerate() {
+            if !is_refused(alloc, &joined(alloc, front, text)?, *fault)? {
+                return Ok(Some((at, place)));
+            }
+        }
+    }
+    Ok(None)
+}
+
+const INTERIM: &[u8] = b"HTTP/1.1 103 Early Hints\r\nlink: a\r\n\r\n";
+
+/// Heads that are refused, each up to the octet at which it is: where none can go on, or at its end.
+static HEADS: [Row<'static>; 15] = [
+    (b"j", ResponseFault::Head),
+    (b"HTTP/1.1 099 OK\r\n\r\n", ResponseFault::Head),
+    (b"HTTP/1.1 200 OK\r\nA: b\x01", ResponseFault::Head),
+    (b"HTTP/1.1 200 OK\r\n:", ResponseFault::Head),
+    (
+        b"HTTP/1.1 101 Switching Protocols\r\n\r\n",
+        ResponseFault::Upgrade,
+    ),
+    (
+        b"HTTP/1.1 200 OK\r\nContent-Length: 2\r\nContent-Length: 3\r\n\r\n",
+        ResponseFault::Length,
+    ),
+    (
+        b"HTTP/1.1 200 OK\r\nContent-Length: 2\r\nContent-Length: 02\r\n\r\n",
+        ResponseFault::Length,
+    ),
+    (
+        b"HTTP/1.1 200 OK\r\nContent-Length: 2, 2\r\n\r\n",
+        ResponseFault::Length,
+    ),
+    (
+        b"HTTP/1.1 200 OK\r\nContent-Length: +2\r\n\r\n",
+        ResponseFault::Length,
+    ),
+    (
+        b"HTTP/1.1 200 OK\r\nContent-Length:\r\n\r\n",
+        ResponseFault::Length,
+    ),
+    (
+        b"HTTP/1.1 200 OK\r\nContent-Length: 2\r\nTransfer-Encoding: chunked\r\n\r\n",
+        ResponseFault::Coding,
+    ),
+    (
+        b"HTTP/1.1 200 OK\r\nTransfer-Encoding: gzip\r\n\r\n",
+        ResponseFault::Coding,
+    ),
+    (
+        b"HTTP/1.1 200 OK\r\nTransfer-Encoding: chunked\r\nTransfer-Encoding: chunked\r\n\r\n",
+        ResponseFault::Coding,
+    ),
+    (
+        b"HTTP/1.0 200 OK\r\nTransfer-Encoding: chunked\r\n\r\n",
+        ResponseFault::Coding,
+    ),
+    (
+        b"HTTP/1.1 304 Not Modified\r\nTransfer-Encoding: gzip\r\n\r\n",
+        ResponseFault::Coding,
+    ),
+];
+
+#[test]
+fn heads(rt: HostRuntime) -> Result<(), Fail> {
+    assert_eq!(rt;
+        first_that_differs(rt.alloc(), &[b"", INTERIM], &HEADS)?,
+        None
+    );
+    Ok(())
+}
+
+/// A text so many times.
+fn repeated(alloc: Global, text: &[u8], count: usize) -> Result<Vec<u8>, AllocError> {
+    let mut whole = Vec::new(alloc);
+    for _ in 0..count {
+        whole.extend_from_slice(text)?;
+    }
+    Ok(whole)
+}
+
+/// A change of protocols with 101 fields.
+fn with_many_fields(alloc: Global) -> Result<Vec<u8>, AllocError> {
+    let fields = repeated(alloc, b"A:\r\n", 101)?;
+    let head = joined(alloc, b"HTTP/1.1 101 OK\r\n", &fields)?;
+    joined(alloc, &head, b"\r\n")
+}
+
+/// Behind eight interim heads: a change of protocols before the lines of framing, and a ninth interim head.
+static BEHIND_EIGHT: [Row<'static>; 2] = [
+    (
+        b"HTTP/1.1 101 OK\r\nContent-Length: x\r\n\r\n",
+        ResponseFault::Upgrade,
+    ),
+    (INTERIM, ResponseFault::TooLong),
+];
+
+/// A coding before the lengths.
+static CODINGS: [Row<'static>; 2] = [
+    (
+        b"HTTP/1.1 200 OK\r\nContent-Length: x\r\nTransfer-Encoding: chunked\r\n\r\n",
+        ResponseFault::Coding,
+    ),
+    (
+        b"HTTP/1.0 200 OK\r\nContent-Length: 1\r\nContent-Length: 2\r\nTransfer-Encoding: y\r\n\r\n",
+        ResponseFault::Coding,
+    ),
+];
+
+/// Heads that could be refused for two reasons: too many fields before all else, a change of protocols before its place behind
+/// eight interim heads and before the lines of framing, and a coding before the lengths.
+#[test]
+fn the_first_of_two(rt: HostRuntime) -> Result<(), Fail> {
+    let alloc = rt.alloc();
+    let many = with_many_fields(alloc)?;
+    assert!(rt; is_refused(alloc, &many, ResponseFault::Head)?);
+    let eight = repeated(alloc, INTERIM, 8)?;
+    assert_eq!(rt; first_that_differs(alloc, &[&eight], &BEHIND_EIGHT)?, None);
+    assert_eq!(rt; first_that_differs(alloc, &[b"", &eight], &CODINGS)?, None);
+    Ok(())
+}
+
+/// What can't be continued in a body of chunks, each up to the octet at which it can't.
+static CHUNKS: [Row<'static>; 19] = [
+    (b"g", ResponseFault::Chunk),
+    (b"\r", ResponseFault::Chunk),
+    (b" ", ResponseFault::Chunk),
+    (b";", ResponseFault::Chunk),
+    (b"-", ResponseFault::Chunk),
+    (b"2x", ResponseFault::Chunk),
+    (b"2\n", ResponseFault::Chunk),
+    (b"2 3", ResponseFault::Chunk),
+    (b"2 \n", ResponseFault::Chunk),
+    (b"2;\n", ResponseFault::Chunk),
+    (b"2;a\0", ResponseFault::Chunk),
+    (b"2\r\r", ResponseFault::Chunk),
+    (b"2;a\rb", ResponseFault::Chunk),
+    (b"2\r\nhix", ResponseFault::Chunk),
+    (b"2\r\nhi\n", ResponseFault::Chunk),
+    (b"2\r\nhi\r\r", ResponseFault::Chunk),
+    (b"0\r\n:", ResponseFault::Chunk),
+    (b"0\r\nA: b\x01", ResponseFault::Chunk),
+    (b"0\r\nA ", ResponseFault::Chunk),
+];
+
+#[test]
+fn chunks(rt: HostRuntime) -> Result<(), Fail> {
+    let alloc = rt.alloc();
+    let one = joined(alloc, CHUNKED, b"2\r\nhi\r\n")?;
+    let two = joined(alloc, &one, b"1;a\r\n!\r\n")?;
+    let behind = joined(alloc, INTERIM, &two)?;
+    let fronts = [CHUNKED, &one, &two, &behind];
+    assert_eq!(rt; first_that_differs(alloc, &fronts, &CHUNKS)?, None);
+    Ok(())
+}

@@ -1,0 +1,326 @@
+//! Requests as they are written.
+
+use crate::lines::{Line as AnyLine, push_fields};
+use h1_writer::Sender;
+use request_rules::{RequestHead, check_head};
+use std::alloc::{AllocError, Global};
+use std::test::*;
+
+type Line = AnyLine<'static>;
+
+/// The head of a request, if it keeps the rules.
+fn head_of(alloc: Global, lines: &[Line], ended: bool) -> Result<Option<RequestHead>, AllocError> {
+    let mut fields = Vec::new(alloc);
+    push_fields(alloc, &mut fields, lines)?;
+    Ok(check_head(alloc, &fields, ended).ok())
+}
+
+/// Starts a request whose body goes on.
+fn started(alloc: Global, lines: &[Line], out: &mut Vec<u8>) -> Result<Option<Sender>, AllocError> {
+    let Some(head) = head_of(alloc, lines, false)? else {
+        return Ok(None);
+    };
+    Ok(Some(Sender::start(&head, false, out)?))
+}
+
+/// Pushes octets where they may be, and says whether they may.
+fn pushes(sender: &mut Sender, octets: &[u8], out: &mut Vec<u8>) -> Result<bool, AllocError> {
+    if !sender.may_push(octets.len()) {
+        return Ok(false);
+    }
+    sender.push(octets, out)?;
+    Ok(true)
+}
+
+/// Ends a text where it may be ended, and says whether it may.
+fn finishes(sender: &mut Sender, out: &mut Vec<u8>) -> Result<bool, AllocError> {
+    if !sender.may_finish() {
+        return Ok(false);
+    }
+    sender.finish(out)?;
+    Ok(true)
+}
+
+const GET: Line = (b":method", b"GET");
+
+const POST: Line = (b":method", b"POST");
+
+const SCHEME: Line = (b":scheme", b"http");
+
+const PATH: Line = (b":path", b"/");
+
+const AUTHORITY: Line = (b":authority", b"www.example.com");
+
+/// Whether octets are pushed, and these are all that was added.
+fn adds(
+    sender: &mut Sender,
+    octets: &[u8],
+    out: &mut Vec<u8>,
+    added: &[u8],
+) -> Result<bool, AllocError> {
+    out.clear();
+    Ok(pushes(sender, octets, out)? && out.as_slice() == added)
+}
+
+/// Octets of a body, and what is added for them.
+type Piece = (&'static [u8], &'static [u8]);
+
+/// A request: its lines, its head's text, the pieces of its body, and its last octets.
+type Row = (
+    &'static [Line],
+    &'static [u8],
+    &'static [Piece],
+    &'static [u8],
+);
+
+/// Whether a request is written so, step by step.
+fn is_written(alloc: Global, row: Row) -> Result<bool, AllocError> {
+    let (lines, text, pieces, last) = row;
+    let mut out = Vec::new(alloc);
+    let Some(mut sender) = started(alloc, lines, &mut out)? else {
+        return Ok(false);
+    };
+    if out.as_slice() != text {
+        return Ok(false);
+    }
+    for (octets, added) in pieces {
+        if !adds(&mut sender, octets, &mut out, added)? {
+            return Ok(false);
+        }
+    }
+    out.clear();
+    Ok(finishes(&mut sender, &mut out)? && out.as_slice() == last)
+}
+
+/// The first request that is written in another way.
+fn first_written_otherwise(alloc: Global, rows: &[Row]) -> Result<Option<usize>, AllocError> {
+    for (place, row) in rows.iter().enumerate() {
+        if !is_written(alloc, *row)? {
+            return Ok(Some(place));
+        }
+    }
+    Ok(None)
+}
+
+/// A declared body keeps its last octet, a declared empty body keeps the head open, and an undeclared one goes in chunks.
+static STEPS: [Row; 3] = [
+    (
+        &[POST, SCHEME, PATH, AUTHORITY, (b"content-length", b"005")],
+        b"POST / HTTP/1.1\r\nhost: www.example.com\r\nvia: 2.0 h2gw\r\ncontent-length: 5\r\nconnection: close\r\n\r\n",
+        &[(b"he", b"he"), (b"llo", b"ll"), (b"", b"")],
+        b"o",
+    ),
+    (
+        &[POST, SCHEME, PATH, AUTHORITY, (b"content-length", b"0")],
+        b"POST / HTTP/1.1\r\nhost: www.example.com\r\nvia: 2.0 h2gw\r\ncontent-length: 0\r\nconnection: close\r\n\r",
+        &[],
+        b"\n",
+    ),
+    (
+        &[POST, SCHEME, PATH, AUTHORITY],
+        b"POST / HTTP/1.1\r\nhost: www.example.com\r\nvia: 2.0 h2gw\r\ntransfer-encoding: chunked\r\nconnection: close\r\n\r\n",
+        &[
+            (b"hi", b"2\r\nhi\r\n"),
+            (
+                b"0123456789abcdefghijklmnopq",
+                b"1b\r\n0123456789abcdefghijklmnopq\r\n",
+            ),
+        ],
+        b"0\r\n\r\n",
+    ),
+];
+
+#[test]
+fn bodies_go_out_as_they_come(rt: HostRuntime) -> Result<(), Fail> {
+    assert_eq!(rt; first_written_otherwise(rt.alloc(), &STEPS)?, None);
+    Ok(())
+}
+
+/// A request: its head, the pieces of its body, and the whole text.
+type Whole = (&'static [Line], &'static [&'static [u8]], &'static [u8]);
+
+/// Whether a request whose body comes in these pieces has this text.
+fn is_sent(alloc: Global, row: Whole) -> Result<bool, AllocError> {
+    let (lines, pieces, text) = row;
+    let mut out = Vec::new(alloc);
+    let Some(mut sender) = started(alloc, lines, &mut out)? else {
+        return Ok(false);
+    };
+    for piece in pieces {
+        if !pushes(&mut sender, piece, &mut out)? {
+            return Ok(false);
+        }
+    }
+    Ok(finishes(&mut sender, &mut out)? && out.as_slice() == text)
+}
+
+/// The first request that has another text.
+fn first_sent_otherwise(alloc: Global, rows: &[Whole]) -> Result<Option<usize>, AllocError> {
+    for (place, row) in rows.iter().enumerate() {
+        if !is_sent(alloc, *row)? {
+            return Ok(Some(place));
+        }
+    }
+    Ok(None)
+}
+
+static WHOLE_REQUESTS: [Whole; 6] = [
+    (
+        &[POST, SCHEME, PATH, AUTHORITY],
+        &[],
+        b"POST / HTTP/1.1\r\nhost: www.example.com\r\nvia: 2.0 h2gw\r\ntransfer-encoding: chunked\r\nconnection: close\r\n\r\n0\r\n\r\n",
+    ),
+    (
+        &[POST, SCHEME, PATH, AUTHORITY],
+        &[b"hi"],
+        b"POST / HTTP/1.1\r\nhost: www.example.com\r\nvia: 2.0 h2gw\r\ntransfer-encoding: chunked\r\nconnection: close\r\n\r\n2\r\nhi\r\n0\r\n\r\n",
+    ),
+    (
+        &[POST, SCHEME, PATH, AUTHORITY],
+        &[b"", b"0123456789", b"0123456789abcdef", b"a"],
+        b"POST / HTTP/1.1\r\nhost: www.example.com\r\nvia: 2.0 h2gw\r\ntransfer-encoding: chunked\r\nconnection: close\r\n\r\na\r\n0123456789\r\n10\r\n0123456789abcdef\r\n1\r\na\r\n0\r\n\r\n",
+    ),
+    (
+        &[POST, SCHEME, PATH, AUTHORITY, (b"content-length", b"5")],
+        &[b"hello"],
+        b"POST / HTTP/1.1\r\nhost: www.example.com\r\nvia: 2.0 h2gw\r\ncontent-length: 5\r\nconnection: close\r\n\r\nhello",
+    ),
+    (
+        &[POST, SCHEME, PATH, AUTHORITY, (b"content-length", b"0012")],
+        &[b"he", b"", b"llo, world"],
+        b"POST / HTTP/1.1\r\nhost: www.example.com\r\nvia: 2.0 h2gw\r\ncontent-length: 12\r\nconnection: close\r\n\r\nhello, world",
+    ),
+    (
+        &[POST, SCHEME, PATH, AUTHORITY, (b"content-length", b"0")],
+        &[b""],
+        b"POST / HTTP/1.1\r\nhost: www.example.com\r\nvia: 2.0 h2gw\r\ncontent-length: 0\r\nconnection: close\r\n\r\n",
+    ),
+];
+
+#[test]
+fn requests_with_bodies(rt: HostRuntime) -> Result<(), Fail> {
+    assert_eq!(rt; first_sent_otherwise(rt.alloc(), &WHOLE_REQUESTS)?, None);
+    Ok(())
+}
+
+/// A head that ends its stream, and its text.
+type HeadRow = (&'static [Line], &'static [u8]);
+
+/// What is written of a request whose head ends its stream and declares no body.
+fn whole_sender(head: &RequestHead, out: &mut Vec<u8>) -> Result<Option<Sender>, AllocError> {
+    if !matches!(head.length(), None | Some(0)) {
+        return Ok(None);
+    }
+    Ok(Some(Sender::start(head, true, out)?))
+}
+
+/// Whether the text of such a head is this one, and nothing may be added to it.
+fn is_whole(alloc: Global, lines: &[Line], text: &[u8]) -> Result<bool, AllocError> {
+    let Some(head) = head_of(alloc, lines, true)? else {
+        return Ok(false);
+    };
+    let mut out = Vec::new(alloc);
+    Ok(match whole_sender(&head, &mut out)? {
+        Some(sender) => { out.as_slice() == text && !sender.may_push(0) && !sender.may_finish() }
+        None => false,
+    })
+}
+
+/// The first head that has another text.
+fn first_head_that_differs(alloc: Global, rows: &[HeadRow]) -> Result<Option<usize>, AllocError> {
+    for (place, (lines, text)) in rows.iter().enumerate() {
+        if !is_whole(alloc, lines, text)? {
+            return Ok(Some(place));
+        }
+    }
+    Ok(None)
+}
+
+static HEADS: [HeadRow; 8] = [
+    (
+        &[GET, SCHEME, PATH, AUTHORITY],
+        b"GET / HTTP/1.1\r\nhost: www.example.com\r\nvia: 2.0 h2gw\r\nconnection: close\r\n\r\n",
+    ),
+    (
+        &[
+            GET,
+            SCHEME,
+            PATH,
+            (b":authority", b"h"),
+            (b"a", b""),
+            (b"cookie", b"a=1"),
+            (b"cookie", b"b=2"),
+            (b"host", b"H"),
+        ],
+        b"GET / HTTP/1.1\r\nhost: h\r\na: \r\ncookie: a=1; b=2\r\nvia: 2.0 h2gw\r\nconnection: close\r\n\r\n",
+    ),
+    (
+        &[
+            GET,
+            SCHEME,
+            PATH,
+            AUTHORITY,
+            (b"cache-control", b"no-cache"),
+        ],
+        b"GET / HTTP/1.1\r\nhost: www.example.com\r\ncache-control: no-cache\r\nvia: 2.0 h2gw\r\nconnection: close\r\n\r\n",
+    ),
+    (
+        &[(b":method", b"HEAD"), PATH, SCHEME, (b":authority", b"h")],
+        b"HEAD / HTTP/1.1\r\nhost: h\r\nvia: 2.0 h2gw\r\nconnection: close\r\n\r\n",
+    ),
+    (
+        &[
+            GET,
+            SCHEME,
+            PATH,
+            (b":authority", b"h"),
+            (b"cookie", b"a=1"),
+            (b"cookie", b"b=2"),
+            (b"cookie", b""),
+            (b"host", b"H"),
+        ],
+        b"GET / HTTP/1.1\r\nhost: h\r\ncookie: a=1; b=2\r\nvia: 2.0 h2gw\r\nconnection: close\r\n\r\n",
+    ),
+    (
+        &[
+            GET,
+            SCHEME,
+            PATH,
+            (b"cookie", b""),
+            (b"a", b"1"),
+            (b"cookie", b"a=1"),
+            (b"b", b"2"),
+            (b"cookie", b"b=2"),
+            (b"host", b"H"),
+        ],
+        b"GET / HTTP/1.1\r\nhost: H\r\na: 1\r\ncookie: a=1; b=2\r\nb: 2\r\nvia: 2.0 h2gw\r\nconnection: close\r\n\r\n",
+    ),
+    (
+        &[
+            GET,
+            SCHEME,
+            PATH,
+            (b":authority", b"h"),
+            (b"cookie", b""),
+            (b"te", b"trailers"),
+            (b"via", b"1.1 a"),
+        ],
+        b"GET / HTTP/1.1\r\nhost: h\r\nvia: 1.1 a\r\nvia: 2.0 h2gw\r\nconnection: close\r\n\r\n",
+    ),
+    (
+        &[
+            (b":method", b"OPTIONS"),
+            SCHEME,
+            (b":path", b"*"),
+            (b":authority", b"h:80"),
+            (b"content-length", b"00"),
+        ],
+        b"OPTIONS * HTTP/1.1\r\nhost: h:80\r\nvia: 2.0 h2gw\r\ncontent-length: 0\r\nconnection: close\r\n\r\n",
+    ),
+];
+
+#[test]
+fn requests_of_heads_alone(rt: HostRuntime) -> Result<(), Fail> {
+    assert_eq!(rt; first_head_that_differs(rt.alloc(), &HEADS)?, None);
+    Ok(())
+}

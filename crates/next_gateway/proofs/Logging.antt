@@ -1,0 +1,114 @@
+-- What is promised of the log for which a gateway stands.
+use Rattle.std.proofs.Common.{◌≡◌, ℕ, ◌≤◌, List, [], ◌∷◌, ◌++◌, reverse, refl, sym, ◌∙◌, ap, subst, arith}
+use Rattle.std.proofs.lemmas.List.{reverse-reverse}
+use Rattle.model.specs.Logs.{Step, client_in}
+use Rattle.model.specs.Setup.{Setup}
+use Rattle.model.specs.Tables.{first_table}
+use Rattle.model.specs.Tapes.{Entry, IsRead}
+use Rattle.model.specs.Known.{Known}
+use Rattle.model.specs.Synchrony.{StaysReady, turns_on}
+use Rattle.model.specs.Headline.{ClausesHold, HoldsInTurn, IsTold, HasTape}
+use Rattle.conduct.specs.Rule.{AreKnown, known_of}
+use Rattle.conduct.proofs.Knowing.{known_so}
+use Rattle.policy.specs.Moves.{Move, entry_of}
+use Rattle.policy.specs.Moves.Move.{Does, Settles}
+use Rattle.policy.specs.State.{conducts, tape_of, state_of}
+use Rattle.policy.specs.Rule.{AllAllowed, RestsBehind}
+use Rattle.policy.specs.Steps.{AreAnsweredBy}
+use Rattle.policy.proofs.Keeping.{IsKnown, clauses, in_step, in_turn, judged, ends_with_close}
+use Rattle.relay.specs.View.{View, AreSo}
+use Rattle.next_gateway.specs.declared.phase.Phase.{Phase}
+use Rattle.next_gateway.specs.declared.phase.Phase.TheVariants as phase
+use Rattle.next_gateway.specs.Stands.{Standing, Stands, IsIn}
+use Rattle.next_gateway.specs.Promises.{Promise, AreInStep}
+
+-- ---- a tape of the log, as the rule's own law of logs has it
+
+tape_both : (segment before : List Move) → tape_of (segment ++ before) ≡ tape_of segment ++ tape_of before
+tape_both [] before = refl
+tape_both (Does d ∷ segment) before = ap (λ (t : List Entry). entry_of d ∷ t) (tape_both segment before)
+tape_both (Settles ∷ segment) before = tape_both segment before
+
+-- what holds of moves holds of those before some
+before_these : (known : Known) (segment before : List Move) → IsKnown known (segment ++ before) → IsKnown known before
+before_these known [] before k = k
+before_these known (Does d ∷ segment) before k = before_these known segment before (record { knows = k.knows.0; all = k.all.0; answered = k.answered.0 })
+before_these known (Settles ∷ segment) before k = before_these known segment before (record { knows = k.knows; all = k.all; answered = k.answered })
+
+told : (known : Known) (text : List ℕ) (run : List Move) → IsKnown known run → RestsBehind known.setup run → IsRead text (tape_of run) → IsTold known text (tape_of run)
+told known text run k rests read =
+    let steps = in_step known run k rests in
+    record { read = read; table = (state_of known.setup run).tables.decoding; decodes = steps.of_came; others_are_read = steps.all_read; failures = judged known run k.knows k.answered; ends = ends_with_close known run k.knows k.all }
+
+has_tape : (known : Known) (steps : List Step) (run : List Move) → IsKnown known run → AreAnsweredBy known steps run → HasTape known steps (tape_of run)
+has_tape known [] run k is = ap tape_of is
+has_tape known (step ∷ earlier) run k a =
+    let segment : List Move = a.0 in
+    let before : List Move = a.1 in
+    let here : IsKnown known (segment ++ before) = subst (IsKnown known) a.2 k in
+    let same : tape_of (segment ++ before) ≡ tape_of segment ++ tape_of before = tape_both segment before in (
+      tape_of segment,
+      tape_of before,
+      ap tape_of a.2 ∙ same,
+      record {
+        admitted = a.3.admitted;
+        step_is = a.3.step_is;
+        told = subst (IsTold known (client_in (step ∷ earlier))) same (told known (client_in (step ∷ earlier)) (segment ++ before) here a.3.rests a.3.read);
+        in_turn = subst (HoldsInTurn (ClausesHold known)) same (in_turn known (segment ++ before) here);
+        clauses = subst (ClausesHold known) same (clauses known (segment ++ before) here a.3.rests);
+      },
+      has_tape known earlier before (before_these known segment before here) a.4,
+    )
+
+-- ---- moves that led to where a gateway stands
+
+all_in : (p : Phase) (setup : Setup) (partial : List ℕ) (kept : View) (text : List ℕ) (run : List Move) → IsIn p setup partial kept text run → AllAllowed setup run
+all_in phase.New setup partial kept text run o = o.leads.stands.allowed
+all_in phase.Preface setup partial kept text run o = o.leads.stands.allowed
+all_in phase.Frames setup partial kept text run o = o.leads.stands.allowed
+all_in phase.Closed setup partial kept text run o = o.allowed
+all_in phase.Dead setup partial kept text run o = absurd o
+
+so_in : (p : Phase) (setup : Setup) (partial : List ℕ) (kept : View) (text : List ℕ) (run : List Move) → IsIn p setup partial kept text run → AreSo setup run
+so_in phase.New setup partial kept text run o = o.leads.so
+so_in phase.Preface setup partial kept text run o = o.leads.so
+so_in phase.Frames setup partial kept text run o = o.leads.so
+so_in phase.Closed setup partial kept text run o = o.so
+so_in phase.Dead setup partial kept text run o = absurd o
+
+-- before anything came both tables are empty
+in_step_first : (known : Known) (t : List Entry) → t ≡ [] → AreInStep known t
+in_step_first known t e = rw e (record { encoding = first_table; decoding = first_table; in_step = record { of_sent = refl; of_came = refl; all_read = tt; written = tt; fair = none } })
+  where
+    none : (later stretch before : List Entry) → [] ≡ later ++ stretch ++ before → (waits other : ℕ) → StaysReady known waits before stretch → turns_on waits stretch ≡ 0 → turns_on other stretch ≤ 1
+    none later [] before is waits other stays no_turn = omega arith
+    none [] (e ∷ stretch) before is waits other stays no_turn = absurd (let no : [] ≡ e ∷ (stretch ++ before) = is in cc)
+    none (l ∷ later) (e ∷ stretch) before is waits other stays no_turn = absurd (let no : [] ≡ l ∷ ((later ++ e ∷ stretch) ++ before) = is in cc)
+
+-- behind a step they are in step, since the gateway rests
+in_step_behind : (known : Known) (log : List Step) (run : List Move) → IsKnown known run → AreAnsweredBy known log run → AreInStep known (tape_of run)
+in_step_behind known [] run k answered = in_step_first known (tape_of run) (ap tape_of answered)
+in_step_behind known (step ∷ earlier) run k answered =
+    let rests : RestsBehind known.setup run = subst (RestsBehind known.setup) (sym answered.2) answered.3.rests in
+    record { encoding = (state_of known.setup run).tables.encoding.table; decoding = (state_of known.setup run).tables.decoding; in_step = in_step known run k rests }
+
+pub promised : (setup : Setup) (g : Standing) (log : List Step) (run : List Move) → Stands setup g log run → Promise setup (reverse log)
+promised setup g log run stands = record {
+  known = known;
+  of_setup = refl;
+  tape = tape_of run;
+  has_tape = subst (λ l. HasTape known l (tape_of run)) (sym (reverse-reverse log)) (has_tape known log run k by);
+  in_step = in_step_behind known log run k by;
+}
+  where
+    known : Known
+    known = known_of setup (conducts run)
+
+    knows : AreKnown known (conducts run)
+    knows = known_so setup (conducts run)
+
+    k : IsKnown known run
+    k = record { knows = knows; all = all_in g.phase setup g.partial g.kept (client_in log) run stands.is_in; answered = so_in g.phase setup g.partial g.kept (client_in log) run stands.is_in known refl knows }
+
+    by : AreAnsweredBy known log run
+    by = stands.answered known refl knows

@@ -1,0 +1,12 @@
+pub mod Setups
+pub mod Reading
+pub mod Stands
+pub mod Receiving
+pub mod Promises
+pub use Rattle.outputs.specs.Views
+pub use Rattle.model.specs.Logs
+pub use Rattle.model.specs.Setup
+pub use Rattle.model.specs.Frames
+pub use Rattle.model.specs.Tapes
+pub use Rattle.model.specs.Headline
+pub use Rattle.model.specs.Messages

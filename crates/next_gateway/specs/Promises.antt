@@ -1,0 +1,23 @@
+-- What is promised of a log.
+use Rattle.std.specs.Prelude.{◌≡◌, List, reverse}
+use Rattle.model.specs.Logs.{Step}
+use Rattle.model.specs.Setup.{Setup}
+use Rattle.model.specs.Tables.{Table}
+use Rattle.model.specs.Tapes.{Entry}
+use Rattle.model.specs.Known.{Known}
+use Rattle.model.specs.Headline.{HasTape}
+use Rattle.model.specs.Synchrony.{InStep}
+
+-- Tables are in step behind a tape: those of the gateway are those of the other side, and turns were fair.
+pub record AreInStep (known : Known) (t : List Entry) : Type 0 where
+  pub encoding : Table
+  pub decoding : Table
+  pub in_step : InStep known t encoding decoding
+
+-- What is promised of a log, the oldest step first: the headline, by a tape of it; and behind that tape tables are in step.
+pub record Promise (setup : Setup) (log : List Step) : Type 0 where
+  pub known : Known
+  pub of_setup : known.setup ≡ setup
+  pub tape : List Entry
+  pub has_tape : HasTape known (reverse log) tape
+  pub in_step : AreInStep known tape

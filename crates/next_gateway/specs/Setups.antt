@@ -1,0 +1,38 @@
+-- The configuration without where it lies in memory.
+use Rattle.std.specs.Prelude.{◌≡◌, ◌≤◌, length, map}
+use Rattle.model.specs.Setup as setup
+use Rattle.model.specs.Setup.{Setup}
+use Rattle.model.specs.Setup.Passing.{Whole}
+use Rattle.next_gateway.specs.declared.config.Config.{Config}
+use Rattle.next_gateway.specs.declared.config.Route.{Route}
+use Rattle.next_gateway.specs.declared.config.Policy.{Policy}
+use Rattle.next_gateway.specs.declared.config.Policy.TheVariants as policy
+use Rattle.next_gateway.specs.declared.config.Passing.{Passing}
+use Rattle.next_gateway.specs.declared.config.Passing.TheVariants as passing
+
+abbrev pub route_of : Route → setup.Route
+route_of route = record { authority = route.authority.items; path = route.prefix.items }
+
+abbrev pub policy_of : Policy → setup.Policy
+policy_of policy.Plain = setup.Policy.Plain
+policy_of policy.Indexing = setup.Policy.Indexing
+
+abbrev pub passing_of : Passing → setup.Passing
+passing_of passing.Whole = setup.Passing.Whole
+passing_of passing.Streaming = setup.Passing.Streaming
+
+abbrev pub setup_of : Config → setup.Setup
+setup_of config = record {
+  routes = map route_of config.routes.items;
+  policy = policy_of config.policy;
+  passing = passing_of config.passing;
+  max_body = config.max_body;
+  max_response = config.max_response;
+}
+
+-- What a gateway can be set up with so far: bodies passed on whole, maxima within their limits, and no more routes than have a number.
+pub record IsServable (setup : Setup) : Type 0 where
+  pub whole : setup.passing ≡ Whole
+  pub body : setup.max_body ≤ 1073741824
+  pub response : setup.max_response ≤ 1073741824
+  pub few : length setup.routes ≤ 4294967295

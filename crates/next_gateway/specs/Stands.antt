@@ -1,0 +1,120 @@
+-- Where a gateway stands: for which log, and behind which moves by the rule.
+use Rattle.std.specs.Prelude.{◌≡◌, ℕ, Bool, true, false, ◌&&◌, if◌then◌else◌, List, [], ◌∷◌, ◌++◌}
+use Rattle.model.specs.Octets.{IsFront, IsStrictFront}
+use Rattle.model.specs.Frames.{Reading, preface, settings_frame}
+use Rattle.model.specs.Logs.{Event, Output, Step, client_in}
+use Rattle.model.specs.Setup.{Setup, Route}
+use Rattle.model.specs.Known.{Known}
+use Rattle.model.specs.Tapes.{Entry, came, breaches, frames_of, IsNoPreface}
+use Rattle.conduct.specs.Rule.{AreKnown}
+use Rattle.frames.specs.Views.{IsUnfinished}
+use Rattle.policy.specs.Moves.{Move}
+use Rattle.policy.specs.State.{State, conducts, tape_of}
+use Rattle.policy.specs.Steps.{AreAnsweredBy}
+use Rattle.relay.specs.View.{View, Pending, square, Leads}
+use Rattle.steps.specs.Comings.{IsOver}
+use Rattle.steps.specs.Resting.{IsSettled}
+use Rattle.steps.specs.Admission as steps
+use Rattle.next_gateway.specs.Setups.{IsServable}
+use Rattle.next_gateway.specs.declared.preface.Start.{Start}
+use Rattle.next_gateway.specs.declared.preface.Start.TheVariants as start
+use Rattle.next_gateway.specs.declared.phase.Phase.{Phase}
+use Rattle.next_gateway.specs.declared.phase.Phase.TheVariants as phase
+
+-- what a text is to the preface
+abbrev pub IsStart : List ℕ → Start → Type 0
+IsStart text start.Whole = IsFront preface text
+IsStart text start.Part = IsStrictFront text preface
+IsStart text start.Wrong = IsNoPreface text
+
+-- ---- what a gateway is seen as
+
+-- By what requests are judged, and the most octets of a response's body; how far the connection is; the octets of the client that aren't read; and
+-- what is kept.
+pub record Standing : Type 0 where
+  pub routes : List Route
+  pub max_body : ℕ
+  pub max_response : ℕ
+  pub phase : Phase
+  pub partial : List ℕ
+  pub kept : View
+
+-- It serves by this setup.
+pub record Serves (setup : Setup) (g : Standing) : Type 0 where
+  pub servable : IsServable setup
+  pub routes : setup.routes ≡ g.routes
+  pub max_body : setup.max_body ≡ g.max_body
+  pub max_response : setup.max_response ≡ g.max_response
+
+-- whether something may come in: the client wasn't closed, and memory wasn't refused
+abbrev pub is_open : Phase → Bool
+is_open phase.New = true
+is_open phase.Preface = true
+is_open phase.Frames = true
+is_open phase.Closed = false
+is_open phase.Dead = false
+
+-- whether memory was refused
+abbrev pub is_dead : Phase → Bool
+is_dead phase.Dead = true
+is_dead _ = false
+
+-- the event may come, as far as the gateway tells
+abbrev pub admits : Standing → Event → Bool
+admits g event = is_open g.phase && steps.admits g.kept event
+
+-- how many octets of an upstream may come in one event, as far as it tells
+abbrev pub room_of : Standing → ℕ → ℕ
+room_of g k = if is_open g.phase && steps.is_up g.kept k then 65536 else 0
+
+-- ---- where it stands
+
+-- what is to be done before all else: the gateway's settings are owed where nothing came yet
+abbrev pub pending_in : Phase → Pending
+pending_in phase.New = record square { owed = settings_frame ∷ [] }
+pending_in _ = square
+
+-- What is kept of the client's octets before its preface was read, and behind it.
+pub record IsUnbegun (partial text : List ℕ) (t : List Entry) : Type 0 where
+  pub front : IsStrictFront text preface
+  pub all : partial ≡ text
+  pub no_frame : came t ≡ []
+
+pub record IsBehind (partial text : List ℕ) (t : List Entry) : Type 0 where
+  pub behind : List ℕ
+  pub begins : text ≡ preface ++ behind
+  pub reading : Reading behind (frames_of (came t)) partial
+  pub rest : IsUnfinished partial
+
+abbrev pub IsReadIn : Phase → List ℕ → List ℕ → List Entry → Type 0
+IsReadIn phase.Frames partial text t = IsBehind partial text t
+IsReadIn _ partial text t = IsUnbegun partial text t
+
+-- The connection is open: moves lead to what is kept, where something may come in, and the octets that are kept are those that aren't read.
+pub record IsOpen (setup : Setup) (phase : Phase) (partial : List ℕ) (kept : View) (text : List ℕ) (run : List Move) : Type 0 where
+  pub state : State
+  pub leads : Leads setup run kept (pending_in phase) state
+  pub settled : IsSettled kept
+  pub octets : IsReadIn phase partial text (tape_of run)
+  pub unbroken : breaches (tape_of run) ≡ []
+
+-- It is open, or was closed by the rule; once memory was refused nothing is said.
+abbrev pub IsIn : Phase → Setup → List ℕ → View → List ℕ → List Move → Type 0
+IsIn phase.Closed setup partial kept text run = IsOver setup run
+IsIn phase.Dead setup partial kept text run = ⊥
+IsIn phase setup partial kept text run = IsOpen setup phase partial kept text run
+
+-- Each step of the log, the newest first, is answered by moves that came by the rule, whatever is known beside them.
+abbrev pub AreAnswered : Setup → List Step → List Move → Type 0
+AreAnswered setup log run = (known : Known) → known.setup ≡ setup → AreKnown known (conducts run) → AreAnsweredBy known log run
+
+-- The gateway stands for the log, the newest step first, behind these moves, and memory was never refused.
+pub record Stands (setup : Setup) (g : Standing) (log : List Step) (run : List Move) : Type 0 where
+  pub serves : Serves setup g
+  pub answered : AreAnswered setup log run
+  pub is_in : IsIn g.phase setup g.partial g.kept (client_in log) run
+
+-- Afterwards it stands for the log with the event and what was put out for it, behind more moves.
+pub record StandsNext (setup : Setup) (new : Standing) (log : List Step) (run : List Move) (event : Event) (put_out : List Output) : Type 0 where
+  pub segment : List Move
+  pub stands : Stands setup new (record { event = event; outputs = put_out } ∷ log) (segment ++ run)

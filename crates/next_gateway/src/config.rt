@@ -1,0 +1,80 @@
+//! What a gateway is set up with.
+
+ghost use Rattle.std.specs.Prelude.{◌≡◌, map, IfOk};
+ghost use Rattle.tables.specs.State.{inserts};
+ghost use Rattle.header_blocks.specs.Encoding.{is_indexing};
+ghost use Rattle.next_gateway.specs.Setups.{route_of, policy_of};
+
+use std::alloc::{AllocError, Global};
+use std::string::String;
+
+/// One route: where requests for an authority and a front of the paths go.
+#[derive(Drop)]
+pub struct Route {
+    /// The authority of the requests, in letters of either case; empty for any.
+    pub authority: Vec<u8>,
+    /// What their paths begin with.
+    pub prefix: Vec<u8>,
+    /// The address of the upstream, which the gateway itself doesn't read.
+    pub upstream: String,
+}
+
+/// How header blocks are written.
+#[derive(Clone, Copy)]
+pub enum Policy {
+    /// Without the dynamic table.
+    Plain,
+    /// With the dynamic table and the Huffman code.
+    Indexing,
+}
+
+/// How bodies are passed on.
+#[derive(Clone, Copy)]
+pub enum Passing {
+    /// Each when it is whole.
+    Whole,
+    /// As their octets come.
+    Streaming,
+}
+
+/// What a gateway is set up with.
+#[derive(Drop)]
+pub struct Config {
+    /// The routes; a request takes the first that matches.
+    pub routes: Vec<Route>,
+    /// How header blocks are written.
+    pub policy: Policy,
+    /// How bodies are passed on.
+    pub passing: Passing,
+    /// The most octets of a request's body, at most 1,073,741,824.
+    pub max_body: u64,
+    /// The most octets of a response's body, at most 1,073,741,824.
+    pub max_response: u64,
+}
+
+impl Config {
+    /// The routes without their addresses, once more.
+    pub(crate) fn copy_routes(&self, alloc: Global) -> Result<Vec<causes::Route>, AllocError>
+        ensures { IfOk result (λ routes. routes.items ≡ map route_of self.now.routes.items) }
+    {
+        let mut routes = Vec::new(alloc);
+        for route in &self.routes {
+            let copied = causes::Route {
+                authority: Vec::from_slice(alloc, &route.authority)?,
+                prefix: Vec::from_slice(alloc, &route.prefix)?,
+            };
+            routes.push(copied)?;
+        }
+        Ok(routes)
+    }
+
+    /// How blocks are encoded.
+    pub(crate) fn encoding(&self) -> header_blocks::Policy
+        ensures { is_indexing result ≡ inserts (policy_of self.now.policy) }
+    {
+        match self.policy {
+            Policy::Plain => header_blocks::Policy::Plain,
+            Policy::Indexing => header_blocks::Policy::Indexing,
+        }
+    }
+}

@@ -1,86 +1,114 @@
--- The log of a run, event by event.
-use Rattle.std.proofs.Common.{◌≡◌, ℕ, zero, suc, ◌+◌, ◌<◌, List, [], ◌∷◌, ◌++◌, length, length-append, take, get_or, map, reverse, refl, sym, ◌∙◌, ap, subst, arith, Some, false}
-use Rattle.std.specs.declared.vec.Vec.{Vec}
-use Rattle.std.specs.declared.alloc.Global.{Global}
-use Rattle.std.specs.Prelude.{slice_get, not, ◌&&◌}
-use Rattle.std.proofs.lemmas.List.{take_more, reverse-append}
-use Rattle.std.specs.List.{take-map}
-use Rattle.model.specs.Logs as logs
+-- What is promised of the log for which a gateway stands.
+use Rattle.std.proofs.Common.{◌≡◌, ℕ, ◌≤◌, List, [], ◌∷◌, ◌++◌, reverse, refl, sym, ◌∙◌, ap, subst, arith}
+use Rattle.std.proofs.lemmas.List.{reverse-reverse}
+use Rattle.model.specs.Logs.{Step, client_in}
 use Rattle.model.specs.Setup.{Setup}
-use Rattle.model.specs.Tapes.{Entry}
-use Rattle.model.specs.Faithful.{HasTape, Faithful}
-use Rattle.outputs.specs.declared.events.Event.{Event}
-use Rattle.outputs.specs.declared.events.Output.{Output}
-use Rattle.gateway.specs.Setups.{known_of, IsServable}
-use Rattle.outputs.specs.Views.{event_of, outputs_of}
-use Rattle.gateway.specs.Runs.{log_of}
-use Rattle.gateway.specs.Policy.{is_admitted}
-use Rattle.gateway.specs.Stands.{Standing, admits, Stands, StandsNext, IsRefusedAt, fresh}
-use Rattle.gateway.proofs.Steps.{stands_none, admits_by_tape}
+use Rattle.model.specs.Tables.{first_table}
+use Rattle.model.specs.Tapes.{Entry, IsRead}
+use Rattle.model.specs.Known.{Known}
+use Rattle.model.specs.Synchrony.{StaysReady, turns_on}
+use Rattle.model.specs.Headline.{ClausesHold, HoldsInTurn, IsTold, HasTape}
+use Rattle.conduct.specs.Rule.{AreKnown, known_of}
+use Rattle.conduct.proofs.Knowing.{known_so}
+use Rattle.policy.specs.Moves.{Move, entry_of}
+use Rattle.policy.specs.Moves.Move.{Does, Settles}
+use Rattle.policy.specs.State.{conducts, tape_of, state_of}
+use Rattle.policy.specs.Rule.{AllAllowed, RestsBehind}
+use Rattle.policy.specs.Steps.{AreAnsweredBy}
+use Rattle.policy.proofs.Keeping.{IsKnown, clauses, in_step, in_turn, judged, ends_with_close}
+use Rattle.relay.specs.View.{View, AreSo}
+use Rattle.gateway.specs.declared.phase.Phase.{Phase}
+use Rattle.gateway.specs.declared.phase.Phase.TheVariants as phase
+use Rattle.gateway.specs.Stands.{Standing, Stands, IsIn}
+use Rattle.gateway.specs.Promises.{Promise, AreInStep}
 
-pub log_more : (events : List Event) (outs : List (Vec Output Global)) (event : Event) (out : Vec Output Global) → length outs ≡ length events
-    → log_of (events ++ event ∷ []) (outs ++ out ∷ []) ≡ log_of events outs ++ record { event = event_of event; outputs = outputs_of out.items } ∷ []
-log_more [] [] event out e = refl
-log_more [] (x ∷ outs) event out e = absurd (let n : suc (length outs) ≡ 0 = e in omega arith)
-log_more (x ∷ events) [] event out e = absurd (let n : 0 ≡ suc (length events) = e in omega arith)
-log_more (x ∷ events) (y ∷ outs) event out e = ap (λ l. record { event = event_of x; outputs = outputs_of y.items } ∷ l) (log_more events outs event out (let n : suc (length outs) ≡ suc (length events) = e in omega arith))
+-- ---- a tape of the log, as the rule's own law of logs has it
 
-pub log_events : (events : List Event) (outs : List (Vec Output Global)) → length outs ≡ length events → map (λ (s : logs.Step). s.event) (log_of events outs) ≡ map event_of events
-log_events [] outs e = refl
-log_events (x ∷ events) [] e = absurd (let n : 0 ≡ suc (length events) = e in omega arith)
-log_events (x ∷ events) (y ∷ outs) e = ap (λ l. event_of x ∷ l) (log_events events outs (let n : suc (length outs) ≡ suc (length events) = e in omega arith))
+tape_both : (segment before : List Move) → tape_of (segment ++ before) ≡ tape_of segment ++ tape_of before
+tape_both [] before = refl
+tape_both (Does d ∷ segment) before = ap (λ (t : List Entry). entry_of d ∷ t) (tape_both segment before)
+tape_both (Settles ∷ segment) before = tape_both segment before
 
--- the gateway stands for the log of these events
-pub record Running (setup : Setup) (events : List Event) (outs : List (Vec Output Global)) (g : Standing) : Type 0 where
-  pub count : length outs ≡ length events
-  pub tape : List Entry
-  pub stands : Stands g (reverse (log_of events outs)) tape
-  pub same_setup : g.kept.state.setup ≡ setup
+-- what holds of moves holds of those before some
+before_these : (known : Known) (segment before : List Move) → IsKnown known (segment ++ before) → IsKnown known before
+before_these known [] before k = k
+before_these known (Does d ∷ segment) before k = before_these known segment before (record { knows = k.knows.0; all = k.all.0; answered = k.answered.0 })
+before_these known (Settles ∷ segment) before k = before_these known segment before (record { knows = k.knows; all = k.all; answered = k.answered })
 
-pub running_none : (setup : Setup) (g : Standing) → IsServable setup → g ≡ fresh setup → Running setup [] [] g
-running_none setup g servable e = record { count = refl; tape = []; stands = subst (λ x. Stands x [] []) (sym e) (stands_none setup (fresh setup).octets servable); same_setup = ap (λ (x : Standing). x.kept.state.setup) e }
+told : (known : Known) (text : List ℕ) (run : List Move) → IsKnown known run → RestsBehind known.setup run → IsRead text (tape_of run) → IsTold known text (tape_of run)
+told known text run k rests read =
+    let steps = in_step known run k rests in
+    record { read = read; table = (state_of known.setup run).tables.decoding; decodes = steps.of_came; others_are_read = steps.all_read; failures = judged known run k.knows k.answered; ends = ends_with_close known run k.knows k.all }
 
--- one more event
-pub running_more : (setup : Setup) (events : List Event) (n : ℕ) (outs outs' : List (Vec Output Global)) (g g' : Standing) (event : Event) (old out : Vec Output Global) → n < length events → event ≡ get_or events n event → old.items ≡ [] → outs' ≡ outs ++ out ∷ []
-    → (puts : (acts : List logs.Output) × (outputs_of out.items ≡ outputs_of old.items ++ acts) × ((log : List logs.Step) (tape : List Entry) → Stands g log tape → StandsNext g g' log tape (event_of event) acts))
-    → Running setup (take n events) outs g → Running setup (take (n + 1) events) outs' g'
-running_more setup events n outs outs' g g' event old out lt at none is puts r =
-    let all : outputs_of out.items ≡ puts.0 = puts.1 ∙ ap (λ x. outputs_of x ++ puts.0) none in
-    let taken : take (n + 1) events ≡ take n events ++ event ∷ [] = take_more events n event lt ∙ ap (λ e. take n events ++ e ∷ []) (sym at) in
-    let next = puts.2 (reverse (log_of (take n events) outs)) r.tape r.stands in
-    let log : reverse (log_of (take (n + 1) events) outs') ≡ record { event = event_of event; outputs = puts.0 } ∷ reverse (log_of (take n events) outs) =
-    ap (λ es. reverse (log_of es outs')) taken
-    ∙ ap (λ os. reverse (log_of (take n events ++ event ∷ []) os)) is
-    ∙ ap reverse (log_more (take n events) outs event out r.count)
-    ∙ reverse-append (log_of (take n events) outs) (record { event = event_of event; outputs = outputs_of out.items } ∷ [])
-    ∙ ap (λ acts. record { event = event_of event; outputs = acts } ∷ reverse (log_of (take n events) outs)) all in
-    let size : length outs' ≡ length outs + 1 = ap length is ∙ length-append outs (out ∷ []) in
-    let count : length outs ≡ length (take n events) = r.count in
-    let more : length (take (n + 1) events) ≡ length (take n events) + 1 = ap length taken ∙ length-append (take n events) (event ∷ []) in
-    record {
-      count = size ∙ ap (λ x. x + 1) count ∙ sym more;
-      tape = next.segment ++ r.tape;
-      stands = subst (λ l. Stands g' l (next.segment ++ r.tape)) (sym log) next.stands;
-      same_setup = next.same_setup ∙ r.same_setup;
-    }
+has_tape : (known : Known) (steps : List Step) (run : List Move) → IsKnown known run → AreAnsweredBy known steps run → HasTape known steps (tape_of run)
+has_tape known [] run k is = ap tape_of is
+has_tape known (step ∷ earlier) run k a =
+    let segment : List Move = a.0 in
+    let before : List Move = a.1 in
+    let here : IsKnown known (segment ++ before) = subst (IsKnown known) a.2 k in
+    let same : tape_of (segment ++ before) ≡ tape_of segment ++ tape_of before = tape_both segment before in (
+      tape_of segment,
+      tape_of before,
+      ap tape_of a.2 ∙ same,
+      record {
+        admitted = a.3.admitted;
+        step_is = a.3.step_is;
+        told = subst (IsTold known (client_in (step ∷ earlier))) same (told known (client_in (step ∷ earlier)) (segment ++ before) here a.3.rests a.3.read);
+        in_turn = subst (HoldsInTurn (ClausesHold known)) same (in_turn known (segment ++ before) here);
+        clauses = subst (ClausesHold known) same (clauses known (segment ++ before) here a.3.rests);
+      },
+      has_tape known earlier before (before_these known segment before here) a.4,
+    )
 
-pub running_faithful : (setup : Setup) (events : List Event) (outs : List (Vec Output Global)) (g : Standing) → Running setup events outs g → Faithful setup (log_of events outs)
-running_faithful setup events outs g r = record { known = known_of setup; of_setup = refl; tape = r.tape; has_tape = subst (λ s. HasTape (known_of s) (reverse (log_of events outs)) r.tape) r.same_setup r.stands.kept.has_tape }
+-- ---- moves that led to where a gateway stands
 
-get_mapped : (events : List Event) (n : ℕ) (event : Event) → n < length events → event ≡ get_or events n event → slice_get (map event_of events) n ≡ Some (event_of event)
-get_mapped [] n event lt at = absurd (omega arith)
-get_mapped (x ∷ events) zero event lt at = ap (λ e. Some (event_of e)) (sym at)
-get_mapped (x ∷ events) (suc n) event lt at = get_mapped events n event (omega arith) at
+all_in : (p : Phase) (setup : Setup) (partial : List ℕ) (kept : View) (text : List ℕ) (run : List Move) → IsIn p setup partial kept text run → AllAllowed setup run
+all_in phase.New setup partial kept text run o = o.leads.stands.allowed
+all_in phase.Preface setup partial kept text run o = o.leads.stands.allowed
+all_in phase.Frames setup partial kept text run o = o.leads.stands.allowed
+all_in phase.Closed setup partial kept text run o = o.allowed
+all_in phase.Dead setup partial kept text run o = absurd o
 
-pub running_refused : (setup : Setup) (events : List Event) (n : ℕ) (outs : List (Vec Output Global)) (g : Standing) (event : Event) → n < length events → event ≡ get_or events n event → admits g (event_of event) ≡ false → Running setup (take n events) outs g → IsRefusedAt setup (map event_of events) n
-running_refused setup events n outs g event lt at turned r = record {
-  event = event_of event;
-  found = get_mapped events n event lt at;
-  log = log_of (take n events) outs;
-  are_events = log_events (take n events) outs r.count ∙ sym (take-map event_of n events);
-  tape = r.tape;
-  gateway = g;
-  same_setup = r.same_setup;
-  stands = r.stands;
-  refused = sym (admits_by_tape g (reverse (log_of (take n events) outs)) r.tape (event_of event) r.stands) ∙ sym (ap (λ b. not b && is_admitted g.kept.state (event_of event)) r.stands.alive) ∙ turned;
+so_in : (p : Phase) (setup : Setup) (partial : List ℕ) (kept : View) (text : List ℕ) (run : List Move) → IsIn p setup partial kept text run → AreSo setup run
+so_in phase.New setup partial kept text run o = o.leads.so
+so_in phase.Preface setup partial kept text run o = o.leads.so
+so_in phase.Frames setup partial kept text run o = o.leads.so
+so_in phase.Closed setup partial kept text run o = o.so
+so_in phase.Dead setup partial kept text run o = absurd o
+
+-- before anything came both tables are empty
+in_step_first : (known : Known) (t : List Entry) → t ≡ [] → AreInStep known t
+in_step_first known t e = rw e (record { encoding = first_table; decoding = first_table; in_step = record { of_sent = refl; of_came = refl; all_read = tt; written = tt; fair = none } })
+  where
+    none : (later stretch before : List Entry) → [] ≡ later ++ stretch ++ before → (waits other : ℕ) → StaysReady known waits before stretch → turns_on waits stretch ≡ 0 → turns_on other stretch ≤ 1
+    none later [] before is waits other stays no_turn = omega arith
+    none [] (e ∷ stretch) before is waits other stays no_turn = absurd (let no : [] ≡ e ∷ (stretch ++ before) = is in cc)
+    none (l ∷ later) (e ∷ stretch) before is waits other stays no_turn = absurd (let no : [] ≡ l ∷ ((later ++ e ∷ stretch) ++ before) = is in cc)
+
+-- behind a step they are in step, since the gateway rests
+in_step_behind : (known : Known) (log : List Step) (run : List Move) → IsKnown known run → AreAnsweredBy known log run → AreInStep known (tape_of run)
+in_step_behind known [] run k answered = in_step_first known (tape_of run) (ap tape_of answered)
+in_step_behind known (step ∷ earlier) run k answered =
+    let rests : RestsBehind known.setup run = subst (RestsBehind known.setup) (sym answered.2) answered.3.rests in
+    record { encoding = (state_of known.setup run).tables.encoding.table; decoding = (state_of known.setup run).tables.decoding; in_step = in_step known run k rests }
+
+pub promised : (setup : Setup) (g : Standing) (log : List Step) (run : List Move) → Stands setup g log run → Promise setup (reverse log)
+promised setup g log run stands = record {
+  known = known;
+  of_setup = refl;
+  tape = tape_of run;
+  has_tape = subst (λ l. HasTape known l (tape_of run)) (sym (reverse-reverse log)) (has_tape known log run k by);
+  in_step = in_step_behind known log run k by;
 }
+  where
+    known : Known
+    known = known_of setup (conducts run)
+
+    knows : AreKnown known (conducts run)
+    knows = known_so setup (conducts run)
+
+    k : IsKnown known run
+    k = record { knows = knows; all = all_in g.phase setup g.partial g.kept (client_in log) run stands.is_in; answered = so_in g.phase setup g.partial g.kept (client_in log) run stands.is_in known refl knows }
+
+    by : AreAnsweredBy known log run
+    by = stands.answered known refl knows

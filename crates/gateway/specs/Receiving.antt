@@ -1,74 +1,93 @@
--- What octets of the client come to: frames are taken off their front, one after the other.
-use Rattle.std.specs.Prelude.{◌≡◌, ℕ, ◌<◌, ◌⊎◌, Bool, true, false, if◌then◌else◌, List, [], ◌∷◌, ◌++◌, length, map, reverse}
+-- What an event comes to, once the gateway's settings are sent.
+use Rattle.std.specs.Prelude.{◌≡◌, Bool, true, false, if◌then◌else◌, ℕ, List, [], ◌∷◌, ◌++◌, ◌⊎◌, ◌≤◌}
 use Rattle.model.specs.Octets.{IsStrictFront}
-use Rattle.model.specs.Frames.{Frame, Reading, BeginsNoFrame, IsTooLong, preface}
-use Rattle.model.specs.Logs.{Output}
+use Rattle.model.specs.Frames.{preface}
+use Rattle.model.specs.Logs.{Event, Output}
+use Rattle.model.specs.Logs.Event.{Client}
+use Rattle.model.specs.Setup.{Setup}
+use Rattle.model.specs.Tapes as model
 use Rattle.model.specs.Tapes.{IsNoPreface}
-use Rattle.model.specs.Tapes.Breach.{WrongPreface, TooLong}
-use Rattle.gateway.specs.Moves.{Move, inputs}
-use Rattle.gateway.specs.Moves.Input.{OfFrame, OfBreach}
-use Rattle.gateway.specs.State.{State}
-use Rattle.gateway.specs.Policy.{idle, Leads}
+use Rattle.relay.specs.View.{View, square}
+use Rattle.relay.specs.Bringing.{PerformsOwn}
+use Rattle.steps.specs.Inputs.Input.{OfBreach, OfEvent}
+use Rattle.steps.specs.Comings.{ComesFrom, OnlyToClient}
+use Rattle.steps.specs.Resting.{now_of, IsSettled}
+use Rattle.steps.specs.declared.resting.Went.{Went}
+use Rattle.steps.specs.declared.resting.Went.TheVariants as answer
+use Rattle.gateway.specs.Reading.{Takes}
+use Rattle.gateway.specs.Stands.{Standing, Serves, pending_in}
+use Rattle.gateway.specs.declared.phase.Phase.{Phase}
+use Rattle.gateway.specs.declared.phase.Phase.TheVariants as phase
 
--- These frames, the oldest first, were taken off the front of a text, and the rest is left.
-pub record Taking (s s' : State) (o o' : List Output) (text rest : List ℕ) : Type 0 where
-  pub segment : List Move
-  pub leads : Leads (idle s) (idle s') o o' segment
-  pub frames : List Frame
-  pub reading : Reading text frames rest
-  pub came_in : inputs segment ≡ reverse (map OfFrame frames)
-
--- Nothing more can be taken off.
-pub record IsRest (rest : List ℕ) : Type 0 where
-  pub no_frame : BeginsNoFrame rest
-  pub not_too_long : IsTooLong rest → ⊥
-  pub short : length rest < 16393
-
--- All that could be taken was; a header that is too long, or what ends the connection, comes last.
-pub record Takes (s s' : State) (o o' : List Output) (text rest : List ℕ) : Type 0 where
-  pub segment : List Move
-  pub leads : Leads (idle s) (idle s') o o' segment
-  pub frames : List Frame
-  pub reading : Reading text frames rest
-  pub came_in : (inputs segment ≡ reverse (map OfFrame frames)) ⊎ ((inputs segment ≡ OfBreach TooLong ∷ reverse (map OfFrame frames)) × IsTooLong rest)
-  pub no_more : s'.closed ≡ false → IsRest rest
-
--- what is kept of a client's octets and of its connection
-pub record Kept : Type 0 where
-  pub partial : List ℕ
-  -- the preface was read
-  pub begun : Bool
-  pub state : State
+-- whether the preface was read
+abbrev pub is_begun : Phase → Bool
+is_begun phase.Frames = true
+is_begun _ = false
 
 -- The octets so far are a front of the preface.
-pub record Waits (k k' : Kept) (o o' : List Output) (unread : List ℕ) : Type 0 where
-  pub unbegun : k.begun ≡ false
+pub record Waits (old new : Standing) (went : Went) (o o' : List Output) (unread : List ℕ) : Type 0 where
+  pub unbegun : is_begun old.phase ≡ false
   pub front : IsStrictFront unread preface
-  pub after : k' ≡ record { partial = unread; begun = false; state = k.state }
+  pub goes_on : went ≡ answer.On
+  pub after : new ≡ record old { partial = unread }
   pub puts_nothing : o' ≡ o
 
--- The octets depart from the preface.
-pub record Departs (k k' : Kept) (o o' : List Output) (unread : List ℕ) : Type 0 where
-  pub unbegun : k.begun ≡ false
+-- They depart from it.
+pub record Departs (old new : Standing) (went : Went) (o o' : List Output) (unread : List ℕ) : Type 0 where
+  pub unbegun : is_begun old.phase ≡ false
   pub no_preface : IsNoPreface unread
-  pub segment : List Move
-  pub leads : Leads (idle k.state) (idle k'.state) o o' segment
-  pub came_in : inputs segment ≡ OfBreach WrongPreface ∷ []
-  pub closed : k'.state.closed ≡ true
+  pub is_over : went ≡ answer.Over
+  pub comes : (setup : Setup) → ComesFrom setup old.kept square o (OfBreach model.Breach.WrongPreface ∷ []) square (now_of went new.kept) o'
+
+-- Where the connection goes on, this is left of the octets behind the preface.
+abbrev pub Keeps : Went → Standing → Standing → List ℕ → Type 0
+Keeps answer.On old new rest = new ≡ record old { phase = phase.Frames; partial = rest; kept = new.kept }
+Keeps answer.Over old new rest = Unit {0}
 
 -- Frames are taken off these octets, which stand behind the preface, and the rest is kept.
-pub record TakesBehind (k k' : Kept) (o o' : List Output) (behind : List ℕ) : Type 0 where
+pub record ReadsOn (old new : Standing) (went : Went) (o o' : List Output) (behind : List ℕ) : Type 0 where
   pub rest : List ℕ
-  pub takes : Takes k.state k'.state o o' behind rest
-  pub begun : k'.begun ≡ true
-  pub kept : k'.state.closed ≡ false → k'.partial ≡ rest
+  pub takes : Takes (λ setup. Serves setup old) old.kept o behind rest (now_of went new.kept) o'
+  pub keeps : Keeps went old new rest
 
--- The octets go on behind the preface, or have come to it.
-pub record GoesOn (k k' : Kept) (o o' : List Output) (unread : List ℕ) : Type 0 where
+-- They go on behind the preface, or have come to it.
+pub record GoesOn (old new : Standing) (went : Went) (o o' : List Output) (unread : List ℕ) : Type 0 where
   pub behind : List ℕ
-  pub begins : unread ≡ (if k.begun then behind else preface ++ behind)
-  pub goes : TakesBehind k k' o o' behind
+  pub begins : unread ≡ (if is_begun old.phase then behind else preface ++ behind)
+  pub reads : ReadsOn old new went o o' behind
 
--- What a piece of the client's octets comes to.
-abbrev pub Receives : Kept → Kept → List Output → List Output → List ℕ → Type 0
-Receives k k' o o' unread = Waits k k' o o' unread ⊎ Departs k k' o o' unread ⊎ GoesOn k k' o o' unread
+-- What a piece of the client's octets comes to, with those before it that weren't read.
+abbrev pub Receives : Standing → Standing → Went → List Output → List Output → List ℕ → Type 0
+Receives old new went o o' unread = Waits old new went o o' unread ⊎ Departs old new went o o' unread ⊎ GoesOn old new went o o' unread
+
+-- What another event comes to: where the connection goes on, all but what is kept stays.
+pub record Hears (old new : Standing) (went : Went) (o o' : List Output) (event : Event) : Type 0 where
+  pub comes : (setup : Setup) → Serves setup old → ComesFrom setup old.kept square o (OfEvent event ∷ []) square (now_of went new.kept) o'
+  pub stays : new ≡ record old { kept = new.kept }
+
+abbrev pub Happens : Standing → Standing → Went → List Output → List Output → Event → Type 0
+Happens old new went o o' (Client piece) = Receives old new went o o' (old.partial ++ piece)
+Happens old new went o o' event = Hears old new went o o' event
+
+-- By what is served stays.
+pub record KeepsTerms (old new : Standing) : Type 0 where
+  pub routes : new.routes ≡ old.routes
+  pub max_body : new.max_body ≡ old.max_body
+  pub max_response : new.max_response ≡ old.max_response
+
+-- Where the connection goes on, something may come in.
+abbrev pub IsSettledIf : Went → View → Type 0
+IsSettledIf answer.On kept = IsSettled kept
+IsSettledIf answer.Over kept = Unit {0}
+
+-- The gateway's settings are sent where nothing came yet; all else stays, but for how many octets for the client aren't taken.
+abbrev pub greeted : Phase → Phase
+greeted phase.New = phase.Preface
+greeted other = other
+
+pub record Greets (old new : Standing) (put_out : List Output) : Type 0 where
+  pub performs : (setup : Setup) → PerformsOwn setup old.kept (pending_in old.phase) [] new.kept square put_out
+  pub only : OnlyToClient put_out
+  pub after : new ≡ record old { phase = greeted old.phase; kept = record old.kept { untaken = new.kept.untaken } }
+  pub more : old.kept.untaken ≤ new.kept.untaken
+  pub settled : IsSettled new.kept

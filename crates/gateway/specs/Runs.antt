@@ -1,22 +1,32 @@
 -- The log of a run, and why one is refused.
-use Rattle.std.specs.Prelude.{◌≡◌, ◌<◌, ◌⊎◌, List, [], ◌∷◌, length}
+use Rattle.std.specs.Prelude.{◌≡◌, ◌<◌, ◌⊎◌, ℕ, false, Some, List, [], ◌∷◌, length, map, take, slice_get}
 use Rattle.std.specs.declared.vec.Vec.{Vec}
-use Rattle.model.specs.Logs as logs
-use Rattle.model.specs.Setup.{Setup}
-use Rattle.gateway.specs.declared.runs.RunFault.{RunFault}
-use Rattle.gateway.specs.declared.runs.RunFault.TheVariants.{NotAdmitted, Memory}
-use Rattle.gateway.specs.Stands.{IsRefusedAt}
 use Rattle.std.specs.declared.alloc.Global.{Global}
+use Rattle.model.specs.Admission.{is_admitted}
+use Rattle.model.specs.Logs as logs
 use Rattle.model.specs.Logs.{Step}
+use Rattle.model.specs.Setup.{Setup}
 use Rattle.outputs.specs.declared.events.Event.{Event}
 use Rattle.outputs.specs.declared.events.Output.{Output}
 use Rattle.outputs.specs.Views.{event_of, outputs_of}
+use Rattle.gateway.specs.declared.runs.RunFault.{RunFault}
+use Rattle.gateway.specs.declared.runs.RunFault.TheVariants.{NotAdmitted, Memory}
+use Rattle.gateway.specs.Promises.{Promise}
 
 -- the log of these events and the outputs of each, the oldest step first
 abbrev pub log_of : List Event → List (Vec Output Global) → List Step
 log_of [] outputs = []
 log_of (event ∷ events) [] = []
 log_of (event ∷ events) (outputs ∷ more) = record { event = event_of event; outputs = outputs_of outputs.items } ∷ log_of events more
+
+-- What is promised holds of a log of the events before a place, by a tape after which the event at that place may not come.
+pub record IsRefusedAt (setup : Setup) (events : List logs.Event) (place : ℕ) : Type 0 where
+  pub event : logs.Event
+  pub found : slice_get events place ≡ Some event
+  pub log : List Step
+  pub are_events : map (λ step. step.event) log ≡ take place events
+  pub promise : Promise setup log
+  pub refused : is_admitted promise.tape event ≡ false
 
 -- What a fault says: the event at the place may not come after those before it; or that memory was refused there.
 abbrev pub Explains : Setup → List logs.Event → RunFault → Type 0

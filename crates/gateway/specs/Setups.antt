@@ -1,9 +1,7 @@
 -- The configuration without where it lies in memory.
-use Rattle.std.specs.Prelude.{◌≡◌, ◌≤◌, [], map}
+use Rattle.std.specs.Prelude.{◌≡◌, ◌≤◌, length, map}
 use Rattle.model.specs.Setup as setup
 use Rattle.model.specs.Setup.{Setup}
-use Rattle.model.specs.Known.{Known}
-use Rattle.model.specs.Setup.Policy.{Plain}
 use Rattle.model.specs.Setup.Passing.{Whole}
 use Rattle.gateway.specs.declared.config.Config.{Config}
 use Rattle.gateway.specs.declared.config.Route.{Route}
@@ -32,13 +30,9 @@ setup_of config = record {
   max_response = config.max_response;
 }
 
--- what is known beside a tape: no answer failed, since so far the connection ends wherever one does
-abbrev pub known_of : Setup → Known
-known_of setup = record { setup = setup; failures = [] }
-
--- What a gateway can be set up with so far: blocks written plainly, bodies passed on whole, and maxima within their limits.
+-- What a gateway can be set up with so far: bodies passed on whole, maxima within their limits, and no more routes than have a number.
 pub record IsServable (setup : Setup) : Type 0 where
-  pub plain : setup.policy ≡ Plain
   pub whole : setup.passing ≡ Whole
   pub body : setup.max_body ≤ 1073741824
   pub response : setup.max_response ≤ 1073741824
+  pub few : length setup.routes ≤ 4294967295

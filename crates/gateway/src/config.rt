@@ -1,8 +1,9 @@
 //! What a gateway is set up with.
 
-ghost use Rattle.std.specs.Prelude.{◌≡◌, ◌≤◌, map, IfOk, string_bytes};
-ghost use Rattle.gateway.specs.Setups.{route_of, setup_of};
-ghost use Rattle.gateway.specs.Stands.{held_bound};
+ghost use Rattle.std.specs.Prelude.{◌≡◌, map, IfOk};
+ghost use Rattle.tables.specs.State.{inserts};
+ghost use Rattle.header_blocks.specs.Encoding.{is_indexing};
+ghost use Rattle.gateway.specs.Setups.{route_of, policy_of};
 
 use std::alloc::{AllocError, Global};
 use std::string::String;
@@ -51,48 +52,29 @@ pub struct Config {
     pub max_response: u64,
 }
 
-impl Route {
-    /// The same route once more.
-    fn copy(&self, alloc: Global) -> Result<Route, AllocError>
-        ensures route { IfOk result (λ route. route_of route ≡ route_of self.now) }
-        ensures upstream { IfOk result (λ route. string_bytes route.upstream ≡ string_bytes self.now.upstream) }
-    {
-        let authority = Vec::from_slice(alloc, &self.authority)?;
-        let prefix = Vec::from_slice(alloc, &self.prefix)?;
-        let upstream = self.upstream.clone()?;
-        Ok(Route {
-            authority,
-            prefix,
-            upstream,
-        })
-    }
-}
-
 impl Config {
-    /// The most octets that a gateway with this configuration holds between two steps, the configuration itself aside.
-    pub fn held_bound(&self) -> u64
-        requires body { self.now.max_body ≤ 1073741824 }
-        requires response { self.now.max_response ≤ 1073741824 }
-        ensures { result ≡ held_bound (setup_of self.now) }
-    {
-        200000 + 100 * (self.max_body + self.max_response + 400000)
-    }
-
-    /// The same configuration once more. The only error is that memory was refused.
-    pub fn copy(&self, alloc: Global) -> Result<Config, AllocError>
-        ensures setup { IfOk result (λ config. setup_of config ≡ setup_of self.now) }
-        ensures upstreams { IfOk result (λ config. map (λ route. string_bytes route.upstream) config.routes.items ≡ map (λ route. string_bytes route.upstream) self.now.routes.items) }
+    /// The routes without their addresses, once more.
+    pub(crate) fn copy_routes(&self, alloc: Global) -> Result<Vec<causes::Route>, AllocError>
+        ensures { IfOk result (λ routes. routes.items ≡ map route_of self.now.routes.items) }
     {
         let mut routes = Vec::new(alloc);
         for route in &self.routes {
-            routes.push(route.copy(alloc)?)?;
+            let copied = causes::Route {
+                authority: Vec::from_slice(alloc, &route.authority)?,
+                prefix: Vec::from_slice(alloc, &route.prefix)?,
+            };
+            routes.push(copied)?;
         }
-        Ok(Config {
-            routes,
-            policy: self.policy,
-            passing: self.passing,
-            max_body: self.max_body,
-            max_response: self.max_response,
-        })
+        Ok(routes)
+    }
+
+    /// How blocks are encoded.
+    pub(crate) fn encoding(&self) -> header_blocks::Policy
+        ensures { is_indexing result ≡ inserts (policy_of self.now.policy) }
+    {
+        match self.policy {
+            Policy::Plain => header_blocks::Policy::Plain,
+            Policy::Indexing => header_blocks::Policy::Indexing,
+        }
     }
 }

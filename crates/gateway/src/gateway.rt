@@ -1,22 +1,49 @@
 //! The gateway: events in, outputs out.
 
-ghost use Rattle.std.specs.Prelude.{◌≡◌, ◌≤◌, ◌<◌, ◌++◌, [], List, true, false, length, drop, OnOk, OnErr, IsErrOf, ◌↔◌, vec_len};
+ghost use Rattle.std.specs.Prelude.{◌≡◌, ◌≤◌, ◌++◌, [], List, ◌∷◌, true, false, length, OnOk, OnErr, IfOk, IsErrOf, ◌↔◌};
 ghost use Rattle.model.specs.Logs.{Step, Output as Put};
-ghost use Rattle.model.specs.Tapes.{Entry};
+ghost use Rattle.model.specs.Logs.Event.{Client};
+ghost use Rattle.model.specs.Tapes.{listed};
+ghost use Rattle.model.specs.Setup.{Setup};
+ghost use Rattle.model.specs.Admission.{is_admitted, room};
 ghost use Rattle.outputs.specs.Views.{event_of, outputs_of};
+ghost use Rattle.serving.specs.State.{find};
+ghost use Rattle.upstreams.specs.Connections.{number_of};
+ghost use Rattle.steps.specs.Admission.{is_up, may_take, admits as admits_kept};
+ghost use Rattle.policy.specs.Moves.{Move};
+ghost use Rattle.policy.specs.State.{tape_of};
+ghost use Rattle.relay.specs.View.{square};
+ghost use Rattle.relay.specs.Rest.{Reached};
+ghost use Rattle.steps.specs.Resting.{IsSettled, IsServed};
 ghost use Rattle.gateway.specs.Setups.{setup_of, IsServable};
-ghost use Rattle.model.specs.Admission.{is_admitted as is_admitted_by_tape, room};
-ghost use Rattle.gateway.specs.Policy.{is_admitted};
-ghost use Rattle.gateway.specs.Receiving.{Receives, TakesBehind};
-ghost use Rattle.gateway.specs.Stands.{Happens, StepsTo, Stands, StandsNext, IsHeldWithin, admits, fresh};
+ghost use Rattle.gateway.specs.Stands.{Serves, Stands, StandsNext, pending_in, admits, room_of, is_dead, is_open};
+ghost use Rattle.gateway.specs.Receiving.{Receives, ReadsOn, Happens, Greets, KeepsTerms, IsSettledIf};
 
 use crate::config::Config;
-use crate::connection::Connection;
+use crate::phase::Phase;
 use crate::preface::{PREFACE, Start, read_preface};
+use crate::reading::{Read, take_frames};
+use causes::Route;
+use header_blocks::Encoder;
+use judgement::{Connection, Terms};
+use offers::Offers;
 use outputs::{Event, Output, Outputs};
+use relay::Rooms;
 use std::alloc::{AllocError, Global};
 use std::marker::Model;
 use std::mem;
+use steps::paying::{Control, pay};
+use steps::{Breach, Service, Went, client_took, end, fail, hear, leave, leave_at, up_took};
+use upstreams::Upstreams;
+
+/// How many octets of an upstream may come in one event.
+const ROOM: usize = 65536;
+
+/// How many octets of the client may come in one event.
+const MOST_OF_CLIENT: usize = 65536;
+
+/// While more octets than these aren't taken by the client's side, no more of its own come.
+const MOST_UNTAKEN: u64 = 1073741824;
 
 /// Why a step is refused.
 #[derive(Clone, Copy, PartialEq, Eq, Debug)]
@@ -31,10 +58,12 @@ pub enum Fault {
 #[derive(Drop)]
 pub struct Gateway {
     alloc: Global,
+    routes: Vec<Route>,
+    max_body: u64,
+    max_response: u64,
+    phase: Phase,
     partial: Vec<u8>,
-    begun: bool,
-    connection: Connection,
-    dead: bool,
+    rooms: Rooms,
 }
 
 impl Model for Gateway {
@@ -42,163 +71,248 @@ impl Model for Gateway {
 
     ghost Value = { Standing };
 
-    ghost use Rattle.std.specs.Prelude.{◌+◌, ◌<◌, length};
-    ghost use Rattle.gateway.specs.Connections.{IsSmallState, held_by};
-
-    // Each field is named, and what it holds of octets is counted.
-    ghost view = { λ record { alloc = alloc; partial = partial; begun = begun; connection = connection; dead = dead }. record { kept = record { partial = partial.items; begun = begun; state = connection }; dead = dead; octets = length partial.items + held_by connection } };
-
-    ghost invariant = { λ g. (length g.partial.items < 16393) × IsSmallState g.connection };
-}
-
-/// Cuts octets off the front of a text.
-fn cut_front(text: &mut Vec<u8>, used: usize)
-    requires { used ≤ vec_len text.old }
-    ensures { text.new.items ≡ drop used text.old.items }
-{
-    let _ = text.drain(..used);
+    ghost view = { λ gateway. record { routes = gateway.routes.items; max_body = gateway.max_body; max_response = gateway.max_response; phase = gateway.phase; partial = gateway.partial.items; kept = gateway.rooms } };
 }
 
 impl Gateway {
-    /// A gateway for a new connection of a client, to which nothing came. So far the policy is Plain and bodies are passed
-    /// on whole. The maxima are at most 1,073,741,824.
-    pub fn new(alloc: Global, config: Config) -> Gateway
-        requires { IsServable (setup_of config) }
-        ensures fresh { result ≡ fresh (setup_of config) }
-        ensures stands { Stands result [] [] }
+    /// A gateway for a new connection of a client, to which nothing came. So far bodies are passed on whole; the maxima are at most 1,073,741,824, and
+    /// there are at most 4,294,967,295 routes. An `Err` says that memory was refused.
+    pub fn new(alloc: Global, config: &Config) -> Result<Gateway, AllocError>
+        requires { IsServable (setup_of config.now) }
+        ensures { IfOk result (λ gateway. Stands (setup_of config.now) gateway [] []) }
     {
-        Gateway {
+        let routes = config.copy_routes(alloc)?;
+        Ok(Gateway {
             alloc,
+            routes,
+            max_body: config.max_body,
+            max_response: config.max_response,
+            phase: Phase::New,
             partial: Vec::new(alloc),
-            begun: false,
-            connection: Connection::new(alloc, config),
-            dead: false,
+            rooms: Rooms {
+                inbound: Connection::new(alloc),
+                offers: Offers::new(alloc),
+                upstreams: Upstreams::new(alloc),
+                encoder: Encoder::new(alloc, config.encoding()),
+                untaken: 0,
+            },
+        })
+    }
+
+    /// Whether the client's connection is open, and memory was never refused.
+    fn is_open(&self) -> bool
+        ensures { result ≡ is_open self.now.phase }
+    {
+        match self.phase {
+            Phase::New | Phase::Preface | Phase::Frames => true,
+            Phase::Closed | Phase::Dead => false,
+        }
+    }
+
+    /// Whether the connection to an upstream is open.
+    fn is_up(&self, k: u32) -> bool
+        ensures { result ≡ is_up self.now.kept k }
+    {
+        self.rooms.upstreams.find(k).is_some()
+    }
+
+    /// Whether the side of an open upstream may have taken so many octets more.
+    fn may_take(&self, k: u32, count: u64) -> bool
+        ensures { result ≡ may_take (find number_of k self.now.kept.upstreams.live) count }
+    {
+        match self.rooms.upstreams.find(k) {
+            Some(connection) => count <= connection.untaken(),
+            None => false,
         }
     }
 
     /// Whether an event may come now: never once the client is closed or memory was refused; octets of the client at most 65,536
-    /// at a time, and while at most 1,073,741,824 octets for it aren't taken; octets of an upstream that is open as far as
-    /// there is room; of octets only those as taken that were put out and aren't yet.
+    /// at a time, and while at most 1,073,741,824 octets for it aren't taken; octets of an upstream, at most 65,536 at a time, while its connection is
+    /// open; of octets only those as taken that were put out and aren't yet.
     pub fn admits(&self, event: &Event) -> bool
         ensures state { result ≡ admits self.now (event_of event.now) }
         // It is what the log tells that the gateway stands for.
-        ensures log { (log : List Step) (tape : List Entry) → Stands self.now log tape → result ≡ is_admitted_by_tape tape (event_of event.now) }
+        ensures log { (setup : Setup) (log : List Step) (run : List Move) → Stands setup self.now log run → result ≡ is_admitted (tape_of run) (event_of event.now) }
     {
-        if self.dead {
-            return false;
+        self.is_open() && self.may_come(event)
+    }
+
+    /// Whether an event may come while the connection is open.
+    fn may_come(&self, event: &Event) -> bool
+        ensures { result ≡ admits_kept self.now.kept (event_of event.now) }
+    {
+        match event {
+            Event::Client(piece) => {
+                piece.len() <= MOST_OF_CLIENT && self.rooms.untaken <= MOST_UNTAKEN
+            }
+            Event::ClientEnd => true,
+            Event::ClientTook(count) => *count <= self.rooms.untaken,
+            Event::Up(k, piece) => self.is_up(*k) && piece.len() <= ROOM,
+            Event::UpEnd(k) | Event::UpFailed(k) => self.is_up(*k),
+            Event::UpTook(k, count) => self.may_take(*k, *count),
         }
-        self.connection.is_admitted(event)
     }
 
     /// How many octets of an upstream may come in one event: 65,536 where its connection is open, else none; none once memory
     /// was refused.
     pub fn room(&self, k: u32) -> usize
-        ensures log { (log : List Step) (tape : List Entry) → Stands self.now log tape → result ≡ room k tape }
-        ensures dead { self.now.dead ≡ true → result ≡ 0 }
+        ensures state { result ≡ room_of self.now k }
+        // It is what the log tells that the gateway stands for.
+        ensures log { (setup : Setup) (log : List Step) (run : List Move) → Stands setup self.now log run → result ≡ room k (tape_of run) }
     {
-        if self.dead {
-            return 0;
+        if self.is_open() && self.is_up(k) {
+            ROOM
+        } else {
+            0
         }
-        if self.connection.is_up(k) { 65536 } else { 0 }
     }
 
     /// Takes an event that may come, and puts out at the end of `out` all that it causes. A refused step puts out nothing,
     /// and after a refusal for want of memory every step answers `Closed`.
     pub fn step(&mut self, event: &Event, out: &mut Vec<Output>) -> Result<(), Fault>
-        requires { self.old.dead ≡ false → is_admitted self.old.kept.state (event_of event.now) ≡ true }
-        // For whatever log and tape the gateway stood, it stands afterwards for the same with this step behind them.
+        requires admitted { is_dead self.old.phase ≡ false → admits self.old (event_of event.now) ≡ true }
+        requires stands { is_dead self.old.phase ≡ false → (setup : Setup) × (log : List Step) × (run : List Move) × Stands setup self.old log run }
+        // For whatever log the gateway stood, it stands afterwards for the same with this step behind it.
         ensures stands { OnOk result ((outputs : List Put) × (outputs_of out.new.items ≡ outputs_of out.old.items ++ outputs)
-            × ((log : List Step) (tape : List Entry) → Stands self.old log tape → StandsNext self.old self.new log tape (event_of event.now) outputs)) }
+            × ((setup : Setup) (log : List Step) (run : List Move) → Stands setup self.old log run → StandsNext setup self.new log run (event_of event.now) outputs)) }
         ensures nothing { OnErr result (out.new.items ≡ out.old.items) }
-        ensures alive { OnOk result (self.new.dead ≡ false) }
-        ensures dead { OnErr result (self.new.dead ≡ true) }
-        ensures closed { IsErrOf result Fault.Closed ↔ (self.old.dead ≡ true) }
-        // What is held beside the responses stays below a part of the bound, and that of each response below its part.
-        ensures held { IsHeldWithin self.old.kept.state.setup self.new }
+        ensures alive { OnOk result (is_dead self.new.phase ≡ false) }
+        ensures dead { OnErr result (is_dead self.new.phase ≡ true) }
+        ensures closed { IsErrOf result Fault.Closed ↔ (is_dead self.old.phase ≡ true) }
     {
-        if self.dead {
+        if matches!(self.phase, Phase::Dead) {
             return Err(Fault::Closed);
         }
         match self.try_step(event, out) {
             Ok(()) => Ok(()),
             Err(_) => {
-                self.dead = true;
+                self.phase = Phase::Dead;
                 Err(Fault::Memory)
             }
         }
     }
 
-    /// Takes the frames off a text behind the preface, which ends at a place of it, and keeps the rest.
-    fn take_behind(
-        &mut self,
-        mut text: Vec<u8>,
-        start: usize,
-        out: &mut Outputs,
-    ) -> Result<(), AllocError>
-        requires { start ≤ vec_len text }
-        ensures goes { OnOk result (TakesBehind self.old.kept self.new.kept out.old out.new (drop start text.items)) }
-        ensures dead { self.new.dead ≡ self.old.dead }
+    /// What a step does where memory suffices.
+    fn try_step(&mut self, event: &Event, out: &mut Vec<Output>) -> Result<(), AllocError>
+        requires admitted { admits self.old (event_of event.now) ≡ true }
+        requires stands { (setup : Setup) × (log : List Step) × (run : List Move) × Stands setup self.old log run }
+        ensures steps { OnOk result ((outputs : List Put) × (outputs_of out.new.items ≡ outputs_of out.old.items ++ outputs)
+            × ((setup : Setup) (log : List Step) (run : List Move) → Stands setup self.old log run → StandsNext setup self.new log run (event_of event.now) outputs)) }
+        ensures nothing { OnErr result (out.new.items ≡ out.old.items) }
+        ensures alive { OnOk result (is_dead self.new.phase ≡ false) }
     {
-        self.begun = true;
-        let used = self
-            .connection
-            .take_frames(self.alloc, &text[start..], out)?;
-        if !self.connection.is_closed() {
-            cut_front(&mut text, start + used);
-            self.partial = text;
+        let mut outputs = Outputs::new(self.alloc);
+        self.greet(&mut outputs)?;
+        let went = self.happen(event, &mut outputs)?;
+        if matches!(went, Went::Over) {
+            self.phase = Phase::Closed;
+        }
+        outputs.append_to(out)
+    }
+
+    /// Sends the gateway's settings, unless they were sent (RFC 9113, section 3.4).
+    fn greet(&mut self, out: &mut Outputs) -> Result<(), AllocError>
+        requires settled { IsSettled self.old.kept }
+        requires nothing { out.old ≡ [] }
+        ensures { OnOk result (Greets self.old self.new out.new) }
+    {
+        if matches!(self.phase, Phase::New) {
+            pay(&mut self.rooms, Control::Settings, out)?;
+            self.phase = Phase::Preface;
         }
         Ok(())
     }
 
-    /// Takes octets of the client.
-    fn take_piece(&mut self, piece: &[u8], out: &mut Outputs) -> Result<(), AllocError>
-        requires alive { self.old.kept.state.closed ≡ false }
-        requires small { length piece.now ≤ 65536 }
-        ensures receives { OnOk result (Receives self.old.kept self.new.kept out.old out.new (self.old.kept.partial ++ piece.now)) }
-        ensures dead { self.new.dead ≡ self.old.dead }
-    {
-        let mut text = mem::replace(&mut self.partial, Vec::new(self.alloc));
-        text.extend_from_slice(piece)?;
-        if self.begun {
-            return self.take_behind(text, 0, out);
-        }
-        match read_preface(&text) {
-            Start::Whole => self.take_behind(text, PREFACE.len(), out),
-            Start::Part => {
-                self.partial = text;
-                Ok(())
-            }
-            Start::Wrong => self.connection.refuse_preface(out),
-        }
-    }
-
     /// What an event does, once the gateway's settings are sent.
-    fn happen(&mut self, event: &Event, out: &mut Outputs) -> Result<(), AllocError>
-        requires { is_admitted self.old.kept.state (event_of event.now) ≡ true }
-        ensures happens { OnOk result (Happens self.old.kept self.new.kept out.old out.new (event_of event.now)) }
-        ensures dead { self.new.dead ≡ self.old.dead }
+    fn happen(&mut self, event: &Event, out: &mut Outputs) -> Result<Went, AllocError>
+        requires admitted { listed (event_of event.now) ≡ event_of event.now ∷ [] → admits_kept self.old.kept (event_of event.now) ≡ true }
+        requires settled { IsSettled self.old.kept }
+        requires reached { (setup : Setup) × Serves setup self.old × Reached setup self.old.kept square }
+        ensures happens { IfOk result (λ went. Happens self.old self.new went out.old out.new (event_of event.now)) }
+        ensures terms { IfOk result (λ went. KeepsTerms self.old self.new) }
+        ensures rests { IfOk result (λ went. IsSettledIf went self.new.kept) }
     {
+        let alloc = self.alloc;
+        let rooms = &mut self.rooms;
         match event {
             Event::Client(piece) => self.take_piece(piece, out),
-            Event::ClientEnd
-            | Event::ClientTook(_)
-            | Event::Up(_, _)
-            | Event::UpEnd(_)
-            | Event::UpFailed(_)
-            | Event::UpTook(_, _) => self.connection.hear(self.alloc, event, out),
+            Event::ClientEnd => {
+                leave(rooms, out)?;
+                Ok(Went::Over)
+            }
+            Event::ClientTook(count) => client_took(alloc, rooms, *count, out),
+            Event::Up(k, octets) => hear(alloc, rooms, *k, octets, out),
+            Event::UpEnd(k) => end(alloc, rooms, *k, out),
+            Event::UpFailed(k) => fail(alloc, rooms, *k, out),
+            Event::UpTook(k, count) => up_took(alloc, rooms, *k, *count, out),
         }
     }
 
-    /// What a step does where memory suffices.
-    fn try_step(&mut self, event: &Event, out: &mut Vec<Output>) -> Result<(), AllocError>
-        requires { is_admitted self.old.kept.state (event_of event.now) ≡ true }
-        ensures steps { OnOk result (StepsTo self.old.kept self.new.kept (event_of event.now) (outputs_of out.old.items) (outputs_of out.new.items)) }
-        ensures nothing { OnErr result (out.new.items ≡ out.old.items) }
-        ensures dead { self.new.dead ≡ self.old.dead }
+    /// Takes octets of the client, behind those that weren't read yet.
+    fn take_piece(&mut self, piece: &[u8], out: &mut Outputs) -> Result<Went, AllocError>
+        requires settled { IsSettled self.old.kept }
+        requires reached { (setup : Setup) × Serves setup self.old × Reached setup self.old.kept square }
+        ensures receives { IfOk result (λ went. Receives self.old self.new went out.old out.new (self.old.partial ++ piece.now)) }
+        ensures terms { IfOk result (λ went. KeepsTerms self.old self.new) }
+        ensures rests { IfOk result (λ went. IsSettledIf went self.new.kept) }
     {
-        let mut outputs = Outputs::new(self.alloc);
-        self.connection.begin(&mut outputs)?;
-        self.happen(event, &mut outputs)?;
-        outputs.append_to(out)
+        if self.partial.is_empty() {
+            return self.read(piece, out);
+        }
+        let mut text = mem::replace(&mut self.partial, Vec::new(self.alloc));
+        text.extend_from_slice(piece)?;
+        self.read(&text, out)
+    }
+
+    /// Reads octets of the client, where none wait: the preface, if it wasn't read, and then frames. What is left of them waits.
+    fn read(&mut self, text: &[u8], out: &mut Outputs) -> Result<Went, AllocError>
+        requires none_wait { self.old.partial ≡ [] }
+        requires settled { IsSettled self.old.kept }
+        requires reached { (setup : Setup) × Serves setup self.old × Reached setup self.old.kept square }
+        ensures receives { IfOk result (λ went. Receives self.old self.new went out.old out.new text.now) }
+        ensures terms { IfOk result (λ went. KeepsTerms self.old self.new) }
+        ensures rests { IfOk result (λ went. IsSettledIf went self.new.kept) }
+    {
+        if matches!(self.phase, Phase::Frames) {
+            return self.read_frames(text, out);
+        }
+        match read_preface(text) {
+            Start::Whole => self.read_frames(&text[PREFACE.len()..], out),
+            Start::Part => {
+                self.partial.extend_from_slice(text)?;
+                Ok(Went::On)
+            }
+            Start::Wrong => {
+                leave_at(&mut self.rooms, Breach::WrongPreface, out)?;
+                Ok(Went::Over)
+            }
+        }
+    }
+
+    /// Reads octets behind the preface, where none wait. What is left of them waits.
+    fn read_frames(&mut self, text: &[u8], out: &mut Outputs) -> Result<Went, AllocError>
+        requires none_wait { self.old.partial ≡ [] }
+        requires settled { IsSettled self.old.kept }
+        requires reached { (setup : Setup) × Serves setup self.old × Reached setup self.old.kept square }
+        ensures reads { IfOk result (λ went. ReadsOn self.old self.new went out.old out.new text.now) }
+        ensures terms { IfOk result (λ went. KeepsTerms self.old self.new) }
+        ensures rests { IfOk result (λ went. IsSettledIf went self.new.kept) }
+    {
+        let terms = Terms {
+            routes: &self.routes,
+            max_body: self.max_body,
+        };
+        let service = Service {
+            terms,
+            max_response: self.max_response,
+        };
+        self.phase = Phase::Frames;
+        match take_frames(self.alloc, &mut self.rooms, text, service, out)? {
+            Read::Rest(used) => {
+                self.partial.extend_from_slice(&text[used..])?;
+                Ok(Went::On)
+            }
+            Read::Over => Ok(Went::Over),
+        }
     }
 }

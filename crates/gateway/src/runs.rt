@@ -1,8 +1,8 @@
 //! A gateway over a list of events.
 
 ghost use Rattle.std.specs.Prelude.{◌≡◌, length, map, IfOk, IfErr};
-ghost use Rattle.model.specs.Faithful.{Faithful};
 ghost use Rattle.outputs.specs.Views.{event_of};
+ghost use Rattle.gateway.specs.Promises.{Promise};
 ghost use Rattle.gateway.specs.Runs.{log_of, Explains};
 ghost use Rattle.gateway.specs.Setups.{setup_of, IsServable};
 
@@ -16,24 +16,23 @@ use std::alloc::Global;
 pub enum RunFault {
     /// The event may not come after those before it.
     NotAdmitted(usize),
-    /// Memory was refused at the event; at 0 also where the configuration couldn't be copied.
+    /// Memory was refused at the event; at 0 also where the routes couldn't be copied.
     Memory(usize),
 }
 
-/// Runs a gateway over events, and answers what it put out at each. So far the policy is Plain, bodies are passed on whole,
-/// and the maxima are at most 1,073,741,824.
+/// Runs a gateway over events, and answers what it put out at each. So far bodies are passed on whole; the maxima are at most
+/// 1,073,741,824, and there are at most 4,294,967,295 routes.
 pub fn run(alloc: Global, config: &Config, events: &[Event]) -> Result<Vec<Vec<Output>>, RunFault>
     requires { IsServable (setup_of config.now) }
-    // The log of the events and of what was put out is faithful, for any events, however the octets are cut.
-    ensures faithful { IfOk result (λ outputs. Faithful (setup_of config.now) (log_of events.now outputs.items)) }
+    // The log of the events and of what was put out has the headline, and behind it tables are in step, for any events, however the octets are cut.
+    ensures promised { IfOk result (λ outputs. Promise (setup_of config.now) (log_of events.now outputs.items)) }
     ensures each { IfOk result (λ outputs. length outputs.items ≡ length events.now) }
-    // An event is refused only where it may not come after a faithful log of the events before it.
+    // An event is refused only where it may not come after such a log of the events before it.
     ensures refused { IfErr result (λ fault. Explains (setup_of config.now) (map event_of events.now) fault) }
 {
-    let Ok(config) = config.copy(alloc) else {
+    let Ok(mut gateway) = Gateway::new(alloc, config) else {
         return Err(RunFault::Memory(0));
     };
-    let mut gateway = Gateway::new(alloc, config);
     let mut outputs = Vec::new(alloc);
     for (n, event) in events.iter().enumerate() {
         if !gateway.admits(event) {

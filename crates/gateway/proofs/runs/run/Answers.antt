@@ -1,13 +1,14 @@
-use Rattle.std.proofs.Common.{not, ◌++◌, ◌∷◌, [], ◌∙◌, sym, ap, if◌then◌else◌}
+use Rattle.std.proofs.Common.{not, ◌++◌, ◌∷◌, [], ◌∙◌, sym, ap, reverse, if◌then◌else◌}
 use Rattle.gateway.specs.Setups.{setup_of}
-use Rattle.gateway.proofs.Answering.{on_ok_at}
-use Rattle.gateway.proofs.Logging.{running_more, running_refused}
+use Rattle.gateway.specs.Runs.{log_of}
+use Rattle.steps.proofs.Results.{on_ok_at}
+use Rattle.gateway.proofs.Running.{running_more, running_refused}
 use Rattle.gateway.proofs.runs.run.Goals as goal
 
 pub returns-then-not-admits-clause-refused : goal.returns-then-not-admits-clause-refused
 returns-then-not-admits-clause-refused c =
     running_refused (setup_of c.args.config.now) c.args.events.now c.loop-n.n c.loop-n.outputs.items c.loop-n.gateway c.index-events-n.result c.loop-n-test.true c.index-events-n.is
-    (sym c.admits.ensures.state ∙ c.if-not-admits.true) c.loop-n.invariant
+    (λ setup log run stands. sym (c.admits.ensures.log setup log run stands) ∙ c.if-not-admits.true) c.loop-n.invariant
 
 pub loop-n-preserved : goal.loop-n-preserved
 loop-n-preserved c =

@@ -1,6 +1,6 @@
 use Rattle.std.proofs.Common.{take}
 use Rattle.gateway.specs.Setups.{setup_of}
-use Rattle.gateway.proofs.Logging.{Running}
+use Rattle.gateway.proofs.Running.{Running}
 use Rattle.gateway.proofs.runs.run.Given as goal
 
 abbrev pub invariant-loop-n : goal.invariant-loop-n

@@ -1,0 +1,88 @@
+-- The log of a run, event by event.
+use Rattle.std.proofs.Common.{◌≡◌, ℕ, zero, suc, ◌+◌, ◌<◌, List, [], ◌∷◌, ◌++◌, length, length-append, take, get_or, map, reverse, refl, sym, ◌∙◌, ap, subst, arith, Some, false}
+use Rattle.std.specs.declared.vec.Vec.{Vec}
+use Rattle.std.specs.declared.alloc.Global.{Global}
+use Rattle.std.specs.Prelude.{slice_get}
+use Rattle.std.proofs.lemmas.List.{take_more, reverse-append, reverse-reverse}
+use Rattle.std.specs.List.{take-map}
+use Rattle.model.specs.Admission.{is_admitted}
+use Rattle.model.specs.Logs as logs
+use Rattle.model.specs.Setup.{Setup}
+use Rattle.outputs.specs.declared.events.Event.{Event}
+use Rattle.outputs.specs.declared.events.Output.{Output}
+use Rattle.outputs.specs.Views.{event_of, outputs_of}
+use Rattle.policy.specs.Moves.{Move}
+use Rattle.policy.specs.State.{tape_of}
+use Rattle.gateway.specs.Promises.{Promise}
+use Rattle.gateway.specs.Runs.{log_of, IsRefusedAt}
+use Rattle.gateway.specs.Stands.{Standing, Stands, StandsNext}
+use Rattle.gateway.proofs.Logging.{promised}
+
+pub log_more : (events : List Event) (outs : List (Vec Output Global)) (event : Event) (out : Vec Output Global) → length outs ≡ length events
+    → log_of (events ++ event ∷ []) (outs ++ out ∷ []) ≡ log_of events outs ++ record { event = event_of event; outputs = outputs_of out.items } ∷ []
+log_more [] [] event out e = refl
+log_more [] (x ∷ outs) event out e = absurd (let n : suc (length outs) ≡ 0 = e in omega arith)
+log_more (x ∷ events) [] event out e = absurd (let n : 0 ≡ suc (length events) = e in omega arith)
+log_more (x ∷ events) (y ∷ outs) event out e = ap (λ l. record { event = event_of x; outputs = outputs_of y.items } ∷ l) (log_more events outs event out (let n : suc (length outs) ≡ suc (length events) = e in omega arith))
+
+pub log_events : (events : List Event) (outs : List (Vec Output Global)) → length outs ≡ length events → map (λ (s : logs.Step). s.event) (log_of events outs) ≡ map event_of events
+log_events [] outs e = refl
+log_events (x ∷ events) [] e = absurd (let n : 0 ≡ suc (length events) = e in omega arith)
+log_events (x ∷ events) (y ∷ outs) e = ap (λ l. event_of x ∷ l) (log_events events outs (let n : suc (length outs) ≡ suc (length events) = e in omega arith))
+
+-- what is promised of the log, the oldest step first, by the tape of the moves behind which the gateway stands
+pub promised_at : (setup : Setup) (g : Standing) (log : List logs.Step) (run : List Move) → Stands setup g (reverse log) run → (promise : Promise setup log) × (promise.tape ≡ tape_of run)
+promised_at setup g log run stands =
+    subst (λ (l : List logs.Step). (promise : Promise setup l) × (promise.tape ≡ tape_of run)) (reverse-reverse log) (promised setup g (reverse log) run stands, refl)
+
+-- the gateway stands for the log of these events
+pub record Running (setup : Setup) (events : List Event) (outs : List (Vec Output Global)) (g : Standing) : Type 0 where
+  pub count : length outs ≡ length events
+  pub run : List Move
+  pub stands : Stands setup g (reverse (log_of events outs)) run
+
+-- one more event
+pub running_more : (setup : Setup) (events : List Event) (n : ℕ) (outs outs' : List (Vec Output Global)) (g g' : Standing) (event : Event) (old out : Vec Output Global) → n < length events → event ≡ get_or events n event → old.items ≡ [] → outs' ≡ outs ++ out ∷ []
+    → (puts : (acts : List logs.Output) × (outputs_of out.items ≡ outputs_of old.items ++ acts) × ((s : Setup) (log : List logs.Step) (run : List Move) → Stands s g log run → StandsNext s g' log run (event_of event) acts))
+    → Running setup (take n events) outs g → Running setup (take (n + 1) events) outs' g'
+running_more setup events n outs outs' g g' event old out lt at none is puts r =
+    let all : outputs_of out.items ≡ puts.0 = puts.1 ∙ ap (λ x. outputs_of x ++ puts.0) none in
+    let taken : take (n + 1) events ≡ take n events ++ event ∷ [] = take_more events n event lt ∙ ap (λ e. take n events ++ e ∷ []) (sym at) in
+    let next = puts.2 setup (reverse (log_of (take n events) outs)) r.run r.stands in
+    let log : reverse (log_of (take (n + 1) events) outs') ≡ record { event = event_of event; outputs = puts.0 } ∷ reverse (log_of (take n events) outs) =
+    ap (λ es. reverse (log_of es outs')) taken
+    ∙ ap (λ os. reverse (log_of (take n events ++ event ∷ []) os)) is
+    ∙ ap reverse (log_more (take n events) outs event out r.count)
+    ∙ reverse-append (log_of (take n events) outs) (record { event = event_of event; outputs = outputs_of out.items } ∷ [])
+    ∙ ap (λ acts. record { event = event_of event; outputs = acts } ∷ reverse (log_of (take n events) outs)) all in
+    let size : length outs' ≡ length outs + 1 = ap length is ∙ length-append outs (out ∷ []) in
+    let count : length outs ≡ length (take n events) = r.count in
+    let more : length (take (n + 1) events) ≡ length (take n events) + 1 = ap length taken ∙ length-append (take n events) (event ∷ []) in
+    record {
+      count = size ∙ ap (λ x. x + 1) count ∙ sym more;
+      run = next.segment ++ r.run;
+      stands = subst (λ l. Stands setup g' l (next.segment ++ r.run)) (sym log) next.stands;
+    }
+
+pub running_promised : (setup : Setup) (events : List Event) (outs : List (Vec Output Global)) (g : Standing) → Running setup events outs g → Promise setup (log_of events outs)
+running_promised setup events outs g r = (promised_at setup g (log_of events outs) r.run r.stands).0
+
+get_mapped : (events : List Event) (n : ℕ) (event : Event) → n < length events → event ≡ get_or events n event → slice_get (map event_of events) n ≡ Some (event_of event)
+get_mapped [] n event lt at = absurd (omega arith)
+get_mapped (x ∷ events) zero event lt at = ap (λ e. Some (event_of e)) (sym at)
+get_mapped (x ∷ events) (suc n) event lt at = get_mapped events n event (omega arith) at
+
+pub running_refused : (setup : Setup) (events : List Event) (n : ℕ) (outs : List (Vec Output Global)) (g : Standing) (event : Event) → n < length events → event ≡ get_or events n event
+    → ((s : Setup) (log : List logs.Step) (run : List Move) → Stands s g log run → is_admitted (tape_of run) (event_of event) ≡ false)
+    → Running setup (take n events) outs g → IsRefusedAt setup (map event_of events) n
+running_refused setup events n outs g event lt at turned r =
+    let log : List logs.Step = log_of (take n events) outs in
+    let promise = promised_at setup g log r.run r.stands in
+    record {
+      event = event_of event;
+      found = get_mapped events n event lt at;
+      log = log;
+      are_events = log_events (take n events) outs r.count ∙ sym (take-map event_of n events);
+      promise = promise.0;
+      refused = ap (λ t. is_admitted t (event_of event)) promise.1 ∙ turned setup (reverse log) r.run r.stands;
+    }

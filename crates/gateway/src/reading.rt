@@ -1,0 +1,60 @@
+//! Frames, read off the front of a text.
+
+ghost use Rattle.std.specs.Prelude.{◌≤◌, length, IfOk};
+ghost use Rattle.model.specs.Setup.{Setup};
+ghost use Rattle.relay.specs.View.{square};
+ghost use Rattle.relay.specs.Rest.{Reached};
+ghost use Rattle.steps.specs.Resting.{IsSettled, IsServed};
+ghost use Rattle.gateway.specs.Reading.{Reads, used_in, RestsIn};
+
+use frames::{Split, split};
+use outputs::Outputs;
+use relay::Rooms;
+use std::alloc::{AllocError, Global};
+use steps::{Breach, Service, Went, leave_at, take_frame};
+
+/// How the reading of a text ended.
+#[derive(Clone, Copy, Debug, PartialEq, Eq)]
+pub enum Read {
+    /// So many octets were frames, which were taken; the rest isn't one yet.
+    Rest(usize),
+    /// The connection was closed.
+    Over,
+}
+
+/// Takes the whole frames off the front of a text, one after another, until the connection is closed (RFC 9113, section 4.1). An `Err` says that
+/// memory was refused.
+pub fn take_frames(
+    alloc: Global,
+    rooms: &mut Rooms,
+    text: &[u8],
+    service: Service<'_>,
+    out: &mut Outputs,
+) -> Result<Read, AllocError>
+    requires few { length service.terms.routes.now ≤ u32.MAX }
+    requires bounded { service.terms.max_body ≤ 1073741824 }
+    requires settled { IsSettled rooms.old }
+    requires reached { (setup : Setup) × IsServed setup service × Reached setup rooms.old square }
+    ensures within { IfOk result (λ read. used_in read ≤ length text.now) }
+    ensures reads { IfOk result (λ read. Reads (λ setup. IsServed setup service.entry) rooms.old out.old text.now read rooms.new out.new) }
+    ensures rests { IfOk result (λ read. RestsIn read rooms.new) }
+{
+    let mut used = 0;
+    while used <= text.len() {
+        match split(&text[used..]) {
+            Split::Frame(view, octets) => {
+                match take_frame(alloc, rooms, view, service, out)? {
+                    Went::On => used += octets,
+                    Went::Over => return Ok(Read::Over),
+                }
+            }
+            Split::More => return Ok(Read::Rest(used)),
+            Split::TooLong => {
+                leave_at(rooms, Breach::TooLong, out)?;
+                return Ok(Read::Over);
+            }
+        }
+    }
+    // No frame takes more octets than there are.
+    unreachable!()
+}

@@ -1,9 +1,0 @@
-pub mod Prefaces
-pub mod Framing
-pub mod Told
-pub mod Steps
-pub mod Logging
-pub mod Going
-pub mod Admitting
-pub mod Pieces
-pub mod Setting

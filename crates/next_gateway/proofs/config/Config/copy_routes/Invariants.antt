@@ -1,6 +1,0 @@
-use Rattle.std.proofs.Common.{◌≡◌, map, take}
-use Rattle.next_gateway.specs.Setups.{route_of}
-use Rattle.next_gateway.proofs.config.Config.copy_routes.Given as goal
-
-abbrev pub invariant-loop-route : goal.invariant-loop-route
-invariant-loop-route l = l.routes.items ≡ map route_of (take l.route-index l.self.routes.items)

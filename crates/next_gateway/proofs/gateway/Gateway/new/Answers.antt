@@ -1,9 +1,0 @@
-use Rattle.std.proofs.Common.{refl, sym, ap, ◌∙◌}
-use Rattle.header_blocks.specs.Encoding.{first_encoding}
-use Rattle.next_gateway.specs.Setups.{setup_of}
-use Rattle.next_gateway.proofs.Setting.{first_stands}
-use Rattle.next_gateway.proofs.gateway.Gateway.new.Goals as goal
-
-pub returns : goal.returns
-returns c = first_stands (setup_of c.args.config.now) _ (c.new-2.ensures.book (setup_of c.args.config.now)) c.new-3.ensures c.new-4.ensures c.new-2.ensures.table (c.new-5.ensures ∙ ap first_encoding c.encoding.ensures) refl _
-    (record { servable = c.requires; routes = sym c.in_ok-routes.ensures; max_body = refl; max_response = refl }) refl c.new.ensures.items refl

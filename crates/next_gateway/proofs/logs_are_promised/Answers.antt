@@ -1,5 +1,0 @@
-use Rattle.next_gateway.proofs.Logging as logging
-use Rattle.next_gateway.proofs.logs_are_promised.Goals as goal
-
-pub returns : goal.returns
-returns c = logging.promised

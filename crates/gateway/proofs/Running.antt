@@ -1,8 +1,8 @@
 -- The log of a run, event by event.
-use Rattle.std.proofs.Common.{◌≡◌, ℕ, zero, suc, ◌+◌, ◌<◌, List, [], ◌∷◌, ◌++◌, length, length-append, take, get_or, map, reverse, refl, sym, ◌∙◌, ap, subst, arith, Some, false}
+use Rattle.std.proofs.Common.{◌≡◌, ℕ, zero, suc, ◌+◌, ◌<◌, List, [], ◌∷◌, ◌++◌, length, length-append, take, get_or, map, reverse, refl, sym, ◌∙◌, ap, subst, arith, Some, true, false, Ok, Err, Result}
 use Rattle.std.specs.declared.vec.Vec.{Vec}
 use Rattle.std.specs.declared.alloc.Global.{Global}
-use Rattle.std.specs.Prelude.{slice_get}
+use Rattle.std.specs.Prelude.{slice_get, is_ok, OnOk}
 use Rattle.std.proofs.lemmas.List.{take_more, reverse-append, reverse-reverse}
 use Rattle.std.specs.List.{take-map}
 use Rattle.model.specs.Admission.{is_admitted}
@@ -86,3 +86,8 @@ running_refused setup events n outs g event lt at turned r =
       promise = promise.0;
       refused = ap (λ t. is_admitted t (event_of event)) promise.1 ∙ turned setup (reverse log) r.run r.stands;
     }
+
+-- what a call promises where it answers so
+pub on_ok_at : {A E X : Type 0} (r : Result A E) → is_ok r ≡ true → OnOk r X → X
+on_ok_at (Ok a) e x = x
+on_ok_at (Err f) e x = absurd (let g : false ≡ true = e in cc)

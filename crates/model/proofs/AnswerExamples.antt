@@ -295,7 +295,7 @@ told = record {
   decodes = first.decodes;
   others_are_read = (refl, (refl, tt));
   failures = (not_failed, tt);
-  ends = (refl, (refl, (refl, (refl, first.told.ends))));
+  ends = (refl, (refl, (refl, (refl, first.ends))));
 }
 
 taped : IsTaped known (first.step ∷ []) answer_step first.tape segment

@@ -18,12 +18,11 @@ use Rattle.model.specs.Logs.Output.{ToClient, Does}
 use Rattle.model.specs.Setup.{Setup}
 use Rattle.model.specs.Setup.Policy.{Plain}
 use Rattle.model.specs.Setup.Passing.{Whole}
-use Rattle.model.specs.Tapes.{Noted, Entry, sent}
+use Rattle.model.specs.Tapes.{Noted, Entry, sent, IsRead, EndsWithClose}
 use Rattle.model.specs.Tapes.Note.{NoBlock, Fields}
 use Rattle.model.specs.Tapes.Entry.{Came, Sent, Did}
 use Rattle.model.specs.Decoding.{Decodes}
 use Rattle.model.specs.Available.{items_on}
-use Rattle.model.specs.Faithful.{IsTold}
 
 -- one route for every authority and path
 abbrev pub setup : Setup
@@ -230,11 +229,9 @@ settings_fits = record { kind = omega arith; flags = omega arith; id = omega ari
 pub ack_fits : Fits settings_ack
 ack_fits = record { kind = omega arith; flags = omega arith; id = omega arith; payload = omega arith }
 
-pub told : IsTold (preface ++ spell settings ++ spell headers) tape
-told = record {
-  read = inr (inr (record { behind = spell settings ++ spell headers; rest = []; begins = refl; reading = reading; breach = inl refl; no_more = λ on. (no_frame, λ long. absurd (let nine = long.header in omega (arith, nine))) }));
-  table = first_table;
-  decodes = decodes;
-  unread = λ e. absurd (let f : true ≡ false = e in cc);
-  ends = (refl, (refl, (refl, (refl, (refl, (refl, tt))))));
-}
+pub read : IsRead (preface ++ spell settings ++ spell headers) tape
+read = inr (inr (record { behind = spell settings ++ spell headers; rest = []; begins = refl; reading = reading; breach = inl refl; no_more = λ on. (no_frame, λ long. absurd (let nine = long.header in omega (arith, nine))) }))
+
+-- nothing comes behind the client's close
+pub ends : EndsWithClose tape
+ends = (refl, (refl, (refl, (refl, (refl, (refl, tt))))))

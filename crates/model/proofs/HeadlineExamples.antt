@@ -164,12 +164,12 @@ windows = record {
 
 told : IsTold known (preface ++ spell first.settings ++ spell first.headers) tape
 told = record {
-  read = first.told.read;
+  read = first.read;
   table = first_table;
   decodes = decodes;
   others_are_read = (refl, (refl, tt));
   failures = tt;
-  ends = first.told.ends;
+  ends = first.ends;
 }
 
 pub clauses : ClausesHold known tape

@@ -51,7 +51,6 @@ mod ErrorExamples
 mod WindowExamples
 mod CauseExamples
 mod LogExamples
-mod FaithfulLaws
 mod Refusals
 mod ResponseRefusals
 mod RequestRefusals

@@ -44,5 +44,4 @@ pub mod ProgressClause
 pub mod WindowClause
 pub mod Rooms
 pub mod Headline
-pub mod Faithful
 pub mod Synchrony

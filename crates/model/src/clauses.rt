@@ -17,9 +17,6 @@ ghost use Rattle.model.specs.Failures.{AreJudged};
 ghost use Rattle.model.specs.Known.{Known, with_failure};
 ghost use Rattle.model.specs.Courses.{course};
 ghost use Rattle.model.specs.Offers.{IsOffered};
-ghost use Rattle.model.specs.Logs.{Step};
-ghost use Rattle.model.specs.Headline.{Headline};
-ghost use Rattle.model.specs.Faithful.{Faithful, is_given_up};
 
 /// A client that was brought the items of a stream has read one thing of a response (RFC 9113, section 8.1).
 pub fn one_delivery()
@@ -72,10 +69,4 @@ pub fn later_failure()
 /// What is judged of a tape's failures stays right with a failure that is known of a later place.
 pub fn later_verdicts()
     ensures { (place : ℕ) (known : Known) (t : List Entry) → length t ≤ place → AreJudged known t → AreJudged (with_failure place known) t }
-{}
-
-/// A faithful log keeps the whole headline, unless the gateway gave the connection up: so it ends today, by a farewell with
-/// INTERNAL_ERROR, at whatever it doesn't treat yet.
-pub fn faithful_unless_given_up()
-    ensures { (setup : Setup) (log : List Step) (f : Faithful setup log) → is_given_up f.tape ≡ false → Headline setup log }
 {}

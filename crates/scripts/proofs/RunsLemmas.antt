@@ -2,7 +2,7 @@
 use Rattle.std.proofs.Common.{◌≡◌, ℕ, List, [], ◌∷◌, length, map, refl, ap, subst, sym, arith}
 use Rattle.std.specs.Prelude.{Vec}
 use Rattle.std.specs.declared.alloc.Global.{Global}
-use Rattle.model.specs.Faithful.{Faithful}
+use Rattle.gateway.specs.Promises.{Promise}
 use Rattle.outputs.specs.declared.events.Event.{Event}
 use Rattle.outputs.specs.declared.events.Output.{Output}
 use Rattle.gateway.specs.Views.{event_of, outputs_of}
@@ -23,11 +23,11 @@ outputs_of_log (event ∷ events) (o ∷ os) each = ap (λ xs. outputs_of o.item
 
 -- a script that was read and run is one that was run
 pub is_run : (script written : List ℕ) (events : List Event) (outputs : List (Vec Output Global)) → AllSay (lines_of script) (map event_of events)
-    → length outputs ≡ length events → Faithful default_setup (log_of events outputs) → written ≡ text_of (map (λ o. outputs_of o.items) outputs)
+    → length outputs ≡ length events → Promise default_setup (log_of events outputs) → written ≡ text_of (map (λ o. outputs_of o.items) outputs)
     → IsRun script (λ text. written ≡ text)
-is_run script written events outputs say each faithful printed = (
+is_run script written events outputs say each promised printed = (
   log_of events outputs,
   subst (AllSay (lines_of script)) (sym (events_of_log events outputs each)) say,
-  faithful,
+  promised,
   subst (λ xs. written ≡ text_of xs) (sym (outputs_of_log events outputs each)) printed,
 )

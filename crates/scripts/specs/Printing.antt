@@ -8,8 +8,8 @@ use Rattle.model.specs.Logs.Act.{Open, ToUp, Close, CloseClient}
 use Rattle.model.specs.Setup.{Setup}
 use Rattle.model.specs.Setup.Policy.{Plain}
 use Rattle.model.specs.Setup.Passing.{Whole}
-use Rattle.model.specs.Faithful.{Faithful}
-use Rattle.gateway.specs.Stands.{IsRefusedAt}
+use Rattle.gateway.specs.Promises.{Promise}
+use Rattle.gateway.specs.Runs.{IsRefusedAt}
 use Rattle.scripts.specs.Scripts.{lines_of, AllSay, IsFirstFault}
 
 -- An output as a line: octets stand in lower-case hex, two digits each.
@@ -38,10 +38,10 @@ default_setup = record {
   max_response = 1048576;
 }
 
--- The script was run: its lines say the events of a faithful log, of which the outputs were written, one line each.
+-- The script was run: its lines say the events of a log that has what is promised, of which the outputs were written, one line each.
 abbrev pub IsRun : List ℕ → (List ℕ → Type 0) → Type 0
 IsRun script IsWritten =
-    (log : List Step) × AllSay (lines_of script) (map (λ step. step.event) log) × Faithful default_setup log
+    (log : List Step) × AllSay (lines_of script) (map (λ step. step.event) log) × Promise default_setup log
     × IsWritten (text_of (map (λ step. step.outputs) log))
 
 -- what is said of a line, by its place from 1

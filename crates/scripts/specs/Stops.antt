@@ -3,7 +3,7 @@ use Rattle.std.specs.Prelude.{◌≡◌, ℕ, ◌+◌, List, ⊤}
 use Rattle.model.specs.Logs.{Event}
 use Rattle.scripts.specs.declared.replays.Stop.{Stop}
 use Rattle.scripts.specs.declared.replays.Stop.TheVariants.{NotALine, NotAdmitted, Memory}
-use Rattle.gateway.specs.Stands.{IsRefusedAt}
+use Rattle.gateway.specs.Runs.{IsRefusedAt}
 use Rattle.scripts.specs.Printing.{default_setup}
 use Rattle.scripts.specs.Scripts.{lines_of, AllSay, IsFirstFault}
 

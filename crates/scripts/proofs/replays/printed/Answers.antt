@@ -1,5 +1,5 @@
 use Rattle.std.proofs.Common.{◌≡◌, ◌∙◌, length, map, ap, subst}
-use Rattle.model.specs.Faithful.{Faithful}
+use Rattle.gateway.specs.Promises.{Promise}
 use Rattle.gateway.specs.Views.{outputs_of}
 use Rattle.gateway.specs.Runs.{log_of}
 use Rattle.scripts.specs.Printing.{default_setup, text_of}
@@ -10,9 +10,9 @@ pub returns-in-Ok-print_steps-clause-ok : goal.returns-in-Ok-print_steps-clause-
 returns-in-Ok-print_steps-clause-ok c =
     let events : c.deref.result.now ≡ c.in-Ok.events.items = c.deref.ensures.value in
     let steps : c.deref-2.result.now ≡ c.in-Ok-run.steps.items = c.deref-2.ensures.value in
-    let faithful : Faithful default_setup (log_of c.in-Ok.events.items c.in-Ok-run.steps.items) =
-    subst (λ e. Faithful default_setup (log_of e c.in-Ok-run.steps.items)) events
-    (subst (λ s. Faithful s (log_of c.deref.result.now c.in-Ok-run.steps.items)) c.in-Ok-default_config.ensures.setup c.in-Ok-run.ensures.faithful) in
+    let promised : Promise default_setup (log_of c.in-Ok.events.items c.in-Ok-run.steps.items) =
+    subst (λ e. Promise default_setup (log_of e c.in-Ok-run.steps.items)) events
+    (subst (λ s. Promise s (log_of c.deref.result.now c.in-Ok-run.steps.items)) c.in-Ok-default_config.ensures.setup c.in-Ok-run.ensures.promised) in
     is_run c.args.script.now _ c.in-Ok.events.items c.in-Ok-run.steps.items c.in-Ok.ensures.ok
-    (c.in-Ok-run.ensures.each ∙ ap length events) faithful
+    (c.in-Ok-run.ensures.each ∙ ap length events) promised
     (c.in-Ok-print_steps.ensures ∙ ap (λ s. text_of (map (λ o. outputs_of o.items) s)) steps)

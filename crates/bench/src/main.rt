@@ -5,11 +5,13 @@
 mod bodies;
 mod encoders;
 mod exchanges;
+mod gets;
 mod judging;
 mod made;
 mod samples;
 mod texts;
 
+use crate::gets::Load;
 use crate::judging::{Judging, Streams};
 use crate::made::Made;
 use std::alloc::Global;
@@ -17,7 +19,7 @@ use std::env;
 use std::process::ExitCode;
 
 /// The names of the parts.
-const PARTS: [&str; 23] = [
+const PARTS: [&str; 28] = [
     "exchanges",
     "decode",
     "send",
@@ -41,6 +43,11 @@ const PARTS: [&str; 23] = [
     "many-update",
     "many-data",
     "many-headers",
+    "gets",
+    "gets-active",
+    "active",
+    "gets-9000",
+    "gets-9100",
 ];
 
 /// The status is 1 for any command line but a part and a number of rounds, where a layer refuses the samples or memory is
@@ -84,11 +91,27 @@ fn run_part(part: &str, alloc: Global, rounds: u32, made: &mut Made) -> Option<(
         "huffman-decode" => texts::decode(alloc, rounds, made),
         "huffman-encode" => texts::encode(alloc, rounds, made),
         "find" => encoders::find(alloc, rounds, made),
-        _ => {
-            let (streams, judging) = judged_by(part)?;
-            judging::judge(alloc, rounds, made, streams, judging)
-        }
+        _ => match load_of(part) {
+            Some(load) => gets::get(alloc, rounds, made, load),
+            None => {
+                let (streams, judging) = judged_by(part)?;
+                judging::judge(alloc, rounds, made, streams, judging)
+            }
+        },
     }
+}
+
+/// How many requests a part makes that nobody answers, and how many that are answered.
+fn load_of(part: &str) -> Option<Load> {
+    let (active, answered) = match part {
+        "gets" => (0, 100),
+        "gets-active" => (99, 100),
+        "active" => (99, 0),
+        "gets-9000" => (0, 9_000),
+        "gets-9100" => (0, 9_100),
+        _ => return None,
+    };
+    Some(Load { active, answered })
 }
 
 /// Which frames a part judges, and on which connection.

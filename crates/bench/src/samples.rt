@@ -55,6 +55,19 @@ pub const SMALL_HEAD: &[u8] = b"HTTP/1.1 200 OK\r\n\
     Content-Type: text/html; charset=utf-8\r\n\
     \r\n";
 
+/// A response with 8 fields and a body of two octets.
+pub const SMALL_RESPONSE: &[u8] = b"HTTP/1.1 200 OK\r\n\
+    Date: Sun, 22 Nov 2026 10:00:00 GMT\r\n\
+    Server: Apache/2.4.62 (Unix)\r\n\
+    Last-Modified: Sat, 21 Nov 2026 08:30:00 GMT\r\n\
+    ETag: \"5c3f-62d1a8b1e4a40\"\r\n\
+    Accept-Ranges: bytes\r\n\
+    Content-Length: 2\r\n\
+    Cache-Control: max-age=3600\r\n\
+    Content-Type: text/html; charset=utf-8\r\n\
+    \r\n\
+    hi";
+
 /// A response's head with 30 fields.
 pub const LARGE_HEAD: &[u8] = b"HTTP/1.1 200 OK\r\n\
     Date: Sun, 22 Nov 2026 10:00:00 GMT\r\n\

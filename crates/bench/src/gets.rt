@@ -1,0 +1,140 @@
+//! GETs through the whole gateway: all events of a connection, from the client's octets to its upstreams' and back.
+
+ghost use Rattle.std.specs.Prelude.{IfSome};
+ghost use Rattle.gateway.specs.Setups.{setup_of, IsServable};
+
+use crate::made::Made;
+use crate::samples::{FIRST_BLOCK, LATER_BLOCKS, SMALL_RESPONSE};
+use gateway::{Config, Event, Output, Passing, Policy, Route, run};
+use std::alloc::Global;
+
+/// The preface of a client, and its settings, without entries (RFC 9113, section 3.4).
+const BEGIN: &[u8] = b"PRI * HTTP/2.0\r\n\r\nSM\r\n\r\n\x00\x00\x00\x04\x00\x00\x00\x00\x00";
+
+/// How many octets of a request its upstream's side takes at once.
+const TAKEN: u64 = 100;
+
+/// Of which requests a connection consists: some that nobody answers, and then some that are answered one after another.
+#[derive(Clone, Copy)]
+pub struct Load {
+    pub active: u32,
+    pub answered: u32,
+}
+
+/// One route for all requests.
+fn config(alloc: Global) -> Option<Config>
+    ensures { IfSome result (λ config. IsServable (setup_of config)) }
+{
+    let route = Route {
+        authority: Vec::new(alloc),
+        prefix: Vec::from_slice(alloc, b"/").ok()?,
+        upstream: String::new(alloc),
+    };
+    Some(Config {
+        routes: vec![in alloc; route].ok()?,
+        policy: Policy::Plain,
+        passing: Passing::Whole,
+        max_body: 1_048_576,
+        max_response: 1_048_576,
+    })
+}
+
+/// The block of a connection's request at a place.
+fn block_at(place: u32) -> &'static [u8] {
+    if place == 0 {
+        FIRST_BLOCK
+    } else {
+        LATER_BLOCKS[place as usize % LATER_BLOCKS.len()]
+    }
+}
+
+/// The HEADERS frame of a connection's request at a place, the preface before the first one (RFC 9113, section 6.2).
+fn request_at(alloc: Global, place: u32) -> Option<Event> {
+    let mut octets = Vec::new(alloc);
+    if place == 0 {
+        octets.extend_from_slice(BEGIN).ok()?;
+    }
+    let block = block_at(place);
+    let length = u32::try_from(block.len()).ok()?.to_be_bytes();
+    let id = place.checked_mul(2)?.checked_add(1)?.to_be_bytes();
+    octets.extend_from_slice(&length[1..]).ok()?;
+    octets.extend_from_slice(&[1, 5]).ok()?;
+    octets.extend_from_slice(&id).ok()?;
+    octets.extend_from_slice(block).ok()?;
+    Some(Event::Client(octets))
+}
+
+/// How many octets for the client are put out.
+fn for_client(outputs: &[Output]) -> u64 {
+    let mut sum = 0_u64;
+    for output in outputs {
+        if let Output::Client(octets) = output {
+            sum = sum.saturating_add(octets.len() as u64);
+        }
+    }
+    sum
+}
+
+/// Adds the events of an answer on a connection.
+fn answer(alloc: Global, k: u32, events: &mut Vec<Event>) -> Option<()> {
+    events.push(Event::UpTook(k, TAKEN)).ok()?;
+    let response = Vec::from_slice(alloc, SMALL_RESPONSE).ok()?;
+    events.push(Event::Up(k, response)).ok()
+}
+
+/// How many octets for the client an answer takes.
+fn answer_octets(alloc: Global) -> Option<u64> {
+    let mut events = Vec::new(alloc);
+    events.push(request_at(alloc, 0)?).ok()?;
+    answer(alloc, 1, &mut events)?;
+    let outputs = run(alloc, &config(alloc)?, &events).ok()?;
+    Some(for_client(outputs.last()?))
+}
+
+/// The events of a connection.
+fn events_of(alloc: Global, load: Load) -> Option<Vec<Event>> {
+    let mut events = Vec::new(alloc);
+    let count = answer_octets(alloc)?;
+    let all = load.active.checked_add(load.answered)?;
+    for place in 0..all {
+        events.push(request_at(alloc, place)?).ok()?;
+        if place >= load.active {
+            answer(alloc, place.checked_add(1)?, &mut events)?;
+            events.push(Event::ClientTook(count)).ok()?;
+        }
+    }
+    Some(events)
+}
+
+/// Keeps the octets of outputs.
+fn keep(outputs: &[Output], made: &mut Made) -> Option<()> {
+    for output in outputs {
+        match output {
+            Output::Client(octets) | Output::Up(_, octets) => {
+                made.octets.extend_from_slice(octets).ok()?
+            }
+            Output::Open(_, _) | Output::Close(_) | Output::CloseClient => {}
+        }
+    }
+    Some(())
+}
+
+/// Keeps the octets of the outputs of all steps.
+fn keep_all(steps: &[Vec<Output>], made: &mut Made) -> Option<()> {
+    for outputs in steps {
+        keep(outputs, made)?;
+    }
+    Some(())
+}
+
+/// A connection a round, each with the same events.
+pub(crate) fn get(alloc: Global, rounds: u32, made: &mut Made, load: Load) -> Option<()> {
+    let config = config(alloc)?;
+    let events = events_of(alloc, load)?;
+    for _ in 0..rounds {
+        made.clear();
+        let steps = run(alloc, &config, &events).ok()?;
+        keep_all(&steps, made)?;
+    }
+    Some(())
+}

@@ -92,14 +92,18 @@ in_step_behind known (step ∷ earlier) run k answered =
     let rests : RestsBehind known.setup run = subst (RestsBehind known.setup) (sym answered.2) answered.3.rests in
     record { encoding = (state_of known.setup run).tables.encoding.table; decoding = (state_of known.setup run).tables.decoding; in_step = in_step known run k rests }
 
-pub promised : (setup : Setup) (g : Standing) (log : List Step) (run : List Move) → Stands setup g log run → Promise setup (reverse log)
-promised setup g log run stands = record {
-  known = known;
-  of_setup = refl;
-  tape = tape_of run;
-  has_tape = subst (λ l. HasTape known l (tape_of run)) (sym (reverse-reverse log)) (has_tape known log run k by);
-  in_step = in_step_behind known log run k by;
-}
+-- what is promised of the log, by the tape of these moves
+pub promised_by : (setup : Setup) (g : Standing) (log : List Step) (run : List Move) → Stands setup g log run → (promise : Promise setup (reverse log)) × (promise.tape ≡ tape_of run)
+promised_by setup g log run stands = (
+  record {
+    known = known;
+    of_setup = refl;
+    tape = tape_of run;
+    has_tape = subst (λ l. HasTape known l (tape_of run)) (sym (reverse-reverse log)) (has_tape known log run k by);
+    in_step = in_step_behind known log run k by;
+  },
+  refl,
+)
   where
     known : Known
     known = known_of setup (conducts run)
@@ -112,3 +116,6 @@ promised setup g log run stands = record {
 
     by : AreAnsweredBy known log run
     by = stands.answered known refl knows
+
+pub promised : (setup : Setup) (g : Standing) (log : List Step) (run : List Move) → Stands setup g log run → Promise setup (reverse log)
+promised setup g log run stands = (promised_by setup g log run stands).0

@@ -1,8 +1,9 @@
 -- The log of a run, event by event.
-use Rattle.std.proofs.Common.{◌≡◌, ℕ, zero, suc, ◌+◌, ◌<◌, List, [], ◌∷◌, ◌++◌, length, length-append, take, get_or, map, reverse, refl, sym, ◌∙◌, ap, subst, arith, Some, true, false, Ok, Err, Result}
+use Rattle.std.proofs.Common.{◌≡◌, ℕ, zero, suc, ◌+◌, ◌<◌, ◌≤◌, List, [], ◌∷◌, ◌++◌, length, length-append, take, get_or, map, reverse, refl, sym, ◌∙◌, ap, subst, arith, Some, true, false, Ok, Err, Result}
 use Rattle.std.specs.declared.vec.Vec.{Vec}
 use Rattle.std.specs.declared.alloc.Global.{Global}
 use Rattle.std.specs.Prelude.{slice_get, is_ok, OnOk}
+use Rattle.std.proofs.lemmas.Grind.{common_steps}
 use Rattle.std.proofs.lemmas.List.{take_more, reverse-append, reverse-reverse}
 use Rattle.std.specs.List.{take-map}
 use Rattle.model.specs.Admission.{is_admitted}
@@ -16,7 +17,7 @@ use Rattle.policy.specs.State.{tape_of}
 use Rattle.gateway.specs.Promises.{Promise}
 use Rattle.gateway.specs.Runs.{log_of, IsRefusedAt}
 use Rattle.gateway.specs.Stands.{Standing, Stands, StandsNext}
-use Rattle.gateway.proofs.Logging.{promised}
+use Rattle.gateway.proofs.Logging.{promised_by}
 
 pub log_more : (events : List Event) (outs : List (Vec Output Global)) (event : Event) (out : Vec Output Global) → length outs ≡ length events
     → log_of (events ++ event ∷ []) (outs ++ out ∷ []) ≡ log_of events outs ++ record { event = event_of event; outputs = outputs_of out.items } ∷ []
@@ -33,7 +34,7 @@ log_events (x ∷ events) (y ∷ outs) e = ap (λ l. event_of x ∷ l) (log_even
 -- what is promised of the log, the oldest step first, by the tape of the moves behind which the gateway stands
 pub promised_at : (setup : Setup) (g : Standing) (log : List logs.Step) (run : List Move) → Stands setup g (reverse log) run → (promise : Promise setup log) × (promise.tape ≡ tape_of run)
 promised_at setup g log run stands =
-    subst (λ (l : List logs.Step). (promise : Promise setup l) × (promise.tape ≡ tape_of run)) (reverse-reverse log) (promised setup g (reverse log) run stands, refl)
+    subst (λ (l : List logs.Step). (promise : Promise setup l) × (promise.tape ≡ tape_of run)) (reverse-reverse log) (promised_by setup g (reverse log) run stands)
 
 -- the gateway stands for the log of these events
 pub record Running (setup : Setup) (events : List Event) (outs : List (Vec Output Global)) (g : Standing) : Type 0 where
@@ -64,8 +65,12 @@ running_more setup events n outs outs' g g' event old out lt at none is puts r =
       stands = subst (λ l. Stands setup g' l (next.segment ++ r.run)) (sym log) next.stands;
     }
 
-pub running_promised : (setup : Setup) (events : List Event) (outs : List (Vec Output Global)) (g : Standing) → Running setup events outs g → Promise setup (log_of events outs)
-running_promised setup events outs g r = (promised_at setup g (log_of events outs) r.run r.stands).0
+-- all events
+pub running_promised : (setup : Setup) (events : List Event) (n : ℕ) (outs : List (Vec Output Global)) (g : Standing) → length events ≤ n → Running setup (take n events) outs g → Promise setup (log_of events outs)
+running_promised setup events n outs g past r =
+    let all : take n events ≡ events = grind (arith, common_steps) in
+    let whole = subst (λ es. Running setup es outs g) all r in
+    (promised_at setup g (log_of events outs) whole.run whole.stands).0
 
 get_mapped : (events : List Event) (n : ℕ) (event : Event) → n < length events → event ≡ get_or events n event → slice_get (map event_of events) n ≡ Some (event_of event)
 get_mapped [] n event lt at = absurd (omega arith)

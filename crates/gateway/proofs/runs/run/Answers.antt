@@ -16,3 +16,6 @@ loop-n-preserved c =
     running_more (setup_of c.args.config.now) c.args.events.now c.loop-n.n c.loop-n.outputs.items c.push.new.self.items c.loop-n.gateway c.step.new.self c.index-events-n.result c.new-out.result c.step.new.out c.loop-n-test.true c.index-events-n.is c.new-out.ensures.items
     (c.push.ensures.items ∙ ap (λ b. if b then c.loop-n.outputs.items ++ c.step.new.out ∷ [] else c.loop-n.outputs.items) pushed)
     stepped c.loop-n.invariant
+
+pub returns-clause-promised : goal.returns-clause-promised
+returns-clause-promised c = running_promised (setup_of c.args.config.now) c.args.events.now c.loop-n.n c.loop-n.outputs.items c.loop-n.gateway c.loop-n-test.false c.loop-n.invariant

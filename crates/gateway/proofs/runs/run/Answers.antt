@@ -1,6 +1,5 @@
-use Rattle.std.proofs.Common.{not, ◌++◌, ◌∷◌, [], ◌∙◌, sym, ap, reverse, if◌then◌else◌}
+use Rattle.std.proofs.Common.{not, ◌++◌, ◌∷◌, [], ◌∙◌, sym, ap, if◌then◌else◌}
 use Rattle.gateway.specs.Setups.{setup_of}
-use Rattle.gateway.specs.Runs.{log_of}
 use Rattle.gateway.proofs.Running.{running_more, running_promised, running_refused, on_ok_at}
 use Rattle.gateway.proofs.runs.run.Goals as goal
 

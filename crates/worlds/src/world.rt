@@ -5,7 +5,7 @@ ghost use Rattle.model.specs.Logs.{Step};
 ghost use Rattle.outputs.specs.Views.{output_of};
 ghost use Rattle.worlds.specs.Worlds.{AddsEvent, SaysOver, with_outputs};
 
-use gateway::{Event, Output};
+use outputs::{Event, Output};
 use std::alloc::{AllocError, AllocFailed};
 use std::io;
 

@@ -5,7 +5,11 @@
 #![tactic(auto)]
 
 #[cfg(test)]
+mod configurations;
+#[cfg(test)]
 mod connections;
+#[cfg(test)]
+mod many_streams;
 #[cfg(test)]
 mod notation;
 #[cfg(test)]

@@ -9,6 +9,8 @@ mod configurations;
 #[cfg(test)]
 mod connections;
 #[cfg(test)]
+mod cuts;
+#[cfg(test)]
 mod many_streams;
 #[cfg(test)]
 mod notation;
@@ -16,6 +18,8 @@ mod notation;
 mod requests;
 #[cfg(test)]
 mod responses;
+#[cfg(test)]
+mod runs;
 #[cfg(test)]
 mod transcripts;
 #[cfg(test)]

@@ -63,18 +63,19 @@ fn ten_thousand_requests(alloc: Global) -> Result<Transcript, AllocError> {
     transcript.push("> C 000014 01 04 00000001 {A} 000004 03 00 00000001 00000008")?;
     for place in 1..9999u32 {
         let id = 2 * place + 1;
-        let lines = format!(in alloc;
+        let line = format!(in alloc;
             "> C 000004 01 04 {id:08x} 828684be 000004 03 00 {id:08x} 00000008"
         )?;
-        transcript.push(&lines)?;
+        transcript.push(&line)?;
     }
     transcript.push(
         r"
-        > C 000004 01 05 00004e1f 828684be
+        > C 000004 01 04 00004e1f 828684be
         C 000008 07 00 00000000 00004e1f 00000000
-        O 1 0
-        U 1 {GET}
         > C 000004 01 05 00004e21 828684be
+        > C 000000 00 01 00004e1f
+        O 1 0
+        U 1 'GET / HTTP/1.1\r\nhost: www.example.com\r\nvia: 2.0 h2gw\r\ntransfer-encoding: chunked' {CLOSE} '0\r\n\r\n'
         > U 1 'HTTP/1.1 204 No Content\r\n\r\n'
         X 1
         C 000001 01 05 00004e1f 89
@@ -125,8 +126,15 @@ fn a_hundred_active_streams(rt: HostRuntime) -> Result<(), Fail> {
 #[test]
 fn ten_thousand_streams(rt: HostRuntime) -> Result<(), Fail> {
     let alloc = rt.alloc();
-    let unrouted = ten_thousand_without_a_route(alloc)?;
-    let config_without = config(Vec::new(alloc), Policy::Plain);
-    assert_runs(&rt, alloc, &config_without, "no route", &unrouted)?;
+    let transcript = ten_thousand_requests(alloc)?;
+    assert_prints(&rt, alloc, "ten thousand streams", &transcript);
     Ok(())
+}
+
+#[test]
+fn ten_thousand_answers(rt: HostRuntime) -> Result<(), Fail> {
+    let alloc = rt.alloc();
+    let transcript = ten_thousand_without_a_route(alloc)?;
+    let unrouted = config(Vec::new(alloc), Policy::Plain);
+    assert_runs(&rt, alloc, &unrouted, "no route", &transcript)
 }

@@ -42,7 +42,10 @@ fn push_line(line: &str, text: &mut String) -> Result<(), AllocError> {
     if let Some(octets) = line.strip_prefix("C ") {
         text.push_str("C ")?;
         push_octets(octets, text)?;
-    } else if let Some((k, octets)) = line.strip_prefix("U ").and_then(|rest| rest.split_once(' ')) {
+    } else if let Some((k, octets)) = line
+        .strip_prefix("U ")
+        .and_then(|rest| rest.split_once(' '))
+    {
         write!(text, "U {k} ")?;
         push_octets(octets, text)?;
     } else {
@@ -94,7 +97,11 @@ pub fn assert_prints(rt: &impl Abort, alloc: Global, name: &str, transcript: &Tr
     let mut err = Vec::new(alloc);
     let status = replay(alloc, None, &transcript.script, &mut out, &mut err);
     assert_eq!(rt; str::from_utf8(&err).ok(), Some(""), "at {name}");
-    assert_eq!(rt; str::from_utf8(&out).ok(), Some(transcript.printed.as_str()), "at {name}");
+    assert_eq!(rt;
+        str::from_utf8(&out).ok(),
+        Some(transcript.printed.as_str()),
+        "at {name}"
+    );
     assert_eq!(rt; status, 0, "at {name}");
 }
 

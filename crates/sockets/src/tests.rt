@@ -27,6 +27,9 @@ const ANSWER: &[u8] = b"HTTP/1.1 200 OK\r\nContent-Length: 2\r\n\r\nhi";
 
 const FRAMES: &[u8] = b"\0\0\x05\x01\x04\0\0\0\x01\x88\x0f\x0d\x01\x32\0\0\x02\0\x01\0\0\0\x01hi";
 
+/// The frames that go back where the upstream is down: the status 502.
+const BAD_GATEWAY: &[u8] = b"\0\0\x09\x01\x05\0\0\0\x01\x08\x03502\x0f\x0d\x01\x30";
+
 /// A world of sockets in whose turns a client and an upstream take part, each with one step before each `next`.
 #[derive(Drop)]
 struct Loopback<'a> {
@@ -178,13 +181,15 @@ fn an_upstream_that_is_down_is_no_fault_of_the_world(rt: HostRuntime) -> Result<
         peers: Peers {
             upstream: quiet_listener(&rt)?,
             client: Some(client),
-            enough: GREETING.len() + 1,
+            enough: GREETING.len() + BAD_GATEWAY.len(),
             read: Vec::new(rt.alloc()),
             asked: Vec::new(rt.alloc()),
         },
     };
     let ended = serve(rt.alloc(), &config, &mut world, 100);
     assert_eq!(rt; ended, Ok(Ended::Closed));
+    assert!(rt; world.peers.read.starts_with(GREETING));
+    assert!(rt; world.peers.read.ends_with(BAD_GATEWAY));
     Ok(())
 }
 

@@ -1,22 +1,23 @@
 -- What serving a world adds to its log.
-use Rattle.std.specs.Prelude.{IsErrOf}
+use Rattle.std.specs.Prelude.{IsErrOf, is_ok, OnOk}
 use Rattle.std.proofs.lemmas.Grind.{common_steps}
-use Rattle.std.proofs.Common.{◌≡◌, ◌<◌, ◌≤◌, ◌+◌, length, get_or, arith, Err, ◌||◌, Bool, true, false, Option, Some, List, [], ◌∷◌, ◌++◌, ℕ, map, take, drop, reverse, refl, ap, sym, ◌∙◌, subst, append_assoc, append-nil}
+use Rattle.std.proofs.Common.{◌≡◌, ◌<◌, ◌≤◌, ◌+◌, length, get_or, arith, Ok, Err, Result, ◌||◌, Bool, true, false, Option, Some, List, [], ◌∷◌, ◌++◌, ℕ, map, take, drop, reverse, refl, ap, sym, ◌∙◌, subst, append_assoc, append-nil}
 use Rattle.std.specs.List.{list_any}
 use Rattle.std.proofs.lemmas.List.{reverse-append, take-append-drop, map-append}
 use Rattle.model.specs.Admission.{is_admitted}
 use Rattle.model.specs.Logs as logs
 use Rattle.model.specs.Logs.{Step}
 use Rattle.model.specs.Setup.{Setup}
-use Rattle.model.specs.Tapes.{Entry}
-use Rattle.model.specs.Faithful.{HasTape, Faithful}
-use Rattle.gateway.specs.Setups.{known_of}
-use Rattle.gateway.specs.Stands.{Standing, Stands, StandsNext, fresh}
-use Rattle.gateway.specs.Views.{event_of, output_of, outputs_of}
+use Rattle.outputs.specs.Views.{event_of, output_of, outputs_of}
+use Rattle.policy.specs.Moves.{Move}
+use Rattle.policy.specs.State.{tape_of}
+use Rattle.gateway.specs.Promises.{Promise}
+use Rattle.gateway.specs.Stands.{Standing, Stands, StandsNext}
+use Rattle.gateway.proofs.Running.{promised_at}
 use Rattle.outputs.specs.declared.events.Event.{Event}
 use Rattle.outputs.specs.declared.events.Output.{Output}
 use Rattle.worlds.specs.declared.services.Ended.{Ended}
-use Rattle.worlds.specs.Worlds.{Serves, AddsFrontTo, MayNotCome, came, with_outputs, closes, has_closed, is_closed}
+use Rattle.worlds.specs.Worlds.{Serves, StandsSomewhere, AddsFrontTo, MayNotCome, came, with_outputs, closes, has_closed, is_closed}
 use Rattle.worlds.specs.Worlds.IsFrontOf.{Whole, Lacks}
 
 -- ---- whether the client is closed
@@ -43,83 +44,84 @@ closes_seen (o ∷ out) = ap (λ b. closes (output_of o) || b) (closes_seen out)
 -- ---- the log
 
 -- Nothing was added yet.
-pub serves_none : (setup : Setup) (log : Option (List Step)) (g : Standing) (before : List Step) → log ≡ Some before → g ≡ fresh setup → Stands g [] [] → Serves setup false log g before
-serves_none setup log g before e is stands =
-    record { added = []; tape = []; is = e ∙ ap Some (sym (append-nil before)); stands = stands; same_setup = ap (λ (x : Standing). x.kept.state.setup) is; has_closed_is = refl }
+pub serves_none : (setup : Setup) (log : Option (List Step)) (g : Standing) (before : List Step) → log ≡ Some before → Stands setup g [] [] → Serves setup false log g before
+serves_none setup log g before e stands = record { added = []; run = []; is = e ∙ ap Some (sym (append-nil before)); stands = stands; has_closed_is = refl }
 
 -- What the gateway did with an event.
 pub record Steps (g g' : Standing) (event : Event) (old out : List Output) : Type 0 where
   pub none : old ≡ []
   pub puts : (outputs : List logs.Output) × (outputs_of out ≡ outputs_of old ++ outputs)
-      × ((l : List Step) (t : List Entry) → Stands g l t → StandsNext g g' l t (event_of event) outputs)
+      × ((s : Setup) (l : List Step) (r : List Move) → Stands s g l r → StandsNext s g' l r (event_of event) outputs)
+
+-- Afterwards the gateway stands for some log, as before.
+pub stands_on : (g g' : Standing) (event : Event) (old out : List Output) → Steps g g' event old out → (setup : Setup) → StandsSomewhere setup g → StandsSomewhere setup g'
+stands_on g g' event old out steps setup somewhere =
+    let next = steps.puts.2 setup somewhere.0 somewhere.1 somewhere.2 in (record { event = event_of event; outputs = steps.puts.0 } ∷ somewhere.0, next.segment ++ somewhere.1, next.stands)
 
 -- The log with this step stands for the gateway behind it.
-stands_more : (g g' : Standing) (added : List Step) (tape : List Entry) (event : Event) (old out : List Output) → (steps : Steps g g' event old out)
-    → (stands : Stands g (reverse added) tape)
-    → Stands g' (reverse (added ++ with_outputs (came event) (outputs_of out) ∷ [])) ((steps.puts.2 (reverse added) tape stands).segment ++ tape)
-stands_more g g' added tape event old out steps stands =
+stands_more : (setup : Setup) (g g' : Standing) (added : List Step) (run : List Move) (event : Event) (old out : List Output) → (steps : Steps g g' event old out)
+    → (stands : Stands setup g (reverse added) run)
+    → Stands setup g' (reverse (added ++ with_outputs (came event) (outputs_of out) ∷ [])) ((steps.puts.2 setup (reverse added) run stands).segment ++ run)
+stands_more setup g g' added run event old out steps stands =
     let all : outputs_of out ≡ steps.puts.0 = steps.puts.1 ∙ ap (λ x. outputs_of x ++ steps.puts.0) steps.none in
-    let next = steps.puts.2 (reverse added) tape stands in
+    let next = steps.puts.2 setup (reverse added) run stands in
     let turned : reverse (added ++ with_outputs (came event) (outputs_of out) ∷ []) ≡ record { event = event_of event; outputs = steps.puts.0 } ∷ reverse added =
     reverse-append added (with_outputs (came event) (outputs_of out) ∷ []) ∙ ap (λ o. record { event = event_of event; outputs = o } ∷ reverse added) all in
-    subst (λ l. Stands g' l (next.segment ++ tape)) (sym turned) next.stands
+    subst (λ l. Stands setup g' l (next.segment ++ run)) (sym turned) next.stands
 
 -- One more step was added.
-pub serves_more : (g g' : Standing) (before added : List Step) (tape : List Entry) (event : Event) (old out : List Output) (log : Option (List Step)) (closed : Bool)
+pub serves_more : (setup : Setup) (g g' : Standing) (before added : List Step) (run : List Move) (event : Event) (old out : List Output) (log : Option (List Step)) (closed : Bool)
     → log ≡ Some (before ++ added ++ with_outputs (came event) (outputs_of out) ∷ []) → Steps g g' event old out
     → closed ≡ list_any (λ output. closes (output_of output)) out → has_closed added ≡ false
-    → Stands g (reverse added) tape → Serves g.kept.state.setup closed log g' before
-serves_more g g' before added tape event old out log closed is steps ends still stands =
-    let next = steps.puts.2 (reverse added) tape stands in
+    → Stands setup g (reverse added) run → Serves setup closed log g' before
+serves_more setup g g' before added run event old out log closed is steps ends still stands =
+    let next = steps.puts.2 setup (reverse added) run stands in
     record {
       added = added ++ with_outputs (came event) (outputs_of out) ∷ [];
-      tape = next.segment ++ tape;
+      run = next.segment ++ run;
       is = is ∙ ap Some (append_assoc before added (with_outputs (came event) (outputs_of out) ∷ []));
-      stands = stands_more g g' added tape event old out steps stands;
-      same_setup = next.same_setup;
+      stands = stands_more setup g g' added run event old out steps stands;
       has_closed_is = has_closed_more added (with_outputs (came event) (outputs_of out)) still ∙ closes_seen out ∙ sym ends;
     }
 
--- A gateway stands for faithful logs.
-faithful_of : (setup : Setup) (g : Standing) (added : List Step) (tape : List Entry) → g.kept.state.setup ≡ setup → Stands g (reverse added) tape → Faithful setup added
-faithful_of setup g added tape same stands =
-    record { known = known_of setup; of_setup = refl; tape = tape; has_tape = subst (λ x. HasTape (known_of x) (reverse added) tape) same stands.kept.has_tape }
-
--- What was added is faithful.
+-- What is promised holds of what was added.
 pub serves_run : (setup : Setup) (closed : Bool) (ended : Ended) (log : Option (List Step)) (g : Standing) (before : List Step) → Serves setup closed log g before → closed ≡ is_closed ended
-    → (added : List Step) × (log ≡ Some (before ++ added)) × Faithful setup added × (has_closed added ≡ is_closed ended)
-serves_run setup closed ended log g before s is = (s.added, s.is, faithful_of setup g s.added s.tape s.same_setup s.stands, s.has_closed_is ∙ is)
+    → (added : List Step) × (log ≡ Some (before ++ added)) × Promise setup added × (has_closed added ≡ is_closed ended)
+serves_run setup closed ended log g before s is = (s.added, s.is, (promised_at setup g s.added s.run s.stands).0, s.has_closed_is ∙ is)
 
 -- What was added, before a call of the world failed.
 pub front_whole : (setup : Setup) (closed : Bool) (log log' : Option (List Step)) (g : Standing) (before : List Step) → log' ≡ log → Serves setup closed log g before → AddsFrontTo setup before log'
-front_whole setup closed log log' g before e s = (s.added, s.added, e ∙ s.is, Whole s.added, faithful_of setup g s.added s.tape s.same_setup s.stands)
+front_whole setup closed log log' g before e s = (s.added, s.added, e ∙ s.is, Whole s.added, (promised_at setup g s.added s.run s.stands).0)
 
 -- Outputs were applied until one failed.
-pub front_lacks : (g g' : Standing) (before added : List Step) (tape : List Entry) (event : Event) (old out : List Output) (log : Option (List Step)) (done more : List logs.Output)
+pub front_lacks : (setup : Setup) (g g' : Standing) (before added : List Step) (run : List Move) (event : Event) (old out : List Output) (log : Option (List Step)) (done more : List logs.Output)
     → outputs_of out ≡ done ++ more → log ≡ Some (before ++ added ++ with_outputs (came event) done ∷ []) → Steps g g' event old out
-    → Stands g (reverse added) tape → AddsFrontTo g.kept.state.setup before log
-front_lacks g g' before added tape event old out log done more parts is steps stands =
-    let next = steps.puts.2 (reverse added) tape stands in
+    → Stands setup g (reverse added) run → AddsFrontTo setup before log
+front_lacks setup g g' before added run event old out log done more parts is steps stands =
+    let next = steps.puts.2 setup (reverse added) run stands in
     let whole : added ++ with_outputs (came event) (outputs_of out) ∷ [] ≡ added ++ with_outputs (with_outputs (came event) done) more ∷ [] =
     ap (λ os. added ++ with_outputs (came event) os ∷ []) parts in (
       added ++ with_outputs (came event) done ∷ [],
       added ++ with_outputs (with_outputs (came event) done) more ∷ [],
       is ∙ ap Some (append_assoc before added (with_outputs (came event) done ∷ [])),
       Lacks added (with_outputs (came event) done) more,
-      subst (λ l. Faithful g.kept.state.setup l) whole (faithful_of g.kept.state.setup g' (added ++ with_outputs (came event) (outputs_of out) ∷ []) (next.segment ++ tape) next.same_setup (stands_more g g' added tape event old out steps stands)),
+      subst (λ l. Promise setup l) whole (promised_at setup g' (added ++ with_outputs (came event) (outputs_of out) ∷ []) (next.segment ++ run) (stands_more setup g g' added run event old out steps stands)).0,
     )
 
 -- An event came that may not.
 pub may_not_come : (setup : Setup) (closed : Bool) (log : Option (List Step)) (g : Standing) (before : List Step) (event : Event) → (s : Serves setup closed log g before)
-    → is_admitted s.tape (event_of event) ≡ false → MayNotCome setup s.added (event_of event)
-may_not_come setup closed log g before event s refused = record { tape = s.tape; gateway = g; same_setup = s.same_setup; stands = s.stands; refused = refused }
+    → is_admitted (tape_of s.run) (event_of event) ≡ false → MayNotCome setup s.added (event_of event)
+may_not_come setup closed log g before event s refused =
+    let promised = promised_at setup g s.added s.run s.stands in record { promise = promised.0; refused = ap (λ t. is_admitted t (event_of event)) promised.1 ∙ refused }
 
--- The same log, and the same setup.
+-- The same log.
 pub serves_same : (setup : Setup) (closed : Bool) (log log' : Option (List Step)) (g : Standing) (before : List Step) → log' ≡ log → Serves setup closed log g before → Serves setup closed log' g before
-serves_same setup closed log log' g before e s = record { added = s.added; tape = s.tape; is = e ∙ s.is; stands = s.stands; same_setup = s.same_setup; has_closed_is = s.has_closed_is }
+serves_same setup closed log log' g before e s = record { added = s.added; run = s.run; is = e ∙ s.is; stands = s.stands; has_closed_is = s.has_closed_is }
 
-pub serves_so : (setup other : Setup) (closed : Bool) (log : Option (List Step)) (g : Standing) (before : List Step) → other ≡ setup → Serves other closed log g before → Serves setup closed log g before
-serves_so setup other closed log g before e s = record { added = s.added; tape = s.tape; is = s.is; stands = s.stands; same_setup = s.same_setup ∙ e; has_closed_is = s.has_closed_is }
+-- What a call promises where it answers so.
+pub on_ok_at : {A E X : Type 0} (r : Result A E) → is_ok r ≡ true → OnOk r X → X
+on_ok_at (Ok a) e x = x
+on_ok_at (Err f) e x = absurd (let g : false ≡ true = e in cc)
 
 -- Outputs are those before a place and those from it on.
 pub cut_outputs : (n : ℕ) (out : List Output) → outputs_of out ≡ outputs_of (take n out) ++ outputs_of (drop n out)

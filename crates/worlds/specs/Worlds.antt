@@ -3,12 +3,12 @@ use Rattle.std.specs.Prelude.{◌≡◌, Bool, true, false, Option, Some, None, 
 use Rattle.model.specs.Logs as logs
 use Rattle.model.specs.Logs.{Step}
 use Rattle.model.specs.Setup.{Setup}
-use Rattle.model.specs.Tapes.{Entry}
-use Rattle.model.specs.Faithful.{Faithful}
-use Rattle.gateway.specs.Stands.{Standing, Stands}
-use Rattle.gateway.specs.Views.{event_of}
-use Rattle.outputs.specs.declared.events.Event.{Event}
 use Rattle.model.specs.Admission.{is_admitted}
+use Rattle.outputs.specs.declared.events.Event.{Event}
+use Rattle.outputs.specs.Views.{event_of}
+use Rattle.policy.specs.Moves.{Move}
+use Rattle.gateway.specs.Promises.{Promise}
+use Rattle.gateway.specs.Stands.{Standing, Stands}
 use Rattle.std.specs.List.{list_any}
 use Rattle.model.specs.Logs.Output.{Does}
 use Rattle.model.specs.Logs.Act.{CloseClient}
@@ -66,30 +66,27 @@ SaysEnd (Some Closed) over = ⊤
 SaysEnd (Some OverAtLast) over = over ≡ true
 SaysEnd (Some Turns) over = ⊥
 
--- What was added to the log is faithful, and the client is closed in it just where that is said.
+-- What is promised holds of what was added to the log, and the client is closed in it just where that is said.
 abbrev pub AddsRun : Setup → Ended → Option (List Step) → Option (List Step) → Type 0
 AddsRun setup ended old new = (before : List Step) → old ≡ Some before
-    → (added : List Step) × (new ≡ Some (before ++ added)) × Faithful setup added × (has_closed added ≡ is_closed ended)
+    → (added : List Step) × (new ≡ Some (before ++ added)) × Promise setup added × (has_closed added ≡ is_closed ended)
 
 -- A log is a whole one, or lacks outputs at the end of its last step.
 pub data IsFrontOf : List Step → List Step → Type 0 where
   Whole : (log : List Step) → IsFrontOf log log
   Lacks : (steps : List Step) (step : Step) (outputs : List logs.Output) → IsFrontOf (steps ++ step ∷ []) (steps ++ with_outputs step outputs ∷ [])
 
--- What was added to this log is a front of a faithful one.
+-- What was added to this log is a front of one of which that is promised.
 abbrev pub AddsFrontTo : Setup → List Step → Option (List Step) → Type 0
-AddsFrontTo setup before new = (added : List Step) × (whole : List Step) × (new ≡ Some (before ++ added)) × IsFrontOf added whole × Faithful setup whole
+AddsFrontTo setup before new = (added : List Step) × (whole : List Step) × (new ≡ Some (before ++ added)) × IsFrontOf added whole × Promise setup whole
 
 abbrev pub AddsFront : Setup → Option (List Step) → Option (List Step) → Type 0
 AddsFront setup old new = (before : List Step) → old ≡ Some before → AddsFrontTo setup before new
 
--- A gateway that is set up so stands for the log, behind which the event may not come.
+-- What is promised holds of the log, by a tape behind which the event may not come.
 pub record MayNotCome (setup : Setup) (log : List Step) (event : logs.Event) : Type 0 where
-  pub tape : List Entry
-  pub gateway : Standing
-  pub same_setup : gateway.kept.state.setup ≡ setup
-  pub stands : Stands gateway (reverse log) tape
-  pub refused : is_admitted tape event ≡ false
+  pub promise : Promise setup log
+  pub refused : is_admitted promise.tape event ≡ false
 
 -- The event that came last may not come behind what was added before it, and nothing is put out for it.
 abbrev pub AddsRefusedTo : Setup → List Step → Option (List Step) → Type 0
@@ -98,11 +95,14 @@ AddsRefusedTo setup before new = (added : List Step) × (event : Event) × (new 
 abbrev pub AddsRefused : Setup → Option (List Step) → Option (List Step) → Type 0
 AddsRefused setup old new = (before : List Step) → old ≡ Some before → AddsRefusedTo setup before new
 
--- The gateway, which is set up so, stands for what was added to this log, in which the client is closed or not.
+-- The gateway stands for some log.
+abbrev pub StandsSomewhere : Setup → Standing → Type 0
+StandsSomewhere setup g = (log : List Step) × (run : List Move) × Stands setup g log run
+
+-- The gateway stands for what was added to this log, in which the client is closed or not.
 pub record Serves (setup : Setup) (closed : Bool) (log : Option (List Step)) (g : Standing) (before : List Step) : Type 0 where
   pub added : List Step
-  pub tape : List Entry
+  pub run : List Move
   pub is : log ≡ Some (before ++ added)
-  pub stands : Stands g (reverse added) tape
-  pub same_setup : g.kept.state.setup ≡ setup
+  pub stands : Stands setup g (reverse added) run
   pub has_closed_is : has_closed added ≡ closed

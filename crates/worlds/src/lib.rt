@@ -1,9 +1,11 @@
 //! A gateway before a world: what happens comes from it, and what is put out goes to it.
 #![tactic(auto)]
 
+mod memory;
 mod services;
 mod world;
 
+pub use memory::MemoryWorld;
 pub use services::{Ended, ServeFault, serve};
 pub use world::{Next, World, WorldFault};
 

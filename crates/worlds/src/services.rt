@@ -4,11 +4,12 @@ ghost use Rattle.std.specs.Prelude.{◌≡◌, ◌+◌, ◌<◌, ◌≤◌, ◌^
 ghost use Rattle.model.specs.Logs.{Step, Output as Put};
 ghost use Rattle.std.specs.List.{list_any};
 ghost use Rattle.model.specs.Setup.{Setup};
-ghost use Rattle.model.specs.Tapes.{Entry};
-ghost use Rattle.gateway.specs.Views.{event_of, output_of, outputs_of};
+ghost use Rattle.outputs.specs.Views.{event_of, output_of, outputs_of};
+ghost use Rattle.policy.specs.Moves.{Move};
+ghost use Rattle.policy.specs.State.{tape_of};
 ghost use Rattle.gateway.specs.Setups.{setup_of, IsServable};
 ghost use Rattle.gateway.specs.Stands.{Stands};
-ghost use Rattle.worlds.specs.Worlds.{AddsRun, AddsFront, AddsFrontTo, AddsRefused, AddsRefusedTo, SaysEnd, ends, with_outputs, came, closes, has_closed, Serves};
+ghost use Rattle.worlds.specs.Worlds.{AddsRun, AddsFront, AddsFrontTo, AddsRefused, AddsRefusedTo, SaysEnd, ends, with_outputs, came, closes, has_closed, Serves, StandsSomewhere};
 ghost use Rattle.worlds.specs.Open.{open_with, open_after, open_behind, without};
 ghost use Rattle.model.specs.Admission.{is_admitted, room};
 
@@ -107,7 +108,7 @@ fn rooms_of(
     gateway: &Gateway,
     connections: &[u32],
 ) -> Result<Vec<(u32, usize)>, AllocError>
-    ensures { IfOk result (λ rooms. (log : List Step) (tape : List Entry) → Stands gateway.now log tape → rooms.items ≡ map (λ k. (k, room k tape)) connections.now) }
+    ensures { IfOk result (λ rooms. (setup : Setup) (log : List Step) (run : List Move) → Stands setup gateway.now log run → rooms.items ≡ map (λ k. (k, room k (tape_of run))) connections.now) }
 {
     let mut rooms = Vec::new(alloc);
     for k in connections {
@@ -125,16 +126,18 @@ fn take_event<W: World>(
     event: &Event,
     connections: &mut Vec<u32>,
 ) -> Result<bool, ServeFault>
-    requires { W.failures world.old + 1 < 2 ^ 64 }
+    requires failures { W.failures world.old + 1 < 2 ^ 64 }
+    requires stands { (setup : Setup) × StandsSomewhere setup gateway.old }
     ensures calls { W.calls world.new ≡ W.calls world.old }
     ensures failures { OnOk result (W.failures world.new ≡ W.failures world.old) }
+    ensures stands { OnOk result ((setup : Setup) → StandsSomewhere setup gateway.old → StandsSomewhere setup gateway.new) }
     ensures world { IsErrOf result ServeFault.World → W.failures world.old < W.failures world.new }
-    ensures log { IfOk result (λ closed. (before added : List Step) (tape : List Entry) → W.log world.old ≡ Some (before ++ added ++ came event.now ∷ [])
-        → Stands gateway.old (reverse added) tape → has_closed added ≡ false → Serves gateway.old.kept.state.setup closed (W.log world.new) gateway.new before) }
-    ensures front { IsErrOf result ServeFault.World → (before added : List Step) (tape : List Entry) → W.log world.old ≡ Some (before ++ added ++ came event.now ∷ [])
-        → Stands gateway.old (reverse added) tape → AddsFrontTo gateway.old.kept.state.setup before (W.log world.new) }
+    ensures log { IfOk result (λ closed. (setup : Setup) (before added : List Step) (run : List Move) → W.log world.old ≡ Some (before ++ added ++ came event.now ∷ [])
+        → Stands setup gateway.old (reverse added) run → has_closed added ≡ false → Serves setup closed (W.log world.new) gateway.new before) }
+    ensures front { IsErrOf result ServeFault.World → (setup : Setup) (before added : List Step) (run : List Move) → W.log world.old ≡ Some (before ++ added ++ came event.now ∷ [])
+        → Stands setup gateway.old (reverse added) run → AddsFrontTo setup before (W.log world.new) }
     ensures refused { IsErrOf result ServeFault.NotAdmitted → (W.log world.new ≡ W.log world.old)
-        × ((log : List Step) (tape : List Entry) → Stands gateway.old log tape → is_admitted tape (event_of event.now) ≡ false) }
+        × ((setup : Setup) (log : List Step) (run : List Move) → Stands setup gateway.old log run → is_admitted (tape_of run) (event_of event.now) ≡ false) }
 {
     if !gateway.admits(event) {
         return Err(ServeFault::NotAdmitted);
@@ -162,8 +165,10 @@ fn take_turn<W: World>(
 ) -> Result<Option<Ended>, ServeFault>
     requires calls { W.calls world.old + 1 < 2 ^ 64 }
     requires failures { W.failures world.old + 1 < 2 ^ 64 }
+    requires stands { (setup : Setup) × StandsSomewhere setup gateway.old }
     ensures calls { OnOk result (W.calls world.new ≡ W.calls world.old + 1) }
     ensures failures { OnOk result (W.failures world.new ≡ W.failures world.old) }
+    ensures stands { OnOk result ((setup : Setup) → StandsSomewhere setup gateway.old → StandsSomewhere setup gateway.new) }
     ensures world { IsErrOf result ServeFault.World → W.failures world.old < W.failures world.new }
     ensures over { IfOk result (λ ended. SaysEnd ended (W.over world.new)) }
     ensures log { IfOk result (λ ended. (setup : Setup) (before : List Step) → Serves setup false (W.log world.old) gateway.old before → Serves setup (ends ended) (W.log world.new) gateway.new before) }
@@ -197,10 +202,10 @@ fn closes_client(outputs: &[Output]) -> bool
 /// Serves a world for some turns with a new gateway. Each turn calls the world's `next` once, with the open connections by rising
 /// number; an event is taken, and what is put out for it is applied in order. That nothing comes as yet is a turn too.
 ///
-/// What that adds to a log that the world tells is faithful. `Closed` is answered just where the client was closed, `Turns` only
-/// after all turns, and `Over` only where the world said so; `World` only where a call of the world failed, and then what was
-/// added is a front of a faithful log, without the output that failed; `NotAdmitted` only where an event came that may not. So far the policy is Plain, bodies are passed on whole, and the
-/// maxima are at most 1,073,741,824.
+/// Of what that adds to a log that the world tells holds what `gateway::run` promises. `Closed` is answered just where the client was
+/// closed, `Turns` only after all turns, and `Over` only where the world said so; `World` only where a call of the world failed, and then
+/// what was added is a front of such a log, without the output that failed; `NotAdmitted` only where an event came that may not. So far
+/// bodies are passed on whole; the maxima are at most 1,073,741,824, and there are at most 4,294,967,295 routes.
 pub fn serve<W: World>(
     alloc: Global,
     config: &Config,
@@ -217,10 +222,9 @@ pub fn serve<W: World>(
     ensures turns { IsOkAnd result (λ ended. ended ≡ Ended.Turns) → W.calls world.new ≡ W.calls world.old + turns }
     ensures over { IsOkAnd result (λ ended. ended ≡ Ended.Over) → W.over world.new ≡ true }
 {
-    let Ok(config) = config.copy(alloc) else {
+    let Ok(mut gateway) = Gateway::new(alloc, config) else {
         return Err(ServeFault::Memory);
     };
-    let mut gateway = Gateway::new(alloc, config);
     let mut connections = Vec::new(alloc);
     for _turn in 0..turns {
         match take_turn(alloc, &mut gateway, world, &mut connections) {

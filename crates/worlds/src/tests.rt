@@ -1,10 +1,45 @@
-ghost use Rattle.std.specs.Prelude.{◌≡◌};
+ghost use Rattle.std.specs.Prelude.{◌≡◌, IfOk};
 ghost use Rattle.gateway.specs.Setups.{setup_of, IsServable};
 
 use super::*;
-use gateway::{Config, Event, Output, Passing, Policy};
-use std::alloc::Global;
+use gateway::{Config, Event, Output, Passing, Policy, Route};
+use std::alloc::{AllocError, Global};
+use std::io;
+use std::io::Write;
+use std::process::Abort;
 use std::test::*;
+
+/// The preface, settings without entries, and a GET without a body on stream 1.
+const REQUEST: &[u8] =
+    b"PRI * HTTP/2.0\r\n\r\nSM\r\n\r\n\0\0\0\x04\0\0\0\0\0\0\0\x14\x01\x05\0\0\0\x01\x82\x86\x84\x41\x0fwww.example.com";
+
+/// What is put out for it: the gateway's settings and the acknowledgement of the client's, and the request's text on a new connection.
+const FORWARDED: &[u8] =
+    b"\nC \0\0\x0c\x04\0\0\0\0\0\0\x03\0\0\0\x64\0\x06\0\0\x40\0\0\0\0\x04\x01\0\0\0\0\nO 1 0\nU 1 GET / HTTP/1.1\r\nhost: www.example.com\r\nvia: 2.0 h2gw\r\nconnection: close\r\n\r\n";
+
+/// What is put out where no route takes it: the settings, the acknowledgement, and the status 404.
+const NOT_FOUND: &[u8] =
+    b"\nC \0\0\x0c\x04\0\0\0\0\0\0\x03\0\0\0\x64\0\x06\0\0\x40\0\0\0\0\x04\x01\0\0\0\0\0\0\x05\x01\x05\0\0\0\x01\x8d\x0f\x0d\x01\x30";
+
+/// A response, and what is put out for it: its connection is closed, and its frames go back.
+const ANSWER: &[u8] = b"HTTP/1.1 200 OK\r\nContent-Length: 2\r\n\r\nhi";
+
+const FRAMES: &[u8] =
+    b"\nX 1\nC \0\0\x05\x01\x04\0\0\0\x01\x88\x0f\x0d\x01\x32\0\0\x02\0\x01\0\0\0\x01hi";
+
+/// A response in chunks, cut into three pieces, and its frames.
+const CHUNKS: [&[u8]; 3] = [
+    b"HTTP/1.1 200 OK\r\nTransfer-Encoding: chunked\r\n\r\n1",
+    b"0\r\n0123456789abcdef\r\n",
+    b"0\r\n\r\n",
+];
+
+const CHUNK_FRAMES: &[u8] =
+    b"\nX 1\nC \0\0\x01\x01\x04\0\0\0\x01\x88\0\0\x10\0\x01\0\0\0\x010123456789abcdef";
+
+/// What is put out where the response is none, or is cut short: the status 502.
+const BAD_GATEWAY: &[u8] =
+    b"\nX 1\nC \0\0\x09\x01\x05\0\0\0\x01\x08\x03502\x0f\x0d\x01\x30";
 
 /// A world in which the client goes at a turn, and nothing else comes.
 #[derive(Drop)]
@@ -87,5 +122,182 @@ fn the_client_is_closed(rt: HostRuntime) -> Result<(), Fail> {
     assert_eq!(rt; ended, Ok(Ended::Closed));
     assert_eq!(rt; world.turn, 3);
     assert_eq!(rt; world.applied, 2);
+    Ok(())
+}
+
+/// A configuration with one route, for an authority.
+fn one_route(alloc: Global, authority: &[u8]) -> Result<Config, AllocError>
+    ensures { IfOk result (λ config. IsServable (setup_of config)) }
+{
+    let route = Route {
+        authority: Vec::from_slice(alloc, authority)?,
+        prefix: Vec::from_slice(alloc, b"/")?,
+        upstream: String::new(alloc),
+    };
+    Ok(Config {
+        routes: vec![in alloc; route]?,
+        policy: Policy::Plain,
+        passing: Passing::Whole,
+        max_body: 1000,
+        max_response: 2000,
+    })
+}
+
+/// The client sends the request, and the first upstream these pieces.
+fn exchange(alloc: Global, pieces: &[&[u8]]) -> Result<Vec<Event>, AllocError> {
+    let mut events = Vec::new(alloc);
+    events.push(Event::Client(Vec::from_slice(alloc, REQUEST)?))?;
+    for piece in pieces {
+        events.push(Event::Up(1, Vec::from_slice(alloc, piece)?))?;
+    }
+    Ok(events)
+}
+
+/// Writes an output on a line.
+fn write_output(output: &Output, text: &mut Vec<u8>) -> io::Result<()> {
+    match output {
+        Output::Client(octets) => {
+            write!(text, "\nC ")?;
+            text.extend_from_slice(octets)?;
+        }
+        Output::Open(k, route) => write!(text, "\nO {k} {route}")?,
+        Output::Up(k, octets) => {
+            write!(text, "\nU {k} ")?;
+            text.extend_from_slice(octets)?;
+        }
+        Output::Close(k) => write!(text, "\nX {k}")?,
+        Output::CloseClient => write!(text, "\nXC")?,
+    }
+    Ok(())
+}
+
+/// What was put out for all events, a line for each output.
+fn text_of(alloc: Global, log: &[(Event, Vec<Output>)]) -> io::Result<Vec<u8>> {
+    let mut text = Vec::new(alloc);
+    for (_event, outputs) in log {
+        for output in outputs {
+            write_output(output, &mut text)?;
+        }
+    }
+    Ok(text)
+}
+
+/// Writes an event on a line.
+fn write_event(event: &Event, text: &mut Vec<u8>) -> io::Result<()> {
+    match event {
+        Event::Client(octets) => {
+            write!(text, "\nc ")?;
+            text.extend_from_slice(octets)?;
+        }
+        Event::ClientEnd => write!(text, "\nce")?,
+        Event::ClientTook(count) => write!(text, "\nct {count}")?,
+        Event::Up(k, octets) => {
+            write!(text, "\nu {k} ")?;
+            text.extend_from_slice(octets)?;
+        }
+        Event::UpEnd(k) => write!(text, "\nue {k}")?,
+        Event::UpFailed(k) => write!(text, "\nuf {k}")?,
+        Event::UpTook(k, count) => write!(text, "\nut {k} {count}")?,
+    }
+    Ok(())
+}
+
+/// A log, a line for each event and each output.
+fn log_text(alloc: Global, log: &[(Event, Vec<Output>)]) -> io::Result<Vec<u8>> {
+    let mut text = Vec::new(alloc);
+    for (event, outputs) in log {
+        write_event(event, &mut text)?;
+        for output in outputs {
+            write_output(output, &mut text)?;
+        }
+    }
+    Ok(text)
+}
+
+/// How serving a world that gives these events ends, and what is put out.
+fn served(
+    alloc: Global,
+    authority: &[u8],
+    events: Vec<Event>,
+) -> Result<(Result<Ended, ServeFault>, Vec<u8>), Fail> {
+    let config = one_route(alloc, authority)?;
+    let mut world = MemoryWorld::new(alloc, events, None);
+    let ended = serve(alloc, &config, &mut world, 9);
+    Ok((ended, text_of(alloc, world.log())?))
+}
+
+/// Serving a world that gives these events until nothing comes any more puts this out for the request, and this for what comes then.
+fn assert_puts_out(
+    rt: &impl Abort,
+    alloc: Global,
+    events: Vec<Event>,
+    behind: &[u8],
+) -> Result<(), Fail> {
+    let (ended, text) = served(alloc, b"", events)?;
+    assert_eq!(rt; ended, Ok(Ended::Over));
+    let (first, rest) = text.split_at(FORWARDED.len().min(text.len()));
+    assert_eq!(rt; first, FORWARDED);
+    assert_eq!(rt; rest, behind);
+    Ok(())
+}
+
+#[test]
+fn responses_go_back_once_they_are_whole(rt: HostRuntime) -> Result<(), Fail> {
+    let alloc = rt.alloc();
+    assert_puts_out(&rt, alloc, exchange(alloc, &[])?, b"")?;
+    assert_puts_out(&rt, alloc, exchange(alloc, &[ANSWER])?, FRAMES)?;
+    assert_puts_out(&rt, alloc, exchange(alloc, &[b"junk"])?, BAD_GATEWAY)?;
+    assert_puts_out(&rt, alloc, exchange(alloc, &CHUNKS)?, CHUNK_FRAMES)?;
+    assert_puts_out(&rt, alloc, exchange(alloc, &CHUNKS[..2])?, b"")?;
+    let mut short = exchange(alloc, &CHUNKS[..2])?;
+    short.push(Event::UpEnd(1))?;
+    assert_puts_out(&rt, alloc, short, BAD_GATEWAY)
+}
+
+#[test]
+fn no_route_takes_the_request(rt: HostRuntime) -> Result<(), Fail> {
+    let alloc = rt.alloc();
+    let (ended, text) = served(alloc, b"a.example", exchange(alloc, &[])?)?;
+    assert_eq!(rt; ended, Ok(Ended::Over));
+    assert_eq!(rt; text.as_slice(), NOT_FOUND);
+    Ok(())
+}
+
+#[test]
+fn an_event_that_may_not_come_is_left_alone(rt: HostRuntime) -> Result<(), Fail> {
+    let alloc = rt.alloc();
+    let mut events = exchange(alloc, &[ANSWER])?;
+    events.push(Event::UpEnd(1))?;
+    let (ended, text) = served(alloc, b"", events)?;
+    assert_eq!(rt; ended, Err(ServeFault::NotAdmitted));
+    assert!(rt; text.ends_with(FRAMES));
+    Ok(())
+}
+
+/// The calls of a world that gives the request and a response: three of `next`, and five of `apply`.
+const CALLS: u64 = 8;
+
+/// How serving a world that gives the request and a response ends, where its call with this number fails, and its log.
+fn served_failing(
+    alloc: Global,
+    fail_at: u64,
+) -> Result<(Result<Ended, ServeFault>, Vec<u8>), Fail> {
+    let config = one_route(alloc, b"")?;
+    let mut world = MemoryWorld::new(alloc, exchange(alloc, &[ANSWER])?, Some(fail_at));
+    let ended = serve(alloc, &config, &mut world, 9);
+    Ok((ended, log_text(alloc, world.log())?))
+}
+
+#[test]
+fn each_call_fails_in_turn(rt: HostRuntime) -> Result<(), Fail> {
+    let (ended, whole) = served_failing(rt.alloc(), CALLS)?;
+    assert_eq!(rt; ended, Ok(Ended::Over));
+    for fail_at in 0..CALLS {
+        let (ended, text) = served_failing(rt.alloc(), fail_at)?;
+        assert_eq!(rt; ended, Err(ServeFault::World));
+        assert!(rt; whole.starts_with(&text));
+        // All stands there where the last call fails, which would have said that nothing comes any more.
+        assert_eq!(rt; text.len() == whole.len(), fail_at + 1 == CALLS);
+    }
     Ok(())
 }

@@ -2,10 +2,10 @@
 
 ghost use Rattle.std.specs.Prelude.{◌≡◌, ◌+◌, ◌<◌, ◌^◌, ◌∷◌, ◌++◌, [], ℕ, Bool, true, List, Option, Some, is_ok, IfOk, OnOk, OnErr, if◌then◌else◌};
 ghost use Rattle.model.specs.Logs.{Step};
-ghost use Rattle.gateway.specs.Views.{output_of};
+ghost use Rattle.outputs.specs.Views.{output_of};
 ghost use Rattle.worlds.specs.Worlds.{AddsEvent, SaysOver, with_outputs};
 
-use gateway::{Event, Output};
+use outputs::{Event, Output};
 use std::alloc::{AllocError, AllocFailed};
 use std::io;
 

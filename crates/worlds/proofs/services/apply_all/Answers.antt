@@ -1,5 +1,5 @@
 use Rattle.std.proofs.Common.{take, drop, ◌∙◌}
-use Rattle.gateway.specs.Views.{outputs_of}
+use Rattle.outputs.specs.Views.{outputs_of}
 use Rattle.worlds.proofs.Adding.{cut_outputs}
 use Rattle.worlds.proofs.services.apply_all.Goals as goal
 

@@ -1,6 +1,6 @@
 use Rattle.std.proofs.Common.{◌≡◌, List, [], ◌∷◌, ◌++◌, take, Some}
 use Rattle.model.specs.Logs.{Step}
-use Rattle.gateway.specs.Views.{outputs_of}
+use Rattle.outputs.specs.Views.{outputs_of}
 use Rattle.worlds.specs.Worlds.{with_outputs}
 use Rattle.worlds.proofs.services.apply_all.Given as goal
 

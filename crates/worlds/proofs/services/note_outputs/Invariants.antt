@@ -1,5 +1,5 @@
 use Rattle.std.proofs.Common.{◌≡◌, drop}
-use Rattle.gateway.specs.Views.{outputs_of}
+use Rattle.outputs.specs.Views.{outputs_of}
 use Rattle.worlds.specs.Open.{open_behind}
 use Rattle.worlds.proofs.services.note_outputs.Given as goal
 

@@ -19,6 +19,7 @@ pub loop-turn-preserved : goal.loop-turn-preserved
 loop-turn-preserved g c = record {
   calls = (let a = c.in-Ok-None.ensures.calls in let i = c.loop-turn.invariant.calls in omega arith);
   failures = c.in-Ok-None.ensures.failures ∙ c.loop-turn.invariant.failures;
+  stands = (rw c.in-Ok-None.field-0-is at c.in-Ok-None.ensures.stands) (setup_of c.args.config.now) c.loop-turn.invariant.stands;
   log = λ before e. (rw c.in-Ok-None.field-0-is at c.in-Ok-None.ensures.log) (setup_of c.args.config.now) before (c.loop-turn.invariant.log before e);
 }
 

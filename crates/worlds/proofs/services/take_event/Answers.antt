@@ -1,27 +1,34 @@
 use Rattle.std.proofs.Common.{refl, ap, not, ◌∙◌, ◌++◌, sym}
-use Rattle.gateway.proofs.Answering.{on_ok_at}
 use Rattle.worlds.specs.Worlds.{came}
-use Rattle.worlds.proofs.Adding.{Steps, serves_more, front_lacks}
+use Rattle.worlds.proofs.Adding.{Steps, stands_on, serves_more, front_lacks, on_ok_at}
 use Rattle.worlds.proofs.services.take_event.Goals as goal
 
 pub returns-then-not-admits-clause-refused : goal.returns-then-not-admits-clause-refused
-returns-then-not-admits-clause-refused g c = λ e. (refl, λ log tape stands. sym (c.admits.ensures.log log tape stands) ∙ c.if-not-admits.true)
+returns-then-not-admits-clause-refused g c = λ e. (refl, λ setup log run stands. sym (c.admits.ensures.log setup log run stands) ∙ c.if-not-admits.true)
 
-pub returns-in-Ok-clause-log : goal.returns-in-Ok-clause-log
-returns-in-Ok-clause-log g c = λ before added tape is stands still.
+pub returns-in-Ok-clause-stands : goal.returns-in-Ok-clause-stands
+returns-in-Ok-clause-stands g c =
     let steps : Steps c.args.gateway.now c.step.new.self c.args.event.now c.new-outputs.result.items c.step.new.out.items = record {
       none = c.new-outputs.ensures.items;
       puts = on_ok_at c.step.result (c.is_err.ensures.negation ∙ ap not c.if-is_err.false) c.step.ensures.stands;
     } in
-    serves_more c.args.gateway.now c.step.new.self before added tape c.args.event.now c.new-outputs.result.items c.step.new.out.items _ c.closes_client.result
+    stands_on c.args.gateway.now c.step.new.self c.args.event.now c.new-outputs.result.items c.step.new.out.items steps
+
+pub returns-in-Ok-clause-log : goal.returns-in-Ok-clause-log
+returns-in-Ok-clause-log g c = λ setup before added run is stands still.
+    let steps : Steps c.args.gateway.now c.step.new.self c.args.event.now c.new-outputs.result.items c.step.new.out.items = record {
+      none = c.new-outputs.ensures.items;
+      puts = on_ok_at c.step.result (c.is_err.ensures.negation ∙ ap not c.if-is_err.false) c.step.ensures.stands;
+    } in
+    serves_more setup c.args.gateway.now c.step.new.self before added run c.args.event.now c.new-outputs.result.items c.step.new.out.items _ c.closes_client.result
     ((rw c.deref-2.ensures.value at c.in-Ok.ensures.log) (before ++ added) (came c.args.event.now) is) steps
     (rw c.deref-in-Ok.ensures.value at c.closes_client.ensures) still stands
 
 pub returns-clause-front : goal.returns-clause-front
-returns-clause-front g c = λ e before added tape is stands.
+returns-clause-front g c = λ e setup before added run is stands.
     let steps : Steps c.args.gateway.now c.step.new.self c.args.event.now c.new-outputs.result.items c.step.new.out.items = record {
       none = c.new-outputs.ensures.items;
       puts = on_ok_at c.step.result (c.is_err.ensures.negation ∙ ap not c.if-is_err.false) c.step.ensures.stands;
     } in
     let cut = (rw c.deref-2.ensures.value at c.in-Err.ensures.front) (before ++ added) (came c.args.event.now) is in
-    front_lacks c.args.gateway.now c.step.new.self before added tape c.args.event.now c.new-outputs.result.items c.step.new.out.items _ cut.0 cut.1 cut.2 cut.3 steps stands
+    front_lacks setup c.args.gateway.now c.step.new.self before added run c.args.event.now c.new-outputs.result.items c.step.new.out.items _ cut.0 cut.1 cut.2 cut.3 steps stands

@@ -1,18 +1,14 @@
 -- A gateway can be set up with what a table configures.
-use Rattle.std.proofs.Common.{◌≡◌, ◌≤◌, ℕ, ℤ, Option, Some, None, List, ap, arith}
-use Rattle.toml.specs.Data.{Members}
-use Rattle.gateway.specs.Setups.{setup_of, policy_of, passing_of, IsServable}
+use Rattle.std.proofs.Common.{◌≡◌, ◌≤◌, ℕ, ℤ, suc, Option, Some, None, List, [], ◌∷◌, length, map, refl, ap, ◌∙◌, arith}
+use Rattle.std.proofs.lemmas.List.{length-map}
+use Rattle.toml.specs.Data.{Members, Items}
+use Rattle.gateway.specs.Setups.{setup_of, route_of, passing_of, IsServable}
 use Rattle.gateway.specs.declared.config.Config.{Config}
-use Rattle.gateway.specs.declared.config.Policy.{Policy}
-use Rattle.gateway.specs.declared.config.Policy.TheVariants.{Plain}
+use Rattle.gateway.specs.declared.config.Route.{Route}
 use Rattle.gateway.specs.declared.config.Passing.{Passing}
 use Rattle.gateway.specs.declared.config.Passing.TheVariants.{Whole}
-use Rattle.configuration.specs.Configs.{IsConfig, Configures}
-use Rattle.configuration.specs.Keys.{IsPolicy, IsPassing, IsMost}
-
-plain : (text : Option (Option (List ℕ))) (policy : Policy) → IsPolicy text policy → policy ≡ Plain
-plain None policy is = is
-plain (Some text) policy is = is.1
+use Rattle.configuration.specs.Configs.{IsConfig, AreRoutes, Configures}
+use Rattle.configuration.specs.Keys.{IsPassing, IsMost, AreTables}
 
 whole : (text : Option (Option (List ℕ))) (passing : Passing) → IsPassing text passing → passing ≡ Whole
 whole None passing is = is
@@ -22,12 +18,26 @@ most : (number : Option (Option ℤ)) (n : ℕ) → IsMost number n → n ≤ 10
 most None n is = rw is (omega arith)
 most (Some number) n is = is.1
 
+-- One route for each table, and few enough tables.
+as_many : (tables : List Members) (routes : List Route) → AreRoutes tables routes → length routes ≡ length tables
+as_many [] [] are = refl
+as_many [] (r ∷ routes) are = absurd are
+as_many (t ∷ tables) [] are = absurd are
+as_many (t ∷ tables) (r ∷ routes) are = ap suc (as_many tables routes are.1)
+
+few : (values : Option (Option Items)) (tables : List Members) → AreTables values tables → length tables ≤ 4294967295
+few None tables are = rw are (omega arith)
+few (Some items) tables are = are.1
+
 pub servable : (entries : Members) (config : Config) → IsConfig entries config → IsServable (setup_of config)
-servable entries config is = record {
-  plain = ap policy_of (plain _ config.policy is.policy);
+servable entries config is =
+    let count : length (map route_of config.routes.items) ≡ length is.tables = length-map config.routes.items route_of ∙ as_many is.tables config.routes.items is.routes in
+    let most_tables : length is.tables ≤ 4294967295 = few _ is.tables is.are_tables in
+    record {
   whole = ap passing_of (whole _ config.passing is.passing);
   body = most _ config.max_body is.max_body;
   response = most _ config.max_response is.max_response;
+  few = omega arith;
 }
 
 pub servable_of : (found : Option Members) (config : Config) → Configures found config → IsServable (setup_of config)

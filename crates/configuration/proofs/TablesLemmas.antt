@@ -1,5 +1,5 @@
 -- Values that are tables, and the routes that tables are.
-use Rattle.std.proofs.Common.{◌≡◌, ℕ, true, false, ◌&&◌, List, [], ◌∷◌, ◌++◌, map, Option, Some, None, is_some, option_map, String, Global, BTreeMap, string_bytes, refl, ap, ap₂, sym, ◌∙◌, subst}
+use Rattle.std.proofs.Common.{◌≡◌, ◌<◌, ◌≤◌, ℕ, suc, true, false, ◌&&◌, List, [], ◌∷◌, ◌++◌, length, map, Option, Some, None, is_some, option_map, String, Global, BTreeMap, string_bytes, refl, ap, ap₂, sym, ◌∙◌, subst, arith}
 use Rattle.std.specs.List.{list_all}
 use Rattle.std.specs.BTreeMap.{keys}
 use Rattle.std.proofs.lemmas.Bool.{and_parts}
@@ -43,26 +43,48 @@ no_tables (v ∷ vs) (t ∷ ts) f e =
     let same = same_item (view v) (table t) (items_view vs) (items_of (map table ts)) e in
     no_tables vs ts (subst (λ d. (is_some (as_table d) && list_all (λ x. is_some (as_table (view x))) vs) ≡ false) same.0 f) same.1
 
--- The values of an array at a key are tables.
-pub routes_found : (o : Option Data) (d : Data) (vs : List Value) → o ≡ Some d → Some (items_view vs) ≡ as_array d
+-- As many tables as values.
+as_many : (vs : List Value) (ts : List Members) → items_view vs ≡ items_of (map table ts) → length vs ≡ length ts
+as_many [] [] e = refl
+as_many [] (t ∷ ts) e = let bad : no_items ≡ item (table t) (items_of (map table ts)) = e in absurd (cc)
+as_many (v ∷ vs) [] e = let bad : item (view v) (items_view vs) ≡ no_items = e in absurd (cc)
+as_many (v ∷ vs) (t ∷ ts) e =
+    let same = same_item (view v) (table t) (items_view vs) (items_of (map table ts)) e in
+    ap suc (as_many vs ts same.1)
+
+-- The values of an array at a key are tables, and few enough.
+pub routes_found : (o : Option Data) (d : Data) (vs : List Value) → o ≡ Some d → Some (items_view vs) ≡ as_array d → length vs ≤ 4294967295
     → list_all (λ v. is_some (as_table (view v))) vs ≡ true → (tables : List Members) × (map view vs ≡ map table tables) × AreTables (option_map as_array o) tables
-routes_found o d vs at is all =
+routes_found o d vs at is few all =
     let tables = tables_of vs all in
-    (tables.0, tables.1, rw at (sym is ∙ ap (λ l. Some (items_of l)) tables.1))
+    let same : items_view vs ≡ items_of (map table tables.0) = ap items_of tables.1 in
+    let count : length vs ≡ length tables.0 = as_many vs tables.0 same in
+    (tables.0, tables.1, rw at (sym is ∙ ap (λ l. Some l) same, omega arith))
 
 -- The values of an array at a key aren't all tables.
 pub no_routes_found : (o : Option Data) (d : Data) (vs : List Value) → o ≡ Some d → Some (items_view vs) ≡ as_array d
     → list_all (λ v. is_some (as_table (view v))) vs ≡ false → (tables : List Members) → AreTables (option_map as_array o) tables → ⊥
 no_routes_found o d vs at is not_all tables are =
-    let found : as_array d ≡ Some (items_of (map table tables)) = (rw at at are) in
+    let found : as_array d ≡ Some (items_of (map table tables)) = (rw at at are).0 in
     let both : Some (items_view vs) ≡ Some (items_of (map table tables)) = is ∙ found in
     let same : items_view vs ≡ items_of (map table tables) = cc in
     no_tables vs tables not_all same
 
+-- The values of an array at a key are too many.
+pub too_many_found : (o : Option Data) (d : Data) (vs : List Value) → o ≡ Some d → Some (items_view vs) ≡ as_array d → 4294967295 < length vs
+    → (tables : List Members) → AreTables (option_map as_array o) tables → ⊥
+too_many_found o d vs at is many tables are =
+    let found : (as_array d ≡ Some (items_of (map table tables))) × (length tables ≤ 4294967295) = (rw at at are) in
+    let both : Some (items_view vs) ≡ Some (items_of (map table tables)) = is ∙ found.0 in
+    let same : items_view vs ≡ items_of (map table tables) = cc in
+    let count : length vs ≡ length tables = as_many vs tables same in
+    let few : length tables ≤ 4294967295 = found.1 in
+    omega arith
+
 -- What stands at a key is no array.
 pub no_array_found : (o : Option Data) (d : Data) → o ≡ Some d → as_array d ≡ None → (tables : List Members) → AreTables (option_map as_array o) tables → ⊥
 no_array_found o d at is tables are =
-    let found : as_array d ≡ Some (items_of (map table tables)) = (rw at at are) in
+    let found : as_array d ≡ Some (items_of (map table tables)) = (rw at at are).0 in
     let both : None ≡ Some (items_of (map table tables)) = sym is ∙ found in
     absurd (cc)
 

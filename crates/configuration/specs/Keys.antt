@@ -1,11 +1,11 @@
 -- What the keys of a configuration say: one relation for each, from what stands at the key.
-use Rattle.std.specs.Prelude.{◌≡◌, ◌≤◌, ℕ, ℤ, pos, List, [], ◌++◌, map, Option, Some, None, option_map, codes}
+use Rattle.std.specs.Prelude.{◌≡◌, ◌≤◌, ℕ, ℤ, pos, List, [], ◌++◌, length, map, Option, Some, None, option_map, codes}
 use Rattle.std.specs.declared.net.socket_addr.SocketAddr.{SocketAddr}
 use Rattle.std.specs.Net.Grammar.{IsSocketText}
 use Rattle.toml.specs.Data.{Members, Items, table, get_member, as_str, as_integer, as_array}
 use Rattle.toml.specs.View.{items_of}
 use Rattle.gateway.specs.declared.config.Policy.{Policy}
-use Rattle.gateway.specs.declared.config.Policy.TheVariants.{Plain}
+use Rattle.gateway.specs.declared.config.Policy.TheVariants.{Plain, Indexing}
 use Rattle.gateway.specs.declared.config.Passing.{Passing}
 use Rattle.gateway.specs.declared.config.Passing.TheVariants.{Whole}
 use Rattle.configuration.specs.declared.faults.Key.{Key}
@@ -25,10 +25,15 @@ number_at key entries = option_map as_integer (get_member key entries)
 abbrev pub array_at : List ℕ → Members → Option (Option Items)
 array_at key entries = option_map as_array (get_member key entries)
 
--- `policy`: "plain", which is the default. Nothing else is taken yet.
+-- how a policy is written
+abbrev pub name_of_policy : Policy → List ℕ
+name_of_policy Plain = codes "plain"
+name_of_policy Indexing = codes "indexing"
+
+-- `policy`: the name of one, and "plain" by default.
 abbrev pub IsPolicy : Option (Option (List ℕ)) → Policy → Type 0
 IsPolicy None policy = policy ≡ Plain
-IsPolicy (Some text) policy = (text ≡ Some (codes "plain")) × (policy ≡ Plain)
+IsPolicy (Some text) policy = text ≡ Some (name_of_policy policy)
 
 -- `passing`: "whole", which is the default. Nothing else is taken yet.
 abbrev pub IsPassing : Option (Option (List ℕ)) → Passing → Type 0
@@ -40,10 +45,10 @@ abbrev pub IsMost : Option (Option ℤ) → ℕ → Type 0
 IsMost None most = most ≡ 1048576
 IsMost (Some number) most = (number ≡ Some (pos most)) × (most ≤ 1073741824)
 
--- `route`: an array of tables, and none by default.
+-- `route`: an array of tables, and none by default. A route's place is a number of 32 bits, so there are at most 4,294,967,295.
 abbrev pub AreTables : Option (Option Items) → List Members → Type 0
 AreTables None tables = tables ≡ []
-AreTables (Some items) tables = items ≡ Some (items_of (map table tables))
+AreTables (Some items) tables = (items ≡ Some (items_of (map table tables))) × (length tables ≤ 4294967295)
 
 -- `authority` of a route: a text, and empty by default.
 abbrev pub IsAuthority : Option (Option (List ℕ)) → List ℕ → Type 0

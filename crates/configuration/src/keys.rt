@@ -10,6 +10,9 @@ use gateway::{Passing, Policy};
 use std::net::SocketAddr;
 use toml::{Table, Value};
 
+/// The most routes: the place of each is a number of 32 bits.
+const MOST_ROUTES: usize = 4_294_967_295;
+
 /// The value at a key.
 fn value_at<'a>(table: &'a Table, key: &str) -> Option<&'a Value>
     ensures { option_map (λ value. view value.now) result ≡ get_member key.now (table_view table.now) }
@@ -43,6 +46,7 @@ pub fn policy_in(table: &Table) -> Option<Policy>
 {
     match text_at(table, "policy") {
         None | Some(Some("plain")) => Some(Policy::Plain),
+        Some(Some("indexing")) => Some(Policy::Indexing),
         Some(_) => None,
     }
 }
@@ -100,7 +104,7 @@ pub fn upstream_in(table: &Table) -> Option<&str>
     }
 }
 
-/// The tables of the routes.
+/// The tables of the routes, of which there aren't too many.
 pub fn routes_in(table: &Table) -> Option<&[Value]>
     ensures { MatchOption result (Lacks (AreTables (array_at (codes "route") (table_view table.now)))) (λ values. (tables : List Members) × (map view values.now ≡ map as_data tables) × AreTables (array_at (codes "route") (table_view table.now)) tables) }
 {
@@ -108,6 +112,9 @@ pub fn routes_in(table: &Table) -> Option<&[Value]>
         return Some(&[]);
     };
     let values = value.as_array()?;
+    if values.len() > MOST_ROUTES {
+        return None;
+    }
     if are_tables(values) {
         Some(values)
     } else {

@@ -3,10 +3,10 @@
 
 mod faults;
 mod keys;
-mod tables;
+mod reading;
 
 pub use faults::{ConfigFault, Key};
-pub use tables::read_config;
+pub use reading::read_config;
 
 #[cfg(test)]
 mod tests;

@@ -39,6 +39,15 @@ fn defaults(rt: HostRuntime) -> Result<(), Fail> {
 }
 
 #[test]
+fn both_policies(rt: HostRuntime) -> Result<(), Fail> {
+    let plain = taken(&rt, rt.alloc(), "policy = \"plain\"");
+    assert!(rt; matches!(plain.policy, Policy::Plain));
+    let indexing = taken(&rt, rt.alloc(), "policy = \"indexing\"");
+    assert!(rt; matches!(indexing.policy, Policy::Indexing));
+    Ok(())
+}
+
+#[test]
 fn all_keys(rt: HostRuntime) -> Result<(), Fail> {
     let text =
         "policy = \"plain\"\npassing = \"whole\"\nmax_body = 0\nmax_response = 1_073_741_824\n\
@@ -63,7 +72,7 @@ fn all_keys(rt: HostRuntime) -> Result<(), Fail> {
 #[test]
 fn wrong_keys(rt: HostRuntime) -> Result<(), Fail> {
     let alloc = rt.alloc();
-    for text in ["policy = \"x\"", "policy = \"indexing\"", "policy = 1"] {
+    for text in ["policy = \"x\"", "policy = \"Indexing\"", "policy = 1"] {
         assert_bad(&rt, alloc, text, Key::Policy);
     }
     for text in ["passing = \"x\"", "passing = \"streaming\"", "passing = []"] {

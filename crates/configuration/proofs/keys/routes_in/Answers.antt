@@ -2,7 +2,7 @@ use Rattle.std.proofs.Common.{◌∙◌, sym, ap, Some, is_some}
 use Rattle.std.specs.List.{list_all}
 use Rattle.toml.specs.Data.{as_table}
 use Rattle.toml.specs.View.{view, items_view}
-use Rattle.configuration.proofs.TablesLemmas.{routes_found, no_routes_found}
+use Rattle.configuration.proofs.TablesLemmas.{routes_found, no_routes_found, too_many_found}
 use Rattle.configuration.proofs.keys.routes_in.Goals as goal
 
 pub returns-then-are_tables : goal.returns-then-are_tables

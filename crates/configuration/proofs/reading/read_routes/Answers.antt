@@ -1,7 +1,7 @@
 use Rattle.std.proofs.Common.{◌≡◌, sym, ◌++◌, ◌∷◌, [], arith}
 use Rattle.std.proofs.lemmas.Grind.{common_steps}
 use Rattle.configuration.proofs.RoutesLemmas.{no_routes, routes_more, routes_fail, never_tables}
-use Rattle.configuration.proofs.tables.read_routes.Goals as goal
+use Rattle.configuration.proofs.reading.read_routes.Goals as goal
 
 pub loop-value-init : goal.loop-value-init
 loop-value-init c = rw c.new-routes.ensures.items no_routes

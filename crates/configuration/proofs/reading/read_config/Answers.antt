@@ -1,7 +1,7 @@
 use Rattle.std.proofs.lemmas.Result.{IfOk-weaker}
 use Rattle.configuration.proofs.Servable.{servable}
 use Rattle.configuration.proofs.ConfigsLemmas.{no_toml, not_both}
-use Rattle.configuration.proofs.tables.read_config.Goals as goal
+use Rattle.configuration.proofs.reading.read_config.Goals as goal
 
 pub returns-else-is_memory-clause-err : goal.returns-else-is_memory-clause-err
 returns-else-is_memory-clause-err c =

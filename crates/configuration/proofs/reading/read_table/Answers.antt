@@ -4,7 +4,7 @@ use Rattle.configuration.specs.Configs.{table_names}
 use Rattle.configuration.specs.declared.faults.Key.TheVariants as key
 use Rattle.configuration.proofs.TablesLemmas.{only_keys}
 use Rattle.configuration.proofs.ConfigsLemmas.{right_keys, routes_fault, has_unknown, unknown_in_table, unknown_in_routes, all_known}
-use Rattle.configuration.proofs.tables.read_table.Goals as goal
+use Rattle.configuration.proofs.reading.read_table.Goals as goal
 
 pub returns-in_default-clause-err : goal.returns-in_default-clause-err
 returns-in_default-clause-err c =

@@ -1,6 +1,6 @@
 use Rattle.std.proofs.Common.{[], ◌∷◌, refl}
 use Rattle.configuration.specs.declared.faults.Key.TheVariants.{Authority, Prefix, Upstream}
-use Rattle.configuration.proofs.tables.read_route.Goals as goal
+use Rattle.configuration.proofs.reading.read_route.Goals as goal
 
 pub returns-in_default-clause-err : goal.returns-in_default-clause-err
 returns-in_default-clause-err c = record { before = []; after = Prefix ∷ Upstream ∷ []; parts = refl; right = tt; wrong = λ r. c.in_default.ensures r.0 r.1 }

@@ -20,11 +20,11 @@ use toml::{Table, Value};
 
 /// Reads a configuration, which is a table of TOML. Each key may be left out but the two that a route needs:
 ///
-/// - `policy`, how header blocks are written: `"plain"`, the default. `"indexing"` isn't taken yet.
+/// - `policy`, how header blocks are written: `"plain"`, the default, or `"indexing"`.
 /// - `passing`, how bodies are passed on: `"whole"`, the default. `"streaming"` isn't taken yet.
 /// - `max_body` and `max_response`, the most octets of a request's and a response's body: 0 to 1,073,741,824, and 1,048,576
 ///   by default.
-/// - `route`, an array of tables, none by default, each with
+/// - `route`, an array of at most 4,294,967,295 tables, none by default, each with
 ///   - `authority`, that of the requests: a text, empty by default, which is any authority;
 ///   - `prefix`, what their paths begin with: a text that begins with `/`;
 ///   - `upstream`, where they go: a numeric address and port.

@@ -244,7 +244,10 @@ impl Gateway {
             Event::Up(k, octets) => hear(alloc, rooms, *k, octets, out),
             Event::UpEnd(k) => end(alloc, rooms, *k, out),
             Event::UpFailed(k) => fail(alloc, rooms, *k, out),
-            Event::UpTook(k, count) => up_took(alloc, rooms, *k, *count, out),
+            Event::UpTook(k, count) => {
+                up_took(rooms, *k, *count);
+                Ok(Went::On)
+            }
         }
     }
 

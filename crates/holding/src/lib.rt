@@ -1,0 +1,2 @@
+//! What the gateway's rooms keep.
+#![tactic(auto)]

@@ -1,13 +1,13 @@
 -- Of a connection that is open where the gateway rests: its stream is active and isn't answered by the gateway, and its response isn't whole.
 -- So no body is on offer for it where responses are passed on whole, and what its answer holds is bounded.
-use Rattle.std.proofs.Common.{◌≡◌, ℕ, ◌+◌, ◌*◌, ◌≤◌, Bool, true, false, not, ◌&&◌, List, [], ◌∷◌, ◌++◌, length, length-append, Option, Some, None, refl, sym, ◌∙◌, ap, subst, inl, inr, arith}
-use Rattle.std.specs.Prelude.{is_none, All}
+use Rattle.std.proofs.Common.{◌≡◌, ℕ, ◌+◌, ◌*◌, ◌≤◌, Bool, true, false, not, List, [], ◌++◌, length, length-append, Option, Some, None, refl, sym, ◌∙◌, ap, subst, inl, inr, arith}
+use Rattle.std.specs.Prelude.{is_none}
 use Rattle.std.proofs.lemmas.Bool.{or_parts, and_parts}
 use Rattle.model.specs.ResponseHeads.{Head, longest_section}
 use Rattle.model.specs.Responses.{Seen, IsComplete}
 use Rattle.model.specs.Setup.Passing.{Whole, Streaming}
 use Rattle.model.specs.Tapes.{Entry}
-use Rattle.model.specs.Openings.{Opened, opens, given, exchange_on}
+use Rattle.model.specs.Openings.{Opened, opens, given}
 use Rattle.model.specs.Deliveries.{Delivery}
 use Rattle.model.specs.Available.{heard, has_ended, shown, IsIn, IsShown}
 use Rattle.model.specs.Known.{Known}
@@ -18,12 +18,12 @@ use Rattle.model.specs.Lifetimes.{is_active}
 use Rattle.model.proofs.DeliveryReadings.{one_connection}
 use Rattle.model.proofs.GivenLaws.{given_is}
 use Rattle.h1_reader.specs.Parts.{Part}
-use Rattle.h1_reader.specs.Standing.{Stands as Reads, StandsAt}
+use Rattle.h1_reader.specs.Standing.{StandsAt}
 use Rattle.h1_reader.specs.declared.reader.Place.{Place}
 use Rattle.h1_reader.specs.declared.reader.Place.TheVariants as place
 use Rattle.read_answers.specs.Telling.{head_of, body_of, all_told}
 use Rattle.read_answers.proofs.Reading.{told_shown}
-use Rattle.answers.specs.Waiting.{Answer, passing_in, Waits}
+use Rattle.answers.specs.Waiting.{Answer, Waits}
 use Rattle.offering.specs.Outbox.{Outbox, offered_by}
 use Rattle.offering.specs.Outbox.Outbox.{Before, Behind, Over}
 use Rattle.offering.specs.Held.{body_waiting}
@@ -34,7 +34,7 @@ use Rattle.offering.proofs.BodySizes.{whole_seen}
 use Rattle.offering.proofs.Limits.{NoneTooLong, seen_kept}
 use Rattle.serving.specs.Told.{is_served, Told, IsTold}
 use Rattle.serving.specs.State.{Live, live_of, State}
-use Rattle.serving.specs.Rule.{is_done, Rests}
+use Rattle.serving.specs.Rule.{Rests}
 use Rattle.serving.specs.Meaning.{IsAllHeard, Verdict}
 use Rattle.serving.proofs.Standing.{Stands}
 use Rattle.serving.proofs.Fitting.{not_not}
@@ -148,6 +148,14 @@ module _ (known : Known) (t : List Entry) (k : ℕ) (live : Live) (answer : Answ
 
   pub answer_small : length answer.reader.held ≤ longest_section → octets_of answer ≤ known.setup.max_response + 2 * longest_section
   answer_small unread = let head = head_short in let body = body_short in omega (arith, unread, head, body)
+
+-- Where it is passed on as it comes nothing of it waits but what is unread.
+pub answer_streamed : (known : Known) (t : List Entry) (k : ℕ) (answer : Answer) → known.setup.passing ≡ Streaming → IsHeard known t k answer → length answer.reader.held ≤ longest_section → octets_of answer ≤ longest_section
+answer_streamed known t k answer streaming h unread =
+    let waits : (answer.head ≡ None) × (answer.body ≡ []) = subst (λ p. Waits p h.parts answer) (h.set_up.passing ∙ streaming) h.waits in
+    let head : head_waiting answer.head ≡ 0 = ap head_waiting waits.0 in
+    let body : length answer.body ≡ 0 = ap length waits.1 in
+    omega (arith, unread, head, body)
 
 -- ---- what its reader holds
 

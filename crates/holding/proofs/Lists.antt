@@ -1,5 +1,5 @@
 -- Sums over what is kept for streams, and over streams.
-use Rattle.std.proofs.Common.{◌≡◌, ℕ, suc, ◌+◌, ◌*◌, ◌≤◌, Bool, true, false, ◌==◌, ◌||◌, if◌then◌else◌, List, [], ◌∷◌, map, length, Option, Some, None, refl, sym, ◌∙◌, ap, subst, inl, inr, arith}
+use Rattle.std.proofs.Common.{◌≡◌, ℕ, ◌+◌, ◌*◌, ◌≤◌, Bool, true, false, ◌==◌, if◌then◌else◌, List, [], ◌∷◌, map, length, Option, Some, None, refl, sym, ◌∙◌, ap, subst, inl, inr, arith}
 use Rattle.std.specs.Prelude.{is_some, sum_by, option_map, All}
 use Rattle.std.specs.List.{list_any}
 use Rattle.std.proofs.lemmas.Bool.{or_parts, eq-eqb, ne_eqb, eqb-true}
@@ -78,8 +78,8 @@ connection_at P key n (c ∷ cs) x all found = by (key c == n) found (connection
 number_beside : (c : Connection) (cs : List Connection) (n : ℕ) (x : Connection) → live_of c.live.k (lives cs) ≡ None → find number_of n cs ≡ Some x → (c.live.k == n) ≡ false
 number_beside c cs n x none found =
     ne_eqb c.live.k n (λ same.
-        let clash : ◌≡◌ {A = Option Live} None (Some x.live) = sym none ∙ ap (λ m. live_of m (lives cs)) same ∙ lives_found n cs ∙ ap (option_map (λ (d : Connection). d.live)) found in
-        cc)
+    let clash : ◌≡◌ {A = Option Live} None (Some x.live) = sym none ∙ ap (λ m. live_of m (lives cs)) same ∙ lives_found n cs ∙ ap (option_map (λ (d : Connection). d.live)) found in
+    cc)
 
 pub found_behind : (c : Connection) (cs : List Connection) (n : ℕ) (x : Connection) → live_of c.live.k (lives cs) ≡ None → find number_of n cs ≡ Some x → find number_of n (c ∷ cs) ≡ Some x
 found_behind c cs n x none found = ap (λ b. if b then Some c else find number_of n cs) (number_beside c cs n x none found) ∙ found

@@ -1,7 +1,8 @@
-use Rattle.std.proofs.Common.{Some, refl, sym, subst}
+use Rattle.std.proofs.Common.{◌<◌, Some, refl, sym, subst}
 use Rattle.model.specs.Logs.Event.{ClientTook}
 use Rattle.model.specs.Tapes.Entry.{Happened}
-use Rattle.relay.specs.View.{square}
+use Rattle.model.specs.Admission.{high_water}
+use Rattle.relay.specs.View.{View, square}
 use Rattle.steps.specs.Inputs.Input.{OfEvent}
 use Rattle.steps.specs.Resting.{now_of, IsSettled}
 use Rattle.steps.proofs.Following.{comes_then}
@@ -26,4 +27,4 @@ returns-then-were_few-clause-comes c setup whole =
     comes_then setup c.args.rooms.now c.note_client_took.new.rooms square square square c.args.out.now c.args.out.now c.args.out.now (Happened (ClientTook c.args.count)) (OfEvent (ClientTook c.args.count)) (Some c.note_client_took.new.rooms) refl (c.note_client_took.ensures.brings setup c.args.out.now) (follows_none setup c.note_client_took.new.rooms c.args.out.now)
 
 pub returns-then-were_few-clause-rests : goal.returns-then-were_few-clause-rests
-returns-then-were_few-clause-rests c = subst IsSettled (sym c.note_client_took.ensures.counts) (client_rests c.args.rooms.now c.args.count c.if-were_few.true c.requires.settled)
+returns-then-were_few-clause-rests c = subst IsSettled (sym c.note_client_took.ensures.counts) (client_rests c.args.rooms.now c.args.count (subst (λ (v : View). v.untaken < high_water) c.rooms.view_is c.if-were_few.true) c.requires.settled)

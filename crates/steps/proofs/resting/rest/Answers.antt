@@ -1,8 +1,8 @@
-use Rattle.std.proofs.Common.{◌≡◌, true, Some, None, sym, ◌∙◌, subst}
+use Rattle.std.proofs.Common.{◌≡◌, true, Some, None, sym, ◌∙◌, ap, subst}
 use Rattle.judgement.specs.Inbound.{Inbound}
 use Rattle.offering.specs.State as offering
 use Rattle.streams_kept.specs.Asked.{has}
-use Rattle.relay.specs.View.{square}
+use Rattle.relay.specs.View.{View, square}
 use Rattle.relay.specs.Rest.{NoneCut, NoneDone}
 use Rattle.steps.proofs.Ends.{shut_follows}
 use Rattle.steps.proofs.Following.{follows_own, follows_then}
@@ -22,7 +22,7 @@ pub flush-requires-clause-numbered : goal.flush-requires-clause-numbered
 flush-requires-clause-numbered c id kept = c.requires.numbered id (subst (λ (i : Inbound). has i.rows id ≡ true) c.in_ok-close_done.ensures.inbound kept)
 
 pub shut-requires : goal.shut-requires
-shut-requires c = record { spent = ends_as c.close_behind.new.rooms _ c.is_spent.result c.rooms.view_is c.is_spent.ensures ∙ c.if-is_spent.true }
+shut-requires c = record { spent = ends_as c.close_behind.new.rooms _ c.is_spent.result c.rooms-2.view_is c.is_spent.ensures ∙ c.if-is_spent.true }
 
 pub returns-then-is_spent-clause-follows : goal.returns-then-is_spent-clause-follows
 returns-then-is_spent-clause-follows c setup whole =
@@ -43,7 +43,7 @@ returns-clause-rests c =
     let flushed = c.in_ok-flush.ensures in
     record {
       rest = record {
-        goes_on = ends_as c.close_behind.new.rooms _ c.is_spent.result c.rooms.view_is c.is_spent.ensures ∙ c.if-is_spent.false;
+        goes_on = ends_as c.close_behind.new.rooms _ c.is_spent.result c.rooms-2.view_is c.is_spent.ensures ∙ c.if-is_spent.false;
         none_cut = subst (λ (o : offering.State). NoneCut o) (sym closed.offers) flushed.none_cut;
         none_done = closed.none_done;
         flushed = flushed_stays c.flush.new.rooms c.close_behind.new.rooms closed.inbound closed.offers closed.untaken flushed.flushed;
@@ -52,4 +52,4 @@ returns-clause-rests c =
     }
 
 pub close_behind-requires : goal.close_behind-requires
-close_behind-requires c = λ same. subst NoneDone (sym (c.in_ok-flush.ensures.idle same)) c.in_ok-close_done.ensures.none_done
+close_behind-requires c = record { idle = λ same. subst NoneDone (sym (c.in_ok-flush.ensures.idle (same ∙ ap (λ (v : View). v.untaken) c.rooms.view_is))) c.in_ok-close_done.ensures.none_done }

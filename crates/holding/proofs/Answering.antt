@@ -1,6 +1,6 @@
 -- Of a connection that is open where the gateway rests: its stream is active and isn't answered by the gateway, and its response isn't whole.
 -- So no body is on offer for it where responses are passed on whole, and what its answer holds is bounded.
-use Rattle.std.proofs.Common.{◌≡◌, ℕ, ◌+◌, ◌*◌, ◌≤◌, Bool, true, false, not, List, [], ◌++◌, length, length-append, Option, Some, None, refl, sym, ◌∙◌, ap, subst, inl, inr, arith}
+use Rattle.std.proofs.Common.{◌≡◌, ℕ, ◌+◌, ◌*◌, ◌≤◌, true, false, not, List, [], ◌++◌, length, length-append, Option, Some, None, refl, sym, ◌∙◌, ap, subst, inl, inr, arith}
 use Rattle.std.specs.Prelude.{is_none}
 use Rattle.std.proofs.lemmas.Bool.{or_parts, and_parts}
 use Rattle.model.specs.ResponseHeads.{Head, longest_section}
@@ -17,10 +17,6 @@ use Rattle.model.specs.Offers.{is_to_head}
 use Rattle.model.specs.Lifetimes.{is_active}
 use Rattle.model.proofs.DeliveryReadings.{one_connection}
 use Rattle.model.proofs.GivenLaws.{given_is}
-use Rattle.h1_reader.specs.Parts.{Part}
-use Rattle.h1_reader.specs.Standing.{StandsAt}
-use Rattle.h1_reader.specs.declared.reader.Place.{Place}
-use Rattle.h1_reader.specs.declared.reader.Place.TheVariants as place
 use Rattle.read_answers.specs.Telling.{head_of, body_of, all_told}
 use Rattle.read_answers.proofs.Reading.{told_shown}
 use Rattle.answers.specs.Waiting.{Answer, Waits}

@@ -1,6 +1,6 @@
 -- Of a connection that is open where the gateway rests: its stream is active and isn't answered by the gateway, and its response isn't whole.
 -- So no body is on offer for it where responses are passed on whole, and what its answer holds is bounded.
-use Rattle.std.proofs.Common.{◌≡◌, ℕ, ◌+◌, ◌*◌, ◌≤◌, Bool, true, false, not, List, [], ◌++◌, length, length-append, Option, Some, None, refl, sym, ◌∙◌, ap, subst, inl, inr, arith}
+use Rattle.std.proofs.Common.{◌≡◌, ℕ, ◌+◌, ◌*◌, ◌≤◌, true, false, not, List, [], ◌++◌, length, length-append, Option, Some, None, refl, sym, ◌∙◌, ap, subst, inl, inr, arith}
 use Rattle.std.specs.Prelude.{is_none}
 use Rattle.std.proofs.lemmas.Bool.{or_parts, and_parts}
 use Rattle.model.specs.ResponseHeads.{Head, longest_section}
@@ -17,10 +17,6 @@ use Rattle.model.specs.Offers.{is_to_head}
 use Rattle.model.specs.Lifetimes.{is_active}
 use Rattle.model.proofs.DeliveryReadings.{one_connection}
 use Rattle.model.proofs.GivenLaws.{given_is}
-use Rattle.h1_reader.specs.Parts.{Part}
-use Rattle.h1_reader.specs.Standing.{StandsAt}
-use Rattle.h1_reader.specs.declared.reader.Place.{Place}
-use Rattle.h1_reader.specs.declared.reader.Place.TheVariants as place
 use Rattle.read_answers.specs.Telling.{head_of, body_of, all_told}
 use Rattle.read_answers.proofs.Reading.{told_shown}
 use Rattle.answers.specs.Waiting.{Answer, Waits}
@@ -41,7 +37,7 @@ use Rattle.serving.proofs.Fitting.{not_not}
 use Rattle.serving.proofs.Clauses.{none_done}
 use Rattle.serving.proofs.Closing.{found_live, same_live}
 use Rattle.relay.specs.Hearing.{IsHeard}
-use Rattle.holding.specs.Held.{head_waiting, octets_of, KeepsUnread}
+use Rattle.holding.specs.Held.{head_waiting, octets_of}
 
 -- An open connection that isn't done with.
 pub record Answering (known : Known) (t : List Entry) (k : ℕ) (live : Live) : Type 0 where
@@ -146,31 +142,14 @@ module _ (known : Known) (t : List Entry) (k : ℕ) (live : Live) (answer : Answ
           let same : length (body_of h.parts) ≡ length b.octets = ap (λ (d : Delivery). length d.body) b.says in
           omega (arith, short, same)
 
-  pub answer_small : length answer.reader.held ≤ longest_section → octets_of answer ≤ known.setup.max_response + 2 * longest_section
-  answer_small unread = let head = head_short in let body = body_short in omega (arith, unread, head, body)
+  pub answer_small : octets_of answer ≤ known.setup.max_response + 2 * longest_section
+  answer_small = let unread = h.short in let head = head_short in let body = body_short in omega (arith, unread, head, body)
 
 -- Where it is passed on as it comes nothing of it waits but what is unread.
-pub answer_streamed : (known : Known) (t : List Entry) (k : ℕ) (answer : Answer) → known.setup.passing ≡ Streaming → IsHeard known t k answer → length answer.reader.held ≤ longest_section → octets_of answer ≤ longest_section
-answer_streamed known t k answer streaming h unread =
+pub answer_streamed : (known : Known) (t : List Entry) (k : ℕ) (answer : Answer) → known.setup.passing ≡ Streaming → IsHeard known t k answer → octets_of answer ≤ longest_section
+answer_streamed known t k answer streaming h =
+    let unread = h.short in
     let waits : (answer.head ≡ None) × (answer.body ≡ []) = subst (λ p. Waits p h.parts answer) (h.set_up.passing ∙ streaming) h.waits in
     let head : head_waiting answer.head ≡ 0 = ap head_waiting waits.0 in
     let body : length answer.body ≡ 0 = ap length waits.1 in
     omega (arith, unread, head, body)
-
--- ---- what its reader holds
-
-unread_at : (at : Place) (alone : Bool) (held text : List ℕ) (parts : List Part) → KeepsUnread at → StandsAt at alone held text parts → length held ≤ longest_section
-unread_at (place.Head count) alone held text parts keeps stands = stands.short
-unread_at place.Trailers alone held text parts keeps stands = stands.short
-unread_at (place.Sized left) alone held text parts keeps stands = absurd keeps
-unread_at place.UntilEnd alone held text parts keeps stands = absurd keeps
-unread_at (place.Line line) alone held text parts keeps stands = absurd keeps
-unread_at (place.Chunk left) alone held text parts keeps stands = absurd keeps
-unread_at place.ChunkEnd alone held text parts keeps stands = absurd keeps
-unread_at place.ChunkReturn alone held text parts keeps stands = absurd keeps
-unread_at place.Past alone held text parts keeps stands = absurd keeps
-unread_at (place.Broken fault) alone held text parts keeps stands = absurd keeps
-
--- Before the end of a head and in trailers no more is unread than a head may have.
-pub unread_short : (known : Known) (t : List Entry) (k : ℕ) (answer : Answer) → IsHeard known t k answer → KeepsUnread answer.reader.place → length answer.reader.held ≤ longest_section
-unread_short known t k answer h keeps = unread_at answer.reader.place answer.reader.to_head answer.reader.held (heard k t) h.parts keeps h.stands

@@ -58,9 +58,9 @@ use Rattle.upstreams.specs.Connections.{Connection, number_of, stream_of, lives}
 use Rattle.relay.specs.Hearing.{IsHeard}
 use Rattle.relay.specs.View.{View, square, Leads}
 use Rattle.relay.proofs.Lives.{lives_found}
-use Rattle.holding.specs.Held.{octets_of, answers_for, answers_in, IsShort, AreShort, KeepsUnread, IsSmall, held_for, held_beside, held_in, most_beside, most_streams, most_for_stream, most_in_all}
-use Rattle.holding.proofs.Lists.{ids_of, offer_none, offer_found, box_at, connection_at, all_found, by_number, found_own, found_behind, HaveOne, answers_none, answers_found, sums_most, sums_both, offers_by_stream, answers_by_stream}
-use Rattle.holding.proofs.Answering.{Answering, answering, none_waits, answer_small, answer_streamed, unread_short}
+use Rattle.holding.specs.Held.{octets_of, answers_for, answers_in, IsSmall, held_for, held_beside, held_in, most_beside, most_streams, most_for_stream, most_in_all}
+use Rattle.holding.proofs.Lists.{ids_of, offer_none, offer_found, box_at, all_found, by_number, found_own, found_behind, HaveOne, answers_none, answers_found, sums_most, sums_both, offers_by_stream, answers_by_stream}
+use Rattle.holding.proofs.Answering.{Answering, answering, none_waits, answer_small, answer_streamed}
 
 module _ (known : Known) (run : List Move) (k : IsKnown known run) (rests : RestsBehind known.setup run) where
   abbrev t : List Entry
@@ -134,11 +134,7 @@ module _ (known : Known) (run : List Move) (k : IsKnown known run) (rests : Rest
     with_boxes = all_found (λ (c : Connection). is_some (offering_state.find c.live.stream s.offers.kept) ≡ true) live apart (λ j c found. place.offering.lives c.live.stream ∙ (goes_on j c.live (kept_live j c found)).active)
 
     module _ (heard : (j : ℕ) (c : Connection) → find number_of j live ≡ Some c → c.live.whole ≡ false → IsHeard known t j c.answer) where
-      -- before the end of a head and in trailers little is unread
-      pub unread : All (λ (c : Connection). KeepsUnread c.answer.reader.place → IsShort c) live
-      unread = all_found (λ (c : Connection). KeepsUnread c.answer.reader.place → IsShort c) live apart (λ j c found. unread_short known t j c.answer (heard j c found (goes_on j c.live (kept_live j c found)).goes_on))
-
-      module _ (short : AreShort live) (fit : known.setup.passing ≡ Streaming → FitRooms known t) where
+      module _ (fit : known.setup.passing ≡ Streaming → FitRooms known t) where
         limited : AreLimited known.setup.passing known (offering.tape_of (offers_of known.setup run))
         limited = subst (AreLimited known.setup.passing known) (sym (offers_tape known.setup run)) (by known.setup.passing refl)
           where
@@ -169,15 +165,12 @@ module _ (known : Known) (run : List Move) (k : IsKnown known run) (rests : Rest
           told_of : IsHeard known t c.live.k c.answer
           told_of = heard c.live.k c there a.goes_on
 
-          few_unread : IsShort c
-          few_unread = connection_at IsShort stream_of stream live c short found
-
           -- what the answer of its connection holds
           answer_whole : known.setup.passing ≡ Whole → octets_of c.answer ≤ known.setup.max_response + 2 * longest_section
-          answer_whole whole = answer_small known t c.live.k c.live c.answer whole place.neighbours a told_of fits few_unread
+          answer_whole whole = answer_small known t c.live.k c.live c.answer whole place.neighbours a told_of fits
 
           answer_going : known.setup.passing ≡ Streaming → octets_of c.answer ≤ longest_section
-          answer_going streaming = answer_streamed known t c.live.k c.answer streaming told_of few_unread
+          answer_going streaming = answer_streamed known t c.live.k c.answer streaming told_of
 
           answer_either : (passing : Passing) → known.setup.passing ≡ passing → octets_of c.answer ≤ known.setup.max_response + 2 * longest_section
           answer_either Whole is = answer_whole is
@@ -328,10 +321,7 @@ module _ (setup : Setup) (run : List Move) (kept : View) (s : State) (led : Lead
   heard_there : (j : ℕ) (c : Connection) → find number_of j kept.upstreams.live ≡ Some c → c.live.whole ≡ false → IsHeard known (tape_of run) j c.answer
   heard_there = led.heard known refl knows
 
-  pub unread_little : All (λ (c : Connection). KeepsUnread c.answer.reader.place → IsShort c) kept.upstreams.live
-  unread_little = unread known run is_known rests kept.upstreams.live live_same heard_there
-
-  module _ (range : setup.max_body < 2 ^ 64) (fit : setup.passing ≡ Streaming → FitRooms known (tape_of run)) (short : AreShort kept.upstreams.live) where
+  module _ (range : setup.max_body < 2 ^ 64) (fit : setup.passing ≡ Streaming → FitRooms known (tape_of run)) where
     beside : held_beside kept ≤ most_beside
     beside =
         let little = few_beside known run is_known rests on in
@@ -355,7 +345,7 @@ module _ (setup : Setup) (run : List Move) (kept : View) (s : State) (led : Lead
 
     each : (stream : ℕ) → held_for stream kept ≤ most_for_stream setup
     each stream =
-        let both = pair known run is_known rests kept.upstreams.live live_same heard_there short fit stream in
+        let both = pair known run is_known rests kept.upstreams.live live_same heard_there fit stream in
         let request = request_small known run is_known rests on range stream in
         let offer = ap (λ (x : offering_state.State). on_offer_for stream x.kept) offers_same in
         let held = ap (requests.held_requests stream) held_same in
@@ -364,7 +354,7 @@ module _ (setup : Setup) (run : List Move) (kept : View) (s : State) (led : Lead
     all : held_in kept ≤ most_in_all setup
     all =
         let little = beside in
-        let both = all_pairs known run is_known rests kept.upstreams.live live_same heard_there short fit in
+        let both = all_pairs known run is_known rests kept.upstreams.live live_same heard_there fit in
         let few_there = few_boxes known run is_known rests on in
         let most = mul-le (length rule.offers.kept) (setup.max_response + 229376) 100 (setup.max_response + 229376) (omega (arith, few_there)) (omega arith) in
         let request = requests_small known run is_known rests on range in

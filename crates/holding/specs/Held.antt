@@ -1,13 +1,11 @@
 -- How many octets the rooms keep, as sums over all octet lists of what they keep, and how many there may be where they rest.
-use Rattle.std.specs.Prelude.{ℕ, ◌+◌, ◌*◌, ◌≤◌, ◌==◌, if◌then◌else◌, List, [], ◌∷◌, length, Option, Some, None, All}
-use Rattle.model.specs.ResponseHeads.{Head, longest_section}
+use Rattle.std.specs.Prelude.{ℕ, ◌+◌, ◌*◌, ◌≤◌, ◌==◌, if◌then◌else◌, List, [], ◌∷◌, length, Option, Some, None}
+use Rattle.model.specs.ResponseHeads.{Head}
 use Rattle.model.specs.Setup.{Setup}
 use Rattle.model.specs.Tables.{total_size}
 use Rattle.conduct.specs.Held.{octets_begun}
 use Rattle.offering.specs.Held as offers
 use Rattle.serving.specs.Held as requests
-use Rattle.h1_reader.specs.declared.reader.Place.{Place}
-use Rattle.h1_reader.specs.declared.reader.Place.TheVariants as place
 use Rattle.answers.specs.Waiting.{Answer}
 use Rattle.upstreams.specs.Connections.{Connection, stream_of}
 use Rattle.policy.specs.Held.{on_offer_for}
@@ -74,18 +72,3 @@ pub record IsSmall (setup : Setup) (kept : View) : Type 0 where
   pub few_connections : length kept.upstreams.live ≤ most_streams
   pub each : (stream : ℕ) → held_for stream kept ≤ most_for_stream setup
   pub all : held_in kept ≤ most_in_all setup
-
--- ---- what a reader holds unread
-
--- A reader holds no more octets unread than a head may have.
-abbrev pub IsShort : Connection → Type 0
-IsShort c = length c.answer.reader.held ≤ longest_section
-
-abbrev pub AreShort : List Connection → Type 0
-AreShort cs = All IsShort cs
-
--- The reader is before the end of a head, or in trailers: where it holds what it can't tell yet.
-abbrev pub KeepsUnread : Place → Type 0
-KeepsUnread (place.Head count) = Unit {0}
-KeepsUnread place.Trailers = Unit {0}
-KeepsUnread _ = ⊥

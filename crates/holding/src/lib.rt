@@ -2,7 +2,7 @@
 //! with the answers of upstreams that are still being read, of which the rule keeps nothing.
 #![tactic(auto)]
 
-ghost use Rattle.std.specs.Prelude.{◌≡◌, ◌<◌, ◌^◌, List, All};
+ghost use Rattle.std.specs.Prelude.{◌≡◌, ◌<◌, ◌^◌, List};
 ghost use Rattle.model.specs.Setup.{Setup};
 ghost use Rattle.model.specs.Setup.Passing.{Streaming};
 ghost use Rattle.conduct.specs.Rule.{known_of};
@@ -10,9 +10,8 @@ ghost use Rattle.offering.specs.Held.{FitRooms};
 ghost use Rattle.policy.specs.Moves.{Move};
 ghost use Rattle.policy.specs.State.{State, conducts, tape_of};
 ghost use Rattle.policy.specs.Rule.{RestsBehind};
-ghost use Rattle.upstreams.specs.Connections.{Connection};
 ghost use Rattle.relay.specs.View.{View, square, Leads};
-ghost use Rattle.holding.specs.Held.{AreShort, IsShort, IsSmall, KeepsUnread};
+ghost use Rattle.holding.specs.Held.{IsSmall};
 
 /// Where moves led to what the rooms keep, nothing is pending and the gateway rests, little is kept (`IsSmall`):
 /// - at most 100 streams have an outbox, at most 100 requests aren't whole, and at most 100 connections are open;
@@ -28,11 +27,7 @@ ghost use Rattle.holding.specs.Held.{AreShort, IsShort, IsSmall, KeepsUnread};
 /// - `Leads`: by each part of a step (`relay`); `RestsBehind`: by the step;
 /// - that `max_body` fits 64 bits: by the configuration;
 /// - where bodies are passed on as they come, that what upstreams send fits their rooms (`FitRooms`): it is asked of each event before it
-///   is taken;
-/// - `AreShort`, that no reader holds more than 16,384 octets unread: each call of `h1_reader`'s `Reader::feed` leaves it so, and a new
-///   reader holds none; but `Leads` itself says it only of a reader that is before the end of a head or in trailers (`unread`). In the
-///   other places the code's reader holds nothing, of which its contract says no more than that bound.
+///   is taken.
 pub fn little_is_kept()
-    ensures small { (setup : Setup) (run : List Move) (kept : View) (s : State) → Leads setup run kept square s → RestsBehind setup run → setup.max_body < 2 ^ 64 → (setup.passing ≡ Streaming → FitRooms (known_of setup (conducts run)) (tape_of run)) → AreShort kept.upstreams.live → IsSmall setup kept }
-    ensures unread { (setup : Setup) (run : List Move) (kept : View) (s : State) → Leads setup run kept square s → RestsBehind setup run → All (λ (c : Connection). KeepsUnread c.answer.reader.place → IsShort c) kept.upstreams.live }
+    ensures { (setup : Setup) (run : List Move) (kept : View) (s : State) → Leads setup run kept square s → RestsBehind setup run → setup.max_body < 2 ^ 64 → (setup.passing ≡ Streaming → FitRooms (known_of setup (conducts run)) (tape_of run)) → IsSmall setup kept }
 {}

@@ -14,7 +14,7 @@ fn push_requests(
 ) -> Result<(), AllocError> {
     let alloc = *transcript.script.allocator();
     for (place, id) in streams.step_by(2).enumerate() {
-        let k = first as usize + place;
+        let k = place.saturating_add(first as usize);
         let lines = format!(in alloc;
             "> C 000004 01 05 {id:08x} 828684be\nO {k} 0\nU {k} {{GET}}"
         )?;

@@ -9,8 +9,14 @@ use std::process::Abort;
 /// The gateway's status 502, as a literal, and as Huffman text that is inserted.
 const FAILED: [&[u8]; 2] = [b"\x08\x03502", b"\x48\x82\x6c\x02"];
 
+/// Whether a part stands somewhere in octets.
 fn contains(octets: &[u8], part: &[u8]) -> bool {
-    octets.windows(part.len()).any(|window| window == part)
+    for start in 0..octets.len() {
+        if octets[start..].starts_with(part) {
+            return true;
+        }
+    }
+    part.is_empty()
 }
 
 /// Whether a response of which so much was heard is ended by the end of the connection. In the tables that is the one without a length, of

@@ -5,7 +5,7 @@ ghost use Rattle.gateway.specs.Setups.{setup_of, IsServable};
 
 use crate::configurations::{INDEXING, config, route};
 use crate::connections::{ENDED, GOES_ON};
-use crate::requests::{ANSWERED, MALFORMED, PASSED_ON};
+use crate::request_transcripts::{ANSWERED, MALFORMED, PASSED_ON};
 use crate::responses::{BROKEN, PASSED_BACK};
 use crate::transcripts::{Row, Transcript, assert_prints};
 use crate::windows::{IN_TURN, WAITING};

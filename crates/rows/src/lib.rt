@@ -15,7 +15,7 @@ mod many_streams;
 #[cfg(test)]
 mod notation;
 #[cfg(test)]
-mod requests;
+mod request_transcripts;
 #[cfg(test)]
 mod responses;
 #[cfg(test)]

@@ -30,6 +30,14 @@ impl Upstream {
         }
     }
 
+    /// Whether something may be read of it, if there is room.
+    pub fn may_be_ready(&self) -> bool {
+        match &self.side {
+            Some(side) => side.is_readable(),
+            None => true,
+        }
+    }
+
     /// Whether something may be read of it, for which there is so much room. That it failed needs none.
     pub fn is_ready(&self, room: usize) -> bool {
         match &self.side {

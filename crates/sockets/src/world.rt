@@ -106,13 +106,24 @@ impl<'a, N: Net> Sockets<'a, N> {
             return Ok(Some(Event::ClientTook(count)));
         }
         self.list_ready(rooms)?;
-        if let Some(number) = Turn::next(self.last, &self.ready) {
+        if let Some(event) = self.read_ready(rooms)? {
+            return Ok(Some(event));
+        }
+        Ok(self.tell())
+    }
+
+    /// The event that a read gives, of the first socket in turn whose read gives one.
+    fn read_ready(&mut self, rooms: &[(u32, usize)]) -> Result<Option<Event>, WorldFault> {
+        for _ in 0..self.ready.len() {
+            let Some(number) = Turn::next(self.last, &self.ready) else {
+                return Ok(None);
+            };
             self.last = number;
             if let Some(event) = self.read(number, rooms)? {
                 return Ok(Some(event));
             }
         }
-        Ok(self.tell())
+        Ok(None)
     }
 
     /// Lists the sockets of which something may be read.
@@ -122,7 +133,7 @@ impl<'a, N: Net> Sockets<'a, N> {
             self.ready.push(CLIENT)?;
         }
         for upstream in &self.upstreams {
-            if upstream.is_ready(room_of(upstream.k, rooms)) {
+            if upstream.may_be_ready() && upstream.is_ready(room_of(upstream.k, rooms)) {
                 self.ready.push(upstream.k)?;
             }
         }
@@ -165,7 +176,12 @@ impl<'a, N: Net> Sockets<'a, N> {
 
     /// Waits until a socket is reported, notes what is, and writes what waits for those that take octets again.
     fn wait(&mut self) -> Result<(), WorldFault> {
-        self.poll.poll(&mut self.reports, None)?;
+        match self.poll.poll(&mut self.reports, None) {
+            Ok(()) => {}
+            // A signal came. The next turn waits again.
+            Err(error) if error.kind() == ErrorKind::Interrupted => return Ok(()),
+            Err(_) => return Err(WorldFault {}),
+        }
         for report in &self.reports {
             if report.token() == token_of(CLIENT) {
                 self.client.note(report);

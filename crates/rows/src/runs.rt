@@ -211,7 +211,9 @@ pub fn drive(
 ) -> Result<Told, Fault>
     requires { IsServable (setup_of config.now) }
 {
-    let mut gateway = Gateway::new(alloc, config).map_err(|_| Fault::Memory)?;
+    let Ok(mut gateway) = Gateway::new(alloc, config) else {
+        return Err(Fault::Memory);
+    };
     let mut told = Told::new(alloc);
     take_all(alloc, &mut gateway, events, &mut told)?;
     take_all(alloc, &mut gateway, more, &mut told)?;

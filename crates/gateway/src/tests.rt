@@ -55,24 +55,6 @@ fn a_configuration_bounds_what_is_held(rt: HostRuntime) -> Result<(), Fail> {
 }
 
 #[test]
-fn a_request_is_sent(rt: HostRuntime) -> Result<(), Fail> {
-    let alloc = rt.alloc();
-    let config = config(alloc, b"WWW.example.com")?;
-    let mut gateway = Gateway::new(alloc, &config)?;
-    let event = Event::Client(Vec::from_slice(alloc, &FIRST_REQUEST)?);
-    assert!(rt; gateway.admits(&event));
-    assert!(rt; !gateway.admits(&Event::UpEnd(1)));
-    assert_eq!(rt; gateway.room(1), 0);
-    let mut out = Vec::new(alloc);
-    assert!(rt; gateway.step(&event, &mut out).is_ok());
-    assert!(rt; answers_request(&out));
-    assert_eq!(rt; gateway.room(1), 65536);
-    assert!(rt; gateway.admits(&Event::UpTook(1, 75)));
-    assert!(rt; !gateway.admits(&Event::UpTook(1, 76)));
-    Ok(())
-}
-
-#[test]
 fn a_run_answers_each_event(rt: HostRuntime) -> Result<(), Fail> {
     let alloc = rt.alloc();
     let config = config(alloc, b"")?;

@@ -93,8 +93,9 @@ impl Side {
 
     /// Writes what waits, if the socket may take it.
     pub fn flush(&mut self, registry: &Registry) -> io::Result<()> {
-        if self.writable {
-            self.writable = false;
+        let may_take = self.writable;
+        self.writable = false;
+        if may_take && self.out.waiting() > 0 {
             self.out.flush(&mut self.socket)?;
             self.watch(registry)?;
         }

@@ -30,6 +30,14 @@ impl Upstream {
         }
     }
 
+    /// Whether something may be read of it, if there is room.
+    pub fn may_be_ready(&self) -> bool {
+        match &self.side {
+            Some(side) => side.is_readable(),
+            None => true,
+        }
+    }
+
     /// Whether something may be read of it, for which there is so much room. That it failed needs none.
     pub fn is_ready(&self, room: usize) -> bool {
         match &self.side {
@@ -45,10 +53,10 @@ impl Upstream {
         }
     }
 
-    /// How many octets its socket took that weren't told of. They are told of now.
-    pub fn tell(&mut self) -> u64 {
+    /// How many octets its socket took that weren't told of, if at least so many. They are told of now.
+    pub fn tell(&mut self, least: u64) -> u64 {
         match &mut self.side {
-            Some(side) => side.tell(1),
+            Some(side) => side.tell(least),
             None => 0,
         }
     }

@@ -22,7 +22,7 @@ const PIECE: usize = 65536;
 /// While more octets than this for the client weren't told of as taken, nothing of it is read.
 const MOST_OWED: u64 = 1073741824;
 
-/// From so many octets on that the client took it is told at once, and else before the world waits.
+/// From so many octets on that a socket took it is told at once, and else before the world waits.
 const TOLD_AT_ONCE: u64 = 16384;
 
 /// The client's number among the sockets. Connections to upstreams count from 1.
@@ -101,18 +101,28 @@ impl<'a, N: Net> Sockets<'a, N> {
 
     /// An event that is there already.
     fn find_event(&mut self, rooms: &[(u32, usize)]) -> Result<Option<Event>, WorldFault> {
-        let count = self.client.tell(TOLD_AT_ONCE);
-        if count > 0 {
-            return Ok(Some(Event::ClientTook(count)));
+        if let Some(event) = self.tell(TOLD_AT_ONCE) {
+            return Ok(Some(event));
         }
         self.list_ready(rooms)?;
-        if let Some(number) = Turn::next(self.last, &self.ready) {
+        if let Some(event) = self.read_ready(rooms)? {
+            return Ok(Some(event));
+        }
+        Ok(self.tell(1))
+    }
+
+    /// The event that a read gives, of the first socket in turn whose read gives one.
+    fn read_ready(&mut self, rooms: &[(u32, usize)]) -> Result<Option<Event>, WorldFault> {
+        for _ in 0..self.ready.len() {
+            let Some(number) = Turn::next(self.last, &self.ready) else {
+                return Ok(None);
+            };
             self.last = number;
             if let Some(event) = self.read(number, rooms)? {
                 return Ok(Some(event));
             }
         }
-        Ok(self.tell())
+        Ok(None)
     }
 
     /// Lists the sockets of which something may be read.
@@ -122,7 +132,7 @@ impl<'a, N: Net> Sockets<'a, N> {
             self.ready.push(CLIENT)?;
         }
         for upstream in &self.upstreams {
-            if upstream.is_ready(room_of(upstream.k, rooms)) {
+            if upstream.may_be_ready() && upstream.is_ready(room_of(upstream.k, rooms)) {
                 self.ready.push(upstream.k)?;
             }
         }
@@ -154,18 +164,23 @@ impl<'a, N: Net> Sockets<'a, N> {
         }
     }
 
-    /// What sockets took that wasn't told of, if they took some.
-    fn tell(&mut self) -> Option<Event> {
-        let count = self.client.tell(1);
+    /// What a socket took that wasn't told of, if one took at least so many octets.
+    fn tell(&mut self, least: u64) -> Option<Event> {
+        let count = self.client.tell(least);
         if count > 0 {
             return Some(Event::ClientTook(count));
         }
-        tell_first(&mut self.upstreams)
+        tell_first(least, &mut self.upstreams)
     }
 
     /// Waits until a socket is reported, notes what is, and writes what waits for those that take octets again.
     fn wait(&mut self) -> Result<(), WorldFault> {
-        self.poll.poll(&mut self.reports, None)?;
+        match self.poll.poll(&mut self.reports, None) {
+            Ok(()) => {}
+            // A signal came. The next turn waits again.
+            Err(error) if error.kind() == ErrorKind::Interrupted => return Ok(()),
+            Err(_) => return Err(WorldFault {}),
+        }
         for report in &self.reports {
             if report.token() == token_of(CLIENT) {
                 self.client.note(report);
@@ -282,10 +297,10 @@ fn note(report: &mio::event::Event, upstreams: &mut [Upstream]) {
     }
 }
 
-/// What the first upstream took of which some wasn't told.
-fn tell_first(upstreams: &mut [Upstream]) -> Option<Event> {
+/// What the first upstream took that wasn't told of, of those that took at least so many octets.
+fn tell_first(least: u64, upstreams: &mut [Upstream]) -> Option<Event> {
     for upstream in upstreams {
-        let count = upstream.tell();
+        let count = upstream.tell(least);
         if count > 0 {
             return Some(Event::UpTook(upstream.k, count));
         }

@@ -1,6 +1,6 @@
 -- What is told of octets, and what goes on offer of it.
 use Rattle.std.proofs.Common.{◌≡◌, ℕ, ◌<◌, ◌≤◌, Bool, true, false, if◌then◌else◌, List, [], ◌++◌, length, Option, Some, None, refl, sym, ◌∙◌, ap, subst, append-nil}
-use Rattle.model.specs.ResponseHeads.{Head}
+use Rattle.model.specs.ResponseHeads.{Head, longest_section}
 use Rattle.model.specs.Setup.Passing.{Whole, Streaming}
 use Rattle.offering.specs.Outbox.{Outbox, News, first_head, grown}
 use Rattle.h1_reader.specs.Parts.{Part}
@@ -54,13 +54,14 @@ pub waited : (w : Way) (a n : Answer) (r : Reader) (head : Option Head) (body : 
 waited (way.Whole limit) a n r head body is = (ap (λ (x : Answer). x.reader) is, ap (λ (x : Answer). x.way) is, ap (λ (x : Answer). x.head) is, ap (λ (x : Answer). x.body) is)
 waited way.Streaming a n r head body is = (ap (λ (x : Answer). x.reader) is, ap (λ (x : Answer). x.way) is, ap (λ (x : Answer). x.head) is, ap (λ (x : Answer). x.body) is)
 
-pub goes_on : (a n : Answer) (octets : List ℕ) (added : List Part) (r : Reader) (box box' : Outbox) → Hears a.reader octets added r → IsWithin a.way (a.body ++ body_of added) → is_done added ≡ false
+pub goes_on : (a n : Answer) (octets : List ℕ) (added : List Part) (r : Reader) (box box' : Outbox) → Hears a.reader octets added r → length r.held ≤ longest_section → IsWithin a.way (a.body ++ body_of added) → is_done added ≡ false
     → n ≡ waiting (passing_in a.way) (reading a r) (head_of added) (body_of added) → box' ≡ grown box (news_at_once (passing_in a.way) added) → Tells a octets box false n box'
-goes_on a n octets added r box box' hears within on is offers =
+goes_on a n octets added r box box' hears short within on is offers =
     let w = waited a.way a n r (head_of added) (body_of added) is in
     record {
       added = added;
       hears = subst (λ s. Hears a.reader octets added s) (sym w.0) hears;
+      short = subst (λ (s : Reader). length s.held ≤ longest_section) (sym w.0) short;
       same = w.1;
       ends = on;
       fits = λ parts most waits limit. fits a.way a added parts most within waits limit;
@@ -92,13 +93,14 @@ whole_news way.Streaming a n added parts done before waits =
     first_none None = refl
     first_none (Some head) = refl
 
-pub is_whole : (a n last : Answer) (octets : List ℕ) (added : List Part) (r : Reader) (box between box' : Outbox) → Hears a.reader octets added r → IsWithin a.way (a.body ++ body_of added) → is_done added ≡ true
+pub is_whole : (a n last : Answer) (octets : List ℕ) (added : List Part) (r : Reader) (box between box' : Outbox) → Hears a.reader octets added r → length r.held ≤ longest_section → IsWithin a.way (a.body ++ body_of added) → is_done added ≡ true
     → n ≡ waiting (passing_in a.way) (reading a r) (head_of added) (body_of added) → between ≡ grown box (news_at_once (passing_in a.way) added) → box' ≡ grown between (rest_news n) → last.reader ≡ n.reader → last.way ≡ n.way → Tells a octets box true last box'
-is_whole a n last octets added r box between box' hears within done is offers more reader_same way_same =
+is_whole a n last octets added r box between box' hears short within done is offers more reader_same way_same =
     let w = waited a.way a n r (head_of added) (body_of added) is in
     record {
       added = added;
       hears = subst (λ s. Hears a.reader octets added s) (sym (reader_same ∙ w.0)) hears;
+      short = subst (λ (s : Reader). length s.held ≤ longest_section) (sym (reader_same ∙ w.0)) short;
       same = way_same ∙ w.1;
       ends = done;
       fits = λ parts most waits limit. fits a.way a added parts most within waits limit;

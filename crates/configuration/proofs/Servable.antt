@@ -34,11 +34,11 @@ servable entries config is =
     let count : length (map route_of config.routes.items) ≡ length is.tables = length-map config.routes.items route_of ∙ as_many is.tables config.routes.items is.routes in
     let most_tables : length is.tables ≤ 4294967295 = few _ is.tables is.are_tables in
     record {
-  whole = ap passing_of (whole _ config.passing is.passing);
-  body = most _ config.max_body is.max_body;
-  response = most _ config.max_response is.max_response;
-  few = omega arith;
-}
+      whole = ap passing_of (whole _ config.passing is.passing);
+      body = most _ config.max_body is.max_body;
+      response = most _ config.max_response is.max_response;
+      few = omega arith;
+    }
 
 pub servable_of : (found : Option Members) (config : Config) → Configures found config → IsServable (setup_of config)
 servable_of None config is = absurd is

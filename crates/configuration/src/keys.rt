@@ -111,7 +111,7 @@ pub fn routes_in(table: &Table) -> Option<&[Value]>
     let Some(value) = value_at(table, "route") else {
         return Some(&[]);
     };
-    let values = value.as_array()?;
+    let values: &[Value] = value.as_array()?;
     if values.len() > MOST_ROUTES {
         return None;
     }

@@ -8,3 +8,4 @@ pub mod Admitting
 pub mod Pieces
 pub mod Setting
 pub mod Running
+pub mod Sizes

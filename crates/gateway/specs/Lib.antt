@@ -4,6 +4,7 @@ pub mod Stands
 pub mod Receiving
 pub mod Promises
 pub mod Runs
+pub mod Held
 pub use Rattle.outputs.specs.Views
 pub use Rattle.model.specs.Logs
 pub use Rattle.model.specs.Setup

@@ -1,9 +1,10 @@
 //! What a gateway is set up with.
 
-ghost use Rattle.std.specs.Prelude.{◌≡◌, map, IfOk};
+ghost use Rattle.std.specs.Prelude.{◌≡◌, ◌≤◌, map, IfOk};
 ghost use Rattle.tables.specs.State.{inserts};
 ghost use Rattle.header_blocks.specs.Encoding.{is_indexing};
-ghost use Rattle.gateway.specs.Setups.{route_of, policy_of};
+ghost use Rattle.gateway.specs.Held.{held_bound};
+ghost use Rattle.gateway.specs.Setups.{route_of, policy_of, setup_of};
 
 use std::alloc::{AllocError, Global};
 use std::string::String;
@@ -53,6 +54,15 @@ pub struct Config {
 }
 
 impl Config {
+    /// The most octets that a gateway with this configuration holds between two steps, the configuration itself aside.
+    pub fn held_bound(&self) -> u64
+        requires body { self.now.max_body ≤ 1073741824 }
+        requires response { self.now.max_response ≤ 1073741824 }
+        ensures { result ≡ held_bound (setup_of self.now) }
+    {
+        200000 + 100 * (self.max_body + self.max_response + 400000)
+    }
+
     /// The routes without their addresses, once more.
     pub(crate) fn copy_routes(&self, alloc: Global) -> Result<Vec<causes::Route>, AllocError>
         ensures { IfOk result (λ routes. routes.items ≡ map route_of self.now.routes.items) }

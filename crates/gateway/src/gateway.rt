@@ -15,6 +15,8 @@ ghost use Rattle.policy.specs.State.{tape_of};
 ghost use Rattle.relay.specs.View.{square};
 ghost use Rattle.relay.specs.Rest.{Reached};
 ghost use Rattle.steps.specs.Resting.{IsSettled, IsServed};
+ghost use Rattle.holding.specs.Held.{IsSmall};
+ghost use Rattle.gateway.specs.Held.{IsHeldWithin};
 ghost use Rattle.gateway.specs.Setups.{setup_of, IsServable};
 ghost use Rattle.gateway.specs.Stands.{Serves, Stands, StandsNext, pending_in, admits, room_of, is_dead, is_open};
 ghost use Rattle.gateway.specs.Receiving.{Receives, ReadsOn, Happens, Greets, KeepsTerms, IsSettledIf};
@@ -54,6 +56,19 @@ pub enum Fault {
     Closed,
 }
 
+/// Rooms in which nothing is kept.
+fn no_rooms(alloc: Global) -> Rooms
+    ensures { (setup : Setup) → IsSmall setup result }
+{
+    Rooms {
+        inbound: Connection::new(alloc),
+        offers: Offers::new(alloc),
+        upstreams: Upstreams::new(alloc),
+        encoder: Encoder::new(alloc, header_blocks::Policy::Plain),
+        untaken: 0,
+    }
+}
+
 /// A gateway for one connection of a client.
 #[derive(Drop)]
 pub struct Gateway {
@@ -71,7 +86,8 @@ impl Model for Gateway {
 
     ghost Value = { Standing };
 
-    ghost view = { λ gateway. record { routes = gateway.routes.items; max_body = gateway.max_body; max_response = gateway.max_response; phase = gateway.phase; partial = gateway.partial.items; kept = gateway.rooms } };
+    // Each field is named, so that what one more holds has to be said here.
+    ghost view = { λ record { alloc = alloc; routes = routes; max_body = max_body; max_response = max_response; phase = phase; partial = partial; rooms = rooms }. record { routes = routes.items; max_body = max_body; max_response = max_response; phase = phase; partial = partial.items; kept = rooms } };
 }
 
 impl Gateway {
@@ -179,16 +195,43 @@ impl Gateway {
         ensures alive { OnOk result (is_dead self.new.phase ≡ false) }
         ensures dead { OnErr result (is_dead self.new.phase ≡ true) }
         ensures closed { IsErrOf result Fault.Closed ↔ (is_dead self.old.phase ≡ true) }
+        // What it holds of octets behind a step, answered or refused, stays below its bound, and what it holds for each stream below a part of that.
+        ensures held { (setup : Setup) (log : List Step) (run : List Move) → Stands setup self.old log run → IsHeldWithin setup self.new }
+        ensures stays { is_dead self.old.phase ≡ true → self.new ≡ self.old }
     {
         if matches!(self.phase, Phase::Dead) {
             return Err(Fault::Closed);
         }
         match self.try_step(event, out) {
-            Ok(()) => Ok(()),
+            Ok(()) => {
+                self.let_go_if_over();
+                Ok(())
+            }
             Err(_) => {
                 self.phase = Phase::Dead;
+                self.let_go();
                 Err(Fault::Memory)
             }
+        }
+    }
+
+    /// Lets go of all that is kept.
+    fn let_go(&mut self)
+        ensures stays { self.new ≡ record self.old { partial = []; kept = self.new.kept } }
+        ensures small { (setup : Setup) → IsSmall setup self.new.kept }
+    {
+        self.partial = Vec::new(self.alloc);
+        self.rooms = no_rooms(self.alloc);
+    }
+
+    /// Lets go of all that is kept where the client is closed.
+    fn let_go_if_over(&mut self)
+        ensures phase { self.new.phase ≡ self.old.phase }
+        ensures stands { (setup : Setup) (log : List Step) (run : List Move) → Stands setup self.old log run → Stands setup self.new log run }
+        ensures held { (setup : Setup) (step : Step) (log : List Step) (run : List Move) → Stands setup self.old (step ∷ log) run → IsHeldWithin setup self.new }
+    {
+        if matches!(self.phase, Phase::Closed) {
+            self.let_go();
         }
     }
 
@@ -244,7 +287,10 @@ impl Gateway {
             Event::Up(k, octets) => hear(alloc, rooms, *k, octets, out),
             Event::UpEnd(k) => end(alloc, rooms, *k, out),
             Event::UpFailed(k) => fail(alloc, rooms, *k, out),
-            Event::UpTook(k, count) => up_took(alloc, rooms, *k, *count, out),
+            Event::UpTook(k, count) => {
+                up_took(rooms, *k, *count);
+                Ok(Went::On)
+            }
         }
     }
 

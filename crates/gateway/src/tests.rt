@@ -48,6 +48,13 @@ fn answers_request(out: &[Output]) -> bool {
 }
 
 #[test]
+fn a_configuration_bounds_what_is_held(rt: HostRuntime) -> Result<(), Fail> {
+    let config = config(rt.alloc(), b"")?;
+    assert_eq!(rt; config.held_bound(), 40_500_000);
+    Ok(())
+}
+
+#[test]
 fn a_request_is_sent(rt: HostRuntime) -> Result<(), Fail> {
     let alloc = rt.alloc();
     let config = config(alloc, b"WWW.example.com")?;

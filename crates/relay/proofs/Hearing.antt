@@ -5,6 +5,7 @@ use Rattle.std.proofs.lemmas.List.Folds.{list_any-append}
 use Rattle.model.specs.Messages.{Item}
 use Rattle.model.specs.Logs.{Event}
 use Rattle.model.specs.Logs.Event.{Up, UpEnd}
+use Rattle.model.specs.ResponseHeads.{longest_section}
 use Rattle.model.specs.Setup.{Passing}
 use Rattle.model.specs.Setup.Passing.{Whole}
 use Rattle.model.specs.Tapes.{Entry}
@@ -112,10 +113,11 @@ module _ (known : Known) (t : List Entry) (k stream : ℕ) (answer : Answer) (o 
     octets_judged fits = judging.goes_on known t k octets heard_so.parts added answer.reader new.reader heard_so.asked heard_so.stands hears fits
 
     -- what is kept then stands for all that was heard
-    pub octets_heard : is_done added ≡ false → new.way ≡ answer.way → Waits (passing_in new.way) (heard_so.parts ++ added) new → IsHeard known behind k new
-    octets_heard goes_on same waits = record {
+    pub octets_heard : length new.reader.held ≤ longest_section → is_done added ≡ false → new.way ≡ answer.way → Waits (passing_in new.way) (heard_so.parts ++ added) new → IsHeard known behind k new
+    octets_heard short goes_on same waits = record {
       parts = heard_so.parts ++ added;
       stands = stands_now;
+      short = short;
       goes_on = done_behind heard_so.parts added heard_so.goes_on ∙ goes_on;
       waits = waits;
       asked = hears.same ∙ heard_so.asked ∙ ap is_to_head (sym (items_behind_event known t (Up k octets) (given k (opens t))));

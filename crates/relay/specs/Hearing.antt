@@ -1,5 +1,6 @@
 -- What is kept of an upstream's answer, and that it stands for all that was heard of it.
-use Rattle.std.specs.Prelude.{◌≡◌, ℕ, false, List, Some}
+use Rattle.std.specs.Prelude.{◌≡◌, ℕ, ◌≤◌, false, List, length, Some}
+use Rattle.model.specs.ResponseHeads.{longest_section}
 use Rattle.model.specs.Setup.Passing.{Whole}
 use Rattle.model.specs.Tapes.{Entry}
 use Rattle.model.specs.Openings.{exchange_on}
@@ -15,10 +16,12 @@ pub record IsSetUp (known : Known) (answer : Answer) : Type 0 where
   pub passing : passing_in answer.way ≡ known.setup.passing
   pub limit : known.setup.passing ≡ Whole → limit_in answer.way ≡ Some known.setup.max_response
 
--- The answer stands for all that was heard on a connection, where these parts were told; its response isn't whole yet.
+-- The answer stands for all that was heard on a connection, where these parts were told; its response isn't whole yet, and its reader holds no
+-- more octets unread than a head may have.
 pub record IsHeard (known : Known) (t : List Entry) (k : ℕ) (answer : Answer) : Type 0 where
   pub parts : List Part
   pub stands : Stands (heard k t) parts answer.reader
+  pub short : length answer.reader.held ≤ longest_section
   pub goes_on : is_done parts ≡ false
   pub waits : Waits (passing_in answer.way) parts answer
   pub asked : answer.reader.to_head ≡ is_asked_for_head known (exchange_on k t) t

@@ -8,6 +8,7 @@ mod replays;
 mod scripts;
 
 pub use laws::one_meaning;
+pub use printing::print_steps;
 pub use replays::replay;
 pub use scripts::{ScriptFault, read_script};
 

@@ -3,4 +3,5 @@ pub mod Admitting
 pub mod Ends
 pub mod Results
 pub mod Stays
+mod Took
 pub mod Frames

@@ -5,4 +5,4 @@ mod parts;
 mod tests;
 mod turns;
 
-pub use crate::flushing::turns::flush;
+pub use crate::flushing::turns::{HIGH_WATER, flush};

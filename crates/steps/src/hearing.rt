@@ -1,8 +1,9 @@
 //! Events of upstreams, and what the sides took.
 
-ghost use Rattle.std.specs.Prelude.{◌≡◌, ◌≤◌, List, [], ◌∷◌, length, true, IfOk};
+ghost use Rattle.std.specs.Prelude.{◌≡◌, ◌≤◌, List, [], ◌∷◌, length, true, Some, IfOk};
 ghost use Rattle.model.specs.Setup.{Setup};
 ghost use Rattle.model.specs.Setup.Passing.{Whole};
+ghost use Rattle.model.specs.Logs.{Output};
 ghost use Rattle.model.specs.Logs.Event.{ClientTook, Up, UpEnd, UpFailed, UpTook};
 ghost use Rattle.relay.specs.View.{square};
 ghost use Rattle.relay.specs.Rest.{Reached};
@@ -12,6 +13,7 @@ ghost use Rattle.steps.specs.Inputs.Input.{OfEvent};
 ghost use Rattle.steps.specs.Resting.{now_of, IsSettled, RestsSo};
 
 use crate::exchanges;
+use crate::flushing::HIGH_WATER;
 use crate::paying::{note_client_took, note_up_took};
 use crate::resting::{Went, rest};
 use outputs::Outputs;
@@ -61,7 +63,7 @@ pub fn fail(alloc: Global, rooms: &mut Rooms, k: u32, out: &mut Outputs) -> Resu
     rest(alloc, rooms, out)
 }
 
-/// Notes that the client's side took so many octets; responses may go on then. An `Err` says that memory was refused; then what is kept and the
+/// Notes that the client's side took so many octets; responses may go on then, where too many were untaken before. An `Err` says that memory was refused; then what is kept and the
 /// outputs are of no use any more.
 pub fn client_took(
     alloc: Global,
@@ -75,25 +77,21 @@ pub fn client_took(
     ensures comes { IfOk result (λ went. (setup : Setup) → setup.passing ≡ Whole → ComesFrom setup rooms.old square out.old (OfEvent (ClientTook count) ∷ []) square (now_of went rooms.new) out.new) }
     ensures rests { IfOk result (λ went. RestsSo went rooms.new) }
 {
+    let were_few = rooms.untaken < HIGH_WATER;
     note_client_took(rooms, count);
+    if were_few {
+        return Ok(Went::On);
+    }
     rest(alloc, rooms, out)
 }
 
-/// Notes that an open upstream's side took so many octets. An `Err` says that memory was refused; then what is kept and the outputs are of no use
-/// any more.
-pub fn up_took(
-    alloc: Global,
-    rooms: &mut Rooms,
-    k: u32,
-    count: u64,
-    out: &mut Outputs,
-) -> Result<Went, AllocError>
+/// Notes that an open upstream's side took so many octets. Nothing is put out for that.
+pub fn up_took(rooms: &mut Rooms, k: u32, count: u64)
     requires admitted { admits rooms.old (UpTook k count) ≡ true }
     requires settled { IsSettled rooms.old }
     requires reached { (setup : Setup) × (setup.passing ≡ Whole) × Reached setup rooms.old square }
-    ensures comes { IfOk result (λ went. (setup : Setup) → setup.passing ≡ Whole → ComesFrom setup rooms.old square out.old (OfEvent (UpTook k count) ∷ []) square (now_of went rooms.new) out.new) }
-    ensures rests { IfOk result (λ went. RestsSo went rooms.new) }
+    ensures comes { (setup : Setup) (outputs : List Output) → setup.passing ≡ Whole → ComesFrom setup rooms.old square outputs (OfEvent (UpTook k count) ∷ []) square (Some rooms.new) outputs }
+    ensures rests { IsSettled rooms.new }
 {
     note_up_took(rooms, k, count);
-    rest(alloc, rooms, out)
 }

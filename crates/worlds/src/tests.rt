@@ -38,8 +38,7 @@ const CHUNK_FRAMES: &[u8] =
     b"\nX 1\nC \0\0\x01\x01\x04\0\0\0\x01\x88\0\0\x10\0\x01\0\0\0\x010123456789abcdef";
 
 /// What is put out where the response is none, or is cut short: the status 502.
-const BAD_GATEWAY: &[u8] =
-    b"\nX 1\nC \0\0\x09\x01\x05\0\0\0\x01\x08\x03502\x0f\x0d\x01\x30";
+const BAD_GATEWAY: &[u8] = b"\nX 1\nC \0\0\x09\x01\x05\0\0\0\x01\x08\x03502\x0f\x0d\x01\x30";
 
 /// A world in which the client goes at a turn, and nothing else comes.
 #[derive(Drop)]

@@ -269,6 +269,7 @@ module _ (setup : Setup) (whole : setup.passing ≡ WholePassing) (kept : View) 
         record {
           parts = was.parts;
           stands = was.stands;
+          short = was.short;
           goes_on = was.goes_on;
           waits = was.waits;
           asked = was.asked ∙ head_stays known (given j (opens (tape_of run))) (Happened event ∷ tape_of run) (Did (Close k)) (begun_one known same knows.0.0 j x (found_before k j kept.upstreams.live x is));

@@ -280,6 +280,7 @@ module _ (setup : Setup) (whole : setup.passing ≡ WholePassing) (kept : View) 
           record {
             parts = [];
             stands = subst (λ x. Reads x [] new_connection.answer.reader) (sym new.unheard) reads;
+            short = omega arith;
             goes_on = refl;
             waits = (refl, refl);
             asked =
@@ -294,6 +295,7 @@ module _ (setup : Setup) (whole : setup.passing ≡ WholePassing) (kept : View) 
       heard_other known same knows j c apart found is = record {
         parts = is.parts;
         stands = is.stands;
+        short = is.short;
         goes_on = is.goes_on;
         waits = is.waits;
         asked =

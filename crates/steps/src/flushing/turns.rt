@@ -17,7 +17,7 @@ use relay::Rooms;
 use std::alloc::{AllocError, Global};
 
 /// As long as fewer octets for the client are untaken, parts of responses begin (this project's profile).
-const HIGH_WATER: u64 = 65536;
+pub const HIGH_WATER: u64 = 65536;
 
 /// Sends the next part of the stream whose turn it is. An `Err` says that memory was refused.
 fn pass_one(alloc: Global, rooms: &mut Rooms, id: u32, out: &mut Outputs) -> Result<(), AllocError>
@@ -62,6 +62,8 @@ pub fn flush(alloc: Global, rooms: &mut Rooms, out: &mut Outputs) -> Result<(), 
     ensures none_cut { OnOk result (NoneCut rooms.new.offers) }
     ensures live { OnOk result (rooms.new.upstreams.live ≡ rooms.old.upstreams.live) }
     ensures numbered { OnOk result ((id : ℕ) → has rooms.new.inbound.rows id ≡ true → id < 2147483648) }
+    // Where nothing was put out, nothing went.
+    ensures idle { OnOk result (rooms.new.untaken ≡ rooms.old.untaken → rooms.new ≡ rooms.old) }
 {
     while rooms.untaken < HIGH_WATER {
         let Some(id) = next_turn(rooms) else {

@@ -1,11 +1,13 @@
-use Rattle.std.proofs.Common.{refl}
+use Rattle.std.proofs.Common.{◌<◌, Some, refl, sym, subst}
 use Rattle.model.specs.Logs.Event.{ClientTook}
 use Rattle.model.specs.Tapes.Entry.{Happened}
-use Rattle.relay.specs.View.{square}
+use Rattle.model.specs.Admission.{high_water}
+use Rattle.relay.specs.View.{View, square}
 use Rattle.steps.specs.Inputs.Input.{OfEvent}
-use Rattle.steps.specs.Resting.{now_of}
+use Rattle.steps.specs.Resting.{now_of, IsSettled}
 use Rattle.steps.proofs.Following.{comes_then}
 use Rattle.steps.proofs.Results.{if_ok}
+use Rattle.steps.proofs.Took.{client_rests, follows_none}
 use Rattle.steps.proofs.hearing.client_took.Goals as goal
 
 pub rest-requires-clause-reached : goal.rest-requires-clause-reached
@@ -19,3 +21,10 @@ returns-clause-comes c =
     if_ok c.rest.result
     (λ went follows setup whole.
     comes_then setup c.args.rooms.now c.note_client_took.new.rooms square square square c.args.out.now c.args.out.now c.rest.new.out (Happened (ClientTook c.args.count)) (OfEvent (ClientTook c.args.count)) (now_of went c.rest.new.rooms) refl (c.note_client_took.ensures.brings setup c.args.out.now) (follows setup whole)) c.rest.ensures.follows
+
+pub returns-then-were_few-clause-comes : goal.returns-then-were_few-clause-comes
+returns-then-were_few-clause-comes c setup whole =
+    comes_then setup c.args.rooms.now c.note_client_took.new.rooms square square square c.args.out.now c.args.out.now c.args.out.now (Happened (ClientTook c.args.count)) (OfEvent (ClientTook c.args.count)) (Some c.note_client_took.new.rooms) refl (c.note_client_took.ensures.brings setup c.args.out.now) (follows_none setup c.note_client_took.new.rooms c.args.out.now)
+
+pub returns-then-were_few-clause-rests : goal.returns-then-were_few-clause-rests
+returns-then-were_few-clause-rests c = subst IsSettled (sym c.note_client_took.ensures.counts) (client_rests c.args.rooms.now c.args.count (subst (λ (v : View). v.untaken < high_water) c.rooms.view_is c.if-were_few.true) c.requires.settled)

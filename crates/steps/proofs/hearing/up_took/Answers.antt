@@ -1,21 +1,16 @@
-use Rattle.std.proofs.Common.{refl}
+use Rattle.std.proofs.Common.{Some, refl, sym, subst}
 use Rattle.model.specs.Logs.Event.{UpTook}
 use Rattle.model.specs.Tapes.Entry.{Happened}
 use Rattle.relay.specs.View.{square}
 use Rattle.steps.specs.Inputs.Input.{OfEvent}
-use Rattle.steps.specs.Resting.{now_of}
+use Rattle.steps.specs.Resting.{IsSettled}
 use Rattle.steps.proofs.Following.{comes_then}
-use Rattle.steps.proofs.Results.{if_ok}
+use Rattle.steps.proofs.Took.{up_rests, follows_none}
 use Rattle.steps.proofs.hearing.up_took.Goals as goal
 
-pub rest-requires-clause-reached : goal.rest-requires-clause-reached
-rest-requires-clause-reached c =
-    let before = c.requires.reached in
-    let here = c.note_up_took.ensures.brings before.0 c.args.out.now before.1 before.2.0 before.2.1 before.2.2 in
-    (before.0, before.1, (_, here.segment.state, here.segment.leads))
-
 pub returns-clause-comes : goal.returns-clause-comes
-returns-clause-comes c =
-    if_ok c.rest.result
-    (λ went follows setup whole.
-    comes_then setup c.args.rooms.now c.note_up_took.new.rooms square square square c.args.out.now c.args.out.now c.rest.new.out (Happened (UpTook c.args.k c.args.count)) (OfEvent (UpTook c.args.k c.args.count)) (now_of went c.rest.new.rooms) refl (c.note_up_took.ensures.brings setup c.args.out.now whole) (follows setup whole)) c.rest.ensures.follows
+returns-clause-comes c setup outputs whole =
+    comes_then setup c.args.rooms.now c.note_up_took.new.rooms square square square outputs outputs outputs (Happened (UpTook c.args.k c.args.count)) (OfEvent (UpTook c.args.k c.args.count)) (Some c.note_up_took.new.rooms) refl (c.note_up_took.ensures.brings setup outputs whole) (follows_none setup c.note_up_took.new.rooms outputs)
+
+pub returns-clause-rests : goal.returns-clause-rests
+returns-clause-rests c = subst IsSettled (sym c.note_up_took.ensures.counts) (up_rests c.args.rooms.now c.args.k c.args.count c.requires.settled)

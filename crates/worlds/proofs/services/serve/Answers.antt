@@ -1,7 +1,7 @@
-use Rattle.std.proofs.Common.{refl, ◌∙◌, arith}
+use Rattle.std.proofs.Common.{[], refl, ◌∙◌, arith}
 use Rattle.gateway.specs.Setups.{setup_of}
 use Rattle.worlds.specs.declared.services.Ended.TheVariants.{Turns}
-use Rattle.worlds.proofs.Adding.{serves_run, same_fault}
+use Rattle.worlds.proofs.Adding.{serves_none, serves_run, same_fault}
 use Rattle.worlds.proofs.services.serve.Goals as goal
 
 pub returns-in-Ok-Some-clause-run : goal.returns-in-Ok-Some-clause-run
@@ -15,11 +15,19 @@ returns-in-Err-clause-front g c = λ e before h. c.in-Err.ensures.front (same_fa
 pub returns-in-Err-clause-refused : goal.returns-in-Err-clause-refused
 returns-in-Err-clause-refused g c = λ e before h. c.in-Err.ensures.refused (same_fault _ _ e) (setup_of c.args.config.now) before (c.loop-turn.invariant.log before h)
 
+pub loop-turn-init : goal.loop-turn-init
+loop-turn-init g c = record {
+  calls = omega arith;
+  failures = refl;
+  stands = ([], [], c.in-Ok.ensures);
+  log = λ before e. serves_none (setup_of c.args.config.now) _ c.in-Ok.gateway before e c.in-Ok.ensures;
+}
+
 pub loop-turn-preserved : goal.loop-turn-preserved
 loop-turn-preserved g c = record {
   calls = (let a = c.in-Ok-None.ensures.calls in let i = c.loop-turn.invariant.calls in omega arith);
   failures = c.in-Ok-None.ensures.failures ∙ c.loop-turn.invariant.failures;
-  stands = (rw c.in-Ok-None.field-0-is at c.in-Ok-None.ensures.stands) (setup_of c.args.config.now) c.loop-turn.invariant.stands;
+  stands = c.in-Ok-None.ensures.stands (setup_of c.args.config.now) c.loop-turn.invariant.stands;
   log = λ before e. (rw c.in-Ok-None.field-0-is at c.in-Ok-None.ensures.log) (setup_of c.args.config.now) before (c.loop-turn.invariant.log before e);
 }
 

@@ -1,4 +1,4 @@
-use Rattle.std.proofs.Common.{rules, ◌≡◌, Bool, true, false, List, [], ◌++◌, refl, sym, ap, ◌∙◌, subst, inl, inr}
+use Rattle.std.proofs.Common.{rules, ◌≡◌, ◌≤◌, Bool, true, false, List, [], ◌++◌, length, refl, sym, ap, ◌∙◌, subst, inl, inr}
 use Rattle.offering.specs.Outbox.{grown}
 use Rattle.h1_reader.specs.Parts.{Part}
 use Rattle.h1_reader.specs.Views.{parts_of}
@@ -19,19 +19,21 @@ pub returns-then-not-whole : goal.returns-then-not-whole
 returns-then-not-whole c =
     let hears : Hears c.args.self.now.reader c.args.octets.now (parts_of c.feed.new.pieces.items) c.feed.new.self = search rules in
     let within : IsWithin c.args.self.now.way (c.args.self.now.body ++ body_of (parts_of c.feed.new.pieces.items)) = search rules in
+    let short : length c.feed.new.self.held ≤ 16384 = search rules in
     let on : is_done (parts_of c.feed.new.pieces.items) ≡ false = search rules in
     let waits : c.take_all.new.self ≡ waiting (passing_in c.args.self.now.way) (laws.reading c.args.self.now c.feed.new.self) (head_of (parts_of c.feed.new.pieces.items)) (body_of (parts_of c.feed.new.pieces.items)) = search rules in
     let offers : c.take_all.new.outbox ≡ grown c.args.outbox.now (news_at_once (passing_in c.args.self.now.way) (parts_of c.feed.new.pieces.items)) = search rules in
-    laws.goes_on c.args.self.now c.take_all.new.self c.args.octets.now (parts_of c.feed.new.pieces.items) c.feed.new.self c.args.outbox.now c.take_all.new.outbox hears within on waits offers
+    laws.goes_on c.args.self.now c.take_all.new.self c.args.octets.now (parts_of c.feed.new.pieces.items) c.feed.new.self c.args.outbox.now c.take_all.new.outbox hears short within on waits offers
 
 pub returns : goal.returns
 returns c =
     let hears : Hears c.args.self.now.reader c.args.octets.now (parts_of c.feed.new.pieces.items) c.feed.new.self = search rules in
     let within : IsWithin c.args.self.now.way (c.args.self.now.body ++ body_of (parts_of c.feed.new.pieces.items)) = search rules in
+    let short : length c.feed.new.self.held ≤ 16384 = search rules in
     let done : is_done (parts_of c.feed.new.pieces.items) ≡ true = search rules in
     let waits : c.take_all.new.self ≡ waiting (passing_in c.args.self.now.way) (laws.reading c.args.self.now c.feed.new.self) (head_of (parts_of c.feed.new.pieces.items)) (body_of (parts_of c.feed.new.pieces.items)) = search rules in
     let offers : c.take_all.new.outbox ≡ grown c.args.outbox.now (news_at_once (passing_in c.args.self.now.way) (parts_of c.feed.new.pieces.items)) = search rules in
-    laws.is_whole c.args.self.now c.take_all.new.self c.release.new.self c.args.octets.now (parts_of c.feed.new.pieces.items) c.feed.new.self c.args.outbox.now c.take_all.new.outbox c.release.new.outbox hears within done waits offers c.in_ok-release.ensures.offers c.in_ok-release.ensures.same.0 c.in_ok-release.ensures.same.1
+    laws.is_whole c.args.self.now c.take_all.new.self c.release.new.self c.args.octets.now (parts_of c.feed.new.pieces.items) c.feed.new.self c.args.outbox.now c.take_all.new.outbox c.release.new.outbox hears short within done waits offers c.in_ok-release.ensures.offers c.in_ok-release.ensures.same.0 c.in_ok-release.ensures.same.1
 
 pub returns-in-Err : goal.returns-in-Err
 returns-in-Err c =

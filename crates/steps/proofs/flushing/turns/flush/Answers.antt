@@ -1,10 +1,10 @@
-use Rattle.std.proofs.Common.{refl, ◌∙◌}
+use Rattle.std.proofs.Common.{refl, ◌∙◌, arith}
 use Rattle.relay.specs.View.{square}
 use Rattle.relay.proofs.Bringing.{own_none, own_then}
 use Rattle.steps.proofs.flushing.turns.flush.Goals as goal
 
 pub loop-rooms-init : goal.loop-rooms-init
-loop-rooms-init c = ((λ setup. own_none setup c.args.rooms.now square c.args.out.now), c.requires.none_cut, c.requires.numbered, refl)
+loop-rooms-init c = ((λ setup. own_none setup c.args.rooms.now square c.args.out.now), c.requires.none_cut, c.requires.numbered, refl, omega arith, λ same. refl)
 
 pub pass_one-requires-clause-reached : goal.pass_one-requires-clause-reached
 pass_one-requires-clause-reached c =
@@ -20,4 +20,6 @@ loop-rooms-preserved c =
       passed.none_cut,
       passed.numbered,
       passed.live ∙ kept.3,
+      (let more = passed.more in let least = kept.4 in omega (arith, more, least)),
+      λ same. absurd (let more = passed.more in let least = kept.4 in omega (arith, more, least, same)),
     )

@@ -1,4 +1,4 @@
-use Rattle.std.proofs.Common.{◌≡◌, ℕ, ◌<◌, ◌-◌, true}
+use Rattle.std.proofs.Common.{◌≡◌, ℕ, ◌<◌, ◌≤◌, ◌-◌, true}
 use Rattle.model.specs.Setup.{Setup}
 use Rattle.streams_kept.specs.Asked.{has}
 use Rattle.relay.specs.View.{square}
@@ -12,6 +12,8 @@ invariant-loop-rooms l =
     × NoneCut l.rooms.offers
     × ((id : ℕ) → has l.rooms.inbound.rows id ≡ true → id < 2147483648)
     × (l.rooms.upstreams.live ≡ l.fn.rooms.upstreams.live)
+    × (l.fn.rooms.untaken ≤ l.rooms.untaken)
+    × (l.rooms.untaken ≡ l.fn.rooms.untaken → l.rooms ≡ l.fn.rooms)
 
 abbrev pub decreases-loop-rooms : goal.decreases-loop-rooms
 decreases-loop-rooms l = 65536 - l.rooms.untaken

@@ -1,0 +1,121 @@
+-- What a gateway holds between steps is bounded.
+use Rattle.std.proofs.Common.{◌≡◌, ℕ, ◌<◌, ◌≤◌, ◌^◌, true, false, List, [], ◌∷◌, ◌++◌, length, length-append, refl, sym, ◌∙◌, ap, subst, arith}
+use Rattle.model.specs.Frames.{preface, settings_frame}
+use Rattle.model.specs.Logs.{Step, client_in}
+use Rattle.model.specs.Octets.{IsStrictFront}
+use Rattle.model.specs.Setup.{Setup}
+use Rattle.model.specs.Setup.Passing.{Whole, Streaming}
+use Rattle.model.specs.Known.{Known}
+use Rattle.conduct.specs.Book.{Book, first_desk}
+use Rattle.conduct.specs.Rule.{AreKnown, known_of}
+use Rattle.conduct.proofs.Knowing.{known_so}
+use Rattle.offering.specs.State as offering
+use Rattle.upstreams.specs.Kept.{nothing}
+use Rattle.header_blocks.specs.Encoding.{first_encoding}
+use Rattle.model.specs.Tables.{first_table, total_size}
+use Rattle.judgement.specs.Inbound.{book_of}
+use Rattle.policy.specs.Moves.{Move}
+use Rattle.policy.specs.State.{conducts}
+use Rattle.policy.specs.Rule.{RestsBehind}
+use Rattle.relay.specs.View.{View}
+use Rattle.holding.specs.Held.{IsSmall}
+use Rattle.holding.proofs.Holding.{little_kept}
+use Rattle.gateway.specs.declared.phase.Phase.{Phase}
+use Rattle.gateway.specs.declared.phase.Phase.TheVariants as phase
+use Rattle.gateway.specs.Stands.{Standing, Serves, Stands, StandsNext, IsOpen, IsReadIn, is_open}
+use Rattle.gateway.specs.Held.{IsHeldWithin}
+
+-- ---- rooms in which nothing is kept
+
+pub none_small : (setup : Setup) (kept : View) → book_of (record { given = []; untaken = 0 }) kept.inbound ≡ (first_desk setup).book → kept.offers ≡ offering.start → kept.upstreams ≡ nothing → kept.inbound.table ≡ first_table → kept.encoding ≡ first_encoding false → IsSmall setup kept
+unfolding total_size
+none_small setup kept book offers upstreams table encoding =
+    let block = ap (λ (b : Book). b.block) book in
+    rw (offers, upstreams, table, encoding, block) (record { beside = omega arith; few_boxes = omega arith; few_requests = omega arith; few_connections = omega arith; each = λ stream. omega arith; all = omega arith })
+
+-- ---- the octets that aren't a whole frame
+
+front_short : (text : List ℕ) → IsStrictFront text preface → length text ≤ 24
+front_short text f =
+    let size : 24 ≡ length (text ++ f.next ∷ f.rest) = ap length f.is in
+    let parts = length-append text (f.next ∷ f.rest) in
+    omega (arith, size, parts)
+
+partial_short : (p : Phase) (partial text : List ℕ) (t : List _) → is_open p ≡ true → IsReadIn p partial text t → length partial ≤ 16392
+partial_short phase.New partial text t on u = let short = front_short text u.front in let same = ap length u.all in omega (arith, short, same)
+partial_short phase.Preface partial text t on u = let short = front_short text u.front in let same = ap length u.all in omega (arith, short, same)
+partial_short phase.Frames partial text t on b = let short = b.rest.short in omega (arith, short)
+partial_short phase.Closed partial text t on b = absurd (let no : false ≡ true = on in cc)
+partial_short phase.Dead partial text t on b = absurd (let no : false ≡ true = on in cc)
+
+pub within : (setup : Setup) (g : Standing) → length g.partial ≤ 16392 → IsSmall setup g.kept → IsHeldWithin setup g
+within setup g short small = record {
+  beside = (let beside = small.beside in omega (arith, short, beside));
+  few_responses = small.few_boxes;
+  few_requests = small.few_requests;
+  few_connections = small.few_connections;
+  each = small.each;
+  all = (let all = small.all in omega (arith, short, all));
+}
+
+-- ---- where it stands behind a step
+
+module _ (setup : Setup) (g : Standing) (step : Step) (log : List Step) (run : List Move) (stands : Stands setup g (step ∷ log) run) where
+  abbrev known : Known
+  known = known_of setup (conducts run)
+
+  knows : AreKnown known (conducts run)
+  knows = known_so setup (conducts run)
+
+  rests : RestsBehind setup run
+  rests = let answered = stands.answered known refl knows in subst (RestsBehind setup) (sym answered.2) answered.3.rests
+
+  small_body : setup.max_body < 2 ^ 64
+  small_body = let body = stands.serves.servable.body in omega (arith, body)
+
+  open_small : (p : Phase) → g.phase ≡ p → is_open p ≡ true → IsSmall setup g.kept
+  open_small phase.New is on = absurd (let o : IsOpen setup phase.New g.partial g.kept (client_in (step ∷ log)) run = subst (λ x. Rattle.gateway.specs.Stands.IsIn x setup g.partial g.kept (client_in (step ∷ log)) run) is stands.is_in in
+      let owed : settings_frame ∷ [] ≡ [] = sym o.leads.keeps.owed ∙ sym (ap (λ s. s.desk.queue) o.leads.stands.is) ∙ rests.conduct.nothing in cc)
+  open_small phase.Preface is on =
+      let o : IsOpen setup phase.Preface g.partial g.kept (client_in (step ∷ log)) run = subst (λ x. Rattle.gateway.specs.Stands.IsIn x setup g.partial g.kept (client_in (step ∷ log)) run) is stands.is_in in
+      little_kept setup run g.kept o.state o.leads rests small_body (λ streaming. absurd (let no : Whole ≡ Streaming = sym stands.serves.servable.whole ∙ streaming in cc))
+  open_small phase.Frames is on =
+      let o : IsOpen setup phase.Frames g.partial g.kept (client_in (step ∷ log)) run = subst (λ x. Rattle.gateway.specs.Stands.IsIn x setup g.partial g.kept (client_in (step ∷ log)) run) is stands.is_in in
+      little_kept setup run g.kept o.state o.leads rests small_body (λ streaming. absurd (let no : Whole ≡ Streaming = sym stands.serves.servable.whole ∙ streaming in cc))
+  open_small phase.Closed is on = absurd (let no : false ≡ true = on in cc)
+  open_small phase.Dead is on = absurd (let no : false ≡ true = on in cc)
+
+  open_short : (p : Phase) → g.phase ≡ p → is_open p ≡ true → length g.partial ≤ 16392
+  open_short phase.New is on = let o : IsOpen setup phase.New g.partial g.kept (client_in (step ∷ log)) run = subst (λ x. Rattle.gateway.specs.Stands.IsIn x setup g.partial g.kept (client_in (step ∷ log)) run) is stands.is_in in partial_short phase.New g.partial (client_in (step ∷ log)) _ on o.octets
+  open_short phase.Preface is on = let o : IsOpen setup phase.Preface g.partial g.kept (client_in (step ∷ log)) run = subst (λ x. Rattle.gateway.specs.Stands.IsIn x setup g.partial g.kept (client_in (step ∷ log)) run) is stands.is_in in partial_short phase.Preface g.partial (client_in (step ∷ log)) _ on o.octets
+  open_short phase.Frames is on = let o : IsOpen setup phase.Frames g.partial g.kept (client_in (step ∷ log)) run = subst (λ x. Rattle.gateway.specs.Stands.IsIn x setup g.partial g.kept (client_in (step ∷ log)) run) is stands.is_in in partial_short phase.Frames g.partial (client_in (step ∷ log)) _ on o.octets
+  open_short phase.Closed is on = absurd (let no : false ≡ true = on in cc)
+  open_short phase.Dead is on = absurd (let no : false ≡ true = on in cc)
+
+  pub open_within : is_open g.phase ≡ true → IsHeldWithin setup g
+  open_within on = within setup g (open_short g.phase refl on) (open_small g.phase refl on)
+
+  -- where it isn't closed
+  pub not_closed_within : (g.phase ≡ phase.Closed → ⊥) → IsHeldWithin setup g
+  not_closed_within goes_on = open_within (by g.phase refl)
+    where
+      by : (p : Phase) → g.phase ≡ p → is_open p ≡ true
+      by phase.New is = refl
+      by phase.Preface is = refl
+      by phase.Frames is = refl
+      by phase.Closed is = absurd (goes_on is)
+      by phase.Dead is = absurd (subst (λ p. Rattle.gateway.specs.Stands.IsIn p setup g.partial g.kept (client_in (step ∷ log)) run) is stands.is_in)
+
+-- ---- once it is over, nothing that is kept matters
+
+pub over_stands : (setup : Setup) (g h : Standing) (log : List Step) (run : List Move) → g.phase ≡ phase.Closed → h ≡ record g { partial = []; kept = h.kept } → Stands setup g log run → Stands setup h log run
+over_stands setup g h log run closed is stands =
+    subst (λ x. Stands setup x log run) (sym is) (record {
+      serves = record { servable = stands.serves.servable; routes = stands.serves.routes; max_body = stands.serves.max_body; max_response = stands.serves.max_response };
+      answered = stands.answered;
+      is_in = subst (λ p. Rattle.gateway.specs.Stands.IsIn p setup [] h.kept (client_in log) run) (sym closed) (subst (λ p. Rattle.gateway.specs.Stands.IsIn p setup g.partial g.kept (client_in log) run) closed stands.is_in);
+    })
+
+-- where all was let go of
+pub empty_within : (setup : Setup) (h : Standing) → h.partial ≡ [] → IsSmall setup h.kept → IsHeldWithin setup h
+empty_within setup h is small = let none : length h.partial ≡ 0 = ap length is in within setup h (omega (arith, none)) small

@@ -1,0 +1,24 @@
+use Rattle.std.proofs.Common.{◌∷◌, ◌++◌, ap}
+use Rattle.outputs.specs.Views.{event_of}
+use Rattle.gateway.specs.Stands.{Standing}
+use Rattle.gateway.proofs.Sizes.{empty_within}
+use Rattle.gateway.proofs.gateway.Gateway.step.Goals as goal
+
+pub returns-in-Ok-clause-stands : goal.returns-in-Ok-clause-stands
+returns-in-Ok-clause-stands c =
+    let steps = c.in-Ok.ensures.steps in (
+      steps.0,
+      steps.1,
+      λ setup log run stands.
+          let next = steps.2 setup log run stands in
+          record { segment = next.segment; stands = c.let_go_if_over.ensures.stands setup (record { event = event_of c.args.event.now; outputs = steps.0 } ∷ log) (next.segment ++ run) next.stands },
+    )
+
+pub returns-in-Ok-clause-held : goal.returns-in-Ok-clause-held
+returns-in-Ok-clause-held c = λ setup log run stands.
+    let steps = c.in-Ok.ensures.steps in
+    let next = steps.2 setup log run stands in
+    c.let_go_if_over.ensures.held setup (record { event = event_of c.args.event.now; outputs = steps.0 }) log (next.segment ++ run) next.stands
+
+pub returns-in-Err-clause-held : goal.returns-in-Err-clause-held
+returns-in-Err-clause-held c = λ setup log run stands. empty_within setup c.let_go.new.self (ap (λ (g : Standing). g.partial) c.let_go.ensures.stays) (c.let_go.ensures.small setup)

@@ -1,0 +1,25 @@
+-- How many octets a gateway holds between steps, its configuration aside, and how many it may.
+use Rattle.std.specs.Prelude.{ℕ, ◌+◌, ◌*◌, ◌≤◌, length}
+use Rattle.model.specs.Setup.{Setup}
+use Rattle.holding.specs.Held as rooms
+use Rattle.gateway.specs.Stands.{Standing}
+
+-- all octet lists of its value: the client's octets that aren't a whole frame, and what the rooms keep
+abbrev pub held_in : Standing → ℕ
+held_in g = length g.partial + rooms.held_in g.kept
+
+-- the most for each of at most 100 streams, and in all
+abbrev pub record_bound : Setup → ℕ
+record_bound setup = setup.max_body + setup.max_response + 400000
+
+abbrev pub held_bound : Setup → ℕ
+held_bound setup = 200000 + 100 * record_bound setup
+
+-- It holds no more: beside its streams, for each of them, of which there are at most 100, and in all.
+pub record IsHeldWithin (setup : Setup) (g : Standing) : Type 0 where
+  pub beside : length g.partial + rooms.held_beside g.kept ≤ 200000
+  pub few_responses : length g.kept.offers.kept ≤ 100
+  pub few_requests : length g.kept.upstreams.held ≤ 100
+  pub few_connections : length g.kept.upstreams.live ≤ 100
+  pub each : (stream : ℕ) → rooms.held_for stream g.kept ≤ record_bound setup
+  pub all : held_in g ≤ held_bound setup

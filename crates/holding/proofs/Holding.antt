@@ -1,0 +1,366 @@
+-- What the rooms keep where the gateway rests is bounded: for each stream its outbox and its connections' answers together, and all of it.
+use Rattle.std.proofs.Common.{◌≡◌, ℕ, ◌+◌, ◌*◌, ◌<◌, ◌≤◌, ◌^◌, true, false, List, [], ◌∷◌, length, Option, Some, None, refl, sym, ◌∙◌, ap, subst, arith}
+use Rattle.std.specs.Prelude.{is_some, option_map, All}
+use Rattle.std.proofs.lemmas.List.{length-map, length-reverse}
+use Rattle.std.proofs.lemmas.Nat.{mul-le}
+use Rattle.model.specs.Setup.{Setup, Passing}
+use Rattle.model.specs.Setup.Passing.{Whole, Streaming}
+use Rattle.model.specs.Tapes.{Entry}
+use Rattle.model.specs.Lifetimes.{active}
+use Rattle.model.specs.StreamStates.{most_active}
+use Rattle.model.specs.Tables.{Table, total_size}
+use Rattle.model.specs.Known.{Known}
+use Rattle.model.specs.Failures.{AreJudged}
+use Rattle.model.specs.ResponseHeads.{longest_section}
+use Rattle.conduct.specs.Rule.{AreKnown, known_of}
+use Rattle.conduct.specs.Book.{Book}
+use Rattle.conduct.specs.Held.{octets_begun}
+use Rattle.conduct.proofs.Few.{few_on_tape}
+use Rattle.conduct.proofs.Knowing.{known_so}
+use Rattle.conduct.proofs.Short.{begun_is_short}
+use Rattle.offering.specs.Held as offers
+use Rattle.offering.specs.Held.{AreDistinct, AreLimited, FitRooms}
+use Rattle.offering.specs.Rule as offering
+use Rattle.offering.specs.State as offering_state
+use Rattle.offering.specs.State.{Kept}
+use Rattle.offering.proofs.Allowing.{placed}
+use Rattle.offering.proofs.Counting.{are_distinct, are_of_active}
+use Rattle.offering.proofs.Holding as outboxes
+use Rattle.offering.proofs.Limits.{NoneTooLong, none_too_long}
+use Rattle.offering.proofs.Offering.{IsKeptIf}
+use Rattle.offering.proofs.Ruling.{Placed}
+use Rattle.offering.proofs.SentOctets.{unpadded}
+use Rattle.serving.specs.Held as requests
+use Rattle.serving.specs.Told.{Told}
+use Rattle.serving.specs.Rule as serving
+use Rattle.serving.specs.State.{Live, find, live_of}
+use Rattle.serving.specs.State as serving_state
+use Rattle.serving.specs.State.Due.{Nothing}
+use Rattle.serving.proofs.Clauses.{all_stand}
+use Rattle.serving.proofs.Counted.{live_few}
+use Rattle.serving.proofs.Holding as waiting
+use Rattle.serving.proofs.Lists.{found_key}
+use Rattle.serving.proofs.Served.{held_few}
+use Rattle.serving.proofs.Standing.{Stands}
+use Rattle.tables.proofs.Bounded.{all_bounded}
+use Rattle.policy.specs.Moves.{Move, told_in}
+use Rattle.policy.specs.State.{State, conducts, tape_of, offers_of, turns_of, tables_of, state_of, summary_at}
+use Rattle.policy.specs.Rule.{RestsBehind}
+use Rattle.policy.specs.Held.{on_offer_for}
+use Rattle.policy.proofs.EndingLives.{AreApart, all_apart}
+use Rattle.policy.proofs.Keeping.{IsKnown, judged}
+use Rattle.policy.proofs.Placing.{turns_told, turns_may, turns_so, offers_may, offers_right, offers_told, tables_fit, in_turns}
+use Rattle.policy.proofs.Tapes.{offers_tape, requests_tape}
+use Rattle.policy.proofs.Telling.{all_moved, told_right}
+use Rattle.header_blocks.specs.Encoding.{Encoding}
+use Rattle.upstreams.specs.Kept.{with_due}
+use Rattle.upstreams.specs.Connections.{Connection, number_of, stream_of, lives}
+use Rattle.relay.specs.Hearing.{IsHeard}
+use Rattle.relay.specs.View.{View, square, Leads}
+use Rattle.relay.proofs.Lives.{lives_found}
+use Rattle.holding.specs.Held.{octets_of, answers_for, answers_in, IsSmall, held_for, held_beside, held_in, most_beside, most_streams, most_for_stream, most_in_all}
+use Rattle.holding.proofs.Lists.{ids_of, offer_none, offer_found, box_at, all_found, by_number, found_own, found_behind, HaveOne, answers_none, answers_found, sums_most, sums_both, offers_by_stream, answers_by_stream}
+use Rattle.holding.proofs.Answering.{Answering, answering, none_waits, answer_small, answer_streamed}
+
+module _ (known : Known) (run : List Move) (k : IsKnown known run) (rests : RestsBehind known.setup run) where
+  abbrev t : List Entry
+  t = tape_of run
+
+  abbrev s : State
+  s = state_of known.setup run
+
+  abbrev told : Told
+  told = told_in (summary_at known.setup run)
+
+  -- ---- what the concerns know
+
+  stand : Stands known t s.requests
+  stand = subst (λ (x : List Entry). Stands known x s.requests) (requests_tape known.setup run) (all_stand known (turns_of known.setup run) (turns_may known.setup run k.all) (turns_so known run k.knows k.all k.answered))
+
+  place : Placed known t s.offers
+  place = subst (λ (x : List Entry). Placed known x s.offers) (offers_tape known.setup run) (placed known (offers_of known.setup run) (offers_may known.setup run k.all) (offers_right known run k.knows k.all) (offers_told known run k.answered)).1
+
+  judged_there : AreJudged known (offering.tape_of (offers_of known.setup run))
+  judged_there = subst (AreJudged known) (sym (offers_tape known.setup run)) (judged known run k.knows k.answered)
+
+  fits : NoneTooLong known t
+  fits = subst (NoneTooLong known) (offers_tape known.setup run) (none_too_long known (offers_of known.setup run) (offers_may known.setup run k.all) (offers_right known run k.knows k.all) (offers_told known run k.answered) judged_there)
+
+  heads : All (λ (x : Kept). outboxes.FewWait x.box) s.offers.kept
+  heads = outboxes.all_few known (offers_of known.setup run) (offers_may known.setup run k.all) (offers_right known run k.knows k.all) (offers_told known run k.answered)
+
+  distinct : AreDistinct (ids_of s.offers.kept)
+  distinct = are_distinct known (offers_of known.setup run) (offers_may known.setup run k.all) (offers_right known run k.knows k.all) (offers_told known run k.answered)
+
+  goes_on : (j : ℕ) (live : Live) → live_of j s.requests.live ≡ Some live → Answering known t j live
+  goes_on = answering known t s.requests told stand (told_right known run k.knows (all_moved known run k.all)) rests.served
+
+  -- connections of one stream are one
+  one_stream : (i j : ℕ) (l m : Live) → live_of i s.requests.live ≡ Some l → live_of j s.requests.live ≡ Some m → l.stream ≡ m.stream → i ≡ j
+  one_stream i j l m first second same =
+      let a = goes_on i l first in
+      let b = goes_on j m second in
+      let both = Rattle.model.proofs.DeliveryReadings.one_connection (Rattle.model.specs.Openings.opens t) a.o b.o stand.apart a.there b.there (a.of ∙ same ∙ sym b.of) in
+      sym a.number ∙ ap (λ (x : Rattle.model.specs.Openings.Opened). x.k) both ∙ b.number
+
+  -- ---- the connections that the rooms keep
+
+  module _ (live : List Connection) (same : s.requests.live ≡ lives live) where
+    apart : AreApart (lives live)
+    apart = subst AreApart same (all_apart known.setup (turns_of known.setup run) (turns_may known.setup run k.all))
+
+    kept_live : (j : ℕ) (c : Connection) → find number_of j live ≡ Some c → live_of j s.requests.live ≡ Some c.live
+    kept_live j c found = ap (live_of j) same ∙ lives_found j live ∙ ap (option_map (λ (x : Connection). x.live)) found
+
+    have_one : (cs : List Connection) → AreApart (lives cs) → ((j : ℕ) (c : Connection) → find number_of j cs ≡ Some c → find number_of j live ≡ Some c) → HaveOne cs
+    have_one [] once among = tt
+    have_one (c ∷ cs) once among = (none (find stream_of c.live.stream cs) refl, have_one cs once.1 behind)
+      where
+        behind : (j : ℕ) (x : Connection) → find number_of j cs ≡ Some x → find number_of j live ≡ Some x
+        behind j x found = among j x (found_behind c cs j x once.0 found)
+
+        none : (o : Option Connection) → find stream_of c.live.stream cs ≡ o → o ≡ None
+        none None found = refl
+        none (Some x) found =
+            let there = by_number c.live.stream cs x once.1 found in
+            let equal = one_stream c.live.k x.live.k c.live x.live (kept_live c.live.k c (among c.live.k c (found_own c cs))) (kept_live x.live.k x (behind x.live.k x there)) (sym (found_key stream_of c.live.stream cs x found)) in
+            absurd (let clash : ◌≡◌ {A = Option Live} None (Some x.live) = sym once.0 ∙ ap (λ n. live_of n (lives cs)) equal ∙ lives_found x.live.k cs ∙ ap (option_map (λ (y : Connection). y.live)) there in cc)
+
+    ones : HaveOne live
+    ones = have_one live apart (λ j c found. found)
+
+    -- each is of a stream that has an outbox
+    with_boxes : All (λ (c : Connection). is_some (offering_state.find c.live.stream s.offers.kept) ≡ true) live
+    with_boxes = all_found (λ (c : Connection). is_some (offering_state.find c.live.stream s.offers.kept) ≡ true) live apart (λ j c found. place.offering.lives c.live.stream ∙ (goes_on j c.live (kept_live j c found)).active)
+
+    module _ (heard : (j : ℕ) (c : Connection) → find number_of j live ≡ Some c → c.live.whole ≡ false → IsHeard known t j c.answer) where
+      module _ (fit : known.setup.passing ≡ Streaming → FitRooms known t) where
+        limited : AreLimited known.setup.passing known (offering.tape_of (offers_of known.setup run))
+        limited = subst (AreLimited known.setup.passing known) (sym (offers_tape known.setup run)) (by known.setup.passing refl)
+          where
+            by : (passing : Passing) → known.setup.passing ≡ passing → AreLimited passing known t
+            by Whole is = judged known run k.knows k.answered
+            by Streaming is = (fit is, unpadded known t (in_turns known run k.knows k.all))
+
+        boxes : All (λ (x : Kept). offers.octets_in x.box ≤ offers.most_octets known.setup) s.offers.kept
+        boxes = outboxes.all_held known (offers_of known.setup run) (offers_may known.setup run k.all) (offers_right known run k.knows k.all) (offers_told known run k.answered) limited
+
+        most : offers.most_octets known.setup ≤ known.setup.max_response + 212992
+        most = outboxes.most_within known.setup
+
+        -- what the outbox of a stream holds
+        box_small : (stream : ℕ) (x : Kept) → offering_state.find stream s.offers.kept ≡ Some x → offers.octets_in x.box ≤ known.setup.max_response + 212992
+        box_small stream x is = let small = box_at (λ (y : Kept). offers.octets_in y.box ≤ offers.most_octets known.setup) stream s.offers.kept x boxes is in omega (arith, small, most)
+
+        module _ (stream : ℕ) (c : Connection) (found : find stream_of stream live ≡ Some c) where
+          there : find number_of c.live.k live ≡ Some c
+          there = by_number stream live c apart found
+
+          own : c.live.stream ≡ stream
+          own = found_key stream_of stream live c found
+
+          a : Answering known t c.live.k c.live
+          a = goes_on c.live.k c.live (kept_live c.live.k c there)
+
+          told_of : IsHeard known t c.live.k c.answer
+          told_of = heard c.live.k c there a.goes_on
+
+          -- what the answer of its connection holds
+          answer_whole : known.setup.passing ≡ Whole → octets_of c.answer ≤ known.setup.max_response + 2 * longest_section
+          answer_whole whole = answer_small known t c.live.k c.live c.answer whole place.neighbours a told_of fits
+
+          answer_going : known.setup.passing ≡ Streaming → octets_of c.answer ≤ longest_section
+          answer_going streaming = answer_streamed known t c.live.k c.answer streaming told_of
+
+          answer_either : (passing : Passing) → known.setup.passing ≡ passing → octets_of c.answer ≤ known.setup.max_response + 2 * longest_section
+          answer_either Whole is = answer_whole is
+          answer_either Streaming is = let less = answer_going is in omega (arith, less)
+
+          -- of a body that is passed on whole its outbox holds nothing yet
+          box_bare : (x : Kept) → known.setup.passing ≡ Whole → offering_state.find stream s.offers.kept ≡ Some x → offers.octets_in x.box ≤ offers.most_heads * longest_section
+          box_bare x whole box =
+              let is_kept : IsKeptIf known t c.live.stream (Some x) = subst (IsKeptIf known t c.live.stream) (ap (λ n. offering_state.find n s.offers.kept) own ∙ box) (place.offering.kept c.live.stream a.active) in
+              let none = none_waits known t c.live.k c.live x.box whole place.neighbours a (is_kept.stands (rests.flushed.none_cut stream x box)) in
+              let some = outboxes.heads_sum x.box (box_at (λ (y : Kept). outboxes.FewWait y.box) stream s.offers.kept x heads box) in
+              omega (arith, none, some)
+
+          -- both together
+          both_small : (x : Kept) → offering_state.find stream s.offers.kept ≡ Some x → offers.octets_in x.box + octets_of c.answer ≤ known.setup.max_response + 229376
+          both_small x box = by known.setup.passing refl
+            where
+              by : (passing : Passing) → known.setup.passing ≡ passing → offers.octets_in x.box + octets_of c.answer ≤ known.setup.max_response + 229376
+              by Whole is = let bare = box_bare x is box in let answer = answer_whole is in omega (arith, bare, answer)
+              by Streaming is = let small = box_small stream x box in let answer = answer_going is in omega (arith, small, answer)
+
+        -- what is on offer for a stream, and what its connections' answers hold
+        pub pair : (stream : ℕ) → on_offer_for stream s.offers.kept + answers_for stream live ≤ known.setup.max_response + 229376
+        pair stream = by (find stream_of stream live) refl (offering_state.find stream s.offers.kept) refl
+          where
+            by : (o : Option Connection) → find stream_of stream live ≡ o → (b : Option Kept) → offering_state.find stream s.offers.kept ≡ b → on_offer_for stream s.offers.kept + answers_for stream live ≤ known.setup.max_response + 229376
+            by None none None empty =
+                let answer = answers_none stream live none in
+                let box = offer_none stream s.offers.kept empty in
+                omega (arith, answer, box)
+            by None none (Some x) is =
+                let answer = answers_none stream live none in
+                let box = offer_found stream s.offers.kept x distinct is in
+                let small = box_small stream x is in
+                omega (arith, answer, box, small)
+            by (Some c) found None empty =
+                let answer = answers_found stream live c ones found in
+                let small = answer_either stream c found known.setup.passing refl in
+                let box = offer_none stream s.offers.kept empty in
+                omega (arith, answer, small, box)
+            by (Some c) found (Some x) is =
+                let answer = answers_found stream live c ones found in
+                let box = offer_found stream s.offers.kept x distinct is in
+                let both = both_small stream c found x is in
+                omega (arith, answer, box, both)
+
+        -- all outboxes and all answers
+        pub all_pairs : offers.octets_held s.offers + answers_in live ≤ length s.offers.kept * (known.setup.max_response + 229376)
+        all_pairs =
+            let first = offers_by_stream s.offers.kept in
+            let second = answers_by_stream s.offers.kept live with_boxes in
+            let both = sums_both (λ n. on_offer_for n s.offers.kept) (λ n. answers_for n live) s.offers.kept in
+            let total = sums_most (λ n. on_offer_for n s.offers.kept + answers_for n live) (known.setup.max_response + 229376) s.offers.kept pair in
+            omega (arith, first, second, both, total)
+
+  -- ---- what is kept of requests, and beside streams, while the connection goes on
+
+  module _ (on : s.desk.book.ends ≡ false) where
+    moved : Rattle.conduct.specs.Book.AllMoved known.setup (conducts run)
+    moved = all_moved known run k.all
+
+    few : length (active t) ≤ most_active
+    few = few_on_tape known (conducts run) k.knows moved rests.conduct.nothing on
+
+    pub few_boxes : length s.offers.kept ≤ most_active
+    few_boxes =
+        let count : length (ids_of s.offers.kept) ≡ length (active t) =
+        ap length (are_of_active known (offers_of known.setup run) (offers_may known.setup run k.all) (offers_right known run k.knows k.all) (offers_told known run k.answered)) ∙ length-reverse (active (offering.tape_of (offers_of known.setup run))) ∙ ap (λ (x : List Entry). length (active x)) (offers_tape known.setup run) in
+        let mapped = length-map s.offers.kept (λ (x : Kept). x.id) in
+        omega (arith, count, mapped, few)
+
+    turns_same : length (active (serving_state.tape_of (turns_of known.setup run))) ≡ length (active t)
+    turns_same = ap (λ (x : List Entry). length (active x)) (requests_tape known.setup run)
+
+    pub few_requests : length s.requests.held ≤ most_active
+    few_requests =
+        let less = held_few known (turns_of known.setup run) (turns_may known.setup run k.all) (turns_so known run k.knows k.all k.answered) in
+        let same = turns_same in
+        omega (arith, less, same, few)
+
+    pub few_connections : length s.requests.live ≤ most_active
+    few_connections =
+        let less = live_few known (turns_of known.setup run) (turns_may known.setup run k.all) (turns_so known run k.knows k.all k.answered)
+        (subst (λ (x : Told). serving.Rests x s.requests) (sym (turns_told known.setup run)) rests.served) in
+        let same = turns_same in
+        omega (arith, less, same, few)
+
+    pub few_beside : octets_begun s.desk.book.block + total_size s.tables.decoding.fields + total_size s.tables.encoding.table.fields ≤ most_beside
+    few_beside =
+        let block = begun_is_short known.setup (conducts run) moved on in
+        let tables = all_bounded known.setup.policy (tables_of known.setup run) (tables_fit known.setup run k.all) in
+        let decoding = tables.0.sizes in
+        let encoding = tables.1.sizes in
+        omega (arith, block, decoding, encoding)
+
+    module _ (range : known.setup.max_body < 2 ^ 64) where
+      pub request_small : (stream : ℕ) → requests.held_requests stream s.requests.held ≤ known.setup.max_body + 16504
+      request_small stream =
+          let all = waiting.held_by_body known (turns_of known.setup run) (turns_may known.setup run k.all) (turns_so known run k.knows k.all k.answered) range stream in
+          omega (arith, all)
+
+      pub requests_small : requests.held_of_all s.requests.held ≤ 100 * (known.setup.max_body + 16504)
+      requests_small =
+          let all = waiting.all_by_body known (turns_of known.setup run) (turns_may known.setup run k.all) (turns_so known run k.knows k.all k.answered) range in
+          let same = turns_same in
+          let most = mul-le (length (active (serving_state.tape_of (turns_of known.setup run)))) (known.setup.max_body + requests.most_beside) 100 (known.setup.max_body + requests.most_beside) (omega (arith, same, few)) (omega arith) in
+          omega (arith, all, most)
+
+-- ---- what the rooms keep
+
+module _ (setup : Setup) (run : List Move) (kept : View) (s : State) (led : Leads setup run kept square s) (rests : RestsBehind setup run) where
+  abbrev known : Known
+  known = known_of setup (conducts run)
+
+  knows : AreKnown known (conducts run)
+  knows = known_so setup (conducts run)
+
+  is_known : IsKnown known run
+  is_known = record { knows = knows; all = led.stands.allowed; answered = led.so known refl knows }
+
+  abbrev rule : State
+  rule = state_of setup run
+
+  on : rule.desk.book.ends ≡ false
+  on = ap (λ (x : State). x.desk.book.ends) led.stands.is ∙ led.stands.goes_on
+
+  offers_same : rule.offers ≡ kept.offers
+  offers_same = ap (λ (x : State). x.offers) led.stands.is ∙ led.keeps.offers
+
+  requests_same : rule.requests ≡ with_due kept.upstreams Nothing
+  requests_same = ap (λ (x : State). x.requests) led.stands.is ∙ led.keeps.requests
+
+  live_same : rule.requests.live ≡ lives kept.upstreams.live
+  live_same = ap (λ (x : serving_state.State). x.live) requests_same
+
+  held_same : rule.requests.held ≡ kept.upstreams.held
+  held_same = ap (λ (x : serving_state.State). x.held) requests_same
+
+  block_same : rule.desk.book.block ≡ kept.inbound.block
+  block_same = ap (λ (x : State). x.desk.book.block) led.stands.is ∙ ap (λ (b : Book). b.block) led.keeps.book
+
+  decoding_same : rule.tables.decoding ≡ kept.inbound.table
+  decoding_same = ap (λ (x : State). x.tables.decoding) led.stands.is ∙ led.keeps.decoding
+
+  encoding_same : rule.tables.encoding ≡ kept.encoding
+  encoding_same = ap (λ (x : State). x.tables.encoding) led.stands.is ∙ led.keeps.encoding
+
+  heard_there : (j : ℕ) (c : Connection) → find number_of j kept.upstreams.live ≡ Some c → c.live.whole ≡ false → IsHeard known (tape_of run) j c.answer
+  heard_there = led.heard known refl knows
+
+  module _ (range : setup.max_body < 2 ^ 64) (fit : setup.passing ≡ Streaming → FitRooms known (tape_of run)) where
+    beside : held_beside kept ≤ most_beside
+    beside =
+        let little = few_beside known run is_known rests on in
+        let block = ap octets_begun block_same in
+        let decoding = ap (λ (x : Table). total_size x.fields) decoding_same in
+        let encoding = ap (λ (x : Encoding). total_size x.table.fields) encoding_same in
+        omega (arith, little, block, decoding, encoding)
+
+    boxes_few : length kept.offers.kept ≤ most_streams
+    boxes_few = let few_there = few_boxes known run is_known rests on in let same = ap (λ (x : offering_state.State). length x.kept) offers_same in omega (arith, few_there, same)
+
+    requests_few : length kept.upstreams.held ≤ most_streams
+    requests_few = let few_there = few_requests known run is_known rests on in let same = ap length held_same in omega (arith, few_there, same)
+
+    connections_few : length kept.upstreams.live ≤ most_streams
+    connections_few =
+        let few_there = few_connections known run is_known rests on in
+        let same = ap length live_same in
+        let mapped = length-map kept.upstreams.live (λ (c : Connection). c.live) in
+        omega (arith, few_there, same, mapped)
+
+    each : (stream : ℕ) → held_for stream kept ≤ most_for_stream setup
+    each stream =
+        let both = pair known run is_known rests kept.upstreams.live live_same heard_there fit stream in
+        let request = request_small known run is_known rests on range stream in
+        let offer = ap (λ (x : offering_state.State). on_offer_for stream x.kept) offers_same in
+        let held = ap (requests.held_requests stream) held_same in
+        omega (arith, both, request, offer, held)
+
+    all : held_in kept ≤ most_in_all setup
+    all =
+        let little = beside in
+        let both = all_pairs known run is_known rests kept.upstreams.live live_same heard_there fit in
+        let few_there = few_boxes known run is_known rests on in
+        let most = mul-le (length rule.offers.kept) (setup.max_response + 229376) 100 (setup.max_response + 229376) (omega (arith, few_there)) (omega arith) in
+        let request = requests_small known run is_known rests on range in
+        let offer = ap (λ (x : offering_state.State). offers.octets_held x) offers_same in
+        let held = ap requests.held_of_all held_same in
+        omega (arith, little, both, most, request, offer, held)
+
+    pub little_kept : IsSmall setup kept
+    little_kept = record { beside = beside; few_boxes = boxes_few; few_requests = requests_few; few_connections = connections_few; each = each; all = all }

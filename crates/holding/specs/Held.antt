@@ -1,0 +1,74 @@
+-- How many octets the rooms keep, as sums over all octet lists of what they keep, and how many there may be where they rest.
+use Rattle.std.specs.Prelude.{ℕ, ◌+◌, ◌*◌, ◌≤◌, ◌==◌, if◌then◌else◌, List, [], ◌∷◌, length, Option, Some, None}
+use Rattle.model.specs.ResponseHeads.{Head}
+use Rattle.model.specs.Setup.{Setup}
+use Rattle.model.specs.Tables.{total_size}
+use Rattle.conduct.specs.Held.{octets_begun}
+use Rattle.offering.specs.Held as offers
+use Rattle.serving.specs.Held as requests
+use Rattle.answers.specs.Waiting.{Answer}
+use Rattle.upstreams.specs.Connections.{Connection, stream_of}
+use Rattle.policy.specs.Held.{on_offer_for}
+use Rattle.relay.specs.View.{View}
+
+-- ---- answers that are being read
+
+-- the octets of a head that waits, if one does
+abbrev pub head_waiting : Option Head → ℕ
+head_waiting None = 0
+head_waiting (Some head) = offers.head_octets head
+
+-- the octets of an answer: those that its reader holds unread, its head and its body that wait for its end
+abbrev pub octets_of : Answer → ℕ
+octets_of answer = length answer.reader.held + head_waiting answer.head + length answer.body
+
+-- those of the answers of a stream's connections
+abbrev pub answers_for : ℕ → List Connection → ℕ
+answers_for stream [] = 0
+answers_for stream (c ∷ cs) = (if stream_of c == stream then octets_of c.answer else 0) + answers_for stream cs
+
+-- those of all
+abbrev pub answers_in : List Connection → ℕ
+answers_in [] = 0
+answers_in (c ∷ cs) = octets_of c.answer + answers_in cs
+
+-- ---- all that is kept
+
+-- what is kept for a stream: what is on offer for it, what is held of its request, and the answers that are being read for it
+abbrev pub held_for : ℕ → View → ℕ
+held_for stream kept =
+    on_offer_for stream kept.offers.kept + requests.held_requests stream kept.upstreams.held + answers_for stream kept.upstreams.live
+
+-- what is kept beside that: the client's header block that isn't complete, and the tables of both directions, each field with the 32 that
+-- its size counts
+abbrev pub held_beside : View → ℕ
+held_beside kept = octets_begun kept.inbound.block + total_size kept.inbound.table.fields + total_size kept.encoding.table.fields
+
+-- all of it, stream or no stream
+abbrev pub held_in : View → ℕ
+held_in kept =
+    held_beside kept + (offers.octets_held kept.offers + requests.held_of_all kept.upstreams.held + answers_in kept.upstreams.live)
+
+-- ---- how many there may be
+
+-- beside what is kept for streams, for each of at most so many streams, and in all
+abbrev pub most_beside : ℕ
+most_beside = 150000
+
+abbrev pub most_streams : ℕ
+most_streams = 100
+
+abbrev pub most_for_stream : Setup → ℕ
+most_for_stream setup = setup.max_body + setup.max_response + 400000
+
+abbrev pub most_in_all : Setup → ℕ
+most_in_all setup = most_beside + most_streams * most_for_stream setup
+
+-- Little is kept.
+pub record IsSmall (setup : Setup) (kept : View) : Type 0 where
+  pub beside : held_beside kept ≤ most_beside
+  pub few_boxes : length kept.offers.kept ≤ most_streams
+  pub few_requests : length kept.upstreams.held ≤ most_streams
+  pub few_connections : length kept.upstreams.live ≤ most_streams
+  pub each : (stream : ℕ) → held_for stream kept ≤ most_for_stream setup
+  pub all : held_in kept ≤ most_in_all setup

@@ -1,0 +1,33 @@
+//! What the gateway's rooms keep of octets is bounded wherever the gateway rests: in what the code keeps, seen as a `View`, and so
+//! with the answers of upstreams that are still being read, of which the rule keeps nothing.
+#![tactic(auto)]
+
+ghost use Rattle.std.specs.Prelude.{◌≡◌, ◌<◌, ◌^◌, List};
+ghost use Rattle.model.specs.Setup.{Setup};
+ghost use Rattle.model.specs.Setup.Passing.{Streaming};
+ghost use Rattle.conduct.specs.Rule.{known_of};
+ghost use Rattle.offering.specs.Held.{FitRooms};
+ghost use Rattle.policy.specs.Moves.{Move};
+ghost use Rattle.policy.specs.State.{State, conducts, tape_of};
+ghost use Rattle.policy.specs.Rule.{RestsBehind};
+ghost use Rattle.relay.specs.View.{View, square, Leads};
+ghost use Rattle.holding.specs.Held.{IsSmall};
+
+/// Where moves led to what the rooms keep, nothing is pending and the gateway rests, little is kept (`IsSmall`):
+/// - at most 100 streams have an outbox, at most 100 requests aren't whole, and at most 100 connections are open;
+/// - for each stream at most `max_body + max_response + 400000` octets are kept: what is on offer for it, what is held of its request,
+///   and the answers that are being read for it, each with what its reader holds unread and the head and the body that wait for its end;
+/// - beside that at most 150,000: the client's header block that isn't complete, and both header tables;
+/// - so in all at most 150,000 and 100 times as much as for a stream.
+///
+/// Where bodies are passed on whole no stream holds two bodies of a response: a connection that is open at rest isn't done with, so its
+/// response isn't whole, and the outbox of its stream has interim heads alone.
+///
+/// The premises, and where each comes from:
+/// - `Leads`: by each part of a step (`relay`); `RestsBehind`: by the step;
+/// - that `max_body` fits 64 bits: by the configuration;
+/// - where bodies are passed on as they come, that what upstreams send fits their rooms (`FitRooms`): it is asked of each event before it
+///   is taken.
+pub fn little_is_kept()
+    ensures { (setup : Setup) (run : List Move) (kept : View) (s : State) → Leads setup run kept square s → RestsBehind setup run → setup.max_body < 2 ^ 64 → (setup.passing ≡ Streaming → FitRooms (known_of setup (conducts run)) (tape_of run)) → IsSmall setup kept }
+{}

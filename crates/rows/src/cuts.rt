@@ -1,0 +1,40 @@
+//! The transcripts once more, cut: octet by octet, by a client that goes away, and by upstreams that end or fail.
+
+ghost use Rattle.std.specs.Prelude.{◌<◌, IfOk};
+ghost use Rattle.gateway.specs.Setups.{setup_of, IsServable};
+
+use crate::configurations::{INDEXING, config, route};
+use crate::connections::{ENDED, GOES_ON};
+use crate::requests::{ANSWERED, MALFORMED, PASSED_ON};
+use crate::responses::{BROKEN, PASSED_BACK};
+use crate::transcripts::{Row, Transcript, assert_prints};
+use crate::windows::{IN_TURN, WAITING};
+use gateway::{Config, Event, Policy};
+use scripts::read_script;
+use std::alloc::{AllocError, Global};
+use std::test::*;
+
+mod ends_of_clients;
+mod ends_of_upstreams;
+mod octets;
+
+/// The default configuration, but for how blocks are written.
+fn config_of(alloc: Global, policy: Policy) -> Result<Config, AllocError>
+    ensures { IfOk result (λ config. IsServable (setup_of config)) }
+{
+    let routes = vec![in alloc; route(alloc, "", "/")?]?;
+    Ok(config(routes, policy))
+}
+
+/// The events of a row.
+fn events_of(alloc: Global, row: &Row) -> Result<Vec<Event>, Fail> {
+    let transcript = Transcript::of(alloc, row)?;
+    Ok(read_script(alloc, &transcript.script).map_err(|_| "a script")?)
+}
+
+/// After how many octets pieces of this length are cut: after each, or, where there are more than 2,000, after every 1,021st.
+fn step_of(length: usize) -> usize
+    ensures { 0 < result }
+{
+    if length > 2000 { 1021 } else { 1 }
+}

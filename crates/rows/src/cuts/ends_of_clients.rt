@@ -1,0 +1,146 @@
+//! A client that goes away behind each of its octets.
+
+ghost use Rattle.gateway.specs.Setups.{setup_of, IsServable};
+
+use super::*;
+use crate::runs::{Told, drive};
+use frames::{Split, View, split};
+use std::process::Abort;
+
+/// What was seen of the frames of a client: how many requests have ended, and whether the header block that is begun ends one.
+#[derive(Clone, Copy)]
+struct Seen {
+    ended: usize,
+    is_last: bool,
+}
+
+/// What is seen behind one more frame: a request ends with DATA that has END_STREAM, or with the last frame of a header block that has it.
+fn seen_behind(seen: Seen, view: View<'_>) -> Seen {
+    let ends_stream = view.flags & 1 != 0;
+    let ends_block = view.flags & 4 != 0;
+    let is_last = match view.kind {
+        1 => ends_stream,
+        _ => seen.is_last,
+    };
+    let ends = match view.kind {
+        0 => ends_stream,
+        1 | 9 => is_last && ends_block,
+        _ => false,
+    };
+    let ended = seen.ended.saturating_add(usize::from(ends));
+    Seen { ended, is_last }
+}
+
+/// How many requests have ended in octets of a client.
+fn ended_in(octets: &[u8]) -> usize {
+    let mut seen = Seen {
+        ended: 0,
+        is_last: false,
+    };
+    let mut rest = octets.get(24..).unwrap_or(&[]);
+    for _ in 0..octets.len() {
+        match split(rest) {
+            Split::Frame(view, used) => {
+                seen = seen_behind(seen, view);
+                rest = rest.get(used..).unwrap_or(&[]);
+            }
+            _ => return seen.ended,
+        }
+    }
+    seen.ended
+}
+
+/// Whether all was closed, and upstreams were sent whole requests alone, as in the whole run, and no more than the client had ended.
+fn is_left_well(told: &Told, whole: &Told, octets: &[u8]) -> bool {
+    if !told.is_over || told.strays > 0 || told.upstreams.len() > ended_in(octets) {
+        return false;
+    }
+    for (upstream, other) in told.upstreams.iter().zip(&whole.upstreams) {
+        if !upstream.is_closed || upstream.text.as_slice() != other.text.as_slice() {
+            return false;
+        }
+    }
+    told.upstreams.len() <= whole.upstreams.len()
+}
+
+/// The first cut of a piece at which it is wrong what is put out, where the client goes away there; `came` came before it.
+fn wrong_cut(
+    alloc: Global,
+    config: &Config,
+    before: &[Event],
+    piece: &[u8],
+    whole: &Told,
+    came: &mut Vec<u8>,
+) -> Result<Option<usize>, Fail>
+    requires { IsServable (setup_of config.now) }
+{
+    let start = came.len();
+    for cut in (0..piece.len() + 1).step_by(step_of(piece.len())) {
+        let front = piece.get(..cut).unwrap_or(piece);
+        came.truncate(start);
+        came.extend_from_slice(front)?;
+        let more = [
+            Event::Client(Vec::from_slice(alloc, front)?),
+            Event::ClientEnd,
+        ];
+        let told = drive(alloc, config, before, &more)?;
+        if !is_left_well(&told, whole, came) {
+            return Ok(Some(cut));
+        }
+    }
+    came.truncate(start);
+    came.extend_from_slice(piece)?;
+    Ok(None)
+}
+
+/// No request that wasn't complete goes upstream where the client goes away.
+fn assert_left_well(
+    rt: &impl Abort,
+    alloc: Global,
+    config: &Config,
+    name: &str,
+    events: &[Event],
+) -> Result<(), Fail>
+    requires { IsServable (setup_of config.now) }
+{
+    let whole = drive(alloc, config, events, &[])?;
+    let mut came = Vec::new(alloc);
+    for (place, event) in events.iter().enumerate() {
+        if let Event::Client(piece) = event {
+            let before = events.get(..place).unwrap_or(&[]);
+            let wrong = wrong_cut(alloc, config, before, piece, &whole, &mut came)?;
+            assert_eq!(rt; wrong, None, "at {name}, event {place}");
+        }
+    }
+    Ok(())
+}
+
+fn assert_rows_left_well(
+    rt: &impl Abort,
+    alloc: Global,
+    config: &Config,
+    rows: &[Row],
+) -> Result<(), Fail>
+    requires { IsServable (setup_of config.now) }
+{
+    for row in rows {
+        assert_left_well(rt, alloc, config, row.name, &events_of(alloc, row)?)?;
+    }
+    Ok(())
+}
+
+#[test]
+fn client_goes_away(rt: HostRuntime) -> Result<(), Fail> {
+    let alloc = rt.alloc();
+    let plain = config_of(alloc, Policy::Plain)?;
+    assert_rows_left_well(&rt, alloc, &plain, &PASSED_ON)?;
+    assert_rows_left_well(&rt, alloc, &plain, &MALFORMED)?;
+    assert_rows_left_well(&rt, alloc, &plain, &ANSWERED)?;
+    assert_rows_left_well(&rt, alloc, &plain, &PASSED_BACK)?;
+    assert_rows_left_well(&rt, alloc, &plain, &BROKEN)?;
+    assert_rows_left_well(&rt, alloc, &plain, &ENDED)?;
+    assert_rows_left_well(&rt, alloc, &plain, &GOES_ON)?;
+    assert_rows_left_well(&rt, alloc, &plain, &WAITING)?;
+    assert_rows_left_well(&rt, alloc, &plain, &IN_TURN)?;
+    assert_rows_left_well(&rt, alloc, &config_of(alloc, Policy::Indexing)?, &INDEXING)
+}

@@ -1,0 +1,121 @@
+//! Octets that come one by one.
+
+ghost use Rattle.gateway.specs.Setups.{setup_of, IsServable};
+
+use super::*;
+use crate::notation::push_octets;
+use crate::runs::drive;
+use std::process::Abort;
+
+/// Whose octets are cut.
+#[derive(Clone, Copy)]
+enum Side {
+    Client,
+    Upstreams,
+}
+
+fn push_octets_of_client(
+    alloc: Global,
+    piece: &[u8],
+    events: &mut Vec<Event>,
+) -> Result<(), AllocError> {
+    for octet in piece {
+        events.push(Event::Client(vec![in alloc; *octet]?))?;
+    }
+    Ok(())
+}
+
+fn push_octets_of_upstream(
+    alloc: Global,
+    k: u32,
+    piece: &[u8],
+    events: &mut Vec<Event>,
+) -> Result<(), AllocError> {
+    for octet in piece {
+        events.push(Event::Up(k, vec![in alloc; *octet]?))?;
+    }
+    Ok(())
+}
+
+/// The events, but for the octets of one side one by one.
+fn in_octets(alloc: Global, events: Vec<Event>, side: Side) -> Result<Vec<Event>, AllocError> {
+    let mut cut = Vec::new(alloc);
+    for event in events {
+        match (event, side) {
+            (Event::Client(piece), Side::Client) => push_octets_of_client(alloc, &piece, &mut cut)?,
+            (Event::Up(k, piece), Side::Upstreams) => {
+                push_octets_of_upstream(alloc, k, &piece, &mut cut)?;
+            }
+            (other, _) => cut.push(other)?,
+        }
+    }
+    Ok(cut)
+}
+
+/// The same is put out in all where the octets of a side come one by one.
+fn is_alike(alloc: Global, config: &Config, row: &Row, side: Side) -> Result<bool, Fail>
+    requires { IsServable (setup_of config.now) }
+{
+    let whole = drive(alloc, config, &events_of(alloc, row)?, &[])?;
+    let cut = in_octets(alloc, events_of(alloc, row)?, side)?;
+    Ok(whole.strays == 0 && drive(alloc, config, &cut, &[])?.is_same(&whole))
+}
+
+/// The same is put out in all where octets come one by one.
+fn assert_alike(rt: &impl Abort, alloc: Global, config: &Config, rows: &[Row]) -> Result<(), Fail>
+    requires { IsServable (setup_of config.now) }
+{
+    for row in rows {
+        let name = row.name;
+        assert!(rt;
+            is_alike(alloc, config, row, Side::Client)?,
+            "at {name}, of the client"
+        );
+        assert!(rt;
+            is_alike(alloc, config, row, Side::Upstreams)?,
+            "at {name}, of upstreams"
+        );
+    }
+    Ok(())
+}
+
+/// What the octet at this place of the first request puts out: the gateway's settings come with the first, the acknowledgement
+/// with the last of the client's settings, and the request with the last of its own.
+fn put_out_at(place: usize) -> &'static str {
+    match place {
+        0 => "C {G}",
+        32 => "C {K}",
+        61 => "O 1 0\nU 1 {GET}",
+        _ => "",
+    }
+}
+
+/// The first request octet by octet prints what it should at each.
+fn assert_request_by_octets(rt: &impl Abort, alloc: Global) -> Result<(), Fail> {
+    let mut hex = String::new(alloc);
+    push_octets("{P} {S} 000014 01 05 00000001 {A}", &mut hex)?;
+    let mut transcript = Transcript::new(alloc);
+    for (place, octet) in hex::decode(alloc, &hex)?.iter().enumerate() {
+        transcript.push(&format!(in alloc; "> C {octet:02x}")?)?;
+        transcript.push(put_out_at(place))?;
+        assert_prints(rt, alloc, "a request octet by octet", &transcript);
+    }
+    Ok(())
+}
+
+#[test]
+fn one_by_one(rt: HostRuntime) -> Result<(), Fail> {
+    let alloc = rt.alloc();
+    assert_request_by_octets(&rt, alloc)?;
+    let plain = config_of(alloc, Policy::Plain)?;
+    assert_alike(&rt, alloc, &plain, &PASSED_ON)?;
+    assert_alike(&rt, alloc, &plain, &MALFORMED)?;
+    assert_alike(&rt, alloc, &plain, &ANSWERED)?;
+    assert_alike(&rt, alloc, &plain, &PASSED_BACK)?;
+    assert_alike(&rt, alloc, &plain, &BROKEN)?;
+    assert_alike(&rt, alloc, &plain, &ENDED)?;
+    assert_alike(&rt, alloc, &plain, &GOES_ON)?;
+    assert_alike(&rt, alloc, &plain, &WAITING)?;
+    assert_alike(&rt, alloc, &plain, &IN_TURN)?;
+    assert_alike(&rt, alloc, &config_of(alloc, Policy::Indexing)?, &INDEXING)
+}

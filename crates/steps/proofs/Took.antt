@@ -1,0 +1,42 @@
+-- What a side took leaves the gateway at rest, and nothing is put out for it.
+use Rattle.std.proofs.Common.{◌≡◌, ℕ, ◌<◌, ◌-◌, List, [], ◌∷◌, map, Some, refl, ap, ◌∙◌}
+use Rattle.std.specs.List.{list_any}
+use Rattle.model.specs.Admission.{high_water}
+use Rattle.model.specs.Logs.{Output}
+use Rattle.model.specs.Setup.{Setup}
+use Rattle.serving.specs.State.{Live}
+use Rattle.serving.specs.Rule.{is_done}
+use Rattle.upstreams.specs.Connections.{Connection, lives, taken_at}
+use Rattle.relay.specs.View.{View, square}
+use Rattle.relay.specs.Rest.{told_view}
+use Rattle.relay.proofs.Bringing.{own_none}
+use Rattle.steps.specs.Comings.{FollowsFrom}
+use Rattle.steps.specs.Resting.{IsSettled}
+use Rattle.steps.proofs.Following.{follows_own}
+
+-- which connections there are doesn't change with what their sides took
+lives_taken : (k count : ℕ) (cs : List Connection) → lives (map (taken_at k count) cs) ≡ lives cs
+lives_taken k count [] = refl
+lives_taken k count (c ∷ cs) = ap (λ (ls : List Live). c.live ∷ ls) (lives_taken k count cs)
+
+pub up_rests : (kept : View) (k count : ℕ) → IsSettled kept → IsSettled (record kept { upstreams = record kept.upstreams { live = map (taken_at k count) kept.upstreams.live } })
+up_rests kept k count s = record {
+  rest = record {
+    goes_on = s.rest.goes_on;
+    none_cut = s.rest.none_cut;
+    none_done = ap (λ (ls : List Live). list_any (is_done (told_view kept)) ls) (lives_taken k count kept.upstreams.live) ∙ s.rest.none_done;
+    flushed = s.rest.flushed;
+  };
+  numbered = s.numbered;
+}
+
+-- where few octets for the client were untaken, no part could go, and none can
+pub client_rests : (kept : View) (count : ℕ) → kept.untaken < high_water → IsSettled kept → IsSettled (record kept { untaken = kept.untaken - count })
+client_rests kept count few s = record {
+  rest = record { goes_on = s.rest.goes_on; none_cut = s.rest.none_cut; none_done = s.rest.none_done; flushed = λ less. s.rest.flushed few };
+  numbered = s.numbered;
+}
+
+-- nothing follows
+pub follows_none : (setup : Setup) (kept : View) (o : List Output) → FollowsFrom setup kept square o square (Some kept) o
+follows_none setup kept o = follows_own setup kept kept square square o o (own_none setup kept square o)

@@ -108,17 +108,6 @@ fn frame_too_long(rt: HostRuntime) -> Result<(), Fail> {
     Ok(())
 }
 
-#[test]
-fn ping_stops_the_connection(rt: HostRuntime) -> Result<(), Fail> {
-    let alloc = rt.alloc();
-    let ping = "0000080600000000000102030405060708";
-    let script = format!(in alloc; "C {PREFACE}{SETTINGS}\nC {ping}\n")?;
-    let goaway = "0000080700000000000000000000000002";
-    let lines = format!(in alloc; "C {OWN_SETTINGS}{ACK}\nC {goaway}\nXC\n")?;
-    assert_prints(&rt, rt.alloc(), &script, &lines);
-    Ok(())
-}
-
 // The blocks of RFC 7541, appendices C.4.1 and C.4.2.
 #[test]
 fn blocks_share_a_table(rt: HostRuntime) -> Result<(), Fail> {
@@ -242,24 +231,6 @@ fn each_stream_has_its_own_response(rt: HostRuntime) -> Result<(), Fail> {
         "O 2 0\nU 2 {GET}\nX 2\nC 00000c0104000000038d0003782d6101310f0d013100000100010000000321\n{PASSED}"
     )?;
     assert_answers(&rt, rt.alloc(), &more, &wanted)
-}
-
-#[test]
-fn what_is_no_response_ends_the_connection(rt: HostRuntime) -> Result<(), Fail> {
-    let alloc = rt.alloc();
-    let goaway = "C 0000080700000000000000000100000002\n";
-    let junk = hex_of(alloc, b"junk")?;
-    let short = hex_of(alloc, b"HTTP/1.1 200 OK\r\nContent-Length: 3\r\n\r\nhi")?;
-    for more in [
-        format!(in alloc; "U 1 {junk}\n")?,
-        "UE 1\n".to_owned(alloc)?,
-        format!(in alloc; "U 1 {short}\nUE 1\n")?,
-    ] {
-        let wanted = format!(in alloc; "{goaway}X 1\nXC\n")?;
-        assert_answers(&rt, rt.alloc(), &more, &wanted)?;
-    }
-    let wanted = format!(in alloc; "{goaway}XC\n")?;
-    assert_answers(&rt, rt.alloc(), "UF 1\n", &wanted)
 }
 
 #[test]

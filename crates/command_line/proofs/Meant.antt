@@ -6,7 +6,7 @@ use Rattle.clap.specs.declared.error.Error.{Error}
 use Rattle.clap.specs.declared.error.kind.ErrorKind.TheVariants.{OutOfMemory}
 use Rattle.clap.proofs.WalkLemmas.{first_value-rows}
 use Rattle.command_line.specs.declared.words.WordsFault.{WordsFault}
-use Rattle.command_line.specs.declared.words.WordsFault.TheVariants.{Clap, Missing, NotANumber, Memory}
+use Rattle.command_line.specs.declared.words.WordsFault.TheVariants.{Clap, Missing, NotANumber, NotUtf8, Memory}
 use Rattle.command_line.specs.declared.words.Word.TheVariants as value
 use Rattle.command_line.specs.declared.gateways.GatewayWords.{GatewayWords}
 use Rattle.command_line.specs.declared.replays.ReplayWords.{ReplayWords}
@@ -46,6 +46,7 @@ unfolding gateways.Refuses
 gateway_refuses f a ws (Clap e) p lacks = absurd lacks
 gateway_refuses f a ws (Missing w) p lacks = (faultless f a gateway_app ws p, sym (found_at f a gateway_app ws (name_of w) p) ∙ lacks)
 gateway_refuses f a ws (NotANumber w) p lacks = (faultless f a gateway_app ws p, subst (λ o. IsNoCount o w (NotANumber w)) (found_at f a gateway_app ws (name_of w) p) lacks)
+gateway_refuses f a ws NotUtf8 p lacks = absurd lacks
 gateway_refuses f a ws Memory p lacks = tt
 
 pub replay_means : (f : Found) (a : App) (ws : List Text) (v : ReplayWords) → Parses f a replay_app ws → replays.HasValues f v → replays.Means ws v
@@ -63,6 +64,7 @@ unfolding replays.Refuses
 replay_refuses f a ws (Clap e) p lacks = absurd lacks
 replay_refuses f a ws (Missing w) p lacks = (faultless f a replay_app ws p, (lacks.0, sym (found_at f a replay_app ws (name_of w) p) ∙ lacks.1))
 replay_refuses f a ws (NotANumber w) p lacks = absurd lacks
+replay_refuses f a ws NotUtf8 p lacks = absurd lacks
 replay_refuses f a ws Memory p lacks = tt
 
 -- An error of clap, or want of memory.

@@ -5,7 +5,7 @@ use Rattle.clap.specs.declared.parser.matches.Found.{Found}
 use Rattle.command_line.specs.declared.words.Word.{Word}
 use Rattle.command_line.specs.declared.words.Word.TheVariants as value
 use Rattle.command_line.specs.declared.words.WordsFault.{WordsFault}
-use Rattle.command_line.specs.declared.words.WordsFault.TheVariants.{Clap, Missing, NotANumber, Memory}
+use Rattle.command_line.specs.declared.words.WordsFault.TheVariants.{Clap, Missing, NotANumber, NotUtf8, Memory}
 use Rattle.command_line.specs.declared.gateways.GatewayWords.{GatewayWords}
 use Rattle.command_line.specs.Values.{name_of, option_rule, IsCount, IsNoCount}
 
@@ -25,6 +25,7 @@ abbrev pub AreNoValues : (Word → Option Text) → WordsFault → Type 0
 AreNoValues find (Clap error) = ⊥
 AreNoValues find (Missing word) = find word ≡ None
 AreNoValues find (NotANumber word) = IsNoCount (find word) word (NotANumber word)
+AreNoValues find NotUtf8 = ⊥
 AreNoValues find Memory = ⊤
 
 -- what `clap` found on a command line, by name
@@ -50,4 +51,5 @@ unfoldable pub Refuses : List Text → WordsFault → Type 0
 Refuses words (Clap error) = IsAmong (kind_of error) (fault_of gateway_app words)
 Refuses words (Missing word) = (fault_of gateway_app words ≡ []) × AreNoValues (found_in words) (Missing word)
 Refuses words (NotANumber word) = (fault_of gateway_app words ≡ []) × AreNoValues (found_in words) (NotANumber word)
+Refuses words NotUtf8 = ⊥
 Refuses words Memory = ⊤

@@ -5,7 +5,7 @@ use Rattle.clap.specs.declared.parser.matches.Found.{Found}
 use Rattle.command_line.specs.declared.words.Word.{Word}
 use Rattle.command_line.specs.declared.words.Word.TheVariants as value
 use Rattle.command_line.specs.declared.words.WordsFault.{WordsFault}
-use Rattle.command_line.specs.declared.words.WordsFault.TheVariants.{Clap, Missing, NotANumber, Memory}
+use Rattle.command_line.specs.declared.words.WordsFault.TheVariants.{Clap, Missing, NotANumber, NotUtf8, Memory}
 use Rattle.command_line.specs.declared.replays.ReplayWords.{ReplayWords}
 use Rattle.command_line.specs.Values.{name_of, option_rule, value_rule}
 
@@ -23,6 +23,7 @@ abbrev pub AreNoValues : (Word → Option Text) → WordsFault → Type 0
 AreNoValues find (Clap error) = ⊥
 AreNoValues find (Missing word) = (word ≡ value.Script) × (find word ≡ None)
 AreNoValues find (NotANumber word) = ⊥
+AreNoValues find NotUtf8 = ⊥
 AreNoValues find Memory = ⊤
 
 -- what `clap` found on a command line, by name
@@ -48,4 +49,5 @@ unfoldable pub Refuses : List Text → WordsFault → Type 0
 Refuses words (Clap error) = IsAmong (kind_of error) (fault_of replay_app words)
 Refuses words (Missing word) = (fault_of replay_app words ≡ []) × AreNoValues (found_in words) (Missing word)
 Refuses words (NotANumber word) = ⊥
+Refuses words NotUtf8 = ⊥
 Refuses words Memory = ⊤

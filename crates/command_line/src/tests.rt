@@ -1,5 +1,62 @@
 use super::*;
+use std::env::{Env, FillError};
 use std::test::*;
+
+/// Arguments of a program, as octets.
+#[derive(Drop)]
+struct Given {
+    arguments: [&'static [u8]; 3],
+}
+
+impl Env for Given {
+    fn arg(&self, i: usize, buf: &mut [u8]) -> Result<usize, FillError> {
+        let Some(argument) = self.arguments.get(i) else {
+            return Err(FillError::NotPresent);
+        };
+        let Some(room) = buf.get_mut(..argument.len()) else {
+            return Err(FillError::TooLong);
+        };
+        room.copy_from_slice(argument);
+        Ok(argument.len())
+    }
+
+    fn var(&self, _name: &str, _buf: &mut [u8]) -> Result<usize, FillError> {
+        Err(FillError::NotPresent)
+    }
+
+    fn var_at(&self, _i: usize, _buf: &mut [u8]) -> Result<usize, FillError> {
+        Err(FillError::NotPresent)
+    }
+}
+
+#[test]
+fn arguments_are_read(rt: HostRuntime) -> Result<(), Fail> {
+    let given = Given {
+        arguments: [b"h2gw", b"", b"\xc3\xa9"],
+    };
+    match read_arguments(&(given, rt.alloc())) {
+        Ok(arguments) => {
+            assert_eq!(rt; arguments.len(), 3);
+            assert_eq!(rt; arguments[0].as_str(), "h2gw");
+            assert_eq!(rt; arguments[1].as_str(), "");
+            assert_eq!(rt; arguments[2].as_str(), "é");
+        }
+        Err(fault) => panic!(rt; "{fault:?}"),
+    }
+    Ok(())
+}
+
+#[test]
+fn arguments_are_utf_8(rt: HostRuntime) -> Result<(), Fail> {
+    let given = Given {
+        arguments: [b"h2gw", b"--help", b"\xc3"],
+    };
+    match read_arguments(&(given, rt.alloc())) {
+        Err(WordsFault::NotUtf8) => {}
+        _ => panic!(rt; "not UTF-8, and taken"),
+    }
+    Ok(())
+}
 
 #[test]
 fn the_gateway_reads_its_words(rt: HostRuntime) -> Result<(), Fail> {

@@ -26,6 +26,8 @@ pub enum WordsFault {
     Missing(Word),
     /// This value is no number from 0 to 4,294,967,295.
     NotANumber(Word),
+    /// An argument isn't UTF-8.
+    NotUtf8,
     /// No memory was left.
     Memory,
 }

@@ -1,5 +1,5 @@
 -- What may come by what is kept is what may come by the log.
-use Rattle.std.proofs.Common.{◌≡◌, ℕ, false, not, ◌&&◌, if◌then◌else◌, List, [], refl, sym, ◌∙◌, ap}
+use Rattle.std.proofs.Common.{◌≡◌, ℕ, true, false, not, ◌&&◌, if◌then◌else◌, List, [], refl, sym, ◌∙◌, ap}
 use Rattle.model.specs.Logs.{Event, Step, client_in}
 use Rattle.model.specs.Setup.{Setup}
 use Rattle.std.specs.Prelude.{is_some}
@@ -30,8 +30,8 @@ module _ (setup : Setup) (partial text : List ℕ) (kept : View) (run : List Mov
   closed_admits event over = ap (λ b. not b && admission.is_in_order (tape_of run) event) (sym over.closed)
 
   -- behind the client's close no connection is open
-  closed_room : (k : ℕ) → IsOver setup run → 0 ≡ admission.room k (tape_of run)
-  closed_room k over = ap (λ b. if b then 65536 else 0) (sym (ap (λ l. is_some (live_of k l)) none) ∙ told ∙ ap (λ (t : List Entry). admission.is_open k t) (requests_tape setup run))
+  over_up : (k : ℕ) → IsOver setup run → false ≡ admission.is_open k (tape_of run)
+  over_up k over = sym (ap (λ l. is_some (live_of k l)) none) ∙ told ∙ ap (λ (t : List Entry). admission.is_open k t) (requests_tape setup run)
     where
       known : Known
       known = known_of setup (conducts run)
@@ -47,6 +47,16 @@ module _ (setup : Setup) (partial text : List ℕ) (kept : View) (run : List Mov
 
       none : (serving.state_of setup (turns_of setup run)).live ≡ []
       none = (all_stand known (turns_of setup run) (turns_may setup run over.allowed) so).shut (ap is_closed (requests_tape setup run) ∙ over.closed)
+
+  closed_room : (k : ℕ) → IsOver setup run → 0 ≡ admission.room k (tape_of run)
+  closed_room k over = ap (λ b. if b then 65536 else 0) (over_up k over)
+
+  up_in : (p : Phase) → is_open p ≡ false → IsIn p setup partial kept text run → (k : ℕ) → false ≡ admission.is_open k (tape_of run)
+  up_in phase.New e o k = absurd (let no : true ≡ false = e in cc)
+  up_in phase.Preface e o k = absurd (let no : true ≡ false = e in cc)
+  up_in phase.Frames e o k = absurd (let no : true ≡ false = e in cc)
+  up_in phase.Closed e o k = over_up k o
+  up_in phase.Dead e o k = absurd o
 
   open_admits : (p : Phase) → IsOpen setup p partial kept text run → (event : Event) → admits_kept kept event ≡ admission.is_admitted (tape_of run) event
   open_admits p o event = admitted_by_tape setup run kept (pending_in p) o.state o.leads event
@@ -73,3 +83,6 @@ admits_by_log setup g log run stands event = admits_in setup g.partial (client_i
 
 pub room_by_log : (setup : Setup) (g : Standing) (log : List Step) (run : List Move) → Stands setup g log run → (k : ℕ) → room_of g k ≡ admission.room k (tape_of run)
 room_by_log setup g log run stands k = room_in setup g.partial (client_in log) g.kept run g.phase stands.is_in k
+
+pub closed_up : (setup : Setup) (g : Standing) (log : List Step) (run : List Move) → Stands setup g log run → is_open g.phase ≡ false → (k : ℕ) → false ≡ admission.is_open k (tape_of run)
+closed_up setup g log run stands over k = up_in setup g.partial (client_in log) g.kept run g.phase over stands.is_in k

@@ -30,7 +30,7 @@ use Rattle.gateway.specs.Reading.{Takes}
 use Rattle.gateway.specs.Stands.{Standing, Serves, Stands, StandsNext, IsOpen, IsIn, IsReadIn, IsUnbegun, IsBehind, is_open, pending_in, admits}
 use Rattle.gateway.specs.Receiving.{Happens, Hears, Waits, Departs, GoesOn, Greets, KeepsTerms, IsSettledIf, is_begun, greeted}
 use Rattle.gateway.proofs.Told.{frames_in, breaches_in, in_events, unbroken_then, unbegun_then, unbegun_read, behind_then, behind_read, waits_kept, waits_unbroken, waits_read, departs_read, goes_unbroken, goes_first, goes_on, IsReadOn}
-use Rattle.gateway.proofs.Steps.{rests_behind, answered_more}
+use Rattle.gateway.proofs.Steps.{rests_behind, answered_more, step_by}
 
 -- what follows where a call is Ok, follows where it was
 pub on_ok_map : {A E X Y : Type 0} (r : Result A E) → (X → Y) → OnOk r X → OnOk r Y
@@ -93,6 +93,7 @@ module _ (setup : Setup) (old : Standing) (log : List Step) (run : List Move) (s
       → IsRead (client_in (step_of event q ∷ log)) (tape_of (c.moves ++ run)) → IsReadIn new.phase new.partial (client_in (step_of event q ∷ log)) (tape_of (c.moves ++ run)) → breaches (tape_of (c.moves ++ run)) ≡ [] → StandsNext setup new log run event (reverse q)
   goes_to new serves goes paid settled c read octets unbroken = record {
     segment = c.moves;
+    step_is = step_by setup stands.serves.servable log run stands.answered event inputs (Some new.kept) q events c;
     stands = record {
       serves = serves;
       answered = answered_more setup stands.serves.servable log run stands.answered event inputs (Some new.kept) q admitted events c (rests_behind setup stands.serves.servable log run stands.answered (c.moves ++ run) (Some new.kept) c.stands (λ kept is. subst IsSettled (some_same is) settled)) read;
@@ -114,6 +115,7 @@ module _ (setup : Setup) (old : Standing) (log : List Step) (run : List Move) (s
   pub ends_at : (new : Standing) → Serves setup new → (c : Comes setup run [] inputs square None q) → IsRead (client_in (step_of event q ∷ log)) (tape_of (c.moves ++ run)) → StandsNext setup (record new { phase = phase.Closed }) log run event (reverse q)
   ends_at new serves c read = record {
     segment = c.moves;
+    step_is = step_by setup stands.serves.servable log run stands.answered event inputs None q events c;
     stands = record {
       serves = record { servable = serves.servable; routes = serves.routes; max_body = serves.max_body; max_response = serves.max_response };
       answered = answered_more setup stands.serves.servable log run stands.answered event inputs None q admitted events c (rests_behind setup stands.serves.servable log run stands.answered (c.moves ++ run) None c.stands (λ kept is. absurd (let no : None ≡ Some kept = is in cc))) read;

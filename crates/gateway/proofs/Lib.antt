@@ -9,3 +9,4 @@ pub mod Pieces
 pub mod Setting
 pub mod Running
 pub mod Sizes
+pub mod Rooms

@@ -7,7 +7,7 @@ use Rattle.model.specs.Logs.Event.{Client, ClientEnd, ClientTook, Up, UpEnd, UpF
 use Rattle.model.specs.Setup.{Setup}
 use Rattle.model.specs.Setup.Passing.{Whole}
 use Rattle.model.specs.Known.{Known}
-use Rattle.model.specs.Tapes.{Entry, listed, outputs, put_entry, is_closed, IsRead}
+use Rattle.model.specs.Tapes.{Entry, listed, outputs, put_entry, is_closed, IsRead, IsStep}
 use Rattle.model.specs.Admission as admission
 use Rattle.model.specs.Rooms.{IsRoom, FitsRoom}
 use Rattle.conduct.specs.Rule.{AreKnown}
@@ -64,6 +64,16 @@ module _ (setup : Setup) (servable : IsServable setup) (log : List Step) (run : 
       let ready = rests_are_ready setup moves kept s leads (settled kept refl).rest in
       subst (λ (u : Summary). Rests u (state_of setup moves)) (sym (before_is setup moves s leads.stands)) (subst (λ (x : State). Rests (told_by s) x) (sym leads.stands.is) ready.rests)
 
+  -- what comes by an event's inputs is a step
+  pub step_by : (event : Event) (inputs : List Input) (now : Option View) (q : List Output) → events_in inputs ≡ listed event → (c : Comes setup run [] inputs square now q)
+      → IsStep (record { event = event; outputs = reverse q }) (tape_of c.moves)
+  step_by event inputs now q events c = record {
+    spelled = c.spelled;
+    put_out = ap reverse (c.puts ∙ put_none (tape_of c.moves));
+    event = happened_by (tape_of c.moves) ∙ ap events_in c.came ∙ events;
+    acts_follow = c.acts_follow;
+  }
+
   -- the log with one step more is answered
   pub answered_more : (event : Event) (inputs : List Input) (now : Option View) (q : List Output) → admission.is_admitted (tape_of run) event ≡ true → events_in inputs ≡ listed event
       → (c : Comes setup run [] inputs square now q) → RestsBehind setup (c.moves ++ run) → IsRead (client_in (record { event = event; outputs = reverse q } ∷ log)) (tape_of (c.moves ++ run))
@@ -74,7 +84,7 @@ module _ (setup : Setup) (servable : IsServable setup) (log : List Step) (run : 
     refl,
     record {
       admitted = record { in_order = in_order; fits = fits_room known (tape_of run) event (ap (λ (x : Setup). x.passing) same ∙ servable.whole) in_order };
-      step_is = record { spelled = c.spelled; put_out = ap reverse (c.puts ∙ put_none (tape_of c.moves)); event = happened_by (tape_of c.moves) ∙ ap events_in c.came ∙ events; acts_follow = c.acts_follow };
+      step_is = step_by event inputs now q events c;
       read = read;
       rests = subst (λ (x : Setup). RestsBehind x (c.moves ++ run)) (sym same) rests;
     },

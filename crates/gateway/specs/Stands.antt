@@ -5,7 +5,7 @@ use Rattle.model.specs.Frames.{Reading, preface, settings_frame}
 use Rattle.model.specs.Logs.{Event, Output, Step, client_in}
 use Rattle.model.specs.Setup.{Setup, Route}
 use Rattle.model.specs.Known.{Known}
-use Rattle.model.specs.Tapes.{Entry, came, breaches, frames_of, IsNoPreface}
+use Rattle.model.specs.Tapes.{Entry, came, breaches, frames_of, IsNoPreface, IsStep}
 use Rattle.conduct.specs.Rule.{AreKnown}
 use Rattle.frames.specs.Views.{IsUnfinished}
 use Rattle.policy.specs.Moves.{Move}
@@ -114,7 +114,8 @@ pub record Stands (setup : Setup) (g : Standing) (log : List Step) (run : List M
   pub answered : AreAnswered setup log run
   pub is_in : IsIn g.phase setup g.partial g.kept (client_in log) run
 
--- Afterwards it stands for the log with the event and what was put out for it, behind more moves.
+-- Afterwards it stands for the log with the event and what was put out for it, behind more moves, whose entries are those of that step.
 pub record StandsNext (setup : Setup) (new : Standing) (log : List Step) (run : List Move) (event : Event) (put_out : List Output) : Type 0 where
   pub segment : List Move
+  pub step_is : IsStep (record { event = event; outputs = put_out }) (tape_of segment)
   pub stands : Stands setup new (record { event = event; outputs = put_out } ∷ log) (segment ++ run)

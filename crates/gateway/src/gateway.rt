@@ -1,6 +1,6 @@
 //! The gateway: events in, outputs out.
 
-ghost use Rattle.std.specs.Prelude.{◌≡◌, ◌≤◌, ◌++◌, [], List, ◌∷◌, true, false, length, OnOk, OnErr, IfOk, IsErrOf, ◌↔◌};
+ghost use Rattle.std.specs.Prelude.{◌≡◌, ◌≤◌, ◌++◌, [], List, ◌∷◌, map, true, false, length, OnOk, OnErr, IfOk, IsErrOf, ◌↔◌};
 ghost use Rattle.model.specs.Logs.{Step, Output as Put};
 ghost use Rattle.model.specs.Logs.Event.{Client};
 ghost use Rattle.model.specs.Tapes.{listed};
@@ -17,6 +17,7 @@ ghost use Rattle.relay.specs.Rest.{Reached};
 ghost use Rattle.steps.specs.Resting.{IsSettled, IsServed};
 ghost use Rattle.holding.specs.Held.{IsSmall};
 ghost use Rattle.gateway.specs.Held.{IsHeldWithin};
+ghost use Rattle.gateway.specs.Rooms.{AreRooms, room_in, rooms_in};
 ghost use Rattle.gateway.specs.Setups.{setup_of, IsServable};
 ghost use Rattle.gateway.specs.Stands.{Serves, Stands, StandsNext, pending_in, admits, room_of, is_dead, is_open};
 ghost use Rattle.gateway.specs.Receiving.{Receives, ReadsOn, Happens, Greets, KeepsTerms, IsSettledIf};
@@ -54,6 +55,19 @@ pub enum Fault {
     Memory,
     /// Memory was refused before.
     Closed,
+}
+
+/// Lists connections behind others, each with its room.
+fn list_open(
+    connections: &[upstreams::Connection],
+    rooms: &mut Vec<(u32, usize)>,
+) -> Result<(), AllocError>
+    ensures { OnOk result (rooms.new.items ≡ rooms.old.items ++ map room_in connections.now) }
+{
+    for connection in connections {
+        rooms.push((connection.number(), ROOM))?;
+    }
+    Ok(())
 }
 
 /// Rooms in which nothing is kept.
@@ -181,6 +195,20 @@ impl Gateway {
         } else {
             0
         }
+    }
+
+    /// Lists the open connections to upstreams in `rooms`, in place of what it has, by rising number, each with how many octets of it may come
+    /// in one event: none once memory was refused. An `Err` says that memory for the list was refused.
+    pub fn list_rooms(&self, rooms: &mut Vec<(u32, usize)>) -> Result<(), AllocError>
+        ensures state { OnOk result (rooms.new.items ≡ rooms_in self.now) }
+        // They are those that the log tells that the gateway stands for.
+        ensures log { OnOk result ((setup : Setup) (log : List Step) (run : List Move) → Stands setup self.now log run → AreRooms (tape_of run) rooms.new.items) }
+    {
+        rooms.clear();
+        if !self.is_open() {
+            return Ok(());
+        }
+        list_open(self.rooms.upstreams.connections(), rooms)
     }
 
     /// Takes an event that may come, and puts out at the end of `out` all that it causes. A refused step puts out nothing,

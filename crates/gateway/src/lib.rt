@@ -1,5 +1,4 @@
-//! The gateway over `steps`: octets of a client and of upstreams in, octets for both out. It takes the place of `gateway`, which gives up at what it doesn't
-//! treat, once `run` and what stands on it are moved here.
+//! The gateway over `steps`: octets of a client and of upstreams in, octets for both out.
 //!
 //! [`Gateway::step`] keeps for what log and behind which moves of the rule a gateway stands (`specs/Stands`); by [`logs_are_promised`] such a log has the
 //! headline, and tables are in step behind it.

@@ -55,6 +55,24 @@ fn a_configuration_bounds_what_is_held(rt: HostRuntime) -> Result<(), Fail> {
 }
 
 #[test]
+fn open_connections_are_listed(rt: HostRuntime) -> Result<(), Fail> {
+    let alloc = rt.alloc();
+    let config = config(alloc, b"")?;
+    let mut gateway = Gateway::new(alloc, &config)?;
+    let mut rooms = Vec::new(alloc);
+    gateway.list_rooms(&mut rooms)?;
+    assert!(rt; rooms.is_empty());
+    let request = Event::Client(Vec::from_slice(alloc, &FIRST_REQUEST)?);
+    let mut out = Vec::new(alloc);
+    if !gateway.admits(&request) || gateway.step(&request, &mut out).is_err() {
+        return Err("the request was refused".into());
+    }
+    gateway.list_rooms(&mut rooms)?;
+    assert_eq!(rt; rooms.as_slice(), [(1, 65536)].as_slice());
+    Ok(())
+}
+
+#[test]
 fn a_run_answers_each_event(rt: HostRuntime) -> Result<(), Fail> {
     let alloc = rt.alloc();
     let config = config(alloc, b"")?;

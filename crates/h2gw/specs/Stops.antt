@@ -5,7 +5,7 @@ use Rattle.clap.specs.declared.error.kind.ErrorKind.{ErrorKind}
 use Rattle.clap.specs.declared.error.kind.ErrorKind.TheVariants.{DisplayHelp}
 use Rattle.configuration.specs.declared.faults.ConfigFault.TheVariants as fault
 use Rattle.h2gw.specs.declared.stops.Stop.{Stop}
-use Rattle.h2gw.specs.declared.stops.Stop.TheVariants.{Words, Missing, NotANumber, BadAddress, NoConfig, Config, Bind, Accept, Print, Memory}
+use Rattle.h2gw.specs.declared.stops.Stop.TheVariants.{Words, Missing, NotANumber, NotUtf8, BadAddress, NoConfig, Config, Bind, Accept, Print, Memory}
 
 -- a command line that only asks for help is answered
 abbrev pub status_of_kind : ErrorKind → ℕ
@@ -16,6 +16,7 @@ abbrev pub status_of : Stop → ℕ
 status_of (Words error) = status_of_kind (kind_of error)
 status_of (Missing word) = 1
 status_of (NotANumber word) = 1
+status_of NotUtf8 = 1
 status_of BadAddress = 1
 status_of NoConfig = 1
 status_of (Config fault.NotToml) = 1

@@ -49,7 +49,10 @@ fn serve_client(rt: &HostRuntime, setting: &Setting, client: TcpStream) -> Resul
         return Ok(());
     };
     let turns = u64::from(setting.turns);
-    match serve(rt.alloc(), &setting.config, &mut world, turns) {
+    let ended = serve(rt.alloc(), &setting.config, &mut world, turns);
+    // Where that fails the client has gone.
+    let _ = world.finish();
+    match ended {
         Err(ServeFault::Memory) => Err(Stop::Memory),
         Ok(_) | Err(ServeFault::World | ServeFault::NotAdmitted) => Ok(()),
     }

@@ -5,13 +5,13 @@ ghost use Rattle.gateway.specs.Setups.{setup_of, IsServable};
 ghost use Rattle.h2gw.specs.Addresses.{AreAddresses};
 
 use crate::stops::Stop;
-use command_line::{GatewayWords, read_gateway_words};
+use command_line::{GatewayWords, read_arguments, read_gateway_words};
 use configuration::{ConfigFault, Key, read_config};
 use gateway::{Config, Route};
 use std::alloc::Global;
+use std::fs;
 use std::io::ErrorKind;
 use std::net::SocketAddr;
-use std::{env, fs, io};
 
 /// What the program is set up with.
 #[derive(Drop)]
@@ -58,7 +58,7 @@ pub fn read_setting(rt: &HostRuntime) -> Result<Setting, Stop>
 
 /// Reads the command line.
 fn read_command_line(rt: &HostRuntime) -> Result<GatewayWords, Stop> {
-    let arguments = collect_arguments(rt).map_err(|_| Stop::Memory)?;
+    let arguments = read_arguments(rt)?;
     let mut words = Vec::new(rt.alloc());
     for argument in &arguments {
         if words.push(argument.as_str()).is_err() {
@@ -69,15 +69,6 @@ fn read_command_line(rt: &HostRuntime) -> Result<GatewayWords, Stop> {
         Ok(words) => Ok(words),
         Err(fault) => Err(Stop::from(fault)),
     }
-}
-
-/// The words of the command line, from the program's name on.
-fn collect_arguments(rt: &HostRuntime) -> io::Result<Vec<String>> {
-    let mut arguments = Vec::new(rt.alloc());
-    for argument in env::args(rt)? {
-        arguments.push(argument)?;
-    }
-    Ok(arguments)
 }
 
 /// The addresses of routes' upstreams.

@@ -16,6 +16,8 @@ pub enum Stop {
     Missing(Word),
     /// This value of the command line is no number.
     NotANumber(Word),
+    /// An argument isn't UTF-8.
+    NotUtf8,
     /// The address to listen at isn't one.
     BadAddress,
     /// The configuration can't be read, or isn't UTF-8.
@@ -42,7 +44,8 @@ impl Stop {
                 clap::error::ErrorKind::DisplayHelp => 0,
                 _ => 1,
             },
-            Stop::Missing(_) | Stop::NotANumber(_) | Stop::BadAddress | Stop::NoConfig => 1,
+            Stop::Missing(_) | Stop::NotANumber(_) | Stop::NotUtf8 => 1,
+            Stop::BadAddress | Stop::NoConfig => 1,
             Stop::Config(ConfigFault::Memory) => 3,
             Stop::Config(_) => 1,
             Stop::Bind | Stop::Accept | Stop::Print => 2,
@@ -63,6 +66,7 @@ impl From<WordsFault> for Stop {
             WordsFault::Clap(error) => Stop::Words(error),
             WordsFault::Missing(word) => Stop::Missing(word),
             WordsFault::NotANumber(word) => Stop::NotANumber(word),
+            WordsFault::NotUtf8 => Stop::NotUtf8,
             WordsFault::Memory => Stop::Memory,
         }
     }
@@ -77,6 +81,7 @@ pub fn report(rt: &HostRuntime, stop: &Stop) -> u8
         Stop::Words(error) => error.print(rt),
         Stop::Missing(word) => eprintln!(rt; "{}: missing", word.name()),
         Stop::NotANumber(word) => eprintln!(rt; "{}: not a number", word.name()),
+        Stop::NotUtf8 => rt.eprintln("arguments: not UTF-8"),
         Stop::BadAddress => rt.eprintln("listen: bad address"),
         Stop::NoConfig => rt.eprintln("config: cannot read"),
         Stop::Config(fault) => rt.eprintln(fault.line()),

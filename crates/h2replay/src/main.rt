@@ -1,51 +1,34 @@
-//! Replays a script on a gateway: `h2replay SCRIPT`.
+//! Replays a script on a gateway: `h2replay [--config FILE] SCRIPT`.
 #![tactic(auto)]
 
-use std::io::ErrorKind;
+mod setting;
+mod stops;
+
+use crate::setting::read_setting;
+use crate::stops::{Stop, report};
+use std::io;
 use std::process::ExitCode;
-use std::{env, fs, io};
 
-/// The status is that of the replay: 0, or 1 for a script that is refused, or 2 where no memory was left or a write
-/// failed. It is 1 too for any command line but one word, and for a script that can't be read or isn't UTF-8.
+/// The status is that of the replay: 0, or 1 for a configuration or a script that is refused, or 2 where no memory was left or a
+/// write failed. It is 1 too for a command line that isn't taken, and for a file that can't be read or isn't UTF-8. What is wrong
+/// with the command line is said first, then what is wrong with the configuration.
 fn main(rt: HostRuntime) -> ExitCode {
-    ExitCode::from(status(&rt))
-}
-
-/// Reads the script that the command line names, and replays it.
-fn status(rt: &HostRuntime) -> u8 {
-    let path = match script_path(rt) {
-        Ok(Some(path)) => path,
-        Ok(None) => return 1,
-        Err(error) => return status_of(&error),
-    };
-    match fs::read_to_string(rt, path) {
-        Ok(script) => {
-            let mut out = io::writer(rt);
-            let mut err = rt.stderr();
-            scripts::replay(rt.alloc(), None, &script, &mut out, &mut err)
-        }
-        Err(error) => {
-            if status_of(&error) == 1 && rt.eprintln("script: cannot read").is_err() {
-                return 2;
-            }
-            status_of(&error)
-        }
+    match run(&rt) {
+        Ok(status) => ExitCode::from(status),
+        Err(stop) => ExitCode::from(report(&rt, &stop)),
     }
 }
 
-/// The one word of the command line, if it has just one.
-fn script_path(rt: &HostRuntime) -> io::Result<Option<String>> {
-    let mut words = env::args(rt)?.skip(1);
-    match (words.next(), words.next()) {
-        (Some(path), None) => Ok(Some(path)),
-        _ => Ok(None),
-    }
-}
-
-/// 2 where no memory was left, and else 1.
-fn status_of(error: &io::Error) -> u8 {
-    match error.kind() {
-        ErrorKind::OutOfMemory => 2,
-        _ => 1,
-    }
+/// Reads what is to be replayed, and replays it. The answer is the status of the replay.
+fn run(rt: &HostRuntime) -> Result<u8, Stop> {
+    let setting = read_setting(rt)?;
+    let mut out = io::writer(rt);
+    let mut err = rt.stderr();
+    Ok(scripts::replay(
+        rt.alloc(),
+        setting.config.as_deref(),
+        &setting.script,
+        &mut out,
+        &mut err,
+    ))
 }

@@ -2,7 +2,7 @@
 //! doesn't fit it.
 #![tactic(auto)]
 
-ghost use Rattle.std.specs.Prelude.{◌≡◌, ◌≤◌, ◌%◌, ◌^◌, List, ℕ, ◌++◌, OnOk, OnErr};
+ghost use Rattle.std.specs.Prelude.{◌≡◌, ◌-◌, ◌≤◌, ◌%◌, ◌^◌, List, ℕ, ◌++◌, OnOk, OnErr};
 ghost use Rattle.hpack_int.specs.Reading.{Reads, ReadsGroups};
 ghost use Rattle.hpack_int.specs.Writing.{Writes, AreGroupsOf};
 
@@ -68,6 +68,7 @@ fn read_groups(ones: u64, groups: &[u8]) -> IntRead
 
 /// Writes the shortest text of a value at the end, with a prefix of 1 to 8 bits and `high` above it (RFC 7541, section
 /// 5.1). An `Err` says that memory was refused, and leaves the octets as they were.
+#[inline]
 pub fn write(prefix: u8, high: u8, value: u32, out: &mut Vec<u8>) -> Result<(), AllocError>
     requires some { 1 ≤ prefix }
     requires most { prefix ≤ 8 }
@@ -80,6 +81,19 @@ pub fn write(prefix: u8, high: u8, value: u32, out: &mut Vec<u8>) -> Result<(), 
         out.push(high + value as u8)?;
         return Ok(());
     }
+    write_groups(prefix, high, value, out)
+}
+
+/// Writes the shortest text of a value that doesn't fit the prefix.
+fn write_groups(prefix: u8, high: u8, value: u32, out: &mut Vec<u8>) -> Result<(), AllocError>
+    requires some { 1 ≤ prefix }
+    requires most { prefix ≤ 8 }
+    requires no_bit { high % 2 ^ prefix ≡ 0 }
+    requires large { 2 ^ prefix - 1 ≤ value }
+    ensures ok { OnOk result (Writes prefix high value out.old.items out.new.items) }
+    ensures err { OnErr result (out.new.items ≡ out.old.items) }
+{
+    let ones = (1u32 << prefix) - 1;
     let (groups, count) = groups_of(value - ones);
     let mut text = [high + ones as u8, 0, 0, 0, 0, 0];
     text[1..].copy_from_slice(&groups);

@@ -49,7 +49,7 @@ joined_below n w m v less small =
     let step : (n + 1) * 2 ^ v ≤ 2 ^ w * 2 ^ v = mul-le-mul_right (2 ^ v) (omega (arith, less)) in
     rw power (omega (arith, step, small))
 
-pub joined : (n w m v : ℕ) → n < 2 ^ w → w ≤ 30 → m < 2 ^ v → v ≤ 30
+pub joined : (n w m v : ℕ) → n < 2 ^ w → w < 32 → m < 2 ^ v → v ≤ 30
     → (n * 2 ^ v % 18446744073709551616 + m < 2 ^ (w + v)) × (bits (w + v) (n * 2 ^ v % 18446744073709551616 + m) ≡ bits w n ++ bits v m)
 joined n w m v less few small wide =
     let exact : n * 2 ^ v % 18446744073709551616 ≡ n * 2 ^ v = shl_exact w v 64 less (omega arith) in
@@ -77,7 +77,7 @@ one_shifted w few =
     exact ∙ single
 
 -- the bits behind the first so many
-pub behind_is : (n w k rest number : ℕ) → w ≤ 60 → k ≤ w → rest ≡ w - k → number ≡ n % (1 * 2 ^ rest % 18446744073709551616) → (number < 2 ^ rest) × (bits w n ≡ bits k (n / 2 ^ rest) ++ bits rest number)
+pub behind_is : (n w k rest number : ℕ) → w < 62 → k ≤ w → rest ≡ w - k → number ≡ n % (1 * 2 ^ rest % 18446744073709551616) → (number < 2 ^ rest) × (bits w n ≡ bits k (n / 2 ^ rest) ++ bits rest number)
 behind_is n w k rest number few within is_rest is_number =
     let some : 0 < 2 ^ rest = pow_pos rest in
     let low : number ≡ n % 2 ^ rest = is_number ∙ ap (λ p. n % p) (one_shifted rest (omega arith)) in

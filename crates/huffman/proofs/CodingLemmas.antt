@@ -1,11 +1,11 @@
 -- Octets of a string become codes.
-use Rattle.std.proofs.Common.{◌≡◌, ℕ, zero, suc, ◌+◌, ◌-◌, ◌*◌, ◌/◌, ◌<◌, List, [], ◌∷◌, ◌++◌, length, take, get_or, refl, ap, sym, ◌∙◌, subst, arith, append_assoc, length-append, Result, Ok, Err, OnErr}
+use Rattle.std.proofs.Common.{◌≡◌, ℕ, zero, suc, ◌+◌, ◌-◌, ◌*◌, ◌/◌, ◌^◌, ◌<◌, ◌≤◌, List, [], ◌∷◌, ◌++◌, length, take, get_or, refl, ap, sym, ◌∙◌, subst, arith, append_assoc, length-append, Result, Ok, Err, OnErr}
 use Rattle.std.specs.Prelude.{replicate}
-use Rattle.std.proofs.lemmas.List.{append-nil, length-replicate}
+use Rattle.std.proofs.lemmas.List.{append-nil, length-replicate, take_all}
 use Rattle.std.proofs.lemmas.Grind.{flat_map-append}
 use Rattle.model.specs.Huffman.{bits, octet_bits, IsCode, AreCodes, Huff}
 use Rattle.model.proofs.HuffmanLemmas.{single_code}
-use Rattle.huffman.specs.Waiting.{IsPending, IsPadded, Flushes, pending_bits}
+use Rattle.huffman.specs.Waiting.{IsPadded, Flushes, pending_bits}
 use Rattle.huffman.specs.Encoding.{Encodes, IsWordOf, word_bits}
 use Rattle.huffman.specs.Decoding.{Adds}
 use Rattle.huffman.specs.declared.pending.Pending.{Pending}
@@ -20,7 +20,8 @@ pub record Coding (string : List ℕ) (pending : Pending) (old new : List ℕ) :
   pub added : new ≡ old ++ octets
   pub are_codes : AreCodes coded string
   pub is : coded ≡ octet_bits octets ++ pending_bits pending
-  pub waits : IsPending pending
+  pub number : pending.number < 2 ^ pending.width
+  pub few : pending.width < 32
 
 pub coding_none : (pending : Pending) (old : List ℕ) → pending.number ≡ 0 → pending.width ≡ 0 → Coding [] pending old old
 unfolding bits
@@ -30,7 +31,8 @@ coding_none pending old no_number no_width = record {
   added = sym (append-nil old);
   are_codes = refl;
   is = sym (ap (λ w. bits w pending.number) no_width);
-  waits = record { number = rw (no_number, no_width) (omega arith); few = omega (arith, no_width) };
+  number = rw (no_number, no_width) (omega arith);
+  few = omega (arith, no_width);
 }
 
 take_more : (string : List ℕ) (i : ℕ) → i < length string → take (i + 1) string ≡ take i string ++ get_or string i 0 ∷ []
@@ -39,8 +41,8 @@ take_more (octet ∷ string) zero h = refl
 take_more (octet ∷ string) (suc i) h = let far : suc i + 1 ≡ suc (i + 1) = omega arith in rw far (ap (λ t. octet ∷ t) (take_more string i (omega arith)))
 
 pub coding_more : (string : List ℕ) (i : ℕ) (pending all rest : Pending) (word : Word) (old mid new : List ℕ) → i < length string → get_or string i 0 < 256 → Coding (take i string) pending old mid
-    → IsWordOf (get_or string i 0) word → pending_bits all ≡ pending_bits pending ++ word_bits word → Flushes all rest mid new → Coding (take (i + 1) string) rest old new
-coding_more string i pending all rest word old mid new h small c w is f = record {
+    → IsWordOf (get_or string i 0) word → pending_bits all ≡ pending_bits pending ++ word_bits word → Flushes all rest mid new → rest.width < 32 → Coding (take (i + 1) string) rest old new
+coding_more string i pending all rest word old mid new h small c w is f few = record {
   octets = c.octets ++ f.octets;
   coded = c.coded ++ word_bits word;
   added = f.added ∙ ap (λ m. m ++ f.octets) c.added ∙ append_assoc old c.octets f.octets;
@@ -48,8 +50,27 @@ coding_more string i pending all rest word old mid new h small c w is f = record
   is =
       ap (λ b. b ++ word_bits word) c.is ∙ append_assoc (octet_bits c.octets) (pending_bits pending) (word_bits word) ∙ ap (λ b. octet_bits c.octets ++ b) (sym is ∙ f.is)
       ∙ sym (append_assoc (octet_bits c.octets) (octet_bits f.octets) (pending_bits rest)) ∙ ap (λ b. b ++ pending_bits rest) (sym (flat_map-append (bits 8) c.octets f.octets));
-  waits = f.waits;
+  number = f.number;
+  few = few;
 }
+
+-- octets more of the bits that wait
+coding_flushed : (string : List ℕ) (pending rest : Pending) (old mid new : List ℕ) → Coding string pending old mid → Flushes pending rest mid new → rest.width < 8 → Coding string rest old new
+coding_flushed string pending rest old mid new c f few = record {
+  octets = c.octets ++ f.octets;
+  coded = c.coded;
+  added = f.added ∙ ap (λ m. m ++ f.octets) c.added ∙ append_assoc old c.octets f.octets;
+  are_codes = c.are_codes;
+  is =
+      c.is ∙ ap (λ b. octet_bits c.octets ++ b) f.is ∙ sym (append_assoc (octet_bits c.octets) (octet_bits f.octets) (pending_bits rest))
+      ∙ ap (λ b. b ++ pending_bits rest) (sym (flat_map-append (bits 8) c.octets f.octets));
+  number = f.number;
+  few = omega (arith, few);
+}
+
+-- the whole string, once its last octets are there
+pub coded_last : (string : List ℕ) (i : ℕ) (pending rest : Pending) (old mid new : List ℕ) → length string ≤ i → Coding (take i string) pending old mid → Flushes pending rest mid new → rest.width < 8 → Coding string rest old new
+coded_last string i pending rest old mid new past c f few = coding_flushed string pending rest old mid new (subst (λ s. Coding s pending old mid) (take_all i string past) c) f few
 
 pub coded_whole : (string : List ℕ) (pending : Pending) (old new : List ℕ) → pending.width ≡ 0 → Coding string pending old new → Encodes string old new
 unfolding bits

@@ -12,12 +12,12 @@ pub record IsPending (pending : Pending) : Type 0 where
   pub number : pending.number < 2 ^ pending.width
   pub few : pending.width < 8
 
--- The whole octets of the bits are added, and the rest waits.
+-- Octets of the first bits are added, and the rest waits.
 pub record Flushes (all rest : Pending) (old new : List ℕ) : Type 0 where
   pub octets : List ℕ
   pub added : new ≡ old ++ octets
   pub is : pending_bits all ≡ octet_bits octets ++ pending_bits rest
-  pub waits : IsPending rest
+  pub number : rest.number < 2 ^ rest.width
 
 -- The octet is the bits that wait, and ones behind them.
 pub record IsPadded (pending : Pending) (octet : ℕ) : Type 0 where

@@ -45,19 +45,38 @@ fn encode_onto(string: &[u8], out: &mut Vec<u8>) -> Result<(), AllocError>
 {
     let mut pending = NOTHING;
     for octet in string {
-        pending = flush(append(pending, word_of(*octet)), out)?;
+        pending = put_four(append(pending, word_of(*octet)), out)?;
     }
-    if pending.width > 0 {
-        out.push(padded(pending))?;
+    let last = put_octets(pending, out)?;
+    if last.width > 0 {
+        out.push(padded(last))?;
     }
     Ok(())
 }
 
-/// Adds the whole octets of bits that wait.
-fn flush(all: Pending, out: &mut Vec<u8>) -> Result<Pending, AllocError>
+/// Adds the first four octets of bits that wait, where they are as many.
+fn put_four(all: Pending, out: &mut Vec<u8>) -> Result<Pending, AllocError>
     requires number { all.number < 2 ^ all.width }
-    requires wide { all.width < 38 }
+    requires wide { all.width < 62 }
     ensures ok { IfOk result (λ rest. Flushes all rest out.old.items out.new.items) }
+    ensures few { IfOk result (λ rest. rest.width < 32) }
+    ensures err { OnErr result (Adds out.old.items out.new.items) }
+{
+    if all.width < 32 {
+        return Ok(all);
+    }
+    let rest = behind(all, 32);
+    let first = (all.number >> rest.width) as u32;
+    out.extend_from_slice(&first.to_be_bytes())?;
+    Ok(rest)
+}
+
+/// Adds the whole octets of bits that wait.
+fn put_octets(all: Pending, out: &mut Vec<u8>) -> Result<Pending, AllocError>
+    requires number { all.number < 2 ^ all.width }
+    requires wide { all.width < 32 }
+    ensures ok { IfOk result (λ rest. Flushes all rest out.old.items out.new.items) }
+    ensures few { IfOk result (λ rest. rest.width < 8) }
     ensures err { OnErr result (Adds out.old.items out.new.items) }
 {
     let mut rest = all;

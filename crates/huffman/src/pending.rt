@@ -23,7 +23,7 @@ pub const NOTHING: Pending = Pending {
 /// The bits that wait, and those of a word behind them.
 pub fn append(pending: Pending, word: Word) -> Pending
     requires waiting { pending.number < 2 ^ pending.width }
-    requires few { pending.width ≤ 30 }
+    requires few { pending.width < 32 }
     requires word { word.number < 2 ^ word.width }
     requires wide { word.width ≤ 30 }
     ensures number { result.number < 2 ^ result.width }
@@ -39,7 +39,7 @@ pub fn append(pending: Pending, word: Word) -> Pending
 /// The bits that wait behind the first so many.
 pub fn behind(pending: Pending, width: u32) -> Pending
     requires waiting { pending.number < 2 ^ pending.width }
-    requires few { pending.width ≤ 60 }
+    requires few { pending.width < 62 }
     requires within { width ≤ pending.width }
     ensures number { result.number < 2 ^ result.width }
     ensures width { result.width + width ≡ pending.width }

@@ -1,7 +1,7 @@
 -- How the streams change where the one at a place does.
-use Rattle.std.proofs.Common.{◌≡◌, ℕ, List, set, get_or, Result, Ok, Err, refl, sym, ap, ◌∙◌, subst}
-use Rattle.std.specs.Prelude.{Option, Some, None, IfOk, IfSome, IfNone, is_some, option_and_then}
-use Rattle.std.proofs.lemmas.List.{get_or_default}
+use Rattle.std.proofs.Common.{◌≡◌, ℕ, ◌<◌, length, Bool, false, List, set, get_or, Result, Ok, Err, refl, sym, ap, ◌∙◌, subst}
+use Rattle.std.specs.Prelude.{Option, Some, None, IfOk, IfSome, IfNone, is_some, option_and_then, remove}
+use Rattle.std.proofs.lemmas.List.{get_or_default, get_or-set_same}
 use Rattle.model.specs.Causes.{Cause}
 use Rattle.model.specs.ResponseHeads.{Head}
 use Rattle.offering.specs.Outbox.{Outbox, Part, part_of}
@@ -11,10 +11,12 @@ use Rattle.answers.specs.Waiting.{Answer}
 use Rattle.answers.specs.Hearing.{IsHeard, IsEnded}
 use Rattle.answers.specs.declared.answer.Heard.{Heard}
 use Rattle.answers.specs.declared.answer.Ended.{Ended}
-use Rattle.offers.specs.Places.{at, AreRising, IsAt}
+use Rattle.offers.specs.declared.offered.Offered.{Offered}
+use Rattle.offers.specs.Places.{at, AreRising, IsAt, is_offered, AreTold, IsToldBehind, AreSound}
 use Rattle.offers.specs.Asked.{is_kept, part_for}
 use Rattle.offers.specs.Changes.{with_box, refilled, IsHeardFor, IsEndedFor, IsHeadTaken, AreOctetsTaken, behind_turn, IsHeadGone, AreOctetsGone}
-use Rattle.offers.proofs.Rising.{find_at, change_at, rising_changed}
+use Rattle.offers.proofs.Rising.{find_at, change_at, without_at, rising_changed, rising_without}
+use Rattle.offers.proofs.OnOffer.{told_set, told_without}
 
 -- what follows of a value follows where there is one
 pub if_ok : {X E : Type 0} (P Q : X → Type 0) (r : Result X E) → IfOk r P → ((x : X) → P x → Q x) → IfOk r Q
@@ -34,6 +36,11 @@ answered_id cause k = by k.box
     by (Before interims head body whole) = refl
     by (Behind body whole) = refl
     by Over = refl
+
+-- what is read twice is the same
+pub same_read : (ks : List Kept) (place : ℕ) (x y : Kept) → place < length ks → x ≡ get_or ks place x → y ≡ get_or ks place y → x.id ≡ y.id
+same_read ks place x y within at_x at_y =
+    ap (λ (k : Kept). k.id) (at_x ∙ get_or_default ks place x (blank 0) within ∙ sym (get_or_default ks place y (blank 0) within) ∙ sym at_y)
 
 module _ (s : State) (id place : ℕ) (rising : AreRising s.kept) (is : IsAt s.kept id place) (k : Kept) (read : k ≡ get_or s.kept place k) where
   -- the stream that is read
@@ -56,6 +63,23 @@ module _ (s : State) (id place : ℕ) (rising : AreRising s.kept) (is : IsAt s.k
   rising_to new same =
       let f : Kept → Kept = λ x. record { id = x.id; box = new.box; cut = new.cut } in
       subst AreRising (sym (changed_to f new (ap (λ n. let it : Kept = record { id = n; box = new.box; cut = new.cut } in it) same))) (rising_changed id f s.kept (λ x. refl) rising)
+
+  -- what is told behind that
+  pub sound_to : (o o' : Offered) → AreTold o s.kept → (new again : Kept) (had has : Bool) → had ≡ is_offered k → new.id ≡ k.id → again ≡ get_or (set s.kept place new) place again → has ≡ is_offered again → IsToldBehind o id had has o' → AreSound (set s.kept place new) o'
+  sound_to o o' told new again had has was same read_again now behind =
+      let its : new.id ≡ (at s.kept place).id = same ∙ ap (λ (x : Kept). x.id) (sym stands) in
+      let is_new : again ≡ new = read_again ∙ get_or-set_same s.kept place new again is.within in
+      let by_id : IsToldBehind o new.id had has o' = subst (λ n. IsToldBehind o n had has o') (sym (its ∙ is.has_id)) behind in
+      let by_had : IsToldBehind o new.id (is_offered (at s.kept place)) has o' = subst (λ b. IsToldBehind o new.id b has o') (was ∙ ap is_offered (sym stands)) by_id in
+      let by_has : IsToldBehind o new.id (is_offered (at s.kept place)) (is_offered new) o' = subst (λ b. IsToldBehind o new.id (is_offered (at s.kept place)) b o') (now ∙ ap is_offered is_new) by_had in
+      record { rising = rising_to new same; told = told_set o s.kept told place new o' is.within its by_has }
+
+  -- and behind its end
+  pub sound_without : (o o' : Offered) → AreTold o s.kept → (had : Bool) → had ≡ is_offered k → IsToldBehind o id had false o' → AreSound (remove s.kept place) o'
+  sound_without o o' told had was behind = record {
+    rising = subst AreRising (without_at id s.kept place rising is) (rising_without id s.kept rising);
+    told = told_without o s.kept told place id o' is.within (subst (λ b. IsToldBehind o id b false o') (was ∙ ap is_offered (sym stands)) behind);
+  }
 
   -- with another outbox in its place
   refilled_to : (new : Kept) → new.id ≡ k.id → new.cut ≡ k.cut → record { kept = set s.kept place new; last = s.last } ≡ refilled id new.box s

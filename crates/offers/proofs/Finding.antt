@@ -1,7 +1,7 @@
 -- What a search by halves finds among streams whose ids rise.
 use Rattle.std.proofs.Common.{◌≡◌, ℕ, ◌+◌, ◌<◌, ◌≤◌, List, length, take, drop, true, false, Result, Ok, Err, sym, ap, ◌∙◌, subst, inl, inr, arith, get_or, length-drop}
 use lib.Seq.{length-take-le}
-use Rattle.std.specs.Prelude.{None, nat_le, IfSome, IfNone}
+use Rattle.std.specs.Prelude.{None, nat_le, nat_lt, IfSome, IfNone}
 use Rattle.std.proofs.lemmas.List.{get_or_default, get_or-take, get_or-drop}
 use Rattle.std.proofs.lemmas.List.Elements.{recursion_from_All}
 use Rattle.std.specs.Result.{result_ok}
@@ -12,7 +12,7 @@ use Rattle.std.proofs.lemmas.Cmp.{ranked}
 use Rattle.std.proofs.lemmas.List.Sorted.{IsNonDecreasingBy-from_default}
 use Rattle.std.proofs.lemmas.Bool.Decides.{nat_tests}
 use Rattle.offering.specs.State.{Kept, blank, find}
-use Rattle.offers.specs.Places.{at, AreRising, IsAt, IsSplit}
+use Rattle.offers.specs.Places.{at, AreRising, IsAt, IsSplit, IsSplitBelow}
 use Rattle.offers.proofs.Rising.{rises, find_none}
 
 module _ (ks : List Kept) (rising : AreRising ks) (id : ℕ) where
@@ -59,4 +59,28 @@ module _ (ks : List Kept) (rising : AreRising ks) (id : ℕ) where
         let high : nat_le (get_or ks (place + i) d).id id ≡ false = parts.1 (place + i) d (omega arith) (omega (arith, within, length-drop place ks)) in
         let lt : id < (get_or ks (place + i) d).id = grind (arith, nat_tests) in
         subst (λ (k : Kept). id < k.id) (sym (get_or-drop place ks i d)) lt);
+  }
+
+  -- ids below one come before those that aren't
+  pub parted_below : IsPartitionedBy (λ (k : Kept). nat_lt k.id id) ks
+  parted_below i j d le within upto =
+      let at_i : get_or ks i d ≡ at ks i = get_or_default ks i d (blank 0) (omega (arith, le, within)) in
+      let at_j : get_or ks j d ≡ at ks j = get_or_default ks j d (blank 0) within in
+      let low : nat_lt (at ks j).id id ≡ true = sym (ap (λ (k : Kept). nat_lt k.id id) at_j) ∙ upto in
+      let ids_rise : (at ks i).id ≤ (at ks j).id = not_below i j le within in
+      ap (λ (k : Kept). nat_lt k.id id) at_i ∙ grind (arith, nat_tests)
+
+  -- so a search by halves parts them
+  pub splits_below : (place : ℕ) → place ≤ length ks → IsPartitionPoint (λ (k : Kept). nat_lt k.id id ≡ true) (λ (k : Kept). nat_lt k.id id ≡ false) ks place → IsSplitBelow ks id place
+  splits_below place in_range parts = record {
+    within = in_range;
+    below = recursion_from_All (λ (k : Kept). k.id < id) (take place ks) (λ i d within.
+        let lt : i < place = omega (arith, within, length-take-le place ks in_range) in
+        let low : nat_lt (get_or ks i d).id id ≡ true = parts.0 i d (omega arith) lt in
+        let le : (get_or ks i d).id < id = grind (arith, nat_tests) in
+        subst (λ (k : Kept). k.id < id) (sym (get_or-take place ks i d lt)) le);
+    from = recursion_from_All (λ (k : Kept). id ≤ k.id) (drop place ks) (λ i d within.
+        let high : nat_lt (get_or ks (place + i) d).id id ≡ false = parts.1 (place + i) d (omega arith) (omega (arith, within, length-drop place ks)) in
+        let le : id ≤ (get_or ks (place + i) d).id = grind (arith, nat_tests) in
+        subst (λ (k : Kept). id ≤ k.id) (sym (get_or-drop place ks i d)) le);
   }

@@ -5,3 +5,4 @@ pub mod Balances
 pub mod Heads
 pub mod Changing
 pub mod Hearing
+pub mod OnOffer

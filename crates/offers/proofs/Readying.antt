@@ -28,7 +28,7 @@ goes_by_windows windows Over = refl
 
 -- ---- a list in two parts
 
-rising_upto : (xs ys : List Kept) → AreRising (xs ++ ys) → AreRising xs
+pub rising_upto : (xs ys : List Kept) → AreRising (xs ++ ys) → AreRising xs
 rising_upto [] ys rising = tt
 rising_upto (k ∷ xs) ys rising = (below_front k.id xs ys rising.0, rising_upto xs ys rising.1)
   where
@@ -38,9 +38,13 @@ rising_upto (k ∷ xs) ys rising = (below_front k.id xs ys rising.0, rising_upto
         let parts = and_parts (nat_lt id x.id) (is_below_all id (xs ++ ys)) below in
         ap (λ b. b && is_below_all id xs) parts.0 ∙ below_front id xs ys parts.1
 
-rising_from : (xs ys : List Kept) → AreRising (xs ++ ys) → AreRising ys
+pub rising_from : (xs ys : List Kept) → AreRising (xs ++ ys) → AreRising ys
 rising_from [] ys rising = rising
 rising_from (k ∷ xs) ys rising = rising_from xs ys rising.1
+
+-- so they do behind a place
+pub rising_drop : (place : ℕ) (ks : List Kept) → AreRising ks → AreRising (drop place ks)
+rising_drop place ks rising = rising_from (take place ks) (drop place ks) (subst AreRising (sym (take-append-drop place ks)) rising)
 
 -- a stream that isn't above the last is found in the first part
 found_upto : (last id : ℕ) (xs ys : List Kept) → AllByRecursion (λ (k : Kept). last < k.id) ys → id ≤ last → find id (xs ++ ys) ≡ find id xs

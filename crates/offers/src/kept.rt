@@ -7,6 +7,7 @@ ghost use Rattle.outbox.specs.Views.{part_in};
 ghost use Rattle.answers.specs.Hearing.{IsHeard, IsEnded};
 ghost use Rattle.causes.specs.Views.{cause_of};
 ghost use Rattle.offers.specs.Asked.{is_head, are_octets, windows_over};
+ghost use Rattle.offers.specs.Places.{is_offered};
 ghost use Rattle.offers.specs.Changes.{IsHeadTaken, AreOctetsTaken};
 
 use crate::reply::reply_head;
@@ -60,6 +61,13 @@ impl Kept {
         ensures { result ≡ self.now.cut }
     {
         self.cut
+    }
+
+    /// Whether something of it is on offer, which can go where its windows are open.
+    pub fn is_offered(&self) -> bool
+        ensures { result ≡ is_offered self.now }
+    {
+        !self.cut && self.outbox.can_go(true)
     }
 
     /// Whether something of it can go. Its window is looked up only where octets of a body wait.

@@ -2,11 +2,10 @@
 #![tactic(auto)]
 
 mod kept;
+mod offered;
 mod offers;
 mod places;
 mod reply;
-#[cfg(test)]
-mod tests;
 mod turns;
 
 pub use crate::offers::Offers;

@@ -9,6 +9,7 @@ ghost use Rattle.offers.specs.Asked.{is_kept, is_cut, is_above_all, is_head, are
 ghost use Rattle.offers.specs.Changes.{IsHeardFor, IsEndedFor, IsHeadGone, AreOctetsGone};
 
 use crate::kept::Kept;
+use crate::offered::Offered;
 use crate::places::{place_of, remove_at};
 use crate::turns::next_of;
 use answers::{Answer, Ended, Heard};
@@ -26,17 +27,18 @@ pub struct Offers {
     alloc: Global,
     kept: Vec<Kept>,
     last: u32,
+    offered: Offered,
 }
 
 impl Model for Offers {
     ghost use Rattle.offering.specs.State.{State};
-    ghost use Rattle.offers.specs.Places.{AreRising};
+    ghost use Rattle.offers.specs.Places.{AreSound};
 
     ghost Value = { State };
 
     ghost view = { λ offers. record { kept = offers.kept.items; last = offers.last } };
 
-    ghost invariant = { λ offers. AreRising offers.kept.items };
+    ghost invariant = { λ offers. AreSound offers.kept.items offers.offered };
 }
 
 impl Offers {
@@ -48,6 +50,7 @@ impl Offers {
             alloc,
             kept: Vec::new(alloc),
             last: 0,
+            offered: Offered::none(),
         }
     }
 
@@ -67,7 +70,9 @@ impl Offers {
         ensures { self.new ≡ record self.old { kept = without id self.old.kept } }
     {
         if let Some(place) = place_of(&self.kept, id) {
+            let had = self.kept[place].is_offered();
             remove_at(&mut self.kept, place);
+            self.offered = self.offered.behind(id, had, false);
         }
     }
 
@@ -80,7 +85,10 @@ impl Offers {
         let Some(place) = place_of(&self.kept, id) else {
             unreachable!();
         };
-        self.kept[place].hear(answer, octets)
+        let had = self.kept[place].is_offered();
+        let heard = self.kept[place].hear(answer, octets);
+        self.offered = self.offered.behind(id, had, self.kept[place].is_offered());
+        heard
     }
 
     /// Takes the end of the connection of an active stream's upstream: the rest of its answer is on offer for it, where that is whole
@@ -93,7 +101,10 @@ impl Offers {
         let Some(place) = place_of(&self.kept, id) else {
             unreachable!();
         };
-        self.kept[place].end(answer)
+        let had = self.kept[place].is_offered();
+        let ended = self.kept[place].end(answer);
+        self.offered = self.offered.behind(id, had, self.kept[place].is_offered());
+        ended
     }
 
     /// The gateway answers a stream itself: its reply takes the place of what is on offer, or a reset is owed where a final head is out.
@@ -105,7 +116,10 @@ impl Offers {
         let Some(place) = place_of(&self.kept, id) else {
             return Ok(());
         };
-        self.kept[place].answer(self.alloc, cause)
+        let had = self.kept[place].is_offered();
+        let answered = self.kept[place].answer(self.alloc, cause);
+        self.offered = self.offered.behind(id, had, self.kept[place].is_offered());
+        answered
     }
 
     /// The stream that has the next turn, each in turn by rising ids: none just where nothing can go. `first_size` is the first size of
@@ -113,7 +127,8 @@ impl Offers {
     pub fn next_turn(&self, streams: &Streams, first_size: u32, shared: i64) -> Option<u32>
         ensures { IsNextTurn self.now.last (ready (windows_over streams.now first_size shared) self.now) result }
     {
-        next_of(&self.kept, self.last, streams, first_size, shared)
+        let offered = self.offered.among(&self.kept);
+        next_of(offered, self.last, streams, first_size, shared)
     }
 
     /// The part of a stream's response that goes next, where so many octets of its body may; it has the end where nothing is held behind
@@ -137,7 +152,10 @@ impl Offers {
             unreachable!();
         };
         self.last = id;
-        self.kept[place].take_head()
+        let had = self.kept[place].is_offered();
+        let head = self.kept[place].take_head();
+        self.offered = self.offered.behind(id, had, self.kept[place].is_offered());
+        head
     }
 
     /// The octets that `part` answers for `most` were sent on a stream, or the end without octets; the stream had its turn with them.
@@ -149,7 +167,9 @@ impl Offers {
             unreachable!();
         };
         self.last = id;
+        let had = self.kept[place].is_offered();
         self.kept[place].drop_octets(most);
+        self.offered = self.offered.behind(id, had, self.kept[place].is_offered());
     }
 
     /// Whether a stream is active.

@@ -2,7 +2,7 @@
 
 ghost use Rattle.std.specs.Prelude.{◌≡◌, ◌<◌, None, length, remove, IfSome, IfNone};
 ghost use Rattle.offering.specs.State.{find};
-ghost use Rattle.offers.specs.Places.{AreRising, IsAt, IsSplit};
+ghost use Rattle.offers.specs.Places.{AreRising, IsAt, IsSplit, IsSplitBelow};
 
 use crate::kept::Kept;
 
@@ -21,6 +21,14 @@ pub fn count_upto(kept: &[Kept], last: u32) -> usize
     ensures { IsSplit kept.now last result }
 {
     kept.partition_point(|stream| stream.id() <= last)
+}
+
+/// How many streams have an id that is below this one.
+pub fn count_below(kept: &[Kept], least: u32) -> usize
+    requires { AreRising kept.now }
+    ensures { IsSplitBelow kept.now least result }
+{
+    kept.partition_point(|stream| stream.id() < least)
 }
 
 /// Takes out the stream at a place.

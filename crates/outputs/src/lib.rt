@@ -8,8 +8,6 @@ mod laws;
 mod outputs;
 mod responses;
 mod sections;
-#[cfg(test)]
-mod tests;
 
 pub use crate::events::{Event, Output};
 pub use crate::laws::{blocks_are_completed, data_is_told, fragments_may_go, updates_are_told};

@@ -11,7 +11,7 @@ use Rattle.policy.specs.Moves.Deed.{Sends, Acts}
 use Rattle.policy.specs.Moves.Move.{Does}
 use Rattle.policy.specs.State.{State, tape_of}
 use Rattle.policy.specs.Answered.{IsAnswered, AreAnswered}
-use Rattle.policy.specs.Ending.{farewell_by, sent_all, farewell_of, closes_of, ending_of}
+use Rattle.policy.specs.Ending.{farewell_by, sent_all, farewell_of, closes_of, by_number, ending_of}
 
 closes_say_none : (known : Known) (ls : List Live) (run : List Move) → AreAnswered known run → AreAnswered known (closes_of ls ++ run)
 closes_say_none known [] run so = so
@@ -26,7 +26,7 @@ sends_say_none known table (frame ∷ frames) run so =
 -- What is said of answers is so behind the end where it was before, and the deed says what is so.
 pub answered : (known : Known) (run : List Move) (s : State) (d : Deed) → AreAnswered known run → IsAnswered known (tape_of run) d → AreAnswered known (ending_of s d ++ Does d ∷ run)
 answered known run s d so now = (
-  subst (AreAnswered known) (sym (append_assoc (closes_of s.requests.live) (farewell_of s d) (Does d ∷ run)))
-      (closes_say_none known s.requests.live (farewell_of s d ++ Does d ∷ run) (sends_say_none known s.tables.encoding.table (farewell_by s d) (Does d ∷ run) (so, now))),
+  subst (AreAnswered known) (sym (append_assoc (closes_of (by_number s)) (farewell_of s d) (Does d ∷ run)))
+      (closes_say_none known (by_number s) (farewell_of s d ++ Does d ∷ run) (sends_say_none known s.tables.encoding.table (farewell_by s d) (Does d ∷ run) (so, now))),
   tt,
 )

@@ -1,7 +1,7 @@
 -- Just the active streams are kept of responses, and open connections have numbers of their own: whatever was told of answers.
-use Rattle.std.proofs.Common.{◌≡◌, ℕ, suc, ◌≤◌, Bool, true, false, not, ◌==◌, ◌&&◌, List, [], ◌∷◌, map, refl, sym, ap, ◌∙◌, subst, inl, inr, arith, if◌then◌else◌}
+use Rattle.std.proofs.Common.{◌≡◌, ℕ, suc, ◌≤◌, Bool, true, false, not, ◌==◌, ◌&&◌, List, [], ◌∷◌, ◌++◌, map, refl, sym, ap, ◌∙◌, subst, inl, inr, arith, if◌then◌else◌}
 use Rattle.std.specs.Prelude.{Option, Some, None, is_some}
-use Rattle.std.proofs.lemmas.Bool.{ne_eqb, and_right}
+use Rattle.std.proofs.lemmas.Bool.{eq-eqb, ne_eqb, and_right}
 use Rattle.std.proofs.lemmas.Bool.Decides.{eqb_tells}
 use Rattle.model.specs.Frames.{rst_stream_kind, ends_headers}
 use Rattle.model.specs.Tapes.{Noted, Entry}
@@ -133,6 +133,47 @@ without_none k (l ∷ ls) e = by (l.k == k) e (without_none k ls)
     by : (b : Bool) → (if b then Some l else live_of k ls) ≡ None → (live_of k ls ≡ None → serving.without k_of k ls ≡ ls) → (if b then serving.without k_of k ls else l ∷ serving.without k_of k ls) ≡ l ∷ ls
     by true none more = let clash : ◌≡◌ {A = Option Live} (Some l) None = none in cc
     by false none more = ap (λ (xs : List Live). l ∷ xs) (more none)
+
+-- where a number is in neither part, it is in neither
+none_in_parts : (k : ℕ) (xs ys : List Live) → live_of k (xs ++ ys) ≡ None → (live_of k xs ≡ None) × (live_of k ys ≡ None)
+none_in_parts k [] ys e = (refl, e)
+none_in_parts k (x ∷ xs) ys e = by (x.k == k) e (none_in_parts k xs ys)
+  where
+    by : (b : Bool) → (if b then Some x else live_of k (xs ++ ys)) ≡ None → (live_of k (xs ++ ys) ≡ None → (live_of k xs ≡ None) × (live_of k ys ≡ None)) → ((if b then Some x else live_of k xs) ≡ None) × (live_of k ys ≡ None)
+    by true none more = let clash : ◌≡◌ {A = Option Live} (Some x) None = none in cc
+    by false none more = more none
+
+-- ---- the last of some connections, which has a number of its own
+
+module _ (l : Live) where
+  pub last_found : (xs : List Live) → live_of l.k xs ≡ None → live_of l.k (xs ++ l ∷ []) ≡ Some l
+  last_found [] none = ap (λ b. if b then Some l else None) (eq-eqb l.k l.k refl)
+  last_found (x ∷ xs) none = by (x.k == l.k) none (last_found xs)
+    where
+      by : (b : Bool) → (if b then Some x else live_of l.k xs) ≡ None → (live_of l.k xs ≡ None → live_of l.k (xs ++ l ∷ []) ≡ Some l) → (if b then Some x else live_of l.k (xs ++ l ∷ [])) ≡ Some l
+      by true none more = let clash : ◌≡◌ {A = Option Live} (Some x) None = none in cc
+      by false none more = more none
+
+  pub last_goes : (xs : List Live) → live_of l.k xs ≡ None → serving.without k_of l.k (xs ++ l ∷ []) ≡ xs
+  last_goes [] none = ap (λ b. if b then [] else l ∷ []) (eq-eqb l.k l.k refl)
+  last_goes (x ∷ xs) none = by (x.k == l.k) none (last_goes xs)
+    where
+      by : (b : Bool) → (if b then Some x else live_of l.k xs) ≡ None → (live_of l.k xs ≡ None → serving.without k_of l.k (xs ++ l ∷ []) ≡ xs) → (if b then serving.without k_of l.k (xs ++ l ∷ []) else x ∷ serving.without k_of l.k (xs ++ l ∷ [])) ≡ x ∷ xs
+      by true none more = let clash : ◌≡◌ {A = Option Live} (Some x) None = none in cc
+      by false none more = ap (λ (ls : List Live). x ∷ ls) (more none)
+
+  differs : (x : Live) → live_of x.k (l ∷ []) ≡ None → (x.k == l.k) ≡ false
+  differs x none = elim (eqb_tells x.k l.k) [
+    | inl y ↦ (let found : live_of x.k (l ∷ []) ≡ Some l = ap (λ b. if b then Some l else None) (eq-eqb l.k x.k (sym y.1)) in let clash : ◌≡◌ {A = Option Live} (Some l) None = sym found ∙ none in cc)
+    | inr y ↦ y.0
+  ]
+
+  pub last_apart : (xs : List Live) → AreApart (xs ++ l ∷ []) → (live_of l.k xs ≡ None) × AreApart xs
+  last_apart [] apart = (refl, tt)
+  last_apart (x ∷ xs) apart =
+      let parts = none_in_parts x.k xs (l ∷ []) apart.0 in
+      let more = last_apart xs apart.1 in
+      (ap (λ b. if b then Some x else live_of l.k xs) (differs x parts.1) ∙ more.0, (parts.0, more.1))
 
 -- What is kept of connections, and how many were opened.
 record AreNumbered (ls : List Live) (count : ℕ) : Type 0 where

@@ -1,8 +1,9 @@
 -- Behind the entry that ends the connection: what is owed goes out, each open connection is closed, and then that to the client.
-use Rattle.std.proofs.Common.{◌≡◌, ℕ, ◌<◌, true, false, not, ◌==◌, ◌&&◌, List, [], ◌∷◌, ◌++◌, map, append_assoc, refl, sym, ap, ◌∙◌, subst, inl, inr, arith, if◌then◌else◌}
+use Rattle.std.proofs.Common.{◌≡◌, ℕ, ◌<◌, true, false, not, ◌==◌, ◌&&◌, List, [], ◌∷◌, ◌++◌, map, reverse, append_assoc, refl, sym, ap, ◌∙◌, subst, inl, inr, arith, if◌then◌else◌}
 use Rattle.std.specs.Prelude.{Option, Some, None, is_some, pos, int_lt, ◌+ℤ◌, ◌-ℤ◌}
 use Rattle.std.specs.List.{list_any}
-use Rattle.std.proofs.lemmas.Bool.{eq-eqb, or_left}
+use Rattle.std.proofs.lemmas.Bool.{or_left}
+use Rattle.std.proofs.lemmas.List.{reverse-append}
 use Rattle.model.specs.Frames.{Frame, goaway}
 use Rattle.model.specs.FrameErrors.{is_between}
 use Rattle.model.specs.Setup.{Setup}
@@ -38,7 +39,7 @@ use Rattle.policy.specs.State.{conducts, summary_at, state_of}
 use Rattle.policy.specs.Rule.{AllAllowed, RestsBehind}
 use Rattle.policy.specs.Ending.{closes_of}
 use Rattle.policy.proofs.Telling.{all_moved}
-use Rattle.policy.proofs.EndingLives.{found_id, AreApart, without_none}
+use Rattle.policy.proofs.EndingLives.{found_id, AreApart, last_found, last_goes, last_apart}
 
 -- ---- the flush stays done
 
@@ -140,7 +141,7 @@ farewell_goes setup run last code live table e = record {
 
 -- ---- a connection is closed
 
-pub close_goes : (setup : Setup) (run : List Move) (l : Live) (ls : List Live) → live_of l.k ls ≡ None → IsEnding setup run [] (l ∷ ls) → IsEnding setup (Does (Acts (Close l.k)) ∷ run) [] ls
+pub close_goes : (setup : Setup) (run : List Move) (l : Live) (ls : List Live) → live_of l.k ls ≡ None → IsEnding setup run [] (ls ++ l ∷ []) → IsEnding setup (Does (Acts (Close l.k)) ∷ run) [] ls
 close_goes setup run l ls apart e = record {
   allowed = (
     e.allowed,
@@ -150,8 +151,8 @@ close_goes setup run l ls apart e = record {
       offer = tt;
       in_turn = tt;
       request = record {
-        open_yet = told_open setup run [] (l ∷ ls) e;
-        may = record { nothing = e.due; live = l; found = ap (λ (xs : List Live). live_of l.k xs) e.live ∙ ap (λ b. if b then Some l else live_of l.k ls) same; why = inr (told_ends setup run [] (l ∷ ls) e) };
+        open_yet = told_open setup run [] (ls ++ l ∷ []) e;
+        may = record { nothing = e.due; live = l; found = ap (λ (xs : List Live). live_of l.k xs) e.live ∙ last_found l ls apart; why = inr (told_ends setup run [] (ls ++ l ∷ []) e) };
       };
       gains = tt;
       table = tt;
@@ -162,21 +163,20 @@ close_goes setup run l ls apart e = record {
   open_yet = e.open_yet;
   owes = e.owes;
   none_begun = e.none_begun;
-  live = ap (λ (xs : List Live). serving.without k_of l.k xs) e.live ∙ ap (λ b. if b then serving.without k_of l.k ls else l ∷ serving.without k_of l.k ls) same ∙ without_none l.k ls apart;
+  live = ap (λ (xs : List Live). serving.without k_of l.k xs) e.live ∙ last_goes l ls apart;
   due = e.due;
   read = e.read;
   flushed = e.flushed;
 }
-  where
-    same : (l.k == l.k) ≡ true
-    same = eq-eqb l.k l.k refl
 
--- each is closed
-pub closes_go : (setup : Setup) (ls : List Live) (run : List Move) → AreApart ls → IsEnding setup run [] ls → IsEnding setup (closes_of ls ++ run) [] []
+-- each is closed, the last first
+pub closes_go : (setup : Setup) (ls : List Live) (run : List Move) → AreApart (reverse ls) → IsEnding setup run [] (reverse ls) → IsEnding setup (closes_of ls ++ run) [] []
 closes_go setup [] run apart e = e
 closes_go setup (l ∷ ls) run apart e =
+    let is : reverse (l ∷ ls) ≡ reverse ls ++ l ∷ [] = reverse-append (l ∷ []) ls in
+    let last = last_apart l (reverse ls) (subst AreApart is apart) in
     subst (λ (moves : List Move). IsEnding setup moves [] []) (sym (append_assoc (closes_of ls) (Does (Acts (Close l.k)) ∷ []) run))
-    (closes_go setup ls (Does (Acts (Close l.k)) ∷ run) apart.1 (close_goes setup run l ls apart.0 e))
+    (closes_go setup ls (Does (Acts (Close l.k)) ∷ run) last.1 (close_goes setup run l (reverse ls) last.0 (subst (λ (xs : List Live). IsEnding setup run [] xs) is e)))
 
 -- ---- the client is closed
 

@@ -1,6 +1,7 @@
 -- The entry that ends the connection, where the gateway rests: and the whole end behind it.
-use Rattle.std.proofs.Common.{◌≡◌, ℕ, ◌<◌, true, false, ◌==◌, ◌&&◌, nat_lt, List, [], ◌∷◌, ◌++◌, append_assoc, refl, sym, ap, ◌∙◌, subst, if◌then◌else◌}
+use Rattle.std.proofs.Common.{◌≡◌, ℕ, ◌<◌, true, false, ◌==◌, ◌&&◌, nat_lt, List, [], ◌∷◌, ◌++◌, reverse, append_assoc, refl, sym, ap, ◌∙◌, subst, if◌then◌else◌}
 use Rattle.std.specs.Prelude.{Some, is_some, length, pos, int_lt}
+use Rattle.std.proofs.lemmas.List.{reverse-reverse}
 use Rattle.model.specs.Frames.{Frame, goaway, no_error, protocol_error, frame_size_error}
 use Rattle.model.specs.Setup.{Setup}
 use Rattle.model.specs.Admission.{high_water}
@@ -35,12 +36,12 @@ use Rattle.policy.specs.State.{State, conducts, tape_of, summary_at, offers_of, 
 use Rattle.policy.specs.Rule.{MayDo, AllAllowed, RestsBehind}
 use Rattle.policy.specs.Steps.{told_by, Stands}
 use Rattle.policy.specs.Coming.{IsReady}
-use Rattle.policy.specs.Ending.{farewell_for, farewell_by, sent_all, farewell_of, closes_of, frames_sent, closed_all, Ends}
+use Rattle.policy.specs.Ending.{farewell_for, farewell_by, sent_all, farewell_of, closes_of, frames_sent, closed_all, by_number, Ends}
 use Rattle.policy.proofs.Tapes.{offers_tape}
 use Rattle.policy.proofs.Telling.{all_moved, sight_right}
 use Rattle.policy.proofs.Placing.{offers_may, offers_right, turns_may}
 use Rattle.policy.proofs.Coming.{may_break, may_note}
-use Rattle.policy.proofs.EndingLives.{AreActive, all_active, all_apart}
+use Rattle.policy.proofs.EndingLives.{AreActive, all_active, AreApart, all_apart}
 use Rattle.policy.proofs.EndingMoves.{still_flushed, IsEnding, farewell_goes, closes_go, client_closed, rests}
 
 -- ---- the tape
@@ -106,16 +107,17 @@ module _ (setup : Setup) (run : List Move) (all : AllAllowed setup run) (ready :
   -- behind the deed and its farewell
   pub finish : (d : Deed) → IsEnding setup (farewell_of s d ++ Does d ∷ run) [] s.requests.live → Ends setup run s d
   finish d e =
-      let closing = closes_go setup s.requests.live (farewell_of s d ++ Does d ∷ run) (all_apart setup (turns_of setup run) (turns_may setup run all)) e in
-      let same = sym (append_assoc (closes_of s.requests.live) (farewell_of s d) (Does d ∷ run)) in
+      let back : reverse (by_number s) ≡ s.requests.live = reverse-reverse s.requests.live in
+      let closing = closes_go setup (by_number s) (farewell_of s d ++ Does d ∷ run) (subst AreApart (sym back) (all_apart setup (turns_of setup run) (turns_may setup run all))) (subst (λ (ls : List Live). IsEnding setup (farewell_of s d ++ Does d ∷ run) [] ls) (sym back) e) in
+      let same = sym (append_assoc (closes_of (by_number s)) (farewell_of s d) (Does d ∷ run)) in
       record {
-        allowed = subst (λ (moves : List Move). AllAllowed setup (Does (Acts CloseClient) ∷ moves)) same (client_closed setup (closes_of s.requests.live ++ (farewell_of s d ++ Does d ∷ run)) closing);
-        rests = subst (λ (moves : List Move). RestsBehind setup (Does (Acts CloseClient) ∷ moves)) same (rests setup (closes_of s.requests.live ++ (farewell_of s d ++ Does d ∷ run)) closing);
+        allowed = subst (λ (moves : List Move). AllAllowed setup (Does (Acts CloseClient) ∷ moves)) same (client_closed setup (closes_of (by_number s) ++ (farewell_of s d ++ Does d ∷ run)) closing);
+        rests = subst (λ (moves : List Move). RestsBehind setup (Does (Acts CloseClient) ∷ moves)) same (rests setup (closes_of (by_number s) ++ (farewell_of s d ++ Does d ∷ run)) closing);
         tape = ap (λ (x : List Entry). Did CloseClient ∷ x) (
             ap tape_of (sym same)
-            ∙ closes_tape s.requests.live (farewell_of s d ++ Does d ∷ run)
-            ∙ ap (λ (x : List Entry). closed_all s.requests.live ++ x) (sends_tape s.tables.encoding.table (farewell_by s d) (Does d ∷ run) ∙ sym (append_assoc (frames_sent (farewell_by s d)) (entry_of d ∷ []) t))
-            ∙ sym (append_assoc (closed_all s.requests.live) (frames_sent (farewell_by s d) ++ entry_of d ∷ []) t)
+            ∙ closes_tape (by_number s) (farewell_of s d ++ Does d ∷ run)
+            ∙ ap (λ (x : List Entry). closed_all (by_number s) ++ x) (sends_tape s.tables.encoding.table (farewell_by s d) (Does d ∷ run) ∙ sym (append_assoc (frames_sent (farewell_by s d)) (entry_of d ∷ []) t))
+            ∙ sym (append_assoc (closed_all (by_number s)) (frames_sent (farewell_by s d) ++ entry_of d ∷ []) t)
             );
       }
 

@@ -1,6 +1,6 @@
 -- The end of the connection: behind the entry that ends it goes the farewell that is owed, then a close for each open upstream
 -- connection, then that for the client.
-use Rattle.std.specs.Prelude.{◌≡◌, true, false, List, [], ◌∷◌, ◌++◌, Option, Some}
+use Rattle.std.specs.Prelude.{◌≡◌, true, false, List, [], ◌∷◌, ◌++◌, reverse, Option, Some}
 use Rattle.model.specs.Frames.{Frame, goaway}
 use Rattle.model.specs.Setup.{Setup}
 use Rattle.model.specs.Tables.{Table}
@@ -41,14 +41,18 @@ sent_all table (frame ∷ frames) = sent_all table frames ++ Does (Sends (noted_
 abbrev pub farewell_of : State → Deed → List Move
 farewell_of s d = sent_all s.tables.encoding.table (farewell_by s d)
 
--- each open connection is closed, in their order
+-- each of these connections is closed, in their order
 abbrev pub closes_of : List Live → List Move
 closes_of [] = []
 closes_of (live ∷ lives) = closes_of lives ++ Does (Acts (Close live.k)) ∷ []
 
+-- open connections by rising number; they are kept with the newest first
+abbrev pub by_number : State → List Live
+by_number s = reverse s.requests.live
+
 -- the moves behind a deed that ends the connection
 abbrev pub ending_of : State → Deed → List Move
-ending_of s d = Does (Acts CloseClient) ∷ (closes_of s.requests.live ++ farewell_of s d)
+ending_of s d = Does (Acts CloseClient) ∷ (closes_of (by_number s) ++ farewell_of s d)
 
 -- what they leave on the tape, with the deed's entry: the newest stands first
 abbrev pub frames_sent : List Frame → List Entry
@@ -60,7 +64,7 @@ closed_all [] = []
 closed_all (live ∷ lives) = closed_all lives ++ Did (Close live.k) ∷ []
 
 abbrev pub ending_on_tape : State → Deed → List Entry
-ending_on_tape s d = Did CloseClient ∷ (closed_all s.requests.live ++ (frames_sent (farewell_by s d) ++ entry_of d ∷ []))
+ending_on_tape s d = Did CloseClient ∷ (closed_all (by_number s) ++ (frames_sent (farewell_by s d) ++ entry_of d ∷ []))
 
 -- The deed, and the end behind it, come by the rule; behind them the gateway rests, and this is on the tape.
 pub record Ends (setup : Setup) (run : List Move) (s : State) (d : Deed) : Type 0 where

@@ -1,6 +1,6 @@
 -- The marks of a queue with one more.
-use Rattle.std.proofs.Common.{◌≡◌, ◌+◌, List, [], ◌∷◌, ◌++◌, map, refl, ap, ◌∙◌}
-use Rattle.receiving.specs.Marks.{Mark, total}
+use Rattle.std.proofs.Common.{◌≡◌, ◌+◌, List, [], ◌∷◌, ◌++◌, refl, ap, ◌∙◌}
+use Rattle.receiving.specs.Marks.{total}
 use Rattle.receiving.proofs.Queues.{pushed_total}
 use Rattle.receiving_queue.specs.declared.Mark.{Mark as Kept}
 use Rattle.receiving_queue.specs.Waiting.{marks_of}

@@ -23,10 +23,11 @@ struct Mark {
 #[derive(Drop)]
 pub struct Waiting {
     marks: VecDeque<Mark>,
+    octets: u64,
 }
 
 impl Model for Waiting {
-    ghost use Rattle.std.specs.Prelude.{List, ◌<◌, ◌^◌};
+    ghost use Rattle.std.specs.Prelude.{◌≡◌, List, ◌<◌, ◌^◌};
     ghost use Rattle.receiving.specs.Marks.{Mark as MarkOfOctets, total};
     ghost use Rattle.receiving_queue.specs.Waiting.{marks_of};
 
@@ -34,7 +35,7 @@ impl Model for Waiting {
 
     ghost view = { λ waiting. marks_of waiting.marks.items };
 
-    ghost invariant = { λ waiting. total (marks_of waiting.marks.items) < 2 ^ 64 };
+    ghost invariant = { λ waiting. (total (marks_of waiting.marks.items) ≡ waiting.octets) × (waiting.octets < 2 ^ 64) };
 }
 
 impl Waiting {
@@ -44,6 +45,7 @@ impl Waiting {
     {
         Waiting {
             marks: VecDeque::new(alloc),
+            octets: 0,
         }
     }
 
@@ -55,6 +57,7 @@ impl Waiting {
         ensures unchanged { OnErr result (self.new ≡ self.old) }
     {
         self.marks.push_back(Mark { mark, count })?;
+        self.octets += count;
         Ok(())
     }
 
@@ -64,7 +67,17 @@ impl Waiting {
         ensures released { result ≡ released taken self.old }
         ensures left { self.new ≡ pop taken self.old }
     {
-        drop_all(&mut self.marks, taken)
+        let count = drop_all(&mut self.marks, taken);
+        self.octets -= count;
+        count
+    }
+
+    /// How many octets wait.
+    pub fn total(&self) -> u64
+        ensures { result ≡ total self.now }
+    {
+        let Waiting { octets, .. } = self;
+        *octets
     }
 }
 

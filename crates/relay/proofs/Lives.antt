@@ -1,13 +1,11 @@
 -- Open connections as the rule of requests has them: what a call changes is what the rule's move changes.
-use Rattle.std.proofs.Common.{◌≡◌, ℕ, ◌<◌, ◌==◌, ◌||◌, if◌then◌else◌, Bool, true, false, List, [], ◌∷◌, map, Some, None, refl, sym, ap, ◌∙◌, arith}
-use Rattle.std.specs.Prelude.{Option, option_map}
-use Rattle.std.specs.List.{list_any}
-use Rattle.std.proofs.lemmas.Bool.{eq-eqb, ne_eqb}
+use Rattle.std.proofs.Common.{◌≡◌, ℕ, ◌==◌, if◌then◌else◌, Bool, true, false, List, [], ◌∷◌, map, Some, refl, ap, ◌∙◌}
+use Rattle.std.specs.Prelude.{option_map}
 use Rattle.answers.specs.Waiting.{Answer}
 use Rattle.serving.specs.State.{k_of, live_of, find, without, answered}
 use Rattle.serving.specs.Told.{Told}
 use Rattle.serving.specs.Rule.{is_done}
-use Rattle.upstreams.specs.Connections.{Connection, number_of, lives, whole_at, answer_at, next_done, AreBelow}
+use Rattle.upstreams.specs.Connections.{Connection, number_of, lives, whole_at, answer_at}
 
 -- ---- what is found
 
@@ -55,47 +53,3 @@ pub record IsDone (told : Told) (cs : List Connection) (k : ℕ) : Type 0 where
   pub connection : Connection
   pub found : find number_of k cs ≡ Some connection
   pub done : is_done told connection.live ≡ true
-
-pub none_done : (told : Told) (cs : List Connection) → next_done told cs ≡ None → list_any (is_done told) (lives cs) ≡ false
-none_done told [] none = refl
-none_done told (c ∷ cs) none = by (is_done told c.live) refl (λ rest. none_done told cs rest)
-  where
-    by : (b : Bool) → is_done told c.live ≡ b → (next_done told cs ≡ None → list_any (is_done told) (lives cs) ≡ false) → list_any (is_done told) (lives (c ∷ cs)) ≡ false
-    by true done more = let clash : ◌≡◌ {A = Option ℕ} (Some c.live.k) None = sym (ap (λ b. if b then Some c.live.k else next_done told cs) done) ∙ none in cc
-    by false on more = ap (λ b. b || list_any (is_done told) (lives cs)) on ∙ more (sym (ap (λ b. if b then Some c.live.k else next_done told cs) on) ∙ none)
-
--- the number of one that is done with is below
-done_below : (told : Told) (top k : ℕ) (cs : List Connection) → AreBelow top cs → next_done told cs ≡ Some k → k < top
-done_below told top k [] below is = let clash : ◌≡◌ {A = Option ℕ} None (Some k) = is in cc
-done_below told top k (c ∷ cs) below is = by (is_done told c.live) refl (λ rest. done_below told c.live.k k cs below.1 rest)
-  where
-    by : (b : Bool) → is_done told c.live ≡ b → (next_done told cs ≡ Some k → k < c.live.k) → k < top
-    by true done more =
-        let both : Some c.live.k ≡ Some k = sym (ap (λ b. if b then Some c.live.k else next_done told cs) done) ∙ is in
-        let same : c.live.k ≡ k = cc in
-        let first = below.0 in
-        omega (arith, first, same)
-    by false on more =
-        let less = more (sym (ap (λ b. if b then Some c.live.k else next_done told cs) on) ∙ is) in
-        let first = below.0 in
-        omega (arith, first, less)
-
--- where one is done with, the first that is is open with its number
-pub one_done : (told : Told) (top k : ℕ) (cs : List Connection) → AreBelow top cs → next_done told cs ≡ Some k → IsDone told cs k
-one_done told top k [] below is = let clash : ◌≡◌ {A = Option ℕ} None (Some k) = is in cc
-one_done told top k (c ∷ cs) below is = by (is_done told c.live) refl (λ rest. one_done told c.live.k k cs below.1 rest)
-  where
-    by : (b : Bool) → is_done told c.live ≡ b → (next_done told cs ≡ Some k → IsDone told cs k) → IsDone told (c ∷ cs) k
-    by true done more =
-        let both : Some c.live.k ≡ Some k = sym (ap (λ b. if b then Some c.live.k else next_done told cs) done) ∙ is in
-        let same : c.live.k ≡ k = cc in
-        record { connection = c; found = ap (λ b. if b then Some c else find number_of k cs) (eq-eqb c.live.k k same); done = done }
-    by false on more =
-        let rest : next_done told cs ≡ Some k = sym (ap (λ b. if b then Some c.live.k else next_done told cs) on) ∙ is in
-        let less = done_below told c.live.k k cs below.1 rest in
-        let one = more rest in
-        record {
-          connection = one.connection;
-          found = ap (λ b. if b then Some c else find number_of k cs) (ne_eqb c.live.k k (λ same. omega (arith, less, same))) ∙ one.found;
-          done = one.done;
-        }

@@ -4,7 +4,7 @@ use crate::transcripts::{NOTHING, REQUEST, Row, START, assert_rows};
 use std::test::*;
 
 /// Connections that end with GOAWAY, or with the client.
-pub static ENDED: [Row; 14] = [
+pub static ENDED: [Row; 16] = [
     Row {
         name: "a wrong preface",
         begins: NOTHING,
@@ -29,6 +29,38 @@ pub static ENDED: [Row; 14] = [
         goes_on: r"
             > CE
             X 1
+            XC
+        ",
+    },
+    Row {
+        name: "a client that ends after three requests, of which the second was answered",
+        begins: REQUEST,
+        goes_on: r"
+            > C 000004 01 05 00000003 828684be 000004 01 05 00000005 828684be
+            O 2 0
+            U 2 {GET}
+            O 3 0
+            U 3 {GET}
+            > U 2 'HTTP/1.1 204 No Content\r\n\r\n'
+            X 2
+            C 000001 01 05 00000003 89
+            > CE
+            X 1
+            X 3
+            XC
+        ",
+    },
+    Row {
+        name: "an error behind two requests",
+        begins: REQUEST,
+        goes_on: r"
+            > C 000004 01 05 00000003 828684be
+            O 2 0
+            U 2 {GET}
+            > C 000004 08 00 00000000 00000000
+            C 000008 07 00 00000000 00000003 00000001
+            X 1
+            X 2
             XC
         ",
     },

@@ -8,7 +8,8 @@ use Rattle.outputs.specs.declared.events.Output.{Output}
 use Rattle.gateway.specs.Views.{event_of, outputs_of}
 use Rattle.gateway.specs.Runs.{log_of}
 use Rattle.scripts.specs.Scripts.{lines_of, AllSay}
-use Rattle.scripts.specs.Printing.{text_of, default_setup, IsRun}
+use Rattle.model.specs.Setup.{Setup}
+use Rattle.scripts.specs.Printing.{text_of, IsRunBy}
 
 events_of_log : (events : List Event) (outputs : List (Vec Output Global)) → length outputs ≡ length events → map (λ step. step.event) (log_of events outputs) ≡ map event_of events
 events_of_log [] outputs each = refl
@@ -22,10 +23,10 @@ outputs_of_log (event ∷ events) [] each = absurd (omega arith)
 outputs_of_log (event ∷ events) (o ∷ os) each = ap (λ xs. outputs_of o.items ∷ xs) (outputs_of_log events os (omega arith))
 
 -- a script that was read and run is one that was run
-pub is_run : (script written : List ℕ) (events : List Event) (outputs : List (Vec Output Global)) → AllSay (lines_of script) (map event_of events)
-    → length outputs ≡ length events → Promise default_setup (log_of events outputs) → written ≡ text_of (map (λ o. outputs_of o.items) outputs)
-    → IsRun script (λ text. written ≡ text)
-is_run script written events outputs say each promised printed = (
+pub is_run : (setup : Setup) (script written : List ℕ) (events : List Event) (outputs : List (Vec Output Global)) → AllSay (lines_of script) (map event_of events)
+    → length outputs ≡ length events → Promise setup (log_of events outputs) → written ≡ text_of (map (λ o. outputs_of o.items) outputs)
+    → IsRunBy setup script (λ text. written ≡ text)
+is_run setup script written events outputs say each promised printed = (
   log_of events outputs,
   subst (AllSay (lines_of script)) (sym (events_of_log events outputs each)) say,
   promised,

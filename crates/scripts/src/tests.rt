@@ -32,27 +32,37 @@ struct Outcome {
     err: Vec<u8>,
 }
 
-fn written(alloc: Global, script: &str) -> Outcome {
+fn written(alloc: Global, config: Option<&str>, script: &str) -> Outcome {
     let mut out = Vec::new(alloc);
     let mut err = Vec::new(alloc);
-    let status = replay(alloc, None, script, &mut out, &mut err);
+    let status = replay(alloc, config, script, &mut out, &mut err);
     Outcome { status, out, err }
 }
 
 /// The script is run, and the lines are written.
-fn assert_prints(rt: &impl Abort, alloc: Global, script: &str, lines: &str) {
-    let Outcome { status, out, err } = written(alloc, script);
+fn assert_runs(rt: &impl Abort, outcome: Outcome, lines: &str) {
+    let Outcome { status, out, err } = outcome;
     assert_eq!(rt; str::from_utf8(&out).ok(), Some(lines));
     assert_eq!(rt; str::from_utf8(&err).ok(), Some(""));
     assert_eq!(rt; status, 0);
 }
 
-/// The script is refused for this reason.
-fn assert_refuses(rt: &impl Abort, alloc: Global, script: &str, reason: &str) {
-    let Outcome { status, out, err } = written(alloc, script);
+/// The replay is refused for this reason.
+fn assert_stops(rt: &impl Abort, outcome: Outcome, reason: &str) {
+    let Outcome { status, out, err } = outcome;
     assert_eq!(rt; str::from_utf8(&err).ok(), Some(reason));
     assert_eq!(rt; str::from_utf8(&out).ok(), Some(""));
     assert_eq!(rt; status, 1);
+}
+
+/// The script is run without a configuration.
+fn assert_prints(rt: &impl Abort, alloc: Global, script: &str, lines: &str) {
+    assert_runs(rt, written(alloc, None, script), lines);
+}
+
+/// The script is refused for this reason.
+fn assert_refuses(rt: &impl Abort, alloc: Global, script: &str, reason: &str) {
+    assert_stops(rt, written(alloc, None, script), reason);
 }
 
 #[test]
@@ -243,6 +253,59 @@ fn refused_scripts(rt: HostRuntime) -> Result<(), Fail> {
     Ok(())
 }
 
+#[test]
+fn refused_configurations(rt: HostRuntime) -> Result<(), Fail> {
+    let reasons = [
+        ("max_body = -1\npolicy = \"x\"", "config: bad policy\n"),
+        ("colour = 1", "config: unknown key\n"),
+        ("policy", "config: not TOML\n"),
+        (
+            "[[route]]\nprefix = \"/\"\nupstream = \"a.example:80\"",
+            "config: bad upstream\n",
+        ),
+    ];
+    for (config, reason) in reasons {
+        // The script isn't looked at, whatever it is.
+        for script in ["CE", "Z", "CT 1"] {
+            assert_stops(&rt, written(rt.alloc(), Some(config), script), reason);
+        }
+    }
+    let outcome = written(rt.alloc(), Some(""), "CT 1");
+    assert_stops(&rt, outcome, "line 1: not admitted\n");
+    Ok(())
+}
+
+// No route of the configuration is one for the request, so that the gateway replies itself.
+#[test]
+fn routes_are_those_of_the_configuration(rt: HostRuntime) -> Result<(), Fail> {
+    let alloc = rt.alloc();
+    let config =
+        "[[route]]\nauthority = \"a.example\"\nprefix = \"/\"\nupstream = \"127.0.0.1:80\"\n";
+    let script = format!(in alloc; "C {PREFACE}{SETTINGS}{REQUEST}\n")?;
+    let not_found = "0000050105000000018d0f0d0130";
+    let lines = format!(in alloc; "C {OWN_SETTINGS}{ACK}{not_found}\n")?;
+    assert_runs(&rt, written(alloc, Some(config), &script), &lines);
+    assert_runs(&rt, written(alloc, Some(""), &script), &lines);
+    Ok(())
+}
+
+// The length is added to the table.
+#[test]
+fn the_policy_is_that_of_the_configuration(rt: HostRuntime) -> Result<(), Fail> {
+    let alloc = rt.alloc();
+    let route = "[[route]]\nprefix = \"/\"\nupstream = \"127.0.0.1:80\"\n";
+    let config = format!(in alloc; "policy = \"indexing\"\n{route}")?;
+    let (script, first) = first_request(alloc)?;
+    let octets = hex_of(alloc, RESPONSE)?;
+    let script = format!(in alloc; "{script}U 1 {octets}\n")?;
+    let passed = "X 1\nC 000004010400000001885c01320000020001000000016869\n";
+    let lines = format!(in alloc; "{first}{passed}")?;
+    assert_runs(&rt, written(alloc, Some(&config), &script), &lines);
+    let lines = format!(in alloc; "{first}{PASSED}")?;
+    assert_runs(&rt, written(alloc, Some(route), &script), &lines);
+    Ok(())
+}
+
 /// The events as a script has them, but for a `;` behind each.
 fn shown(alloc: Global, events: &[Event]) -> Result<String, AllocError> {
     let mut text = String::new(alloc);
@@ -348,6 +411,7 @@ fn failed_writes(rt: HostRuntime) -> Result<(), Fail> {
     let mut other = Vec::new(alloc);
     assert_eq!(rt; replay(alloc, None, "CE", &mut Full, &mut other), 2);
     assert_eq!(rt; replay(alloc, None, "Z", &mut other, &mut Full), 2);
+    assert_eq!(rt; replay(alloc, Some("a"), "CE", &mut other, &mut Full), 2);
     assert_eq!(rt; other.len(), 0);
     Ok(())
 }

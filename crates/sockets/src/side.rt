@@ -22,19 +22,23 @@ pub struct Side {
     hung_up: bool,
     /// Its end was read.
     ended: bool,
-    /// It may take octets again.
-    writable: bool,
+    /// The last write took less than all, and it wasn't reported since that it takes octets again.
+    full: bool,
     /// It is reported too once it takes octets again.
     watched: bool,
+    /// From so many octets on what was put out is written at once.
+    least: usize,
 }
 
 impl Side {
-    /// A socket, which is reported under a token from now on. What is written to it goes out at once.
+    /// A socket, which is reported under a token from now on. Octets that are put out are written once there are so many, and
+    /// others at the next `flush`; what is written goes out at once.
     pub fn new(
         alloc: Global,
         registry: &Registry,
         mut socket: TcpStream,
         token: Token,
+        least: usize,
     ) -> io::Result<Side> {
         socket.set_nodelay(true)?;
         registry.register(&mut socket, token, Interest::READABLE)?;
@@ -45,8 +49,9 @@ impl Side {
             readable: false,
             hung_up: false,
             ended: false,
-            writable: false,
+            full: false,
             watched: false,
+            least,
         })
     }
 
@@ -82,20 +87,25 @@ impl Side {
         let over = event.is_read_closed() || event.is_error();
         self.hung_up = self.hung_up || over;
         self.readable = self.readable || over || event.is_readable();
-        self.writable = self.writable || event.is_writable();
+        self.full = self.full && !event.is_writable();
     }
 
     /// Puts octets out.
     pub fn put(&mut self, registry: &Registry, octets: &[u8]) -> Result<(), PutFault> {
-        self.out.put(&mut self.socket, octets)?;
-        self.watch(registry).map_err(PutFault::Socket)
+        if self.out.waiting() == 0 && octets.len() >= self.least {
+            self.out.put(&mut self.socket, octets)?;
+            return self.watch(registry).map_err(PutFault::Socket);
+        }
+        self.out.gather(octets)?;
+        if self.out.waiting() >= self.least {
+            self.flush(registry).map_err(PutFault::Socket)?;
+        }
+        Ok(())
     }
 
     /// Writes what waits, if the socket may take it.
     pub fn flush(&mut self, registry: &Registry) -> io::Result<()> {
-        let may_take = self.writable;
-        self.writable = false;
-        if may_take && self.out.waiting() > 0 {
+        if !self.full && self.out.waiting() > 0 {
             self.out.flush(&mut self.socket)?;
             self.watch(registry)?;
         }
@@ -119,9 +129,10 @@ impl Side {
         Ok(got)
     }
 
-    /// Has the socket reported once it takes octets again, where some wait.
+    /// Notes behind a write whether octets wait, and has the socket reported once it takes those.
     fn watch(&mut self, registry: &Registry) -> io::Result<()> {
-        if self.watched || self.out.waiting() == 0 {
+        self.full = self.out.waiting() > 0;
+        if self.watched || !self.full {
             return Ok(());
         }
         self.watched = true;

@@ -2,12 +2,15 @@ ghost use Rattle.std.specs.Prelude.{◌≡◌, IfOk, length};
 ghost use Rattle.gateway.specs.Setups.{setup_of, IsServable};
 
 use super::*;
+use crate::side::Side;
 use gateway::{Config, Output, Passing, Policy, Route};
+use mio::{Events, Poll, Token};
 use std::alloc::{AllocError, Global};
 use std::io;
 use std::io::{ErrorKind, Read, Write};
 use std::net::{Ipv4Addr, SocketAddr, TcpListener, TcpStream};
 use std::test::*;
+use std::time::Duration;
 use worlds::{Ended, Next, ServeFault, World, WorldFault, serve};
 
 /// The preface, settings without entries, and a GET without a body on stream 1.
@@ -30,6 +33,14 @@ const FRAMES: &[u8] = b"\0\0\x05\x01\x04\0\0\0\x01\x88\x0f\x0d\x01\x32\0\0\x02\0
 /// The frames that go back where the upstream is down: the status 502.
 const BAD_GATEWAY: &[u8] = b"\0\0\x09\x01\x05\0\0\0\x01\x08\x03502\x0f\x0d\x01\x30";
 
+/// The same request on streams 3 and 5.
+const MORE: &[u8] =
+    b"\0\0\x04\x01\x05\0\0\0\x03\x82\x86\x84\xbe\0\0\x04\x01\x05\0\0\0\x05\x82\x86\x84\xbe";
+
+/// The frames that go back on streams 5, 1 and 3.
+const JOINED: &[u8] =
+    b"\0\0\x05\x01\x04\0\0\0\x05\x88\x0f\x0d\x01\x32\0\0\x02\0\x01\0\0\0\x05hi\0\0\x05\x01\x04\0\0\0\x01\x88\x0f\x0d\x01\x32\0\0\x02\0\x01\0\0\0\x01hi\0\0\x05\x01\x04\0\0\0\x03\x88\x0f\x0d\x01\x32\0\0\x02\0\x01\0\0\0\x03hi";
+
 /// A world of sockets in whose turns a client and an upstream take part, each with one step before each `next`.
 #[derive(Drop)]
 struct Loopback<'a> {
@@ -44,24 +55,55 @@ struct Peers {
     client: Option<TcpStream>,
     /// The client leaves once it read so many octets.
     enough: usize,
-    /// What the client read, and what the upstream did.
+    /// What the client read, in how many reads, and what the upstream did.
     read: Vec<u8>,
+    reads: u32,
     asked: Vec<u8>,
+    /// The upstream answers once so many connections wait, the last one first.
+    answers: usize,
+    waiting: Vec<TcpStream>,
 }
 
 impl Peers {
-    /// The upstream answers the next connection, if one waits.
-    fn answer(&mut self) -> io::Result<()> {
+    /// The next connection waits, if there is one.
+    fn accept(&mut self) -> io::Result<()> {
         match self.upstream.accept() {
-            Ok((mut socket, _address)) => {
-                let mut room = [0u8; 256];
-                let count = socket.read(&mut room)?;
-                self.asked.extend_from_slice(&room[..count])?;
-                socket.write_all(ANSWER)
+            Ok((socket, _address)) => {
+                self.waiting.push(socket)?;
+                Ok(())
             }
             Err(error) if error.kind() == ErrorKind::WouldBlock => Ok(()),
             Err(error) => Err(error),
         }
+    }
+
+    /// The upstream answers once enough connections wait: the last one, and then the others in order.
+    fn answer(&mut self) -> io::Result<()> {
+        for _ in 0..self.answers {
+            self.accept()?;
+        }
+        if self.waiting.len() < self.answers {
+            return Ok(());
+        }
+        if let Some(socket) = self.waiting.pop() {
+            self.answer_at(socket)?;
+        }
+        for _ in 0..self.answers {
+            if self.waiting.is_empty() {
+                break;
+            }
+            let socket = self.waiting.remove(0);
+            self.answer_at(socket)?;
+        }
+        Ok(())
+    }
+
+    /// The upstream reads a request, and answers it.
+    fn answer_at(&mut self, mut socket: TcpStream) -> io::Result<()> {
+        let mut room = [0u8; 256];
+        let count = socket.read(&mut room)?;
+        self.asked.extend_from_slice(&room[..count])?;
+        socket.write_all(ANSWER)
     }
 
     /// The client reads what is there, and leaves if that is enough.
@@ -69,7 +111,10 @@ impl Peers {
         if let Some(socket) = &mut self.client {
             let mut room = [0u8; 256];
             match socket.read(&mut room) {
-                Ok(count) => self.read.extend_from_slice(&room[..count])?,
+                Ok(count) => {
+                    self.read.extend_from_slice(&room[..count])?;
+                    self.reads = self.reads.saturating_add(1);
+                }
                 Err(error) if error.kind() == ErrorKind::WouldBlock => {}
                 Err(error) => return Err(error),
             }
@@ -91,6 +136,8 @@ impl World for Loopback<'_> {
     ghost over = { λ _. false };
 
     ghost log = { λ _. None };
+
+    ghost handed = { λ _. None };
 
     fn next(&mut self, rooms: &[(u32, usize)]) -> Result<Next, WorldFault> {
         let _ = self.peers.answer();
@@ -153,7 +200,10 @@ fn a_request_goes_there_and_back(rt: HostRuntime) -> Result<(), Fail> {
             client: Some(client),
             enough: GREETING.len() + FRAMES.len(),
             read: Vec::new(rt.alloc()),
+            reads: 0,
             asked: Vec::new(rt.alloc()),
+            answers: 1,
+            waiting: Vec::new(rt.alloc()),
         },
     };
     let ended = serve(rt.alloc(), &config, &mut world, 100);
@@ -183,7 +233,10 @@ fn an_upstream_that_is_down_is_no_fault_of_the_world(rt: HostRuntime) -> Result<
             client: Some(client),
             enough: GREETING.len() + BAD_GATEWAY.len(),
             read: Vec::new(rt.alloc()),
+            reads: 0,
             asked: Vec::new(rt.alloc()),
+            answers: 1,
+            waiting: Vec::new(rt.alloc()),
         },
     };
     let ended = serve(rt.alloc(), &config, &mut world, 100);
@@ -204,5 +257,122 @@ fn a_client_that_breaks_off_is_one(rt: HostRuntime) -> Result<(), Fail> {
     let mut world = SocketWorld::new(rt.alloc(), &rt, &[], far)?;
     let ended = serve(rt.alloc(), &config, &mut world, 100);
     assert_eq!(rt; ended, Err(ServeFault::World));
+    Ok(())
+}
+
+#[test]
+fn responses_that_are_there_go_back_in_one_write(rt: HostRuntime) -> Result<(), Fail> {
+    let config = one_route(rt.alloc())?;
+    let upstream = quiet_listener(&rt)?;
+    let addresses = [upstream.local_addr()?];
+    let (mut client, far) = pair(&rt)?;
+    client.write_all(REQUEST)?;
+    client.write_all(MORE)?;
+    let far = mio::net::TcpStream::from_std(far);
+    let mut world = Loopback {
+        world: SocketWorld::new(rt.alloc(), &rt, &addresses, far)?,
+        peers: Peers {
+            upstream,
+            client: Some(client),
+            enough: GREETING.len() + JOINED.len(),
+            read: Vec::new(rt.alloc()),
+            reads: 0,
+            asked: Vec::new(rt.alloc()),
+            answers: 3,
+            waiting: Vec::new(rt.alloc()),
+        },
+    };
+    let ended = serve(rt.alloc(), &config, &mut world, 100);
+    assert_eq!(rt; ended, Ok(Ended::Closed));
+    let (greeting, frames) = world
+        .peers
+        .read
+        .split_at(GREETING.len().min(world.peers.read.len()));
+    assert_eq!(rt; greeting, GREETING);
+    assert_eq!(rt; frames, JOINED);
+    // The greeting, and then all three: each in a write of its own would be read in as many reads more.
+    assert!(rt; world.peers.reads < 4);
+    Ok(())
+}
+
+#[test]
+fn what_is_put_out_goes_out_where_the_turns_end(rt: HostRuntime) -> Result<(), Fail> {
+    let config = one_route(rt.alloc())?;
+    let (mut client, far) = pair(&rt)?;
+    client.write_all(REQUEST)?;
+    let far = mio::net::TcpStream::from_std(far);
+    let mut world = SocketWorld::new(rt.alloc(), &rt, &[], far)?;
+    let ended = serve(rt.alloc(), &config, &mut world, 1);
+    assert_eq!(rt; ended, Ok(Ended::Turns));
+    world.finish()?;
+    let mut room = [0u8; 256];
+    let count = client.read(&mut room)?;
+    assert!(rt; room[..count].starts_with(GREETING));
+    Ok(())
+}
+
+/// What the other end of a socket reads, with what is reported in between, until it has so many octets.
+fn read_slowly(
+    poll: &mut Poll,
+    reports: &mut Events,
+    side: &mut Side,
+    far: &mut TcpStream,
+    most: usize,
+    read: &mut Vec<u8>,
+) -> io::Result<()> {
+    let mut room = [0u8; 4096];
+    for _ in 0..100_000 {
+        if read.len() >= most {
+            return Ok(());
+        }
+        match far.read(&mut room) {
+            Ok(count) => read.extend_from_slice(&room[..count])?,
+            Err(error) if error.kind() == ErrorKind::WouldBlock => {
+                poll.poll(reports, Some(Duration::from_millis(10)))?;
+                note_all(reports, side);
+                side.flush(poll.registry())?;
+            }
+            Err(error) => return Err(error),
+        }
+    }
+    Ok(())
+}
+
+fn note_all(reports: &Events, side: &mut Side) {
+    for report in reports {
+        side.note(report);
+    }
+}
+
+#[test]
+fn a_client_that_reads_slowly_reads_all(rt: HostRuntime) -> Result<(), Fail> {
+    let (near, mut far) = pair(&rt)?;
+    let mut poll = Poll::new(&rt)?;
+    let mut reports = Events::with_capacity(rt.alloc(), 8)?;
+    let near = mio::net::TcpStream::from_std(near);
+    let mut side = Side::new(rt.alloc(), poll.registry(), near, Token(1), 1000)?;
+    let mut written = Vec::new(rt.alloc());
+    for number in 0u32..1_500_000 {
+        written.extend_from_slice(&number.to_be_bytes())?;
+    }
+    for piece in written.chunks(777) {
+        side.put(poll.registry(), piece)?;
+    }
+    let all = written.len() as u64;
+    assert!(rt; side.owes_more_than(all.saturating_sub(1)));
+    let taken = side.tell(1);
+    // Its socket doesn't take so many while nothing is read.
+    assert!(rt; taken < all);
+    let mut read = Vec::new(rt.alloc());
+    read_slowly(
+        &mut poll,
+        &mut reports,
+        &mut side,
+        &mut far,
+        written.len(),
+        &mut read,
+    )?;
+    assert!(rt; read == written);
+    assert_eq!(rt; taken.saturating_add(side.tell(1)), all);
     Ok(())
 }

@@ -18,6 +18,10 @@ pub struct Upstream {
     side: Option<Side>,
     /// A write failed. What is there is still read.
     broken: bool,
+    /// It stands among those of which something may be read.
+    is_queued: bool,
+    /// It stands among those of which it may have to be told what they took.
+    is_listed: bool,
 }
 
 impl Upstream {
@@ -27,11 +31,41 @@ impl Upstream {
             k,
             side,
             broken: false,
+            is_queued: false,
+            is_listed: false,
+        }
+    }
+
+    /// Whether it joins those of which something may be read: something may, and it doesn't stand among them.
+    pub fn joins_queue(&mut self) -> bool {
+        let joins = !self.is_queued && self.may_be_ready();
+        self.is_queued = self.is_queued || joins;
+        joins
+    }
+
+    /// It was taken from among them.
+    pub fn leave_queue(&mut self) {
+        self.is_queued = false;
+    }
+
+    /// Whether it joins those of which it may have to be told what they took: they were put out octets of which it wasn't, and it
+    /// doesn't stand among them.
+    pub fn joins_list(&mut self) -> bool {
+        let joins = !self.is_listed && self.owes();
+        self.is_listed = self.is_listed || joins;
+        joins
+    }
+
+    /// Whether octets were put out for it that weren't told of as taken.
+    fn owes(&self) -> bool {
+        match &self.side {
+            Some(side) => side.owes_more_than(0),
+            None => false,
         }
     }
 
     /// Whether something may be read of it, if there is room.
-    pub fn may_be_ready(&self) -> bool {
+    fn may_be_ready(&self) -> bool {
         match &self.side {
             Some(side) => side.is_readable(),
             None => true,
@@ -53,8 +87,9 @@ impl Upstream {
         }
     }
 
-    /// How many octets its socket took that weren't told of. They are told of now.
+    /// How many octets its socket took that weren't told of. They are told of now, and it isn't listed any more.
     pub fn tell(&mut self) -> u64 {
+        self.is_listed = false;
         match &mut self.side {
             Some(side) => side.tell(1),
             None => 0,

@@ -8,8 +8,8 @@ use crate::upstream::Upstream;
 use gateway::{Event, Output};
 use mio::net::TcpStream;
 use mio::{Events, Poll, Token};
-use scheduler::Turn;
 use std::alloc::Global;
+use std::collections::VecDeque;
 use std::io;
 use std::io::ErrorKind;
 use std::net::{Net, SocketAddr};
@@ -21,6 +21,9 @@ const PIECE: usize = 65536;
 
 /// While more octets than this for the client weren't told of as taken, nothing of it is read.
 const MOST_OWED: u64 = 1073741824;
+
+/// From so many octets for the client on that wait they are written at once, and else before the world waits.
+const WRITTEN_AT_ONCE: usize = 32768;
 
 /// From so many octets on that the client took it is told at once, and else before the world waits.
 const TOLD_AT_ONCE: u64 = 16384;
@@ -48,13 +51,16 @@ struct Sockets<'a, N: Net> {
     poll: Poll,
     reports: Events,
     client: Side,
+    /// The client stands among the sockets of which something may be read.
+    is_client_queued: bool,
+    /// By rising number.
     upstreams: Vec<Upstream>,
-    /// The sockets of which something may be read, by number; kept from turn to turn.
-    ready: Vec<u32>,
+    /// The numbers of the sockets of which something may be read, the next one at the front. Some may be closed.
+    ready: VecDeque<u32>,
+    /// The numbers of the upstreams that may have taken octets of which wasn't told, likewise.
+    writes: VecDeque<u32>,
     /// Where octets are read to; kept from read to read.
     buffer: Vec<u8>,
-    /// The number of the socket that was read last.
-    last: u32,
 }
 
 impl<'a, N: Net> SocketWorld<'a, N> {
@@ -68,7 +74,8 @@ impl<'a, N: Net> SocketWorld<'a, N> {
         ensures { IfOk result (λ world. (world.calls ≡ 0) × (world.failures ≡ 0)) }
     {
         let poll = Poll::new(net)?;
-        let client = Side::new(alloc, poll.registry(), client, token_of(CLIENT))?;
+        let token = token_of(CLIENT);
+        let client = Side::new(alloc, poll.registry(), client, token, WRITTEN_AT_ONCE)?;
         let sockets = Sockets {
             alloc,
             net,
@@ -76,16 +83,26 @@ impl<'a, N: Net> SocketWorld<'a, N> {
             poll,
             reports: Events::with_capacity(alloc, REPORTS)?,
             client,
+            is_client_queued: false,
             upstreams: Vec::new(alloc),
-            ready: Vec::new(alloc),
+            ready: VecDeque::new(alloc),
+            writes: VecDeque::new(alloc),
             buffer: vec![in alloc; 0; PIECE]?,
-            last: CLIENT,
         };
         Ok(SocketWorld {
             sockets,
             calls: 0,
             failures: 0,
         })
+    }
+
+    /// Writes what was put out for the client and waits, until its socket takes no more. Where the world is left before the client
+    /// is closed, that is still to be done.
+    pub fn finish(&mut self) -> io::Result<()>
+        ensures calls { self.new.calls ≡ self.old.calls }
+        ensures failures { self.new.failures ≡ self.old.failures }
+    {
+        self.sockets.client.finish()
     }
 }
 
@@ -99,70 +116,82 @@ impl<'a, N: Net> Sockets<'a, N> {
         self.find_event(rooms)
     }
 
-    /// An event that is there already.
+    /// An event that is there already. Where nothing may be read any more, what waits for the client is written.
     fn find_event(&mut self, rooms: &[(u32, usize)]) -> Result<Option<Event>, WorldFault> {
         let count = self.client.tell(TOLD_AT_ONCE);
         if count > 0 {
             return Ok(Some(Event::ClientTook(count)));
         }
-        self.list_ready(rooms)?;
         if let Some(event) = self.read_ready(rooms)? {
             return Ok(Some(event));
         }
+        self.client.flush(self.poll.registry())?;
         Ok(self.tell())
     }
 
     /// The event that a read gives, of the first socket in turn whose read gives one.
     fn read_ready(&mut self, rooms: &[(u32, usize)]) -> Result<Option<Event>, WorldFault> {
         for _ in 0..self.ready.len() {
-            let Some(number) = Turn::next(self.last, &self.ready) else {
+            let Some(number) = self.ready.pop_front() else {
                 return Ok(None);
             };
-            self.last = number;
-            if let Some(event) = self.read(number, rooms)? {
-                return Ok(Some(event));
+            let event = if number == CLIENT {
+                self.read_client()?
+            } else {
+                self.read(number, rooms)?
+            };
+            if event.is_some() {
+                return Ok(event);
             }
         }
         Ok(None)
     }
 
-    /// Lists the sockets of which something may be read.
-    fn list_ready(&mut self, rooms: &[(u32, usize)]) -> Result<(), WorldFault> {
-        self.ready.clear();
-        if self.client.is_readable() && !self.client.owes_more_than(MOST_OWED) {
-            self.ready.push(CLIENT)?;
-        }
-        for upstream in &self.upstreams {
-            if upstream.may_be_ready() && upstream.is_ready(room_of(upstream.k, rooms)) {
-                self.ready.push(upstream.k)?;
-            }
-        }
-        Ok(())
-    }
-
-    /// The event that a read of a socket gives, if it gives one.
+    /// The event that a read of an upstream gives, if it gives one. Then, and where there is no room, its next turn comes behind
+    /// those of the others.
     fn read(&mut self, number: u32, rooms: &[(u32, usize)]) -> Result<Option<Event>, WorldFault> {
-        if number == CLIENT {
-            return self.read_client();
-        }
-        let room = room_of(number, rooms).min(self.buffer.len());
         let Some(place) = place_of(number, &self.upstreams) else {
             return Ok(None);
         };
-        let event = self.upstreams[place].read(self.alloc, &mut self.buffer[..room])?;
+        let room = room_of(number, rooms).min(self.buffer.len());
+        let upstream = &mut self.upstreams[place];
+        upstream.leave_queue();
+        let event = if upstream.is_ready(room) {
+            upstream.read(self.alloc, &mut self.buffer[..room])?
+        } else {
+            None
+        };
         if matches!(event, Some(Event::UpFailed(_))) {
             self.upstreams.remove(place);
+        } else if upstream.joins_queue() {
+            self.ready.push_back(number)?;
         }
         Ok(event)
     }
 
     /// The event that a read of the client's socket gives, if it gives one.
     fn read_client(&mut self) -> Result<Option<Event>, WorldFault> {
-        match self.client.read(self.alloc, &mut self.buffer)? {
+        self.is_client_queued = false;
+        let got = if self.client.owes_more_than(MOST_OWED) {
+            Got::Nothing
+        } else {
+            self.client.read(self.alloc, &mut self.buffer)?
+        };
+        self.queue_client()?;
+        match got {
             Got::Octets(piece) => Ok(Some(Event::Client(piece))),
             Got::End => Ok(Some(Event::ClientEnd)),
             Got::Nothing => Ok(None),
         }
+    }
+
+    /// The client joins the sockets of which something may be read, if something may.
+    fn queue_client(&mut self) -> Result<(), WorldFault> {
+        if !self.is_client_queued && self.client.is_readable() {
+            self.is_client_queued = true;
+            self.ready.push_back(CLIENT)?;
+        }
+        Ok(())
     }
 
     /// What sockets took that wasn't told of, if they took some.
@@ -171,7 +200,16 @@ impl<'a, N: Net> Sockets<'a, N> {
         if count > 0 {
             return Some(Event::ClientTook(count));
         }
-        tell_first(&mut self.upstreams)
+        for _ in 0..self.writes.len() {
+            let k = self.writes.pop_front()?;
+            if let Some(place) = place_of(k, &self.upstreams) {
+                let count = self.upstreams[place].tell();
+                if count > 0 {
+                    return Some(Event::UpTook(k, count));
+                }
+            }
+        }
+        None
     }
 
     /// Waits until a socket is reported, notes what is, and writes what waits for those that take octets again.
@@ -185,15 +223,14 @@ impl<'a, N: Net> Sockets<'a, N> {
         for report in &self.reports {
             if report.token() == token_of(CLIENT) {
                 self.client.note(report);
-            } else {
-                note(report, &mut self.upstreams);
+            } else if let Some(upstream) = find(report.token(), &mut self.upstreams) {
+                upstream.note(report);
+                upstream.flush(self.poll.registry());
+                list(upstream, &mut self.ready, &mut self.writes)?;
             }
         }
         self.client.flush(self.poll.registry())?;
-        for upstream in &mut self.upstreams {
-            upstream.flush(self.poll.registry());
-        }
-        Ok(())
+        self.queue_client()
     }
 
     /// Opens a connection. One that can't be made fails at a later `next`.
@@ -202,8 +239,21 @@ impl<'a, N: Net> Sockets<'a, N> {
             Some(address) => self.connect(k, *address)?,
             None => None,
         };
-        self.upstreams.push(Upstream::new(k, side))?;
+        let mut upstream = Upstream::new(k, side);
+        list(&mut upstream, &mut self.ready, &mut self.writes)?;
+        let place = self.upstreams.partition_point(|other| other.k < k);
+        self.upstreams.insert(place, upstream)?;
         Ok(())
+    }
+
+    /// Puts octets out to an upstream, if it is open.
+    fn put(&mut self, k: u32, octets: &[u8]) -> Result<(), WorldFault> {
+        let Some(place) = place_of(k, &self.upstreams) else {
+            return Ok(());
+        };
+        let upstream = &mut self.upstreams[place];
+        upstream.put(self.poll.registry(), octets)?;
+        list(upstream, &mut self.ready, &mut self.writes)
     }
 
     /// Begins to connect to an address.
@@ -211,7 +261,7 @@ impl<'a, N: Net> Sockets<'a, N> {
         let Ok(socket) = TcpStream::connect(self.net, address) else {
             return Ok(None);
         };
-        let side = Side::new(self.alloc, self.poll.registry(), socket, token_of(k));
+        let side = Side::new(self.alloc, self.poll.registry(), socket, token_of(k), 0);
         match side {
             Ok(side) => Ok(Some(side)),
             Err(error) if error.kind() == ErrorKind::OutOfMemory => Err(WorldFault {}),
@@ -227,10 +277,7 @@ impl<'a, N: Net> Sockets<'a, N> {
                 Err(PutFault::Socket(_) | PutFault::Memory) => Err(WorldFault {}),
             },
             Output::Open(k, route) => self.open(*k, *route),
-            Output::Up(k, octets) => match place_of(*k, &self.upstreams) {
-                Some(place) => self.upstreams[place].put(self.poll.registry(), octets),
-                None => Ok(()),
-            },
+            Output::Up(k, octets) => self.put(*k, octets),
             Output::Close(k) => {
                 if let Some(place) = place_of(*k, &self.upstreams) {
                     self.upstreams.remove(place);
@@ -255,6 +302,8 @@ impl<'a, N: Net> World for SocketWorld<'a, N> {
     ghost over = { λ _. false };
 
     ghost log = { λ _. None };
+
+    ghost handed = { λ _. None };
 
     fn next(&mut self, rooms: &[(u32, usize)]) -> Result<Next, WorldFault> {
         self.calls += 1;
@@ -286,25 +335,29 @@ fn token_of(number: u32) -> Token {
 fn place_of(k: u32, upstreams: &[Upstream]) -> Option<usize>
     ensures { IfSome result (λ place. place < length upstreams.now) }
 {
-    upstreams.iter().position(|upstream| upstream.k == k)
+    upstreams
+        .binary_search_by_key(&k, |upstream| upstream.k)
+        .ok()
 }
 
-/// Notes what was reported of an upstream's socket, if it is still open.
-fn note(report: &mio::event::Event, upstreams: &mut [Upstream]) {
-    for upstream in upstreams {
-        if report.token() == token_of(upstream.k) {
-            upstream.note(report);
-        }
-    }
+/// The upstream that is reported under a token, if it is open.
+fn find(token: Token, upstreams: &mut [Upstream]) -> Option<&mut Upstream> {
+    let k = u32::try_from(token.0).ok()?;
+    let place = place_of(k, upstreams)?;
+    Some(&mut upstreams[place])
 }
 
-/// What the first upstream took of which some wasn't told.
-fn tell_first(upstreams: &mut [Upstream]) -> Option<Event> {
-    for upstream in upstreams {
-        let count = upstream.tell();
-        if count > 0 {
-            return Some(Event::UpTook(upstream.k, count));
-        }
+/// Lists an upstream where it belongs by now: among those of which something may be read, and among those that may have taken octets.
+fn list(
+    upstream: &mut Upstream,
+    ready: &mut VecDeque<u32>,
+    writes: &mut VecDeque<u32>,
+) -> Result<(), WorldFault> {
+    if upstream.joins_queue() {
+        ready.push_back(upstream.k)?;
     }
-    None
+    if upstream.joins_list() {
+        writes.push_back(upstream.k)?;
+    }
+    Ok(())
 }

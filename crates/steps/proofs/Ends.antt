@@ -14,7 +14,7 @@ use Rattle.policy.specs.Moves.Deed.{Acts, Sends}
 use Rattle.policy.specs.Moves.Move.{Does}
 use Rattle.policy.specs.State.{State, tape_of}
 use Rattle.policy.specs.Rule.{AllAllowed, RestsBehind}
-use Rattle.policy.specs.Ending.{farewell_by, farewell_of, sent_all, frames_sent, closes_of, closed_all, ending_of, ending_on_tape, Ends}
+use Rattle.policy.specs.Ending.{farewell_by, farewell_of, sent_all, frames_sent, closes_of, closed_all, by_number, ending_of, ending_on_tape, Ends}
 use Rattle.relay.specs.View.{View, Pending, AreSo, Leads, square}
 use Rattle.relay.specs.Rest.{IsAtRest, told_view}
 use Rattle.relay.specs.Performing.{put_all}
@@ -41,8 +41,8 @@ sent_tape table (f ∷ fs) = tape_behind (sent_all table fs) (Does (Sends (noted
 end_tape : (s : State) (d : Deed) → tape_of (ending_of s d ++ Does d ∷ []) ≡ ending_on_tape s d
 end_tape s d =
     tape_behind (ending_of s d) (Does d ∷ [])
-    ∙ ap (λ (t : List Entry). Did CloseClient ∷ (t ++ entry_of d ∷ [])) (tape_behind (closes_of s.requests.live) (farewell_of s d) ∙ ap (λ (t : List Entry). t ++ tape_of (farewell_of s d)) (closes_tape s.requests.live) ∙ ap (λ (t : List Entry). closed_all s.requests.live ++ t) (sent_tape s.tables.encoding.table (farewell_by s d)))
-    ∙ ap (λ (t : List Entry). Did CloseClient ∷ t) (append_assoc (closed_all s.requests.live) (frames_sent (farewell_by s d)) (entry_of d ∷ []))
+    ∙ ap (λ (t : List Entry). Did CloseClient ∷ (t ++ entry_of d ∷ [])) (tape_behind (closes_of (by_number s)) (farewell_of s d) ∙ ap (λ (t : List Entry). t ++ tape_of (farewell_of s d)) (closes_tape (by_number s)) ∙ ap (λ (t : List Entry). closed_all (by_number s) ++ t) (sent_tape s.tables.encoding.table (farewell_by s d)))
+    ∙ ap (λ (t : List Entry). Did CloseClient ∷ t) (append_assoc (closed_all (by_number s)) (frames_sent (farewell_by s d)) (entry_of d ∷ []))
 
 -- ---- what comes in and ends the connection
 

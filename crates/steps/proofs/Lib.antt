@@ -4,4 +4,5 @@ pub mod Ends
 pub mod Results
 pub mod Stays
 mod Took
+pub mod Closings
 pub mod Frames

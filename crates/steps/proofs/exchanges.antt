@@ -10,3 +10,4 @@ pub mod Brings
 pub mod Pays
 pub mod Lends
 pub mod Closes
+pub mod Done

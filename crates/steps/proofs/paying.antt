@@ -8,4 +8,3 @@ pub mod Giving
 pub mod Settling
 pub mod Fitting
 pub mod Settled
-pub mod Firsts

@@ -5,7 +5,5 @@
 
 mod doing;
 mod taking;
-#[cfg(test)]
-mod tests;
 
 pub use crate::block_frames::taking::{BlockTaken, take_block};

@@ -15,8 +15,6 @@ ghost use Rattle.steps.specs.declared.ending.reason.Ending.{Ending as Reason};
 
 mod closing;
 mod reason;
-#[cfg(test)]
-mod tests;
 
 pub use crate::ending::closing::{end, shut};
 pub use crate::ending::reason::Ending;

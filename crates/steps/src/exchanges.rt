@@ -5,8 +5,7 @@ mod failing;
 mod hearing;
 mod listening;
 mod opening;
-#[cfg(test)]
-mod tests;
 
 pub use crate::exchanges::hearing::{end, fail, hear};
+pub(crate) use crate::exchanges::listening::stream_of;
 pub use crate::exchanges::opening::open;

@@ -13,9 +13,10 @@ ghost use Rattle.steps.specs.Inputs.Input.{OfEvent};
 ghost use Rattle.steps.specs.Resting.{now_of, IsSettled, RestsSo};
 
 use crate::exchanges;
+use crate::exchanges::stream_of;
 use crate::flushing::HIGH_WATER;
 use crate::paying::{note_client_took, note_up_took};
-use crate::resting::{Went, rest};
+use crate::resting::{Went, rest, rest_behind};
 use outputs::Outputs;
 use relay::Rooms;
 use std::alloc::{AllocError, Global};
@@ -34,8 +35,9 @@ pub fn hear(
     ensures comes { IfOk result (λ went. (setup : Setup) → setup.passing ≡ Whole → ComesFrom setup rooms.old square out.old (OfEvent (Up k octets.now) ∷ []) square (now_of went rooms.new) out.new) }
     ensures rests { IfOk result (λ went. RestsSo went rooms.new) }
 {
+    let stream = stream_of(rooms, k);
     exchanges::hear(alloc, rooms, k, octets, out)?;
-    rest(alloc, rooms, out)
+    rest_behind(alloc, rooms, stream, out)
 }
 
 /// Takes the end of an open upstream's connection. An `Err` says that memory was refused; then what is kept and the outputs are of no use any more.
@@ -46,8 +48,9 @@ pub fn end(alloc: Global, rooms: &mut Rooms, k: u32, out: &mut Outputs) -> Resul
     ensures comes { IfOk result (λ went. (setup : Setup) → setup.passing ≡ Whole → ComesFrom setup rooms.old square out.old (OfEvent (UpEnd k) ∷ []) square (now_of went rooms.new) out.new) }
     ensures rests { IfOk result (λ went. RestsSo went rooms.new) }
 {
+    let stream = stream_of(rooms, k);
     exchanges::end(alloc, rooms, k, out)?;
-    rest(alloc, rooms, out)
+    rest_behind(alloc, rooms, stream, out)
 }
 
 /// Takes the failure of an open upstream's connection. An `Err` says that memory was refused; then what is kept and the outputs are of no use any
@@ -59,8 +62,9 @@ pub fn fail(alloc: Global, rooms: &mut Rooms, k: u32, out: &mut Outputs) -> Resu
     ensures comes { IfOk result (λ went. (setup : Setup) → setup.passing ≡ Whole → ComesFrom setup rooms.old square out.old (OfEvent (UpFailed k) ∷ []) square (now_of went rooms.new) out.new) }
     ensures rests { IfOk result (λ went. RestsSo went rooms.new) }
 {
+    let stream = stream_of(rooms, k);
     exchanges::fail(rooms, k, out)?;
-    rest(alloc, rooms, out)
+    rest_behind(alloc, rooms, stream, out)
 }
 
 /// Notes that the client's side took so many octets; responses may go on then, where too many were untaken before. An `Err` says that memory was refused; then what is kept and the

@@ -2,7 +2,7 @@
 //! connection to the client was closed.
 //!
 //! The parts are `plain_frames`, `block_frames`, `exchanges`, `paying`, `flushing` and `ending`, in the order in which the rule takes them: what came
-//! in; a connection for a request that is due; the farewell behind the last stream; octets that go back; responses; connections that are done with.
+//! in; a connection for a request that is due; the farewell behind the last stream; octets that go back; connections that are done with; responses.
 #![tactic(auto)]
 
 pub mod block_frames;
@@ -15,8 +15,6 @@ pub mod paying;
 pub mod plain_frames;
 mod resting;
 mod taking;
-#[cfg(test)]
-mod tests;
 
 pub use crate::hearing::{client_took, end, fail, hear, up_took};
 pub use crate::leaving::{Breach, leave, leave_at};

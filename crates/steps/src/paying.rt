@@ -1,5 +1,5 @@
-//! What is left to do behind a frame of the client: control frames that are owed are paid, octets of DATA go back, and connections that are
-//! done with are closed; and what the client's side and an upstream's took is noted.
+//! What is left to do behind a frame of the client: control frames that are owed are paid, octets of DATA go back, and connections of a stream that
+//! isn't served any more are closed; and what the client's side and an upstream's took is noted.
 //!
 //! Each part of a step performs (`relay`): wherever moves by the rule led to what was kept, moves by the rule lead on to what is kept now, and
 //! put out what was put out. Nothing comes in with them, but with the two calls that note what was taken.
@@ -9,10 +9,8 @@ mod control;
 mod counting;
 mod returning;
 mod taking;
-#[cfg(test)]
-mod tests;
 
-pub use crate::paying::closing::close_done;
+pub use crate::paying::closing::close_unserved;
 pub use crate::paying::control::{Control, pay};
 pub use crate::paying::returning::settle;
 pub use crate::paying::taking::{note_client_took, note_up_took};

@@ -5,7 +5,5 @@
 
 mod doing;
 mod taking;
-#[cfg(test)]
-mod tests;
 
 pub use crate::plain_frames::taking::{Taken, take_plain};

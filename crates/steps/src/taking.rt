@@ -13,6 +13,7 @@ ghost use Rattle.relay.specs.View.{square};
 ghost use Rattle.relay.specs.Rest.{NoneCut, Reached};
 ghost use Rattle.relay.specs.Bringing.{PerformsOwn};
 ghost use Rattle.steps.specs.block_frames.Following.{farewell_frames};
+ghost use Rattle.steps.specs.Closings.{NoneDoneBut};
 ghost use Rattle.steps.specs.Comings.{FollowsFrom, ComesFrom};
 ghost use Rattle.steps.specs.Inputs.Input.{OfFrame};
 ghost use Rattle.steps.specs.Resting.{now_of, IsSettled, RestsSo, IsServed};
@@ -22,7 +23,7 @@ use crate::ending::{Ending, end, shut};
 use crate::exchanges::open;
 use crate::paying::{Control, pay, settle};
 use crate::plain_frames::{Taken, take_plain};
-use crate::resting::{Went, rest};
+use crate::resting::{Went, rest_behind};
 use frames::View;
 use judgement::Terms;
 use outputs::Outputs;
@@ -78,6 +79,7 @@ fn serve(
     requires reached { (setup : Setup) × (setup.passing ≡ Whole) × (setup.max_response ≡ max_response) × (owed : List Frame) × (fresh : ℕ) × Reached setup rooms.old (record square { owed = owed; due = due_in request; fresh = fresh }) }
     ensures performs { OnOk result ((setup : Setup) (owed : List Frame) (fresh : ℕ) → setup.passing ≡ Whole → setup.max_response ≡ max_response → PerformsOwn setup rooms.old (record square { owed = owed; due = due_in request; fresh = fresh }) out.old rooms.new (record square { owed = owed; fresh = fresh }) out.new) }
     ensures stays { OnOk result ((rooms.new.inbound ≡ rooms.old.inbound) × (rooms.new.offers ≡ rooms.old.offers)) }
+    ensures none_but { OnOk result ((id : ℕ) → NoneDoneBut id rooms.old → NoneDoneBut id rooms.new) }
 {
     match request {
         Some(request) => open(rooms, request, max_response, out),
@@ -97,6 +99,7 @@ fn follow(
     requires last { id ≡ rooms.old.inbound.last }
     requires few { octets ≤ 16384 }
     requires none_cut { NoneCut rooms.old.offers }
+    requires none_but { NoneDoneBut id rooms.old }
     requires numbered { (id : ℕ) → has rooms.old.inbound.rows id ≡ true → id < 2147483648 }
     ensures follows { IfOk result (λ went. (setup : Setup) → setup.passing ≡ Whole → FollowsFrom setup rooms.old (record square { fresh = octets }) out.old square (now_of went rooms.new) out.new) }
     ensures rests { IfOk result (λ went. RestsSo went rooms.new) }
@@ -106,7 +109,7 @@ fn follow(
         return Ok(Went::Over);
     }
     settle(rooms, id, octets, out)?;
-    rest(alloc, rooms, out)
+    rest_behind(alloc, rooms, id, out)
 }
 
 /// Takes a frame without a fragment of a header block.
@@ -164,7 +167,7 @@ fn take_fragment(
         BlockTaken::Goes { request, farewell } => {
             serve(rooms, request, service.max_response, out)?;
             say_farewell(rooms, farewell, out)?;
-            rest(alloc, rooms, out)
+            rest_behind(alloc, rooms, view.id, out)
         }
     }
 }
@@ -177,6 +180,7 @@ pub(crate) fn say_farewell(
 ) -> Result<(), AllocError>
     ensures performs { OnOk result ((setup : Setup) → PerformsOwn setup rooms.old (record square { owed = farewell_frames last }) out.old rooms.new square out.new) }
     ensures stays { OnOk result ((rooms.new.inbound ≡ rooms.old.inbound) × (rooms.new.offers ≡ rooms.old.offers)) }
+    ensures upstreams { OnOk result (rooms.new.upstreams ≡ rooms.old.upstreams) }
 {
     match last {
         Some(last) => {

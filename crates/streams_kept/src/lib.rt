@@ -25,7 +25,7 @@ pub use crate::course::{Course, Reply};
 use crate::entries::{Entry, Slot, last_id, place_of};
 pub use crate::live::Live;
 use crate::records::{
-    Record, grant_at, live_at, make_place, shifts_past, state_of, step_at, take_at,
+    Place, Record, grant_at, live_at, make_place, shifts_past, state_of, step_at, take_at,
 };
 use crate::steps::Step;
 pub use causes::Cause;
@@ -40,7 +40,8 @@ const MOST_STREAMS: usize = 10000;
 #[derive(Debug, Drop)]
 pub struct Streams {
     entries: Vec<Entry>,
-    records: Vec<Option<Record>>,
+    places: Vec<Place>,
+    vacant: usize,
     active: u32,
 }
 
@@ -52,9 +53,9 @@ impl Model for Streams {
 
     ghost use Rattle.streams_kept.specs.Records.{rows_in, AreHeld};
 
-    ghost view = { λ streams. rows_in streams.entries.items streams.records.items };
+    ghost view = { λ streams. rows_in streams.entries.items streams.places.items };
 
-    ghost invariant = { λ streams. AreHeld streams.entries.items streams.records.items streams.active };
+    ghost invariant = { λ streams. AreHeld streams.entries.items streams.places.items streams.active };
 }
 
 impl Streams {
@@ -68,7 +69,8 @@ impl Streams {
     {
         Streams {
             entries: Vec::new(alloc),
-            records: Vec::new(alloc),
+            places: Vec::new(alloc),
+            vacant: 0,
             active: 0,
         }
     }
@@ -83,7 +85,7 @@ impl Streams {
             return None;
         };
         match self.entries[place].slot {
-            Slot::Live(key) => live_at(&self.records, key as usize, id),
+            Slot::Live(key) => live_at(&self.places, key as usize, id),
             Slot::Over(_) => None,
         }
     }
@@ -99,7 +101,7 @@ impl Streams {
             return;
         };
         if let Slot::Live(key) = self.entries[place].slot {
-            grant_at(&mut self.records, key as usize, increment);
+            grant_at(&mut self.places, key as usize, increment);
         }
     }
 
@@ -134,7 +136,7 @@ impl Streams {
             return;
         };
         if let Slot::Live(key) = self.entries[place].slot {
-            take_at(&mut self.records, key as usize, octets, course, ended);
+            take_at(&mut self.places, key as usize, octets, course, ended);
         }
     }
 
@@ -208,7 +210,7 @@ impl Streams {
             return;
         };
         if let Slot::Live(key) = self.entries[place].slot {
-            step_at(&mut self.records, key as usize, step);
+            step_at(&mut self.places, key as usize, step);
         }
     }
 
@@ -231,7 +233,7 @@ impl Streams {
             return Standing::WholeConnection;
         }
         match place_of(&self.entries, id) {
-            Ok(place) => Standing::Opened(state_of(&self.records, self.entries[place])),
+            Ok(place) => Standing::Opened(state_of(&self.places, self.entries[place])),
             Err(place) => {
                 let count = self.entries.len();
                 unopened_standing(id, place == count, count == MOST_STREAMS)
@@ -275,12 +277,12 @@ impl Streams {
     }
 
     /// Whether a first size of windows makes the sending window of an active stream too large (RFC 9113, section 6.9.2): a walk over the
-    /// records of active streams.
+    /// places of active streams.
     pub fn shifts_past(&self, first: u32) -> bool
         requires { first ≤ greatest_window }
         ensures { result ≡ shifts_past first self.now }
     {
-        shifts_past(&self.records, first)
+        shifts_past(&self.places, first)
     }
 
     /// Forgets all of an active stream but whether the gateway reset it (RFC 9113, section 5.1); no other changes.
@@ -299,7 +301,8 @@ impl Streams {
             id,
             slot: Slot::Over(by_us),
         };
-        self.records[key as usize] = None;
+        self.places[key as usize] = Place::Vacant(self.vacant);
+        self.vacant = key as usize;
         self.active -= 1;
     }
 
@@ -312,12 +315,12 @@ impl Streams {
         ensures kept { AreKept self.new }
     {
         self.entries.reserve(1)?;
-        let key = make_place(&mut self.records)?;
+        let key = make_place(&mut self.places, &mut self.vacant)?;
         let slot = Slot::Live(key as u32);
         let Ok(()) = self.entries.push(Entry { id, slot }) else {
             unreachable!();
         };
-        self.records[key] = Some(Record { id, live });
+        self.places[key] = Place::Taken(Record { id, live });
         self.active += 1;
         Ok(())
     }

@@ -1,4 +1,4 @@
-//! Records of active streams, at keys.
+//! Places for the records of active streams, at keys.
 
 ghost use Rattle.std.specs.Prelude.{◌≡◌, ◌==◌, ◌<◌, ◌≤◌, length, slice_set, false, Some, None, IfSome, IfNone, IfOk, OnErr, pos, ◌+ℤ◌, ◌≤ℤ◌};
 ghost use Rattle.std.specs.List.{list_any};
@@ -9,7 +9,7 @@ ghost use Rattle.conduct.specs.Judging.{state_in as state_kept};
 ghost use Rattle.conduct.specs.Rows.{kept_in};
 ghost use Rattle.stream_state.specs.Views.{state_in};
 ghost use Rattle.streams_kept.specs.Views.{brief_of};
-ghost use Rattle.streams_kept.specs.Records.{record_at, slot_in, IsHeld, IsPlaceMade, is_shifted_past};
+ghost use Rattle.streams_kept.specs.Records.{record_in, record_at, place_with, slot_in, IsHeld, IsPlaceMade, is_shifted_past};
 
 use crate::course::Course;
 use crate::entries::{Entry, Slot};
@@ -28,12 +28,21 @@ pub struct Record {
     pub live: Live,
 }
 
+/// A place for the record of an active stream.
+#[derive(Debug, Drop)]
+pub enum Place {
+    /// It has this one.
+    Taken(Record),
+    /// It is vacant. The vacant places are a list: this is the key of the next one, and that behind all places where none is left.
+    Vacant(usize),
+}
+
 /// The stream with this id, if its record is at the key.
-pub fn live_at(records: &[Option<Record>], key: usize, id: u32) -> Option<&Live>
-    ensures found { IfSome result (λ live. record_at records.now key ≡ Some (record { id = id; live = live.now })) }
-    ensures absent { IfNone result ((live : Live) → record_at records.now key ≡ Some (record { id = id; live = live }) → ⊥) }
+pub fn live_at(places: &[Place], key: usize, id: u32) -> Option<&Live>
+    ensures found { IfSome result (λ live. record_at places.now key ≡ Some (record { id = id; live = live.now })) }
+    ensures absent { IfNone result ((live : Live) → record_at places.now key ≡ Some (record { id = id; live = live }) → ⊥) }
 {
-    let Some(Some(record)) = records.get(key) else {
+    let Some(Place::Taken(record)) = places.get(key) else {
         return None;
     };
     if record.id == id {
@@ -44,13 +53,13 @@ pub fn live_at(records: &[Option<Record>], key: usize, id: u32) -> Option<&Live>
 }
 
 /// The state of an entry's stream (RFC 9113, section 5.1).
-pub fn state_of(records: &[Option<Record>], entry: Entry) -> State
-    requires { IsHeld records.now entry.id entry.slot }
-    ensures { state_in result ≡ state_kept (kept_in (slot_in records.now entry.slot)) }
+pub fn state_of(places: &[Place], entry: Entry) -> State
+    requires { IsHeld places.now entry.id entry.slot }
+    ensures { state_in result ≡ state_kept (kept_in (slot_in places.now entry.slot)) }
 {
     let Entry { id, slot } = entry;
     match slot {
-        Slot::Live(key) => match live_at(records, key as usize, id) {
+        Slot::Live(key) => match live_at(places, key as usize, id) {
             Some(live) => live.state(),
             None => State::Closed,
         },
@@ -59,105 +68,98 @@ pub fn state_of(records: &[Option<Record>], entry: Entry) -> State
     }
 }
 
-/// A key at which no record is: the first such one, or the one behind all.
-fn vacant_key(records: &[Option<Record>]) -> usize
-    ensures vacant { record_at records.now result ≡ None }
-    ensures within { result ≤ length records.now }
+/// Makes a place for a record, and answers its key: the first of the vacant ones, or one behind all; no record moves. An `Err` says that memory
+/// was refused; it changes nothing.
+pub fn make_place(places: &mut Vec<Place>, first_vacant: &mut usize) -> Result<usize, AllocError>
+    ensures ok { IfOk result (IsPlaceMade places.old.items places.new.items) }
+    ensures err { OnErr result (places.new.items ≡ places.old.items) }
 {
-    records
-        .iter()
-        .position(|slot| slot.is_none())
-        .unwrap_or(records.len())
-}
-
-/// Makes a place for a record, and answers its key; no record moves. An `Err` says that memory was refused; it changes nothing.
-pub fn make_place(records: &mut Vec<Option<Record>>) -> Result<usize, AllocError>
-    ensures ok { IfOk result (IsPlaceMade records.old.items records.new.items) }
-    ensures err { OnErr result (records.new.items ≡ records.old.items) }
-{
-    let key = vacant_key(records);
-    if key < records.len() {
+    let key = *first_vacant;
+    if let Some(Place::Vacant(next)) = places.get(key) {
+        *first_vacant = *next;
         return Ok(key);
     }
-    records.push(None)?;
+    let key = places.len();
+    places.push(Place::Vacant(key))?;
+    *first_vacant = places.len();
     Ok(key)
 }
 
 /// Grants octets to the stream of a record.
-fn grant_one(slot: &mut Option<Record>, increment: u32)
-    requires { IfSome slot.old (λ r. IsSize (r.live.balance +ℤ pos increment)) }
-    ensures some { IfSome slot.old (λ r. slot.new ≡ Some (record r { live = granted increment r.live })) }
-    ensures none { IfNone slot.old (slot.new ≡ None) }
+fn grant_one(place: &mut Place, increment: u32)
+    requires { IfSome (record_in place.old) (λ r. IsSize (r.live.balance +ℤ pos increment)) }
+    ensures some { IfSome (record_in place.old) (λ r. place.new ≡ place_with (record r { live = granted increment r.live })) }
+    ensures none { IfNone (record_in place.old) (place.new ≡ place.old) }
 {
-    if let Some(record) = slot {
+    if let Place::Taken(record) = place {
         record.live.grant(increment);
     }
 }
 
 /// Grants octets to the stream of the record at a key.
-pub fn grant_at(records: &mut [Option<Record>], key: usize, increment: u32)
-    requires within { key < length records.old }
-    requires fits { IfSome (record_at records.old key) (λ r. IsSize (r.live.balance +ℤ pos increment)) }
-    ensures { IfSome (record_at records.old key) (λ r. records.new ≡ slice_set records.old key (Some (record r { live = granted increment r.live }))) }
+pub fn grant_at(places: &mut [Place], key: usize, increment: u32)
+    requires within { key < length places.old }
+    requires fits { IfSome (record_at places.old key) (λ r. IsSize (r.live.balance +ℤ pos increment)) }
+    ensures { IfSome (record_at places.old key) (λ r. places.new ≡ slice_set places.old key (place_with (record r { live = granted increment r.live }))) }
 {
-    grant_one(&mut records[key], increment)
+    grant_one(&mut places[key], increment)
 }
 
 /// Takes octets of DATA, or trailers, on the stream of a record.
-fn take_one(slot: &mut Option<Record>, octets: u32, course: Course, ended: bool)
-    requires { (octets == 0) ≡ false → IfSome slot.old (λ r. pos octets ≤ℤ r.live.room) }
-    ensures some { IfSome slot.old (λ r. slot.new ≡ Some (record r { live = taken octets (brief_of course) ended r.live })) }
-    ensures none { IfNone slot.old (slot.new ≡ None) }
+fn take_one(place: &mut Place, octets: u32, course: Course, ended: bool)
+    requires { (octets == 0) ≡ false → IfSome (record_in place.old) (λ r. pos octets ≤ℤ r.live.room) }
+    ensures some { IfSome (record_in place.old) (λ r. place.new ≡ place_with (record r { live = taken octets (brief_of course) ended r.live })) }
+    ensures none { IfNone (record_in place.old) (place.new ≡ place.old) }
 {
-    if let Some(record) = slot {
+    if let Place::Taken(record) = place {
         record.live.take(octets, course, ended);
     }
 }
 
 /// Takes octets of DATA, or trailers, on the stream of the record at a key.
-pub fn take_at(records: &mut [Option<Record>], key: usize, octets: u32, course: Course, ended: bool)
-    requires within { key < length records.old }
-    requires fits { (octets == 0) ≡ false → IfSome (record_at records.old key) (λ r. pos octets ≤ℤ r.live.room) }
-    ensures { IfSome (record_at records.old key) (λ r. records.new ≡ slice_set records.old key (Some (record r { live = taken octets (brief_of course) ended r.live }))) }
+pub fn take_at(places: &mut [Place], key: usize, octets: u32, course: Course, ended: bool)
+    requires within { key < length places.old }
+    requires fits { (octets == 0) ≡ false → IfSome (record_at places.old key) (λ r. pos octets ≤ℤ r.live.room) }
+    ensures { IfSome (record_at places.old key) (λ r. places.new ≡ slice_set places.old key (place_with (record r { live = taken octets (brief_of course) ended r.live }))) }
 {
-    take_one(&mut records[key], octets, course, ended)
+    take_one(&mut places[key], octets, course, ended)
 }
 
 /// Does a step on the stream of a record.
-fn step_one(slot: &mut Option<Record>, step: Step)
-    requires { IfSome slot.old (λ r. HasRoom step r.live) }
-    ensures some { IfSome slot.old (λ r. slot.new ≡ Some (record r { live = stepped step r.live })) }
-    ensures none { IfNone slot.old (slot.new ≡ None) }
+fn step_one(place: &mut Place, step: Step)
+    requires { IfSome (record_in place.old) (λ r. HasRoom step r.live) }
+    ensures some { IfSome (record_in place.old) (λ r. place.new ≡ place_with (record r { live = stepped step r.live })) }
+    ensures none { IfNone (record_in place.old) (place.new ≡ place.old) }
 {
-    if let Some(record) = slot {
+    if let Place::Taken(record) = place {
         record.live.step(step);
     }
 }
 
 /// Does a step on the stream of the record at a key.
-pub fn step_at(records: &mut [Option<Record>], key: usize, step: Step)
-    requires within { key < length records.old }
-    requires fits { IfSome (record_at records.old key) (λ r. HasRoom step r.live) }
-    ensures { IfSome (record_at records.old key) (λ r. records.new ≡ slice_set records.old key (Some (record r { live = stepped step r.live }))) }
+pub fn step_at(places: &mut [Place], key: usize, step: Step)
+    requires within { key < length places.old }
+    requires fits { IfSome (record_at places.old key) (λ r. HasRoom step r.live) }
+    ensures { IfSome (record_at places.old key) (λ r. places.new ≡ slice_set places.old key (place_with (record r { live = stepped step r.live }))) }
 {
-    step_one(&mut records[key], step)
+    step_one(&mut places[key], step)
 }
 
 /// Whether the sending window of a record's stream is past the greatest with this first size.
-fn is_shifted_past(slot: &Option<Record>, first: u32) -> bool
+fn is_shifted_past(place: &Place, first: u32) -> bool
     requires { first ≤ greatest_window }
-    ensures { result ≡ is_shifted_past first slot.now }
+    ensures { result ≡ is_shifted_past first place.now }
 {
-    match slot {
-        Some(record) => i64::from(first) + record.live.balance() > GREATEST,
-        None => false,
+    match place {
+        Place::Taken(record) => i64::from(first) + record.live.balance() > GREATEST,
+        Place::Vacant(_) => false,
     }
 }
 
 /// Whether that of one of them is.
-pub fn shifts_past(records: &[Option<Record>], first: u32) -> bool
+pub fn shifts_past(places: &[Place], first: u32) -> bool
     requires { first ≤ greatest_window }
-    ensures { result ≡ list_any (is_shifted_past first) records.now }
+    ensures { result ≡ list_any (is_shifted_past first) places.now }
 {
-    records.iter().any(|slot| is_shifted_past(slot, first))
+    places.iter().any(|place| is_shifted_past(place, first))
 }

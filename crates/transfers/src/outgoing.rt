@@ -98,8 +98,20 @@ impl Outgoing {
             Err(error) => return Err(PutFault::Socket(error)),
         };
         self.untold = self.untold.saturating_add(taken as u64);
-        self.keep(&octets[taken..])?;
+        self.gather(&octets[taken..])?;
         Ok(())
+    }
+
+    /// Puts octets out without a write: they wait behind those that wait. An `Err` says that memory was refused; then nothing changed.
+    pub fn gather(&mut self, octets: &[u8]) -> Result<(), AllocError>
+        ensures gathered { OnOk result (self.new ≡ record self.old { waiting = self.old.waiting ++ octets.now }) }
+        ensures refused { OnErr result (self.new ≡ self.old) }
+    {
+        if self.start >= self.octets.len() - self.start {
+            cut_front(&mut self.octets, self.start);
+            self.start = 0;
+        }
+        self.octets.extend_from_slice(octets)
     }
 
     /// Writes what waits, in one write. The answer is how many octets were written.
@@ -138,17 +150,6 @@ impl Outgoing {
             return Ok(0);
         }
         write_some(socket, octets)
-    }
-
-    /// More octets wait.
-    fn keep(&mut self, octets: &[u8]) -> Result<(), AllocError>
-        ensures { OnOk result (self.new ≡ record self.old { waiting = self.old.waiting ++ octets.now }) }
-    {
-        if self.start >= self.octets.len() - self.start {
-            cut_front(&mut self.octets, self.start);
-            self.start = 0;
-        }
-        self.octets.extend_from_slice(octets)
     }
 }
 

@@ -12,10 +12,8 @@ use Rattle.std.proofs.lemmas.Bool.Decides.{nat_tests}
 use Rattle.std.proofs.lemmas.List.{reverse-append, length-reverse, get_or-reverse}
 use Rattle.answers.specs.Waiting.{Answer}
 use Rattle.serving.specs.State.{find, without}
-use Rattle.serving.specs.Told.{Told}
-use Rattle.serving.specs.Rule.{is_done}
 use Rattle.upstreams.specs.Places.{IsNowhere}
-use Rattle.upstreams.specs.Connections.{Connection, number_of, stream_of, next_done, no_connection, IsOpenAt, IsOpenNowhere, AreBelow, AreRising, whole_at, answer_at, put_at, taken_at}
+use Rattle.upstreams.specs.Connections.{Connection, number_of, stream_of, no_connection, IsOpenAt, IsOpenNowhere, AreBelow, AreRising, whole_at, answer_at, put_at, taken_at}
 use Rattle.upstreams.proofs.Lists.{IsOnly, find_none, find_only, without_none, without_only, map_none, map_only, turned_none, turned_alone}
 
 -- the number at a place
@@ -181,14 +179,3 @@ pub newest_other : (id : ℕ) (cs : List Connection) (c : Connection) → (c.liv
 newest_other id cs c apart =
     ap (find stream_of id) (reverse-append cs (c ∷ []))
     ∙ ap (λ b. if b then Some c else find stream_of id (reverse cs)) (ne_eqb c.live.stream id apart)
-
--- it is done with, or isn't
-pub newest_done : (told : Told) (cs : List Connection) (c : Connection) → is_done told c.live ≡ true → next_done told (reverse (push cs c)) ≡ Some c.live.k
-newest_done told cs c done =
-    ap (next_done told) (reverse-append cs (c ∷ []))
-    ∙ ap (λ b. if b then Some c.live.k else next_done told (reverse cs)) done
-
-pub newest_goes_on : (told : Told) (cs : List Connection) (c : Connection) → is_done told c.live ≡ false → next_done told (reverse (push cs c)) ≡ next_done told (reverse cs)
-newest_goes_on told cs c on =
-    ap (next_done told) (reverse-append cs (c ∷ []))
-    ∙ ap (λ b. if b then Some c.live.k else next_done told (reverse cs)) on

@@ -1,12 +1,10 @@
 -- Open connections.
-use Rattle.std.specs.Prelude.{◌≡◌, ℕ, ◌+◌, ◌<◌, ◌==◌, ◌^◌, Bool, true, false, if◌then◌else◌, List, [], ◌∷◌, map, reverse, Option, Some, None}
+use Rattle.std.specs.Prelude.{ℕ, ◌+◌, ◌<◌, ◌==◌, Bool, true, false, if◌then◌else◌, List, [], ◌∷◌, map, reverse, None}
 use Rattle.h1_reader.specs.declared.reader.Place.TheVariants as place
 use Rattle.answers.specs.Waiting.{Answer}
 use Rattle.answers.specs.declared.answer.Passing.{Passing}
 use Rattle.answers.specs.declared.answer.Passing.TheVariants.{Streaming}
 use Rattle.serving.specs.State.{Live, answered}
-use Rattle.serving.specs.Told.{Told}
-use Rattle.serving.specs.Rule.{is_done}
 use Rattle.upstreams.specs.Places.{IsAt, IsNowhere}
 
 -- An open connection: as the rule of requests has it, with the answer of its upstream so far, and how many octets were put out for it and
@@ -53,17 +51,6 @@ put_at k count c = record { live = c.live; answer = c.answer; out = if c.live.k 
 -- so many more were taken
 abbrev pub taken_at : ℕ → ℕ → Connection → Connection
 taken_at k count c = record { live = c.live; answer = c.answer; out = c.out; took = if c.live.k == k then c.took + count else c.took }
-
--- ---- which is done with
-
--- the number of the first that is
-abbrev pub next_done : Told → List Connection → Option ℕ
-next_done told [] = None
-next_done told (c ∷ cs) = if is_done told c.live then Some c.live.k else next_done told cs
-
--- A test of streams answers what is told of them.
-abbrev pub Answers : (ℕ → Bool → Type 0) → Told → Type 0
-Answers gives told = (stream : ℕ) (answer : Bool) → stream < 2 ^ 32 → gives stream answer → answer ≡ told.served stream
 
 -- ---- where they lie
 

@@ -1,5 +1,4 @@
 pub use Rattle.serving.specs.State
-pub use Rattle.serving.specs.Told
 pub use Rattle.serving.specs.Held
 pub mod Requests
 pub mod Connections

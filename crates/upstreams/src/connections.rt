@@ -2,8 +2,7 @@
 
 ghost use Rattle.std.specs.Prelude.{◌≡◌, ◌+◌, ◌<◌, ◌≤◌, ◌^◌, map, reverse, Some, None, MatchOption, IfSome, IfNone};
 ghost use Rattle.serving.specs.State.{find, without};
-ghost use Rattle.serving.specs.Told.{Told};
-ghost use Rattle.upstreams.specs.Connections.{number_of, stream_of, whole_at, answer_at, put_at, taken_at, next_done, Answers, AreRising, IsOpenAt, IsOpenNowhere};
+ghost use Rattle.upstreams.specs.Connections.{number_of, stream_of, whole_at, answer_at, put_at, taken_at, AreRising, IsOpenAt, IsOpenNowhere};
 
 use crate::connection::Connection;
 use answers::Answer;
@@ -94,17 +93,4 @@ pub fn remove(connections: &mut Vec<Connection>, k: u32)
     if let Some(place) = place_of(connections, k) {
         connections.remove(place);
     }
-}
-
-/// The number of the newest connection that is done with: its response is whole, or its stream isn't served any more.
-pub fn next_done<F: Fn(u32) -> bool>(connections: &[Connection], is_served: F) -> Option<u32>
-    requires { F.IsAlwaysCallable is_served }
-    ensures { (told : Told) → Answers (F.post is_served) told → result ≡ next_done told (reverse connections.now) }
-{
-    for connection in connections.iter().rev() {
-        if connection.is_whole() || !is_served(connection.stream()) {
-            return Some(connection.number());
-        }
-    }
-    None
 }

@@ -7,8 +7,6 @@
 mod connection;
 mod connections;
 mod held;
-#[cfg(test)]
-mod tests;
 mod upstreams;
 
 pub use crate::connection::Connection;

@@ -1,13 +1,12 @@
 //! Requests that wait, and open connections.
 
-ghost use Rattle.std.specs.Prelude.{◌≡◌, ◌+◌, ◌<◌, ◌≤◌, ◌^◌, ◌∷◌, [], suc, map, true, Some, None, MatchOption, IfSome, IfNone, OnOk, OnErr, IfOk};
+ghost use Rattle.std.specs.Prelude.{◌≡◌, ◌+◌, ◌<◌, ◌≤◌, ◌^◌, ◌∷◌, [], suc, map, reverse, true, Some, None, MatchOption, IfSome, OnOk, OnErr, IfOk};
 ghost use Rattle.model.specs.Http2.{HasLength};
 ghost use Rattle.model.specs.StreamStates.{most_streams};
 ghost use Rattle.h1_reader.specs.Standing.{Stands};
-ghost use Rattle.serving.specs.State.{id_of, held_of, find, without};
-ghost use Rattle.serving.specs.Told.{Told};
+ghost use Rattle.serving.specs.State.{id_of, find, without};
 ghost use Rattle.upstreams.specs.Requests.{gathered, MayEndFor, IsEndedFor};
-ghost use Rattle.upstreams.specs.Connections.{number_of, stream_of, opened, whole_at, answer_at, put_at, taken_at, next_done, Answers};
+ghost use Rattle.upstreams.specs.Connections.{number_of, stream_of, opened, whole_at, answer_at, put_at, taken_at, AreRising};
 ghost use Rattle.upstreams.specs.Kept.{nothing, Begins};
 
 use crate::connection::Connection;
@@ -128,6 +127,14 @@ impl Upstreams {
         Ok(k)
     }
 
+    /// The open connections, by rising number.
+    pub fn connections(&self) -> &[Connection]
+        ensures all { reverse result.now ≡ self.now.live }
+        ensures rising { AreRising result.now }
+    {
+        self.connections.as_slice()
+    }
+
     /// The open connection with this number, if there is one.
     pub fn find(&self, k: u32) -> Option<&Connection>
         ensures { MatchOption result (find number_of k self.now.live ≡ None) (λ connection. find number_of k self.now.live ≡ Some connection.now) }
@@ -179,13 +186,5 @@ impl Upstreams {
         ensures { self.new ≡ record self.old { live = map (taken_at k count) self.old.live } }
     {
         connections::take(&mut self.connections, k, count);
-    }
-
-    /// The number of the newest connection that is done with, if one is: its response is whole, or its stream isn't served any more.
-    pub fn next_done<F: Fn(u32) -> bool>(&self, is_served: F) -> Option<u32>
-        requires { F.IsAlwaysCallable is_served }
-        ensures { (told : Told) → Answers (F.post is_served) told → result ≡ next_done told self.now.live }
-    {
-        connections::next_done(&self.connections, is_served)
     }
 }

@@ -1,7 +1,6 @@
 -- What serving a world adds to its log.
 use Rattle.std.specs.Prelude.{IsErrOf, is_ok, OnOk}
-use Rattle.std.proofs.lemmas.Grind.{common_steps}
-use Rattle.std.proofs.Common.{◌≡◌, ◌<◌, ◌≤◌, ◌+◌, length, get_or, arith, Ok, Err, Result, ◌||◌, Bool, true, false, Option, Some, List, [], ◌∷◌, ◌++◌, ℕ, map, take, drop, reverse, refl, ap, sym, ◌∙◌, subst, append_assoc, append-nil}
+use Rattle.std.proofs.Common.{◌≡◌, ◌+◌, length, length-append, Ok, Err, Result, ◌||◌, Bool, true, false, Option, Some, List, [], ◌∷◌, ◌++◌, ℕ, take, drop, reverse, refl, ap, sym, ◌∙◌, subst, append_assoc, append-nil}
 use Rattle.std.specs.List.{list_any}
 use Rattle.std.proofs.lemmas.List.{reverse-append, take-append-drop, map-append}
 use Rattle.model.specs.Admission.{is_admitted}
@@ -12,17 +11,18 @@ use Rattle.outputs.specs.Views.{event_of, output_of, outputs_of}
 use Rattle.policy.specs.Moves.{Move}
 use Rattle.policy.specs.State.{tape_of}
 use Rattle.gateway.specs.Promises.{Promise}
+use Rattle.gateway.specs.Rooms.{AreRooms, turns}
 use Rattle.gateway.specs.Stands.{Standing, Stands, StandsNext}
 use Rattle.gateway.proofs.Running.{promised_at}
 use Rattle.outputs.specs.declared.events.Event.{Event}
 use Rattle.outputs.specs.declared.events.Output.{Output}
 use Rattle.worlds.specs.declared.services.Ended.{Ended}
-use Rattle.worlds.specs.Worlds.{Serves, StandsSomewhere, AddsFrontTo, MayNotCome, came, with_outputs, closes, has_closed, is_closed}
+use Rattle.worlds.specs.Worlds.{Handed, Serves, StandsSomewhere, AddsFrontTo, AddsHanded, IsHanded, AreHanded, AreAllHanded, HandsTo, MayNotCome, came, with_outputs, closes, has_closed, is_closed}
 use Rattle.worlds.specs.Worlds.IsFrontOf.{Whole, Lacks}
 
 -- ---- whether the client is closed
 
-either_false : (a b : Bool) → (a || b) ≡ false → (a ≡ false) × (b ≡ false)
+pub either_false : (a b : Bool) → (a || b) ≡ false → (a ≡ false) × (b ≡ false)
 either_false false b h = (refl, h)
 either_false true b h = absurd (cc)
 
@@ -41,11 +41,44 @@ closes_seen : (out : List Output) → list_any closes (outputs_of out) ≡ list_
 closes_seen [] = refl
 closes_seen (o ∷ out) = ap (λ b. closes (output_of o) || b) (closes_seen out)
 
+-- ---- what was handed
+
+-- What was handed is right for more that was added, too.
+is_handed_more : (setup : Setup) (n : ℕ) (added more : List Step) (h : Handed) → IsHanded setup n added h → IsHanded setup n (added ++ more) h
+is_handed_more setup n added more h i = record {
+  front = i.front;
+  rest = i.rest ++ more;
+  parts = ap (λ l. l ++ more) i.parts ∙ append_assoc i.front i.rest more;
+  steps = i.steps;
+  promise = i.promise;
+  rooms = i.rooms;
+}
+
+are_handed_more : (setup : Setup) (n : ℕ) (added more : List Step) (hs : List Handed) → AreHanded setup n added hs → AreHanded setup n (added ++ more) hs
+are_handed_more setup n added more [] all = tt
+are_handed_more setup n added more (h ∷ hs) all = (is_handed_more setup n added more h all.0, are_handed_more setup n added more hs all.1)
+
+are_handed_end : (setup : Setup) (n : ℕ) (added : List Step) (hs : List Handed) (h : Handed) → AreHanded setup n added hs → IsHanded setup n added h → AreHanded setup n added (hs ++ h ∷ [])
+are_handed_end setup n added [] h all one = (one, tt)
+are_handed_end setup n added (x ∷ hs) h all one = (all.0, are_handed_end setup n added hs h all.1 one)
+
+all_handed_more : (setup : Setup) (n : ℕ) (added more : List Step) (old new : Option (List Handed)) → AreAllHanded setup n added old new → AreAllHanded setup n (added ++ more) old new
+all_handed_more setup n added more old new all = λ earlier e. let a = all earlier e in (a.0, a.1, are_handed_more setup n added more a.0 a.2)
+
 -- ---- the log
 
--- Nothing was added yet.
-pub serves_none : (setup : Setup) (log : Option (List Step)) (g : Standing) (before : List Step) → log ≡ Some before → Stands setup g [] [] → Serves setup false log g before
-serves_none setup log g before e stands = record { added = []; run = []; is = e ∙ ap Some (sym (append-nil before)); stands = stands; has_closed_is = refl }
+-- Nothing was added yet, and nothing handed.
+pub serves_none : (setup : Setup) (log : Option (List Step)) (g : Standing) (rooms : List (ℕ × ℕ)) (handed : Option (List Handed)) (before : List Step) → log ≡ Some before → rooms ≡ [] → Stands setup g [] []
+    → Serves setup false log g rooms handed handed before
+serves_none setup log g rooms handed before e none stands = record {
+  added = [];
+  run = [];
+  is = e ∙ ap Some (sym (append-nil before));
+  stands = stands;
+  has_closed_is = refl;
+  rooms_are = subst (λ r. AreRooms [] r) (sym none) (record { numbers = []; rise = tt; listed = λ k. refl; each = refl });
+  hands = λ earlier h. ([], h ∙ ap Some (sym (append-nil earlier)), tt);
+}
 
 -- What the gateway did with an event.
 pub record Steps (g g' : Standing) (event : Event) (old out : List Output) : Type 0 where
@@ -53,52 +86,60 @@ pub record Steps (g g' : Standing) (event : Event) (old out : List Output) : Typ
   pub puts : (outputs : List logs.Output) × (outputs_of out ≡ outputs_of old ++ outputs)
       × ((s : Setup) (l : List Step) (r : List Move) → Stands s g l r → StandsNext s g' l r (event_of event) outputs)
 
+-- Afterwards it stands for the log with what was put out.
+pub next_of : (g g' : Standing) (event : Event) (old out : List Output) → Steps g g' event old out → (setup : Setup) (log : List Step) (run : List Move) → Stands setup g log run → StandsNext setup g' log run (event_of event) (outputs_of out)
+next_of g g' event old out steps setup log run stands =
+    let all : outputs_of out ≡ steps.puts.0 = steps.puts.1 ∙ ap (λ x. outputs_of x ++ steps.puts.0) steps.none in
+    subst (λ o. StandsNext setup g' log run (event_of event) o) (sym all) (steps.puts.2 setup log run stands)
+
 -- Afterwards the gateway stands for some log, as before.
 pub stands_on : (g g' : Standing) (event : Event) (old out : List Output) → Steps g g' event old out → (setup : Setup) → StandsSomewhere setup g → StandsSomewhere setup g'
 stands_on g g' event old out steps setup somewhere =
-    let next = steps.puts.2 setup somewhere.0 somewhere.1 somewhere.2 in (record { event = event_of event; outputs = steps.puts.0 } ∷ somewhere.0, next.segment ++ somewhere.1, next.stands)
+    let next = next_of g g' event old out steps setup somewhere.0 somewhere.1 somewhere.2 in (record { event = event_of event; outputs = outputs_of out } ∷ somewhere.0, next.segment ++ somewhere.1, next.stands)
 
 -- The log with this step stands for the gateway behind it.
 stands_more : (setup : Setup) (g g' : Standing) (added : List Step) (run : List Move) (event : Event) (old out : List Output) → (steps : Steps g g' event old out)
     → (stands : Stands setup g (reverse added) run)
-    → Stands setup g' (reverse (added ++ with_outputs (came event) (outputs_of out) ∷ [])) ((steps.puts.2 setup (reverse added) run stands).segment ++ run)
+    → Stands setup g' (reverse (added ++ with_outputs (came event) (outputs_of out) ∷ [])) ((next_of g g' event old out steps setup (reverse added) run stands).segment ++ run)
 stands_more setup g g' added run event old out steps stands =
-    let all : outputs_of out ≡ steps.puts.0 = steps.puts.1 ∙ ap (λ x. outputs_of x ++ steps.puts.0) steps.none in
-    let next = steps.puts.2 setup (reverse added) run stands in
-    let turned : reverse (added ++ with_outputs (came event) (outputs_of out) ∷ []) ≡ record { event = event_of event; outputs = steps.puts.0 } ∷ reverse added =
-    reverse-append added (with_outputs (came event) (outputs_of out) ∷ []) ∙ ap (λ o. record { event = event_of event; outputs = o } ∷ reverse added) all in
-    subst (λ l. Stands setup g' l (next.segment ++ run)) (sym turned) next.stands
+    let next = next_of g g' event old out steps setup (reverse added) run stands in
+    subst (λ l. Stands setup g' l (next.segment ++ run)) (sym (reverse-append added (with_outputs (came event) (outputs_of out) ∷ []))) next.stands
 
 -- One more step was added.
-pub serves_more : (setup : Setup) (g g' : Standing) (before added : List Step) (run : List Move) (event : Event) (old out : List Output) (log : Option (List Step)) (closed : Bool)
+pub serves_more : (setup : Setup) (g g' : Standing) (before added : List Step) (run : List Move) (event : Event) (old out : List Output) (log : Option (List Step)) (closed : Bool) (rooms : List (ℕ × ℕ)) (earlier handed handed' : Option (List Handed))
     → log ≡ Some (before ++ added ++ with_outputs (came event) (outputs_of out) ∷ []) → Steps g g' event old out
     → closed ≡ list_any (λ output. closes (output_of output)) out → has_closed added ≡ false
-    → Stands setup g (reverse added) run → Serves setup closed log g' before
-serves_more setup g g' before added run event old out log closed is steps ends still stands =
-    let next = steps.puts.2 setup (reverse added) run stands in
+    → Stands setup g (reverse added) run
+    → ((next : StandsNext setup g' (reverse added) run (event_of event) (outputs_of out)) → AreRooms (tape_of (next.segment ++ run)) rooms)
+    → AreAllHanded setup (length before) added earlier handed → handed' ≡ handed
+    → Serves setup closed log g' rooms earlier handed' before
+serves_more setup g g' before added run event old out log closed rooms earlier handed handed' is steps ends still stands noted hands same =
+    let next = next_of g g' event old out steps setup (reverse added) run stands in
     record {
       added = added ++ with_outputs (came event) (outputs_of out) ∷ [];
       run = next.segment ++ run;
       is = is ∙ ap Some (append_assoc before added (with_outputs (came event) (outputs_of out) ∷ []));
       stands = stands_more setup g g' added run event old out steps stands;
       has_closed_is = has_closed_more added (with_outputs (came event) (outputs_of out)) still ∙ closes_seen out ∙ sym ends;
+      rooms_are = noted next;
+      hands = all_handed_more setup (length before) added (with_outputs (came event) (outputs_of out) ∷ []) earlier handed' (subst (λ h. AreAllHanded setup (length before) added earlier h) (sym same) hands);
     }
 
 -- What is promised holds of what was added.
-pub serves_run : (setup : Setup) (closed : Bool) (ended : Ended) (log : Option (List Step)) (g : Standing) (before : List Step) → Serves setup closed log g before → closed ≡ is_closed ended
+pub serves_run : (setup : Setup) (closed : Bool) (ended : Ended) (log : Option (List Step)) (g : Standing) (rooms : List (ℕ × ℕ)) (old handed : Option (List Handed)) (before : List Step) → Serves setup closed log g rooms old handed before → closed ≡ is_closed ended
     → (added : List Step) × (log ≡ Some (before ++ added)) × Promise setup added × (has_closed added ≡ is_closed ended)
-serves_run setup closed ended log g before s is = (s.added, s.is, (promised_at setup g s.added s.run s.stands).0, s.has_closed_is ∙ is)
+serves_run setup closed ended log g rooms old handed before s is = (s.added, s.is, (promised_at setup g s.added s.run s.stands).0, s.has_closed_is ∙ is)
 
 -- What was added, before a call of the world failed.
-pub front_whole : (setup : Setup) (closed : Bool) (log log' : Option (List Step)) (g : Standing) (before : List Step) → log' ≡ log → Serves setup closed log g before → AddsFrontTo setup before log'
-front_whole setup closed log log' g before e s = (s.added, s.added, e ∙ s.is, Whole s.added, (promised_at setup g s.added s.run s.stands).0)
+pub front_whole : (setup : Setup) (closed : Bool) (log log' : Option (List Step)) (g : Standing) (rooms : List (ℕ × ℕ)) (old handed : Option (List Handed)) (before : List Step) → log' ≡ log → Serves setup closed log g rooms old handed before → AddsFrontTo setup before log'
+front_whole setup closed log log' g rooms old handed before e s = (s.added, s.added, e ∙ s.is, Whole s.added, (promised_at setup g s.added s.run s.stands).0)
 
 -- Outputs were applied until one failed.
 pub front_lacks : (setup : Setup) (g g' : Standing) (before added : List Step) (run : List Move) (event : Event) (old out : List Output) (log : Option (List Step)) (done more : List logs.Output)
     → outputs_of out ≡ done ++ more → log ≡ Some (before ++ added ++ with_outputs (came event) done ∷ []) → Steps g g' event old out
     → Stands setup g (reverse added) run → AddsFrontTo setup before log
 front_lacks setup g g' before added run event old out log done more parts is steps stands =
-    let next = steps.puts.2 setup (reverse added) run stands in
+    let next = next_of g g' event old out steps setup (reverse added) run stands in
     let whole : added ++ with_outputs (came event) (outputs_of out) ∷ [] ≡ added ++ with_outputs (with_outputs (came event) done) more ∷ [] =
     ap (λ os. added ++ with_outputs (came event) os ∷ []) parts in (
       added ++ with_outputs (came event) done ∷ [],
@@ -109,14 +150,67 @@ front_lacks setup g g' before added run event old out log done more parts is ste
     )
 
 -- An event came that may not.
-pub may_not_come : (setup : Setup) (closed : Bool) (log : Option (List Step)) (g : Standing) (before : List Step) (event : Event) → (s : Serves setup closed log g before)
+pub may_not_come : (setup : Setup) (closed : Bool) (log : Option (List Step)) (g : Standing) (rooms : List (ℕ × ℕ)) (old handed : Option (List Handed)) (before : List Step) (event : Event) → (s : Serves setup closed log g rooms old handed before)
     → is_admitted (tape_of s.run) (event_of event) ≡ false → MayNotCome setup s.added (event_of event)
-may_not_come setup closed log g before event s refused =
+may_not_come setup closed log g rooms old handed before event s refused =
     let promised = promised_at setup g s.added s.run s.stands in record { promise = promised.0; refused = ap (λ t. is_admitted t (event_of event)) promised.1 ∙ refused }
 
--- The same log.
-pub serves_same : (setup : Setup) (closed : Bool) (log log' : Option (List Step)) (g : Standing) (before : List Step) → log' ≡ log → Serves setup closed log g before → Serves setup closed log' g before
-serves_same setup closed log log' g before e s = record { added = s.added; run = s.run; is = e ∙ s.is; stands = s.stands; has_closed_is = s.has_closed_is }
+-- ---- a call of `next`
+
+-- What it was handed is right, and so is what was handed before.
+pub hands_one : (setup : Setup) (closed : Bool) (log : Option (List Step)) (g : Standing) (rooms : List (ℕ × ℕ)) (old handed handed' : Option (List Handed)) (before : List Step) → AddsHanded log handed rooms handed'
+    → (s : Serves setup closed log g rooms old handed before) → AreAllHanded setup (length before) s.added old handed'
+hands_one setup closed log g rooms old handed handed' before adds s = λ earlier e.
+    let a = s.hands earlier e in
+    let p = promised_at setup g s.added s.run s.stands in
+    let one : Handed = record { steps = length (before ++ s.added); rooms = rooms } in
+    let right : IsHanded setup (length before) s.added one = record {
+      front = s.added;
+      rest = [];
+      parts = sym (append-nil s.added);
+      steps = length-append before s.added;
+      promise = p.0;
+      rooms = subst (λ t. AreRooms t rooms) (sym p.1) s.rooms_are;
+    } in (
+      a.0 ++ one ∷ [],
+      adds (before ++ s.added) (earlier ++ a.0) s.is a.1 ∙ ap Some (append_assoc earlier a.0 (one ∷ [])),
+      are_handed_end setup (length before) s.added a.0 one a.2 right,
+    )
+
+-- Nothing came.
+pub serves_same : (setup : Setup) (closed : Bool) (log log' : Option (List Step)) (g : Standing) (rooms : List (ℕ × ℕ)) (old handed handed' : Option (List Handed)) (before : List Step) → log' ≡ log → AddsHanded log handed rooms handed'
+    → Serves setup closed log g rooms old handed before → Serves setup closed log' g rooms old handed' before
+serves_same setup closed log log' g rooms old handed handed' before e adds s = record {
+  added = s.added;
+  run = s.run;
+  is = e ∙ s.is;
+  stands = s.stands;
+  has_closed_is = s.has_closed_is;
+  rooms_are = s.rooms_are;
+  hands = hands_one setup closed log g rooms old handed handed' before adds s;
+}
+
+-- What was handed is right where nothing is added any more,
+pub hands_still : (setup : Setup) (closed : Bool) (log log' : Option (List Step)) (g : Standing) (rooms : List (ℕ × ℕ)) (old handed handed' : Option (List Handed)) (before : List Step) → log' ≡ log → handed' ≡ handed
+    → Serves setup closed log g rooms old handed before → HandsTo setup before old log' handed'
+hands_still setup closed log log' g rooms old handed handed' before e same s = (s.added, e ∙ s.is, subst (λ h. AreAllHanded setup (length before) s.added old h) (sym same) s.hands)
+
+-- and where a step is.
+pub hands_step : (setup : Setup) (before added : List Step) (step : Step) (old handed handed' : Option (List Handed)) (log : Option (List Step)) → log ≡ Some (before ++ added ++ step ∷ []) → handed' ≡ handed
+    → AreAllHanded setup (length before) added old handed → HandsTo setup before old log handed'
+hands_step setup before added step old handed handed' log is same hands = (
+  added ++ step ∷ [],
+  is ∙ ap Some (append_assoc before added (step ∷ [])),
+  all_handed_more setup (length before) added (step ∷ []) old handed' (subst (λ h. AreAllHanded setup (length before) added old h) (sym same) hands),
+)
+
+-- It is right where the gateway serves still,
+pub hands_of : (setup : Setup) (closed : Bool) (log : Option (List Step)) (g : Standing) (rooms : List (ℕ × ℕ)) (old handed : Option (List Handed)) (before : List Step) → Serves setup closed log g rooms old handed before → HandsTo setup before old log handed
+hands_of setup closed log g rooms old handed before s = (s.added, s.is, s.hands)
+
+-- and where nothing came.
+pub hands_none : (setup : Setup) (log : Option (List Step)) (handed : Option (List Handed)) (before : List Step) → log ≡ Some before → HandsTo setup before handed log handed
+hands_none setup log handed before e = ([], e ∙ ap Some (sym (append-nil before)), λ earlier h. ([], h ∙ ap Some (sym (append-nil earlier)), tt))
 
 -- What a call promises where it answers so.
 pub on_ok_at : {A E X : Type 0} (r : Result A E) → is_ok r ≡ true → OnOk r X → X
@@ -131,11 +225,7 @@ cut_outputs n out = ap outputs_of (sym (take-append-drop n out)) ∙ map-append 
 pub same_fault : {A B E : Type 0} (fault other : E) → IsErrOf {T = A} (Err fault) other → IsErrOf {T = B} (Err fault) other
 same_fault fault other is = let same : fault ≡ other = cc in rw same refl
 
--- One connection more has its room behind those of the others.
-pub rooms_more : (f : ℕ → ℕ × ℕ) (ks : List ℕ) (i : ℕ) → i < length ks → map f (take (i + 1) ks) ≡ map f (take i ks) ++ f (get_or ks i 0) ∷ []
-rooms_more f ks i within =
-    let taken : take (i + 1) ks ≡ take i ks ++ get_or ks i 0 ∷ [] = grind (arith, common_steps) in
-    ap (map f) taken ∙ map-append f (take i ks) (get_or ks i 0 ∷ [])
-
-pub rooms_all : (f : ℕ → ℕ × ℕ) (ks : List ℕ) (i : ℕ) → length ks ≤ i → map f (take i ks) ≡ map f ks
-rooms_all f ks i past = let all : take i ks ≡ ks = grind (arith, common_steps) in ap (map f) all
+-- whether outputs open a connection or close one, as they are seen
+pub turns_seen : (out : List Output) → list_any turns (outputs_of out) ≡ list_any (λ output. turns (output_of output)) out
+turns_seen [] = refl
+turns_seen (o ∷ out) = ap (λ b. turns (output_of o) || b) (turns_seen out)

@@ -1,3 +1,2 @@
 pub mod Worlds
-pub mod Open
 pub mod Memory

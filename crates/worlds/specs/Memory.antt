@@ -7,6 +7,7 @@ use Rattle.model.specs.Logs.{Step}
 use Rattle.outputs.specs.declared.events.Event.{Event}
 use Rattle.outputs.specs.declared.events.Output.{Output}
 use Rattle.outputs.specs.Views.{event_of, outputs_of}
+use Rattle.worlds.specs.Worlds.{Handed}
 use Rattle.worlds.specs.declared.memory.MemoryWorld.{MemoryWorld}
 use Rattle.worlds.specs.declared.world.Next.{Next}
 use Rattle.worlds.specs.declared.world.Next.TheVariants.{Happened, Nothing, Over}
@@ -20,6 +21,13 @@ steps_of log = map step_of log
 -- its log
 abbrev pub log_in : MemoryWorld → List Step
 log_in world = steps_of world.log.items
+
+-- what its calls of `next` were handed
+abbrev pub handed_of : ℕ × Vec (ℕ × ℕ) Global → Handed
+handed_of pair = record { steps = pair.0; rooms = pair.1.items }
+
+abbrev pub handed_in : MemoryWorld → List Handed
+handed_in world = map handed_of world.handed.items
 
 -- the events that are to come
 abbrev pub left_in : MemoryWorld → List logs.Event

@@ -1,5 +1,5 @@
 -- What a world tells, and what serving it adds to that.
-use Rattle.std.specs.Prelude.{◌≡◌, Bool, true, false, Option, Some, None, List, [], ◌∷◌, ◌++◌, reverse, ⊤}
+use Rattle.std.specs.Prelude.{◌≡◌, ℕ, ◌+◌, Bool, true, false, Option, Some, None, List, [], ◌∷◌, ◌++◌, length, reverse, ⊤}
 use Rattle.model.specs.Logs as logs
 use Rattle.model.specs.Logs.{Step}
 use Rattle.model.specs.Setup.{Setup}
@@ -7,7 +7,9 @@ use Rattle.model.specs.Admission.{is_admitted}
 use Rattle.outputs.specs.declared.events.Event.{Event}
 use Rattle.outputs.specs.Views.{event_of}
 use Rattle.policy.specs.Moves.{Move}
+use Rattle.policy.specs.State.{tape_of}
 use Rattle.gateway.specs.Promises.{Promise}
+use Rattle.gateway.specs.Rooms.{AreRooms}
 use Rattle.gateway.specs.Stands.{Standing, Stands}
 use Rattle.std.specs.List.{list_any}
 use Rattle.model.specs.Logs.Output.{Does}
@@ -16,6 +18,11 @@ use Rattle.worlds.specs.declared.services.Ended.{Ended}
 use Rattle.worlds.specs.declared.services.Ended.TheVariants.{Closed, Over as OverAtLast, Turns}
 use Rattle.worlds.specs.declared.world.Next.{Next}
 use Rattle.worlds.specs.declared.world.Next.TheVariants.{Happened, Nothing, Over}
+
+-- What a call of `next` was handed, and how many steps the log had then.
+pub record Handed : Type 0 where
+  pub steps : ℕ
+  pub rooms : List (ℕ × ℕ)
 
 -- a step with more outputs behind its own
 abbrev pub with_outputs : Step → List logs.Output → Step
@@ -30,6 +37,11 @@ abbrev pub AddsEvent : Option (List Step) → Next → Option (List Step) → Ty
 AddsEvent old (Happened event) new = (before : List Step) → old ≡ Some before → new ≡ Some (before ++ came event ∷ [])
 AddsEvent old Nothing new = new ≡ old
 AddsEvent old Over new = new ≡ old
+
+-- What was handed is told behind all that was handed before, with how many steps the log had.
+abbrev pub AddsHanded : Option (List Step) → Option (List Handed) → List (ℕ × ℕ) → Option (List Handed) → Type 0
+AddsHanded log old rooms new = (steps : List Step) (earlier : List Handed) → log ≡ Some steps → old ≡ Some earlier
+    → new ≡ Some (earlier ++ record { steps = length steps; rooms = rooms } ∷ [])
 
 -- Where nothing comes any more, that was said.
 abbrev pub SaysOver : Next → Bool → Type 0
@@ -95,14 +107,44 @@ AddsRefusedTo setup before new = (added : List Step) × (event : Event) × (new 
 abbrev pub AddsRefused : Setup → Option (List Step) → Option (List Step) → Type 0
 AddsRefused setup old new = (before : List Step) → old ≡ Some before → AddsRefusedTo setup before new
 
+-- ---- what was handed
+
+-- It was handed behind a front of what was added to a log of so many steps. What is promised holds of that front, and the connections that are open
+-- behind it are what was handed, by rising number, each with how many octets of it may come in one event.
+pub record IsHanded (setup : Setup) (before : ℕ) (added : List Step) (handed : Handed) : Type 0 where
+  pub front : List Step
+  pub rest : List Step
+  pub parts : added ≡ front ++ rest
+  pub steps : handed.steps ≡ before + length front
+  pub promise : Promise setup front
+  pub rooms : AreRooms promise.tape handed.rooms
+
+abbrev pub AreHanded : Setup → ℕ → List Step → List Handed → Type 0
+AreHanded setup before added [] = Unit {0}
+AreHanded setup before added (handed ∷ more) = IsHanded setup before added handed × AreHanded setup before added more
+
+-- So was each that is told behind those before it.
+abbrev pub AreAllHanded : Setup → ℕ → List Step → Option (List Handed) → Option (List Handed) → Type 0
+AreAllHanded setup before added old new = (earlier : List Handed) → old ≡ Some earlier → (more : List Handed) × (new ≡ Some (earlier ++ more)) × AreHanded setup before added more
+
+-- What was handed is right for what was added to the log.
+abbrev pub HandsTo : Setup → List Step → Option (List Handed) → Option (List Step) → Option (List Handed) → Type 0
+HandsTo setup before old log new = (added : List Step) × (log ≡ Some (before ++ added)) × AreAllHanded setup (length before) added old new
+
+abbrev pub Hands : Setup → Option (List Step) → Option (List Handed) → Option (List Step) → Option (List Handed) → Type 0
+Hands setup log old log' new = (before : List Step) → log ≡ Some before → HandsTo setup before old log' new
+
 -- The gateway stands for some log.
 abbrev pub StandsSomewhere : Setup → Standing → Type 0
 StandsSomewhere setup g = (log : List Step) × (run : List Move) × Stands setup g log run
 
--- The gateway stands for what was added to this log, in which the client is closed or not.
-pub record Serves (setup : Setup) (closed : Bool) (log : Option (List Step)) (g : Standing) (before : List Step) : Type 0 where
+-- The gateway stands for what was added to this log, in which the client is closed or not. These are the rooms behind it, and what was handed since was
+-- right.
+pub record Serves (setup : Setup) (closed : Bool) (log : Option (List Step)) (g : Standing) (rooms : List (ℕ × ℕ)) (old handed : Option (List Handed)) (before : List Step) : Type 0 where
   pub added : List Step
   pub run : List Move
   pub is : log ≡ Some (before ++ added)
   pub stands : Stands setup g (reverse added) run
   pub has_closed_is : has_closed added ≡ closed
+  pub rooms_are : AreRooms (tape_of run) rooms
+  pub hands : AreAllHanded setup (length before) added old handed

@@ -3,8 +3,8 @@
 ghost use Rattle.std.specs.Prelude.{◌≡◌, ◌+◌, ◌<◌, ◌^◌, ◌∷◌, ◌++◌, [], List, Some, true, false, map, is_ok, IfOk, OnOk, OnErr, if◌then◌else◌};
 ghost use Rattle.model.specs.Logs.{Step};
 ghost use Rattle.outputs.specs.Views.{event_of, output_of, outputs_of};
-ghost use Rattle.worlds.specs.Memory.{steps_of, log_in, left_in, Gives, is_due, one_fewer};
-ghost use Rattle.worlds.specs.Worlds.{AddsEvent, SaysOver, with_outputs};
+ghost use Rattle.worlds.specs.Memory.{steps_of, log_in, handed_in, left_in, Gives, is_due, one_fewer};
+ghost use Rattle.worlds.specs.Worlds.{AddsEvent, AddsHanded, SaysOver, with_outputs};
 
 use crate::world::{Next, World, WorldFault};
 use outputs::{Event, Output};
@@ -18,6 +18,8 @@ pub struct MemoryWorld {
     /// How many of the events were given.
     given: usize,
     log: Vec<(Event, Vec<Output>)>,
+    /// For each call of `next` that didn't fail how many steps the log had, and the rooms that it was handed.
+    handed: Vec<(usize, Vec<(u32, usize)>)>,
     over: bool,
     /// How many calls come before the one that fails, if one will.
     fails_in: Option<u64>,
@@ -30,7 +32,7 @@ impl MemoryWorld {
     /// of `apply` counted together, fails.
     pub fn new(alloc: Global, events: Vec<Event>, fail_at: Option<u64>) -> MemoryWorld
         ensures left { left_in result ≡ map event_of events.items }
-        ensures log { log_in result ≡ [] }
+        ensures log { (log_in result ≡ []) × (handed_in result ≡ []) }
         ensures over { result.over ≡ false }
         ensures fails { result.fails_in ≡ fail_at }
         ensures counts { (result.calls ≡ 0) × (result.failures ≡ 0) }
@@ -40,6 +42,7 @@ impl MemoryWorld {
             events,
             given: 0,
             log: Vec::new(alloc),
+            handed: Vec::new(alloc),
             over: false,
             fails_in: fail_at,
             calls: 0,
@@ -54,6 +57,32 @@ impl MemoryWorld {
         &self.log
     }
 
+    /// For each call of `next` that didn't fail how many steps the log had, and the rooms that it was handed, the first one first.
+    pub fn handed(&self) -> &[(usize, Vec<(u32, usize)>)]
+        ensures { result.now ≡ self.now.handed.items }
+    {
+        &self.handed
+    }
+
+    /// Keeps what it is handed, and gives the next event. Where memory is refused nothing changes.
+    fn take_call(&mut self, rooms: &[(u32, usize)]) -> Result<Next, AllocError>
+        ensures gives { IfOk result (λ next. Gives (left_in self.old) next (left_in self.new)) }
+        ensures log { IfOk result (λ next. AddsEvent (Some (log_in self.old)) next (Some (log_in self.new))) }
+        ensures handed { OnOk result (AddsHanded (Some (log_in self.old)) (Some (handed_in self.old)) rooms.now (Some (handed_in self.new))) }
+        ensures over { IfOk result (λ next. SaysOver next self.new.over) }
+        ensures err { OnErr result ((left_in self.new ≡ left_in self.old) × (log_in self.new ≡ log_in self.old) × (handed_in self.new ≡ handed_in self.old)) }
+        ensures counts { (self.new.calls ≡ self.old.calls) × (self.new.failures ≡ self.old.failures) × (self.new.fails_in ≡ self.old.fails_in) }
+    {
+        let steps = self.log.len();
+        let rooms = Vec::from_slice(self.alloc, rooms)?;
+        self.handed.push((steps, rooms))?;
+        let next = self.give();
+        if next.is_err() {
+            let _rooms = self.handed.pop();
+        }
+        next
+    }
+
     /// Gives the next event. Where memory is refused nothing changes.
     fn give(&mut self) -> Result<Next, AllocError>
         ensures gives { IfOk result (λ next. Gives (left_in self.old) next (left_in self.new)) }
@@ -61,6 +90,7 @@ impl MemoryWorld {
         ensures over { IfOk result (λ next. SaysOver next self.new.over) }
         ensures err { OnErr result ((left_in self.new ≡ left_in self.old) × (log_in self.new ≡ log_in self.old)) }
         ensures counts { (self.new.calls ≡ self.old.calls) × (self.new.failures ≡ self.old.failures) × (self.new.fails_in ≡ self.old.fails_in) }
+        ensures handed { self.new.handed ≡ self.old.handed }
     {
         let Some(event) = self.events.get(self.given) else {
             self.over = true;
@@ -140,7 +170,7 @@ fn add_output(
 
 impl World for MemoryWorld {
     ghost use Rattle.std.specs.Prelude.{ℕ, Some};
-    ghost use Rattle.worlds.specs.Memory.{log_in};
+    ghost use Rattle.worlds.specs.Memory.{log_in, handed_in};
 
     ghost calls = { λ world. world.calls };
 
@@ -150,14 +180,17 @@ impl World for MemoryWorld {
 
     ghost log = { λ world. Some (log_in world) };
 
-    fn next(&mut self, _rooms: &[(u32, usize)]) -> Result<Next, WorldFault>
+    ghost handed = { λ world. Some (handed_in world) };
+
+    fn next(&mut self, rooms: &[(u32, usize)]) -> Result<Next, WorldFault>
         requires calls { self.old.calls + 1 < 2 ^ 64 }
         requires failures { self.old.failures + 1 < 2 ^ 64 }
         ensures calls { self.new.calls ≡ self.old.calls + 1 }
         ensures failures { self.new.failures ≡ (if is_ok result then self.old.failures else self.old.failures + 1) }
         ensures over { IfOk result (λ next. SaysOver next self.new.over) }
         ensures log { IfOk result (λ next. AddsEvent (Some (log_in self.old)) next (Some (log_in self.new))) }
-        ensures err { OnErr result (log_in self.new ≡ log_in self.old) }
+        ensures handed { OnOk result (AddsHanded (Some (log_in self.old)) (Some (handed_in self.old)) rooms.now (Some (handed_in self.new))) }
+        ensures err { OnErr result ((log_in self.new ≡ log_in self.old) × (handed_in self.new ≡ handed_in self.old)) }
         // The events come in order, and none is lost where a call fails.
         ensures gives { IfOk result (λ next. Gives (left_in self.old) next (left_in self.new)) }
         ensures kept { OnErr result (left_in self.new ≡ left_in self.old) }
@@ -170,7 +203,7 @@ impl World for MemoryWorld {
             self.failures += 1;
             return Err(WorldFault {});
         }
-        match self.give() {
+        match self.take_call(rooms) {
             Ok(next) => Ok(next),
             Err(_) => {
                 self.failures += 1;
@@ -185,6 +218,7 @@ impl World for MemoryWorld {
         ensures failures { self.new.failures ≡ (if is_ok result then self.old.failures else self.old.failures + 1) }
         ensures log { OnOk result ((before : List Step) (step : Step) → log_in self.old ≡ before ++ step ∷ [] → log_in self.new ≡ before ++ with_outputs step (output_of output.now ∷ []) ∷ []) }
         ensures err { OnErr result (log_in self.new ≡ log_in self.old) }
+        ensures handed { handed_in self.new ≡ handed_in self.old }
         ensures kept { left_in self.new ≡ left_in self.old }
         ensures due { OnOk result (is_due self.old.fails_in ≡ false) }
         ensures fewer { self.new.fails_in ≡ one_fewer self.old.fails_in }

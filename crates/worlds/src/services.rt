@@ -1,6 +1,6 @@
 //! A gateway before a world.
 
-ghost use Rattle.std.specs.Prelude.{◌≡◌, ◌+◌, ◌<◌, ◌≤◌, ◌^◌, ◌∷◌, ◌++◌, [], List, Some, reverse, map, true, false, IsOkAnd, IsErrOf, OnOk, OnErr, IfOk, IfErr};
+ghost use Rattle.std.specs.Prelude.{◌≡◌, ◌+◌, ◌<◌, ◌^◌, ◌||◌, ◌∷◌, ◌++◌, [], List, Option, Some, length, reverse, true, false, IsOkAnd, IsErrOf, OnOk, OnErr, IfOk, IfErr};
 ghost use Rattle.model.specs.Logs.{Step, Output as Put};
 ghost use Rattle.std.specs.List.{list_any};
 ghost use Rattle.model.specs.Setup.{Setup};
@@ -8,10 +8,10 @@ ghost use Rattle.outputs.specs.Views.{event_of, output_of, outputs_of};
 ghost use Rattle.policy.specs.Moves.{Move};
 ghost use Rattle.policy.specs.State.{tape_of};
 ghost use Rattle.gateway.specs.Setups.{setup_of, IsServable};
-ghost use Rattle.gateway.specs.Stands.{Stands};
-ghost use Rattle.worlds.specs.Worlds.{AddsRun, AddsFront, AddsFrontTo, AddsRefused, AddsRefusedTo, SaysEnd, ends, with_outputs, came, closes, has_closed, Serves, StandsSomewhere};
-ghost use Rattle.worlds.specs.Open.{open_with, open_after, open_behind, without};
-ghost use Rattle.model.specs.Admission.{is_admitted, room};
+ghost use Rattle.gateway.specs.Stands.{Stands, StandsNext};
+ghost use Rattle.gateway.specs.Rooms.{AreRooms, turns, fails};
+ghost use Rattle.worlds.specs.Worlds.{Handed, AddsRun, AddsFront, AddsFrontTo, AddsRefused, AddsRefusedTo, AreAllHanded, Hands, HandsTo, SaysEnd, ends, with_outputs, came, closes, has_closed, Serves, StandsSomewhere};
+ghost use Rattle.model.specs.Admission.{is_admitted};
 
 use crate::world::{Next, World, WorldFault};
 use gateway::{Config, Event, Gateway, Output};
@@ -46,6 +46,7 @@ fn apply_all<W: World>(world: &mut W, outputs: &[Output]) -> Result<(), WorldFau
     ensures failures { OnOk result (W.failures world.new ≡ W.failures world.old) }
     ensures failed { OnErr result (W.failures world.new ≡ W.failures world.old + 1) }
     ensures log { OnOk result ((before : List Step) (step : Step) → W.log world.old ≡ Some (before ++ step ∷ []) → W.log world.new ≡ Some (before ++ with_outputs step (outputs_of outputs.now) ∷ [])) }
+    ensures handed { W.handed world.new ≡ W.handed world.old }
     // Some of the first were applied, and the one that failed isn't in the log.
     ensures front { OnErr result ((before : List Step) (step : Step) → W.log world.old ≡ Some (before ++ step ∷ [])
         → (done : List Put) × (more : List Put) × (outputs_of outputs.now ≡ done ++ more) × (W.log world.new ≡ Some (before ++ with_outputs step done ∷ []))) }
@@ -58,73 +59,61 @@ fn apply_all<W: World>(world: &mut W, outputs: &[Output]) -> Result<(), WorldFau
     Ok(())
 }
 
-/// Notes which connections outputs open and close.
-fn note_outputs(outputs: &[Output], connections: &mut Vec<u32>) -> Result<(), AllocError>
-    ensures { OnOk result (connections.new.items ≡ open_behind (outputs_of outputs.now) connections.old.items) }
-{
-    for output in outputs {
-        note_output(output, connections)?;
-    }
-    Ok(())
-}
-
-/// Notes which connection an output opens or closes.
-fn note_output(output: &Output, connections: &mut Vec<u32>) -> Result<(), AllocError>
-    ensures { OnOk result (connections.new.items ≡ open_with (output_of output.now) connections.old.items) }
-{
-    match output {
-        Output::Open(k, _) => connections.push(*k)?,
-        Output::Close(k) => forget(*k, connections),
-        Output::Client(_) | Output::Up(_, _) | Output::CloseClient => {}
-    }
-    Ok(())
-}
-
-/// Notes which connection is open no more behind an event.
-fn note_event(event: &Event, connections: &mut Vec<u32>)
-    ensures { connections.new.items ≡ open_after (event_of event.now) connections.old.items }
+/// Whether the connection to an upstream fails by an event.
+fn is_failure(event: &Event) -> bool
+    ensures { result ≡ fails (event_of event.now) }
 {
     match event {
-        Event::UpFailed(k) => forget(*k, connections),
+        Event::UpFailed(_) => true,
         Event::Client(_)
         | Event::ClientEnd
         | Event::ClientTook(_)
         | Event::Up(_, _)
         | Event::UpEnd(_)
-        | Event::UpTook(_, _) => {}
+        | Event::UpTook(_, _) => false,
     }
 }
 
-/// A connection is open no more.
-fn forget(k: u32, connections: &mut Vec<u32>)
-    ensures { connections.new.items ≡ without k connections.old.items }
+/// Whether outputs open a connection to an upstream, or close one.
+fn turn_connections(outputs: &[Output]) -> bool
+    ensures { result ≡ list_any (λ output. turns (output_of output)) outputs.now }
 {
-    connections.retain(|other| *other != k);
+    outputs.iter().any(|output| matches!(output, Output::Open(_, _) | Output::Close(_)))
 }
 
-/// The connections that are open, each with the most octets of it that may come in one event.
-fn rooms_of(
-    alloc: Global,
+/// Whether a step opens or closes connections to upstreams.
+fn changes_rooms(event: &Event, outputs: &[Output]) -> bool
+    ensures { result ≡ (fails (event_of event.now) || list_any (λ output. turns (output_of output)) outputs.now) }
+{
+    is_failure(event) || turn_connections(outputs)
+}
+
+/// Brings the rooms of the open connections behind a step, with what was put out for its event. They are listed anew only where it
+/// opened or closed one.
+fn note_step(
     gateway: &Gateway,
-    connections: &[u32],
-) -> Result<Vec<(u32, usize)>, AllocError>
-    ensures { IfOk result (λ rooms. (setup : Setup) (log : List Step) (run : List Move) → Stands setup gateway.now log run → rooms.items ≡ map (λ k. (k, room k (tape_of run))) connections.now) }
+    event: &Event,
+    outputs: &[Output],
+    rooms: &mut Vec<(u32, usize)>,
+) -> Result<(), AllocError>
+    ensures { OnOk result ((setup : Setup) (log : List Step) (run : List Move) (next : StandsNext setup gateway.now log run (event_of event.now) (outputs_of outputs.now))
+        → AreRooms (tape_of run) rooms.old.items → AreRooms (tape_of (next.segment ++ run)) rooms.new.items) }
 {
-    let mut rooms = Vec::new(alloc);
-    for k in connections {
-        rooms.push((*k, gateway.room(*k)))?;
+    if changes_rooms(event, outputs) {
+        gateway.list_rooms(rooms)
+    } else {
+        Ok(())
     }
-    Ok(rooms)
 }
 
-/// Takes an event of the world, and applies what is put out for it. The answer is whether the client was closed. The connections
-/// that are open behind it are noted.
+/// Takes an event of the world, and applies what is put out for it. The answer is whether the client was closed. The rooms are those
+/// behind it then.
 fn take_event<W: World>(
     alloc: Global,
     gateway: &mut Gateway,
     world: &mut W,
     event: &Event,
-    connections: &mut Vec<u32>,
+    rooms: &mut Vec<(u32, usize)>,
 ) -> Result<bool, ServeFault>
     requires failures { W.failures world.old + 1 < 2 ^ 64 }
     requires stands { (setup : Setup) × StandsSomewhere setup gateway.old }
@@ -132,12 +121,15 @@ fn take_event<W: World>(
     ensures failures { OnOk result (W.failures world.new ≡ W.failures world.old) }
     ensures stands { OnOk result ((setup : Setup) → StandsSomewhere setup gateway.old → StandsSomewhere setup gateway.new) }
     ensures world { IsErrOf result ServeFault.World → W.failures world.old < W.failures world.new }
-    ensures log { IfOk result (λ closed. (setup : Setup) (before added : List Step) (run : List Move) → W.log world.old ≡ Some (before ++ added ++ came event.now ∷ [])
-        → Stands setup gateway.old (reverse added) run → has_closed added ≡ false → Serves setup closed (W.log world.new) gateway.new before) }
+    ensures log { IfOk result (λ closed. (setup : Setup) (before added : List Step) (run : List Move) (old : Option (List Handed)) → W.log world.old ≡ Some (before ++ added ++ came event.now ∷ [])
+        → Stands setup gateway.old (reverse added) run → has_closed added ≡ false → AreRooms (tape_of run) rooms.old.items → AreAllHanded setup (length before) added old (W.handed world.old)
+        → Serves setup closed (W.log world.new) gateway.new rooms.new.items old (W.handed world.new) before) }
     ensures front { IsErrOf result ServeFault.World → (setup : Setup) (before added : List Step) (run : List Move) → W.log world.old ≡ Some (before ++ added ++ came event.now ∷ [])
         → Stands setup gateway.old (reverse added) run → AddsFrontTo setup before (W.log world.new) }
     ensures refused { IsErrOf result ServeFault.NotAdmitted → (W.log world.new ≡ W.log world.old)
         × ((setup : Setup) (log : List Step) (run : List Move) → Stands setup gateway.old log run → is_admitted (tape_of run) (event_of event.now) ≡ false) }
+    ensures adds { OnErr result ((before : List Step) → W.log world.old ≡ Some (before ++ came event.now ∷ []) → (outputs : List Put) × (W.log world.new ≡ Some (before ++ with_outputs (came event.now) outputs ∷ []))) }
+    ensures handed { W.handed world.new ≡ W.handed world.old }
 {
     if !gateway.admits(event) {
         return Err(ServeFault::NotAdmitted);
@@ -146,8 +138,7 @@ fn take_event<W: World>(
     if gateway.step(event, &mut outputs).is_err() {
         return Err(ServeFault::Memory);
     }
-    note_event(event, connections);
-    if note_outputs(&outputs, connections).is_err() {
+    if note_step(gateway, event, &outputs, rooms).is_err() {
         return Err(ServeFault::Memory);
     }
     match apply_all(world, &outputs) {
@@ -161,7 +152,7 @@ fn take_turn<W: World>(
     alloc: Global,
     gateway: &mut Gateway,
     world: &mut W,
-    connections: &mut Vec<u32>,
+    rooms: &mut Vec<(u32, usize)>,
 ) -> Result<Option<Ended>, ServeFault>
     requires calls { W.calls world.old + 1 < 2 ^ 64 }
     requires failures { W.failures world.old + 1 < 2 ^ 64 }
@@ -171,18 +162,20 @@ fn take_turn<W: World>(
     ensures stands { OnOk result ((setup : Setup) → StandsSomewhere setup gateway.old → StandsSomewhere setup gateway.new) }
     ensures world { IsErrOf result ServeFault.World → W.failures world.old < W.failures world.new }
     ensures over { IfOk result (λ ended. SaysEnd ended (W.over world.new)) }
-    ensures log { IfOk result (λ ended. (setup : Setup) (before : List Step) → Serves setup false (W.log world.old) gateway.old before → Serves setup (ends ended) (W.log world.new) gateway.new before) }
-    ensures front { IsErrOf result ServeFault.World → (setup : Setup) (before : List Step) → Serves setup false (W.log world.old) gateway.old before → AddsFrontTo setup before (W.log world.new) }
-    ensures refused { IsErrOf result ServeFault.NotAdmitted → (setup : Setup) (before : List Step) → Serves setup false (W.log world.old) gateway.old before → AddsRefusedTo setup before (W.log world.new) }
+    ensures log { IfOk result (λ ended. (setup : Setup) (before : List Step) (old : Option (List Handed)) → Serves setup false (W.log world.old) gateway.old rooms.old.items old (W.handed world.old) before
+        → Serves setup (ends ended) (W.log world.new) gateway.new rooms.new.items old (W.handed world.new) before) }
+    ensures front { IsErrOf result ServeFault.World → (setup : Setup) (before : List Step) (old : Option (List Handed)) → Serves setup false (W.log world.old) gateway.old rooms.old.items old (W.handed world.old) before
+        → AddsFrontTo setup before (W.log world.new) }
+    ensures refused { IsErrOf result ServeFault.NotAdmitted → (setup : Setup) (before : List Step) (old : Option (List Handed)) → Serves setup false (W.log world.old) gateway.old rooms.old.items old (W.handed world.old) before
+        → AddsRefusedTo setup before (W.log world.new) }
+    ensures hands { OnErr result ((setup : Setup) (before : List Step) (old : Option (List Handed)) → Serves setup false (W.log world.old) gateway.old rooms.old.items old (W.handed world.old) before
+        → HandsTo setup before old (W.log world.new) (W.handed world.new)) }
 {
-    let Ok(rooms) = rooms_of(alloc, gateway, connections) else {
-        return Err(ServeFault::Memory);
-    };
-    match world.next(&rooms) {
+    match world.next(rooms) {
         Err(_) => Err(ServeFault::World),
         Ok(Next::Nothing) => Ok(None),
         Ok(Next::Over) => Ok(Some(Ended::Over)),
-        Ok(Next::Happened(event)) => match take_event(alloc, gateway, world, &event, connections) {
+        Ok(Next::Happened(event)) => match take_event(alloc, gateway, world, &event, rooms) {
             Ok(true) => Ok(Some(Ended::Closed)),
             Ok(false) => Ok(None),
             Err(fault) => Err(fault),
@@ -200,7 +193,7 @@ fn closes_client(outputs: &[Output]) -> bool
 }
 
 /// Serves a world for some turns with a new gateway. Each turn calls the world's `next` once, with the open connections by rising
-/// number; an event is taken, and what is put out for it is applied in order. That nothing comes as yet is a turn too.
+/// number, each with how many octets of it may come in one event; an event is taken, and what is put out for it is applied in order. That nothing comes as yet is a turn too.
 ///
 /// Of what that adds to a log that the world tells holds what `gateway::run` promises. `Closed` is answered just where the client was
 /// closed, `Turns` only after all turns, and `Over` only where the world said so; `World` only where a call of the world failed, and then
@@ -219,15 +212,17 @@ pub fn serve<W: World>(
     ensures world { IsErrOf result ServeFault.World → W.failures world.old < W.failures world.new }
     ensures front { IsErrOf result ServeFault.World → AddsFront (setup_of config.now) (W.log world.old) (W.log world.new) }
     ensures refused { IsErrOf result ServeFault.NotAdmitted → AddsRefused (setup_of config.now) (W.log world.old) (W.log world.new) }
+    // What `next` was handed is right, whatever the answer is.
+    ensures hands { Hands (setup_of config.now) (W.log world.old) (W.handed world.old) (W.log world.new) (W.handed world.new) }
     ensures turns { IsOkAnd result (λ ended. ended ≡ Ended.Turns) → W.calls world.new ≡ W.calls world.old + turns }
     ensures over { IsOkAnd result (λ ended. ended ≡ Ended.Over) → W.over world.new ≡ true }
 {
     let Ok(mut gateway) = Gateway::new(alloc, config) else {
         return Err(ServeFault::Memory);
     };
-    let mut connections = Vec::new(alloc);
+    let mut rooms = Vec::new(alloc);
     for _turn in 0..turns {
-        match take_turn(alloc, &mut gateway, world, &mut connections) {
+        match take_turn(alloc, &mut gateway, world, &mut rooms) {
             Ok(None) => {}
             Ok(Some(ended)) => return Ok(ended),
             Err(fault) => return Err(fault),

@@ -60,6 +60,8 @@ impl World for Quiet {
 
     ghost log = { λ _. None };
 
+    ghost handed = { λ _. None };
+
     fn next(&mut self, _rooms: &[(u32, usize)]) -> Result<Next, WorldFault> {
         let turn = self.turn;
         self.turn += 1;
@@ -251,6 +253,21 @@ fn responses_go_back_once_they_are_whole(rt: HostRuntime) -> Result<(), Fail> {
     let mut short = exchange(alloc, &CHUNKS[..2])?;
     short.push(Event::UpEnd(1))?;
     assert_puts_out(&rt, alloc, short, BAD_GATEWAY)
+}
+
+#[test]
+fn each_turn_is_handed_the_open_connections(rt: HostRuntime) -> Result<(), Fail> {
+    let alloc = rt.alloc();
+    let config = one_route(alloc, b"")?;
+    let mut world = MemoryWorld::new(alloc, exchange(alloc, &[ANSWER])?, None);
+    assert_eq!(rt; serve(alloc, &config, &mut world, 9), Ok(Ended::Over));
+    let wanted: [(usize, &[(u32, usize)]); 3] = [(0, &[]), (1, &[(1, 65536)]), (2, &[])];
+    assert_eq!(rt; world.handed().len(), wanted.len());
+    for ((steps, rooms), (wanted_steps, wanted_rooms)) in world.handed().iter().zip(&wanted) {
+        assert_eq!(rt; *steps, *wanted_steps);
+        assert_eq!(rt; rooms.as_slice(), *wanted_rooms);
+    }
+    Ok(())
 }
 
 #[test]

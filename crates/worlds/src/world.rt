@@ -3,7 +3,7 @@
 ghost use Rattle.std.specs.Prelude.{◌≡◌, ◌+◌, ◌<◌, ◌^◌, ◌∷◌, ◌++◌, [], ℕ, Bool, true, List, Option, Some, is_ok, IfOk, OnOk, OnErr, if◌then◌else◌};
 ghost use Rattle.model.specs.Logs.{Step};
 ghost use Rattle.outputs.specs.Views.{output_of};
-ghost use Rattle.worlds.specs.Worlds.{AddsEvent, SaysOver, with_outputs};
+ghost use Rattle.worlds.specs.Worlds.{Handed, AddsEvent, AddsHanded, SaysOver, with_outputs};
 
 use outputs::{Event, Output};
 use std::alloc::{AllocError, AllocFailed};
@@ -56,6 +56,9 @@ pub trait World {
     /// The events that came and what was put out for each, the oldest first, where a world stores them.
     ghost log: { Self → Option (List Step) };
 
+    /// What each call of `next` was handed that didn't fail, the first one first, where a world stores it.
+    ghost handed: { Self → Option (List Handed) };
+
     /// What comes next. `rooms` are the numbers of the open connections to upstreams, each with the most octets of it that may
     /// come in one event.
     fn next(&mut self, rooms: &[(u32, usize)]) -> Result<Next, WorldFault>
@@ -65,7 +68,8 @@ pub trait World {
         ensures failures { failures self.new ≡ (if is_ok result then failures self.old else failures self.old + 1) }
         ensures over { IfOk result (λ next. SaysOver next (over self.new)) }
         ensures log { IfOk result (λ next. AddsEvent (log self.old) next (log self.new)) }
-        ensures err { OnErr result (log self.new ≡ log self.old) };
+        ensures handed { OnOk result (AddsHanded (log self.old) (handed self.old) rooms.now (handed self.new)) }
+        ensures err { OnErr result ((log self.new ≡ log self.old) × (handed self.new ≡ handed self.old)) };
 
     /// Takes an output.
     fn apply(&mut self, output: &Output) -> Result<(), WorldFault>
@@ -73,5 +77,6 @@ pub trait World {
         ensures calls { calls self.new ≡ calls self.old }
         ensures failures { failures self.new ≡ (if is_ok result then failures self.old else failures self.old + 1) }
         ensures log { OnOk result ((before : List Step) (step : Step) → log self.old ≡ Some (before ++ step ∷ []) → log self.new ≡ Some (before ++ with_outputs step (output_of output.now ∷ []) ∷ [])) }
-        ensures err { OnErr result (log self.new ≡ log self.old) };
+        ensures err { OnErr result (log self.new ≡ log self.old) }
+        ensures handed { handed self.new ≡ handed self.old };
 }

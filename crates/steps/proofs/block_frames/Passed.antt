@@ -1,70 +1,54 @@
 -- What comes of a frame with a fragment, by the judgement's answer and what was done.
-use Rattle.std.proofs.Common.{◌≡◌, ℕ, ◌<◌, ◌≤◌, ◌+◌, ◌⊎◌, Bool, true, false, not, ◌&&◌, ◌||◌, ◌==◌, if◌then◌else◌, List, [], ◌∷◌, ◌++◌, append-nil, length, Option, Some, None, refl, sym, ◌∙◌, ap, subst, inl, inr}
-use Rattle.std.specs.Prelude.{is_none, is_some}
-use Rattle.model.specs.Messages.{Field}
+use Rattle.std.proofs.Common.{◌≡◌, ℕ, ◌<◌, ◌≤◌, ◌+◌, ◌⊎◌, Bool, true, false, ◌||◌, ◌==◌, if◌then◌else◌, List, [], ◌∷◌, ◌++◌, length, Option, Some, None, refl, sym, ◌∙◌, ap, subst, inl, inr}
 use Rattle.model.specs.Frames.{Frame, rst_stream_kind, data_kind}
-use Rattle.model.specs.Http2.{HasLength}
 use Rattle.model.specs.Logs.{Output}
 use Rattle.model.specs.Setup.{Setup}
-use Rattle.model.specs.Setup.Passing.{Whole as WholePassing}
 use Rattle.model.specs.Tables.{Table}
 use Rattle.model.specs.StreamStates.{most_streams}
 use Rattle.model.specs.Tapes.{Note, Noted}
 use Rattle.model.specs.Tapes.Note.{Fields}
 use Rattle.model.specs.Tapes.Entry.{Came}
-use Rattle.model.specs.Causes.{Cause, reset_code}
-use Rattle.model.specs.Courses.{cause_of_block, first_of_both}
-use Rattle.model.specs.Decoding.{Partial, is_read}
+use Rattle.model.specs.Causes.{Cause}
+use Rattle.model.specs.Courses.{first_of_both}
+use Rattle.model.specs.Decoding.{is_read}
 use Rattle.model.specs.Errors as errors
 use Rattle.model.specs.ErrorClause.{is_fatal, rst_stream}
-use Rattle.model.specs.Lifetimes.{opens_by, may_open}
-use Rattle.conduct.specs.Summary.{Stream as Kept, Brief, Summary, carried_in}
-use Rattle.conduct.specs.Judging.{is_over_in, completed_in}
+use Rattle.model.specs.Lifetimes.{opens_by}
+use Rattle.conduct.specs.Summary.{Stream as Kept, Brief, Summary}
+use Rattle.conduct.specs.Judging.{completed_in}
 use Rattle.conduct.specs.Owing.{fault_in, last_farewell_in, owes_in}
 use Rattle.conduct.specs.Rows.{Row, ids_of, find}
 use Rattle.conduct.specs.Rows.Slot.{Over}
-use Rattle.conduct.specs.Book.{Book, summary_in, book_after}
+use Rattle.conduct.specs.Book.{Book, summary_in}
 use Rattle.conduct.specs.Tidy.{AreKept}
-use Rattle.conduct.specs.Quiet.{sending}
-use Rattle.conduct.proofs.Tidy.{kept_behind_entry}
-use Rattle.conduct.proofs.Wanted.{bears}
-use Rattle.causes.specs.Views.{cause_of}
 use Rattle.offering.specs.Rule.{found_by}
-use Rattle.serving.specs.State.Due.{Nothing}
 use Rattle.streams_kept.specs.Asked.{has, is_active, changed}
+use Rattle.streams_kept.specs.Sending.{is_served}
 use Rattle.streams_kept.proofs.Changes.{same_ids}
 use Rattle.judgement.specs.Inbound.{Inbound, book_of, told_of}
-use Rattle.judgement.specs.Judgement.{fault_told}
-use Rattle.judgement.specs.Blocks.{SaysOf}
-use Rattle.judgement.specs.Fragments.{IsOfBlock, IsFragmentJudged, IsNotedFailed, IsNotedTaken, noted_behind}
-use Rattle.judgement.specs.declared.answers.Fault.TheVariants as fault
+use Rattle.judgement.specs.Fragments.{IsOfBlock, IsFragmentJudged}
 use Rattle.judgement.specs.declared.answers.BlockJudged.{BlockJudged}
-use Rattle.judgement.specs.declared.answers.BlockJudged.TheVariants as judged
-use Rattle.judgement.proofs.SendingBooks.{reset_leads}
+use Rattle.upstreams.specs.Connections.{lives}
 use Rattle.upstreams.specs.Requests.{due_in}
 use Rattle.upstreams.specs.declared.held.Outgoing.{Outgoing}
-use Rattle.policy.specs.Moves.{Move}
-use Rattle.policy.specs.State.{State}
-use Rattle.policy.specs.Steps.{told_by}
 use Rattle.policy.specs.Rule.{added_in}
-use Rattle.relay.specs.View.{View, square, Leads}
+use Rattle.relay.specs.View.{View, square}
 use Rattle.relay.specs.Rest.{IsAtRest, NoneCut}
 use Rattle.relay.specs.Bringing.{Brings}
-use Rattle.relay.specs.Gains.{IsBlockGain}
-use Rattle.relay.proofs.Answered.{part_gain, part_owes, whole_gain, whole_owes, block_owes_at_fault, block_failed, caused_by, not_reset, not_data, head_none}
-use Rattle.relay.proofs.Answered as answered
-use Rattle.relay.proofs.Owing.{idle_no_cause, not_caused, no_farewell, no_more}
+use Rattle.relay.proofs.Answered.{block_owes_at_fault, block_failed}
 use Rattle.relay.proofs.Gaining.{caused}
-use Rattle.relay.proofs.Coming.{no_outside, inbound_in, inbound_behind}
-use Rattle.relay.proofs.Waits.{IsGone, behind_rows}
+use Rattle.relay.proofs.Coming.{no_outside, inbound_behind}
+use Rattle.relay.proofs.Waits.{behind_rows}
+use Rattle.steps.specs.Closings.{IsAbout}
+use Rattle.steps.proofs.Closings.{about_changed, about_then, frame_served}
 use Rattle.steps.specs.block_frames.Following.{followed, farewell_behind, farewell_frames, with_farewell, put_farewell}
-use Rattle.steps.specs.block_frames.Acting.{IsActed, IsFollowed, IsReset, Goes}
-use Rattle.steps.specs.block_frames.Taken.{IsPassed, IsFatalFrame, IsBlockTaken}
+use Rattle.steps.specs.block_frames.Acting.{IsFollowed, IsReset}
+use Rattle.steps.specs.block_frames.Taken.{IsFatalFrame, IsBlockTaken}
 use Rattle.steps.specs.declared.block_frames.taking.BlockTaken.{BlockTaken}
 use Rattle.steps.specs.declared.block_frames.taking.BlockTaken.TheVariants as taken
 use Rattle.steps.proofs.block_frames.Lists.{cut_followed, cut_without}
 use Rattle.steps.proofs.block_frames.Streams.{ids_behind}
-use Rattle.steps.proofs.block_frames.Before.{farewell_is, left_is, kept_rows, few}
+use Rattle.steps.proofs.block_frames.Before.{farewell_is}
 use Rattle.steps.proofs.block_frames.Cases.{brings_followed, brings_reset, not_to_open}
 
 module _ (setup : Setup) (old : View) (rest : IsAtRest old) (frame : Frame) (mid : Inbound) (of : IsOfBlock frame) (kept : AreKept old.inbound.rows) (few_rows : length (ids_of old.inbound.rows) ≤ most_streams) (outputs : List Output) (small : frame.id < 2147483648) where
@@ -137,6 +121,19 @@ module _ (setup : Setup) (old : View) (rest : IsAtRest old) (frame : Frame) (mid
         by None b (inr e) = e
         by (Some cause) b e = refl
 
+    -- ---- other streams are served as before
+
+    module _ (fine : is_fatal (fault_in told (Came noted)) ≡ false) where
+      pub served_so : (other : ℕ) → (id == other) ≡ false → is_served behind.rows other ≡ is_served old.inbound.rows other
+      served_so other apart = frame_served setup (book_of no_outside old.inbound) noted fine kept other apart
+
+      pub about_so : (new : View) → new.inbound.rows ≡ behind.rows → lives new.upstreams.live ≡ lives old.upstreams.live → IsAbout id old new
+      about_so new rows live = record { served = λ other apart. ap (λ (rs : List Row). is_served rs other) rows ∙ served_so other apart; live = live }
+
+      pub reset_about : (new : View) → new.inbound.rows ≡ changed id (Over true) behind.rows → lives new.upstreams.live ≡ lives old.upstreams.live → IsAbout id old new
+      reset_about new rows live =
+          about_then id old (record old { inbound = behind }) new (about_so (record old { inbound = behind }) refl refl) (about_changed id (Over true) (record old { inbound = behind }) new rows live)
+
     -- ---- what is kept follows
 
     module _ (mild : is_fatal (fault_in told (Came noted)) ≡ false) where
@@ -153,6 +150,7 @@ module _ (setup : Setup) (old : View) (rest : IsAtRest old) (frame : Frame) (mid
             (subst (λ (i : Inbound). Brings setup old square outputs (Came noted) (followed id (record old { inbound = i })) (record square { owed = farewell_frames last }) outputs) (sym same)
             (brings_followed setup old rest noted is.next of mild is.is_noted is.read adds (farewell_frames last) owes (none_caused cause) outputs)))));
         none_cut = subst (λ (v : View). NoneCut v.offers) (sym acted.kept) (cut_followed (is_active mid.rows id) id old.offers rest.none_cut);
+        about = about_so mild new (ap (λ (v : View). v.inbound.rows) acted.kept ∙ ap (λ (i : Inbound). i.rows) same) (ap (λ (v : View). lives v.upstreams.live) acted.kept);
         ids = λ other there. opened_so new.inbound.rows (ap (λ (v : View). ids_of v.inbound.rows) acted.kept ∙ ap (λ (i : Inbound). ids_of i.rows) same) other there;
       }
 
@@ -173,6 +171,7 @@ module _ (setup : Setup) (old : View) (rest : IsAtRest old) (frame : Frame) (mid
             (block_owes_at_fault setup (book_of no_outside old.inbound) noted of few_rows (errors.Fault.Stream code) refl fault ∙ ap (λ (fs : List Frame). fs ++ rst_stream id code ∷ []) (farewell same_rows))
             (not_to_open setup old rest noted is.next of mild is.is_noted is.read (errors.Fault.Stream code) fault) small outputs)))));
         none_cut = subst (λ (v : View). NoneCut v.offers) (sym acted.kept) (cut_without id old.offers rest.none_cut);
+        about = reset_about mild new (ap (λ (v : View). v.inbound.rows) acted.kept ∙ ap (λ (i : Inbound). i.rows) same) (ap (λ (v : View). lives v.upstreams.live) acted.kept);
         ids = λ other there. opened_so new.inbound.rows (ap (λ (v : View). ids_of v.inbound.rows) acted.kept ∙ same_rows) other there;
       }
         where

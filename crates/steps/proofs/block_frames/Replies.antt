@@ -1,5 +1,5 @@
 -- The gateway answers a request itself, as the judgement says: all that comes of it.
-use Rattle.std.proofs.Common.{◌≡◌, ℕ, ◌<◌, ◌≤◌, ◌+◌, ◌⊎◌, Bool, true, false, not, ◌&&◌, ◌||◌, ◌==◌, if◌then◌else◌, List, [], ◌∷◌, ◌++◌, append-nil, length, Option, Some, None, refl, sym, ◌∙◌, ap, subst, inl, inr}
+use Rattle.std.proofs.Common.{◌≡◌, ℕ, ◌<◌, ◌≤◌, ◌+◌, ◌⊎◌, Bool, true, false, not, List, [], ◌++◌, append-nil, length, Option, Some, None, refl, sym, ◌∙◌, ap, subst, inl, inr}
 use Rattle.std.proofs.lemmas.Bool.{and_parts}
 use Rattle.model.specs.Messages.{Field}
 use Rattle.model.specs.Frames.{Frame, spell}
@@ -8,10 +8,9 @@ use Rattle.model.specs.Logs.Output.{ToClient}
 use Rattle.model.specs.Setup.{Setup}
 use Rattle.model.specs.Setup.Passing.{Whole as WholePassing}
 use Rattle.model.specs.StreamStates.{most_streams}
-use Rattle.model.specs.Tapes.{Note, Noted, put}
+use Rattle.model.specs.Tapes.{Noted, put}
 use Rattle.model.specs.Tapes.Note.{Fields}
 use Rattle.model.specs.Tapes.Entry.{Came}
-use Rattle.model.specs.Causes as model
 use Rattle.model.specs.Causes.{Cause, reset_code}
 use Rattle.model.specs.Courses.{first_of_both}
 use Rattle.model.specs.Decoding.{Partial}
@@ -22,10 +21,10 @@ use Rattle.causes.specs.Views.{cause_of}
 use Rattle.causes.specs.declared.cause.Cause.{Cause as Why}
 use Rattle.conduct.specs.Summary.{Stream as Kept, Summary}
 use Rattle.conduct.specs.Judging.{is_over_in, completed_in}
-use Rattle.conduct.specs.Owing.{fault_in, owes_in}
-use Rattle.conduct.specs.Rows.{Row, ids_of, find}
+use Rattle.conduct.specs.Owing.{owes_in}
+use Rattle.conduct.specs.Rows.{ids_of, find}
 use Rattle.conduct.specs.Rows.Slot.{Over}
-use Rattle.conduct.specs.Book.{Book, summary_in}
+use Rattle.conduct.specs.Book.{Book}
 use Rattle.conduct.specs.Tidy.{AreKept}
 use Rattle.offering.specs.State as offering
 use Rattle.offering.specs.Rule.{found_by}
@@ -35,6 +34,7 @@ use Rattle.judgement.specs.Inbound.{Inbound, book_of, told_of}
 use Rattle.judgement.specs.Blocks.{SaysOf}
 use Rattle.judgement.specs.Fragments.{IsOfBlock, IsFragmentJudged}
 use Rattle.judgement.specs.declared.answers.BlockJudged.TheVariants as judged
+use Rattle.upstreams.specs.Connections.{lives}
 use Rattle.upstreams.specs.Requests.{due_in}
 use Rattle.upstreams.specs.declared.held.Outgoing.{Outgoing}
 use Rattle.policy.specs.Rule.{added_in}
@@ -51,7 +51,7 @@ use Rattle.steps.specs.declared.block_frames.taking.BlockTaken.TheVariants as ta
 use Rattle.steps.proofs.block_frames.Before.{left_is}
 use Rattle.steps.proofs.block_frames.Cases.{brings_replied, brings_reset}
 use Rattle.steps.proofs.block_frames.Lists.{cut_followed, cut_without, cut_replied, cut_begun}
-use Rattle.steps.proofs.block_frames.Passed.{farewell, opened_so}
+use Rattle.steps.proofs.block_frames.Passed.{farewell, opened_so, about_so, reset_about}
 use Rattle.steps.proofs.block_frames.Streams.{found_behind}
 use Rattle.steps.proofs.block_frames.Requests.{active}
 
@@ -130,6 +130,7 @@ module _ (setup : Setup) (whole : setup.passing ≡ WholePassing) (old : View) (
         (subst (λ (l : Option ℕ). Brings setup old square outputs (Came noted) (target behind) (record square { owed = farewell_frames l }) outputs) (sym acted.goes.1)
         (brings_replied setup old rest noted is.next of (ap is_fatal is.judged.faultless) is.is_noted is.read none_gained (farewell_frames last) cause (owed_so ∙ none) now_caused live outputs))));
     none_cut = subst (λ (v : View). NoneCut v.offers) (sym (acted.kept ∙ ap target same)) cut;
+    about = about_so setup old rest frame mid of kept few_rows outputs small (judged.Answered why) is (ap is_fatal is.judged.faultless) new (ap (λ (v : View). v.inbound.rows) acted.kept ∙ ap (λ (i : Inbound). i.rows) same) (ap (λ (v : View). lives v.upstreams.live) acted.kept);
     ids = λ other there. opened_so setup old rest frame mid of kept few_rows outputs small (judged.Answered why) is new.inbound.rows (ap (λ (v : View). ids_of v.inbound.rows) acted.kept ∙ same_rows) other there;
   }
     where
@@ -156,6 +157,7 @@ module _ (setup : Setup) (whole : setup.passing ≡ WholePassing) (old : View) (
         (brings_reset setup old rest noted is.next of (ap is_fatal is.judged.faultless) is.is_noted is.read none_gained last code
         (owed_so ∙ ap (λ b. farewell_frames last ++ reset_for id b None (Some cause)) out ∙ ap (λ (o : Option ℕ). farewell_frames last ++ Rattle.model.specs.ErrorClause.reset_with id o) coded) known small outputs))));
     none_cut = subst (λ (v : View). NoneCut v.offers) (sym acted.kept) (cut_without id old.offers rest.none_cut);
+    about = reset_about setup old rest frame mid of kept few_rows outputs small (judged.Answered why) is (ap is_fatal is.judged.faultless) new (ap (λ (v : View). v.inbound.rows) acted.kept ∙ ap (λ (i : Inbound). changed id (Over true) i.rows) same) (ap (λ (v : View). lives v.upstreams.live) acted.kept);
     ids = λ other there. opened_so setup old rest frame mid of kept few_rows outputs small (judged.Answered why) is new.inbound.rows (ap (λ (v : View). ids_of v.inbound.rows) acted.kept ∙ same_ids id (Over true) mid.rows ∙ same_rows) other there;
   }
     where

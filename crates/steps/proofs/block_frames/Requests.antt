@@ -1,28 +1,26 @@
 -- A request begins, or ends with trailers, as the judgement says: all that comes of it.
-use Rattle.std.proofs.Common.{◌≡◌, ℕ, ◌<◌, ◌≤◌, ◌+◌, Bool, true, false, not, ◌&&◌, ◌||◌, ◌==◌, if◌then◌else◌, List, [], ◌∷◌, ◌++◌, append-nil, length, Option, Some, None, refl, sym, ◌∙◌, ap, subst}
+use Rattle.std.proofs.Common.{◌≡◌, ℕ, ◌<◌, ◌≤◌, ◌+◌, Bool, true, false, ◌&&◌, ◌||◌, ◌==◌, List, [], append-nil, length, Option, Some, None, refl, sym, ◌∙◌, ap, subst}
 use Rattle.std.proofs.lemmas.Bool.{eq-eqb}
 use Rattle.model.specs.Messages.{Field}
 use Rattle.model.specs.Messages.Item.{Block}
 use Rattle.model.specs.Frames.{Frame}
-use Rattle.model.specs.Http2.{HasLength}
 use Rattle.model.specs.Logs.{Output}
 use Rattle.model.specs.Setup.{Setup}
 use Rattle.model.specs.Setup.Passing.{Whole as WholePassing}
 use Rattle.model.specs.StreamStates.{most_streams}
-use Rattle.model.specs.Tapes.{Note, Noted}
+use Rattle.model.specs.Tapes.{Noted}
 use Rattle.model.specs.Tapes.Note.{Fields}
 use Rattle.model.specs.Tapes.Entry.{Came}
 use Rattle.model.specs.Causes.{Cause}
 use Rattle.model.specs.Courses.{first_of_both, cause_of_block}
 use Rattle.model.specs.Decoding.{Partial}
-use Rattle.model.specs.Errors as errors
 use Rattle.model.specs.ErrorClause.{is_fatal}
 use Rattle.model.specs.Lifetimes.{ends_by}
 use Rattle.conduct.specs.Summary.{Stream as Kept, Summary, carried_in}
 use Rattle.conduct.specs.Judging.{is_over_in, completed_in}
-use Rattle.conduct.specs.Owing.{fault_in, owes_in}
-use Rattle.conduct.specs.Rows.{Row, ids_of, find}
-use Rattle.conduct.specs.Book.{Book, summary_in}
+use Rattle.conduct.specs.Owing.{fault_in}
+use Rattle.conduct.specs.Rows.{ids_of, find}
+use Rattle.conduct.specs.Book.{Book}
 use Rattle.conduct.specs.Tidy.{AreKept}
 use Rattle.request_rules.specs.Heads.{HeadParts}
 use Rattle.serving.specs.State as serving
@@ -33,9 +31,10 @@ use Rattle.judgement.specs.Blocks.{SaysOf}
 use Rattle.judgement.specs.Fragments.{IsOfBlock, IsFragmentJudged}
 use Rattle.judgement.specs.declared.answers.BlockJudged.{BlockJudged}
 use Rattle.judgement.specs.declared.answers.BlockJudged.TheVariants as judged
+use Rattle.upstreams.specs.Kept as upstreams
 use Rattle.upstreams.specs.Kept.{Begins}
-use Rattle.upstreams.specs.Requests.{due_in, IsEndedFor, MayEndFor}
-use Rattle.upstreams.specs.declared.held.Outgoing.{Outgoing}
+use Rattle.upstreams.specs.Connections.{lives}
+use Rattle.upstreams.specs.Requests.{due_in, MayEndFor}
 use Rattle.policy.specs.Moves.{Move}
 use Rattle.policy.specs.State.{State}
 use Rattle.policy.specs.Rule.{Adds}
@@ -48,14 +47,14 @@ use Rattle.relay.proofs.Answered as answered
 use Rattle.relay.proofs.Coming.{no_outside, inbound_behind}
 use Rattle.relay.proofs.Waits.{waits_for, begun_active}
 use Rattle.steps.specs.block_frames.Following.{followed, farewell_behind, farewell_frames}
-use Rattle.steps.specs.block_frames.Acting.{IsActed, HasBegun, HasEnded}
+use Rattle.steps.specs.block_frames.Acting.{HasBegun, HasEnded}
 use Rattle.steps.specs.block_frames.Taken.{IsBlockTaken}
 use Rattle.steps.specs.declared.block_frames.taking.BlockTaken.{BlockTaken}
 use Rattle.steps.specs.declared.block_frames.taking.BlockTaken.TheVariants as taken
 use Rattle.steps.proofs.block_frames.Before.{left_is}
 use Rattle.steps.proofs.block_frames.Gains.{brings_begun, brings_ended, trailers_end}
 use Rattle.steps.proofs.block_frames.Lists.{cut_followed}
-use Rattle.steps.proofs.block_frames.Passed.{farewell, opened_so}
+use Rattle.steps.proofs.block_frames.Passed.{farewell, opened_so, about_so}
 use Rattle.steps.proofs.block_frames.Streams.{active_behind, found_behind, unended}
 
 module _ (setup : Setup) (whole : setup.passing ≡ WholePassing) (old : View) (rest : IsAtRest old) (frame : Frame) (mid : Inbound) (of : IsOfBlock frame) (kept : AreKept old.inbound.rows) (few_rows : length (ids_of old.inbound.rows) ≤ most_streams) (outputs : List Output) (small : frame.id < 2147483648)
@@ -123,6 +122,7 @@ module _ (setup : Setup) (whole : setup.passing ≡ WholePassing) (old : View) (
         (subst (λ b. Begins (followed id (record old { inbound = there })).upstreams id route head b request new.upstreams) (ended_is (judged.Begins head route) is is.judged.faultless says.0 says.2 says.1 says.3)
         (subst (λ (i : Inbound). Begins (followed id (record old { inbound = i })).upstreams id route head (find i.rows id).ended_by_client request new.upstreams) same acted.begun.0)) outputs)));
     none_cut = subst (λ (v : View). NoneCut v.offers) (sym acted.kept) (cut_followed (is_active mid.rows id) id old.offers rest.none_cut);
+    about = about_so setup old rest frame mid of kept few_rows outputs small (judged.Begins head route) is (ap is_fatal is.judged.faultless) new (ap (λ (v : View). v.inbound.rows) acted.kept ∙ ap (λ (i : Inbound). i.rows) same) (ap (λ (u : upstreams.State). lives u.live) acted.begun.0.kept);
     ids = λ other found. opened_so setup old rest frame mid of kept few_rows outputs small (judged.Begins head route) is new.inbound.rows (ap (λ (v : View). ids_of v.inbound.rows) acted.kept ∙ ap (λ (i : Inbound). ids_of i.rows) same) other found;
   }
     where
@@ -188,6 +188,7 @@ module _ (setup : Setup) (whole : setup.passing ≡ WholePassing) (old : View) (
           (whole_owes setup book noted_then of few_rows is.judged.faultless says_then.0 says_then.2 says_then.1 says_then.3 judged.Trailers says_then.4 ∙ append-nil _ ∙ farewell setup old rest frame mid of kept few_rows outputs small judged.Trailers is (ap (λ (i : Inbound). ids_of i.rows) same))
           (λ run s leads. waits_so run s leads says_then.4.0 says_then.4.1) request acted.whole.0 outputs (begun_active old.inbound.rows kept id says_then.4.0))));
       none_cut = subst (λ (v : View). NoneCut v.offers) (sym acted.kept) rest.none_cut;
+      about = about_so setup old rest frame mid of kept few_rows outputs small judged.Trailers is (ap is_fatal is.judged.faultless) new (ap (λ (v : View). v.inbound.rows) acted.kept ∙ ap (λ (i : Inbound). i.rows) same) (ap (λ (v : View). lives v.upstreams.live) acted.kept);
       ids = λ other found. opened_so setup old rest frame mid of kept few_rows outputs small judged.Trailers is new.inbound.rows (ap (λ (v : View). ids_of v.inbound.rows) acted.kept ∙ ap (λ (i : Inbound). ids_of i.rows) same) other found;
     }
       where

@@ -8,7 +8,7 @@ use Rattle.model.specs.Tapes.Entry.{Did}
 use Rattle.conduct.specs.Rule.{AreKnown}
 use Rattle.policy.specs.Answered.{IsAnswered}
 use Rattle.policy.specs.Coming.{IsReady}
-use Rattle.policy.specs.Ending.{farewell_by, frames_sent, closed_all, ending_of, Ends}
+use Rattle.policy.specs.Ending.{farewell_by, frames_sent, closed_all, by_number, ending_of, Ends}
 use Rattle.policy.specs.Moves.{Deed, Move, entry_of}
 use Rattle.policy.specs.Moves.Move.{Does, Settles}
 use Rattle.policy.specs.State.{State, conducts, tape_of}
@@ -48,7 +48,7 @@ pub is_ended : (setup : Setup) (run : List Move) (before : View) (s : State) (wh
 is_ended setup run before s why d leads rest by = record {
   ends = ends_by setup run s leads.stands (rests_are_ready setup run before s leads rest) why d by;
   so = λ known is knows. answered known run s d (leads.so known is (known_before known (ending_of s d) (Does d ∷ run) knows).0) (says_so known (tape_of run) s why d by);
-  own = Did CloseClient ∷ (closed_all s.requests.live ++ frames_sent (farewell_by s d));
-  begins = ap (λ (t : List Entry). Did CloseClient ∷ t) (sym (append_assoc (closed_all s.requests.live) (frames_sent (farewell_by s d)) (entry_of d ∷ [])));
+  own = Did CloseClient ∷ (closed_all (by_number s) ++ frames_sent (farewell_by s d));
+  begins = ap (λ (t : List Entry). Did CloseClient ∷ t) (sym (append_assoc (closed_all (by_number s)) (frames_sent (farewell_by s d)) (entry_of d ∷ [])));
   are_own = end_own s why d by;
 }

@@ -1,5 +1,5 @@
 -- What is put out where the connection ends with what came in.
-use Rattle.std.proofs.Common.{◌≡◌, ℕ, List, [], ◌∷◌, ◌++◌, Option, Some, None, sym, ◌∙◌, ap, subst, if◌then◌else◌, arith}
+use Rattle.std.proofs.Common.{◌≡◌, ℕ, List, [], ◌∷◌, ◌++◌, reverse, Option, Some, None, sym, ◌∙◌, ap, subst, if◌then◌else◌, arith}
 use Rattle.model.specs.Frames.{Frame, goaway}
 use Rattle.model.specs.Logs.{Output}
 use Rattle.model.specs.Logs.Act.{Close, CloseClient}
@@ -19,8 +19,8 @@ use Rattle.policy.specs.Moves.{Deed, Move, entry_of}
 use Rattle.policy.specs.Moves.Deed.{Breaks}
 use Rattle.policy.specs.State.{State, turns_of}
 use Rattle.policy.specs.Steps.{told_by, Stands}
-use Rattle.policy.specs.Ending.{farewell_for, farewell_by, frames_sent, closed_all, ending_on_tape, IsFatal}
-use Rattle.policy.proofs.EndingLives.{all_apart}
+use Rattle.policy.specs.Ending.{farewell_for, farewell_by, frames_sent, closed_all, by_number, ending_on_tape, IsFatal}
+use Rattle.policy.proofs.EndingLives.{AreApart, all_apart}
 use Rattle.policy.proofs.EndingOpens.{opens_none}
 use Rattle.policy.proofs.Placing.{turns_may}
 use Rattle.relay.specs.View.{View, square, Leads}
@@ -28,15 +28,13 @@ use Rattle.relay.specs.Performing.{put_all}
 use Rattle.relay.specs.Bringing.{AreOwn}
 use Rattle.relay.proofs.Bringing.{own_behind}
 use Rattle.relay.proofs.Performing.{put_behind}
-use Rattle.steps.specs.ending.Closing.{AreApart}
 use Rattle.steps.specs.ending.Reasons.{code_in, IsBy}
 use Rattle.steps.specs.declared.ending.reason.Ending.{Ending}
 use Rattle.steps.specs.declared.ending.reason.Ending.TheVariants.{Gone, Breach as Broken, Frame as Wrong}
-use Rattle.steps.proofs.ending.Closes.{apart_there}
 
 -- Open connections of a state to which moves led have numbers of their own.
 pub apart_in : (setup : Setup) (run : List Move) (s : State) → Stands setup run s → AreApart s.requests.live
-apart_in setup run s stands = subst (λ (x : State). AreApart x.requests.live) stands.is (apart_there (serving.state_of setup (turns_of setup run)).live (all_apart setup (turns_of setup run) (turns_may setup run stands.allowed)))
+apart_in setup run s stands = subst (λ (x : State). AreApart x.requests.live) stands.is (all_apart setup (turns_of setup run) (turns_may setup run stands.allowed))
 
 -- the farewell, if there is one
 abbrev pub farewells : ℕ → Option ℕ → List Frame
@@ -74,22 +72,22 @@ farewells_own last None = tt
 farewells_own last (Some code) = (record { kind = omega arith; flags = omega arith; id = omega arith; payload = omega arith }, tt)
 
 -- The end but for the deed is.
-pub end_own : (s : State) (why : Ending) (d : Deed) → IsBy s why d → AreOwn (Did CloseClient ∷ (closed_all s.requests.live ++ frames_sent (farewell_by s d)))
+pub end_own : (s : State) (why : Ending) (d : Deed) → IsBy s why d → AreOwn (Did CloseClient ∷ (closed_all (by_number s) ++ frames_sent (farewell_by s d)))
 end_own s why d by =
-    own_behind (closed_all s.requests.live) (frames_sent (farewell_by s d)) (closed_own s.requests.live)
+    own_behind (closed_all (by_number s)) (frames_sent (farewell_by s d)) (closed_own (by_number s))
     (subst (λ (frames : List Frame). AreOwn (frames_sent frames)) (sym (farewell_is s why d by)) (farewells_own (highest_in (told_by s).opened) (code_in why)))
 
 -- ---- what is put out
 
 -- All that is put out: the farewell, a close for each open connection, and that for the client.
 pub ends : (setup : Setup) (run : List Move) (s : State) (before kept : View) (why : Ending) (d : Deed) (outputs told put_out : List Output) → told ≡ put_all outputs (frames_sent (farewells (highest_in (ids_of kept.inbound.rows)) (code_in why)))
-    → (AreApart (lives kept.upstreams.live) → put_out ≡ put_all told (Did CloseClient ∷ closed_all (lives kept.upstreams.live)))
+    → put_out ≡ put_all told (Did CloseClient ∷ closed_all (reverse (lives kept.upstreams.live)))
     → before.upstreams ≡ kept.upstreams → before.inbound.rows ≡ kept.inbound.rows → Leads setup run before square s → IsBy s why d → put_out ≡ put_all outputs (ending_on_tape s d)
 ends setup run s before kept why d outputs told put_out tells closes same_upstreams same_rows leads by =
-    closes (subst AreApart live (apart_in setup run s leads.stands))
-    ∙ ap (λ (o : List Output). put_all o (Did CloseClient ∷ closed_all (lives kept.upstreams.live))) (tells ∙ farewell)
-    ∙ ap (λ (ls : List Live). put_all (put_all outputs (frames_sent (farewell_by s d) ++ entry_of d ∷ [])) (Did CloseClient ∷ closed_all ls)) (sym live)
-    ∙ sym (put_behind outputs (Did CloseClient ∷ closed_all s.requests.live) (frames_sent (farewell_by s d) ++ entry_of d ∷ []))
+    closes
+    ∙ ap (λ (o : List Output). put_all o (Did CloseClient ∷ closed_all (reverse (lives kept.upstreams.live)))) (tells ∙ farewell)
+    ∙ ap (λ (ls : List Live). put_all (put_all outputs (frames_sent (farewell_by s d) ++ entry_of d ∷ [])) (Did CloseClient ∷ closed_all (reverse ls))) (sym live)
+    ∙ sym (put_behind outputs (Did CloseClient ∷ closed_all (by_number s)) (frames_sent (farewell_by s d) ++ entry_of d ∷ []))
   where
     live : s.requests.live ≡ lives kept.upstreams.live
     live = ap (λ (r : serving.State). r.live) leads.keeps.requests ∙ ap (λ (u : upstreams.State). lives u.live) same_upstreams

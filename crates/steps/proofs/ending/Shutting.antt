@@ -1,6 +1,7 @@
 -- A connection that is spent is shut: its moves come by the rule, and lead to rest.
 use Rattle.std.proofs.Common.{◌≡◌, ℕ, Bool, true, false, ◌&&◌, ◌||◌, ◌==◌, List, [], ◌∷◌, ◌++◌, map, reverse, length, append_assoc, Option, Some, None, refl, sym, ◌∙◌, ap, subst, if◌then◌else◌, inr, arith}
-use Rattle.std.proofs.lemmas.Bool.{eqb-true, eq-eqb}
+use Rattle.std.proofs.lemmas.Bool.{eqb-true}
+use Rattle.std.proofs.lemmas.List.{reverse-append, reverse-reverse}
 use Rattle.std.specs.List.{list_any}
 use Rattle.model.specs.Known.{Known}
 use Rattle.model.specs.Logs.{Output}
@@ -31,6 +32,7 @@ use Rattle.policy.specs.Rule.{Rests, RestsBehind}
 use Rattle.policy.specs.Ending.{closes_of, closed_all}
 use Rattle.policy.specs.Steps as policy
 use Rattle.policy.specs.Steps.{told_by, told_behind, next, MayGoOn, Stands}
+use Rattle.policy.proofs.EndingLives.{AreApart, last_found, last_goes, last_apart}
 use Rattle.policy.proofs.Going.{may_act}
 use Rattle.policy.proofs.Stepping.{before_is, one_more, leads_then}
 use Rattle.relay.specs.Bringing.{AreOwn}
@@ -41,8 +43,7 @@ use Rattle.relay.specs.View.{View, square, AreSo, Leads}
 use Rattle.relay.proofs.Performing.{tape_behind}
 use Rattle.relay.proofs.Sound.{boxes}
 use Rattle.relay.proofs.Staying.{so_stays, rows_kept}
-use Rattle.steps.specs.ending.Closing.{AreApart, IsShut}
-use Rattle.steps.proofs.ending.Closes.{first_goes}
+use Rattle.steps.specs.ending.Closing.{IsShut}
 use Rattle.steps.proofs.ending.Farewells.{apart_in, closed_own}
 
 -- ---- what holds until the client is closed
@@ -62,7 +63,7 @@ record IsSpent (setup : Setup) (run : List Move) (s : State) (ls : List Live) : 
 
 -- ---- a connection is closed
 
-module _ (setup : Setup) (run : List Move) (s : State) (l : Live) (ls : List Live) (apart : AreApart (l ∷ ls)) (spent : IsSpent setup run s (l ∷ ls)) where
+module _ (setup : Setup) (run : List Move) (s : State) (l : Live) (ls : List Live) (apart : live_of l.k ls ≡ None) (spent : IsSpent setup run s (ls ++ l ∷ [])) where
   abbrev closes : Deed
   closes = Acts (Close l.k)
 
@@ -75,7 +76,7 @@ module _ (setup : Setup) (run : List Move) (s : State) (l : Live) (ls : List Liv
     may_act setup (told_behind setup s closes) s (Close l.k) spent.open_yet (record {
       nothing = spent.due;
       live = l;
-      found = ap (λ (xs : List Live). live_of l.k xs) spent.live ∙ ap (λ b. if b then Some l else live_of l.k ls) (eq-eqb l.k l.k refl);
+      found = ap (λ (xs : List Live). live_of l.k xs) spent.live ∙ last_found l ls apart;
       why = inr spent.ends;
     }),
   )
@@ -88,7 +89,7 @@ module _ (setup : Setup) (run : List Move) (s : State) (l : Live) (ls : List Liv
     open_yet = ap (λ (d : Desk). d.book.closed) same_desk ∙ spent.open_yet;
     owes = ap (λ (d : Desk). d.queue) same_desk ∙ spent.owes;
     none_begun = ap (λ (d : Desk). d.book.block_out) same_desk ∙ spent.none_begun;
-    live = ap (λ (xs : List Live). without k_of l.k xs) spent.live ∙ first_goes l ls apart;
+    live = ap (λ (xs : List Live). without k_of l.k xs) spent.live ∙ last_goes l ls apart;
     due = spent.due;
     read = spent.read;
     none_kept = spent.none_kept;
@@ -100,14 +101,17 @@ record AreClosed (setup : Setup) (run : List Move) (s : State) (moves : List Mov
   pub by_rule : policy.Leads setup s moves state
   pub spent : IsSpent setup (moves ++ run) state []
 
-close_each : (setup : Setup) (ls : List Live) (run : List Move) (s : State) → AreApart ls → IsSpent setup run s ls → AreClosed setup run s (closes_of ls)
+close_each : (setup : Setup) (ls : List Live) (run : List Move) (s : State) → AreApart (reverse ls) → IsSpent setup run s (reverse ls) → AreClosed setup run s (closes_of ls)
 close_each setup [] run s apart spent = record { state = s; by_rule = refl; spent = spent }
 close_each setup (l ∷ ls) run s apart spent =
     let m : Move = Does (Acts (Close l.k)) in
-    let rest = close_each setup ls (m ∷ run) (next setup s m) apart.1 (closed_one setup run s l ls apart spent) in
+    let is : reverse (l ∷ ls) ≡ reverse ls ++ l ∷ [] = reverse-append (l ∷ []) ls in
+    let last = last_apart l (reverse ls) (subst AreApart is apart) in
+    let so : IsSpent setup run s (reverse ls ++ l ∷ []) = subst (λ (xs : List Live). IsSpent setup run s xs) is spent in
+    let rest = close_each setup ls (m ∷ run) (next setup s m) last.1 (closed_one setup run s l (reverse ls) last.0 so) in
     record {
       state = rest.state;
-      by_rule = leads_then setup s (next setup s m) rest.state (m ∷ []) (closes_of ls) (s, refl, may_close setup run s l ls apart spent, refl) rest.by_rule;
+      by_rule = leads_then setup s (next setup s m) rest.state (m ∷ []) (closes_of ls) (s, refl, may_close setup run s l (reverse ls) last.0 so, refl) rest.by_rule;
       spent = subst (λ (moves : List Move). IsSpent setup moves rest.state []) (sym (append_assoc (closes_of ls) (m ∷ []) run)) rest.spent;
     }
 
@@ -211,20 +215,27 @@ module _ (setup : Setup) (run : List Move) (kept : View) (s : State) (fresh : �
   apart : AreApart (lives kept.upstreams.live)
   apart = subst AreApart (ap (λ (r : serving.State). r.live) leads.keeps.requests) (apart_in setup run s leads.stands)
 
-  abbrev closed : AreClosed setup run s (closes_of (lives kept.upstreams.live))
-  closed = close_each setup (lives kept.upstreams.live) run s apart is_spent
+  -- open connections by rising number
+  abbrev rising : List Live
+  rising = reverse (lives kept.upstreams.live)
+
+  back : lives kept.upstreams.live ≡ reverse rising
+  back = sym (reverse-reverse (lives kept.upstreams.live))
+
+  abbrev closed : AreClosed setup run s (closes_of rising)
+  closed = close_each setup rising run s (subst AreApart back apart) (subst (λ (ls : List Live). IsSpent setup run s ls) back is_spent)
 
   abbrev behind : List Move
-  behind = closes_of (lives kept.upstreams.live) ++ run
+  behind = closes_of rising ++ run
 
   -- It is shut.
-  pub is_shut : (outputs put_out : List Output) → (AreApart (lives kept.upstreams.live) → put_out ≡ put_all outputs (Did CloseClient ∷ closed_all (lives kept.upstreams.live))) → IsShut setup run s outputs put_out
+  pub is_shut : (outputs put_out : List Output) → put_out ≡ put_all outputs (Did CloseClient ∷ closed_all rising) → IsShut setup run s outputs put_out
   is_shut outputs put_out puts = record {
-    moves = shuts setup behind closed.state closed.spent ∷ closes_of (lives kept.upstreams.live);
+    moves = shuts setup behind closed.state closed.spent ∷ closes_of rising;
     state = shut_state setup behind closed.state closed.spent;
     by_rule = (closed.state, closed.by_rule, may_shut setup behind closed.state closed.spent, refl);
-    puts = puts apart ∙ ap (λ (t : List Entry). put_all outputs (Did CloseClient ∷ t)) (sym (closes_tape (lives kept.upstreams.live)));
-    are_own = subst AreOwn (sym (closes_tape (lives kept.upstreams.live))) (closed_own (lives kept.upstreams.live));
+    puts = puts ∙ ap (λ (t : List Entry). put_all outputs (Did CloseClient ∷ t)) (sym (closes_tape rising));
+    are_own = subst AreOwn (sym (closes_tape rising)) (closed_own rising);
     closed = refl;
     stands = shut_stands setup behind closed.state closed.spent;
     rests = shut_rests_behind setup behind closed.state closed.spent;

@@ -1,6 +1,7 @@
 -- A connection that is due is opened, and its text goes out there: this performs.
-use Rattle.std.proofs.Common.{◌≡◌, ℕ, suc, ◌+◌, ◌<◌, Bool, true, false, ◌==◌, List, [], ◌∷◌, map, length, Option, Some, None, codes, refl, sym, ◌∙◌, ap, subst, inl, inr, if◌then◌else◌, arith}
-use Rattle.std.specs.Prelude.{is_some, option_map}
+use Rattle.std.proofs.Common.{◌≡◌, ℕ, suc, ◌+◌, ◌<◌, Bool, true, false, not, ◌==◌, ◌&&◌, ◌||◌, List, [], ◌∷◌, map, length, Option, Some, None, codes, refl, sym, ◌∙◌, ap, subst, inl, inr, if◌then◌else◌, arith}
+use Rattle.std.specs.Prelude.{is_none, is_some, option_map}
+use Rattle.std.specs.List.{list_any}
 use Rattle.std.proofs.lemmas.Bool.{eq-eqb, ne_eqb, and_parts}
 use Rattle.std.proofs.lemmas.Bool.Decides.{eqb_tells}
 use Rattle.model.specs.Frames.{Frame}
@@ -11,7 +12,7 @@ use Rattle.model.specs.Setup.{Setup}
 use Rattle.model.specs.Setup.Passing.{Whole as WholePassing, Streaming}
 use Rattle.model.specs.Tapes.{Entry, put}
 use Rattle.model.specs.Tapes.Entry.{Did}
-use Rattle.model.specs.Causes.{is_front_of}
+use Rattle.model.specs.Causes.{is_front_of, Cause}
 use Rattle.model.specs.Openings.{Opened, opens, given, last_stream}
 use Rattle.model.specs.Known.{Known}
 use Rattle.model.specs.Lifetimes.{opened, is_opened, is_active}
@@ -21,7 +22,7 @@ use Rattle.model.specs.StreamStates.{most_streams}
 use Rattle.model.proofs.ItemLaws.{head_stays}
 use Rattle.conduct.specs.Summary.{summary_of}
 use Rattle.conduct.specs.Rule.{AreKnown}
-use Rattle.conduct.specs.Book.{Book, Desk, desk_after, desk_of}
+use Rattle.conduct.specs.Book.{Book, Desk, desk_after, desk_of, summary_in}
 use Rattle.conduct.specs.Told as conduct
 use Rattle.conduct.proofs.Telling.{book_told}
 use Rattle.receiving.specs.Policy as windows
@@ -30,12 +31,15 @@ use Rattle.receiving.proofs.Resting.{Receiving}
 use Rattle.receiving.proofs.Incoming.{live_among}
 use Rattle.h1_reader.specs.Standing.{Stands as Reads}
 use Rattle.h1_writer.specs.Sending.Stage.{Whole}
+use Rattle.offering.specs.Sight.{sight_in}
+use Rattle.answers.specs.declared.answer.Passing.{Passing}
 use Rattle.answers.specs.declared.answer.Passing.TheVariants as way
 use Rattle.serving.specs.State as serving
 use Rattle.serving.specs.State.{Way, Held, Live, Due, id_of, held_of, find, without}
 use Rattle.serving.specs.State.Way.{Waiting, Going, Dropped}
 use Rattle.serving.specs.State.Due.{Nothing, ToOpen, ToSend}
 use Rattle.serving.specs.Rule as requests
+use Rattle.serving.specs.Rule.{is_done}
 use Rattle.serving.proofs.Lists.{found_key, find_map}
 use Rattle.serving.proofs.Opening.{given_none_in}
 use Rattle.serving.proofs.Standing as standing
@@ -57,10 +61,12 @@ use Rattle.policy.proofs.Stepping.{one_more}
 use Rattle.policy.proofs.Telling.{all_moved}
 use Rattle.relay.specs.View.{View, Pending, square, Keeps, Leads, AreSo, AreHeard}
 use Rattle.relay.specs.Hearing.{IsHeard}
+use Rattle.relay.specs.Rest.{told_view}
 use Rattle.relay.specs.Bringing.{OwnSegment, PerformsOwn}
 use Rattle.relay.proofs.Lives.{lives_same}
 use Rattle.relay.proofs.Sound as sound
 use Rattle.relay.proofs.Staying.{so_stays, heard_stays, heard_of_changed, open_begun, rows_kept}
+use Rattle.steps.specs.Closings.{told_but, NoneDoneBut}
 use Rattle.steps.proofs.exchanges.Asking.{asked_is}
 use Rattle.steps.proofs.exchanges.Few.{few_given, none_connected}
 use Rattle.steps.proofs.exchanges.Where.{led_to, own, own_led, right_here, stands_here, windows_here}
@@ -160,6 +166,13 @@ module _ (setup : Setup) (whole : setup.passing ≡ WholePassing) (kept : View) 
         let less = few_given (opens t) (opened t) stream stand.apart (λ o i. (stand.given o i).started) (given_none_in stream (opens t) (λ o i same. due.none_given o (record { is_opened = i; is_given = same }))) stream_opened in
         let count = sym count_is ∙ stand.count in
         omega (arith, few, less, count)
+
+    -- its stream is served
+    pub stream_served : (told_view kept).served stream ≡ true
+    stream_served =
+        ap (λ (b : Book). (told_in (summary_in b)).served stream) (sym leads.keeps.book)
+        ∙ ap (λ b. b && is_none ((sight_in (told_by s)).cause stream)) ((right_here setup run s leads.stands leads.so).active stream ∙ due.in_time.active)
+        ∙ ap (λ (o : Option Cause). is_none o) ((right_here setup run s leads.stands leads.so).cause stream due.in_time.active ∙ due.in_time.no_cause)
 
     -- ---- the connection is opened
 
@@ -432,3 +445,16 @@ module _ (kept : View) (stream route max : ℕ) (text : List ℕ) (to_head : Boo
       subst (λ (u : upstreams.State). OwnSegment setup run s before (record kept { upstreams = u }) (record square { owed = owed; fresh = fresh }) after) upstreams_are
       (subst (λ (o : List Output). OwnSegment setup run s before (opened_view setup whole kept owed fresh stream route text run s leads to_head max asks most reads) (record square { owed = owed; fresh = fresh }) o) outputs_are
       (opened_performs setup whole kept owed fresh stream route text run s leads to_head max asks most reads before))
+
+-- The new connection isn't done with, since its stream is served.
+pub opens_but : (kept : View) (next stream k count : ℕ) (to_head : Bool) (passing : Passing) (middle behind : upstreams.State) → (told_view kept).served stream ≡ true
+    → middle ≡ record kept.upstreams { live = connections.opened next stream to_head passing ∷ kept.upstreams.live; count = next } → behind ≡ record middle { live = map (put_at k count) middle.live }
+    → (id : ℕ) → NoneDoneBut id kept → NoneDoneBut id (record kept { upstreams = behind })
+opens_but kept next stream k count to_head passing middle behind served opened_is put_is id none =
+    ap (λ (ls : List Live). list_any (is_done (told_but id kept)) ls)
+    (ap (λ (u : upstreams.State). lives u.live) put_is ∙ lives_same (put_at k count) (λ c. refl) middle.live ∙ ap (λ (u : upstreams.State). lives u.live) opened_is)
+    ∙ by (id == stream)
+  where
+    by : (b : Bool) → (not (b || (told_view kept).served stream) || list_any (is_done (told_but id kept)) (lives kept.upstreams.live)) ≡ false
+    by true = none
+    by false = ap (λ x. not x || list_any (is_done (told_but id kept)) (lives kept.upstreams.live)) served ∙ none

@@ -11,12 +11,15 @@ use Rattle.offering.specs.Outbox.{Part}
 use Rattle.offering.specs.State.{Kept, find, change, without, gone}
 use Rattle.header_blocks.specs.Encoding.{Encoding}
 use Rattle.streams_kept.specs.Asked.{has, is_active}
-use Rattle.streams_kept.specs.Sending.{head_sent, data_sent}
+use Rattle.streams_kept.specs.Sending.{head_sent, data_sent, is_served}
 use Rattle.outputs.specs.Sent.{data_frame}
 use Rattle.outputs.specs.Blocks.{frames_of, filled_before, block_frames}
 use Rattle.relay.specs.View.{View}
-use Rattle.relay.specs.Rest.{NoneCut}
+use Rattle.upstreams.specs.Connections.{lives}
+use Rattle.relay.specs.Rest.{NoneCut, NoneDone}
+use Rattle.steps.specs.Closings.{IsAbout}
 use Rattle.steps.specs.flushing.Changes.{part_gone, ended, reset_gone, let_go, octets_of_frames, IsPartSent}
+use Rattle.steps.proofs.Closings.{about_changed, about_then, none_stays, served_same}
 use Rattle.steps.proofs.flushing.Rows.{has_same}
 
 -- ---- resets that are owed
@@ -108,3 +111,31 @@ sent_stays u outputs id ends v put_out sent = by ends (first sent)
     by : (b : Bool) → Stays u v → Stays u (if b then ended id v else v)
     by true stays = ended_stays u v id stays
     by false stays = stays
+
+-- ---- which streams are served
+
+ended_about : (id : ℕ) (v : View) → IsAbout id v (ended id v)
+ended_about id v = by (is_active v.inbound.rows id)
+  where
+    by : (b : Bool) → IsAbout id v (let_go id (if b then reset_gone id no_error v else v))
+    by true = about_changed id (Over true) v (let_go id (reset_gone id no_error v)) refl refl
+    by false = record { served = λ other apart. refl; live = refl }
+
+-- A part that goes, and the end of its stream, are about that alone.
+pub sent_about : (u : View) (outputs : List Output) (id : ℕ) (ends : Bool) (v : View) (put_out : List Output) → IsPartSent u outputs id ends v put_out → IsAbout id u (ended id v)
+sent_about u outputs id ends v put_out sent = about_then id u v (ended id v) (first sent) (ended_about id v)
+  where
+    first : IsPartSent u outputs id ends v put_out → IsAbout id u v
+    first (inl (is_final, h)) = about_changed id (slot_of (head_sent is_final ends (find_row u.inbound.rows id))) u v (ap (λ (w : View). w.inbound.rows) h.kept) (ap (λ (w : View). lives w.upstreams.live) h.kept)
+    first (inr h) = about_changed id (slot_of (data_sent (length h.octets) ends (find_row u.inbound.rows id))) u v (ap (λ (w : View). w.inbound.rows) h.kept) (ap (λ (w : View). lives w.upstreams.live) h.kept)
+
+-- Behind one that doesn't end its stream no connection is done with, if none was before.
+pub sent_none_done : (u : View) (outputs : List Output) (id : ℕ) (v : View) (put_out : List Output) → is_active u.inbound.rows id ≡ true → IsPartSent u outputs id false v put_out → NoneDone u → NoneDone v
+sent_none_done u outputs id v put_out active (inl (is_final, h)) none =
+    none_stays u v
+    (λ other. ap (λ (w : View). is_served w.inbound.rows other) h.kept ∙ served_same id (head_sent is_final false (find_row u.inbound.rows id)) u.inbound.rows active refl refl other)
+    (ap (λ (w : View). lives w.upstreams.live) h.kept) none
+sent_none_done u outputs id v put_out active (inr h) none =
+    none_stays u v
+    (λ other. ap (λ (w : View). is_served w.inbound.rows other) h.kept ∙ served_same id (data_sent (length h.octets) false (find_row u.inbound.rows id)) u.inbound.rows active refl refl other)
+    (ap (λ (w : View). lives w.upstreams.live) h.kept) none

@@ -1,5 +1,5 @@
 -- A connection that is done with is closed: this performs.
-use Rattle.std.proofs.Common.{◌≡◌, ℕ, suc, ◌<◌, ◌≤◌, Bool, true, false, ◌==◌, List, [], ◌∷◌, length, Some, refl, sym, ◌∙◌, ap, subst, inl, if◌then◌else◌, arith}
+use Rattle.std.proofs.Common.{◌≡◌, ℕ, suc, false, List, [], ◌∷◌, refl, sym, ◌∙◌, ap, subst, inl}
 use Rattle.model.specs.Logs.{Output}
 use Rattle.model.specs.Logs.Output.{Does as Puts}
 use Rattle.model.specs.Logs.Act.{Close}
@@ -12,10 +12,9 @@ use Rattle.judgement.specs.Inbound.{book_of}
 use Rattle.judgement.proofs.SendingEvents.{closes_lead, did_desk}
 use Rattle.serving.specs.State as serving
 use Rattle.serving.specs.State.{Held, Live, k_of, live_of, find, without}
-use Rattle.serving.specs.Told.{Told}
 use Rattle.serving.specs.Rule.{is_done, MayClose}
 use Rattle.upstreams.specs.Kept as upstreams
-use Rattle.upstreams.specs.Connections.{Connection, number_of, lives, next_done}
+use Rattle.upstreams.specs.Connections.{number_of, lives, AreBelow}
 use Rattle.policy.specs.Moves.{Deed, Move, conduct_of, told_in}
 use Rattle.policy.specs.Moves.Deed.{Acts}
 use Rattle.policy.specs.Moves.Move.{Does}
@@ -26,11 +25,11 @@ use Rattle.policy.proofs.Stepping.{one_more}
 use Rattle.relay.specs.View.{View, square, Keeps, Leads}
 use Rattle.relay.specs.Rest.{told_view}
 use Rattle.relay.specs.Bringing.{PerformsOwn}
-use Rattle.relay.proofs.Lives.{IsDone, one_done, lives_closed}
+use Rattle.relay.proofs.Lives.{IsDone, lives_closed}
 use Rattle.relay.proofs.Staying.{so_stays, heard_stays, heard_of_fewer, rows_kept, found_live, found_before}
 use Rattle.relay.proofs.Ways.{all_wait, all_fall, drop_none, falling_below}
 
-module _ (setup : Setup) (whole : setup.passing ≡ Whole) (kept : View) (k : ℕ) (next_is : next_done (told_view kept) kept.upstreams.live ≡ Some k) (outputs : List Output) where
+module _ (setup : Setup) (whole : setup.passing ≡ Whole) (kept : View) (k : ℕ) (done_is : (top : ℕ) → AreBelow top kept.upstreams.live → IsDone (told_view kept) kept.upstreams.live k) (outputs : List Output) where
   -- what is kept then
   abbrev pub closed_view : View
   closed_view = record kept { upstreams = record kept.upstreams { live = without number_of k kept.upstreams.live } }
@@ -45,9 +44,8 @@ module _ (setup : Setup) (whole : setup.passing ≡ Whole) (kept : View) (k : �
     -- it is open, and done with
     done : IsDone (told_view kept) kept.upstreams.live k
     done =
-        one_done (told_view kept) (suc s.requests.count) k kept.upstreams.live
+        done_is (suc s.requests.count)
         (falling_below (suc s.requests.count) kept.upstreams.live (subst (Rattle.relay.proofs.Ways.AreFalling (suc s.requests.count)) open_ones (all_fall setup whole run s leads.stands)))
-        next_is
 
     desk : desk_after setup s.desk (conduct_of deed) ≡ s.desk
     desk = did_desk setup false s.desk (Close k) s.desk.book [] (closes_lead setup s.desk.book k (rows_kept setup run s leads.stands))
@@ -103,36 +101,9 @@ module _ (setup : Setup) (whole : setup.passing ≡ Whole) (kept : View) (k : �
       keeps = keeps;
     }
 
-  -- The newest connection that is done with is closed.
+  -- A connection that is done with is closed.
   pub closes : PerformsOwn setup kept square outputs closed_view square (put outputs (Puts (Close k)))
   closes run s leads = record {
     segment = record { moves = Does (deed run s leads) ∷ []; state = then_state run s leads; by_rule = (s, refl, may run s leads, refl); leads = leads_on run s leads; puts = refl };
     are_own = tt;
   }
-
--- no more are open without one
-no_more : (k : ℕ) (cs : List Connection) → length (without number_of k cs) ≤ length cs
-no_more k [] = omega arith
-no_more k (c ∷ cs) = by (number_of c == k) (no_more k cs)
-  where
-    by : (b : Bool) → length (without number_of k cs) ≤ length cs → length (if b then without number_of k cs else c ∷ without number_of k cs) ≤ suc (length cs)
-    by true le = omega (arith, le)
-    by false le = omega (arith, le)
-
--- one fewer is open then
-pub fewer : (told : Told) (k : ℕ) (cs : List Connection) → next_done told cs ≡ Some k → length (without number_of k cs) < length cs
-fewer told k [] is = cc
-fewer told k (c ∷ cs) is = by (number_of c == k) refl (λ rest. fewer told k cs rest)
-  where
-    behind : (number_of c == k) ≡ false → next_done told cs ≡ Some k
-    behind apart = later (is_done told c.live) refl is
-      where
-        later : (b : Bool) → is_done told c.live ≡ b → (if b then Some c.live.k else next_done told cs) ≡ Some k → next_done told cs ≡ Some k
-        later true done found =
-            let same : c.live.k ≡ k = cc in
-            absurd (let no : true ≡ false = sym (Rattle.std.proofs.lemmas.Bool.eq-eqb c.live.k k same) ∙ apart in cc)
-        later false on found = found
-
-    by : (b : Bool) → (number_of c == k) ≡ b → (next_done told cs ≡ Some k → length (without number_of k cs) < length cs) → length (if number_of c == k then without number_of k cs else c ∷ without number_of k cs) < suc (length cs)
-    by true own more = let le = no_more k cs in subst (λ b. length (if b then without number_of k cs else c ∷ without number_of k cs) < suc (length cs)) (sym own) (omega (arith, le))
-    by false apart more = let less = more (behind apart) in subst (λ b. length (if b then without number_of k cs else c ∷ without number_of k cs) < suc (length cs)) (sym apart) (omega (arith, less))

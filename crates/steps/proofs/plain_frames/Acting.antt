@@ -19,25 +19,30 @@ use Rattle.conduct.specs.Summary.{Summary}
 use Rattle.conduct.specs.Judging.{completed_in, rows_in, frame_rows_in, shifts_past_in, malformed_in}
 use Rattle.conduct.specs.Owing.{fault_in, owes_in}
 use Rattle.conduct.specs.After.{is_sound}
-use Rattle.conduct.specs.Rows.{ids_of, find}
+use Rattle.conduct.specs.Rows.{Row, ids_of, find}
 use Rattle.conduct.specs.Rows.Slot.{Over}
 use Rattle.conduct.specs.Quiet.{noted_of, coming, sending}
 use Rattle.conduct.specs.Book.{Book, summary_in, book_after}
 use Rattle.conduct.specs.Tidy.{AreKept}
 use Rattle.conduct.proofs.Seen.{none_at}
 use Rattle.conduct.proofs.Rows.{ids_changed}
+use Rattle.conduct.proofs.Tidy.{kept_behind_entry}
 use Rattle.serving.specs.State.{Due}
 use Rattle.serving.specs.State.Due.{Nothing}
 use Rattle.header_blocks.specs.Encoding.{Encoding}
 use Rattle.tables.specs.Rule.{IsNoted}
 use Rattle.tables.specs.State.{named_by}
 use Rattle.tables.specs.Verdicts.{verdict_in}
+use Rattle.streams_kept.specs.Asked.{changed}
+use Rattle.streams_kept.specs.Sending.{is_served}
 use Rattle.streams_kept.proofs.Changes.{same_ids}
 use Rattle.judgement.specs.Inbound.{Inbound, Outside, book_of, told_of}
 use Rattle.judgement.specs.Judgement.{IsPlain, IsJudged, IsTaken, behind, cause_before, cause_behind}
 use Rattle.judgement.specs.declared.answers.Fault.TheVariants as fault
 use Rattle.judgement.specs.declared.answers.Judged.{Judged}
 use Rattle.judgement.specs.declared.answers.Judged.TheVariants as judged
+use Rattle.judgement.specs.Sending.{behind_reset}
+use Rattle.judgement.proofs.SendingBooks.{reset_leads}
 use Rattle.upstreams.specs.Requests.{due_in}
 use Rattle.policy.specs.Moves.{Move}
 use Rattle.policy.specs.State.{State}
@@ -51,6 +56,8 @@ use Rattle.relay.proofs.Bringing.{brings_then}
 use Rattle.relay.proofs.Staying.{rows_kept}
 use Rattle.relay.proofs.Coming.{no_outside, encoding_with}
 use Rattle.relay.specs.Gains.{GoesOn}
+use Rattle.steps.specs.Closings.{IsAbout}
+use Rattle.steps.proofs.Closings.{about_changed, about_then, frame_served}
 use Rattle.steps.specs.plain_frames.Acting.{goes_on, Goes, Ends, IsPaid, IsActed, IsContentIf, IsRepliedBy, IsLeft, MayAct}
 use Rattle.steps.specs.plain_frames.Kept.{limited}
 use Rattle.steps.specs.plain_frames.Taken.{IsPassed, IsPlainTaken}
@@ -127,15 +134,16 @@ module _ (setup : Setup) (whole : setup.passing ≡ Whole) (old : View) (rest : 
 
   -- what is done, in words of the answer that is given
   finish : (due : Due) (answer : Taken) (outputs new_outputs put_out : List Output) (target new : View) → Goes due answer → new ≡ target → put_out ≡ new_outputs
-      → Brings setup old square outputs (coming frame) target (record square { due = due; fresh = data_length is_any frame }) new_outputs → NoneCut target.offers → ids_of target.inbound.rows ≡ ids_of old.inbound.rows → target.inbound.last ≡ frame.id
+      → Brings setup old square outputs (coming frame) target (record square { due = due; fresh = data_length is_any frame }) new_outputs → NoneCut target.offers → IsAbout frame.id old target → ids_of target.inbound.rows ≡ ids_of old.inbound.rows → target.inbound.last ≡ frame.id
       → IsPlainTaken setup old outputs frame answer new put_out
-  finish due (taken.Fatal code) outputs new_outputs put_out target new goes new_is puts brings none_cut ids last = absurd goes
-  finish due (taken.Goes request) outputs new_outputs put_out target new goes new_is puts brings none_cut ids last =
+  finish due (taken.Fatal code) outputs new_outputs put_out target new goes new_is puts brings none_cut about ids last = absurd goes
+  finish due (taken.Goes request) outputs new_outputs put_out target new goes new_is puts brings none_cut about ids last =
       subst (λ (v : View). IsPassed setup old outputs frame request v put_out) (sym new_is)
       (subst (λ (o : List Output). IsPassed setup old outputs frame request target o) (sym puts)
       (record {
         brings = subst (λ (d : Due). Brings setup old square outputs (coming frame) target (record square { due = d; fresh = data_length is_any frame }) new_outputs) (sym goes) brings;
         none_cut = none_cut;
+        about = about;
         ids = ids;
         last = last;
       }))
@@ -146,6 +154,10 @@ module _ (setup : Setup) (whole : setup.passing ≡ Whole) (old : View) (rest : 
 
     last_left : inbound.last ≡ frame.id
     last_left = ap (λ (x : Book). x.last) left
+
+    -- it leaves the service of the other streams, where it is no error of the connection
+    about_left : is_fatal (fault_in (summary_in b) (coming frame)) ≡ false → IsAbout frame.id old mid
+    about_left mild = record { served = λ other apart. ap (λ (x : Book). is_served x.rows other) left ∙ frame_served setup b (noted_of frame) mild kept other apart; live = refl }
 
   -- ---- an error of the connection
 
@@ -182,7 +194,7 @@ module _ (setup : Setup) (whole : setup.passing ≡ Whole) (old : View) (rest : 
       finish Nothing given outputs outputs put_out mid new left.goes left.kept left.puts
       (quiet setup old rest frame plain inbound table answer taken (ap (λ k. k == data_kind) is ∙ no_data) (ap (λ k. k == rst_stream_kind) is ∙ no_reset) [] old.encoding owes
       (λ outside. names_none (told_of outside old.inbound) frame (ap (λ k. has_settings (record frame { kind = k })) is ∙ no_settings) old.encoding) adds outputs)
-      rest.none_cut (ids_left (taken no_outside).left) (last_left (taken no_outside).left)
+      rest.none_cut (about_left (taken no_outside).left (ap is_fatal (taken no_outside).faultless)) (ids_left (taken no_outside).left) (last_left (taken no_outside).left)
 
   -- a control frame is owed, and was sent
   paid_so : (answer : Judged) → ((outside : Outside) → IsTaken setup (book_of outside old.inbound) frame (book_of outside inbound) answer) → (kind : ℕ) → frame.kind ≡ kind → (kind == data_kind) ≡ false → (kind == rst_stream_kind) ≡ false → (encoding : Encoding)
@@ -195,6 +207,7 @@ module _ (setup : Setup) (whole : setup.passing ≡ Whole) (old : View) (rest : 
       (quiet setup old rest frame plain inbound table answer taken (ap (λ k. k == data_kind) is ∙ no_data) (ap (λ k. k == rst_stream_kind) is ∙ no_reset) (owed ∷ []) encoding owes encodes adds outputs)
       (paid.performs setup [] (record square { owed = owed ∷ []; fresh = data_length is_any frame }) refl refl))
       (subst (λ (v : View). NoneCut v.offers) (sym paid.kept) rest.none_cut)
+      (subst (λ (v : View). IsAbout frame.id old v) (sym paid.kept) (let about = about_left (taken no_outside).left (ap is_fatal (taken no_outside).faultless) in record { served = about.served; live = about.live }))
       (ap (λ (v : View). ids_of v.inbound.rows) paid.kept ∙ ids_left (taken no_outside).left)
       (ap (λ (v : View). v.inbound.last) paid.kept ∙ last_left (taken no_outside).left)
 
@@ -207,17 +220,17 @@ module _ (setup : Setup) (whole : setup.passing ≡ Whole) (old : View) (rest : 
   content_so answer so kind octets ends a c d owes gains false on last ends_is given outputs put_out new left =
       finish Nothing given outputs outputs put_out mid new left.goes left.kept left.puts
       (left_alone setup old rest frame plain inbound table answer so kind octets ends a c d owes gains on outputs)
-      rest.none_cut (ids_left (so no_outside).left) (last_left (so no_outside).left)
+      rest.none_cut (let about = about_left (so no_outside).left (ap is_fatal (so no_outside).faultless) in record { served = about.served; live = about.live }) (ids_left (so no_outside).left) (last_left (so no_outside).left)
   content_so answer so kind octets ends a c d owes gains true on false ends_is given outputs put_out new done =
       finish Nothing given outputs outputs put_out _ new done.0.goes done.0.kept done.1
       (gathers setup old rest frame plain inbound table answer so kind octets ends a c d owes gains whole on ends_is outputs)
-      rest.none_cut (ids_left (so no_outside).left) (last_left (so no_outside).left)
+      rest.none_cut (let about = about_left (so no_outside).left (ap is_fatal (so no_outside).faultless) in record { served = about.served; live = about.live }) (ids_left (so no_outside).left) (last_left (so no_outside).left)
   content_so answer so kind octets ends a c d owes gains true on true ends_is (taken.Fatal code) outputs put_out new done = absurd done.0.whole
   content_so answer so kind octets ends a c d owes gains true on true ends_is (taken.Goes None) outputs put_out new done = absurd done.0.whole
   content_so answer so kind octets ends a c d owes gains true on true ends_is (taken.Goes (Some request)) outputs put_out new done =
       finish (due_in (Some request)) (taken.Goes (Some request)) outputs outputs put_out _ new refl done.0.kept done.1
       (finishes setup old rest frame plain inbound table answer so kind octets ends a c d owes gains whole on ends_is request done.0.whole outputs)
-      rest.none_cut (ids_left (so no_outside).left) (last_left (so no_outside).left)
+      rest.none_cut (let about = about_left (so no_outside).left (ap is_fatal (so no_outside).faultless) in record { served = about.served; live = about.live }) (ids_left (so no_outside).left) (last_left (so no_outside).left)
 
   -- a body that is too long
   replied_so : (taken : (outside : Outside) → IsTaken setup (book_of outside old.inbound) frame (book_of outside inbound) judged.LargeBody) → ((outside : Outside) → IsTaken setup' (book_of outside old.inbound) frame (book_of outside inbound) judged.LargeBody) → (out : Bool) → (find old.inbound.rows frame.id).head_out ≡ out
@@ -226,11 +239,13 @@ module _ (setup : Setup) (whole : setup.passing ≡ Whole) (old : View) (rest : 
       finish Nothing given outputs outputs put_out _ new done.goes done.kept done.puts
       (offered setup old rest frame plain inbound table taken out outputs)
       (offered_cuts_none setup' old rest frame plain inbound table taken' out reached.0 reached.1 reached.2)
+      (let about = about_left (taken no_outside).left (ap is_fatal (taken no_outside).faultless) in record { served = about.served; live = about.live })
       (ids_left (taken no_outside).left) (last_left (taken no_outside).left)
   replied_so taken taken' true out given outputs put_out new done =
       finish Nothing given outputs _ put_out _ new done.goes done.kept done.puts
       (cut_short setup old rest frame plain inbound table taken out (fits frame.id enhance_your_calm small) outputs)
       (none_cut_without frame.id old.offers rest.none_cut)
+      (about_then frame.id old mid _ (about_left (taken no_outside).left (ap is_fatal (taken no_outside).faultless)) (about_changed frame.id (Over true) mid _ refl refl))
       (same_ids frame.id (Over true) inbound.rows ∙ ids_left (taken no_outside).left) (last_left (taken no_outside).left)
 
   -- What is done by an answer is right of the frame.
@@ -241,8 +256,18 @@ module _ (setup : Setup) (whole : setup.passing ≡ Whole) (old : View) (rest : 
       finish Nothing given outputs _ put_out _ new done.goes done.kept done.puts
       (refused setup old rest frame plain inbound table code (fits frame.id code small) (λ outside. (so outside).is) (so no_outside).left outputs)
       (none_cut_without frame.id old.offers rest.none_cut)
+      (record { served = λ other apart. ap (λ (rows : List Row). is_served rows other) (reset_book ∙ ap (λ (x : Book). x.rows) reset) ∙ (about_changed frame.id (Over true) left_view (record left_view { inbound = record inbound { rows = changed frame.id (Over true) left_rows } }) refl refl).served other apart ∙ frame_served setup b (noted_of frame) (ap is_fatal (so no_outside).is) kept other apart; live = refl })
       ids last
     where
+      left_rows : List Row
+      left_rows = (behind setup b frame).rows
+
+      left_view : View
+      left_view = record old { inbound = record inbound { rows = left_rows } }
+
+      reset : book_after setup false (behind setup b frame) (sending (rst_stream frame.id code)) ≡ behind_reset (behind setup b frame) (rst_stream frame.id code)
+      reset = (reset_leads setup (behind setup b frame) (noted_of (rst_stream frame.id code)) (kept_behind_entry setup false b (coming frame) kept) refl refl).book
+
       reset_book : inbound.rows ≡ (book_after setup false (behind setup b frame) (sending (rst_stream frame.id code))).rows
       reset_book = ap (λ (x : Book). x.rows) (so no_outside).left
 
@@ -257,7 +282,7 @@ module _ (setup : Setup) (whole : setup.passing ≡ Whole) (old : View) (rest : 
   acted_so (judged.Failed fault.Discarded) so so' given outputs put_out new done =
       finish Nothing given outputs outputs put_out mid new done.goes done.kept done.puts
       (passed_over setup old rest frame plain inbound table (λ outside. (so outside).left) (λ outside. (so outside).is) outputs)
-      rest.none_cut (ids_left (so no_outside).left) (last_left (so no_outside).left)
+      rest.none_cut (about_left (so no_outside).left (ap is_fatal (so no_outside).is)) (ids_left (so no_outside).left) (last_left (so no_outside).left)
   acted_so judged.Ignored so so' given outputs put_out new done =
       quiet_so judged.Ignored so frame.kind refl parts.0 parts.1 parts.2
       (λ outside. plain_owes setup (book_of outside old.inbound) frame plain (book_of outside inbound) judged.Ignored (so outside))
@@ -295,6 +320,7 @@ module _ (setup : Setup) (whole : setup.passing ≡ Whole) (old : View) (rest : 
       finish Nothing given outputs outputs put_out _ new done.goes done.kept done.puts
       (reset_by_client setup old rest frame plain inbound table so (so no_outside).says outputs)
       (none_cut_without frame.id old.offers rest.none_cut)
+      (let about = about_left (so no_outside).left (ap is_fatal (so no_outside).faultless) in record { served = about.served; live = about.live })
       (ids_left (so no_outside).left) (last_left (so no_outside).left)
   acted_so (judged.Content octets ends) so so' given outputs put_out new done =
       content_so (judged.Content octets ends) so (so no_outside).says.0 octets.now ends (so no_outside).says.1 (so no_outside).says.2 (so no_outside).says.3

@@ -18,16 +18,18 @@ use Rattle.policy.specs.Ending.{IsFatal}
 use Rattle.relay.specs.View.{View, square, Leads}
 use Rattle.relay.specs.Rest.{NoneCut}
 use Rattle.relay.specs.Bringing.{Brings}
+use Rattle.steps.specs.Closings.{IsAbout}
 use Rattle.steps.specs.block_frames.Following.{farewell_frames}
 use Rattle.steps.specs.declared.block_frames.taking.BlockTaken.{BlockTaken}
 use Rattle.steps.specs.declared.block_frames.taking.BlockTaken.TheVariants as taken
 
 -- The connection goes on: the frame came, with what is noted of its block, and what it calls for was sent; a request may be due, and the
--- farewell of the last stream may be owed yet. No stream is opened but that of the frame.
+-- farewell of the last stream may be owed yet. It was about its stream alone, and no other is opened.
 pub record IsPassed (setup : Setup) (old : View) (outputs : List Output) (frame : Frame) (request : Option Outgoing) (farewell : Option ℕ) (new : View) (put_out : List Output) : Type 0 where
   pub note : Note
   pub brings : Brings setup old square outputs (Came (record { frame = frame; note = note })) new (record square { owed = farewell_frames farewell; due = due_in request }) put_out
   pub none_cut : NoneCut new.offers
+  pub about : IsAbout frame.id old new
   pub ids : (id : ℕ) → has new.inbound.rows id ≡ true → (has old.inbound.rows id ≡ true) ⊎ (frame.id ≡ id)
 
 -- The frame is an error of the connection with this code. Nothing is put out yet, and all that the end needs is as it was.

@@ -1,9 +1,8 @@
 -- Connections that are closed, and a connection to a client that ends or is shut.
-use Rattle.std.specs.Prelude.{◌≡◌, true, List, [], ◌∷◌, ◌++◌, None}
+use Rattle.std.specs.Prelude.{◌≡◌, true, List, [], ◌∷◌, ◌++◌}
 use Rattle.model.specs.Logs.{Output}
 use Rattle.model.specs.Setup.{Setup}
 use Rattle.model.specs.Tapes.{Entry, is_closed}
-use Rattle.serving.specs.State.{Live, live_of}
 use Rattle.policy.specs.Ending.{ending_of, ending_on_tape, Ends}
 use Rattle.policy.specs.Moves.{Deed, Move, entry_of}
 use Rattle.policy.specs.Moves.Move.{Does}
@@ -14,11 +13,6 @@ use Rattle.policy.specs.Steps.{Stands}
 use Rattle.relay.specs.View.{AreSo}
 use Rattle.relay.specs.Performing.{put_all}
 use Rattle.relay.specs.Bringing.{AreOwn}
-
--- Each number of a connection stands once.
-abbrev pub AreApart : List Live → Type 0
-AreApart [] = Unit {0}
-AreApart (l ∷ ls) = (live_of l.k ls ≡ None) × AreApart ls
 
 -- Moves of the gateway's own lead behind a run to where it rests, and put this out.
 pub record IsShut (setup : Setup) (run : List Move) (s : State) (outputs put_out : List Output) : Type 0 where

@@ -18,14 +18,16 @@ use Rattle.policy.specs.Ending.{IsFatal}
 use Rattle.relay.specs.View.{View, square, Leads}
 use Rattle.relay.specs.Rest.{NoneCut}
 use Rattle.relay.specs.Bringing.{Brings}
+use Rattle.steps.specs.Closings.{IsAbout}
 use Rattle.steps.specs.declared.plain_frames.taking.Taken.{Taken}
 use Rattle.steps.specs.declared.plain_frames.taking.Taken.TheVariants as taken
 
 -- The connection goes on: the frame came, all that it calls for was sent, and a request may be due; its octets of DATA go back once its
--- effect is over. No stream is opened, and it was the last frame's stream.
+-- effect is over. It was about its stream alone; no stream is opened, and it was the last frame's stream.
 pub record IsPassed (setup : Setup) (old : View) (outputs : List Output) (frame : Frame) (due : Option Outgoing) (new : View) (put_out : List Output) : Type 0 where
   pub brings : Brings setup old square outputs (Came (noted_of frame)) new (record square { due = due_in due; fresh = data_length is_any frame }) put_out
   pub none_cut : NoneCut new.offers
+  pub about : IsAbout frame.id old new
   pub ids : ids_of new.inbound.rows ≡ ids_of old.inbound.rows
   pub last : new.inbound.last ≡ frame.id
 

@@ -1,6 +1,6 @@
 //! Connections are closed.
 
-ghost use Rattle.std.specs.Prelude.{◌≡◌, ℕ, List, [], ◌∷◌, true, OnOk};
+ghost use Rattle.std.specs.Prelude.{◌≡◌, ℕ, List, [], ◌∷◌, reverse, true, OnOk};
 ghost use Rattle.model.specs.Setup.{Setup};
 ghost use Rattle.model.specs.Logs.Act.{CloseClient};
 ghost use Rattle.model.specs.Tapes.Entry.{Did};
@@ -11,7 +11,7 @@ ghost use Rattle.policy.specs.Ending.{closed_all, ending_on_tape};
 ghost use Rattle.relay.specs.View.{View, square, Leads};
 ghost use Rattle.relay.specs.Performing.{put_all};
 ghost use Rattle.relay.specs.Rest.{told_view};
-ghost use Rattle.steps.specs.ending.Closing.{AreApart, IsShut};
+ghost use Rattle.steps.specs.ending.Closing.{IsShut};
 ghost use Rattle.steps.specs.ending.Reasons.{IsBy};
 
 use crate::ending::reason::Ending;
@@ -21,7 +21,7 @@ use std::alloc::AllocError;
 use upstreams::Upstreams;
 
 /// Ends a connection with what came in: it says farewell where that is an error, with the highest stream and the code (RFC 9113, section 6.8),
-/// and closes each open connection to an upstream and the client's. What is kept is of no use behind it, whatever it answers. An `Err` says
+/// and closes each open connection to an upstream, by rising number, and the client's. What is kept is of no use behind it, whatever it answers. An `Err` says
 /// that memory was refused.
 pub fn end(rooms: &mut Rooms, why: Ending, out: &mut Outputs) -> Result<(), AllocError>
     ensures { OnOk result ((setup : Setup) (run : List Move) (s : State) (before : View) (d : Deed) → before.upstreams ≡ rooms.old.upstreams → before.inbound.rows ≡ rooms.old.inbound.rows → Leads setup run before square s → IsBy s why d → out.new ≡ put_all out.old (ending_on_tape s d)) }
@@ -29,7 +29,7 @@ pub fn end(rooms: &mut Rooms, why: Ending, out: &mut Outputs) -> Result<(), Allo
     if let Some(code) = why.code() {
         out.send_goaway(rooms.inbound.streams().highest(), code)?;
     }
-    close_all(&mut rooms.upstreams, out)
+    close_all(&rooms.upstreams, out)
 }
 
 /// Shuts a connection that is spent: all streams that it may have were opened, and none is active any more. It closes each open connection to an
@@ -38,17 +38,16 @@ pub fn shut(rooms: &mut Rooms, out: &mut Outputs) -> Result<(), AllocError>
     requires spent { (told_view rooms.old).ends ≡ true }
     ensures { OnOk result ((setup : Setup) (run : List Move) (s : State) (fresh : ℕ) → Leads setup run rooms.old (record square { fresh = fresh }) s → IsShut setup run s out.old out.new) }
 {
-    close_all(&mut rooms.upstreams, out)
+    close_all(&rooms.upstreams, out)
 }
 
-/// Closes each open connection to an upstream, the newest first, and then the client's. An `Err` says that memory was refused.
-fn close_all(upstreams: &mut Upstreams, out: &mut Outputs) -> Result<(), AllocError>
-    ensures { OnOk result (AreApart (lives upstreams.old.live) → out.new ≡ put_all out.old (Did CloseClient ∷ closed_all (lives upstreams.old.live))) }
+/// Closes each open connection to an upstream, by rising number, and then the client's. An `Err` says that memory was refused.
+fn close_all(upstreams: &Upstreams, out: &mut Outputs) -> Result<(), AllocError>
+    ensures { OnOk result (out.new ≡ put_all out.old (Did CloseClient ∷ closed_all (reverse (lives upstreams.now.live)))) }
 {
-    // No stream is served any more, so that each connection is done with.
-    while let Some(k) = upstreams.next_done(|_stream| false) {
-        upstreams.close(k);
-        out.close_up(k)?;
+    let connections = upstreams.connections();
+    for connection in connections {
+        out.close_up(connection.number())?;
     }
     out.close_client()
 }

@@ -1,6 +1,6 @@
 //! Upstreams are heard: octets of one, the end of its connection, and its failure.
 
-ghost use Rattle.std.specs.Prelude.{◌≡◌, ℕ, ◌<◌, ◌≤◌, true, length, OnOk, is_some};
+ghost use Rattle.std.specs.Prelude.{◌≡◌, ℕ, ◌<◌, ◌≤◌, true, length, IfSome, OnOk, is_some};
 ghost use Rattle.model.specs.Logs.Event.{Up, UpEnd, UpFailed};
 ghost use Rattle.model.specs.Setup.{Setup};
 ghost use Rattle.model.specs.Setup.Passing.{Whole};
@@ -11,17 +11,18 @@ ghost use Rattle.upstreams.specs.Connections.{number_of};
 ghost use Rattle.relay.specs.View.{square};
 ghost use Rattle.relay.specs.Rest.{IsAtRest, NoneCut, Reached};
 ghost use Rattle.relay.specs.Bringing.{Brings};
+ghost use Rattle.steps.specs.Closings.{NoneDoneBut};
 
 use crate::exchanges::failing::give_up;
-use crate::exchanges::listening::{abandon, stream_of, take_end, take_octets};
+use crate::exchanges::listening::{abandon, close, stream_of, take_end, take_octets};
 use answers::{Ended, Heard};
 use outputs::Outputs;
 use relay::Rooms;
 use std::alloc::{AllocError, Global};
 
 /// Octets came of the upstream whose open connection has this number, at most 65,536 of them: what is news of its response is on offer. Where
-/// that fails with them (RFC 9110, section 15.6.3) the connection is closed, and the gateway replies itself. An `Err` says that memory was
-/// refused; then neither the rooms nor the outputs are of use any more, as from each call here.
+/// that is whole with them the connection is closed; where it fails with them (RFC 9110, section 15.6.3) it is too, and the gateway replies itself. An
+/// `Err` says that memory was refused; then neither the rooms nor the outputs are of use any more, as from each call here.
 pub fn hear(
     alloc: Global,
     rooms: &mut Rooms,
@@ -36,6 +37,7 @@ pub fn hear(
     requires reached { (setup : Setup) × (setup.passing ≡ Whole) × Reached setup rooms.old square }
     ensures brings { OnOk result ((setup : Setup) → setup.passing ≡ Whole → Brings setup rooms.old square out.old (Happened (Up k octets.now)) rooms.new square out.new) }
     ensures none_cut { OnOk result (NoneCut rooms.new.offers) }
+    ensures none_but { OnOk result (IfSome (find number_of k rooms.old.upstreams.live) (λ connection. NoneDoneBut connection.live.stream rooms.new)) }
     ensures numbered { OnOk result ((id : ℕ) → has rooms.new.inbound.rows id ≡ true → id < 2147483648) }
 {
     let stream = stream_of(rooms, k);
@@ -43,13 +45,14 @@ pub fn hear(
         Heard::GoesOn => Ok(()),
         Heard::Whole => {
             rooms.upstreams.mark_whole(k);
-            Ok(())
+            close(rooms, k, out)
         }
         Heard::Failed => abandon(rooms, k, stream, out),
     }
 }
 
-/// The upstream ended the open connection with this number (RFC 9112, section 8): its response is whole with that, or else fails.
+/// The upstream ended the open connection with this number (RFC 9112, section 8): its response is whole with that, or else fails; it is closed in
+/// both cases.
 pub fn end(alloc: Global, rooms: &mut Rooms, k: u32, out: &mut Outputs) -> Result<(), AllocError>
     requires opened { is_some (find number_of k rooms.old.upstreams.live) ≡ true }
     requires rest { IsAtRest rooms.old }
@@ -57,13 +60,14 @@ pub fn end(alloc: Global, rooms: &mut Rooms, k: u32, out: &mut Outputs) -> Resul
     requires reached { (setup : Setup) × (setup.passing ≡ Whole) × Reached setup rooms.old square }
     ensures brings { OnOk result ((setup : Setup) → setup.passing ≡ Whole → Brings setup rooms.old square out.old (Happened (UpEnd k)) rooms.new square out.new) }
     ensures none_cut { OnOk result (NoneCut rooms.new.offers) }
+    ensures none_but { OnOk result (IfSome (find number_of k rooms.old.upstreams.live) (λ connection. NoneDoneBut connection.live.stream rooms.new)) }
     ensures numbered { OnOk result ((id : ℕ) → has rooms.new.inbound.rows id ≡ true → id < 2147483648) }
 {
     let stream = stream_of(rooms, k);
     match take_end(alloc, rooms, k)? {
         Ended::Complete => {
             rooms.upstreams.mark_whole(k);
-            Ok(())
+            close(rooms, k, out)
         }
         Ended::Short => abandon(rooms, k, stream, out),
     }
@@ -77,6 +81,7 @@ pub fn fail(rooms: &mut Rooms, k: u32, out: &mut Outputs) -> Result<(), AllocErr
     requires reached { (setup : Setup) × (setup.passing ≡ Whole) × Reached setup rooms.old square }
     ensures brings { OnOk result ((setup : Setup) → setup.passing ≡ Whole → Brings setup rooms.old square out.old (Happened (UpFailed k)) rooms.new square out.new) }
     ensures none_cut { OnOk result (NoneCut rooms.new.offers) }
+    ensures none_but { OnOk result (IfSome (find number_of k rooms.old.upstreams.live) (λ connection. NoneDoneBut connection.live.stream rooms.new)) }
     ensures numbered { OnOk result ((id : ℕ) → has rooms.new.inbound.rows id ≡ true → id < 2147483648) }
 {
     let stream = stream_of(rooms, k);

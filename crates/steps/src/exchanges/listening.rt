@@ -61,6 +61,15 @@ pub(crate) fn take_end(alloc: Global, rooms: &mut Rooms, k: u32) -> Result<Ended
     Ok(ended)
 }
 
+/// Closes an open connection. An `Err` says that memory was refused.
+pub(crate) fn close(rooms: &mut Rooms, k: u32, out: &mut Outputs) -> Result<(), AllocError>
+    ensures kept { OnOk result (rooms.new ≡ closed_at k rooms.old) }
+    ensures puts { OnOk result (out.new ≡ put out.old (Does (Close k))) }
+{
+    rooms.upstreams.close(k);
+    out.close_up(k)
+}
+
 /// Closes the connection whose answer failed, and gives its stream up. An `Err` says that memory was refused.
 pub(crate) fn abandon(
     rooms: &mut Rooms,
@@ -72,7 +81,6 @@ pub(crate) fn abandon(
     requires numbered { stream < 2147483648 }
     ensures { OnOk result (IsGivenUp stream (closed_at k rooms.old) (put out.old (Does (Close k))) rooms.new out.new) }
 {
-    rooms.upstreams.close(k);
-    out.close_up(k)?;
+    close(rooms, k, out)?;
     give_up(rooms, stream, out)
 }

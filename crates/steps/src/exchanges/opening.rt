@@ -9,6 +9,7 @@ ghost use Rattle.upstreams.specs.Requests.{due_for};
 ghost use Rattle.relay.specs.View.{square};
 ghost use Rattle.relay.specs.Rest.{Reached};
 ghost use Rattle.relay.specs.Bringing.{PerformsOwn};
+ghost use Rattle.steps.specs.Closings.{NoneDoneBut};
 
 use answers::Passing;
 use outputs::Outputs;
@@ -34,6 +35,7 @@ pub fn open(
     requires reached { (setup : Setup) × (setup.passing ≡ Whole) × (setup.max_response ≡ max_response) × (owed : List Frame) × (fresh : ℕ) × Reached setup rooms.old (record square { owed = owed; due = due_for request; fresh = fresh }) }
     ensures performs { OnOk result ((setup : Setup) (owed : List Frame) (fresh : ℕ) → setup.passing ≡ Whole → setup.max_response ≡ max_response → PerformsOwn setup rooms.old (record square { owed = owed; due = due_for request; fresh = fresh }) out.old rooms.new (record square { owed = owed; fresh = fresh }) out.new) }
     ensures stays { OnOk result ((rooms.new.inbound ≡ rooms.old.inbound) × (rooms.new.offers ≡ rooms.old.offers) × (rooms.new.encoding ≡ rooms.old.encoding) × (rooms.new.untaken ≡ rooms.old.untaken)) }
+    ensures none_but { OnOk result ((id : ℕ) → NoneDoneBut id rooms.old → NoneDoneBut id rooms.new) }
 {
     let Outgoing {
         stream,

@@ -1,17 +1,19 @@
 //! Streams have their turns, as long as something can go.
 
-ghost use Rattle.std.specs.Prelude.{◌≡◌, ℕ, ◌<◌, true, Some, None, OnOk, MatchOption};
+ghost use Rattle.std.specs.Prelude.{◌≡◌, ℕ, ◌<◌, true, Some, OnOk};
 ghost use Rattle.model.specs.Admission.{high_water};
 ghost use Rattle.model.specs.Setup.{Setup};
+ghost use Rattle.model.specs.Setup.Passing.{Whole};
 ghost use Rattle.model.specs.Turns.{IsNextTurn};
 ghost use Rattle.offering.specs.State.{ready};
 ghost use Rattle.streams_kept.specs.Asked.{has};
 ghost use Rattle.offers.specs.Asked.{windows_over};
 ghost use Rattle.relay.specs.View.{square};
-ghost use Rattle.relay.specs.Rest.{NoneCut, IsFlushed, Reached};
+ghost use Rattle.relay.specs.Rest.{NoneCut, NoneDone, IsFlushed, Reached};
 ghost use Rattle.relay.specs.Bringing.{PerformsOwn};
 
 use crate::flushing::parts::{end_stream, send_part};
+use crate::paying::close_unserved;
 use outputs::Outputs;
 use relay::Rooms;
 use std::alloc::{AllocError, Global};
@@ -19,22 +21,25 @@ use std::alloc::{AllocError, Global};
 /// As long as fewer octets for the client are untaken, parts of responses begin (this project's profile).
 pub const HIGH_WATER: u64 = 65536;
 
-/// Sends the next part of the stream whose turn it is. An `Err` says that memory was refused.
+/// Sends the next part of the stream whose turn it is; where that ends the stream, no connection of it stays open. An `Err` says that memory was
+/// refused.
 fn pass_one(alloc: Global, rooms: &mut Rooms, id: u32, out: &mut Outputs) -> Result<(), AllocError>
     requires reached { (setup : Setup) × Reached setup rooms.old square }
+    requires none_done { NoneDone rooms.old }
     requires turn { IsNextTurn rooms.old.offers.last (ready (windows_over rooms.old.inbound.rows rooms.old.inbound.first_size rooms.old.inbound.window) rooms.old.offers) (Some id) }
     requires none_cut { NoneCut rooms.old.offers }
     requires numbered { (id : ℕ) → has rooms.old.inbound.rows id ≡ true → id < 2147483648 }
     requires few { rooms.old.untaken < high_water }
-    ensures performs { OnOk result ((setup : Setup) → PerformsOwn setup rooms.old square out.old rooms.new square out.new) }
+    ensures performs { OnOk result ((setup : Setup) → setup.passing ≡ Whole → PerformsOwn setup rooms.old square out.old rooms.new square out.new) }
     ensures none_cut { OnOk result (NoneCut rooms.new.offers) }
-    ensures live { OnOk result (rooms.new.upstreams.live ≡ rooms.old.upstreams.live) }
+    ensures none_done { OnOk result (NoneDone rooms.new) }
     ensures numbered { OnOk result ((id : ℕ) → has rooms.new.inbound.rows id ≡ true → id < 2147483648) }
     ensures more { OnOk result (rooms.old.untaken < rooms.new.untaken) }
 {
     let ends = send_part(alloc, rooms, id, out)?;
     if ends {
         end_stream(rooms, id, out)?;
+        close_unserved(rooms, id, out)?;
     }
     Ok(())
 }
@@ -52,18 +57,17 @@ pub fn next_turn(rooms: &Rooms) -> Option<u32>
 
 /// Sends the parts of responses that can go, each stream in its turn, while fewer than 65,536 octets for the client are untaken (RFC 9113, sections
 /// 5.1, 6.9.1 and 8.1). A stream whose response ends before its request did is reset. Nothing is on offer any more for a stream that is over, and nothing
-/// held of its request. An `Err` says that memory was refused; then the rooms and the outputs are of no use any more.
+/// held of its request, and no connection of it is open. An `Err` says that memory was refused; then the rooms and the outputs are of no use any more.
 pub fn flush(alloc: Global, rooms: &mut Rooms, out: &mut Outputs) -> Result<(), AllocError>
-    requires reached { (setup : Setup) × Reached setup rooms.old square }
+    requires reached { (setup : Setup) × (setup.passing ≡ Whole) × Reached setup rooms.old square }
     requires none_cut { NoneCut rooms.old.offers }
+    requires none_done { NoneDone rooms.old }
     requires numbered { (id : ℕ) → has rooms.old.inbound.rows id ≡ true → id < 2147483648 }
-    ensures performs { OnOk result ((setup : Setup) → PerformsOwn setup rooms.old square out.old rooms.new square out.new) }
+    ensures performs { OnOk result ((setup : Setup) → setup.passing ≡ Whole → PerformsOwn setup rooms.old square out.old rooms.new square out.new) }
     ensures flushed { OnOk result (IsFlushed rooms.new) }
     ensures none_cut { OnOk result (NoneCut rooms.new.offers) }
-    ensures live { OnOk result (rooms.new.upstreams.live ≡ rooms.old.upstreams.live) }
+    ensures none_done { OnOk result (NoneDone rooms.new) }
     ensures numbered { OnOk result ((id : ℕ) → has rooms.new.inbound.rows id ≡ true → id < 2147483648) }
-    // Where nothing was put out, nothing went.
-    ensures idle { OnOk result (rooms.new.untaken ≡ rooms.old.untaken → rooms.new ≡ rooms.old) }
 {
     while rooms.untaken < HIGH_WATER {
         let Some(id) = next_turn(rooms) else {

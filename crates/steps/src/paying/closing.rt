@@ -1,29 +1,33 @@
-//! Connections that are done with are closed.
+//! Connections of a stream that isn't served any more are closed.
 
-ghost use Rattle.std.specs.Prelude.{◌≡◌, OnOk};
+ghost use Rattle.std.specs.Prelude.{◌≡◌, option_map, OnOk};
 ghost use Rattle.model.specs.Setup.{Setup};
 ghost use Rattle.model.specs.Setup.Passing.{Whole};
-ghost use Rattle.upstreams.specs.Connections.{next_done};
+ghost use Rattle.serving.specs.State.{find};
+ghost use Rattle.upstreams.specs.Connections.{number_of, stream_of};
 ghost use Rattle.relay.specs.View.{square};
-ghost use Rattle.relay.specs.Rest.{told_view, NoneDone};
+ghost use Rattle.relay.specs.Rest.{NoneDone};
 ghost use Rattle.relay.specs.Bringing.{PerformsOwn};
+ghost use Rattle.steps.specs.Closings.{NoneDoneBut};
 
 use outputs::Outputs;
 use relay::Rooms;
 use std::alloc::AllocError;
 
-/// The number of the newest connection that is done with, if one is.
-fn next_done(rooms: &Rooms) -> Option<u32>
-    ensures { result ≡ next_done (told_view rooms.now) rooms.now.upstreams.live }
+/// The number of the newest open connection of a stream, if there is one.
+fn newest_of(rooms: &Rooms, id: u32) -> Option<u32>
+    ensures { result ≡ option_map number_of (find stream_of id rooms.now.upstreams.live) }
 {
-    rooms
-        .upstreams
-        .next_done(|stream| rooms.inbound.is_served(stream))
+    match rooms.upstreams.of_stream(id) {
+        Some(connection) => Some(connection.number()),
+        None => None,
+    }
 }
 
-/// Closes each connection that is done with: its response is whole, or its stream isn't served any more. An `Err` says that memory was refused;
-/// then neither the rooms nor the outputs are of use any more.
-pub fn close_done(rooms: &mut Rooms, out: &mut Outputs) -> Result<(), AllocError>
+/// Closes each connection of the stream that a step was about, if that isn't served any more; no other is done with. An `Err` says that memory was
+/// refused; then neither the rooms nor the outputs are of use any more.
+pub fn close_unserved(rooms: &mut Rooms, id: u32, out: &mut Outputs) -> Result<(), AllocError>
+    requires { NoneDoneBut id rooms.old }
     ensures performs { OnOk result ((setup : Setup) → setup.passing ≡ Whole → PerformsOwn setup rooms.old square out.old rooms.new square out.new) }
     ensures none_done { OnOk result (NoneDone rooms.new) }
     ensures inbound { OnOk result (rooms.new.inbound ≡ rooms.old.inbound) }
@@ -31,7 +35,10 @@ pub fn close_done(rooms: &mut Rooms, out: &mut Outputs) -> Result<(), AllocError
     ensures encoding { OnOk result (rooms.new.encoding ≡ rooms.old.encoding) }
     ensures untaken { OnOk result (rooms.new.untaken ≡ rooms.old.untaken) }
 {
-    while let Some(k) = next_done(rooms) {
+    if rooms.inbound.is_served(id) {
+        return Ok(());
+    }
+    while let Some(k) = newest_of(rooms, id) {
         rooms.upstreams.close(k);
         out.close_up(k)?;
     }

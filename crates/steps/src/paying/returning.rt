@@ -9,7 +9,7 @@ ghost use Rattle.model.specs.Tapes.{put};
 ghost use Rattle.model.specs.Windows.{greatest_window};
 ghost use Rattle.conduct.specs.Rows.{find};
 ghost use Rattle.streams_kept.specs.Asked.{has, is_active};
-ghost use Rattle.streams_kept.specs.Sending.{AreReturnable};
+ghost use Rattle.streams_kept.specs.Sending.{is_served, AreReturnable};
 ghost use Rattle.outputs.specs.Sent.{window_update};
 ghost use Rattle.relay.specs.View.{square};
 ghost use Rattle.relay.specs.Rest.{GoesOn, Reached};
@@ -84,6 +84,7 @@ pub fn settle(
     ensures numbered { OnOk result ((id : ℕ) → has rooms.new.inbound.rows id ≡ true → id < 2147483648) }
     ensures offers { OnOk result (rooms.new.offers ≡ rooms.old.offers) }
     ensures upstreams { OnOk result (rooms.new.upstreams ≡ rooms.old.upstreams) }
+    ensures served { OnOk result ((id : ℕ) → is_served rooms.new.inbound.rows id ≡ is_served rooms.old.inbound.rows id) }
     ensures encoding { OnOk result (rooms.new.encoding ≡ rooms.old.encoding) }
 {
     if octets == 0 {

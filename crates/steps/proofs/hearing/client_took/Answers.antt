@@ -3,6 +3,7 @@ use Rattle.model.specs.Logs.Event.{ClientTook}
 use Rattle.model.specs.Tapes.Entry.{Happened}
 use Rattle.model.specs.Admission.{high_water}
 use Rattle.relay.specs.View.{View, square}
+use Rattle.relay.specs.Rest.{NoneDone}
 use Rattle.steps.specs.Inputs.Input.{OfEvent}
 use Rattle.steps.specs.Resting.{now_of, IsSettled}
 use Rattle.steps.proofs.Following.{comes_then}
@@ -28,3 +29,6 @@ returns-then-were_few-clause-comes c setup whole =
 
 pub returns-then-were_few-clause-rests : goal.returns-then-were_few-clause-rests
 returns-then-were_few-clause-rests c = subst IsSettled (sym c.note_client_took.ensures.counts) (client_rests c.args.rooms.now c.args.count (subst (λ (v : View). v.untaken < high_water) c.rooms.view_is c.if-were_few.true) c.requires.settled)
+
+pub rest-requires-clause-none_done : goal.rest-requires-clause-none_done
+rest-requires-clause-none_done c = subst NoneDone (sym c.note_client_took.ensures.counts) c.requires.settled.rest.none_done

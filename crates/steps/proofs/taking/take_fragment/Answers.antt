@@ -1,14 +1,18 @@
-use Rattle.std.proofs.Common.{◌≡◌, true, sym, ◌∙◌, refl, subst}
+use Rattle.std.proofs.Common.{◌≡◌, true, sym, ◌∙◌, ap, refl, subst}
 use Rattle.model.specs.Tapes.Entry.{Came}
 use Rattle.frames.specs.Views.{frame_of}
 use Rattle.judgement.specs.Inbound.{Inbound}
 use Rattle.offering.specs.State as offering
 use Rattle.streams_kept.specs.Asked.{has}
+use Rattle.streams_kept.specs.Sending.{is_served}
+use Rattle.upstreams.specs.Kept.{State}
+use Rattle.upstreams.specs.Connections.{lives}
 use Rattle.steps.specs.block_frames.Following.{farewell_frames}
 use Rattle.relay.specs.View.{square}
 use Rattle.relay.specs.Rest.{NoneCut}
 use Rattle.steps.specs.Inputs.Input.{OfFrame}
 use Rattle.steps.specs.Resting.{now_of}
+use Rattle.steps.proofs.Closings.{about_but, but_stays}
 use Rattle.steps.proofs.Following.{comes_then}
 use Rattle.steps.proofs.Frames.{numbered_with, block_goes, block_ends, block_brings, fatal_comes}
 use Rattle.steps.proofs.Results.{if_ok}
@@ -22,8 +26,8 @@ serve-requires c =
     let here = passed.brings before.2.0 before.2.1 before.2.2 in
     record { reached = (before.0, before.1.whole, before.1.response, farewell_frames c.in-Goes.farewell, 0, (_, here.segment.state, here.segment.leads)) }
 
-pub rest-requires-clause-reached : goal.rest-requires-clause-reached
-rest-requires-clause-reached c =
+pub rest_behind-requires-clause-reached : goal.rest_behind-requires-clause-reached
+rest_behind-requires-clause-reached c =
     let before = c.requires.reached in
     let passed =
     block_goes before.0 c.args.rooms.now c.take_block.new.rooms c.args.out.now c.take_block.new.out (frame_of c.args.view) c.in_ok-code.field-0 c.in-Goes.request c.in-Goes.farewell c.in-Goes.is (c.in_ok-code.ensures before.0 before.1.terms before.1.whole) in
@@ -32,15 +36,23 @@ rest-requires-clause-reached c =
     (λ owed n. c.in_ok-serve-in-Goes.ensures.performs before.0 owed n before.1.whole before.1.response) (c.in_ok-say_farewell-in-Goes.ensures.performs before.0) before.2.0 before.2.1 before.2.2 in
     (before.0, before.1.whole, (_, here.segment.state, here.segment.leads))
 
-pub rest-requires-clause-none_cut : goal.rest-requires-clause-none_cut
-rest-requires-clause-none_cut c =
+pub rest_behind-requires-clause-none_cut : goal.rest_behind-requires-clause-none_cut
+rest_behind-requires-clause-none_cut c =
     let before = c.requires.reached in
     let passed =
     block_goes before.0 c.args.rooms.now c.take_block.new.rooms c.args.out.now c.take_block.new.out (frame_of c.args.view) c.in_ok-code.field-0 c.in-Goes.request c.in-Goes.farewell c.in-Goes.is (c.in_ok-code.ensures before.0 before.1.terms before.1.whole) in
     subst (λ (o : offering.State). NoneCut o) (sym (c.in_ok-say_farewell-in-Goes.ensures.stays.1 ∙ c.in_ok-serve-in-Goes.ensures.stays.1)) passed.none_cut
 
-pub rest-requires-clause-numbered : goal.rest-requires-clause-numbered
-rest-requires-clause-numbered c id kept =
+pub rest_behind-requires-clause-none_but : goal.rest_behind-requires-clause-none_but
+rest_behind-requires-clause-none_but c =
+    let before = c.requires.reached in
+    let passed =
+    block_goes before.0 c.args.rooms.now c.take_block.new.rooms c.args.out.now c.take_block.new.out (frame_of c.args.view) c.in_ok-code.field-0 c.in-Goes.request c.in-Goes.farewell c.in-Goes.is (c.in_ok-code.ensures before.0 before.1.terms before.1.whole) in
+    but_stays c.args.view.id c.serve.new.rooms c.say_farewell.new.rooms (λ stream. ap (λ (i : Inbound). is_served i.rows stream) c.in_ok-say_farewell-in-Goes.ensures.stays.0) (ap (λ (u : State). lives u.live) c.in_ok-say_farewell-in-Goes.ensures.upstreams)
+    (c.in_ok-serve-in-Goes.ensures.none_but c.args.view.id (about_but c.args.view.id c.args.rooms.now c.take_block.new.rooms passed.about c.requires.settled.rest.none_done))
+
+pub rest_behind-requires-clause-numbered : goal.rest_behind-requires-clause-numbered
+rest_behind-requires-clause-numbered c id kept =
     let before = c.requires.reached in
     let passed =
     block_goes before.0 c.args.rooms.now c.take_block.new.rooms c.args.out.now c.take_block.new.out (frame_of c.args.view) c.in_ok-code.field-0 c.in-Goes.request c.in-Goes.farewell c.in-Goes.is (c.in_ok-code.ensures before.0 before.1.terms before.1.whole) in
@@ -56,10 +68,10 @@ returns-in_ok-end-in-Fatal-clause-comes c setup served =
 
 pub returns-in_ok-say_farewell-in-Goes-clause-comes : goal.returns-in_ok-say_farewell-in-Goes-clause-comes
 returns-in_ok-say_farewell-in-Goes-clause-comes c =
-    if_ok c.rest.result
+    if_ok c.rest_behind.result
     (λ went follows setup served.
     let passed =
     block_goes setup c.args.rooms.now c.take_block.new.rooms c.args.out.now c.take_block.new.out (frame_of c.args.view) c.in_ok-code.field-0 c.in-Goes.request c.in-Goes.farewell c.in-Goes.is (c.in_ok-code.ensures setup served.terms served.whole) in
-    comes_then setup c.args.rooms.now c.say_farewell.new.rooms square square square c.args.out.now c.say_farewell.new.out c.rest.new.out (Came (record { frame = frame_of c.args.view; note = passed.note })) (OfFrame (frame_of c.args.view)) (now_of went c.rest.new.rooms) refl
+    comes_then setup c.args.rooms.now c.say_farewell.new.rooms square square square c.args.out.now c.say_farewell.new.out c.rest_behind.new.out (Came (record { frame = frame_of c.args.view; note = passed.note })) (OfFrame (frame_of c.args.view)) (now_of went c.rest_behind.new.rooms) refl
     (block_brings setup c.args.rooms.now c.take_block.new.rooms c.serve.new.rooms c.say_farewell.new.rooms c.args.out.now c.take_block.new.out c.serve.new.out c.say_farewell.new.out (frame_of c.args.view) c.in-Goes.request c.in-Goes.farewell passed
-    (λ owed n. c.in_ok-serve-in-Goes.ensures.performs setup owed n served.whole served.response) (c.in_ok-say_farewell-in-Goes.ensures.performs setup)) (follows setup served.whole)) c.rest.ensures.follows
+    (λ owed n. c.in_ok-serve-in-Goes.ensures.performs setup owed n served.whole served.response) (c.in_ok-say_farewell-in-Goes.ensures.performs setup)) (follows setup served.whole)) c.rest_behind.ensures.follows

@@ -10,6 +10,7 @@ use Rattle.relay.specs.View.{square}
 use Rattle.relay.specs.Rest.{NoneCut}
 use Rattle.steps.specs.Inputs.Input.{OfFrame}
 use Rattle.steps.specs.Resting.{now_of}
+use Rattle.steps.proofs.Closings.{about_but}
 use Rattle.steps.proofs.Following.{comes_then}
 use Rattle.steps.proofs.Frames.{numbered_as, plain_goes, plain_ends, plain_brings, fatal_comes}
 use Rattle.steps.proofs.Results.{if_ok}
@@ -46,6 +47,13 @@ follow-requires-clause-none_cut c =
     let passed =
     plain_goes before.0 c.args.rooms.now c.take_plain.new.rooms c.args.out.now c.take_plain.new.out (frame_of c.args.view) c.in_ok-code.field-0 c.in-Goes.request c.in-Goes.is (c.in_ok-code.ensures before.0 before.1.terms.max_body before.1.whole) in
     subst (λ (o : offering.State). NoneCut o) (sym c.in_ok-serve-in-Goes.ensures.stays.1) passed.none_cut
+
+pub follow-requires-clause-none_but : goal.follow-requires-clause-none_but
+follow-requires-clause-none_but c =
+    let before = c.requires.reached in
+    let passed =
+    plain_goes before.0 c.args.rooms.now c.take_plain.new.rooms c.args.out.now c.take_plain.new.out (frame_of c.args.view) c.in_ok-code.field-0 c.in-Goes.request c.in-Goes.is (c.in_ok-code.ensures before.0 before.1.terms.max_body before.1.whole) in
+    c.in_ok-serve-in-Goes.ensures.none_but c.args.view.id (about_but c.args.view.id c.args.rooms.now c.take_plain.new.rooms passed.about c.requires.settled.rest.none_done)
 
 pub follow-requires-clause-numbered : goal.follow-requires-clause-numbered
 follow-requires-clause-numbered c id kept =

@@ -6,4 +6,4 @@ use Rattle.streams_kept.proofs.Streams.shifts_past.Goals as goal
 
 pub returns : goal.returns
 returns c =
-    rw (← c.self.view_is) (c.shifts_past.ensures ∙ ap (list_any (is_shifted_past c.args.first)) c.deref.ensures.value ∙ shifts_told c.self.inside.entries.items c.self.inside.records.items c.self.inside.active c.args.first c.self.invariant)
+    rw (← c.self.view_is) (c.shifts_past.ensures ∙ ap (list_any (is_shifted_past c.args.first)) c.deref.ensures.value ∙ shifts_told c.self.inside.entries.items c.self.inside.places.items c.self.inside.active c.args.first c.self.invariant)

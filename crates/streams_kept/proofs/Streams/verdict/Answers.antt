@@ -15,15 +15,15 @@ use Rattle.streams_kept.proofs.Streams.verdict.Goals as goal
 
 pub returns-clause-is : goal.returns-clause-is
 returns-clause-is c =
-    let counted = active_is c.self.inside.entries.items c.self.inside.records.items c.self.inside.active c.self.invariant in
+    let counted = active_is c.self.inside.entries.items c.self.inside.places.items c.self.inside.active c.self.invariant in
     c.verdict_at.ensures
     ∙ ap (λ (s : Standing). states.verdict c.self.inside.active s (kind_in c.args.kind)) c.standing-standing.ensures
     ∙ ap (λ (n : ℕ). states.verdict n (standing c.args.self.now c.args.id) (kind_in c.args.kind)) (rw (← c.self.view_is) counted)
 
 pub returns-clause-allows : goal.returns-clause-allows
 returns-clause-allows c =
-    let few : length (rows_in c.self.inside.entries.items c.self.inside.records.items) ≤ most_streams = omega (arith, count_rows c.self.inside.entries.items c.self.inside.records.items, c.self.invariant.few) in
-    let counted = active_is c.self.inside.entries.items c.self.inside.records.items c.self.inside.active c.self.invariant in
+    let few : length (rows_in c.self.inside.entries.items c.self.inside.places.items) ≤ most_streams = omega (arith, count_rows c.self.inside.entries.items c.self.inside.places.items, c.self.invariant.few) in
+    let counted = active_is c.self.inside.entries.items c.self.inside.places.items c.self.inside.active c.self.invariant in
     let is : verdict_in c.verdict_at.result ≡ verdict c.args.self.now c.args.id (kind_in c.args.kind) =
     c.verdict_at.ensures
     ∙ ap (λ (s : Standing). states.verdict c.self.inside.active s (kind_in c.args.kind)) c.standing-standing.ensures

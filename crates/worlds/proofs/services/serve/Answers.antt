@@ -1,35 +1,46 @@
 use Rattle.std.proofs.Common.{[], refl, ◌∙◌, arith}
 use Rattle.gateway.specs.Setups.{setup_of}
 use Rattle.worlds.specs.declared.services.Ended.TheVariants.{Turns}
-use Rattle.worlds.proofs.Adding.{serves_none, serves_run, same_fault}
+use Rattle.worlds.proofs.Adding.{serves_none, serves_run, same_fault, hands_none, hands_of}
 use Rattle.worlds.proofs.services.serve.Goals as goal
 
 pub returns-in-Ok-Some-clause-run : goal.returns-in-Ok-Some-clause-run
 returns-in-Ok-Some-clause-run g c = λ before e.
-    serves_run _ _ c.in-Ok-Some.ended _ c.take_turn.new.gateway before
-    ((rw c.in-Ok-Some.field-0-is at c.in-Ok-Some.ensures.log) (setup_of c.args.config.now) before (c.loop-turn.invariant.log before e)) refl
+    serves_run _ _ c.in-Ok-Some.ended _ c.take_turn.new.gateway c.take_turn.new.rooms.items _ _ before
+    ((rw c.in-Ok-Some.field-0-is at c.in-Ok-Some.ensures.log) (setup_of c.args.config.now) before _ (c.loop-turn.invariant.log before e)) refl
+
+pub returns-in-Ok-Some-clause-hands : goal.returns-in-Ok-Some-clause-hands
+returns-in-Ok-Some-clause-hands g c = λ before e.
+    hands_of _ _ _ c.take_turn.new.gateway c.take_turn.new.rooms.items _ _ before
+    ((rw c.in-Ok-Some.field-0-is at c.in-Ok-Some.ensures.log) (setup_of c.args.config.now) before _ (c.loop-turn.invariant.log before e))
 
 pub returns-in-Err-clause-front : goal.returns-in-Err-clause-front
-returns-in-Err-clause-front g c = λ e before h. c.in-Err.ensures.front (same_fault _ _ e) (setup_of c.args.config.now) before (c.loop-turn.invariant.log before h)
+returns-in-Err-clause-front g c = λ e before h. c.in-Err.ensures.front (same_fault _ _ e) (setup_of c.args.config.now) before _ (c.loop-turn.invariant.log before h)
 
 pub returns-in-Err-clause-refused : goal.returns-in-Err-clause-refused
-returns-in-Err-clause-refused g c = λ e before h. c.in-Err.ensures.refused (same_fault _ _ e) (setup_of c.args.config.now) before (c.loop-turn.invariant.log before h)
+returns-in-Err-clause-refused g c = λ e before h. c.in-Err.ensures.refused (same_fault _ _ e) (setup_of c.args.config.now) before _ (c.loop-turn.invariant.log before h)
+
+pub returns-in-Err-clause-hands : goal.returns-in-Err-clause-hands
+returns-in-Err-clause-hands g c = λ before h. c.in-Err.ensures.hands (setup_of c.args.config.now) before _ (c.loop-turn.invariant.log before h)
 
 pub loop-turn-init : goal.loop-turn-init
 loop-turn-init g c = record {
   calls = omega arith;
   failures = refl;
   stands = ([], [], c.in-Ok.ensures);
-  log = λ before e. serves_none (setup_of c.args.config.now) _ c.in-Ok.gateway before e c.in-Ok.ensures;
+  log = λ before e. serves_none (setup_of c.args.config.now) _ c.in-Ok.gateway c.new-rooms.result.items _ before e c.new-rooms.ensures.items c.in-Ok.ensures;
 }
 
 pub loop-turn-preserved : goal.loop-turn-preserved
 loop-turn-preserved g c = record {
-  calls = (let a = c.in-Ok-None.ensures.calls in let i = c.loop-turn.invariant.calls in omega arith);
+  calls = (let a = c.in-Ok-None.ensures.calls in let i = c.loop-turn.invariant.calls in omega (arith, a, i));
   failures = c.in-Ok-None.ensures.failures ∙ c.loop-turn.invariant.failures;
   stands = c.in-Ok-None.ensures.stands (setup_of c.args.config.now) c.loop-turn.invariant.stands;
-  log = λ before e. (rw c.in-Ok-None.field-0-is at c.in-Ok-None.ensures.log) (setup_of c.args.config.now) before (c.loop-turn.invariant.log before e);
+  log = λ before e. (rw c.in-Ok-None.field-0-is at c.in-Ok-None.ensures.log) (setup_of c.args.config.now) before _ (c.loop-turn.invariant.log before e);
 }
 
 pub returns-clause-run : goal.returns-clause-run
-returns-clause-run g c = λ before e. serves_run _ _ Turns _ c.loop-turn.gateway before (c.loop-turn.invariant.log before e) refl
+returns-clause-run g c = λ before e. serves_run _ _ Turns _ c.loop-turn.gateway c.loop-turn.rooms.items _ _ before (c.loop-turn.invariant.log before e) refl
+
+pub returns-clause-hands : goal.returns-clause-hands
+returns-clause-hands g c = λ before e. hands_of _ _ _ c.loop-turn.gateway c.loop-turn.rooms.items _ _ before (c.loop-turn.invariant.log before e)

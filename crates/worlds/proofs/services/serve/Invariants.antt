@@ -9,5 +9,6 @@ invariant-loop-turn g l = record {
   calls : g.W.World.calls l.world ≡ g.W.World.calls l.fn.world + l._turn;
   failures : g.W.World.failures l.world ≡ g.W.World.failures l.fn.world;
   stands : StandsSomewhere (setup_of l.fn.config) l.gateway;
-  log : (before : List Step) → g.W.World.log l.fn.world ≡ Some before → Serves (setup_of l.fn.config) false (g.W.World.log l.world) l.gateway before;
+  log : (before : List Step) → g.W.World.log l.fn.world ≡ Some before
+      → Serves (setup_of l.fn.config) false (g.W.World.log l.world) l.gateway l.rooms.items (g.W.World.handed l.fn.world) (g.W.World.handed l.world) before;
 }

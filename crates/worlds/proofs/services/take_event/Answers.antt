@@ -1,4 +1,4 @@
-use Rattle.std.proofs.Common.{refl, ap, not, ◌∙◌, ◌++◌, sym}
+use Rattle.std.proofs.Common.{refl, ap, not, ◌∙◌, ◌++◌, reverse, sym}
 use Rattle.worlds.specs.Worlds.{came}
 use Rattle.worlds.proofs.Adding.{Steps, stands_on, serves_more, front_lacks, on_ok_at}
 use Rattle.worlds.proofs.services.take_event.Goals as goal
@@ -15,14 +15,15 @@ returns-in-Ok-clause-stands g c =
     stands_on c.args.gateway.now c.step.new.self c.args.event.now c.new-outputs.result.items c.step.new.out.items steps
 
 pub returns-in-Ok-clause-log : goal.returns-in-Ok-clause-log
-returns-in-Ok-clause-log g c = λ setup before added run is stands still.
+returns-in-Ok-clause-log g c = λ setup before added run old is stands still rooms hands.
     let steps : Steps c.args.gateway.now c.step.new.self c.args.event.now c.new-outputs.result.items c.step.new.out.items = record {
       none = c.new-outputs.ensures.items;
       puts = on_ok_at c.step.result (c.is_err.ensures.negation ∙ ap not c.if-is_err.false) c.step.ensures.stands;
     } in
-    serves_more setup c.args.gateway.now c.step.new.self before added run c.args.event.now c.new-outputs.result.items c.step.new.out.items _ c.closes_client.result
+    serves_more setup c.args.gateway.now c.step.new.self before added run c.args.event.now c.new-outputs.result.items c.step.new.out.items _ c.closes_client.result c.note_step.new.rooms.items old _ _
     ((rw c.deref-2.ensures.value at c.in-Ok.ensures.log) (before ++ added) (came c.args.event.now) is) steps
     (rw c.deref-in-Ok.ensures.value at c.closes_client.ensures) still stands
+    (λ next. on_ok_at c.note_step.result (c.is_err-2.ensures.negation ∙ ap not c.if-is_err-2.false) (rw c.deref.ensures.value at c.note_step.ensures) setup (reverse added) run next rooms) hands c.apply_all.ensures.handed
 
 pub returns-clause-front : goal.returns-clause-front
 returns-clause-front g c = λ e setup before added run is stands.

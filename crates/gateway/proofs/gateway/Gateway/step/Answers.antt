@@ -11,7 +11,7 @@ returns-in-Ok-clause-stands c =
       steps.1,
       λ setup log run stands.
           let next = steps.2 setup log run stands in
-          record { segment = next.segment; stands = c.let_go_if_over.ensures.stands setup (record { event = event_of c.args.event.now; outputs = steps.0 } ∷ log) (next.segment ++ run) next.stands },
+          record { segment = next.segment; step_is = next.step_is; stands = c.let_go_if_over.ensures.stands setup (record { event = event_of c.args.event.now; outputs = steps.0 } ∷ log) (next.segment ++ run) next.stands },
     )
 
 pub returns-in-Ok-clause-held : goal.returns-in-Ok-clause-held

@@ -1,20 +1,22 @@
 use Rattle.std.proofs.Common.{◌≡◌, sym, ap, ◌∙◌, subst, List, None}
 use Rattle.offering.specs.State.{Kept, State, find, without}
-use Rattle.offers.specs.Places.{IsAt, AreRising}
-use Rattle.offers.proofs.Rising.{without_at, without_none, rising_without}
+use Rattle.offers.specs.Places.{IsAt, AreSound}
+use Rattle.offers.proofs.Rising.{without_at, without_none}
+use Rattle.offers.proofs.Changing.{sound_without}
 use Rattle.offers.proofs.offers.Offers.close.Goals as goal
 
 pub invariant_of-self : goal.invariant_of-self
 invariant_of-self c =
-    let ks = c.self.inside.kept.items in
-    let is : IsAt ks c.args.id c.in-Some.place = rw (← c.deref.ensures.value) c.in-Some.ensures.found in
-    subst AreRising (without_at c.args.id ks c.in-Some.place c.self.invariant is ∙ sym c.remove_at.ensures) (rising_without c.args.id ks c.self.invariant)
+    let s : State = record { kept = c.self.inside.kept.items; last = c.self.inside.last } in
+    let is : IsAt s.kept c.args.id c.in-Some.place = rw (← c.deref.ensures.value) c.in-Some.ensures.found in
+    subst (λ (ks : List Kept). AreSound ks c.behind-self-inside.result) (sym c.remove_at.ensures)
+    (sound_without s c.args.id c.in-Some.place c.self.invariant.rising is c.index.result.now c.index.ensures c.self.inside.offered c.behind-self-inside.result c.self.invariant.told c.is_offered-had.result c.is_offered-had.ensures c.behind-self-inside.ensures)
 
 pub returns-in-Some : goal.returns-in-Some
 returns-in-Some c =
     let ks = c.self.inside.kept.items in
     let is : IsAt ks c.args.id c.in-Some.place = rw (← c.deref.ensures.value) c.in-Some.ensures.found in
-    ap (λ (xs : List Kept). let it : State = record { kept = xs; last = c.self.inside.last } in it) (c.remove_at.ensures ∙ sym (without_at c.args.id ks c.in-Some.place c.self.invariant is))
+    ap (λ (xs : List Kept). let it : State = record { kept = xs; last = c.self.inside.last } in it) (c.remove_at.ensures ∙ sym (without_at c.args.id ks c.in-Some.place c.self.invariant.rising is))
     ∙ ap (λ (s : State). let it : State = record { kept = without c.args.id s.kept; last = s.last } in it) c.self.view_is
 
 pub returns-in_default : goal.returns-in_default

@@ -10,5 +10,5 @@ returns-in-Some c =
     let s : State = record { kept = c.self.inside.kept.items; last = c.self.inside.last } in
     let is : IsAt s.kept c.args.id c.in-Some.place = rw (← c.deref.ensures.value) c.in-Some.ensures.found in
     c.is_cut.ensures
-    ∙ sym (ap is_cut_if (stream_found s c.args.id c.in-Some.place c.self.invariant is c.index.result.now c.index.ensures))
+    ∙ sym (ap is_cut_if (stream_found s c.args.id c.in-Some.place c.self.invariant.rising is c.index.result.now c.index.ensures))
     ∙ ap (λ (x : State). is_cut c.args.id x.kept) c.self.view_is

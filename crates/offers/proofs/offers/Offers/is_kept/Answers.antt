@@ -11,5 +11,5 @@ returns c =
     let found = subst (λ (ks : List Kept). IfSome c.place_of.result (IsAt ks c.args.id)) c.deref.ensures.value c.place_of.ensures.found in
     let absent = subst (λ (ks : List Kept). IfNone c.place_of.result (find c.args.id ks ≡ None)) c.deref.ensures.value c.place_of.ensures.absent in
     c.is_some.ensures
-    ∙ kept_is c.args.id c.self.inside.kept.items c.place_of.result c.self.invariant found absent
+    ∙ kept_is c.args.id c.self.inside.kept.items c.place_of.result c.self.invariant.rising found absent
     ∙ ap (λ (s : State). is_kept c.args.id s.kept) c.self.view_is

@@ -1,12 +1,13 @@
-use Rattle.std.proofs.Common.{◌≡◌, sym, ap, ◌∙◌, subst, true, [], ◌∷◌, ◌++◌}
+use Rattle.std.proofs.Common.{◌≡◌, sym, ap, ◌∙◌, subst, true, List, [], ◌∷◌, ◌++◌}
 use Rattle.offering.specs.State.{Kept, State, blank}
-use Rattle.offers.specs.Places.{AreRising}
+use Rattle.offers.specs.Places.{AreSound}
 use Rattle.offers.specs.Asked.{is_above_all}
 use Rattle.offers.proofs.Rising.{rising_more}
+use Rattle.offers.proofs.OnOffer.{told_more}
 use Rattle.offers.proofs.offers.Offers.open.Goals as goal
 
 pub invariant_of-self-2 : goal.invariant_of-self-2
 invariant_of-self-2 c =
     let above : is_above_all c.args.id c.self.inside.kept.items ≡ true = ap (λ (s : State). is_above_all c.args.id s.kept) c.self.view_is ∙ c.requires in
     let pushed : c.push.new.self.items ≡ c.self.inside.kept.items ++ blank c.args.id ∷ [] = c.in_ok-push.ensures.items ∙ ap (λ (k : Kept). c.self.inside.kept.items ++ k ∷ []) c.new.ensures in
-    subst AreRising (sym pushed) (rising_more c.args.id c.self.inside.kept.items above c.self.invariant)
+    subst (λ (ks : List Kept). AreSound ks c.self.inside.offered) (sym pushed) (record { rising = rising_more c.args.id c.self.inside.kept.items above c.self.invariant.rising; told = told_more c.self.inside.offered c.self.inside.kept.items c.self.invariant.told c.args.id })

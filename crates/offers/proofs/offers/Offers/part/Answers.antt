@@ -13,12 +13,12 @@ returns-clause-is c =
     let s : State = record { kept = c.self.inside.kept.items; last = c.self.inside.last } in
     let is : IsAt s.kept c.args.id c.in-Some.place = rw (← c.deref.ensures.value) c.in-Some.ensures.found in
     c.next.ensures
-    ∙ sym (part_here s c.args.id c.in-Some.place c.self.invariant is c.index.result.now c.index.ensures c.args.most)
+    ∙ sym (part_here s c.args.id c.in-Some.place c.self.invariant.rising is c.index.result.now c.index.ensures c.args.most)
     ∙ ap (λ (x : State). part_for c.args.most c.args.id x.kept) c.self.view_is
 
 pub returns-clause-head : goal.returns-clause-head
 returns-clause-head c =
     let s : State = record { kept = c.self.inside.kept.items; last = c.self.inside.last } in
     let is : IsAt s.kept c.args.id c.in-Some.place = rw (← c.deref.ensures.value) c.in-Some.ensures.found in
-    let part : option_map part_in c.next.result ≡ part_for c.args.most c.args.id s.kept = c.next.ensures ∙ sym (part_here s c.args.id c.in-Some.place c.self.invariant is c.index.result.now c.index.ensures c.args.most) in
+    let part : option_map part_in c.next.result ≡ part_for c.args.most c.args.id s.kept = c.next.ensures ∙ sym (part_here s c.args.id c.in-Some.place c.self.invariant.rising is c.index.result.now c.index.ensures c.args.most) in
     ap is_head part ∙ head_for c.args.most c.args.id s.kept ∙ ap (λ (x : State). is_head (part_for 1 c.args.id x.kept)) c.self.view_is

@@ -3,14 +3,14 @@ use Rattle.offering.specs.State.{State}
 use Rattle.offers.specs.Places.{IsAt}
 use Rattle.offers.specs.Asked.{part_for, is_head}
 use Rattle.offers.specs.Changes.{IsHeadGone}
-use Rattle.offers.proofs.Changing.{part_here, rising_to, head_gone_to}
+use Rattle.offers.proofs.Changing.{part_here, sound_to, same_read, head_gone_to}
 use Rattle.offers.proofs.offers.Offers.take_head.Goals as goal
 
-pub take_head-requires : goal.take_head-requires
-take_head-requires c =
+pub take_head-head-requires : goal.take_head-head-requires
+take_head-head-requires c =
     let s : State = record { kept = c.self.inside.kept.items; last = c.self.inside.last } in
     let is : IsAt s.kept c.args.id c.in-Some.place = rw (← c.deref.ensures.value) c.in-Some.ensures.found in
-    ap is_head (sym (part_here s c.args.id c.in-Some.place c.self.invariant is c.index_mut.result.now c.index_mut.ensures.value 1))
+    ap is_head (sym (part_here s c.args.id c.in-Some.place c.self.invariant.rising is c.index_mut.result.now c.index_mut.ensures.value 1))
     ∙ ap (λ (x : State). is_head (part_for 1 c.args.id x.kept)) c.self.view_is
     ∙ c.requires
 
@@ -18,11 +18,11 @@ pub invariant_of-self : goal.invariant_of-self
 invariant_of-self c =
     let s : State = record { kept = c.self.inside.kept.items; last = c.self.inside.last } in
     let is : IsAt s.kept c.args.id c.in-Some.place = rw (← c.deref.ensures.value) c.in-Some.ensures.found in
-    rising_to s c.args.id c.in-Some.place c.self.invariant is c.index_mut.result.now c.index_mut.ensures.value c.take_head.new.self (ap (λ k. k.id) c.take_head.ensures.is)
+    sound_to s c.args.id c.in-Some.place c.self.invariant.rising is c.index.result.now c.index.ensures c.self.inside.offered c.behind-self-inside.result c.self.invariant.told c.take_head-head.new.self c.index-2.result.now c.is_offered-had.result c.is_offered.result c.is_offered-had.ensures (ap (λ k. k.id) c.take_head-head.ensures.is ∙ same_read s.kept c.in-Some.place c.index_mut.result.now c.index.result.now is.within c.index_mut.ensures.value c.index.ensures) c.index-2.ensures c.is_offered.ensures c.behind-self-inside.ensures
 
 pub returns : goal.returns
 returns c =
     let s : State = record { kept = c.self.inside.kept.items; last = c.self.inside.last } in
     let is : IsAt s.kept c.args.id c.in-Some.place = rw (← c.deref.ensures.value) c.in-Some.ensures.found in
-    subst (λ (old : State). IsHeadGone old c.args.id c.take_head.result (record { kept = set s.kept c.in-Some.place c.take_head.new.self; last = c.args.id })) c.self.view_is
-    (head_gone_to s c.args.id c.in-Some.place c.self.invariant is c.index_mut.result.now c.index_mut.ensures.value c.take_head.new.self c.take_head.result c.take_head.ensures)
+    subst (λ (old : State). IsHeadGone old c.args.id c.take_head-head.result (record { kept = set s.kept c.in-Some.place c.take_head-head.new.self; last = c.args.id })) c.self.view_is
+    (head_gone_to s c.args.id c.in-Some.place c.self.invariant.rising is c.index_mut.result.now c.index_mut.ensures.value c.take_head-head.new.self c.take_head-head.result c.take_head-head.ensures)

@@ -1,9 +1,8 @@
-use Rattle.std.proofs.Common.{length}
-use Rattle.steps.proofs.ending.Closes.{Goes}
+use Rattle.std.proofs.Common.{◌≡◌, take}
+use Rattle.upstreams.specs.Connections.{lives}
+use Rattle.policy.specs.Ending.{closed_all}
+use Rattle.relay.specs.Performing.{put_all}
 use Rattle.steps.proofs.ending.closing.close_all.Given as goal
 
-abbrev pub invariant-loop-k : goal.invariant-loop-k
-invariant-loop-k l = Goes l.fn.upstreams.live l.fn.out l.upstreams.live l.out
-
-abbrev pub decreases-loop-k : goal.decreases-loop-k
-decreases-loop-k l = length l.upstreams.live
+abbrev pub invariant-loop-connection : goal.invariant-loop-connection
+invariant-loop-connection l = l.out ≡ put_all l.fn.out (closed_all (lives (take l.connection-index l.connections)))

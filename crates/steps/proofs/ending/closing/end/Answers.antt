@@ -1,4 +1,4 @@
-use Rattle.std.proofs.Common.{◌≡◌, ℕ, List, ◌∷◌, Option, sym, ◌∙◌, ap, subst}
+use Rattle.std.proofs.Common.{◌≡◌, ℕ, List, ◌∷◌, reverse, Option, sym, ◌∙◌, ap, subst}
 use Rattle.model.specs.Frames.{spell, goaway}
 use Rattle.model.specs.Logs.Act.{CloseClient}
 use Rattle.model.specs.Logs.Output.{ToClient}
@@ -10,7 +10,6 @@ use Rattle.upstreams.specs.Connections.{lives}
 use Rattle.policy.specs.Ending.{frames_sent, closed_all}
 use Rattle.relay.specs.Performing.{put_all}
 use Rattle.relay.specs.View.{View}
-use Rattle.steps.specs.ending.Closing.{AreApart}
 use Rattle.steps.specs.ending.Reasons.{code_in}
 use Rattle.steps.proofs.ending.Closes.{on_ok}
 use Rattle.steps.proofs.ending.Farewells.{farewells, ends}
@@ -32,6 +31,6 @@ returns c =
     on_ok c.close_all.result
     (λ closes setup run s before d same rows leads by.
     ends setup run s before c.args.rooms.now c.args.why d c.args.out.now c.match-code.out c.close_all.new.out told
-    (subst (λ (v : View). AreApart (lives v.upstreams.live) → c.close_all.new.out ≡ put_all c.match-code.out (Did CloseClient ∷ closed_all (lives v.upstreams.live))) c.rooms.view_is closes)
+    (subst (λ (v : View). c.close_all.new.out ≡ put_all c.match-code.out (Did CloseClient ∷ closed_all (reverse (lives v.upstreams.live)))) c.rooms.view_is closes)
     same rows leads by)
     c.close_all.ensures

@@ -1,11 +1,10 @@
-use Rattle.std.proofs.Common.{◌≡◌, ◌∷◌, subst}
+use Rattle.std.proofs.Common.{◌≡◌, ◌∷◌, reverse, subst}
 use Rattle.model.specs.Logs.Act.{CloseClient}
 use Rattle.model.specs.Tapes.Entry.{Did}
 use Rattle.upstreams.specs.Connections.{lives}
 use Rattle.policy.specs.Ending.{closed_all}
 use Rattle.relay.specs.Performing.{put_all}
 use Rattle.relay.specs.View.{View}
-use Rattle.steps.specs.ending.Closing.{AreApart}
 use Rattle.steps.proofs.ending.Closes.{on_ok}
 use Rattle.steps.proofs.ending.Shutting.{is_shut}
 use Rattle.steps.proofs.ending.closing.shut.Goals as goal
@@ -15,5 +14,5 @@ returns c =
     on_ok c.close_all.result
     (λ closes setup run s fresh leads.
     is_shut setup run c.args.rooms.now s fresh leads c.requires.spent c.args.out.now c.close_all.new.out
-    (subst (λ (v : View). AreApart (lives v.upstreams.live) → c.close_all.new.out ≡ put_all c.args.out.now (Did CloseClient ∷ closed_all (lives v.upstreams.live))) c.rooms.view_is closes))
+    (subst (λ (v : View). c.close_all.new.out ≡ put_all c.args.out.now (Did CloseClient ∷ closed_all (reverse (lives v.upstreams.live)))) c.rooms.view_is closes))
     c.close_all.ensures

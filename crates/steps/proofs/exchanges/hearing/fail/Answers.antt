@@ -1,9 +1,14 @@
 use Rattle.std.proofs.Common.{◌≡◌, ◌<◌, sym, ◌∙◌, ap, subst}
 use Rattle.std.proofs.lemmas.Result.{on_ok_weaker}
+use Rattle.serving.specs.State.{find}
 use Rattle.streams_kept.specs.Asked.{has, is_active}
+use Rattle.upstreams.specs.Connections.{number_of}
 use Rattle.relay.specs.View.{View}
+use Rattle.relay.specs.Rest.{NoneDone}
 use Rattle.steps.specs.exchanges.Giving.{closed_at, IsGivenUp}
+use Rattle.steps.proofs.Closings.{if_stream}
 use Rattle.steps.proofs.exchanges.Closes.{stream_active, stream_numbered, is_gone, given_up_none_cut, given_up_numbered}
+use Rattle.steps.proofs.exchanges.Done.{closed_none_done, given_none_but}
 use Rattle.steps.proofs.exchanges.hearing.fail.Goals as goal
 
 pub give_up-requires-clause-live : goal.give_up-requires-clause-live
@@ -43,4 +48,14 @@ returns-clause-numbered c =
     (λ given.
     given_up_numbered c.stream_of-stream.result (record old { upstreams = c.close.new.self }) c.give_up.new.rooms c.args.out.now c.give_up.new.out
     (λ id there. c.requires.numbered id (sym (ap (λ (v : View). has v.inbound.rows id) c.rooms.view_is) ∙ there)) given)
+    c.give_up.ensures
+
+pub returns-clause-none_but : goal.returns-clause-none_but
+returns-clause-none_but c =
+    let old : View = record { inbound = c.rooms.inside.inbound; offers = c.rooms.inside.offers; upstreams = c.rooms.inside.upstreams; encoding = c.rooms.inside.encoder; untaken = c.rooms.inside.untaken } in
+    let closed : record old { upstreams = c.close.new.self } ≡ closed_at c.args.k c.args.rooms.now = ap (λ u. let v : View = record old { upstreams = u } in v) c.close.ensures ∙ ap (closed_at c.args.k) c.rooms.view_is in
+    on_ok_weaker c.give_up.result
+    (λ given.
+    if_stream (find number_of c.args.k c.args.rooms.now.upstreams.live) c.stream_of-stream.result c.give_up.new.rooms c.stream_of-stream.ensures
+    (given_none_but c.stream_of-stream.result (record old { upstreams = c.close.new.self }) c.give_up.new.rooms c.args.out.now c.give_up.new.out (subst NoneDone (sym closed) (closed_none_done c.args.k c.args.rooms.now c.requires.rest.none_done)) given))
     c.give_up.ensures

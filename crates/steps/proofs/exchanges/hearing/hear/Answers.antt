@@ -1,16 +1,24 @@
-use Rattle.std.proofs.Common.{◌<◌, sym, ◌∙◌, ap, subst}
+use Rattle.std.proofs.Common.{◌<◌, refl, sym, ◌∙◌, ap, subst}
 use Rattle.std.proofs.lemmas.Result.{on_ok_weaker}
 use Rattle.model.specs.Logs.Act.{Close}
 use Rattle.model.specs.Logs.Output.{Does}
+use Rattle.model.specs.Logs.Event.{Up}
 use Rattle.model.specs.Tapes.{put}
+use Rattle.model.specs.Tapes.Entry.{Happened}
 use Rattle.answers.specs.declared.answer.Heard.{Heard}
 use Rattle.answers.specs.declared.answer.Heard.TheVariants as heard
+use Rattle.serving.specs.State.{find}
 use Rattle.streams_kept.specs.Asked.{has, is_active}
+use Rattle.upstreams.specs.Kept.{State}
+use Rattle.upstreams.specs.Connections.{number_of, answer_at}
 use Rattle.relay.specs.View.{View}
-use Rattle.relay.specs.Rest.{NoneCut}
+use Rattle.relay.specs.Rest.{NoneCut, NoneDone}
 use Rattle.steps.specs.exchanges.Giving.{closed_at}
 use Rattle.steps.specs.exchanges.Taking.{AreTaken}
+use Rattle.steps.proofs.Closings.{but_one, if_stream}
+use Rattle.steps.proofs.Results.{on_ok, on_both}
 use Rattle.steps.proofs.exchanges.Closes.{stream_active, stream_numbered, stream_kept, goes_on, is_whole, fails, taken_none_cut, given_up_none_cut, given_up_numbered}
+use Rattle.steps.proofs.exchanges.Done.{marked, answered_none, answered_found, closed_none_done, given_none_but, whole_closes, whole_goes}
 use Rattle.steps.proofs.exchanges.hearing.hear.Goals as goal
 
 pub take_octets-requires-clause-kept : goal.take_octets-requires-clause-kept
@@ -37,18 +45,53 @@ returns-in-GoesOn-clause-brings c setup whole =
 pub returns-in-GoesOn-clause-none_cut : goal.returns-in-GoesOn-clause-none_cut
 returns-in-GoesOn-clause-none_cut c = taken_none_cut c.args.rooms.now c.args.k c.args.octets.now c.in_ok-take_octets.field-0 c.take_octets.new.rooms c.requires.rest.none_cut c.in_ok-take_octets.ensures
 
+pub returns-in-GoesOn-clause-none_but : goal.returns-in-GoesOn-clause-none_but
+returns-in-GoesOn-clause-none_but c =
+    let taken = c.in_ok-take_octets.ensures in
+    if_stream (find number_of c.args.k c.args.rooms.now.upstreams.live) c.stream_of-stream.result c.take_octets.new.rooms c.stream_of-stream.ensures
+    (but_one c.stream_of-stream.result c.take_octets.new.rooms (answered_none c.args.rooms.now c.take_octets.new.rooms c.args.k taken.answer taken.offers taken.is c.requires.rest.none_done))
+
 pub returns-in-Whole-clause-brings : goal.returns-in-Whole-clause-brings
-returns-in-Whole-clause-brings c setup whole =
+returns-in-Whole-clause-brings c =
+    on_both c.close.result
+    (λ is puts setup whole.
     let middle : View = record { inbound = c.rooms.inside.inbound; offers = c.rooms.inside.offers; upstreams = c.rooms.inside.upstreams; encoding = c.rooms.inside.encoder; untaken = c.rooms.inside.untaken } in
-    is_whole c.args.rooms.now c.requires.rest c.args.k c.args.out.now setup whole c.args.octets.now c.requires.short middle (record middle { upstreams = c.mark_whole.new.self })
-    (subst (λ (v : View). AreTaken c.args.rooms.now c.args.k c.args.octets.now heard.Whole v) (sym c.rooms.view_is)
-    (subst (λ (h : Heard). AreTaken c.args.rooms.now c.args.k c.args.octets.now h c.take_octets.new.rooms) c.in-Whole.is c.in_ok-take_octets.ensures))
-    (ap (λ u. let v : View = record middle { upstreams = u } in v) c.mark_whole.ensures)
+    let taken : AreTaken c.args.rooms.now c.args.k c.args.octets.now heard.Whole middle =
+    subst (λ (v : View). AreTaken c.args.rooms.now c.args.k c.args.octets.now heard.Whole v) (sym c.rooms.view_is)
+    (subst (λ (h : Heard). AreTaken c.args.rooms.now c.args.k c.args.octets.now h c.take_octets.new.rooms) c.in-Whole.is c.in_ok-take_octets.ensures) in
+    whole_closes setup whole c.args.rooms.now middle c.close.new.rooms c.args.k (answer_at c.args.k taken.answer taken.connection) (Happened (Up c.args.k c.args.octets.now)) c.args.out.now c.close.new.out
+    (ap (λ (v : View). find number_of c.args.k v.upstreams.live) taken.is ∙ answered_found c.args.k taken.answer c.args.rooms.now.upstreams.live taken.connection taken.found)
+    (is_whole c.args.rooms.now c.requires.rest c.args.k c.args.out.now setup whole c.args.octets.now c.requires.short middle (marked c.args.k middle) taken refl)
+    (is ∙ ap (λ (u : State). closed_at c.args.k (record middle { upstreams = u })) c.mark_whole.ensures) puts)
+    c.close.ensures.kept c.close.ensures.puts
 
 pub returns-in-Whole-clause-none_cut : goal.returns-in-Whole-clause-none_cut
 returns-in-Whole-clause-none_cut c =
-    subst (λ (v : View). NoneCut v.offers) (sym c.rooms.view_is)
-    (taken_none_cut c.args.rooms.now c.args.k c.args.octets.now c.in_ok-take_octets.field-0 c.take_octets.new.rooms c.requires.rest.none_cut c.in_ok-take_octets.ensures)
+    on_ok c.close.result
+    (λ is.
+    subst (λ (v : View). NoneCut v.offers) (sym is)
+    (subst (λ (v : View). NoneCut v.offers) (sym c.rooms.view_is)
+    (taken_none_cut c.args.rooms.now c.args.k c.args.octets.now c.in_ok-take_octets.field-0 c.take_octets.new.rooms c.requires.rest.none_cut c.in_ok-take_octets.ensures)))
+    c.close.ensures.kept
+
+pub returns-in-Whole-clause-numbered : goal.returns-in-Whole-clause-numbered
+returns-in-Whole-clause-numbered c =
+    on_ok c.close.result
+    (λ is id there.
+    c.requires.numbered id (sym (ap (λ (v : View). has v.inbound.rows id) is ∙ ap (λ (v : View). has v.inbound.rows id) c.rooms.view_is ∙ ap (λ (v : View). has v.inbound.rows id) c.in_ok-take_octets.ensures.is) ∙ there))
+    c.close.ensures.kept
+
+pub returns-in-Whole-clause-none_but : goal.returns-in-Whole-clause-none_but
+returns-in-Whole-clause-none_but c =
+    on_ok c.close.result
+    (λ is.
+    let middle : View = record { inbound = c.rooms.inside.inbound; offers = c.rooms.inside.offers; upstreams = c.rooms.inside.upstreams; encoding = c.rooms.inside.encoder; untaken = c.rooms.inside.untaken } in
+    let taken = c.in_ok-take_octets.ensures in
+    if_stream (find number_of c.args.k c.args.rooms.now.upstreams.live) c.stream_of-stream.result c.close.new.rooms c.stream_of-stream.ensures
+    (but_one c.stream_of-stream.result c.close.new.rooms
+    (subst NoneDone (sym (is ∙ ap (λ (u : State). closed_at c.args.k (record middle { upstreams = u })) c.mark_whole.ensures))
+    (whole_goes c.args.k middle (answered_none c.args.rooms.now middle c.args.k taken.answer taken.offers (c.rooms.view_is ∙ taken.is) c.requires.rest.none_done)))))
+    c.close.ensures.kept
 
 pub returns-in-Failed-clause-brings : goal.returns-in-Failed-clause-brings
 returns-in-Failed-clause-brings c =
@@ -75,4 +118,14 @@ returns-in-Failed-clause-numbered c =
     (λ given.
     given_up_numbered c.stream_of-stream.result (closed_at c.args.k c.take_octets.new.rooms) c.abandon.new.rooms (put c.args.out.now (Does (Close c.args.k))) c.abandon.new.out
     (λ id there. c.requires.numbered id (sym (ap (λ (v : View). has v.inbound.rows id) c.in_ok-take_octets.ensures.is) ∙ there)) given)
+    c.abandon.ensures
+
+pub returns-in-Failed-clause-none_but : goal.returns-in-Failed-clause-none_but
+returns-in-Failed-clause-none_but c =
+    let taken = c.in_ok-take_octets.ensures in
+    on_ok_weaker c.abandon.result
+    (λ given.
+    if_stream (find number_of c.args.k c.args.rooms.now.upstreams.live) c.stream_of-stream.result c.abandon.new.rooms c.stream_of-stream.ensures
+    (given_none_but c.stream_of-stream.result (closed_at c.args.k c.take_octets.new.rooms) c.abandon.new.rooms (put c.args.out.now (Does (Close c.args.k))) c.abandon.new.out
+    (closed_none_done c.args.k c.take_octets.new.rooms (answered_none c.args.rooms.now c.take_octets.new.rooms c.args.k taken.answer taken.offers taken.is c.requires.rest.none_done)) given))
     c.abandon.ensures

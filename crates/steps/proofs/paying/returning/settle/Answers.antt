@@ -7,11 +7,12 @@ use Rattle.model.specs.Tapes.{put}
 use Rattle.conduct.specs.Rows.{Row, find}
 use Rattle.outputs.specs.Sent.{window_update}
 use Rattle.streams_kept.specs.Asked.{has, is_active}
-use Rattle.streams_kept.specs.Sending.{AreReturnable}
+use Rattle.streams_kept.specs.Sending.{is_served, AreReturnable}
 use Rattle.relay.specs.View.{View, square}
 use Rattle.relay.specs.Rest.{GoesOn}
 use Rattle.relay.specs.Bringing.{PerformsOwn}
 use Rattle.steps.specs.paying.Returning.{goes_back_on, given_on_connection, given_on_stream}
+use Rattle.steps.proofs.paying.Rows.{served_stays}
 use Rattle.steps.proofs.paying.Settling.{fresh}
 use Rattle.steps.proofs.paying.Fitting.{fits_shared, fits_own}
 use Rattle.steps.proofs.paying.Settled.{none_back, back_on_connection, back_on_both, still_on, still_numbered}
@@ -79,3 +80,15 @@ returns-else-goes_back_on-clause-performs c = λ setup whole.
     subst (λ (v : View). PerformsOwn setup c.args.rooms.now (fresh c.args.octets) c.args.out.now v square c.give_back.new.out) (sym given)
     (subst (λ (os : List Output). PerformsOwn setup c.args.rooms.now (fresh c.args.octets) c.args.out.now (given_on_connection c.args.rooms.now c.args.octets) square os) (sym out_first)
     (back_on_connection setup whole c.args.rooms.now c.args.octets some c.requires.few c.requires.goes_on c.args.out.now here))
+
+pub returns-in_ok-give_back_on-clause-served : goal.returns-in_ok-give_back_on-clause-served
+returns-in_ok-give_back_on-clause-served c id =
+    let given = c.in_ok-give_back.ensures.given in
+    let second = c.in_ok-give_back_on.ensures.given in
+    let on : goes_back_on c.give_back.new.rooms.inbound.rows c.args.stream ≡ true = sym c.goes_back_on.ensures ∙ c.if-goes_back_on.true in
+    ap (λ (v : View). is_served v.inbound.rows id) second
+    ∙ served_stays c.give_back.new.rooms.inbound.rows c.args.stream c.args.octets (goes c.give_back.new.rooms.inbound.rows c.args.stream on) id
+    ∙ ap (λ (v : View). is_served v.inbound.rows id) given
+
+pub returns-else-goes_back_on-clause-served : goal.returns-else-goes_back_on-clause-served
+returns-else-goes_back_on-clause-served c id = ap (λ (v : View). is_served v.inbound.rows id) c.in_ok-give_back.ensures.given

@@ -9,6 +9,6 @@ rest_waits xs ws os s n rest = grind (arith, common_steps)
 pub returns-clause-passes : goal.returns-clause-passes
 returns-clause-passes g c =
     let n = c.in-Ok.taken in
-    put_out _ _ c.args.self.now c.keep.new.self c.args.octets.now n c.in-Ok.ensures.within c.in-Ok.ensures.behind c.in-Ok.ensures.written
-    (ap (λ w. w.waiting) c.in_ok-keep.ensures ∙ rest_waits c.self.inside.octets.items c.args.self.now.waiting c.args.octets.now c.self.inside.start n (ap (λ w. w.waiting) c.self.view_is))
-    (ap (λ w. w.untold) c.in_ok-keep.ensures ∙ c.saturating_add-self-inside.ensures ∙ ap (λ u. min (u + n) (2 ^ 64 - 1)) (ap (λ w. w.untold) c.self.view_is))
+    put_out _ _ c.args.self.now c.gather.new.self c.args.octets.now n c.in-Ok.ensures.within c.in-Ok.ensures.behind c.in-Ok.ensures.written
+    (ap (λ w. w.waiting) c.in_ok-gather.ensures.gathered ∙ rest_waits c.self.inside.octets.items c.args.self.now.waiting c.args.octets.now c.self.inside.start n (ap (λ w. w.waiting) c.self.view_is))
+    (ap (λ w. w.untold) c.in_ok-gather.ensures.gathered ∙ c.saturating_add-self-inside.ensures ∙ ap (λ u. min (u + n) (2 ^ 64 - 1)) (ap (λ w. w.untold) c.self.view_is))

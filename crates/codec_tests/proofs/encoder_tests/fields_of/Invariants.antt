@@ -1,6 +1,0 @@
-use Rattle.std.specs.List.{All}
-use Rattle.header_blocks.specs.Chosen.{HasShortStrings}
-use Rattle.codec_tests.proofs.encoder_tests.fields_of.Given as goal
-
-abbrev pub invariant-loop-name : goal.invariant-loop-name
-invariant-loop-name l = All HasShortStrings l.fields.items

@@ -1,0 +1,24 @@
+//! Tests of the crates that read frames and keep windows, settings, states and turns, and what waits, through the functions that they offer.
+//!
+//! There is nothing here but tests, one module or two for each crate. They stand apart from the crates so that no crate has
+//! to be proved a second time together with its tests. Rows of tables say what goes in and what is wanted.
+#![tactic(auto)]
+
+#[cfg(test)]
+mod flags_tests;
+#[cfg(test)]
+mod frames_tests;
+#[cfg(test)]
+mod payloads_tests;
+#[cfg(test)]
+mod settings_tests;
+#[cfg(test)]
+mod streams_tests;
+#[cfg(test)]
+mod transfers_tests;
+#[cfg(test)]
+mod turns_tests;
+#[cfg(test)]
+mod waiting_tests;
+#[cfg(test)]
+mod windows_tests;

@@ -1,0 +1,187 @@
+//! Octets that go out to sockets and come in from them.
+
+use std::alloc::{AllocError, Global};
+use std::io;
+use std::io::{ErrorKind, Read, Write};
+use std::test::*;
+use transfers::{Got, Outgoing, PutFault, read_piece};
+
+/// A socket that takes so many octets and no more, three at a time, and then would wait.
+#[derive(Drop)]
+struct Narrow {
+    taken: Vec<u8>,
+    room: usize,
+}
+
+impl Write for Narrow {
+    fn write(&mut self, octets: &[u8]) -> io::Result<usize> {
+        let count = octets.len().min(3).min(self.room);
+        if count == 0 && !octets.is_empty() {
+            return Err(io::Error::from(ErrorKind::WouldBlock));
+        }
+        self.taken.extend_from_slice(&octets[..count])?;
+        self.room -= count;
+        Ok(count)
+    }
+
+    fn flush(&mut self) -> io::Result<()> {
+        Ok(())
+    }
+}
+
+/// A socket that failed.
+#[derive(Drop)]
+struct Broken;
+
+impl Write for Broken {
+    fn write(&mut self, _octets: &[u8]) -> io::Result<usize> {
+        Err(io::Error::from(ErrorKind::ConnectionReset))
+    }
+
+    fn flush(&mut self) -> io::Result<()> {
+        Ok(())
+    }
+}
+
+impl Read for Broken {
+    fn read(&mut self, _buffer: &mut [u8]) -> io::Result<usize> {
+        Err(io::Error::from(ErrorKind::WouldBlock))
+    }
+}
+
+/// What is done with octets on their way out, or asked of them.
+#[derive(Clone, Copy)]
+enum Step {
+    /// Octets are put out.
+    Put(&'static [u8]),
+    /// Octets are put out without a write.
+    Gather(&'static [u8]),
+    /// What waits is written, in one write, or until a write takes nothing.
+    Flush,
+    FlushAll,
+    /// The socket takes so many octets from now on.
+    Room(usize),
+    /// So many octets wait, and the socket took so many.
+    Waits(usize, usize),
+    /// If so many octets at least were taken, as many as this are told of now.
+    Tell(u64, u64),
+    /// Whether more than so many weren't told of as taken.
+    Owes(u64, bool),
+}
+
+fn answers(out: &mut Outgoing, socket: &mut Narrow, step: Step) -> Result<bool, Fail> {
+    match step {
+        Step::Put(octets) => out.put(socket, octets)?,
+        Step::Gather(octets) => out.gather(octets)?,
+        Step::Flush => {
+            out.flush(socket)?;
+        }
+        Step::FlushAll => out.flush_all(socket)?,
+        Step::Room(room) => socket.room = room,
+        Step::Waits(waiting, taken) => {
+            return Ok(out.waiting() == waiting && socket.taken.len() == taken);
+        }
+        Step::Tell(least, count) => return Ok(out.tell(least) == count),
+        Step::Owes(most, owes) => return Ok(out.owes_more_than(most) == owes),
+    }
+    Ok(true)
+}
+
+/// The first of these steps that answers something else.
+fn first_that_differs(
+    out: &mut Outgoing,
+    socket: &mut Narrow,
+    steps: &[Step],
+) -> Result<Option<usize>, Fail> {
+    for (place, step) in steps.iter().enumerate() {
+        if !answers(out, socket, *step)? {
+            return Ok(Some(place));
+        }
+    }
+    Ok(None)
+}
+
+static NARROW: [Step; 22] = [
+    Step::Put(b"abcd"),
+    Step::Waits(1, 3),
+    Step::Tell(1, 3),
+    Step::Put(b"efg"),
+    Step::Waits(4, 3),
+    Step::Flush,
+    Step::Flush,
+    Step::Waits(2, 5),
+    Step::Tell(3, 0),
+    Step::Tell(2, 2),
+    Step::Room(9),
+    Step::Put(b"hi"),
+    Step::FlushAll,
+    Step::Waits(0, 9),
+    Step::Owes(3, true),
+    Step::Owes(4, false),
+    Step::Waits(0, 9),
+    Step::Gather(b"jk"),
+    Step::Put(b"l"),
+    Step::Waits(3, 9),
+    Step::FlushAll,
+    Step::Waits(0, 12),
+];
+
+#[test]
+fn what_a_socket_does_not_take_waits(rt: HostRuntime) -> Result<(), Fail> {
+    let mut socket = Narrow {
+        taken: Vec::new(rt.alloc()),
+        room: 5,
+    };
+    let mut out = Outgoing::new(rt.alloc());
+    assert_eq!(rt; first_that_differs(&mut out, &mut socket, &NARROW)?, None);
+    assert_eq!(rt; socket.taken.as_slice(), b"abcdefghijkl".as_slice());
+    Ok(())
+}
+
+/// Whether a broken socket takes nothing of these octets, and nothing waits then.
+fn takes_nothing(alloc: Global, octets: &[u8]) -> bool {
+    let mut out = Outgoing::new(alloc);
+    matches!(out.put(&mut Broken, octets), Err(PutFault::Socket(_)))
+        && out.flush(&mut Broken).is_err()
+        && out.waiting() == 0
+        && out.tell(0) == 0
+}
+
+#[test]
+fn a_broken_socket_takes_nothing(rt: HostRuntime) {
+    assert!(rt; takes_nothing(rt.alloc(), b"a"));
+}
+
+/// Whether what was got is this piece, or the end where there is none.
+fn is_piece(got: &Got, piece: Option<&[u8]>) -> bool {
+    match (got, piece) {
+        (Got::Octets(octets), Some(piece)) => octets.as_slice() == piece,
+        (Got::End, None) => true,
+        _ => false,
+    }
+}
+
+/// Whether a text comes in these pieces, of three octets at most, and then ends.
+fn comes_in(alloc: Global, text: &[u8], pieces: &[&[u8]]) -> io::Result<bool> {
+    let mut socket = text;
+    let mut buffer = [0u8; 3];
+    for piece in pieces {
+        if !is_piece(&read_piece(alloc, &mut socket, &mut buffer)?, Some(piece)) {
+            return Ok(false);
+        }
+    }
+    Ok(is_piece(&read_piece(alloc, &mut socket, &mut buffer)?, None))
+}
+
+/// Whether a socket that would wait gives nothing.
+fn gives_nothing(alloc: Global) -> io::Result<bool> {
+    let mut buffer = [0u8; 3];
+    Ok(matches!(read_piece(alloc, &mut Broken, &mut buffer)?, Got::Nothing))
+}
+
+#[test]
+fn pieces_are_read(rt: HostRuntime) -> Result<(), Fail> {
+    assert!(rt; comes_in(rt.alloc(), b"abcde", &[b"abc", b"de"])?);
+    assert!(rt; gives_nothing(rt.alloc())?);
+    Ok(())
+}

@@ -1,0 +1,59 @@
+//! What is to be replayed.
+
+use crate::stops::Stop;
+use command_line::{ReplayWords, read_arguments, read_replay_words};
+use configuration::read_config;
+use std::fs;
+use std::io::ErrorKind;
+
+/// What is to be replayed.
+#[derive(Drop)]
+pub struct Setting {
+    /// The text of the configuration, if one is given.
+    pub config: Option<String>,
+    /// The text of the script.
+    pub script: String,
+}
+
+/// Reads the command line, the configuration and the script. The configuration is judged before the script is read.
+pub fn read_setting(rt: &HostRuntime) -> Result<Setting, Stop> {
+    let words = read_command_line(rt)?;
+    let config = match &words.config {
+        Some(path) => Some(read_config_text(rt, path)?),
+        None => None,
+    };
+    let script = match fs::read_to_string(rt, &words.script) {
+        Ok(script) => script,
+        Err(error) if error.kind() == ErrorKind::OutOfMemory => return Err(Stop::Memory),
+        Err(_) => return Err(Stop::NoScript),
+    };
+    Ok(Setting { config, script })
+}
+
+/// Reads the command line.
+fn read_command_line(rt: &HostRuntime) -> Result<ReplayWords, Stop> {
+    let arguments = read_arguments(rt)?;
+    let mut words = Vec::new(rt.alloc());
+    for argument in &arguments {
+        if words.push(argument.as_str()).is_err() {
+            return Err(Stop::Memory);
+        }
+    }
+    match read_replay_words(rt.alloc(), &words) {
+        Ok(words) => Ok(words),
+        Err(fault) => Err(Stop::Words(fault)),
+    }
+}
+
+/// Reads the text of a configuration, and judges it.
+fn read_config_text(rt: &HostRuntime, path: &str) -> Result<String, Stop> {
+    let text = match fs::read_to_string(rt, path) {
+        Ok(text) => text,
+        Err(error) if error.kind() == ErrorKind::OutOfMemory => return Err(Stop::Memory),
+        Err(_) => return Err(Stop::NoConfig),
+    };
+    match read_config(rt.alloc(), &text) {
+        Ok(_config) => Ok(text),
+        Err(fault) => Err(Stop::Config(fault)),
+    }
+}

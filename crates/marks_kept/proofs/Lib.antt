@@ -1,0 +1,5 @@
+pub mod Rising
+pub mod Finding
+pub mod Changing
+pub mod Looking
+pub mod Telling

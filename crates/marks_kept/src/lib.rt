@@ -1,0 +1,12 @@
+//! The octets of active streams' DATA that wait until their upstreams' sides took what was put out for them, where bodies are passed on as they
+//! come.
+#![tactic(auto)]
+
+pub mod laws;
+mod marks;
+mod places;
+mod side;
+#[cfg(test)]
+mod tests;
+
+pub use crate::marks::Marks;

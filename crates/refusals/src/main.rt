@@ -1,0 +1,101 @@
+//! Gateways to which a growth of memory is refused: `refusals FILE`.
+//!
+//! The file has a number, and scripts of `h2replay`, each behind an empty line. Each goes through two gateways at once, under either policy, and both put out
+//! the same at each event, until a growth is refused to one of them: that step says so and puts out nothing, and its gateway is closed from then on.
+//!
+//! As many growths as the number says are made first. `.ci/refusals` has one growth refused, always that of the same number, and reaches each
+//! growth of a gateway by how many are made before it.
+#![tactic(auto)]
+
+ghost use Rattle.std.specs.Prelude.{IfOk};
+ghost use Rattle.gateway.specs.Setups.{setup_of, IsServable};
+
+mod pairs;
+
+use crate::pairs::{Met, met_by};
+use gateway::{Config, Passing, Policy, Route};
+use scripts::{ScriptFault, read_script};
+use std::alloc::{AllocError, Global};
+use std::io::ErrorKind;
+use std::process::ExitCode;
+use std::{env, fs, io};
+
+/// The status is 0 where no growth was refused, 2 where one was, but not to a gateway, and 3 where one was to a gateway, all else being as said above. It is 1
+/// where something else was, and where a file can't be read or has a line that says nothing.
+fn main(rt: HostRuntime) -> ExitCode {
+    let status = match outcome(&rt) {
+        Ok(Met::Nothing) => 0,
+        Ok(Met::Refusal) => 3,
+        Ok(Met::Difference) => 1,
+        Err(error) => match error.kind() {
+            ErrorKind::OutOfMemory => 2,
+            _ => 1,
+        },
+    };
+    ExitCode::from(status)
+}
+
+/// Makes the growths, and then goes through the scripts.
+fn outcome(rt: &HostRuntime) -> io::Result<Met> {
+    let Some(file) = env::args(rt)?.nth(1) else {
+        return Ok(Met::Difference);
+    };
+    let text = fs::read_to_string(rt, file)?;
+    let number = text.split("\n\n").next().unwrap_or("");
+    let Ok(count) = number.parse::<u32>() else {
+        return Ok(Met::Difference);
+    };
+    grow(rt.alloc(), count)?;
+    Ok(go_through(rt.alloc(), &text)?)
+}
+
+/// Makes so many growths, one after another, and keeps nothing.
+fn grow(alloc: Global, count: u32) -> Result<(), AllocError> {
+    for _ in 0..count {
+        let _octet: Vec<u8> = Vec::with_capacity(alloc, 1)?;
+    }
+    Ok(())
+}
+
+/// What is met in the scripts of a file, up to the first in which it is something.
+fn go_through(alloc: Global, text: &str) -> Result<Met, AllocError> {
+    for script in text.split("\n\n").skip(1) {
+        let met = met_in(alloc, script)?;
+        if met != Met::Nothing {
+            return Ok(met);
+        }
+    }
+    Ok(Met::Nothing)
+}
+
+/// What is met in a script, under one policy and then under the other.
+fn met_in(alloc: Global, script: &str) -> Result<Met, AllocError> {
+    let events = match read_script(alloc, script) {
+        Ok(events) => events,
+        Err(ScriptFault::Memory) => return Err(AllocError),
+        Err(ScriptFault::NotALine(_)) => return Ok(Met::Difference),
+    };
+    let met = met_by(alloc, &config(alloc, Policy::Plain)?, &events);
+    if met != Met::Nothing {
+        return Ok(met);
+    }
+    Ok(met_by(alloc, &config(alloc, Policy::Indexing)?, &events))
+}
+
+/// The default configuration, but for how blocks are written: all requests go to one upstream.
+fn config(alloc: Global, policy: Policy) -> Result<Config, AllocError>
+    ensures { IfOk result (λ config. IsServable (setup_of config)) }
+{
+    let route = Route {
+        authority: Vec::new(alloc),
+        prefix: Vec::from_slice(alloc, b"/")?,
+        upstream: String::new(alloc),
+    };
+    Ok(Config {
+        routes: vec![in alloc; route]?,
+        policy,
+        passing: Passing::Whole,
+        max_body: 1048576,
+        max_response: 1048576,
+    })
+}

@@ -77,6 +77,9 @@ pub enum Piece {
     Done,
 }
 
+/// Room is made for so many octets of a body at most before they come.
+const MOST_ROOM: u64 = 1_048_576;
+
 /// Pieces that are told, in their order.
 #[derive(Drop)]
 pub(crate) struct Told {
@@ -127,6 +130,26 @@ impl Told {
     {
         let octets = Vec::from_slice(self.alloc, octets)?;
         self.items.push(Piece::Body(octets))?;
+        Ok(())
+    }
+
+    /// Whether a final head was told last.
+    fn ends_with_head(&self) -> bool {
+        matches!(self.items.last(), Some(Piece::Head(_)))
+    }
+
+    /// Adds octets of a body of which so many more are to come. Those that come with the head have room for these too, since who
+    /// gathers the body puts them there.
+    pub(crate) fn sized_body(&mut self, octets: &[u8], left: u64) -> Result<(), AllocError>
+        ensures { OnOk result (self.new ≡ self.old ++ Body octets.now ∷ []) }
+    {
+        let mut body = Vec::new(self.alloc);
+        if self.ends_with_head() {
+            let room = left.min(MOST_ROOM) as usize;
+            body.reserve_exact(octets.len().saturating_add(room))?;
+        }
+        body.extend_from_slice(octets)?;
+        self.items.push(Piece::Body(body))?;
         Ok(())
     }
 

@@ -204,7 +204,7 @@ impl Reader {
     {
         let count = octets.len() as u64;
         if count < left {
-            told.body(octets)?;
+            told.sized_body(octets, left - count)?;
             self.place = Place::Sized(left - count);
             return Ok(octets.len());
         }

@@ -1,4 +1,4 @@
-//! The types of the frames that are sent, and their flags (RFC 9113, section 6).
+//! The types of the frames that are sent, their flags and lengths (RFC 9113, sections 4 and 6).
 
 pub const DATA: u8 = 0;
 
@@ -22,3 +22,9 @@ pub const ACK: u8 = 1;
 pub const END_STREAM: u8 = 1;
 
 pub const END_HEADERS: u8 = 4;
+
+/// How many octets stand before a payload (RFC 9113, section 4.1).
+pub const HEADER: usize = 9;
+
+/// The longest payload (RFC 9113, section 4.2).
+pub const LONGEST: usize = 16384;

@@ -9,9 +9,24 @@ ghost use Rattle.frames.specs.Views.{frame_of};
 ghost use Rattle.outputs.specs.Views.{outputs_of};
 
 use crate::events::Output;
+use crate::kinds::{HEADER, LONGEST};
 use frames::View;
 use std::alloc::{AllocError, Global};
 use std::marker::Model;
+
+/// Room for so many octets is made where a frame of the longest payload finds none: more such frames follow it most often.
+const FOLLOWING: usize = 4 * (HEADER + LONGEST);
+
+/// Makes room for a frame, if its payload is the longest. An `Err` says that memory was refused.
+fn make_room(octets: &mut Vec<u8>, payload: &[u8]) -> Result<(), AllocError>
+    ensures { octets.new.items ≡ octets.old.items }
+{
+    let has_room = octets.capacity() - octets.len() >= HEADER + LONGEST;
+    if payload.len() < LONGEST || has_room {
+        return Ok(());
+    }
+    octets.reserve(FOLLOWING)
+}
 
 /// The outputs of a step. A clause sees the newest first.
 #[derive(Drop)]
@@ -63,6 +78,7 @@ impl Outputs {
         ensures { OnOk result (self.new ≡ put self.old (ToClient (spell (frame_of view.now)))) }
     {
         let mut octets = self.take_octets()?;
+        make_room(&mut octets, view.payload)?;
         frames::write(view, &mut octets)?;
         self.items.push(Output::Client(octets))?;
         Ok(())

@@ -7,13 +7,10 @@ ghost use Rattle.model.specs.Tapes.{put};
 ghost use Rattle.outputs.specs.Sent.{data_frame, put_frames};
 ghost use Rattle.outputs.specs.Blocks.{frames_of, filled_before, block_frames};
 
-use crate::kinds::{CONTINUATION, DATA, END_HEADERS, END_STREAM, HEADERS};
+use crate::kinds::{CONTINUATION, DATA, END_HEADERS, END_STREAM, HEADERS, LONGEST};
 use crate::outputs::Outputs;
 use frames::View;
 use std::alloc::AllocError;
-
-/// The longest payload of a frame (RFC 9113, section 4.2).
-const LONGEST: usize = 16384;
 
 /// END_STREAM or nothing.
 fn end_flag(ends: bool) -> u8

@@ -37,6 +37,16 @@ pub enum Begun {
     Waits(Waiting),
 }
 
+/// Room for so many octets of a body at most is made before they come.
+const MOST_ROOM: u64 = 65_536;
+
+/// An empty body, with room for the length that its head declares.
+fn room_for(alloc: Global, length: Option<u64>) -> Result<Vec<u8>, AllocError>
+    ensures { IfOk result (λ body. body.items ≡ []) }
+{
+    Vec::with_capacity(alloc, length.unwrap_or(0).min(MOST_ROOM) as usize)
+}
+
 /// Writes a request's head (RFC 9112, sections 2 to 3 and 6), which ends its stream or doesn't; the place of its route is kept. An
 /// `Err` says that memory was refused.
 pub fn begin(
@@ -57,7 +67,7 @@ pub fn begin(
         route,
         sender,
         text,
-        body: Vec::new(alloc),
+        body: room_for(alloc, head.length())?,
     }))
 }
 

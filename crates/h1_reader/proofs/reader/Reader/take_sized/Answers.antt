@@ -14,7 +14,7 @@ returns-then-count-left-clause-ok c = (
   omega arith,
   goes_on _ _ _ _ _ (
     Body c.args.octets.now ∷ [],
-    c.in_ok-body.ensures,
+    c.in_ok-sized_body.ensures,
     all_taken c.args.self.now _ c.args.octets.now (Body c.args.octets.now ∷ [])
         (hears_sized c.args.self.now _ c.args.left c.args.octets.now c.requires.place c.if-count-left.true
         (ap (λ (s : State). record { to_head = s.to_head; place = Sized (c.args.left - length c.args.octets.now); held = s.held }) c.self.view_is)),
@@ -29,7 +29,7 @@ returns-clause-ok c =
       c.if-count-left.false,
       goes_on _ _ _ _ _ (
         Body (take c.args.left c.args.octets.now) ∷ Done ∷ [],
-        (c.in_ok-done.ensures ∙ ap (λ (o : List Part). o ++ Done ∷ []) c.in_ok-body-2.ensures ∙ append_assoc c.args.told.now (Body (take c.args.left c.args.octets.now) ∷ []) (Done ∷ [])),
+        (c.in_ok-done.ensures ∙ ap (λ (o : List Part). o ++ Done ∷ []) c.in_ok-body.ensures ∙ append_assoc c.args.told.now (Body (take c.args.left c.args.octets.now) ∷ []) (Done ∷ [])),
         hears_sized_all c.args.self.now _ c.args.left (take c.args.left c.args.octets.now) c.requires.place fits
             (ap (λ (s : State). record { to_head = s.to_head; place = Past; held = s.held }) c.self.view_is),
       ),

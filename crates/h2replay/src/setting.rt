@@ -1,5 +1,8 @@
 //! What is to be replayed.
 
+ghost use Rattle.std.specs.Prelude.{IfOk, IfSome, string_bytes};
+ghost use Rattle.h2replay.specs.Settings.{SaysConfig};
+
 use crate::stops::Stop;
 use command_line::{ReplayWords, read_arguments, read_replay_words};
 use configuration::read_config;
@@ -15,8 +18,11 @@ pub struct Setting {
     pub script: String,
 }
 
-/// Reads the command line, the configuration and the script. The configuration is judged before the script is read.
-pub fn read_setting(rt: &HostRuntime) -> Result<Setting, Stop> {
+/// Reads the command line, the configuration and the script. The configuration is judged before the script is read, so that its text, where
+/// one is given, says a configuration. Which files are read, and what an `Err` says of them, is no contract: nothing is said of the runtime.
+pub fn read_setting(rt: &HostRuntime) -> Result<Setting, Stop>
+    ensures { IfOk result (λ setting. IfSome setting.config (λ text. SaysConfig (string_bytes text))) }
+{
     let words = read_command_line(rt)?;
     let config = match &words.config {
         Some(path) => Some(read_config_text(rt, path)?),
@@ -46,7 +52,9 @@ fn read_command_line(rt: &HostRuntime) -> Result<ReplayWords, Stop> {
 }
 
 /// Reads the text of a configuration, and judges it.
-fn read_config_text(rt: &HostRuntime, path: &str) -> Result<String, Stop> {
+fn read_config_text(rt: &HostRuntime, path: &str) -> Result<String, Stop>
+    ensures { IfOk result (λ text. SaysConfig (string_bytes text)) }
+{
     let text = match fs::read_to_string(rt, path) {
         Ok(text) => text,
         Err(error) if error.kind() == ErrorKind::OutOfMemory => return Err(Stop::Memory),

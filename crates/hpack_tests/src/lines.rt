@@ -6,7 +6,7 @@ use hpack_table::Field;
 pub type Line<'a> = (&'a [u8], &'a [u8]);
 
 /// Whether the fields have these names and values.
-pub fn are_fields(fields: &[Field], wanted: &[Line<'_>]) -> bool {
+pub(crate) fn are_fields(fields: &[Field], wanted: &[Line<'_>]) -> bool {
     for (field, (name, value)) in fields.iter().zip(wanted) {
         if field.name() != *name || field.value() != *value {
             return false;

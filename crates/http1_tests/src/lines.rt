@@ -7,7 +7,7 @@ use std::alloc::{AllocError, Global};
 pub type Line<'a> = (&'a [u8], &'a [u8]);
 
 /// Puts the fields of these names and values behind others.
-pub fn push_fields(
+pub(crate) fn push_fields(
     alloc: Global,
     fields: &mut Vec<Field>,
     lines: &[Line<'_>],
@@ -23,7 +23,7 @@ fn is_field(field: &Field, line: Line<'_>) -> bool {
 }
 
 /// Whether the fields have these names and values.
-pub fn are_fields(fields: &[Field], wanted: &[Line<'_>]) -> bool {
+pub(crate) fn are_fields(fields: &[Field], wanted: &[Line<'_>]) -> bool {
     for (field, line) in fields.iter().zip(wanted) {
         if !is_field(field, *line) {
             return false;

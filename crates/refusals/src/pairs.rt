@@ -124,7 +124,7 @@ fn met_among(alloc: Global, gateway: &mut Gateway, other: &mut Gateway, events: 
 }
 
 /// What is met where these events are given to two new gateways.
-pub fn met_by(alloc: Global, config: &Config, events: &[Event]) -> Met
+pub(crate) fn met_by(alloc: Global, config: &Config, events: &[Event]) -> Met
     requires { IsServable (setup_of config.now) }
 {
     let Ok(mut gateway) = Gateway::new(alloc, config) else {

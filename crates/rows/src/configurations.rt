@@ -11,7 +11,7 @@ use std::process::Abort;
 use std::test::*;
 
 /// A route to an upstream without an address.
-pub fn route(alloc: Global, authority: &str, prefix: &str) -> Result<Route, AllocError> {
+pub(crate) fn route(alloc: Global, authority: &str, prefix: &str) -> Result<Route, AllocError> {
     Ok(Route {
         authority: Vec::from_slice(alloc, authority.as_bytes())?,
         prefix: Vec::from_slice(alloc, prefix.as_bytes())?,
@@ -20,7 +20,7 @@ pub fn route(alloc: Global, authority: &str, prefix: &str) -> Result<Route, Allo
 }
 
 /// The default configuration but for the routes and how blocks are written.
-pub fn config(routes: Vec<Route>, policy: Policy) -> Config
+pub(crate) fn config(routes: Vec<Route>, policy: Policy) -> Config
     requires { length routes.items ≤ 4294967295 }
     ensures { IsServable (setup_of result) }
 {
@@ -43,7 +43,7 @@ fn printed(alloc: Global, config: &Config, script: &str) -> Result<String, Fail>
 }
 
 /// A run of the script prints just this.
-pub fn assert_runs(
+pub(crate) fn assert_runs(
     rt: &impl Abort,
     alloc: Global,
     config: &Config,

@@ -76,7 +76,7 @@ fn push_meaning(words: &str, hex: &mut String) -> Result<(), AllocError> {
 }
 
 /// Adds octets in hex, as they are written in a transcript.
-pub fn push_octets(written: &str, hex: &mut String) -> Result<(), AllocError> {
+pub(crate) fn push_octets(written: &str, hex: &mut String) -> Result<(), AllocError> {
     let mut words = String::new(*hex.allocator());
     let mut place = Place::Hex;
     for c in written.chars() {

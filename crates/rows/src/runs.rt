@@ -55,7 +55,7 @@ impl Told {
     }
 
     /// The connection of this number.
-    pub fn upstream(&self, k: u32) -> Option<&Upstream> {
+    pub(crate) fn upstream(&self, k: u32) -> Option<&Upstream> {
         self.upstreams.get((k as usize).checked_sub(1)?)
     }
 
@@ -65,7 +65,7 @@ impl Told {
     }
 
     /// Whether the same was put out, and nothing was left out without a reason.
-    pub fn is_same(&self, other: &Told) -> bool {
+    pub(crate) fn is_same(&self, other: &Told) -> bool {
         self.client.as_slice() == other.client.as_slice()
             && self.upstreams.len() == other.upstreams.len()
             && are_same(&self.upstreams, &other.upstreams)
@@ -74,12 +74,12 @@ impl Told {
     }
 
     /// How many octets for the client it hadn't taken before the last event.
-    pub fn untaken_before(&self) -> u64 {
+    pub(crate) fn untaken_before(&self) -> u64 {
         (self.before as u64).saturating_sub(self.taken)
     }
 
     /// What the last event put out for the client.
-    pub fn last_of_client(&self) -> &[u8] {
+    pub(crate) fn last_of_client(&self) -> &[u8] {
         self.client.get(self.before..).unwrap_or(&[])
     }
 
@@ -203,7 +203,7 @@ fn take_all(
 }
 
 /// What a new gateway puts out at these events, and then at those.
-pub fn drive(
+pub(crate) fn drive(
     alloc: Global,
     config: &Config,
     events: &[Event],

@@ -56,7 +56,7 @@ fn push_line(line: &str, text: &mut String) -> Result<(), AllocError> {
 
 impl Transcript {
     /// Nothing happened.
-    pub fn new(alloc: Global) -> Transcript {
+    pub(crate) fn new(alloc: Global) -> Transcript {
         Transcript {
             script: String::new(alloc),
             printed: String::new(alloc),
@@ -64,7 +64,7 @@ impl Transcript {
     }
 
     /// The transcript of a row.
-    pub fn of(alloc: Global, row: &Row) -> Result<Transcript, AllocError> {
+    pub(crate) fn of(alloc: Global, row: &Row) -> Result<Transcript, AllocError> {
         let mut transcript = Transcript::new(alloc);
         transcript.push(row.begins)?;
         transcript.push(row.goes_on)?;
@@ -72,7 +72,7 @@ impl Transcript {
     }
 
     /// Adds lines.
-    pub fn push(&mut self, lines: &str) -> Result<(), AllocError> {
+    pub(crate) fn push(&mut self, lines: &str) -> Result<(), AllocError> {
         for line in lines.lines() {
             self.push_line(line.trim())?;
         }
@@ -92,7 +92,7 @@ impl Transcript {
 }
 
 /// A replay of the script prints just this.
-pub fn assert_prints(rt: &impl Abort, alloc: Global, name: &str, transcript: &Transcript) {
+pub(crate) fn assert_prints(rt: &impl Abort, alloc: Global, name: &str, transcript: &Transcript) {
     let mut out = Vec::new(alloc);
     let mut err = Vec::new(alloc);
     let status = replay(alloc, None, &transcript.script, &mut out, &mut err);
@@ -106,7 +106,7 @@ pub fn assert_prints(rt: &impl Abort, alloc: Global, name: &str, transcript: &Tr
 }
 
 /// A row prints what it says, and so does each front of it that ends with an event.
-pub fn assert_row(rt: &impl Abort, alloc: Global, row: &Row) -> Result<(), AllocError> {
+pub(crate) fn assert_row(rt: &impl Abort, alloc: Global, row: &Row) -> Result<(), AllocError> {
     let mut transcript = Transcript::new(alloc);
     transcript.push(row.begins)?;
     for line in row.goes_on.lines() {
@@ -120,7 +120,7 @@ pub fn assert_row(rt: &impl Abort, alloc: Global, row: &Row) -> Result<(), Alloc
 }
 
 /// Each row prints what it says.
-pub fn assert_rows(rt: &impl Abort, alloc: Global, rows: &[Row]) -> Result<(), AllocError> {
+pub(crate) fn assert_rows(rt: &impl Abort, alloc: Global, rows: &[Row]) -> Result<(), AllocError> {
     for row in rows {
         assert_row(rt, alloc, row)?;
     }

@@ -83,7 +83,7 @@ fn is_so(streams: &Streams, fact: Fact) -> bool {
 }
 
 /// Whether all of this is seen.
-pub fn are_so(streams: &Streams, facts: &[Fact]) -> bool {
+pub(crate) fn are_so(streams: &Streams, facts: &[Fact]) -> bool {
     for fact in facts {
         if !is_so(streams, *fact) {
             return false;

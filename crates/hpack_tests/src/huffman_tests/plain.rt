@@ -17,7 +17,7 @@ const NONE: Bits = Bits {
 };
 
 /// Adds the string of Huffman text: the longest run of codes of octets, behind which padding stands.
-pub fn plain_decode(octets: &[u8], out: &mut Vec<u8>) -> Result<(), HuffFault> {
+pub(crate) fn plain_decode(octets: &[u8], out: &mut Vec<u8>) -> Result<(), HuffFault> {
     let mut left = bits_of(octets);
     for _ in 0..64u8 {
         let Some((octet, rest)) = first_code(&CODES, left) else {
@@ -37,7 +37,7 @@ pub fn plain_decode(octets: &[u8], out: &mut Vec<u8>) -> Result<(), HuffFault> {
 }
 
 /// The bits of a string's Huffman text: its codes, and ones up to a whole octet.
-pub fn plain_text(string: &[u8]) -> Bits {
+pub(crate) fn plain_text(string: &[u8]) -> Bits {
     let mut bits = NONE;
     for octet in string {
         let (number, width) = code_of(&CODES, *octet);
@@ -52,7 +52,7 @@ pub fn plain_text(string: &[u8]) -> Bits {
 }
 
 /// The bits of octets.
-pub fn bits_of(octets: &[u8]) -> Bits {
+pub(crate) fn bits_of(octets: &[u8]) -> Bits {
     let mut bits = NONE;
     for octet in octets {
         bits = joined(bits, u64::from(*octet), 8);

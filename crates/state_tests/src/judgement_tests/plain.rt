@@ -64,7 +64,7 @@ fn judged<'a>(connection: &mut Connection, view: View<'a>) -> Option<Judged<'a>>
 }
 
 /// The first of these frames, which a connection takes in turn, of which something else comes.
-pub fn first_that_differs(connection: &mut Connection, rows: &[Row<'_>]) -> Option<usize> {
+pub(crate) fn first_that_differs(connection: &mut Connection, rows: &[Row<'_>]) -> Option<usize> {
     for (place, (kind, flags, id, payload, wanted)) in rows.iter().enumerate() {
         let view = View {
             kind: *kind,
@@ -85,7 +85,7 @@ fn first_that_differs_at_first(alloc: Global, rows: &[Row<'_>]) -> Option<usize>
 }
 
 /// A connection on which settings came, and these streams were opened with requests of this course.
-pub fn opened_with(alloc: Global, ids: &[u32], course: Course) -> Result<Connection, Fail> {
+pub(crate) fn opened_with(alloc: Global, ids: &[u32], course: Course) -> Result<Connection, Fail> {
     let mut connection = Connection::new(alloc);
     if first_that_differs(&mut connection, &[SETTINGS]).is_some() {
         return Err(Fail::from("settings aren't taken"));
@@ -99,7 +99,7 @@ pub fn opened_with(alloc: Global, ids: &[u32], course: Course) -> Result<Connect
 }
 
 /// The same, with requests that declare nothing.
-pub fn opened(alloc: Global, ids: &[u32]) -> Result<Connection, Fail> {
+pub(crate) fn opened(alloc: Global, ids: &[u32]) -> Result<Connection, Fail> {
     opened_with(alloc, ids, BEGUN)
 }
 

@@ -1,11 +1,13 @@
 -- A body of the right length may be pushed in one piece, and then the text may be ended.
-use Rattle.std.proofs.Common.{◌≡◌, ℕ, ◌+◌, ◌<◌, ◌≤◌, Bool, true, false, List, [], ◌∷◌, ◌++◌, length, Option, Some, None, refl, sym, ◌∙◌, ap, subst, arith, append_assoc, append-nil}
+use Rattle.std.proofs.Common.{◌≡◌, ℕ, ◌+◌, ◌<◌, ◌≤◌, Bool, true, false, List, [], ◌∷◌, ◌++◌, length, take, drop, Option, Some, refl, sym, ◌∙◌, ap, subst, arith, append_assoc, append-nil, length-append}
+use Rattle.std.proofs.lemmas.List.{take-append-drop, take-append-le, drop-append-le}
 use Rattle.std.specs.List.{concat}
 use Rattle.model.specs.Http2.{HasLength}
 use Rattle.request_rules.specs.Heads.{HeadParts}
-use Rattle.h1_writer.specs.Sending.{Stage, Sending, Continues, MayPush, MayFinish, piece_of}
+use Rattle.h1_writer.specs.Sending.{Stage, Sending, SentCounting, SentWhole, Continues, MayPush, MayFinish, piece_of, head_of, content_of}
+use Rattle.h1_writer.proofs.Stages.{more_full, concat_more}
 use Rattle.h1_writer.specs.Sending.Stage.{Whole, Counting, Holding, Chunking}
-use Rattle.requests.specs.Waits.{Request, MayEnd, IsEnded}
+use Rattle.requests.specs.Waits.{Request, MayEnd, IsEnded, Ends, IsEndedText}
 
 -- the body may be pushed
 pub may_push : (parts : HeadParts) (text : List ℕ) (stage : Stage) (body : List ℕ) → Sending parts false text [] stage → (stage ≡ Whole → ⊥) → HasLength parts.length body → MayPush stage (length body)
@@ -35,3 +37,65 @@ pub both : (old between new : Stage) (first second octets : List ℕ) → Contin
 both old between new first second octets one two = λ parts ended text pieces sending.
     subst (λ t. Sending parts ended t (pieces ++ piece_of octets) new) (append_assoc text first second)
     (subst (λ ps. Sending parts ended ((text ++ first) ++ second) ps new) (append-nil (pieces ++ piece_of octets)) (two parts ended (text ++ first) (pieces ++ piece_of octets) (one parts ended text pieces sending)))
+
+-- ---- a body whose length was declared stands as it came
+
+-- the octets that were waited for came at once
+counted : (parts : HeadParts) (ended : Bool) (text body : List ℕ) (pieces : List (List ℕ)) (left : ℕ) → length body ≡ left → SentCounting parts ended text pieces left → SentWhole parts ended (text ++ body) (pieces ++ piece_of body)
+counted parts ended text body pieces left all s =
+    let joined : concat (pieces ++ piece_of body) ≡ concat pieces ++ body = concat_more pieces body in
+    let lengths : length (concat (pieces ++ piece_of body)) ≡ length (concat pieces) + length body = ap length joined ∙ length-append (concat pieces) body in
+    let sum : length (concat pieces) + left ≡ length (concat (pieces ++ piece_of body)) = omega (arith, lengths, all) in
+    let declared : parts.length ≡ Some (length (concat (pieces ++ piece_of body))) = s.declared ∙ ap {A = ℕ} {B = Option ℕ} (λ n. Some n) sum in
+    record {
+      none_ended = λ e. absurd (let clash : true ≡ false = sym e ∙ s.not_ended in cc);
+      full = more_full pieces body s.full;
+      has_length = subst (λ (o : Option ℕ). HasLength o (concat (pieces ++ piece_of body))) (sym declared) refl;
+      is = ap (λ (t : List ℕ). t ++ body) s.is ∙ append_assoc (head_of parts false) (concat pieces) body ∙ ap (λ (rest : List ℕ). head_of parts false ++ rest) (sym joined)
+          ∙ ap (λ (b : Bool). head_of parts b ++ concat (pieces ++ piece_of body)) (sym s.not_ended)
+          ∙ ap (λ (o : Option ℕ). head_of parts ended ++ content_of o ended (pieces ++ piece_of body)) (sym declared);
+    }
+
+-- where the text may not be ended yet, a length was declared
+pub ends_counted : (parts : HeadParts) (text : List ℕ) (stage : Stage) (body : List ℕ) → Sending parts false text [] stage → (stage ≡ Whole → ⊥) → (MayFinish stage → ⊥) → HasLength parts.length body → Continues stage body body Whole
+ends_counted parts text Whole body sending on not_yet fits = absurd (on refl)
+ends_counted parts text (Counting left) body sending on not_yet fits =
+    let same : length body ≡ 0 + left = subst (λ o. HasLength o body) sending.declared fits in
+    λ parts' ended text' pieces s. counted parts' ended text' body pieces left (omega (arith, same)) s
+ends_counted parts text (Holding octet) body sending on not_yet fits = absurd (not_yet tt)
+ends_counted parts text Chunking body sending on not_yet fits = absurd (not_yet tt)
+
+-- ---- a request that waits, as it lies in one piece of memory
+
+module _ (route start : ℕ) (sender : Stage) (items octets : List ℕ) where
+  abbrev kept : Request
+  kept = record { route = route; text = take start items; stage = sender; body = drop start items }
+
+  -- its body stands as it came
+  pub ends_as_it_is : (request : Request) (text : List ℕ) → kept ≡ request → text ≡ items ++ octets → MayEnd request octets → (MayFinish sender → ⊥) → IsEnded request octets text
+  ends_as_it_is request text view is may not_yet = subst (λ (r : Request). MayEnd r octets → IsEnded r octets text) view (λ m. record {
+    written = drop start items ++ octets;
+    is = is ∙ ap (λ (os : List ℕ). os ++ octets) (sym (take-append-drop start items)) ∙ append_assoc (take start items) (drop start items) octets;
+    continues = ends_counted m.parts (take start items) sender (drop start items ++ octets) m.sending m.goes_on not_yet m.has_length;
+  }) may
+
+  -- it may end behind the octets
+  pub may_end : (request : Request) (head body : List ℕ) → kept ≡ request → start ≤ length items → head ≡ take start (items ++ octets) → body ≡ drop start (items ++ octets) → MayEnd request octets → Ends sender head body
+  may_end request head body view short front rest may =
+      let m : MayEnd kept octets = subst (λ (r : Request). MayEnd r octets) (sym view) may in
+      let same : head ≡ take start items = front ∙ take-append-le start items octets short in
+      let all : body ≡ drop start items ++ octets = rest ∙ drop-append-le start items octets short in
+      record {
+        parts = m.parts;
+        sending = subst (λ (os : List ℕ). Sending m.parts false os [] sender) (sym same) m.sending;
+        goes_on = m.goes_on;
+        has_length = subst (λ (os : List ℕ). HasLength m.parts.length os) (sym all) m.has_length;
+      }
+
+  -- its text was written anew
+  pub ends_anew : (request : Request) (head body text : List ℕ) → kept ≡ request → start ≤ length items → head ≡ take start (items ++ octets) → body ≡ drop start (items ++ octets) → IsEndedText head sender body text → IsEnded request octets text
+  ends_anew request head body text view short front rest ended = subst (λ (r : Request). IsEnded r octets text) view (record {
+    written = ended.0;
+    is = ended.1 ∙ ap (λ (os : List ℕ). os ++ ended.0) (front ∙ take-append-le start items octets short);
+    continues = subst (λ (os : List ℕ). Continues sender ended.0 os Whole) (rest ∙ drop-append-le start items octets short) ended.2;
+  })

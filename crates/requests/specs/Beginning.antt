@@ -1,5 +1,5 @@
 -- What is written for a request's head.
-use Rattle.std.specs.Prelude.{◌≡◌, ℕ, Bool, true, false, List, []}
+use Rattle.std.specs.Prelude.{◌≡◌, ℕ, Bool, true, false, []}
 use Rattle.request_rules.specs.Heads.{HeadParts}
 use Rattle.h1_writer.specs.Sending.{Sending}
 use Rattle.h1_writer.specs.Sending.Stage.{Whole}

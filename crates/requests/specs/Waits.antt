@@ -24,3 +24,14 @@ pub record IsEnded (request : Request) (octets text : List ℕ) : Type 0 where
   pub written : List ℕ
   pub is : text ≡ request.text ++ written
   pub continues : Continues request.stage written (request.body ++ octets) Whole
+
+-- Nothing of this body was sent, whose octets came in any pieces: its length is the declared one, if one is, and the text may be ended behind it.
+pub record Ends (stage : Stage) (head body : List ℕ) : Type 0 where
+  pub parts : HeadParts
+  pub sending : Sending parts false head [] stage
+  pub goes_on : stage ≡ Whole → ⊥
+  pub has_length : HasLength parts.length body
+
+-- The text is this head's, and behind it what is written for the whole body at once.
+abbrev pub IsEndedText : List ℕ → Stage → List ℕ → List ℕ → Type 0
+IsEndedText head stage body text = (written : List ℕ) × (text ≡ head ++ written) × Continues stage written body Whole

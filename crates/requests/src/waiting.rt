@@ -2,7 +2,7 @@
 
 ghost use Rattle.std.specs.Prelude.{◌≡◌, [], ◌++◌, true, length, OnOk, OnErr, IfOk};
 ghost use Rattle.model.specs.Http2.{HasLength};
-ghost use Rattle.requests.specs.Waits.{MayEnd, IsEnded};
+ghost use Rattle.requests.specs.Waits.{Ends, MayEnd, IsEnded, IsEndedText};
 ghost use Rattle.requests.specs.Beginning.{IsBegun};
 
 use h1_writer::Sender;
@@ -11,21 +11,27 @@ use std::alloc::{AllocError, Global};
 use std::marker::Model;
 
 /// A request of which more is to come, and which is passed on whole. A clause sees the place of its route, its head's text, what
-/// that waits for, and the octets of its body so far.
+/// that waits for, and the octets of its body so far. Both texts lie in one piece of memory, since a body of a declared length goes
+/// out as it came, right behind its head.
 #[derive(Drop)]
 pub struct Waiting {
     route: u32,
     sender: Sender,
-    text: Vec<u8>,
-    body: Vec<u8>,
+    /// The head's text, and behind it the body.
+    octets: Vec<u8>,
+    /// Where the body begins.
+    start: usize,
 }
 
 impl Model for Waiting {
+    ghost use Rattle.std.specs.Prelude.{◌≤◌, take, drop, vec_len};
     ghost use Rattle.requests.specs.Waits.{Request};
 
     ghost Value = { Request };
 
-    ghost view = { λ w. record { route = w.route; text = w.text.items; stage = w.sender; body = w.body.items } };
+    ghost view = { λ w. record { route = w.route; text = take w.start w.octets.items; stage = w.sender; body = drop w.start w.octets.items } };
+
+    ghost invariant = { λ w. w.start ≤ vec_len w.octets };
 }
 
 /// A request whose head came.
@@ -37,14 +43,22 @@ pub enum Begun {
     Waits(Waiting),
 }
 
-/// Room for so many octets of a body at most is made before they come.
+/// Room for so many octets of a body at most is made before they come, and for most heads before it.
 const MOST_ROOM: u64 = 65_536;
 
-/// An empty body, with room for the length that its head declares.
+const HEAD_ROOM: usize = 1024;
+
+/// Room for a chunk's line and for the last chunk (RFC 9112, section 7.1).
+const CHUNK_ROOM: usize = 32;
+
+/// Room for a head and for the length that it declares of a body, if that isn't 0.
 fn room_for(alloc: Global, length: Option<u64>) -> Result<Vec<u8>, AllocError>
-    ensures { IfOk result (λ body. body.items ≡ []) }
+    ensures { IfOk result (λ octets. octets.items ≡ []) }
 {
-    Vec::with_capacity(alloc, length.unwrap_or(0).min(MOST_ROOM) as usize)
+    match length.unwrap_or(0).min(MOST_ROOM) as usize {
+        0 => Ok(Vec::new(alloc)),
+        count => Vec::with_capacity(alloc, HEAD_ROOM + count),
+    }
 }
 
 /// Writes a request's head (RFC 9112, sections 2 to 3 and 6), which ends its stream or doesn't; the place of its route is kept. An
@@ -58,17 +72,39 @@ pub fn begin(
     requires { ended ≡ true → HasLength head.now.length [] }
     ensures { IfOk result (IsBegun head.now ended route) }
 {
-    let mut text = Vec::new(alloc);
-    let sender = Sender::start(head, ended, &mut text)?;
+    let mut octets = room_for(alloc, head.length())?;
+    let sender = Sender::start(head, ended, &mut octets)?;
     if ended {
-        return Ok(Begun::Whole(text));
+        return Ok(Begun::Whole(octets));
     }
+    let start = octets.len();
     Ok(Begun::Waits(Waiting {
         route,
         sender,
-        text,
-        body: room_for(alloc, head.length())?,
+        octets,
+        start,
     }))
+}
+
+/// The whole text of a request whose text may be ended where nothing of the body was sent: that of the head, and the body in one piece.
+fn end_text(
+    alloc: Global,
+    mut sender: Sender,
+    head: &[u8],
+    body: &[u8],
+) -> Result<Vec<u8>, AllocError>
+    requires { Ends sender head.now body.now }
+    ensures { IfOk result (λ text. IsEndedText head.now sender body.now text.items) }
+{
+    let room = head
+        .len()
+        .saturating_add(body.len())
+        .saturating_add(CHUNK_ROOM);
+    let mut text = Vec::with_capacity(alloc, room)?;
+    text.extend_from_slice(head)?;
+    sender.push(body, &mut text)?;
+    sender.finish(&mut text)?;
+    Ok(text)
 }
 
 impl Waiting {
@@ -83,7 +119,7 @@ impl Waiting {
     pub fn len(&self) -> usize
         ensures { result ≡ length self.now.body }
     {
-        self.body.len()
+        self.octets.len() - self.start
     }
 
     /// More octets of its body have come. An `Err` says that memory was refused; it changes nothing.
@@ -91,7 +127,7 @@ impl Waiting {
         ensures added { OnOk result (self.new ≡ record self.old { body = self.old.body ++ octets.now }) }
         ensures unchanged { OnErr result (self.new ≡ self.old) }
     {
-        self.body.extend_from_slice(octets)
+        self.octets.extend_from_slice(octets)
     }
 
     /// The whole text, where these octets end the body: that of the head, and the body in one piece (RFC 9112, sections 6 and 7.1). An `Err`
@@ -101,14 +137,17 @@ impl Waiting {
         ensures { IfOk result (λ text. IsEnded self octets.now text.items) }
     {
         let Waiting {
-            mut sender,
-            mut text,
-            mut body,
+            sender,
+            octets: mut text,
+            start,
             ..
         } = self;
-        body.extend_from_slice(octets)?;
-        sender.push(&body, &mut text)?;
-        sender.finish(&mut text)?;
-        Ok(text)
+        text.extend_from_slice(octets)?;
+        if !sender.may_finish() {
+            // Its length was declared.
+            return Ok(text);
+        }
+        let (head, body) = text.split_at(start);
+        end_text(*text.allocator(), sender, head, body)
     }
 }

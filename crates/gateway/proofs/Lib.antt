@@ -10,3 +10,4 @@ pub mod Setting
 pub mod Running
 pub mod Sizes
 pub mod Rooms
+pub mod Joined

@@ -20,12 +20,12 @@ ghost use Rattle.gateway.specs.Held.{IsHeldWithin};
 ghost use Rattle.gateway.specs.Rooms.{AreRooms, room_in, rooms_in};
 ghost use Rattle.gateway.specs.Setups.{setup_of, IsServable};
 ghost use Rattle.gateway.specs.Stands.{Serves, Stands, StandsNext, pending_in, admits, room_of, is_dead, is_open};
-ghost use Rattle.gateway.specs.Receiving.{Receives, ReadsOn, Happens, Greets, KeepsTerms, IsSettledIf};
+ghost use Rattle.gateway.specs.Receiving.{Receives, ReadsOn, Happens, Greets, KeepsTerms, IsSettledIf, is_begun};
 
 use crate::config::Config;
 use crate::phase::Phase;
 use crate::preface::{PREFACE, Start, read_preface};
-use crate::reading::{Read, take_frames};
+use crate::reading::{Read, completing, take_frames};
 use causes::Route;
 use header_blocks::Encoder;
 use judgement::{Connection, Terms};
@@ -322,8 +322,33 @@ impl Gateway {
         }
     }
 
-    /// Takes octets of the client, behind those that weren't read yet.
+    /// Whether octets wait that are part of a frame: then the preface was read.
+    fn has_part_of_frame(&self) -> bool
+        ensures { result ≡ true → is_begun self.now.phase ≡ true }
+    {
+        matches!(self.phase, Phase::Frames) && !self.partial.is_empty()
+    }
+
+    /// Takes octets of the client, behind those that weren't read yet. Only what completes a frame is copied there; the rest is read where it lies.
     fn take_piece(&mut self, piece: &[u8], out: &mut Outputs) -> Result<Went, AllocError>
+        requires settled { IsSettled self.old.kept }
+        requires reached { (setup : Setup) × Serves setup self.old × Reached setup self.old.kept square }
+        ensures receives { IfOk result (λ went. Receives self.old self.new went out.old out.new (self.old.partial ++ piece.now)) }
+        ensures terms { IfOk result (λ went. KeepsTerms self.old self.new) }
+        ensures rests { IfOk result (λ went. IsSettledIf went self.new.kept) }
+    {
+        let (front, rest) = piece.split_at(completing(&self.partial, piece));
+        if rest.is_empty() || !self.has_part_of_frame() {
+            return self.take_behind(piece, out);
+        }
+        match self.take_behind(front, out)? {
+            Went::On => self.take_behind(rest, out),
+            Went::Over => Ok(Went::Over),
+        }
+    }
+
+    /// Takes octets of the client, copied behind those that weren't read yet, if there are any.
+    fn take_behind(&mut self, piece: &[u8], out: &mut Outputs) -> Result<Went, AllocError>
         requires settled { IsSettled self.old.kept }
         requires reached { (setup : Setup) × Serves setup self.old × Reached setup self.old.kept square }
         ensures receives { IfOk result (λ went. Receives self.old self.new went out.old out.new (self.old.partial ++ piece.now)) }

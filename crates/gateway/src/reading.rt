@@ -13,6 +13,33 @@ use relay::Rooms;
 use std::alloc::{AllocError, Global};
 use steps::{Breach, Service, Went, leave_at, take_frame};
 
+/// The octets of a frame's header (RFC 9113, section 4.1).
+const HEADER: usize = 9;
+
+/// The octet at a place of two texts, one behind the other; 0 behind both.
+fn octet_at(waiting: &[u8], piece: &[u8], place: usize) -> usize
+    ensures { result ≤ 255 }
+{
+    let octet = match waiting.get(place) {
+        Some(octet) => Some(octet),
+        None => piece.get(place.saturating_sub(waiting.len())),
+    };
+    usize::from(octet.copied().unwrap_or(0))
+}
+
+/// How many octets of a piece complete the frame that begins with those that wait (RFC 9113, section 4.1), or its header, or all of the piece where they are
+/// fewer. How a piece is cut means nothing: what stands behind the cut can be read where it lies.
+pub fn completing(waiting: &[u8], piece: &[u8]) -> usize
+    ensures { result ≤ length piece.now }
+{
+    let length = octet_at(waiting, piece, 0) * 65536
+        + octet_at(waiting, piece, 1) * 256
+        + octet_at(waiting, piece, 2);
+    (HEADER + length)
+        .saturating_sub(waiting.len())
+        .min(piece.len())
+}
+
 /// How the reading of a text ended.
 #[derive(Clone, Copy, Debug, PartialEq, Eq)]
 pub enum Read {

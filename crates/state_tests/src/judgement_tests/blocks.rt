@@ -13,12 +13,19 @@ const CONTINUATION: u8 = 9;
 
 const DATA: u8 = 0;
 
+const RST_STREAM: u8 = 3;
+
 /// Flags: END_STREAM, END_HEADERS, and both.
 const ENDS: u8 = 1;
 
 const WHOLE: u8 = 4;
 
 const ALL: u8 = 5;
+
+/// PADDED; and END_STREAM, END_HEADERS and PRIORITY.
+const PADDED: u8 = 8;
+
+const WITH_PRIORITY: u8 = 37;
 
 /// The most octets of a body.
 const MOST: u64 = 10;
@@ -45,6 +52,19 @@ const LARGE: &[u8] = &[
 
 /// `x: y`.
 const TRAILERS: &[u8] = &[0x00, 0x01, 0x78, 0x01, 0x79];
+
+/// `:path: /`, which trailers can't have.
+const PATH: &[u8] = &[0x84];
+
+/// The octets of GET behind those of a priority.
+const GET_WITH_PRIORITY: &[u8] = &[
+    0x00, 0x00, 0x00, 0x00, 0x10, 0x82, 0x86, 0x84, 0x01, 0x01, 0x68,
+];
+
+/// A pad length with as many octets behind it, and one with fewer.
+const ALL_PADDING: &[u8] = &[0x03, 0x00, 0x00, 0x00];
+
+const TOO_MUCH_PADDING: &[u8] = &[0x04, 0x00, 0x00, 0x00];
 
 /// The octet of `:method: GET`, 400 times.
 static METHODS: [u8; 400] = [0x82; 400];
@@ -222,19 +242,131 @@ fn a_block_comes_in_fragments(rt: HostRuntime) -> Result<(), Fail> {
     Ok(())
 }
 
-/// Trailers that end their request, that don't, and that come before all octets that the head declares.
-static ENDINGS: [Row<'static>; 6] = [
+/// HEADERS too short for its pad length or its priority, with more padding than there are octets, and with as much.
+static PAYLOADS: [Row<'static>; 6] = [
+    (HEADERS, PADDED, 1, b"", Told::Failed(Fault::Connection(6))),
+    (
+        HEADERS,
+        WITH_PRIORITY,
+        1,
+        b"1234",
+        Told::Failed(Fault::Connection(6)),
+    ),
+    (
+        HEADERS,
+        PADDED,
+        1,
+        TOO_MUCH_PADDING,
+        Told::Failed(Fault::Connection(1)),
+    ),
+    (HEADERS, PADDED, 1, ALL_PADDING, Told::GoesOn),
+    (CONTINUATION, WHOLE, 1, GET, Told::Begins(0)),
+    (
+        HEADERS,
+        WITH_PRIORITY,
+        3,
+        GET_WITH_PRIORITY,
+        Told::Begins(0),
+    ),
+];
+
+#[test]
+fn payloads_hold_their_fragments(rt: HostRuntime) -> Result<(), Fail> {
+    assert_eq!(rt; first_of(rt.alloc(), &PAYLOADS)?, None);
+    Ok(())
+}
+
+/// The first of these frames of which something else comes, behind three on stream 1 with 16,384 octets of a block each.
+fn first_behind_long(alloc: Global, rows: &[Row<'_>]) -> Result<Option<usize>, AllocError> {
+    let long = vec![in alloc; 0x82; 16384]?;
+    let mut side = routed(alloc, b"/")?;
+    let begun: [Row<'_>; 3] = [
+        (HEADERS, 0, 1, &long, Told::GoesOn),
+        (CONTINUATION, 0, 1, &long, Told::GoesOn),
+        (CONTINUATION, 0, 1, &long, Told::GoesOn),
+    ];
+    if first_that_differs(&mut side, &begun)?.is_some() {
+        return Ok(Some(rows.len()));
+    }
+    first_that_differs(&mut side, rows)
+}
+
+#[test]
+fn blocks_have_a_length(rt: HostRuntime) -> Result<(), Fail> {
+    let last = vec![in rt.alloc(); 0x82; 16384]?;
+    let rows: [Row<'_>; 2] = [
+        (CONTINUATION, 0, 1, &last, Told::GoesOn),
+        (
+            CONTINUATION,
+            WHOLE,
+            1,
+            PATH,
+            Told::Failed(Fault::Connection(11)),
+        ),
+    ];
+    assert_eq!(rt; first_behind_long(rt.alloc(), &rows)?, None);
+    let rows: [Row<'_>; 1] = [(
+        CONTINUATION,
+        WHOLE,
+        1,
+        &last,
+        Told::Answered(Cause::LargeFields),
+    )];
+    assert_eq!(rt; first_behind_long(rt.alloc(), &rows)?, None);
+    Ok(())
+}
+
+/// Trailers that end their request, that don't, that come before all octets that the head declares, and that have a pseudo-field.
+static ENDINGS: [Row<'static>; 8] = [
     (HEADERS, WHOLE, 1, GET, Told::Begins(0)),
     (HEADERS, ALL, 1, TRAILERS, Told::Trailers),
     (HEADERS, WHOLE, 3, GET, Told::Begins(0)),
     (HEADERS, WHOLE, 3, TRAILERS, Told::Failed(Fault::Stream(1))),
     (HEADERS, WHOLE, 5, POST, Told::Begins(0)),
     (HEADERS, ALL, 5, TRAILERS, Told::Failed(Fault::Stream(1))),
+    (HEADERS, WHOLE, 7, GET, Told::Begins(0)),
+    (HEADERS, ALL, 7, PATH, Told::Failed(Fault::Stream(1))),
 ];
 
 #[test]
 fn trailers_end_a_request(rt: HostRuntime) -> Result<(), Fail> {
     assert_eq!(rt; first_of(rt.alloc(), &ENDINGS)?, None);
+    Ok(())
+}
+
+/// HEADERS on a stream that its client reset.
+static BEHIND_A_RESET: [Row<'static>; 3] = [
+    (HEADERS, WHOLE, 1, GET, Told::Begins(0)),
+    (RST_STREAM, 0, 1, b"code", Told::Plain),
+    (
+        HEADERS,
+        ALL,
+        1,
+        TRAILERS,
+        Told::Failed(Fault::Connection(5)),
+    ),
+];
+
+/// A request that its client ends, and HEADERS behind it once the response has ended too.
+static ENDED: [Row<'static>; 1] = [(HEADERS, ALL, 1, GET, Told::Begins(0))];
+
+static BEHIND_ITS_END: [Row<'static>; 1] = [(
+    HEADERS,
+    ALL,
+    1,
+    TRAILERS,
+    Told::Failed(Fault::Connection(5)),
+)];
+
+#[test]
+fn nothing_follows_on_a_closed_stream(rt: HostRuntime) -> Result<(), Fail> {
+    assert_eq!(rt; first_of_any(rt.alloc(), &BEHIND_A_RESET)?, None);
+    let mut side = routed(rt.alloc(), b"/")?;
+    assert_eq!(rt; first_that_differs(&mut side, &ENDED)?, None);
+    if side.connection.streams().find(1).is_some() {
+        side.connection.sent_head(1, true, true);
+    }
+    assert_eq!(rt; first_that_differs(&mut side, &BEHIND_ITS_END)?, None);
     Ok(())
 }
 

@@ -150,10 +150,21 @@ fn payloads_have_their_lengths(rt: HostRuntime) {
     assert_eq!(rt; first_that_differs_at_first(rt.alloc(), &LENGTHS), None);
 }
 
-static VALUES: [Row<'static>; 5] = [
+static VALUES: [Row<'static>; 10] = [
     (4, 0, 0, &[0, 2, 0, 0, 0, 2], PROTOCOL_ERROR),
+    (4, 0, 0, &[0, 2, 0, 0, 0, 1], Judged::Settings(UNCHANGED)),
     (4, 0, 0, &[0, 4, 128, 0, 0, 0], FLOW_CONTROL_ERROR),
     (4, 0, 0, &[0, 5, 0, 0, 0, 1], PROTOCOL_ERROR),
+    (4, 0, 0, &[0, 5, 0, 0, 63, 255], PROTOCOL_ERROR),
+    (4, 0, 0, &[0, 5, 0, 0, 64, 0], Judged::Settings(UNCHANGED)),
+    (
+        4,
+        0,
+        0,
+        &[0, 5, 0, 255, 255, 255],
+        Judged::Settings(UNCHANGED),
+    ),
+    (4, 0, 0, &[0, 5, 1, 0, 0, 0], PROTOCOL_ERROR),
     (4, 0, 0, &[0, 4, 0, 0, 0, 10], Judged::Settings(TO_TEN)),
     (
         4,

@@ -44,9 +44,10 @@ fn serve_client(rt: &HostRuntime, setting: &Setting, client: TcpStream) -> Resul
         return Ok(());
     }
     let client = Socket::from_std(client);
-    let world = SocketWorld::new(rt.alloc(), rt, &setting.addresses, client);
-    let Ok(mut world) = world else {
-        return Ok(());
+    let mut world = match SocketWorld::new(rt.alloc(), rt, &setting.addresses, client) {
+        Ok(world) => world,
+        Err(error) if error.kind() == ErrorKind::OutOfMemory => return Err(Stop::Memory),
+        Err(_) => return Ok(()),
     };
     let turns = u64::from(setting.turns);
     let ended = serve(rt.alloc(), &setting.config, &mut world, turns);

@@ -32,7 +32,8 @@ fn events_of(alloc: Global, row: &Row) -> Result<Vec<Event>, Fail> {
     Ok(read_script(alloc, &transcript.script).map_err(|_| "a script")?)
 }
 
-/// After how many octets pieces of this length are cut: after each, or, where there are more than 2,000, after every 1,021st.
+/// After how many octets pieces of this length are cut: after each, or, where there are more than 2,000, after every 1,021st, a prime, so that the cuts meet
+/// frames at other places each time; else a piece of 65,535 octets would be run through as often.
 fn step_of(length: usize) -> usize
     ensures { 0 < result }
 {

@@ -21,6 +21,11 @@ const FORWARDED: &[u8] =
 const NOT_FOUND: &[u8] =
     b"\nC \0\0\x0c\x04\0\0\0\0\0\0\x03\0\0\0\x64\0\x06\0\0\x40\0\0\0\0\x04\x01\0\0\0\0\0\0\x05\x01\x05\0\0\0\x01\x8d\x0f\x0d\x01\x30";
 
+/// Responses whose length is given twice: the same one, and two.
+const SAME_LENGTHS: &[u8] = b"HTTP/1.1 200 OK\r\nContent-Length: 2\r\nContent-Length: 2\r\n\r\nhi";
+
+const TWO_LENGTHS: &[u8] = b"HTTP/1.1 200 OK\r\nContent-Length: 2\r\nContent-Length: 3\r\n\r\nhi";
+
 /// A response, and what is put out for it: its connection is closed, and its frames go back.
 const ANSWER: &[u8] = b"HTTP/1.1 200 OK\r\nContent-Length: 2\r\n\r\nhi";
 
@@ -247,6 +252,8 @@ fn responses_go_back_once_they_are_whole(rt: HostRuntime) -> Result<(), Fail> {
     let alloc = rt.alloc();
     assert_puts_out(&rt, alloc, exchange(alloc, &[])?, b"")?;
     assert_puts_out(&rt, alloc, exchange(alloc, &[ANSWER])?, FRAMES)?;
+    assert_puts_out(&rt, alloc, exchange(alloc, &[SAME_LENGTHS])?, FRAMES)?;
+    assert_puts_out(&rt, alloc, exchange(alloc, &[TWO_LENGTHS])?, BAD_GATEWAY)?;
     assert_puts_out(&rt, alloc, exchange(alloc, &[b"junk"])?, BAD_GATEWAY)?;
     assert_puts_out(&rt, alloc, exchange(alloc, &CHUNKS)?, CHUNK_FRAMES)?;
     assert_puts_out(&rt, alloc, exchange(alloc, &CHUNKS[..2])?, b"")?;

@@ -1,15 +1,15 @@
 -- Fields that are found by their hashes.
-use Rattle.std.proofs.Common.{◌≡◌, ◌↔◌, Bool, true, false, ℕ, ◌+◌, ◌-◌, ◌<◌, ◌≤◌, List, [], ◌∷◌, length, take, map, slice_get, Option, Some, None, Result, Ok, Err, is_ok, if◌then◌else◌, refl, ap, sym, ◌∙◌, subst, inl, inr, arith}
-use Rattle.std.specs.Prelude.{option_map, IsTrue}
+use Rattle.std.proofs.Common.{◌≡◌, ◌↔◌, Bool, true, false, ℕ, ◌+◌, ◌-◌, ◌<◌, ◌≤◌, List, ◌∷◌, length, take, slice_get, Option, Some, Result, Ok, Err, refl, ap, sym, ◌∙◌, subst, inl, inr, arith}
+use Rattle.std.specs.Prelude.{option_map, IsTrue, OnOk}
 use Rattle.std.specs.Option.{ForSome}
 use Rattle.std.specs.Result.{is_err}
 use Rattle.std.proofs.lemmas.Bool.{cases_lt}
-use Rattle.std.proofs.lemmas.Option.{slice_get-map, slice_get_within, slice_get_past}
-use Rattle.std.proofs.lemmas.List.{take-map, length-map}
+use Rattle.std.proofs.lemmas.Option.{slice_get-map, slice_get_within}
+use Rattle.std.proofs.lemmas.List.{take-map}
 use Rattle.model.specs.Messages.{Field}
-use Rattle.model.specs.Tables.{Table, field_of, look_up, keep}
-use Rattle.hpack_table.specs.Finding.{FindsBoth, FindsName, Finds, HasNone}
-use Rattle.hpack_table.specs.Searching.{Seeks, Searched, Named, table_of}
+use Rattle.model.specs.Tables.{field_of, look_up, keep}
+use Rattle.hpack_table.specs.Finding.{FindsBoth, Finds, HasNone}
+use Rattle.hpack_table.specs.Searching.{Seeks, table_of}
 use Rattle.hpack_table.specs.Chaining.{IsNextOfHash}
 use Rattle.hpack_table.specs.Indexing.{HasNoName, HasNoText, IsIndexOf, IsNewestName, IsNewestText, name_hash, name_hashes, text_hash, text_hashes}
 use Rattle.hpack_table.specs.declared.index.Index.{Index}
@@ -175,6 +175,6 @@ pub same_index : (a b : Index) → ◌≡◌ {A = Option Index} (Some a) (Some b
 same_index a b e = cc
 
 -- a push that wasn't refused
-pub pushed : {U E : Type 0} (r : Result U E) (refused : Bool) (old new more : List Field) → new ≡ (if is_ok r then more else old) → refused ≡ is_err r → refused ≡ false → new ≡ more
-pushed (Ok done) refused old new more is told none = is
-pushed (Err error) refused old new more is told none = let clash : true ≡ false = sym told ∙ none in cc
+pub pushed : {U E : Type 0} (r : Result U E) (refused : Bool) (new more : List Field) → OnOk r (new ≡ more) → refused ≡ is_err r → refused ≡ false → new ≡ more
+pushed (Ok done) refused new more is told none = is
+pushed (Err error) refused new more is told none = let clash : true ≡ false = sym told ∙ none in cc

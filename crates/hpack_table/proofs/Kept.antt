@@ -63,15 +63,10 @@ total_at_least [] = omega arith
 total_at_least (field ∷ fields) = let rest = total_at_least fields in omega (arith, rest)
 
 -- what fields that are too large in sum have: an oldest one
-pub no_oldest : (fields new : List Field) (count size max : ℕ) → fields ≡ new ++ [] → new ≡ take (count - 1) fields → count ≡ 0 → size ≡ total_size fields → max < size → ⊥
-no_oldest fields new count size max is rest none total over =
-    let no_new : new ≡ [] = rest ∙ ap (λ n. take n fields) (no_count count none) in
-    let no_fields : fields ≡ [] = is ∙ ap (λ n. n ++ []) no_new in
-    let zero_size : size ≡ 0 = total ∙ ap total_size no_fields ∙ total_none in
+pub no_oldest : (fields : List Field) (size max : ℕ) → fields ≡ [] → size ≡ total_size fields → max < size → ⊥
+no_oldest fields size max none total over =
+    let zero_size : size ≡ 0 = total ∙ ap total_size none ∙ total_none in
     omega arith
-  where
-    no_count : (n : ℕ) → n ≡ 0 → n - 1 ≡ 0
-    no_count n e = omega arith
 
 pub oldest_fits : (fields new : List Field) (oldest : Field) (size : ℕ) → fields ≡ new ++ oldest ∷ [] → size ≡ total_size fields → (field_size oldest ≤ size → ⊥) → ⊥
 oldest_fits fields new oldest size is total never =

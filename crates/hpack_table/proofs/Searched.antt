@@ -1,5 +1,5 @@
 -- A search by rising indices.
-use Rattle.std.proofs.Common.{◌≡◌, ℕ, zero, suc, ◌+◌, ◌-◌, ◌<◌, ◌≤◌, Bool, true, false, List, [], ◌∷◌, ◌++◌, drop, length, slice_get, Option, Some, None, refl, ap, sym, ◌∙◌, subst, inl, inr, arith}
+use Rattle.std.proofs.Common.{◌≡◌, ℕ, zero, suc, ◌+◌, ◌-◌, ◌<◌, ◌≤◌, true, false, List, [], ◌++◌, length, slice_get, Option, Some, None, refl, ap, sym, ◌∙◌, subst, inl, inr, arith}
 use Rattle.std.proofs.lemmas.Bool.{cases_lt}
 use Rattle.model.specs.Messages.{Field}
 use Rattle.std.proofs.lemmas.Option.{slice_get_past}
@@ -159,30 +159,13 @@ finds_alike table other name value (Name i) same f = (
 )
 finds_alike table other name value Absent same f = λ lower entry e is. f lower entry (look_fields table other same lower ∙ e) is
 
--- what an iterator still gives, by places
-pub next_at : (fields : List Field) (place : ℕ) (field : Field) (more : List Field) → drop place fields ≡ field ∷ more → (slice_get fields place ≡ Some field) × (more ≡ drop (place + 1) fields)
-next_at [] zero field more e = cc
-next_at [] (suc place) field more e = cc
-next_at (x ∷ fields) zero field more e = (cc, cc)
-next_at (x ∷ fields) (suc place) field more e =
-    let far : suc place + 1 ≡ suc (place + 1) = omega arith in
-    rw far (next_at fields place field more e)
+-- an added field stands behind the static entries
+pub added_here : (fields : List Field) (place : ℕ) (field : Field) (name value : List ℕ) → slice_get fields place ≡ Some field → name ≡ field.name → value ≡ field.value → look_up (table_of fields) (62 + place) ≡ Some (field_of name value)
+added_here fields place field name value here is_name is_value =
+    let at : 62 + place - 1 - 61 ≡ place = omega arith in
+    look_dynamic (table_of fields) (62 + place) (omega arith) (omega arith) ∙ ap (slice_get fields) at ∙ here ∙ ap (λ f. Some f) (field_same field name value is_name is_value)
 
-pub none_at_end : (fields : List Field) (place : ℕ) → length (drop place fields) ≡ 0 → slice_get fields place ≡ None
-none_at_end [] place e = refl
-none_at_end (x ∷ fields) zero e = absurd (omega (arith, e))
-none_at_end (x ∷ fields) (suc place) e = none_at_end fields place e
-
-pub added_here : (fields : List Field) (index : ℕ) (field : Field) (name value : List ℕ) (rest more : List Field) → 62 ≤ index → rest ≡ drop (index - 62) fields → rest ≡ field ∷ more → name ≡ field.name → value ≡ field.value
-    → (look_up (table_of fields) index ≡ Some (field_of name value)) × (more ≡ drop (index + 1 - 62) fields)
-added_here fields index field name value rest more past e next is_name is_value =
-    let step = next_at fields (index - 62) field more (sym e ∙ next) in
-    let place : index - 1 - 61 ≡ index - 62 = omega arith in
-    let far : index - 62 + 1 ≡ index + 1 - 62 = omega (arith, past) in
-    let here : look_up (table_of fields) index ≡ slice_get fields (index - 1 - 61) = look_dynamic (table_of fields) index (omega (arith, past)) (omega (arith, past)) in
-    (here ∙ ap (slice_get fields) place ∙ step.0 ∙ ap (λ f. Some f) (field_same field name value is_name is_value), step.1 ∙ ap (λ p. drop p fields) far)
-
-pub added_end : (fields : List Field) (index : ℕ) (rest : List Field) → 62 ≤ index → rest ≡ drop (index - 62) fields → length rest ≡ 0 → look_up (table_of fields) index ≡ None
-added_end fields index rest past e none =
-    let place : index - 1 - 61 ≡ index - 62 = omega arith in
-    look_dynamic (table_of fields) index (omega (arith, past)) (omega (arith, past)) ∙ ap (slice_get fields) place ∙ none_at_end fields (index - 62) (sym (ap length e) ∙ none)
+pub added_end : (fields : List Field) (place : ℕ) → length fields ≤ place → look_up (table_of fields) (62 + place) ≡ None
+added_end fields place past =
+    let at : 62 + place - 1 - 61 ≡ place = omega arith in
+    look_dynamic (table_of fields) (62 + place) (omega arith) (omega arith) ∙ ap (slice_get fields) at ∙ slice_get_past fields place past

@@ -4,3 +4,4 @@ pub mod Finding
 pub mod Searching
 pub mod Chaining
 pub mod Indexing
+pub mod Ringed

@@ -11,22 +11,16 @@ use crate::chains::Chains;
 use crate::field::Field;
 use crate::found::Found;
 use crate::index::{Index, hash_field};
+use crate::ring::Ring;
 use crate::table::FIRST_INDEX;
-use std::collections::VecDeque;
 
 /// The least index of an entry with the name and the value, of which the static table has none; where there is none, the
 /// least index of one with the name, as it was found in the static table.
-pub fn find_by_hash(
-    fields: &VecDeque<Field>,
-    index: &Index,
-    name: &[u8],
-    value: &[u8],
-    found: Found,
-) -> Found
-    requires seeks { Seeks (table_of fields.now.items) name.now value.now 62 found }
-    requires few { length fields.now.items < 134217728 }
-    requires index { IsIndexOf index.now fields.now.items }
-    ensures { Finds (table_of fields.now.items) name.now value.now result }
+pub fn find_by_hash(fields: &Ring, index: &Index, name: &[u8], value: &[u8], found: Found) -> Found
+    requires seeks { Seeks (table_of fields.now) name.now value.now 62 found }
+    requires few { length fields.now < 134217728 }
+    requires index { IsIndexOf index.now fields.now }
+    ensures { Finds (table_of fields.now) name.now value.now result }
 {
     let hashes = hash_field(name, value);
     if let Some(place) = text_place(fields, &index.texts, hashes.text, name, value) {
@@ -42,16 +36,10 @@ pub fn find_by_hash(
 }
 
 /// The place of the newest field with the name and the value.
-fn text_place(
-    fields: &VecDeque<Field>,
-    texts: &Chains,
-    hash: u64,
-    name: &[u8],
-    value: &[u8],
-) -> Option<usize>
+fn text_place(fields: &Ring, texts: &Chains, hash: u64, name: &[u8], value: &[u8]) -> Option<usize>
     requires hash { hash ≡ text_hash name.now value.now }
-    requires texts { texts.now ≡ text_hashes fields.now.items }
-    ensures { MatchOption result (HasNoText fields.now.items name.now value.now) (IsNewestText fields.now.items name.now value.now) }
+    requires texts { texts.now ≡ text_hashes fields.now }
+    ensures { MatchOption result (HasNoText fields.now name.now value.now) (IsNewestText fields.now name.now value.now) }
 {
     let mut place = texts.first(hash);
     while let Some(field) = fields.get(place) {
@@ -64,10 +52,10 @@ fn text_place(
 }
 
 /// The place of the newest field with the name.
-fn name_place(fields: &VecDeque<Field>, names: &Chains, hash: u64, name: &[u8]) -> Option<usize>
+fn name_place(fields: &Ring, names: &Chains, hash: u64, name: &[u8]) -> Option<usize>
     requires hash { hash ≡ name_hash name.now }
-    requires names { names.now ≡ name_hashes fields.now.items }
-    ensures { MatchOption result (HasNoName fields.now.items name.now) (IsNewestName fields.now.items name.now) }
+    requires names { names.now ≡ name_hashes fields.now }
+    ensures { MatchOption result (HasNoName fields.now name.now) (IsNewestName fields.now name.now) }
 {
     let mut place = names.first(hash);
     while let Some(field) = fields.get(place) {

@@ -11,6 +11,7 @@ mod chains;
 mod field;
 mod found;
 mod index;
+mod ring;
 mod static_table;
 mod table;
 

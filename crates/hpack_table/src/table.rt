@@ -9,9 +9,9 @@ use crate::by_hash::find_by_hash;
 use crate::field::Field;
 use crate::found::{Found, is_both, met};
 use crate::index::{Index, enter, shorten};
+use crate::ring::Ring;
 use crate::static_table::{STATIC_LENGTH, find_static, static_entry};
 use std::alloc::{AllocError, Global};
-use std::collections::VecDeque;
 use std::marker::Model;
 
 /// The index of the newest field.
@@ -20,7 +20,7 @@ pub const FIRST_INDEX: u32 = 62;
 /// The dynamic table of a direction. A clause sees its fields, the newest first, and the maximum of their sizes.
 #[derive(Drop)]
 pub struct Table {
-    fields: VecDeque<Field>,
+    fields: Ring,
     size: usize,
     maximum: u32,
     /// Where fields are found by their hashes, if they are.
@@ -35,9 +35,9 @@ impl Model for Table {
 
     ghost Value = { TableOfFields };
 
-    ghost view = { λ table. record { fields = table.fields.items; maximum = table.maximum } };
+    ghost view = { λ table. record { fields = table.fields; maximum = table.maximum } };
 
-    ghost invariant = { λ table. (table.size ≡ total_size table.fields.items) × (table.size ≤ table.maximum) × (table.maximum < 2 ^ 32) × ForSome table.index (λ index. IsIndexOf index table.fields.items) };
+    ghost invariant = { λ table. (table.size ≡ total_size table.fields) × (table.size ≤ table.maximum) × (table.maximum < 2 ^ 32) × ForSome table.index (λ index. IsIndexOf index table.fields) };
 }
 
 impl Table {
@@ -47,7 +47,7 @@ impl Table {
         ensures maximum { result.maximum ≡ maximum }
     {
         Table {
-            fields: VecDeque::new(alloc),
+            fields: Ring::new(alloc),
             size: 0,
             maximum,
             index: None,
@@ -140,28 +140,29 @@ impl Table {
 
 /// The least index of an entry with the name and the value, of which the static table has none; where there is none, the
 /// least index of one with the name, as it was found in the static table.
-fn find_added(fields: &VecDeque<Field>, name: &[u8], value: &[u8], found: Found) -> Found
-    requires seeks { Seeks (table_of fields.now.items) name.now value.now 62 found }
-    requires few { length fields.now.items < 134217728 }
-    ensures { Finds (table_of fields.now.items) name.now value.now result }
+fn find_added(fields: &Ring, name: &[u8], value: &[u8], found: Found) -> Found
+    requires seeks { Seeks (table_of fields.now) name.now value.now 62 found }
+    requires few { length fields.now < 134217728 }
+    ensures { Finds (table_of fields.now) name.now value.now result }
 {
     let mut found = found;
-    let mut index = FIRST_INDEX;
-    for field in fields {
+    let mut place = 0;
+    while let Some(field) = fields.get(place) {
+        let index = FIRST_INDEX + place as u32;
         found = met(found, index, field.name(), field.value(), name, value);
         if is_both(found) {
             return found;
         }
-        index += 1;
+        place += 1;
     }
     found
 }
 
 /// Takes the oldest fields out until the sizes of the others sum to at most the maximum, and answers their sum.
-fn evict(fields: &mut VecDeque<Field>, size: usize, maximum: usize) -> usize
-    requires { size ≡ total_size fields.old.items }
-    ensures kept { fields.new.items ≡ keep maximum fields.old.items }
-    ensures size { result ≡ total_size fields.new.items }
+fn evict(fields: &mut Ring, size: usize, maximum: usize) -> usize
+    requires { size ≡ total_size fields.old }
+    ensures kept { fields.new ≡ keep maximum fields.old }
+    ensures size { result ≡ total_size fields.new }
     ensures fits { result ≤ maximum }
 {
     let mut size = size;

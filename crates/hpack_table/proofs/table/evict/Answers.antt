@@ -3,16 +3,16 @@ use Rattle.hpack_table.proofs.table.evict.Goals as goal
 
 pub unreachable-requires : goal.unreachable-requires
 unreachable-requires c =
-    no_oldest c.loop-size.fields.items c.pop_back.new.self.items _ c.loop-size.size c.args.maximum c.in_default.ensures.items c.in_default.ensures.rest c.in_default.ensures.cases.0 c.loop-size.invariant.total c.loop-size-test.true
+    no_oldest c.loop-size.fields c.loop-size.size c.args.maximum c.in_default.ensures.0 c.loop-size.invariant.total c.loop-size-test.true
 
 pub unreachable-requires-in-None : goal.unreachable-requires-in-None
-unreachable-requires-in-None c = oldest_fits c.loop-size.fields.items c.pop_back.new.self.items c.in-Some.oldest c.loop-size.size c.in-Some.ensures.items c.loop-size.invariant.total c.in-None.ensures
+unreachable-requires-in-None c = oldest_fits c.loop-size.fields c.pop_back.new.self c.in-Some.oldest c.loop-size.size c.in-Some.ensures c.loop-size.invariant.total c.in-None.ensures
 
 pub loop-size-preserved : goal.loop-size-preserved
 loop-size-preserved c = record {
-  same = evicted c.loop-size.fields.items c.pop_back.new.self.items c.args.fields.now.items c.in-Some.oldest c.loop-size.size c.args.maximum c.in-Some.ensures.items c.loop-size.invariant.total c.loop-size-test.true c.loop-size.invariant.same;
-  total = rest_size c.loop-size.fields.items c.pop_back.new.self.items c.in-Some.oldest c.loop-size.size c.in-Some-room_behind.rest c.in-Some.ensures.items c.loop-size.invariant.total c.in-Some-room_behind.ensures.1;
+  same = evicted c.loop-size.fields c.pop_back.new.self c.args.fields.now c.in-Some.oldest c.loop-size.size c.args.maximum c.in-Some.ensures c.loop-size.invariant.total c.loop-size-test.true c.loop-size.invariant.same;
+  total = rest_size c.loop-size.fields c.pop_back.new.self c.in-Some.oldest c.loop-size.size c.in-Some-room_behind.rest c.in-Some.ensures c.loop-size.invariant.total c.in-Some-room_behind.ensures.1;
 }
 
 pub returns-clause-kept : goal.returns-clause-kept
-returns-clause-kept c = kept_all c.loop-size.fields.items c.args.fields.now.items c.loop-size.size c.args.maximum c.loop-size.invariant.total c.loop-size-test.false c.loop-size.invariant.same
+returns-clause-kept c = kept_all c.loop-size.fields c.args.fields.now c.loop-size.size c.args.maximum c.loop-size.invariant.total c.loop-size-test.false c.loop-size.invariant.same

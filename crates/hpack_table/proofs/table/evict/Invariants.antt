@@ -4,9 +4,9 @@ use Rattle.hpack_table.proofs.table.evict.Given as goal
 
 abbrev pub invariant-loop-size : goal.invariant-loop-size
 invariant-loop-size l = record {
-  same : keep l.maximum l.fields.items ≡ keep l.maximum l.fn.fields.items;
-  total : l.size ≡ total_size l.fields.items;
+  same : keep l.maximum l.fields ≡ keep l.maximum l.fn.fields;
+  total : l.size ≡ total_size l.fields;
 }
 
 abbrev pub decreases-loop-size : goal.decreases-loop-size
-decreases-loop-size l = length l.fields.items
+decreases-loop-size l = length l.fields

@@ -1,4 +1,4 @@
-use Rattle.std.proofs.Common.{List, ap, sym, ◌∙◌}
+use Rattle.std.proofs.Common.{ap, sym, ◌∙◌}
 use Rattle.model.specs.Tables.{Table}
 use Rattle.hpack_table.specs.Searching.{table_of}
 use Rattle.hpack_table.proofs.Looked.{few_entries}
@@ -10,20 +10,20 @@ returns-then-is_both c = finds_in_all c.args.self.now c.args.name.now c.args.val
 
 pub find_by_hash-requires-clause-seeks : goal.find_by_hash-requires-clause-seeks
 find_by_hash-requires-clause-seeks c =
-    seeks_behind (table_of c.self.inside.fields.items) c.args.name.now c.args.value.now c.find_static-found.result c.find_static-found.ensures (sym c.is_both.ensures ∙ c.if-is_both.false)
+    seeks_behind (table_of c.self.inside.fields) c.args.name.now c.args.value.now c.find_static-found.result c.find_static-found.ensures (sym c.is_both.ensures ∙ c.if-is_both.false)
 
 pub find_by_hash-requires-clause-few : goal.find_by_hash-requires-clause-few
-find_by_hash-requires-clause-few c = few_entries c.self.inside.fields.items c.self.inside.size c.self.inside.maximum c.self.invariant.0 c.self.invariant.1 c.self.invariant.2
+find_by_hash-requires-clause-few c = few_entries c.self.inside.fields c.self.inside.size c.self.inside.maximum c.self.invariant.0 c.self.invariant.1 c.self.invariant.2
 
 pub find_added-requires-clause-seeks : goal.find_added-requires-clause-seeks
 find_added-requires-clause-seeks c =
-    seeks_behind (table_of c.self.inside.fields.items) c.args.name.now c.args.value.now c.find_static-found.result c.find_static-found.ensures (sym c.is_both.ensures ∙ c.if-is_both.false)
+    seeks_behind (table_of c.self.inside.fields) c.args.name.now c.args.value.now c.find_static-found.result c.find_static-found.ensures (sym c.is_both.ensures ∙ c.if-is_both.false)
 
 pub find_added-requires-clause-few : goal.find_added-requires-clause-few
-find_added-requires-clause-few c = few_entries c.self.inside.fields.items c.self.inside.size c.self.inside.maximum c.self.invariant.0 c.self.invariant.1 c.self.invariant.2
+find_added-requires-clause-few c = few_entries c.self.inside.fields c.self.inside.size c.self.inside.maximum c.self.invariant.0 c.self.invariant.1 c.self.invariant.2
 
 pub returns-in-Some : goal.returns-in-Some
-returns-in-Some c = finds_alike (table_of c.self.inside.fields.items) c.args.self.now c.args.name.now c.args.value.now c.find_by_hash.result (ap (λ (t : Table). t.fields) c.self.view_is) c.find_by_hash.ensures
+returns-in-Some c = finds_alike (table_of c.self.inside.fields) c.args.self.now c.args.name.now c.args.value.now c.find_by_hash.result (ap (λ (t : Table). t.fields) c.self.view_is) c.find_by_hash.ensures
 
 pub returns-in-None : goal.returns-in-None
-returns-in-None c = finds_alike (table_of c.self.inside.fields.items) c.args.self.now c.args.name.now c.args.value.now c.find_added.result (ap (λ (t : Table). t.fields) c.self.view_is) c.find_added.ensures
+returns-in-None c = finds_alike (table_of c.self.inside.fields) c.args.self.now c.args.name.now c.args.value.now c.find_added.result (ap (λ (t : Table). t.fields) c.self.view_is) c.find_added.ensures

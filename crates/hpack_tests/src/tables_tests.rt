@@ -86,6 +86,38 @@ fn the_oldest_go(rt: HostRuntime) -> Result<(), Fail> {
     Ok(())
 }
 
+/// Adds so many fields, each with its number as its value.
+fn add_numbered(alloc: Global, table: &mut Table, count: u8) -> Result<(), AllocError> {
+    for number in 0..count {
+        add(alloc, table, (b"n", &[number]))?;
+    }
+    Ok(())
+}
+
+/// Whether a table has so many fields, numbered downwards from the newest one's.
+fn has_newest(table: &Table, newest: u8, count: u8) -> bool {
+    for place in 0..count {
+        let value = [newest.wrapping_sub(place)];
+        if !has(table, 62 + u32::from(place), (b"n", &value)) {
+            return false;
+        }
+    }
+    table.get(62 + u32::from(count)).is_none()
+}
+
+#[test]
+fn many_fields_are_kept(rt: HostRuntime) -> Result<(), Fail> {
+    let alloc = rt.alloc();
+    let mut table = Table::new(alloc, 4096);
+    add_numbered(alloc, &mut table, 40)?;
+    assert!(rt; has_newest(&table, 39, 40));
+    table.set_max(340);
+    assert!(rt; has_newest(&table, 39, 10));
+    add(alloc, &mut table, (b"n", &[40]))?;
+    assert!(rt; has_newest(&table, 40, 10));
+    Ok(())
+}
+
 static FOUND: [Step<'static>; 7] = [
     Step::Found((b":path", b"/"), Found::Both(4)),
     Step::Found((b":path", b"/x"), Found::Name(4)),

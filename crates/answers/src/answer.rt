@@ -123,6 +123,14 @@ impl Answer {
         }
     }
 
+    /// How the response is passed on.
+    pub fn passing(&self) -> Passing
+        ensures { result ≡ self.now.way }
+    {
+        let Answer { passing, .. } = self;
+        *passing
+    }
+
     /// Takes octets of the upstream. Heads that are interim are on offer at once; the rest too where the response is passed on as it
     /// comes, and else once it is whole. Where the answer fails nothing of these octets is on offer. An `Err` says that memory was
     /// refused, and then neither the answer nor the outbox is of use any more.

@@ -33,6 +33,7 @@ fn a_whole_response_waits_for_its_end(rt: HostRuntime) -> Result<(), Fail> {
     let (front, rest) = RESPONSE.split_at(RESPONSE.len() - 1);
     let mut outbox = Outbox::new(rt.alloc());
     let mut answer = Answer::new(rt.alloc(), false, Passing::Whole(5));
+    assert_eq!(rt; answer.passing(), Passing::Whole(5));
     assert_eq!(rt; answer.hear(front, &mut outbox)?, Heard::GoesOn);
     assert_eq!(rt; upcoming(&outbox), Next::Early(103));
     let _early = outbox.take_head();

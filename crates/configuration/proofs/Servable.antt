@@ -2,17 +2,11 @@
 use Rattle.std.proofs.Common.{◌≡◌, ◌≤◌, ℕ, ℤ, suc, Option, Some, None, List, [], ◌∷◌, length, map, refl, ap, ◌∙◌, arith}
 use Rattle.std.proofs.lemmas.List.{length-map}
 use Rattle.toml.specs.Data.{Members, Items}
-use Rattle.gateway.specs.Setups.{setup_of, route_of, passing_of, IsServable}
+use Rattle.gateway.specs.Setups.{setup_of, route_of, IsServable}
 use Rattle.gateway.specs.declared.config.Config.{Config}
 use Rattle.gateway.specs.declared.config.Route.{Route}
-use Rattle.gateway.specs.declared.config.Passing.{Passing}
-use Rattle.gateway.specs.declared.config.Passing.TheVariants.{Whole}
 use Rattle.configuration.specs.Configs.{IsConfig, AreRoutes, Configures}
-use Rattle.configuration.specs.Keys.{IsPassing, IsMost, AreTables}
-
-whole : (text : Option (Option (List ℕ))) (passing : Passing) → IsPassing text passing → passing ≡ Whole
-whole None passing is = is
-whole (Some text) passing is = is.1
+use Rattle.configuration.specs.Keys.{IsMost, AreTables}
 
 most : (number : Option (Option ℤ)) (n : ℕ) → IsMost number n → n ≤ 1073741824
 most None n is = rw is (omega arith)
@@ -34,7 +28,6 @@ servable entries config is =
     let count : length (map route_of config.routes.items) ≡ length is.tables = length-map config.routes.items route_of ∙ as_many is.tables config.routes.items is.routes in
     let most_tables : length is.tables ≤ 4294967295 = few _ is.tables is.are_tables in
     record {
-      whole = ap passing_of (whole _ config.passing is.passing);
       body = most _ config.max_body is.max_body;
       response = most _ config.max_response is.max_response;
       few = omega arith;

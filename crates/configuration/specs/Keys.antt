@@ -7,7 +7,7 @@ use Rattle.toml.specs.View.{items_of}
 use Rattle.gateway.specs.declared.config.Policy.{Policy}
 use Rattle.gateway.specs.declared.config.Policy.TheVariants.{Plain, Indexing}
 use Rattle.gateway.specs.declared.config.Passing.{Passing}
-use Rattle.gateway.specs.declared.config.Passing.TheVariants.{Whole}
+use Rattle.gateway.specs.declared.config.Passing.TheVariants.{Whole, Streaming}
 use Rattle.configuration.specs.declared.faults.Key.{Key}
 use Rattle.configuration.specs.declared.faults.Key.TheVariants as key
 
@@ -35,10 +35,15 @@ abbrev pub IsPolicy : Option (Option (List ℕ)) → Policy → Type 0
 IsPolicy None policy = policy ≡ Plain
 IsPolicy (Some text) policy = text ≡ Some (name_of_policy policy)
 
--- `passing`: "whole", which is the default. Nothing else is taken yet.
+-- how a way of passing bodies on is written
+abbrev pub name_of_passing : Passing → List ℕ
+name_of_passing Whole = codes "whole"
+name_of_passing Streaming = codes "streaming"
+
+-- `passing`: the name of one, and "whole" by default.
 abbrev pub IsPassing : Option (Option (List ℕ)) → Passing → Type 0
 IsPassing None passing = passing ≡ Whole
-IsPassing (Some text) passing = (text ≡ Some (codes "whole")) × (passing ≡ Whole)
+IsPassing (Some text) passing = text ≡ Some (name_of_passing passing)
 
 -- `max_body` and `max_response`: 0 to 1,073,741,824, and 1,048,576 by default.
 abbrev pub IsMost : Option (Option ℤ) → ℕ → Type 0

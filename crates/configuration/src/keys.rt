@@ -57,6 +57,7 @@ pub fn passing_in(table: &Table) -> Option<Passing>
 {
     match text_at(table, "passing") {
         None | Some(Some("whole")) => Some(Passing::Whole),
+        Some(Some("streaming")) => Some(Passing::Streaming),
         Some(_) => None,
     }
 }

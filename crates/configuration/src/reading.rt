@@ -21,7 +21,7 @@ use toml::{Table, Value};
 /// Reads a configuration, which is a table of TOML. Each key may be left out but the two that a route needs:
 ///
 /// - `policy`, how header blocks are written: `"plain"`, the default, or `"indexing"`.
-/// - `passing`, how bodies are passed on: `"whole"`, the default. `"streaming"` isn't taken yet.
+/// - `passing`, how bodies are passed on: `"whole"`, the default, or `"streaming"`, as they come.
 /// - `max_body` and `max_response`, the most octets of a request's and a response's body: 0 to 1,073,741,824, and 1,048,576
 ///   by default.
 /// - `route`, an array of at most 4,294,967,295 tables, none by default, each with

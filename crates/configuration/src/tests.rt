@@ -48,6 +48,15 @@ fn both_policies(rt: HostRuntime) -> Result<(), Fail> {
 }
 
 #[test]
+fn both_ways_of_passing_bodies_on(rt: HostRuntime) -> Result<(), Fail> {
+    let whole = taken(&rt, rt.alloc(), "passing = \"whole\"");
+    assert!(rt; matches!(whole.passing, Passing::Whole));
+    let streaming = taken(&rt, rt.alloc(), "passing = \"streaming\"");
+    assert!(rt; matches!(streaming.passing, Passing::Streaming));
+    Ok(())
+}
+
+#[test]
 fn all_keys(rt: HostRuntime) -> Result<(), Fail> {
     let text =
         "policy = \"plain\"\npassing = \"whole\"\nmax_body = 0\nmax_response = 1_073_741_824\n\
@@ -75,7 +84,7 @@ fn wrong_keys(rt: HostRuntime) -> Result<(), Fail> {
     for text in ["policy = \"x\"", "policy = \"Indexing\"", "policy = 1"] {
         assert_bad(&rt, alloc, text, Key::Policy);
     }
-    for text in ["passing = \"x\"", "passing = \"streaming\"", "passing = []"] {
+    for text in ["passing = \"x\"", "passing = \"Streaming\"", "passing = []"] {
         assert_bad(&rt, alloc, text, Key::Passing);
     }
     for text in [

@@ -1,7 +1,6 @@
 -- Where the gateway stands behind an event, by what the event comes to.
 use Rattle.std.proofs.Common.{◌≡◌, ℕ, true, false, Bool, List, [], ◌∷◌, ◌++◌, reverse, map, refl, sym, ◌∙◌, ap, subst, append-nil, if◌then◌else◌, Option, Some, None, inl, inr}
-use Rattle.std.specs.Prelude.{OnOk, Result, Ok, Err}
-use Rattle.std.proofs.lemmas.Bool.{and_parts}
+use Rattle.std.specs.Prelude.{◌⊎◌, OnOk, Result, Ok, Err}
 use Rattle.model.specs.Logs.{Event, Output, Step, client_in, client_octets}
 use Rattle.model.specs.Logs.Event.{Client, ClientEnd, ClientTook, Up, UpEnd, UpFailed, UpTook}
 use Rattle.model.specs.Octets.{IsStrictFront}
@@ -9,28 +8,25 @@ use Rattle.model.specs.Frames.{preface}
 use Rattle.model.specs.Setup.{Setup}
 use Rattle.model.specs.Tapes.{Entry, listed, breaches, is_closed, IsRead, IsNoPreface}
 use Rattle.model.specs.Tapes as model
-use Rattle.model.specs.Admission.{is_admitted}
 use Rattle.frames.specs.Views.{IsUnfinished}
 use Rattle.policy.specs.Moves.{Move}
 use Rattle.policy.specs.State.{State, tape_of}
 use Rattle.relay.specs.View.{View, square, Leads}
 use Rattle.relay.proofs.Performing.{tape_behind}
-use Rattle.steps.specs.Admission.{admits as admits_kept}
 use Rattle.steps.specs.Inputs.{Input, events_in}
 use Rattle.steps.specs.Inputs.Input.{OfFrame, OfBreach, OfEvent}
 use Rattle.steps.specs.Comings.{Comes, ComesFrom}
-use Rattle.steps.specs.Resting.{IsSettled}
+use Rattle.steps.specs.Resting.{IsSettled, IsPassedBy}
 use Rattle.steps.specs.declared.resting.Went.{Went}
 use Rattle.steps.specs.declared.resting.Went.TheVariants as answer
 use Rattle.steps.proofs.Following.{greets_then, comes_none}
-use Rattle.steps.proofs.Admitting.{admitted_by_tape}
 use Rattle.gateway.specs.declared.phase.Phase.{Phase}
 use Rattle.gateway.specs.declared.phase.Phase.TheVariants as phase
 use Rattle.gateway.specs.Reading.{Takes}
-use Rattle.gateway.specs.Stands.{Standing, Serves, Stands, StandsNext, IsOpen, IsIn, IsReadIn, IsUnbegun, IsBehind, is_open, pending_in, admits}
+use Rattle.gateway.specs.Stands.{Standing, Serves, Stands, StandsNext, IsOpen, IsIn, IsReadIn, IsUnbegun, IsBehind, is_open, pending_in, MayCome}
 use Rattle.gateway.specs.Receiving.{Happens, Hears, Waits, Departs, GoesOn, Greets, KeepsTerms, IsSettledIf, is_begun, greeted}
 use Rattle.gateway.proofs.Told.{frames_in, breaches_in, in_events, unbroken_then, unbegun_then, unbegun_read, behind_then, behind_read, waits_kept, waits_unbroken, waits_read, departs_read, goes_unbroken, goes_first, goes_on, IsReadOn}
-use Rattle.gateway.proofs.Steps.{rests_behind, answered_more, step_by}
+use Rattle.gateway.proofs.Steps.{rests_behind, answered_more, fits_more, step_by}
 
 -- what follows where a call is Ok, follows where it was
 pub on_ok_map : {A E X Y : Type 0} (r : Result A E) → (X → Y) → OnOk r X → OnOk r Y
@@ -87,16 +83,17 @@ ended answer.Over g = record g { phase = phase.Closed }
 abbrev pub step_of : Event → List Output → Step
 step_of event q = record { event = event; outputs = reverse q }
 
-module _ (setup : Setup) (old : Standing) (log : List Step) (run : List Move) (stands : Stands setup old log run) (event : Event) (admitted : is_admitted (tape_of run) event ≡ true) (inputs : List Input) (q : List Output) (events : events_in inputs ≡ listed event) where
+module _ (setup : Setup) (old : Standing) (log : List Step) (run : List Move) (stands : Stands setup old log run) (event : Event) (admitted : MayCome setup run event) (inputs : List Input) (q : List Output) (events : events_in inputs ≡ listed event) (alone : (inputs ≡ OfEvent event ∷ []) ⊎ (events_in inputs ≡ [])) where
   -- the connection goes on
   pub goes_to : (new : Standing) → Serves setup new → is_open new.phase ≡ true → pending_in new.phase ≡ square → IsSettled new.kept → (c : Comes setup run [] inputs square (Some new.kept) q)
       → IsRead (client_in (step_of event q ∷ log)) (tape_of (c.moves ++ run)) → IsReadIn new.phase new.partial (client_in (step_of event q ∷ log)) (tape_of (c.moves ++ run)) → breaches (tape_of (c.moves ++ run)) ≡ [] → StandsNext setup new log run event (reverse q)
   goes_to new serves goes paid settled c read octets unbroken = record {
     segment = c.moves;
-    step_is = step_by setup stands.serves.servable log run stands.answered event inputs (Some new.kept) q events c;
+    step_is = step_by setup log run stands.answered event inputs (Some new.kept) q events c;
     stands = record {
       serves = serves;
-      answered = answered_more setup stands.serves.servable log run stands.answered event inputs (Some new.kept) q admitted events c (rests_behind setup stands.serves.servable log run stands.answered (c.moves ++ run) (Some new.kept) c.stands (λ kept is. subst IsSettled (some_same is) settled)) read;
+      answered = answered_more setup log run stands.answered event inputs (Some new.kept) q admitted events c (rests_behind setup log run stands.answered (c.moves ++ run) (Some new.kept) c.stands (λ kept is. subst IsSettled (some_same is) settled)) read;
+      fits = fits_more setup log run stands.answered event inputs (Some new.kept) q stands.fits admitted alone c;
       is_in = into new.phase goes (record { state = c.stands.0; leads = subst (λ p. Leads setup (c.moves ++ run) new.kept p c.stands.0) (sym paid) c.stands.1; settled = settled; octets = octets; unbroken = unbroken });
     };
   }
@@ -115,10 +112,11 @@ module _ (setup : Setup) (old : Standing) (log : List Step) (run : List Move) (s
   pub ends_at : (new : Standing) → Serves setup new → (c : Comes setup run [] inputs square None q) → IsRead (client_in (step_of event q ∷ log)) (tape_of (c.moves ++ run)) → StandsNext setup (record new { phase = phase.Closed }) log run event (reverse q)
   ends_at new serves c read = record {
     segment = c.moves;
-    step_is = step_by setup stands.serves.servable log run stands.answered event inputs None q events c;
+    step_is = step_by setup log run stands.answered event inputs None q events c;
     stands = record {
-      serves = record { servable = serves.servable; routes = serves.routes; max_body = serves.max_body; max_response = serves.max_response };
-      answered = answered_more setup stands.serves.servable log run stands.answered event inputs None q admitted events c (rests_behind setup stands.serves.servable log run stands.answered (c.moves ++ run) None c.stands (λ kept is. absurd (let no : None ≡ Some kept = is in cc))) read;
+      serves = record { servable = serves.servable; routes = serves.routes; max_body = serves.max_body; passing = serves.passing };
+      answered = answered_more setup log run stands.answered event inputs None q admitted events c (rests_behind setup log run stands.answered (c.moves ++ run) None c.stands (λ kept is. absurd (let no : None ≡ Some kept = is in cc))) read;
+      fits = fits_more setup log run stands.answered event inputs None q stands.fits admitted alone c;
       is_in = c.stands;
     };
   }
@@ -143,8 +141,8 @@ stays_open phase.Closed e = e
 stays_open phase.Dead e = e
 
 -- terms that are kept serve as before
-serves_on : (setup : Setup) (g g' : Standing) → Serves setup g → g'.routes ≡ g.routes → g'.max_body ≡ g.max_body → g'.max_response ≡ g.max_response → Serves setup g'
-serves_on setup g g' s routes body response = record { servable = s.servable; routes = s.routes ∙ sym routes; max_body = s.max_body ∙ sym body; max_response = s.max_response ∙ sym response }
+serves_on : (setup : Setup) (g g' : Standing) → Serves setup g → g'.routes ≡ g.routes → g'.max_body ≡ g.max_body → g'.passing ≡ g.passing → Serves setup g'
+serves_on setup g g' s routes body passing = record { servable = s.servable; routes = s.routes ∙ sym routes; max_body = s.max_body ∙ sym body; passing = subst (IsPassedBy setup) (sym passing) s.passing }
 
 module _ (setup : Setup) (old mid : Standing) (p : List Output) (log : List Step) (run : List Move) (stands : Stands setup old log run) (greets : Greets old mid p) (is_open_yet : is_open old.phase ≡ true) where
   o : IsOpen setup old.phase old.partial old.kept (client_in log) run
@@ -157,7 +155,7 @@ module _ (setup : Setup) (old mid : Standing) (p : List Output) (log : List Step
   partial_is = ap (λ (g : Standing). g.partial) greets.after
 
   pub serves_mid : Serves setup mid
-  serves_mid = serves_on setup old mid stands.serves (ap (λ (g : Standing). g.routes) greets.after) (ap (λ (g : Standing). g.max_body) greets.after) (ap (λ (g : Standing). g.max_response) greets.after)
+  serves_mid = serves_on setup old mid stands.serves (ap (λ (g : Standing). g.routes) greets.after) (ap (λ (g : Standing). g.max_body) greets.after) (ap (λ (g : Standing). g.passing) greets.after)
 
   mid_open : is_open mid.phase ≡ true
   mid_open = ap is_open phase_is ∙ stays_open old.phase is_open_yet
@@ -172,9 +170,9 @@ module _ (setup : Setup) (old mid : Standing) (p : List Output) (log : List Step
   from_greeting : (inputs : List Input) (now : Option View) (q : List Output) → ComesFrom setup mid.kept square p inputs square now q → Comes setup run [] inputs square now q
   from_greeting inputs now q later = greets_then setup old.kept mid.kept (pending_in old.phase) square square p q inputs now (greets.performs setup) greets.only later run o.state o.leads
 
-  module _ (event : Event) (admitted : is_admitted (tape_of run) event ≡ true) (hap : Standing) (q : List Output) (terms : KeepsTerms mid hap) where
+  module _ (event : Event) (admitted : MayCome setup run event) (hap : Standing) (q : List Output) (terms : KeepsTerms mid hap) where
     serves_hap : Serves setup hap
-    serves_hap = serves_on setup mid hap serves_mid terms.routes terms.max_body terms.max_response
+    serves_hap = serves_on setup mid hap serves_mid terms.routes terms.max_body terms.passing
 
     -- ---- an event that isn't octets of the client
 
@@ -221,11 +219,11 @@ module _ (setup : Setup) (old mid : Standing) (p : List Output) (log : List Step
 
       hears_goes : IsSettled hap.kept → Comes setup run [] (OfEvent event ∷ []) square (Some hap.kept) q → StandsNext setup hap log run event (reverse q)
       hears_goes settled c =
-          goes_to setup old log run stands event admitted (OfEvent event ∷ []) q (sym others) hap serves_hap (ap is_open hap_phase ∙ stays_open old.phase is_open_yet) (ap pending_in hap_phase ∙ nothing_owed old.phase) settled c
+          goes_to setup old log run stands event admitted (OfEvent event ∷ []) q (sym others) (inl refl) hap serves_hap (ap is_open hap_phase ∙ stays_open old.phase is_open_yet) (ap pending_in hap_phase ∙ nothing_owed old.phase) settled c
           (event_read (Some hap.kept) c) (event_kept (Some hap.kept) c) (event_unbroken (Some hap.kept) c)
 
       hears_over : Comes setup run [] (OfEvent event ∷ []) square None q → StandsNext setup (record hap { phase = phase.Closed }) log run event (reverse q)
-      hears_over c = ends_at setup old log run stands event admitted (OfEvent event ∷ []) q (sym others) hap serves_hap c (event_read None c)
+      hears_over c = ends_at setup old log run stands event admitted (OfEvent event ∷ []) q (sym others) (inl refl) hap serves_hap c (event_read None c)
 
     pub hears_next : (went : Went) → IsSettledIf went hap.kept → listed event ≡ event ∷ [] → Hears mid hap went p q event → StandsNext setup (ended went hap) log run event (reverse q)
     hears_next answer.On settled others h = hears_goes others h.stays settled (from_greeting (OfEvent event ∷ []) (Some hap.kept) q (h.comes setup serves_mid))
@@ -233,7 +231,7 @@ module _ (setup : Setup) (old mid : Standing) (p : List Output) (log : List Step
 
 -- ---- octets of the client
 
-module _ (setup : Setup) (old mid : Standing) (p : List Output) (log : List Step) (run : List Move) (stands : Stands setup old log run) (greets : Greets old mid p) (is_open_yet : is_open old.phase ≡ true) (piece : List ℕ) (admitted : is_admitted (tape_of run) (Client piece) ≡ true) (hap : Standing) (q : List Output) (terms : KeepsTerms mid hap) where
+module _ (setup : Setup) (old mid : Standing) (p : List Output) (log : List Step) (run : List Move) (stands : Stands setup old log run) (greets : Greets old mid p) (is_open_yet : is_open old.phase ≡ true) (piece : List ℕ) (admitted : MayCome setup run (Client piece)) (hap : Standing) (q : List Output) (terms : KeepsTerms mid hap) where
   before : IsOpen setup old.phase old.partial old.kept (client_in log) run
   before = o setup old mid p log run stands greets is_open_yet
 
@@ -261,7 +259,7 @@ module _ (setup : Setup) (old mid : Standing) (p : List Output) (log : List Step
       let phase_of : hap.phase ≡ mid.phase = ap (λ (g : Standing). g.phase) w.after in
       let partial_of : hap.partial ≡ old.partial ++ piece = ap (λ (g : Standing). g.partial) w.after ∙ unread_is in
       let kept = waits_kept old.partial (client_in log) piece (tape_of run) (tape_of c.moves) u before.unbroken front c.came in
-      goes_to setup old log run stands (Client piece) admitted [] q refl hap serves_behind
+      goes_to setup old log run stands (Client piece) admitted [] q refl (inr refl) hap serves_behind
       (ap is_open phase_of ∙ mid_open setup old mid p log run stands greets is_open_yet) (ap pending_in phase_of ∙ mid_paid setup old mid p log run stands greets is_open_yet) settled c
       (subst (λ t. IsRead (client_in log ++ piece) t) (sym tape) (waits_read old.partial (client_in log) piece (tape_of run) (tape_of c.moves) u before.unbroken front c.came))
       (subst (λ t. IsReadIn hap.phase hap.partial (client_in log ++ piece) t) (sym tape) (subst (λ x. IsReadIn hap.phase x (client_in log ++ piece) (tape_of c.moves ++ tape_of run)) (sym partial_of) (into_unbegun hap.phase (ap is_begun phase_of ∙ w.unbegun) (old.partial ++ piece) (client_in log ++ piece) (tape_of c.moves ++ tape_of run) kept)))
@@ -272,7 +270,7 @@ module _ (setup : Setup) (old mid : Standing) (p : List Output) (log : List Step
   departs_next answer.On d = absurd (let no : answer.On ≡ answer.Over = d.is_over in cc)
   departs_next answer.Over d =
       let c : Comes setup run [] (OfBreach model.Breach.WrongPreface ∷ []) square None q = comes_by (OfBreach model.Breach.WrongPreface ∷ []) None (d.comes setup) in
-      ends_at setup old log run stands (Client piece) admitted (OfBreach model.Breach.WrongPreface ∷ []) q refl hap serves_behind c
+      ends_at setup old log run stands (Client piece) admitted (OfBreach model.Breach.WrongPreface ∷ []) q refl (inr refl) hap serves_behind c
       (subst (λ t. IsRead (client_in log ++ piece) t) (sym (tape_behind c.moves run)) (departs_read old.partial (client_in log) piece (tape_of run) (tape_of c.moves) (unbegun_yet d.unbegun) before.unbroken (subst IsNoPreface unread_is d.no_preface) c.came))
 
   -- frames are read off them
@@ -312,7 +310,7 @@ module _ (setup : Setup) (old mid : Standing) (p : List Output) (log : List Step
       let tape = tape_on g.behind g.begins r.rest (Some hap.kept) t in
       let phase_of : hap.phase ≡ phase.Frames = ap (λ (x : Standing). x.phase) r.keeps in
       let partial_of : hap.partial ≡ r.rest = ap (λ (x : Standing). x.partial) r.keeps in
-      goes_to setup old log run stands (Client piece) admitted (came_in g.behind g.begins r.rest (Some hap.kept) t) q (no_event g.behind g.begins r.rest (Some hap.kept) t) hap serves_behind
+      goes_to setup old log run stands (Client piece) admitted (came_in g.behind g.begins r.rest (Some hap.kept) t) q (no_event g.behind g.begins r.rest (Some hap.kept) t) (inr (no_event g.behind g.begins r.rest (Some hap.kept) t)) hap serves_behind
       (ap is_open phase_of) (ap pending_in phase_of) settled c
       (read_by g.behind g.begins r.rest (Some hap.kept) t (λ e. t.leaves))
       (subst (λ ph. IsReadIn ph hap.partial (client_in log ++ piece) (tape_of (c.moves ++ run))) (sym phase_of) (subst (λ x. IsBehind x (client_in log ++ piece) (tape_of (c.moves ++ run))) (sym partial_of) (subst (λ x. IsBehind r.rest (client_in log ++ piece) x) (sym tape) (on.kept t.leaves))))
@@ -320,13 +318,13 @@ module _ (setup : Setup) (old mid : Standing) (p : List Output) (log : List Step
   reads_next answer.Over settled g =
       let r = g.reads in
       let c = frames_come g.behind g.begins r.rest None r.takes in
-      ends_at setup old log run stands (Client piece) admitted (came_in g.behind g.begins r.rest None r.takes) q (no_event g.behind g.begins r.rest None r.takes) hap serves_behind c
+      ends_at setup old log run stands (Client piece) admitted (came_in g.behind g.begins r.rest None r.takes) q (no_event g.behind g.begins r.rest None r.takes) (inr (no_event g.behind g.begins r.rest None r.takes)) hap serves_behind c
       (read_by g.behind g.begins r.rest None r.takes (λ e. absurd (let no : true ≡ false = sym c.stands.closed ∙ e in cc)))
 
 -- ---- all of it
 
 pub stands_next : (setup : Setup) (old mid : Standing) (p : List Output) (log : List Step) (run : List Move) → Stands setup old log run → Greets old mid p → is_open old.phase ≡ true
-    → (event : Event) → is_admitted (tape_of run) event ≡ true → (hap : Standing) (q : List Output) → KeepsTerms mid hap → (went : Went) → IsSettledIf went hap.kept → Happens mid hap went p q event
+    → (event : Event) → MayCome setup run event → (hap : Standing) (q : List Output) → KeepsTerms mid hap → (went : Went) → IsSettledIf went hap.kept → Happens mid hap went p q event
     → StandsNext setup (ended went hap) log run event (reverse q)
 stands_next setup old mid p log run stands greets goes (Client piece) admitted hap q terms went settled h = elim h [
   | inl w ↦ waits_next setup old mid p log run stands greets goes piece admitted hap q terms went settled w
@@ -341,10 +339,3 @@ stands_next setup old mid p log run stands greets goes (Up k piece) admitted hap
 stands_next setup old mid p log run stands greets goes (UpEnd k) admitted hap q terms went settled h = hears_next setup old mid p log run stands greets goes (UpEnd k) admitted hap q terms went settled refl h
 stands_next setup old mid p log run stands greets goes (UpFailed k) admitted hap q terms went settled h = hears_next setup old mid p log run stands greets goes (UpFailed k) admitted hap q terms went settled refl h
 stands_next setup old mid p log run stands greets goes (UpTook k count) admitted hap q terms went settled h = hears_next setup old mid p log run stands greets goes (UpTook k count) admitted hap q terms went settled refl h
-
--- what may come by what is kept may come by the tape
-pub admitted_in : (setup : Setup) (g : Standing) (log : List Step) (run : List Move) (event : Event) → Stands setup g log run → admits g event ≡ true → is_admitted (tape_of run) event ≡ true
-admitted_in setup g log run event stands e =
-    let both = and_parts (is_open g.phase) (admits_kept g.kept event) e in
-    let at = open_in g.phase setup g.partial g.kept (client_in log) run both.0 stands.is_in in
-    sym (admitted_by_tape setup run g.kept (pending_in g.phase) at.state at.leads event) ∙ both.1

@@ -11,7 +11,7 @@ use Rattle.relay.specs.Rest.{Reached}
 use Rattle.steps.specs.Inputs.{Input, events_in}
 use Rattle.steps.specs.Inputs.Input.{OfFrame, OfBreach}
 use Rattle.steps.specs.Comings.{ComesFrom}
-use Rattle.steps.specs.Resting.{now_of}
+use Rattle.steps.specs.Resting.{now_of, IsPassedBy}
 use Rattle.steps.specs.declared.resting.Went.{Went}
 use Rattle.steps.specs.declared.resting.Went.TheVariants.{On, Over}
 use Rattle.steps.proofs.Following.{comes_both}
@@ -95,7 +95,7 @@ module _ (serves : Setup → Type 0) (a : View) (o p : List Output) (text rest m
 
 -- by what is served follows from what stays
 pub serves_on : (old mid : Standing) → KeepsTerms old mid → (setup : Setup) → Serves setup old → Serves setup mid
-serves_on old mid terms setup s = record { servable = s.servable; routes = s.routes ∙ sym terms.routes; max_body = s.max_body ∙ sym terms.max_body; max_response = s.max_response ∙ sym terms.max_response }
+serves_on old mid terms setup s = record { servable = s.servable; routes = s.routes ∙ sym terms.routes; max_body = s.max_body ∙ sym terms.max_body; passing = subst (IsPassedBy setup) (sym terms.passing) s.passing }
 
 serves_from : (serves fewer : Setup → Type 0) → ((setup : Setup) → fewer setup → serves setup) → (a : View) (o : List Output) (text rest : List ℕ) (now : Option View) (o' : List Output) → Takes serves a o text rest now o' → Takes fewer a o text rest now o'
 serves_from serves fewer only a o text rest now o' t = record { frames = t.frames; reading = t.reading; last = t.last; broken = t.broken; comes = λ setup s. t.comes setup (only setup s); leaves = t.leaves }

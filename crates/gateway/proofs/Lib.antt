@@ -1,6 +1,7 @@
 pub mod Prefaces
 pub mod Framing
 pub mod Told
+pub mod Fitting
 pub mod Steps
 pub mod Logging
 pub mod Going

@@ -93,7 +93,7 @@ in_step_behind known (step ∷ earlier) run k answered =
     record { encoding = (state_of known.setup run).tables.encoding.table; decoding = (state_of known.setup run).tables.decoding; in_step = in_step known run k rests }
 
 -- what is promised of the log, by the tape of these moves
-pub promised_by : (setup : Setup) (g : Standing) (log : List Step) (run : List Move) → Stands setup g log run → (promise : Promise setup (reverse log)) × (promise.tape ≡ tape_of run)
+pub promised_by : (setup : Setup) (g : Standing) (log : List Step) (run : List Move) → Stands setup g log run → (promise : Promise setup (reverse log)) × (promise.tape ≡ tape_of run) × (promise.known ≡ known_of setup (conducts run))
 promised_by setup g log run stands = (
   record {
     known = known;
@@ -102,6 +102,7 @@ promised_by setup g log run stands = (
     has_tape = subst (λ l. HasTape known l (tape_of run)) (sym (reverse-reverse log)) (has_tape known log run k by);
     in_step = in_step_behind known log run k by;
   },
+  refl,
   refl,
 )
   where

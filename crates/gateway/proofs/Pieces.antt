@@ -1,11 +1,18 @@
 -- What a piece of the client's octets comes to, and that the gateway's settings go out once.
-use Rattle.std.proofs.Common.{◌≡◌, false, ℕ, List, [], ◌++◌, ◌-◌, length, take, drop, refl, sym, ◌∙◌, ap, subst, inl, inr, arith, Option, Some, None}
-use Rattle.model.specs.Logs.{Output}
+use Rattle.std.proofs.Common.{◌≡◌, false, ℕ, List, [], ◌∷◌, ◌++◌, ◌-◌, ◌+◌, ◌≤◌, length, take, drop, refl, sym, ◌∙◌, ap, subst, inl, inr, arith, Option, Some, None}
+use Rattle.model.specs.Logs.{Event, Output}
+use Rattle.model.specs.Logs.Event.{Client, ClientEnd, ClientTook, Up, UpEnd, UpFailed, UpTook}
 use Rattle.model.specs.Setup.{Setup}
-use Rattle.relay.specs.View.{View, square}
+use Rattle.model.specs.Tapes.{listed, put}
+use Rattle.model.specs.Logs.Output.{ToClient}
+use Rattle.model.specs.Frames.{Frame, spell, settings_frame}
+use Rattle.serving.specs.State.Due.{Nothing}
+use Rattle.relay.specs.View.{View, Pending, square}
 use Rattle.relay.proofs.Bringing.{own_none}
 use Rattle.relay.specs.Bringing.{PerformsOwn}
-use Rattle.steps.specs.Resting.{IsSettled, IsServed, now_of}
+use Rattle.steps.specs.Inputs.Input.{OfEvent}
+use Rattle.steps.specs.Comings.{ComesFrom, OnlyToClient}
+use Rattle.steps.specs.Resting.{IsSettled, IsPassedBy, IsServed, now_of}
 use Rattle.steps.specs.declared.taking.Service.{Service}
 use Rattle.steps.specs.declared.resting.Went.{Went}
 use Rattle.steps.specs.declared.resting.Went.TheVariants.{On, Over}
@@ -13,7 +20,7 @@ use Rattle.gateway.specs.declared.reading.Read.{Read}
 use Rattle.gateway.specs.declared.reading.Read.TheVariants as read
 use Rattle.gateway.specs.Reading.{Takes, Reads}
 use Rattle.gateway.specs.Stands.{Standing, Serves, pending_in}
-use Rattle.gateway.specs.Receiving.{Receives, ReadsOn, Keeps, Greets, greeted, is_begun}
+use Rattle.gateway.specs.Receiving.{Happens, Receives, ReadsOn, Keeps, Greets, greeted, is_begun}
 use Rattle.gateway.proofs.Framing.{slice_rest}
 use Rattle.gateway.specs.declared.phase.Phase.{Phase}
 use Rattle.gateway.specs.declared.phase.Phase.TheVariants as phase
@@ -44,6 +51,44 @@ greets_none g not_new settled = record {
   settled = settled;
 }
 
+-- they go out where nothing came yet
+pub greets_first : (g : Standing) (kept : View) (out p : List Output) → g.phase ≡ phase.New → IsSettled g.kept → out ≡ []
+    → ((setup : Setup) (rest : List Frame) (pending : Pending) → pending.owed ≡ settings_frame ∷ rest → pending.due ≡ Nothing → PerformsOwn setup g.kept pending out kept (record pending { owed = rest }) p)
+    → p ≡ put out (ToClient (spell settings_frame)) → kept ≡ record g.kept { untaken = g.kept.untaken + length (spell settings_frame) } → Greets g (record g { phase = phase.Preface; kept = kept }) p
+greets_first g kept out p new settled nothing performs puts counts = record {
+  performs = λ setup.
+      subst (λ x. PerformsOwn setup g.kept (pending_in x) [] kept square p) (sym new)
+      (subst (λ (os : List Output). PerformsOwn setup g.kept (record square { owed = settings_frame ∷ [] }) os kept square p) nothing (performs setup [] (record square { owed = settings_frame ∷ [] }) refl refl));
+  only = subst OnlyToClient (sym (puts ∙ ap (λ (os : List Output). put os (ToClient (spell settings_frame))) nothing)) tt;
+  after =
+      ap (λ x. record g { phase = greeted x; kept = kept }) (sym new)
+      ∙ ap (λ (k : View). record g { phase = greeted g.phase; kept = k }) (counts ∙ ap (λ n. record g.kept { untaken = n }) (sym (ap (λ (k : View). k.untaken) counts)));
+  more = less;
+  settled = subst IsSettled (sym counts) (record {
+    rest = record { goes_on = settled.rest.goes_on; none_cut = settled.rest.none_cut; none_done = settled.rest.none_done; flushed = λ few. settled.rest.flushed (omega (arith, few)) };
+    numbered = settled.numbered;
+  });
+}
+  where
+    less : g.kept.untaken ≤ kept.untaken
+    less = let is : kept.untaken ≡ g.kept.untaken + length (spell settings_frame) = ap (λ (k : View). k.untaken) counts in omega (arith, is)
+
+-- ---- other events
+
+-- An event that isn't of the client's octets comes to what is told of it: all but what is kept stays.
+pub hears_by : (old : Standing) (kept : View) (went : Went) (o p : List Output) (event told : Event) → told ≡ event → listed event ≡ event ∷ [] → ((setup : Setup) → ComesFrom setup old.kept square o (OfEvent event ∷ []) square (now_of went kept) p)
+    → Happens old (record old { kept = kept }) went o p told
+hears_by old kept went o p event told same others comes = subst (Happens old (record old { kept = kept }) went o p) (sym same) (by event others comes)
+  where
+    by : (e : Event) → listed e ≡ e ∷ [] → ((setup : Setup) → ComesFrom setup old.kept square o (OfEvent e ∷ []) square (now_of went kept) p) → Happens old (record old { kept = kept }) went o p e
+    by (Client piece) others comes = absurd (let no : [] ≡ Client piece ∷ [] = others in cc)
+    by ClientEnd others comes = record { comes = λ setup serves. comes setup; stays = refl }
+    by (ClientTook count) others comes = record { comes = λ setup serves. comes setup; stays = refl }
+    by (Up k octets) others comes = record { comes = λ setup serves. comes setup; stays = refl }
+    by (UpEnd k) others comes = record { comes = λ setup serves. comes setup; stays = refl }
+    by (UpFailed k) others comes = record { comes = λ setup serves. comes setup; stays = refl }
+    by (UpTook k count) others comes = record { comes = λ setup serves. comes setup; stays = refl }
+
 -- ---- what is read
 
 -- a reading for some setups is one for fewer
@@ -54,9 +99,9 @@ takes_fewer serves fewer only old o text rest now o' t = record { frames = t.fra
 pub wait_behind : (before behind text : List ℕ) (used : ℕ) → before ≡ [] → behind ≡ before ++ take (length text - used) (drop used text) → behind ≡ drop used text
 wait_behind before behind text used none is = is ∙ ap (λ (x : List ℕ). x ++ take (length text - used) (drop used text)) none ∙ slice_rest text used
 
-module _ (old : Standing) (service : Service) (routes : old.routes ≡ service.terms.routes.now) (body : old.max_body ≡ service.terms.max_body) (response : old.max_response ≡ service.max_response) (o o' : List Output) (text : List ℕ) where
+module _ (old : Standing) (service : Service) (routes : old.routes ≡ service.terms.routes.now) (body : old.max_body ≡ service.terms.max_body) (passing : old.passing ≡ service.passing) (o o' : List Output) (text : List ℕ) where
   served : (setup : Setup) → Serves setup old → IsServed setup service
-  served setup s = record { terms = record { routes = s.routes ∙ routes; max_body = s.max_body ∙ body }; response = s.max_response ∙ response; whole = s.servable.whole }
+  served setup s = record { terms = record { routes = s.routes ∙ routes; max_body = s.max_body ∙ body }; passing = subst (IsPassedBy setup) passing s.passing }
 
   -- the connection goes on
   pub reads_rest : (kept : View) (partial : List ℕ) (answer : Read) (used : ℕ) → answer ≡ read.Rest used → partial ≡ drop used text → Reads (λ setup. IsServed setup service) old.kept o text answer kept o'
@@ -94,7 +139,7 @@ module _ (old new : Standing) (waited : List ℕ) (o o' : List Output) where
   reads_waited : (went : Went) (behind : List ℕ) → ReadsOn (record old { partial = waited }) new went o o' behind → ReadsOn old new went o o' behind
   reads_waited went behind r = record {
     rest = r.rest;
-    takes = takes_fewer (λ setup. Serves setup (record old { partial = waited })) (λ setup. Serves setup old) (λ setup s. record { servable = s.servable; routes = s.routes; max_body = s.max_body; max_response = s.max_response }) old.kept o behind r.rest (now_of went new.kept) o' r.takes;
+    takes = takes_fewer (λ setup. Serves setup (record old { partial = waited })) (λ setup. Serves setup old) (λ setup s. record { servable = s.servable; routes = s.routes; max_body = s.max_body; passing = s.passing }) old.kept o behind r.rest (now_of went new.kept) o' r.takes;
     keeps = keeps_waited went r.rest r.keeps;
   }
 

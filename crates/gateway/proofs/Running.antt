@@ -6,14 +6,15 @@ use Rattle.std.specs.Prelude.{slice_get, is_ok, OnOk}
 use Rattle.std.proofs.lemmas.Grind.{common_steps}
 use Rattle.std.proofs.lemmas.List.{take_more, reverse-append, reverse-reverse}
 use Rattle.std.specs.List.{take-map}
-use Rattle.model.specs.Admission.{is_admitted}
 use Rattle.model.specs.Logs as logs
+use Rattle.model.specs.Rooms.{IsAdmitted}
 use Rattle.model.specs.Setup.{Setup}
+use Rattle.conduct.specs.Rule.{known_of}
 use Rattle.outputs.specs.declared.events.Event.{Event}
 use Rattle.outputs.specs.declared.events.Output.{Output}
 use Rattle.outputs.specs.Views.{event_of, outputs_of}
 use Rattle.policy.specs.Moves.{Move}
-use Rattle.policy.specs.State.{tape_of}
+use Rattle.policy.specs.State.{conducts, tape_of}
 use Rattle.gateway.specs.Promises.{Promise}
 use Rattle.gateway.specs.Runs.{log_of, IsRefusedAt}
 use Rattle.gateway.specs.Stands.{Standing, Stands, StandsNext}
@@ -32,9 +33,9 @@ log_events (x ∷ events) [] e = absurd (let n : 0 ≡ suc (length events) = e i
 log_events (x ∷ events) (y ∷ outs) e = ap (λ l. event_of x ∷ l) (log_events events outs (let n : suc (length outs) ≡ suc (length events) = e in omega arith))
 
 -- what is promised of the log, the oldest step first, by the tape of the moves behind which the gateway stands
-pub promised_at : (setup : Setup) (g : Standing) (log : List logs.Step) (run : List Move) → Stands setup g (reverse log) run → (promise : Promise setup log) × (promise.tape ≡ tape_of run)
+pub promised_at : (setup : Setup) (g : Standing) (log : List logs.Step) (run : List Move) → Stands setup g (reverse log) run → (promise : Promise setup log) × (promise.tape ≡ tape_of run) × (promise.known ≡ known_of setup (conducts run))
 promised_at setup g log run stands =
-    subst (λ (l : List logs.Step). (promise : Promise setup l) × (promise.tape ≡ tape_of run)) (reverse-reverse log) (promised_by setup g (reverse log) run stands)
+    subst (λ (l : List logs.Step). (promise : Promise setup l) × (promise.tape ≡ tape_of run) × (promise.known ≡ known_of setup (conducts run))) (reverse-reverse log) (promised_by setup g (reverse log) run stands)
 
 -- the gateway stands for the log of these events
 pub record Running (setup : Setup) (events : List Event) (outs : List (Vec Output Global)) (g : Standing) : Type 0 where
@@ -78,7 +79,7 @@ get_mapped (x ∷ events) zero event lt at = ap (λ e. Some (event_of e)) (sym a
 get_mapped (x ∷ events) (suc n) event lt at = get_mapped events n event (omega arith) at
 
 pub running_refused : (setup : Setup) (events : List Event) (n : ℕ) (outs : List (Vec Output Global)) (g : Standing) (event : Event) → n < length events → event ≡ get_or events n event
-    → ((s : Setup) (log : List logs.Step) (run : List Move) → Stands s g log run → is_admitted (tape_of run) (event_of event) ≡ false)
+    → ((s : Setup) (log : List logs.Step) (run : List Move) → Stands s g log run → IsAdmitted (known_of s (conducts run)) (tape_of run) (event_of event) → ⊥)
     → Running setup (take n events) outs g → IsRefusedAt setup (map event_of events) n
 running_refused setup events n outs g event lt at turned r =
     let log : List logs.Step = log_of (take n events) outs in
@@ -89,7 +90,7 @@ running_refused setup events n outs g event lt at turned r =
       log = log;
       are_events = log_events (take n events) outs r.count ∙ sym (take-map event_of n events);
       promise = promise.0;
-      refused = ap (λ t. is_admitted t (event_of event)) promise.1 ∙ turned setup (reverse log) r.run r.stands;
+      refused = λ may. turned setup (reverse log) r.run r.stands (subst (λ t. IsAdmitted (known_of setup (conducts r.run)) t (event_of event)) promise.1 (subst (λ k. IsAdmitted k promise.0.tape (event_of event)) promise.2 may));
     }
 
 -- what a call promises where it answers so

@@ -23,7 +23,7 @@ use Rattle.steps.specs.Resting.{IsSettled}
 use Rattle.gateway.specs.declared.phase.Phase.TheVariants as phase
 use Rattle.gateway.specs.Stands.{Standing, Serves, Stands}
 
-module _ (setup : Setup) (kept : View) (book : book_of (record { given = []; untaken = 0 }) kept.inbound ≡ (first_desk setup).book) (offers : kept.offers ≡ offering.start) (upstreams : kept.upstreams ≡ nothing) (table : kept.inbound.table ≡ first_table) (encoding : kept.encoding ≡ first_encoding (inserts setup.policy)) (untaken : kept.untaken ≡ 0) where
+module _ (setup : Setup) (kept : View) (book : book_of (record { given = []; untaken = 0 }) kept.inbound ≡ (first_desk setup).book) (offers : kept.offers ≡ offering.start) (upstreams : kept.upstreams ≡ nothing) (table : kept.inbound.table ≡ first_table) (encoding : kept.encoding ≡ first_encoding (inserts setup.policy)) (marks : kept.marks ≡ []) (untaken : kept.untaken ≡ 0) where
   no_rows : kept.inbound.rows ≡ []
   no_rows = ap (λ (b : Book). b.rows) book
 
@@ -45,9 +45,10 @@ module _ (setup : Setup) (kept : View) (book : book_of (record { given = []; unt
   first_stands g serves of_phase of_partial of_kept = record {
     serves = serves;
     answered = λ known same knows. refl;
+    fits = λ known same knows. tt;
     is_in = rw (of_phase, of_partial, of_kept) (record {
       state = policy.state_of setup [];
-      leads = first_leads setup kept book offers upstreams table encoding untaken;
+      leads = first_leads setup kept book offers upstreams table encoding marks untaken;
       settled = first_settled;
       octets = record { front = record { next = 80; rest = 82 ∷ 73 ∷ 32 ∷ 42 ∷ 32 ∷ 72 ∷ 84 ∷ 84 ∷ 80 ∷ 47 ∷ 50 ∷ 46 ∷ 48 ∷ 13 ∷ 10 ∷ 13 ∷ 10 ∷ 83 ∷ 77 ∷ 13 ∷ 10 ∷ 13 ∷ 10 ∷ []; is = refl }; all = refl; no_frame = refl };
       unbroken = refl;

@@ -4,7 +4,6 @@ use Rattle.model.specs.Frames.{preface, settings_frame}
 use Rattle.model.specs.Logs.{Step, client_in}
 use Rattle.model.specs.Octets.{IsStrictFront}
 use Rattle.model.specs.Setup.{Setup}
-use Rattle.model.specs.Setup.Passing.{Whole, Streaming}
 use Rattle.model.specs.Known.{Known}
 use Rattle.conduct.specs.Book.{Book, first_desk}
 use Rattle.conduct.specs.Rule.{AreKnown, known_of}
@@ -78,10 +77,10 @@ module _ (setup : Setup) (g : Standing) (step : Step) (log : List Step) (run : L
       let owed : settings_frame ∷ [] ≡ [] = sym o.leads.keeps.owed ∙ sym (ap (λ s. s.desk.queue) o.leads.stands.is) ∙ rests.conduct.nothing in cc)
   open_small phase.Preface is on =
       let o : IsOpen setup phase.Preface g.partial g.kept (client_in (step ∷ log)) run = subst (λ x. Rattle.gateway.specs.Stands.IsIn x setup g.partial g.kept (client_in (step ∷ log)) run) is stands.is_in in
-      little_kept setup run g.kept o.state o.leads rests small_body (λ streaming. absurd (let no : Whole ≡ Streaming = sym stands.serves.servable.whole ∙ streaming in cc))
+      little_kept setup run g.kept o.state o.leads rests small_body (λ streaming. stands.fits known refl knows)
   open_small phase.Frames is on =
       let o : IsOpen setup phase.Frames g.partial g.kept (client_in (step ∷ log)) run = subst (λ x. Rattle.gateway.specs.Stands.IsIn x setup g.partial g.kept (client_in (step ∷ log)) run) is stands.is_in in
-      little_kept setup run g.kept o.state o.leads rests small_body (λ streaming. absurd (let no : Whole ≡ Streaming = sym stands.serves.servable.whole ∙ streaming in cc))
+      little_kept setup run g.kept o.state o.leads rests small_body (λ streaming. stands.fits known refl knows)
   open_small phase.Closed is on = absurd (let no : false ≡ true = on in cc)
   open_small phase.Dead is on = absurd (let no : false ≡ true = on in cc)
 
@@ -111,8 +110,9 @@ module _ (setup : Setup) (g : Standing) (step : Step) (log : List Step) (run : L
 pub over_stands : (setup : Setup) (g h : Standing) (log : List Step) (run : List Move) → g.phase ≡ phase.Closed → h ≡ record g { partial = []; kept = h.kept } → Stands setup g log run → Stands setup h log run
 over_stands setup g h log run closed is stands =
     subst (λ x. Stands setup x log run) (sym is) (record {
-      serves = record { servable = stands.serves.servable; routes = stands.serves.routes; max_body = stands.serves.max_body; max_response = stands.serves.max_response };
+      serves = record { servable = stands.serves.servable; routes = stands.serves.routes; max_body = stands.serves.max_body; passing = stands.serves.passing };
       answered = stands.answered;
+      fits = stands.fits;
       is_in = subst (λ p. Rattle.gateway.specs.Stands.IsIn p setup [] h.kept (client_in log) run) (sym closed) (subst (λ p. Rattle.gateway.specs.Stands.IsIn p setup g.partial g.kept (client_in log) run) closed stands.is_in);
     })
 

@@ -73,7 +73,7 @@ Happens old new went o o' event = Hears old new went o o' event
 pub record KeepsTerms (old new : Standing) : Type 0 where
   pub routes : new.routes ≡ old.routes
   pub max_body : new.max_body ≡ old.max_body
-  pub max_response : new.max_response ≡ old.max_response
+  pub passing : new.passing ≡ old.passing
 
 -- Where the connection goes on, something may come in.
 abbrev pub IsSettledIf : Went → View → Type 0

@@ -1,10 +1,10 @@
 -- The log of a run, and why one is refused.
-use Rattle.std.specs.Prelude.{◌≡◌, ◌<◌, ◌⊎◌, ℕ, false, Some, List, [], ◌∷◌, length, map, take, slice_get}
+use Rattle.std.specs.Prelude.{◌≡◌, ◌<◌, ◌⊎◌, ℕ, Some, List, [], ◌∷◌, length, map, take, slice_get}
 use Rattle.std.specs.declared.vec.Vec.{Vec}
 use Rattle.std.specs.declared.alloc.Global.{Global}
-use Rattle.model.specs.Admission.{is_admitted}
 use Rattle.model.specs.Logs as logs
 use Rattle.model.specs.Logs.{Step}
+use Rattle.model.specs.Rooms.{IsAdmitted}
 use Rattle.model.specs.Setup.{Setup}
 use Rattle.outputs.specs.declared.events.Event.{Event}
 use Rattle.outputs.specs.declared.events.Output.{Output}
@@ -26,7 +26,7 @@ pub record IsRefusedAt (setup : Setup) (events : List logs.Event) (place : ℕ) 
   pub log : List Step
   pub are_events : map (λ step. step.event) log ≡ take place events
   pub promise : Promise setup log
-  pub refused : is_admitted promise.tape event ≡ false
+  pub refused : IsAdmitted promise.known promise.tape event → ⊥
 
 -- What a fault says: the event at the place may not come after those before it; or that memory was refused there.
 abbrev pub Explains : Setup → List logs.Event → RunFault → Type 0

@@ -1,8 +1,7 @@
 -- The configuration without where it lies in memory.
-use Rattle.std.specs.Prelude.{◌≡◌, ◌≤◌, length, map}
+use Rattle.std.specs.Prelude.{◌≤◌, length, map}
 use Rattle.model.specs.Setup as setup
 use Rattle.model.specs.Setup.{Setup}
-use Rattle.model.specs.Setup.Passing.{Whole}
 use Rattle.gateway.specs.declared.config.Config.{Config}
 use Rattle.gateway.specs.declared.config.Route.{Route}
 use Rattle.gateway.specs.declared.config.Policy.{Policy}
@@ -30,9 +29,8 @@ setup_of config = record {
   max_response = config.max_response;
 }
 
--- What a gateway can be set up with so far: bodies passed on whole, maxima within their limits, and no more routes than have a number.
+-- What a gateway can be set up with: maxima within their limits, and no more routes than have a number.
 pub record IsServable (setup : Setup) : Type 0 where
-  pub whole : setup.passing ≡ Whole
   pub body : setup.max_body ≤ 1073741824
   pub response : setup.max_response ≤ 1073741824
   pub few : length setup.routes ≤ 4294967295

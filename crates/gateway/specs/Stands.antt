@@ -6,14 +6,17 @@ use Rattle.model.specs.Logs.{Event, Output, Step, client_in}
 use Rattle.model.specs.Setup.{Setup, Route}
 use Rattle.model.specs.Known.{Known}
 use Rattle.model.specs.Tapes.{Entry, came, breaches, frames_of, IsNoPreface, IsStep}
+use Rattle.model.specs.Rooms.{IsAdmitted}
 use Rattle.conduct.specs.Rule.{AreKnown}
+use Rattle.offering.specs.Held.{FitRooms}
 use Rattle.frames.specs.Views.{IsUnfinished}
+use Rattle.answers.specs.declared.answer.Passing.{Passing}
 use Rattle.policy.specs.Moves.{Move}
 use Rattle.policy.specs.State.{State, conducts, tape_of}
 use Rattle.policy.specs.Steps.{AreAnsweredBy}
 use Rattle.relay.specs.View.{View, Pending, square, Leads}
 use Rattle.steps.specs.Comings.{IsOver}
-use Rattle.steps.specs.Resting.{IsSettled}
+use Rattle.steps.specs.Resting.{IsSettled, IsPassedBy}
 use Rattle.steps.specs.Admission as steps
 use Rattle.gateway.specs.Setups.{IsServable}
 use Rattle.gateway.specs.declared.preface.Start.{Start}
@@ -29,12 +32,12 @@ IsStart text start.Wrong = IsNoPreface text
 
 -- ---- what a gateway is seen as
 
--- By what requests are judged, and the most octets of a response's body; how far the connection is; the octets of the client that aren't read; and
+-- By what requests are judged, and how bodies are passed on; how far the connection is; the octets of the client that aren't read; and
 -- what is kept.
 pub record Standing : Type 0 where
   pub routes : List Route
   pub max_body : ℕ
-  pub max_response : ℕ
+  pub passing : Passing
   pub phase : Phase
   pub partial : List ℕ
   pub kept : View
@@ -44,7 +47,7 @@ pub record Serves (setup : Setup) (g : Standing) : Type 0 where
   pub servable : IsServable setup
   pub routes : setup.routes ≡ g.routes
   pub max_body : setup.max_body ≡ g.max_body
-  pub max_response : setup.max_response ≡ g.max_response
+  pub passing : IsPassedBy setup g.passing
 
 -- whether something may come in: the client wasn't closed, and memory wasn't refused
 abbrev pub is_open : Phase → Bool
@@ -65,7 +68,7 @@ admits g event = is_open g.phase && steps.admits g.kept event
 
 -- how many octets of an upstream may come in one event, as far as it tells
 abbrev pub room_of : Standing → ℕ → ℕ
-room_of g k = if is_open g.phase && steps.is_up g.kept k then 65536 else 0
+room_of g k = if is_open g.phase then steps.room_on g.kept k else 0
 
 -- ---- where it stands
 
@@ -108,10 +111,19 @@ IsIn phase setup partial kept text run = IsOpen setup phase partial kept text ru
 abbrev pub AreAnswered : Setup → List Step → List Move → Type 0
 AreAnswered setup log run = (known : Known) → known.setup ≡ setup → AreKnown known (conducts run) → AreAnsweredBy known log run
 
+-- The event may come behind these moves, whatever is known beside them.
+abbrev pub MayCome : Setup → List Move → Event → Type 0
+MayCome setup run event = (known : Known) → known.setup ≡ setup → AreKnown known (conducts run) → IsAdmitted known (tape_of run) event
+
+-- Each event that came with them fitted the room that its connection had then, whatever is known beside them.
+abbrev pub AreFitting : Setup → List Move → Type 0
+AreFitting setup run = (known : Known) → known.setup ≡ setup → AreKnown known (conducts run) → FitRooms known (tape_of run)
+
 -- The gateway stands for the log, the newest step first, behind these moves, and memory was never refused.
 pub record Stands (setup : Setup) (g : Standing) (log : List Step) (run : List Move) : Type 0 where
   pub serves : Serves setup g
   pub answered : AreAnswered setup log run
+  pub fits : AreFitting setup run
   pub is_in : IsIn g.phase setup g.partial g.kept (client_in log) run
 
 -- Afterwards it stands for the log with the event and what was put out for it, behind more moves, whose entries are those of that step.

@@ -3,6 +3,7 @@
 ghost use Rattle.std.specs.Prelude.{◌≡◌, ◌≤◌, map, IfOk};
 ghost use Rattle.tables.specs.State.{inserts};
 ghost use Rattle.header_blocks.specs.Encoding.{is_indexing};
+ghost use Rattle.steps.specs.Resting.{IsPassedBy};
 ghost use Rattle.gateway.specs.Held.{held_bound};
 ghost use Rattle.gateway.specs.Setups.{route_of, policy_of, setup_of};
 
@@ -76,6 +77,16 @@ impl Config {
             routes.push(copied)?;
         }
         Ok(routes)
+    }
+
+    /// How bodies are passed on, those of responses that are passed on whole with so many octets at most.
+    pub(crate) fn passing_on(&self) -> answers::Passing
+        ensures { IsPassedBy (setup_of self.now) result }
+    {
+        match self.passing {
+            Passing::Whole => answers::Passing::Whole(self.max_response),
+            Passing::Streaming => answers::Passing::Streaming,
+        }
     }
 
     /// How blocks are encoded.

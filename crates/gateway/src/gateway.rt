@@ -1,23 +1,24 @@
 //! The gateway: events in, outputs out.
 
-ghost use Rattle.std.specs.Prelude.{◌≡◌, ◌≤◌, ◌++◌, [], List, ◌∷◌, map, true, false, length, OnOk, OnErr, IfOk, IsErrOf, ◌↔◌};
+ghost use Rattle.std.specs.Prelude.{◌≡◌, ◌≤◌, ◌++◌, [], List, ◌∷◌, map, Some, true, false, length, OnOk, OnErr, IfOk, IsErrOf, ◌↔◌};
 ghost use Rattle.model.specs.Logs.{Step, Output as Put};
 ghost use Rattle.model.specs.Logs.Event.{Client};
 ghost use Rattle.model.specs.Tapes.{listed};
 ghost use Rattle.model.specs.Setup.{Setup};
-ghost use Rattle.model.specs.Admission.{is_admitted, room};
+ghost use Rattle.model.specs.Rooms.{IsAdmitted};
+ghost use Rattle.conduct.specs.Rule.{known_of};
 ghost use Rattle.outputs.specs.Views.{event_of, outputs_of};
 ghost use Rattle.serving.specs.State.{find};
 ghost use Rattle.upstreams.specs.Connections.{number_of};
-ghost use Rattle.steps.specs.Admission.{is_up, may_take, admits as admits_kept};
+ghost use Rattle.steps.specs.Admission.{is_up, may_take, room_of as room_for, room_on, admits as admits_kept};
 ghost use Rattle.policy.specs.Moves.{Move};
-ghost use Rattle.policy.specs.State.{tape_of};
+ghost use Rattle.policy.specs.State.{conducts, tape_of};
 ghost use Rattle.relay.specs.View.{square};
 ghost use Rattle.relay.specs.Rest.{Reached};
 ghost use Rattle.steps.specs.Resting.{IsSettled, IsServed};
 ghost use Rattle.holding.specs.Held.{IsSmall};
 ghost use Rattle.gateway.specs.Held.{IsHeldWithin};
-ghost use Rattle.gateway.specs.Rooms.{AreRooms, room_in, rooms_in};
+ghost use Rattle.gateway.specs.Rooms.{TellsRoom, AreRooms, room_in, rooms_in};
 ghost use Rattle.gateway.specs.Setups.{setup_of, IsServable};
 ghost use Rattle.gateway.specs.Stands.{Serves, Stands, StandsNext, pending_in, admits, room_of, is_dead, is_open};
 ghost use Rattle.gateway.specs.Receiving.{Receives, ReadsOn, Happens, Greets, KeepsTerms, IsSettledIf, is_begun};
@@ -26,9 +27,11 @@ use crate::config::Config;
 use crate::phase::Phase;
 use crate::preface::{PREFACE, Start, read_preface};
 use crate::reading::{Read, completing, take_frames};
+use answers::Passing;
 use causes::Route;
 use header_blocks::Encoder;
 use judgement::{Connection, Terms};
+use marks_kept::Marks;
 use offers::Offers;
 use outputs::{Event, Output, Outputs};
 use relay::Rooms;
@@ -39,7 +42,7 @@ use steps::paying::{Control, pay};
 use steps::{Breach, Service, Went, client_took, end, fail, hear, leave, leave_at, up_took};
 use upstreams::Upstreams;
 
-/// How many octets of an upstream may come in one event.
+/// How many octets of an upstream may come in one event, where none of its response wait.
 const ROOM: usize = 65536;
 
 /// How many octets of the client may come in one event.
@@ -57,15 +60,27 @@ pub enum Fault {
     Closed,
 }
 
+/// How many octets of an open connection may come in one event: where its response is passed on as it comes, those of the body that
+/// wait for its stream take room.
+fn room_of(offers: &Offers, connection: &upstreams::Connection) -> usize
+    ensures { result ≡ room_for offers.now (Some connection.now) }
+{
+    match connection.passing() {
+        Passing::Whole(_) => ROOM,
+        Passing::Streaming => ROOM.saturating_sub(offers.held(connection.stream())),
+    }
+}
+
 /// Lists connections behind others, each with its room.
 fn list_open(
+    offers: &Offers,
     connections: &[upstreams::Connection],
     rooms: &mut Vec<(u32, usize)>,
 ) -> Result<(), AllocError>
-    ensures { OnOk result (rooms.new.items ≡ rooms.old.items ++ map room_in connections.now) }
+    ensures { OnOk result (rooms.new.items ≡ rooms.old.items ++ map (room_in offers.now) connections.now) }
 {
     for connection in connections {
-        rooms.push((connection.number(), ROOM))?;
+        rooms.push((connection.number(), room_of(offers, connection)))?;
     }
     Ok(())
 }
@@ -78,6 +93,7 @@ fn no_rooms(alloc: Global) -> Rooms
         inbound: Connection::new(alloc),
         offers: Offers::new(alloc),
         upstreams: Upstreams::new(alloc),
+        marks: Marks::new(alloc),
         encoder: Encoder::new(alloc, header_blocks::Policy::Plain),
         untaken: 0,
     }
@@ -89,7 +105,7 @@ pub struct Gateway {
     alloc: Global,
     routes: Vec<Route>,
     max_body: u64,
-    max_response: u64,
+    passing: Passing,
     phase: Phase,
     partial: Vec<u8>,
     rooms: Rooms,
@@ -101,12 +117,12 @@ impl Model for Gateway {
     ghost Value = { Standing };
 
     // Each field is named, so that what one more holds has to be said here.
-    ghost view = { λ record { alloc = alloc; routes = routes; max_body = max_body; max_response = max_response; phase = phase; partial = partial; rooms = rooms }. record { routes = routes.items; max_body = max_body; max_response = max_response; phase = phase; partial = partial.items; kept = rooms } };
+    ghost view = { λ record { alloc = alloc; routes = routes; max_body = max_body; passing = passing; phase = phase; partial = partial; rooms = rooms }. record { routes = routes.items; max_body = max_body; passing = passing; phase = phase; partial = partial.items; kept = rooms } };
 }
 
 impl Gateway {
-    /// A gateway for a new connection of a client, to which nothing came. So far bodies are passed on whole; the maxima are at most 1,073,741,824, and
-    /// there are at most 4,294,967,295 routes. An `Err` says that memory was refused.
+    /// A gateway for a new connection of a client, to which nothing came. The maxima are at most 1,073,741,824, and there are at most
+    /// 4,294,967,295 routes. An `Err` says that memory was refused.
     pub fn new(alloc: Global, config: &Config) -> Result<Gateway, AllocError>
         requires { IsServable (setup_of config.now) }
         ensures { IfOk result (λ gateway. Stands (setup_of config.now) gateway [] []) }
@@ -116,13 +132,14 @@ impl Gateway {
             alloc,
             routes,
             max_body: config.max_body,
-            max_response: config.max_response,
+            passing: config.passing_on(),
             phase: Phase::New,
             partial: Vec::new(alloc),
             rooms: Rooms {
                 inbound: Connection::new(alloc),
                 offers: Offers::new(alloc),
                 upstreams: Upstreams::new(alloc),
+                marks: Marks::new(alloc),
                 encoder: Encoder::new(alloc, config.encoding()),
                 untaken: 0,
             },
@@ -157,12 +174,13 @@ impl Gateway {
     }
 
     /// Whether an event may come now: never once the client is closed or memory was refused; octets of the client at most 65,536
-    /// at a time, and while at most 1,073,741,824 octets for it aren't taken; octets of an upstream, at most 65,536 at a time, while its connection is
-    /// open; of octets only those as taken that were put out and aren't yet.
+    /// at a time, and while at most 1,073,741,824 octets for it aren't taken; octets of an upstream, at most as many as it has room for, while
+    /// its connection is open; of octets only those as taken that were put out and aren't yet.
     pub fn admits(&self, event: &Event) -> bool
         ensures state { result ≡ admits self.now (event_of event.now) }
         // It is what the log tells that the gateway stands for.
-        ensures log { (setup : Setup) (log : List Step) (run : List Move) → Stands setup self.now log run → result ≡ is_admitted (tape_of run) (event_of event.now) }
+        ensures log { (setup : Setup) (log : List Step) (run : List Move) → Stands setup self.now log run
+            → (result ≡ true) ↔ IsAdmitted (known_of setup (conducts run)) (tape_of run) (event_of event.now) }
     {
         self.is_open() && self.may_come(event)
     }
@@ -177,23 +195,29 @@ impl Gateway {
             }
             Event::ClientEnd => true,
             Event::ClientTook(count) => *count <= self.rooms.untaken,
-            Event::Up(k, piece) => self.is_up(*k) && piece.len() <= ROOM,
+            Event::Up(k, piece) => self.is_up(*k) && piece.len() <= self.room_on(*k),
             Event::UpEnd(k) | Event::UpFailed(k) => self.is_up(*k),
             Event::UpTook(k, count) => self.may_take(*k, *count),
         }
     }
 
-    /// How many octets of an upstream may come in one event: 65,536 where its connection is open, else none; none once memory
-    /// was refused.
+    /// How many octets of an upstream may come in one event while its connection is open: 65,536, and where responses are passed on as
+    /// they come fewer by those of its body that weren't sent to the client yet. Else none, and none once memory was refused.
     pub fn room(&self, k: u32) -> usize
         ensures state { result ≡ room_of self.now k }
         // It is what the log tells that the gateway stands for.
-        ensures log { (setup : Setup) (log : List Step) (run : List Move) → Stands setup self.now log run → result ≡ room k (tape_of run) }
+        ensures log { (setup : Setup) (log : List Step) (run : List Move) → Stands setup self.now log run → TellsRoom (known_of setup (conducts run)) (tape_of run) k result }
     {
-        if self.is_open() && self.is_up(k) {
-            ROOM
-        } else {
-            0
+        if self.is_open() { self.room_on(k) } else { 0 }
+    }
+
+    /// How many may while the client's connection is open.
+    fn room_on(&self, k: u32) -> usize
+        ensures { result ≡ room_on self.now.kept k }
+    {
+        match self.rooms.upstreams.find(k) {
+            Some(connection) => room_of(&self.rooms.offers, connection),
+            None => 0,
         }
     }
 
@@ -202,13 +226,17 @@ impl Gateway {
     pub fn list_rooms(&self, rooms: &mut Vec<(u32, usize)>) -> Result<(), AllocError>
         ensures state { OnOk result (rooms.new.items ≡ rooms_in self.now) }
         // They are those that the log tells that the gateway stands for.
-        ensures log { OnOk result ((setup : Setup) (log : List Step) (run : List Move) → Stands setup self.now log run → AreRooms (tape_of run) rooms.new.items) }
+        ensures log { OnOk result ((setup : Setup) (log : List Step) (run : List Move) → Stands setup self.now log run → AreRooms (known_of setup (conducts run)) (tape_of run) rooms.new.items) }
     {
         rooms.clear();
         if !self.is_open() {
             return Ok(());
         }
-        list_open(self.rooms.upstreams.connections(), rooms)
+        list_open(
+            &self.rooms.offers,
+            self.rooms.upstreams.connections(),
+            rooms,
+        )
     }
 
     /// Takes an event that may come, and puts out at the end of `out` all that it causes. A refused step puts out nothing,
@@ -315,10 +343,7 @@ impl Gateway {
             Event::Up(k, octets) => hear(alloc, rooms, *k, octets, out),
             Event::UpEnd(k) => end(alloc, rooms, *k, out),
             Event::UpFailed(k) => fail(alloc, rooms, *k, out),
-            Event::UpTook(k, count) => {
-                up_took(rooms, *k, *count);
-                Ok(Went::On)
-            }
+            Event::UpTook(k, count) => up_took(alloc, rooms, *k, *count, out),
         }
     }
 
@@ -403,7 +428,7 @@ impl Gateway {
         };
         let service = Service {
             terms,
-            max_response: self.max_response,
+            passing: self.passing,
         };
         self.phase = Phase::Frames;
         match take_frames(self.alloc, &mut self.rooms, text, service, out)? {

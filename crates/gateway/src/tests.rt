@@ -17,8 +17,14 @@ const FIRST_REQUEST: [u8; 62] = [
 const FORWARDED: &[u8] =
     b"GET / HTTP/1.1\r\nhost: www.example.com\r\nvia: 2.0 h2gw\r\nconnection: close\r\n\r\n";
 
+/// SETTINGS that give streams no window at first (RFC 9113, section 6.9.2).
+const NO_WINDOW: [u8; 15] = [0, 0, 6, 4, 0, 0, 0, 0, 0, 0, 4, 0, 0, 0, 0];
+
+/// The front of a response with a longer body.
+const FRONT: &[u8] = b"HTTP/1.1 200 OK\r\nContent-Length: 100000\r\n\r\nhello";
+
 /// One route, for an authority, and paths that begin with `/`.
-fn config(alloc: Global, authority: &[u8]) -> Result<Config, AllocError>
+fn config(alloc: Global, authority: &[u8], passing: Passing) -> Result<Config, AllocError>
     ensures { IfOk result (λ config. IsServable (setup_of config)) }
 {
     let route = Route {
@@ -29,7 +35,7 @@ fn config(alloc: Global, authority: &[u8]) -> Result<Config, AllocError>
     Ok(Config {
         routes: vec![in alloc; route]?,
         policy: Policy::Plain,
-        passing: Passing::Whole,
+        passing,
         max_body: 1000,
         max_response: 2000,
     })
@@ -49,7 +55,7 @@ fn answers_request(out: &[Output]) -> bool {
 
 #[test]
 fn a_configuration_bounds_what_is_held(rt: HostRuntime) -> Result<(), Fail> {
-    let config = config(rt.alloc(), b"")?;
+    let config = config(rt.alloc(), b"", Passing::Whole)?;
     assert_eq!(rt; config.held_bound(), 40_500_000);
     Ok(())
 }
@@ -57,7 +63,7 @@ fn a_configuration_bounds_what_is_held(rt: HostRuntime) -> Result<(), Fail> {
 #[test]
 fn open_connections_are_listed(rt: HostRuntime) -> Result<(), Fail> {
     let alloc = rt.alloc();
-    let config = config(alloc, b"")?;
+    let config = config(alloc, b"", Passing::Whole)?;
     let mut gateway = Gateway::new(alloc, &config)?;
     let mut rooms = Vec::new(alloc);
     gateway.list_rooms(&mut rooms)?;
@@ -75,7 +81,7 @@ fn open_connections_are_listed(rt: HostRuntime) -> Result<(), Fail> {
 #[test]
 fn a_run_answers_each_event(rt: HostRuntime) -> Result<(), Fail> {
     let alloc = rt.alloc();
-    let config = config(alloc, b"")?;
+    let config = config(alloc, b"", Passing::Whole)?;
     let mut events = Vec::new(alloc);
     events.push(Event::Client(Vec::from_slice(alloc, &FIRST_REQUEST)?))?;
     events.push(Event::UpTook(1, 75))?;
@@ -96,5 +102,27 @@ fn a_run_answers_each_event(rt: HostRuntime) -> Result<(), Fail> {
     }
     events.push(Event::ClientEnd)?;
     assert!(rt; run(alloc, &config, &events).err() == Some(RunFault::NotAdmitted(4)));
+    Ok(())
+}
+
+#[test]
+fn octets_that_wait_take_room(rt: HostRuntime) -> Result<(), Fail> {
+    let alloc = rt.alloc();
+    let config = config(alloc, b"", Passing::Streaming)?;
+    let mut request = Vec::from_slice(alloc, &FIRST_REQUEST[..24])?;
+    request.extend_from_slice(&NO_WINDOW)?;
+    request.extend_from_slice(&FIRST_REQUEST[33..])?;
+    let mut body = Vec::new(alloc);
+    body.resize(65532, 0)?;
+    let mut events = Vec::new(alloc);
+    events.push(Event::Client(request))?;
+    events.push(Event::Up(1, Vec::from_slice(alloc, FRONT)?))?;
+    events.push(Event::Up(1, body))?;
+    assert!(rt; run(alloc, &config, &events).err() == Some(RunFault::NotAdmitted(2)));
+    let _longer = events.pop();
+    let mut body = Vec::new(alloc);
+    body.resize(65531, 0)?;
+    events.push(Event::Up(1, body))?;
+    assert!(rt; run(alloc, &config, &events).is_ok());
     Ok(())
 }

@@ -2,6 +2,7 @@
 -- So no body is on offer for it where responses are passed on whole, and what its answer holds is bounded.
 use Rattle.std.proofs.Common.{◌≡◌, ℕ, ◌+◌, ◌*◌, ◌≤◌, true, false, not, List, [], ◌++◌, length, length-append, Option, Some, None, refl, sym, ◌∙◌, ap, subst, inl, inr, arith}
 use Rattle.std.specs.Prelude.{is_none}
+use Rattle.std.specs.List.{list_any}
 use Rattle.std.proofs.lemmas.Bool.{or_parts, and_parts}
 use Rattle.model.specs.ResponseHeads.{Head, longest_section}
 use Rattle.model.specs.Responses.{Seen, IsComplete}
@@ -30,7 +31,7 @@ use Rattle.offering.proofs.BodySizes.{whole_seen}
 use Rattle.offering.proofs.Limits.{NoneTooLong, seen_kept}
 use Rattle.serving.specs.Told.{is_served, Told, IsTold}
 use Rattle.serving.specs.State.{Live, live_of, State}
-use Rattle.serving.specs.Rule.{Rests}
+use Rattle.serving.specs.Rule.{is_done, Rests}
 use Rattle.serving.specs.Meaning.{IsAllHeard, Verdict}
 use Rattle.serving.proofs.Standing.{Stands}
 use Rattle.serving.proofs.Fitting.{not_not}
@@ -54,12 +55,12 @@ no_cause_told : (c : Option Cause) → is_none c ≡ true → c ≡ None
 no_cause_told None e = refl
 no_cause_told (Some cause) e = let clash : false ≡ true = e in cc
 
--- Where the gateway rests each open connection is such a one.
-pub answering : (known : Known) (t : List Entry) (s : State) (told : Told) → Stands known t s → IsTold known t told → Rests told s → (k : ℕ) (live : Live) → live_of k s.live ≡ Some live → Answering known t k live
-answering known t s told h is_told rests k live found =
+-- Where no connection is done with each that is open is such a one.
+pub answering_by : (known : Known) (t : List Entry) (s : State) (told : Told) → Stands known t s → IsTold known t told → list_any (is_done told) s.live ≡ false → (k : ℕ) (live : Live) → live_of k s.live ≡ Some live → Answering known t k live
+answering_by known t s told h is_told no_done k live found =
     let it = found_live known t s h k live found in
     let same : it.3.live ≡ live = same_live known t s h k live found in
-    let parts = or_parts live.whole (not (told.served live.stream)) (none_done told k s.live live rests.none_done found) in
+    let parts = or_parts live.whole (not (told.served live.stream)) (none_done told k s.live live no_done found) in
     let served : is_served known live.stream t ≡ true = sym (is_told.served live.stream) ∙ not_not (told.served live.stream) parts.1 in
     let both = and_parts (is_active live.stream t) (is_none (cause known live.stream t)) served in
     let verdict : Verdict known t it.0 live.whole = subst (λ (x : Live). Verdict known t it.0 x.whole) same it.3.verdict in
@@ -73,6 +74,10 @@ answering known t s told h is_told rests k live found =
       not_whole = subst (Verdict known t it.0) parts.0 verdict;
       goes_on = parts.0;
     }
+
+-- So it is where the gateway rests.
+pub answering : (known : Known) (t : List Entry) (s : State) (told : Told) → Stands known t s → IsTold known t told → Rests told s → (k : ℕ) (live : Live) → live_of k s.live ≡ Some live → Answering known t k live
+answering known t s told h is_told rests = answering_by known t s told h is_told rests.none_done
 
 -- ---- what is on offer for its stream
 

@@ -9,6 +9,7 @@ use Rattle.model.specs.Tapes.{Entry}
 use Rattle.model.specs.Lifetimes.{active}
 use Rattle.model.specs.StreamStates.{most_active}
 use Rattle.model.specs.Tables.{Table, total_size}
+use Rattle.model.specs.Courses.{course}
 use Rattle.model.specs.Known.{Known}
 use Rattle.model.specs.Failures.{AreJudged}
 use Rattle.model.specs.ResponseHeads.{longest_section}
@@ -133,7 +134,7 @@ module _ (known : Known) (run : List Move) (k : IsKnown known run) (rests : Rest
     with_boxes : All (λ (c : Connection). is_some (offering_state.find c.live.stream s.offers.kept) ≡ true) live
     with_boxes = all_found (λ (c : Connection). is_some (offering_state.find c.live.stream s.offers.kept) ≡ true) live apart (λ j c found. place.offering.lives c.live.stream ∙ (goes_on j c.live (kept_live j c found)).active)
 
-    module _ (heard : (j : ℕ) (c : Connection) → find number_of j live ≡ Some c → c.live.whole ≡ false → IsHeard known t j c.answer) where
+    module _ (heard : (j : ℕ) (c : Connection) → find number_of j live ≡ Some c → c.live.whole ≡ false → (course known c.live.stream t).cause ≡ None → IsHeard known t j c.answer) where
       module _ (fit : known.setup.passing ≡ Streaming → FitRooms known t) where
         limited : AreLimited known.setup.passing known (offering.tape_of (offers_of known.setup run))
         limited = subst (AreLimited known.setup.passing known) (sym (offers_tape known.setup run)) (by known.setup.passing refl)
@@ -163,7 +164,7 @@ module _ (known : Known) (run : List Move) (k : IsKnown known run) (rests : Rest
           a = goes_on c.live.k c.live (kept_live c.live.k c there)
 
           told_of : IsHeard known t c.live.k c.answer
-          told_of = heard c.live.k c there a.goes_on
+          told_of = heard c.live.k c there a.goes_on a.no_cause
 
           -- what the answer of its connection holds
           answer_whole : known.setup.passing ≡ Whole → octets_of c.answer ≤ known.setup.max_response + 2 * longest_section
@@ -318,7 +319,7 @@ module _ (setup : Setup) (run : List Move) (kept : View) (s : State) (led : Lead
   encoding_same : rule.tables.encoding ≡ kept.encoding
   encoding_same = ap (λ (x : State). x.tables.encoding) led.stands.is ∙ led.keeps.encoding
 
-  heard_there : (j : ℕ) (c : Connection) → find number_of j kept.upstreams.live ≡ Some c → c.live.whole ≡ false → IsHeard known (tape_of run) j c.answer
+  heard_there : (j : ℕ) (c : Connection) → find number_of j kept.upstreams.live ≡ Some c → c.live.whole ≡ false → (course known c.live.stream (tape_of run)).cause ≡ None → IsHeard known (tape_of run) j c.answer
   heard_there = led.heard known refl knows
 
   module _ (range : setup.max_body < 2 ^ 64) (fit : setup.passing ≡ Streaming → FitRooms known (tape_of run)) where

@@ -1,3 +1,4 @@
 pub mod Lists
 pub mod Answering
 pub mod Holding
+pub mod Rooms

@@ -1,5 +1,5 @@
 -- What the streams that are kept are asked.
-use Rattle.std.specs.Prelude.{ℕ, Bool, true, false, nat_lt, if◌then◌else◌, List, [], ◌∷◌, Option, Some, None, is_some, option_and_then, ℤ}
+use Rattle.std.specs.Prelude.{ℕ, Bool, true, false, nat_lt, if◌then◌else◌, List, [], ◌∷◌, length, Option, Some, None, is_some, option_and_then, ℤ}
 use Rattle.std.specs.List.{list_all}
 use Rattle.conduct.specs.Judging.{window_in}
 use Rattle.conduct.specs.Rows.{Row}
@@ -7,6 +7,7 @@ use Rattle.conduct.specs.Rows as rows
 use Rattle.offering.specs.Outbox.{Part, part_of}
 use Rattle.offering.specs.Outbox.Part.{Early, Final, Octets}
 use Rattle.offering.specs.State.{Kept, Windows, find, is_ready}
+use Rattle.offering.specs.Held.{body_waiting}
 
 -- the stream is kept
 abbrev pub is_kept : ℕ → List Kept → Bool
@@ -20,6 +21,15 @@ is_cut_if (Some k) = k.cut
 -- a reset of the stream is owed
 abbrev pub is_cut : ℕ → List Kept → Bool
 is_cut id ks = is_cut_if (find id ks)
+
+-- how many octets of the body wait for a stream that may be kept or not
+abbrev pub held_if : Option Kept → ℕ
+held_if None = 0
+held_if (Some k) = length (body_waiting k.box)
+
+-- how many wait for the stream
+abbrev pub held_for : ℕ → List Kept → ℕ
+held_for id ks = held_if (find id ks)
 
 -- an id is above those of all
 abbrev pub is_above_all : ℕ → List Kept → Bool

@@ -1,8 +1,9 @@
 //! What is kept of an active stream.
 
-ghost use Rattle.std.specs.Prelude.{◌≡◌, true, option_map, IfOk, OnOk, OnErr};
+ghost use Rattle.std.specs.Prelude.{◌≡◌, true, length, option_map, IfOk, OnOk, OnErr};
 ghost use Rattle.offering.specs.State.{answered, blank, is_ready};
 ghost use Rattle.offering.specs.Outbox.{part_of};
+ghost use Rattle.offering.specs.Held.{body_waiting};
 ghost use Rattle.outbox.specs.Views.{part_in};
 ghost use Rattle.answers.specs.Hearing.{IsHeard, IsEnded};
 ghost use Rattle.causes.specs.Views.{cause_of};
@@ -81,6 +82,13 @@ impl Kept {
             return true;
         }
         self.outbox.can_go(true) && are_open(streams, first_size, shared, self.id)
+    }
+
+    /// How many octets of its body are on offer and weren't sent.
+    pub fn held(&self) -> usize
+        ensures { result ≡ length (body_waiting self.now.box) }
+    {
+        self.outbox.held()
     }
 
     /// The part that goes next, where so many octets of the body may.

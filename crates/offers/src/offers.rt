@@ -5,7 +5,7 @@ ghost use Rattle.model.specs.Turns.{IsNextTurn};
 ghost use Rattle.offering.specs.State.{start, change, without, blank, answered, ready};
 ghost use Rattle.outbox.specs.Views.{part_in};
 ghost use Rattle.causes.specs.Views.{cause_of};
-ghost use Rattle.offers.specs.Asked.{is_kept, is_cut, is_above_all, is_head, are_octets, part_for, windows_over};
+ghost use Rattle.offers.specs.Asked.{is_kept, is_cut, held_for, is_above_all, is_head, are_octets, part_for, windows_over};
 ghost use Rattle.offers.specs.Changes.{IsHeardFor, IsEndedFor, IsHeadGone, AreOctetsGone};
 
 use crate::kept::Kept;
@@ -186,6 +186,15 @@ impl Offers {
         match place_of(&self.kept, id) {
             Some(place) => self.kept[place].is_cut(),
             None => false,
+        }
+    }
+    /// How many octets of a stream's body are on offer and weren't sent; none where it isn't active.
+    pub fn held(&self, id: u32) -> usize
+        ensures { result ≡ held_for id self.now.kept }
+    {
+        match place_of(&self.kept, id) {
+            Some(place) => self.kept[place].held(),
+            None => 0,
         }
     }
 }

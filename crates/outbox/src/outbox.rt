@@ -5,6 +5,7 @@ ghost use Rattle.model.specs.Octets.{is_empty};
 ghost use Rattle.model.specs.ResponseHeads.{Head};
 ghost use Rattle.offering.specs.Outbox.{silent, grown, can_go, part_of, left, rest_of};
 ghost use Rattle.offering.specs.Outbox as rule;
+ghost use Rattle.offering.specs.Held.{body_waiting};
 ghost use Rattle.outbox.specs.Views.{outbox_in, part_in, is_begun, IsKept, IsHead, AreOctets};
 
 use crate::part::Part;
@@ -55,7 +56,16 @@ fn append(body: &mut Vec<u8>, more: Vec<u8>) -> Result<(), AllocError>
     body.extend_from_slice(&more)
 }
 
-/// The same behind those that were sent.
+/// So many octets in front go.
+fn drop_front(body: &mut Vec<u8>, count: usize)
+    requires { count ≤ length body.old.items }
+    ensures { body.new.items ≡ drop count body.old.items }
+{
+    body.rotate_left(count);
+    body.truncate(body.len() - count);
+}
+
+/// The same behind those that were sent, which go once they are half of all: so at most twice as many stand there as wait.
 fn append_behind(body: &mut Vec<u8>, sent: &mut usize, more: Vec<u8>) -> Result<(), AllocError>
     requires { sent.old ≤ length body.old.items }
     ensures ok { OnOk result (drop sent.new body.new.items ≡ drop sent.old body.old.items ++ more.items) }
@@ -66,6 +76,10 @@ fn append_behind(body: &mut Vec<u8>, sent: &mut usize, more: Vec<u8>) -> Result<
         *body = more;
         *sent = 0;
         return Ok(());
+    }
+    if *sent >= body.len() - *sent {
+        drop_front(body, *sent);
+        *sent = 0;
     }
     body.extend_from_slice(&more)
 }
@@ -178,6 +192,17 @@ impl Outbox {
             },
             Place::Behind(body, sent, whole) => octets_at(&body[*sent..], most, *whole),
             Place::Over => None,
+        }
+    }
+
+    /// How many octets of the body are on offer and weren't sent.
+    pub fn held(&self) -> usize
+        ensures { result ≡ length (body_waiting self.now) }
+    {
+        match &self.place {
+            Place::Before(_, _, body, _) => body.len(),
+            Place::Behind(body, sent, _) => body.len() - *sent,
+            Place::Over => 0,
         }
     }
 

@@ -71,6 +71,21 @@ fn parts_go_in_their_order(rt: HostRuntime) -> Result<(), Fail> {
 }
 
 #[test]
+fn what_wasnt_sent_is_held(rt: HostRuntime) -> Result<(), Fail> {
+    assert_eq!(rt; Outbox::new(rt.alloc()).held(), 0);
+    let mut outbox = filled(rt.alloc(), RESPONSE)?;
+    assert_eq!(rt; outbox.held(), 5);
+    let _early = outbox.take_head();
+    let _head = outbox.take_head();
+    assert_eq!(rt; outbox.held(), 5);
+    outbox.drop_octets(3);
+    assert_eq!(rt; outbox.held(), 2);
+    outbox.drop_octets(2);
+    assert_eq!(rt; outbox.held(), 0);
+    Ok(())
+}
+
+#[test]
 fn octets_join_those_that_wait(rt: HostRuntime) -> Result<(), Fail> {
     let (front, rest) = RESPONSE.split_at(RESPONSE.len() - 1);
     let mut outbox = filled(rt.alloc(), front)?;
@@ -121,5 +136,20 @@ fn a_reply_takes_the_place_of_what_was_on_offer(rt: HostRuntime) -> Result<(), F
     let mut outbox = filled(rt.alloc(), RESPONSE)?;
     outbox.reply(rt.alloc(), head);
     assert_eq!(rt; head_of(outbox.next(1)), Some((502, true)));
+    Ok(())
+}
+
+#[test]
+fn octets_that_were_sent_go_first(rt: HostRuntime) -> Result<(), Fail> {
+    let open = b"HTTP/1.1 200 OK\r\n\r\nhello";
+    let mut outbox = filled(rt.alloc(), open)?;
+    let _head = outbox.take_head();
+    outbox.drop_octets(1);
+    outbox.add(None, b" you".to_vec(rt.alloc())?, false)?;
+    assert!(rt; octets_of(outbox.next(100)) == Some((b"ello you".as_slice(), false)));
+    outbox.drop_octets(6);
+    outbox.add(None, b"rs".to_vec(rt.alloc())?, true)?;
+    assert!(rt; octets_of(outbox.next(100)) == Some((b"ours".as_slice(), true)));
+    assert_eq!(rt; outbox.held(), 4);
     Ok(())
 }

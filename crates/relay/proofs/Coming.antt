@@ -1,5 +1,5 @@
 -- A frame of the client is taken that is no error of the connection: where that leads, by what is kept.
-use Rattle.std.proofs.Common.{◌≡◌, ℕ, ◌+◌, Bool, true, false, not, ◌&&◌, ◌||◌, ◌==◌, List, [], ◌∷◌, ◌++◌, map, Option, Some, None, refl, sym, ◌∙◌, ap, subst, inl, inr, if◌then◌else◌}
+use Rattle.std.proofs.Common.{◌≡◌, ℕ, ◌+◌, Bool, true, false, not, ◌&&◌, ◌||◌, ◌==◌, List, [], ◌∷◌, ◌++◌, map, Option, Some, None, refl, sym, ◌∙◌, ap, subst, inl, inr, if◌then◌else◌, arith}
 use Rattle.std.proofs.lemmas.Bool.{and_parts, and_from, or_parts, eqb-true, eq-eqb, cases_Bool}
 use Rattle.std.proofs.lemmas.Bool.Decides.{eqb_tells}
 use Rattle.std.specs.List.{list_any}
@@ -27,7 +27,6 @@ use Rattle.conduct.proofs.Rows.{find_changed, over_stays, slot_alike}
 use Rattle.conduct.proofs.RowsKept.{opens_own}
 use Rattle.offering.specs.Rule.{found_by}
 use Rattle.offering.specs.State as offering
-use Rattle.receiving.specs.Marks.{Mark, total}
 use Rattle.receiving.specs.State as receiving
 use Rattle.serving.specs.Told.{Told}
 use Rattle.serving.specs.State as serving
@@ -43,19 +42,26 @@ use Rattle.upstreams.specs.Connections.{Connection, lives, number_of}
 use Rattle.policy.specs.Moves.{Gain, Deed, Move, told_in, gained}
 use Rattle.policy.specs.Moves.Deed.{Takes}
 use Rattle.policy.specs.Moves.Move.{Does}
+use Rattle.marks_kept.specs.Sides.{Side}
+use Rattle.marks_kept.specs.Sides as marks
+use Rattle.marks_kept.specs.Standing.{dropped_of}
+use Rattle.marks_kept.proofs.Telling as telling
 use Rattle.policy.specs.State.{State}
+use Rattle.policy.specs.Rule.{rooms_in}
 use Rattle.policy.specs.Coming.{IsReady}
 use Rattle.policy.specs.Steps as policy
 use Rattle.policy.specs.Steps.{Stands, told_by, told_behind, next, MayGoOn}
 use Rattle.policy.proofs.Stepping.{one_more}
 use Rattle.relay.specs.Others.{SameOf}
 use Rattle.relay.specs.Taking.{IsFrameTaken}
-use Rattle.relay.specs.View.{View, Pending, square, GoBack, IsCredited, Keeps, AreSo, AreHeard, Leads}
+use Rattle.relay.specs.View.{View, Pending, square, GoBack, IsCredited, Keeps, AreMarked, AreSo, AreHeard, IsInEffect, Leads}
 use Rattle.relay.specs.Bringing.{Course}
 use Rattle.relay.proofs.Beside.{others_stay, served_stays}
 use Rattle.relay.proofs.Kept.{held_behind, AreServed}
 use Rattle.relay.proofs.Staying.{so_stays, heard_stays, rows_kept, all_held_served}
 use Rattle.relay.proofs.Taking.{taken_goes_on}
+use Rattle.relay.proofs.Where.{live_here}
+use Rattle.relay.proofs.Marking.{rooms_next, marked_came}
 
 -- ---- what is kept behind a frame
 
@@ -264,10 +270,7 @@ module _ (setup : Setup) (run : List Move) (kept : View) (s : State) (leads : Le
 
   -- nothing was to go back
   old_debt : (id : ℕ) → GoBack kept.inbound id → (s.windows.row id).debt ≡ 0
-  old_debt id back = elim (eqb_tells id kept.inbound.last) [
-    | inl is ↦ ap (λ n. (s.windows.row n).debt) is.1 ∙ leads.keeps.credited.own (subst (GoBack kept.inbound) is.1 back)
-    | inr apart ↦ leads.keeps.credited.others id apart.1 back
-  ]
+  old_debt id back = leads.keeps.credited.own id back
 
   none_behind : (id : ℕ) → GoBack behind id → (then_state.windows.row id).debt ≡ 0
   none_behind id back = by opens_it refl (noted.frame.id == id) refl
@@ -289,29 +292,54 @@ module _ (setup : Setup) (run : List Move) (kept : View) (s : State) (leads : Le
       by true opened true own = ap (λ x. (if x then receiving.blank else s.windows.row id).debt) own
       by true opened false own = ap (λ x. (if x then receiving.blank else s.windows.row id).debt) own ∙ before (ap (λ x. x && opens_it) own)
 
-  waits_none : (id : ℕ) → (then_state.windows.row id).queue ≡ []
-  waits_none id = by opens_it (noted.frame.id == id) refl
-    where
-      by : (x y : Bool) → (noted.frame.id == id) ≡ y → ((if x then receiving.change noted.frame.id (λ r. receiving.blank) s.windows.row else s.windows.row) id).queue ≡ []
-      by false y own = leads.keeps.credited.none_wait id
-      by true true own = ap (λ x. (if x then receiving.blank else s.windows.row id).queue) own
-      by true false own = ap (λ x. (if x then receiving.blank else s.windows.row id).queue) own ∙ leads.keeps.credited.none_wait id
+  -- its stream is over by what is kept just where it is by the rule
+  over_kept : over_with_it ≡ (change_between kept.inbound.rows behind.rows noted.frame.id).over
+  over_kept =
+      ap (λ (b : Book). is_active s.desk.book.rows noted.frame.id && not (is_active b.rows noted.frame.id)) book_then
+      ∙ ap (λ (b : Book). is_active b.rows noted.frame.id && not (is_active behind.rows noted.frame.id)) leads.keeps.book
 
-  none_dropped : (if over_with_it then total (s.windows.row noted.frame.id).queue else 0) ≡ 0
-  none_dropped = by over_with_it
+  live_so : (id : ℕ) → receiving.is_live (rooms_in (told_by s) s) id ≡ is_active s.desk.book.rows id
+  live_so = live_here setup run s leads.stands leads.so
+
+  was_active : over_with_it ≡ true → receiving.is_live (rooms_in (told_by s) s) noted.frame.id ≡ true
+  was_active over = live_so noted.frame.id ∙ (and_parts (is_active s.desk.book.rows noted.frame.id) (not (is_active then_state.desk.book.rows noted.frame.id)) over).0
+
+  opened_new : opens_it ≡ true → (over_with_it ≡ false) × (receiving.is_live (rooms_in (told_by s) s) noted.frame.id ≡ false)
+  opened_new opens =
+      let idle : is_active s.desk.book.rows noted.frame.id ≡ false = never (has s.desk.book.rows noted.frame.id) (and_parts (not (has s.desk.book.rows noted.frame.id)) (has then_state.desk.book.rows noted.frame.id) opens).0 in
+      (ap (λ b. b && not (is_active then_state.desk.book.rows noted.frame.id)) idle, live_so noted.frame.id ∙ idle)
     where
-      by : (x : Bool) → (if x then total (s.windows.row noted.frame.id).queue else 0) ≡ 0
-      by false = refl
-      by true = ap (λ (marks : List Mark). total marks) (leads.keeps.credited.none_wait noted.frame.id)
+      never : (b : Bool) → not b ≡ true → (b && not (is_over_in (find s.desk.book.rows noted.frame.id))) ≡ false
+      never true none = let no : false ≡ true = none in cc
+      never false none = refl
+
+  -- What waits of DATA is kept as before, but of a stream that is over.
+  marked_then : AreMarked setup.passing (marks.unless_over (change_between kept.inbound.rows behind.rows noted.frame.id).over noted.frame.id kept.marks) (rooms_in (told_by then_state) then_state)
+  marked_then =
+      subst (λ b. AreMarked setup.passing (marks.unless_over b noted.frame.id kept.marks) (rooms_in (told_by then_state) then_state)) over_kept
+      (subst (AreMarked setup.passing (marks.unless_over over_with_it noted.frame.id kept.marks)) (sym (rooms_next setup run s leads.stands leads.so deed may_come so_then))
+      (marked_came setup.passing kept.marks (rooms_in (told_by s) s) leads.marked noted opens_it over_with_it opened_new))
+
+  -- The octets that waited for such a stream go back.
+  debt_then : then_state.windows.debt ≡ dropped_of (change_between kept.inbound.rows behind.rows noted.frame.id).over noted.frame.id kept.marks
+  debt_then =
+      telling.drops kept.marks (rooms_in (told_by s) s) leads.marked.stand over_with_it noted.frame.id was_active
+      ∙ none_before (dropped_of over_with_it noted.frame.id kept.marks)
+      ∙ ap (λ b. dropped_of b noted.frame.id kept.marks) over_kept
+    where
+      none_before : (n : ℕ) → s.windows.debt + n ≡ n
+      none_before n = let none = leads.keeps.credited.shared in omega (arith, none)
 
   -- ---- all of it
 
-  -- Where this is what is kept then: on offer, of requests with what is due, and by the encoder; and this is owed.
-  pub leads_then : (owed : List Frame) (due : Due) (offers : offering.State) (upstream : upstreams.State) → upstream.live ≡ kept.upstreams.live → owes_in setup false (told_of outside kept.inbound) (Came noted) ≡ owed
+  -- Where this is what is kept then: on offer, of requests with what is due, of DATA that waits with what goes back of it, and by the encoder; and
+  -- this is owed.
+  pub leads_then : (owed : List Frame) (due : Due) (offers : offering.State) (upstream : upstreams.State) (sides : List Side) (shared : ℕ) → upstream.live ≡ kept.upstreams.live → owes_in setup false (told_of outside kept.inbound) (Came noted) ≡ owed
       → offers_with noted.frame.id (change_between kept.inbound.rows behind.rows noted.frame.id) kept.offers ≡ offers → serving.after setup (told_of_rows behind) (upstreams.with_due kept.upstreams Due.Nothing) (gained noted gain) ≡ upstreams.with_due upstream due
-      → Leads setup (Does deed ∷ run) (record { inbound = behind; offers = offers; upstreams = upstream; encoding = encoding_with (named_by (verdict_in (told_of outside kept.inbound) noted.frame) noted.frame) kept.encoding; untaken = kept.untaken })
-      (record square { owed = owed; due = due; fresh = data_length is_any noted.frame }) then_state
-  leads_then owed due offers upstream same_live owes on_offer requests = record {
+      → marks.unless_over (change_between kept.inbound.rows behind.rows noted.frame.id).over noted.frame.id kept.marks ≡ sides → dropped_of (change_between kept.inbound.rows behind.rows noted.frame.id).over noted.frame.id kept.marks ≡ shared
+      → Leads setup (Does deed ∷ run) (record { inbound = behind; offers = offers; upstreams = upstream; marks = sides; encoding = encoding_with (named_by (verdict_in (told_of outside kept.inbound) noted.frame) noted.frame) kept.encoding; untaken = kept.untaken })
+      (record square { owed = owed; due = due; fresh = data_length is_any noted.frame; shared = shared }) then_state
+  leads_then owed due offers upstream sides shared same_live owes on_offer requests left back = record {
     stands = stands_then;
     so = so_then;
     heard = subst (λ (cs : List Connection). AreHeard setup (Does deed ∷ run) cs) (sym same_live) heard_then;
@@ -329,14 +357,19 @@ module _ (setup : Setup) (run : List Move) (kept : View) (s : State) (leads : Le
       read = none_lost s.tables.lost (is_read noted.note) (verdict_in (told_by s) noted.frame).is_error leads.keeps.read taken.read;
       credited = record {
         fresh = refl;
-        shared = ap (λ n. s.windows.debt + n) none_dropped ∙ ap (λ n. n + 0) leads.keeps.credited.shared;
-        own = none_behind behind.last;
-        others = λ id apart back. none_behind id back;
-        none_wait = waits_none;
+        shared = debt_then ∙ back;
+        own = none_behind;
       };
       counted = λ k c found. leads.keeps.counted k c (subst (λ (cs : List Connection). serving.find number_of k cs ≡ Some c) same_live found);
     };
+    marked = subst (λ (ms : List Side). AreMarked setup.passing ms (rooms_in (told_by then_state) then_state)) left marked_then;
+    in_effect = in_time due;
   }
+    where
+      in_time : (d : Due) → IsInEffect d false
+      in_time Due.Nothing = tt
+      in_time (Due.ToOpen stream route text stage) = refl
+      in_time (Due.ToSend k text) = refl
 
   -- The frame begins a course that leads there, with which nothing is put out.
   pub begins : (outputs : List Output) (new : View) (pending : Pending) → Leads setup (Does deed ∷ run) new pending then_state → Course setup run s outputs (Came noted) new pending outputs

@@ -2,6 +2,9 @@ pub mod Gaining
 pub mod Answered
 pub mod Owing
 pub mod Taking
+pub mod Where
+pub mod Marking
+pub mod Marked
 pub mod Sound
 pub mod Passing
 pub mod Hearing
@@ -15,6 +18,11 @@ pub mod Ways
 pub mod Coming
 pub mod Resets
 pub mod Resting
+pub mod Courses
+pub mod Going
+pub mod HeldFor
+pub mod Newest
+pub mod Connected
 pub mod Waits
 pub mod Halves
 pub mod Heads

@@ -1,8 +1,8 @@
 -- Open connections as the rule of requests has them: what a call changes is what the rule's move changes.
-use Rattle.std.proofs.Common.{◌≡◌, ℕ, ◌==◌, if◌then◌else◌, Bool, true, false, List, [], ◌∷◌, map, Some, refl, ap, ◌∙◌}
+use Rattle.std.proofs.Common.{◌≡◌, ℕ, ◌==◌, if◌then◌else◌, Bool, true, false, List, [], ◌∷◌, map, Option, Some, None, refl, sym, ap, ◌∙◌}
 use Rattle.std.specs.Prelude.{option_map}
 use Rattle.answers.specs.Waiting.{Answer}
-use Rattle.serving.specs.State.{k_of, live_of, find, without, answered}
+use Rattle.serving.specs.State.{Live, k_of, live_of, find, without, answered}
 use Rattle.serving.specs.Told.{Told}
 use Rattle.serving.specs.Rule.{is_done}
 use Rattle.upstreams.specs.Connections.{Connection, number_of, lives, whole_at, answer_at}
@@ -17,6 +17,14 @@ lives_found k (c ∷ cs) = by (c.live.k == k) (lives_found k cs)
         → (if b then Some c.live else live_of k (lives cs)) ≡ option_map (λ (x : Connection). x.live) (if b then Some c else find number_of k cs)
     by true more = refl
     by false more = more
+
+-- an open connection of the rule is kept
+pub kept_open : (k : ℕ) (cs : List Connection) (live : Live) → live_of k (lives cs) ≡ Some live → (c : Connection) × (find number_of k cs ≡ Some c) × (c.live ≡ live)
+kept_open k cs live found = by (find number_of k cs) refl (sym (lives_found k cs) ∙ found)
+  where
+    by : (o : Option Connection) → find number_of k cs ≡ o → option_map (λ (c : Connection). c.live) o ≡ Some live → (c : Connection) × (find number_of k cs ≡ Some c) × (c.live ≡ live)
+    by None none is = let no : ◌≡◌ {A = Option Live} None (Some live) = is in cc
+    by (Some c) was is = (c, was, (let same : c.live ≡ live = cc in same))
 
 -- ---- changes
 

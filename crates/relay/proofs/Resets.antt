@@ -1,6 +1,6 @@
 -- A reset that is owed next is sent, and its stream is over with it.
-use Rattle.std.proofs.Common.{◌≡◌, ℕ, ◌+◌, Bool, true, false, not, ◌&&◌, ◌||◌, ◌==◌, List, [], ◌∷◌, ◌++◌, append-nil, length, map, None, refl, sym, ◌∙◌, ap, subst, inl, inr, if◌then◌else◌, arith}
-use Rattle.std.proofs.lemmas.Bool.{eqb-true}
+use Rattle.std.proofs.Common.{◌≡◌, ℕ, ◌+◌, Bool, true, false, not, ◌&&◌, ◌||◌, ◌==◌, List, [], ◌∷◌, ◌++◌, append-nil, length, map, Option, Some, None, refl, sym, ◌∙◌, ap, subst, inl, inr, if◌then◌else◌, arith}
+use Rattle.std.proofs.lemmas.Bool.{and_parts, eqb-true}
 use Rattle.std.specs.Prelude.{is_none}
 use Rattle.std.specs.List.{list_any}
 use Rattle.model.specs.Frames.{Frame, Fits, spell}
@@ -20,7 +20,8 @@ use Rattle.conduct.specs.Rows as rows
 use Rattle.conduct.specs.Quiet.{noted_of}
 use Rattle.conduct.specs.Book.{Book, Desk, desk_after, summary_in}
 use Rattle.offering.specs.State as offering
-use Rattle.receiving.specs.Marks.{Mark, total}
+use Rattle.receiving.specs.Marks.{total}
+use Rattle.receiving.specs.State as receiving
 use Rattle.serving.specs.Told.{Told}
 use Rattle.serving.specs.State as serving
 use Rattle.serving.specs.State.{Held, id_of, without}
@@ -33,16 +34,24 @@ use Rattle.judgement.proofs.SendingBooks.{reset_leads}
 use Rattle.judgement.proofs.SendingEvents.{sent_desk}
 use Rattle.upstreams.specs.Kept as upstreams
 use Rattle.upstreams.specs.Connections.{lives}
+use Rattle.marks_kept.specs.Sides.{Side}
+use Rattle.marks_kept.specs.Sides as marks
+use Rattle.marks_kept.specs.Standing.{dropped_of}
+use Rattle.marks_kept.proofs.Rising.{without_none}
+use Rattle.marks_kept.proofs.Telling as telling
 use Rattle.policy.specs.Moves.{Deed, Move, conduct_of, told_in}
 use Rattle.policy.specs.Moves.Deed.{Sends}
 use Rattle.policy.specs.Moves.Move.{Does}
 use Rattle.policy.specs.State.{State}
+use Rattle.policy.specs.Rule.{rooms_in}
 use Rattle.policy.specs.Steps.{told_by, told_behind, next, MayGoOn}
 use Rattle.policy.proofs.Going.{may_pay}
 use Rattle.policy.proofs.Stepping.{one_more}
-use Rattle.relay.specs.View.{View, Pending, GoBack, Leads}
+use Rattle.relay.specs.View.{View, Pending, GoBack, AreMarked, waiting_for, Leads}
 use Rattle.relay.specs.Bringing.{OwnSegment, PerformsOwn}
 use Rattle.relay.proofs.Kept.{AreServed, held_behind}
+use Rattle.relay.proofs.Where.{live_here}
+use Rattle.relay.proofs.Marking.{rooms_next, marked_sent}
 use Rattle.relay.proofs.Staying.{so_stays, heard_stays, rows_kept, all_held_served}
 
 -- ---- rows of which one is changed
@@ -103,6 +112,7 @@ reset_view kept id code = record {
   inbound = record kept.inbound { rows = changed id (Over true) kept.inbound.rows };
   offers = record kept.offers { kept = offering.without id kept.offers.kept };
   upstreams = record kept.upstreams { held = without id_of id kept.upstreams.held };
+  marks = marks.without id kept.marks;
   encoding = kept.encoding;
   untaken = kept.untaken + length (spell (rst_stream id code));
 }
@@ -194,12 +204,54 @@ module _ (setup : Setup) (kept : View) (pending : Pending) (rest : List Frame) (
     abbrev over_with_it : Bool
     over_with_it = is_active book.rows id && not (is_active then_state.desk.book.rows id)
 
-    none_dropped : (if over_with_it then total (s.windows.row id).queue else 0) ≡ 0
-    none_dropped = by over_with_it
+    live_so : (other : ℕ) → receiving.is_live (rooms_in (told_by s) s) other ≡ is_active book.rows other
+    live_so = live_here setup run s leads.stands leads.so
+
+    -- where it wasn't active nothing is kept of it
+    none_kept : over_with_it ≡ false → marks.find id kept.marks ≡ None
+    none_kept not_over = by (marks.find id kept.marks) refl
       where
-        by : (x : Bool) → (if x then total (s.windows.row id).queue else 0) ≡ 0
-        by false = refl
-        by true = ap (λ (marks : List Mark). total marks) (leads.keeps.credited.none_wait id)
+        idle : is_active then_state.desk.book.rows id ≡ false
+        idle = ap (λ (d : Desk). is_active d.book.rows id) desk ∙ inactive id true book.rows
+
+        clash : (b : Bool) → b ≡ true → (b && not (is_active then_state.desk.book.rows id)) ≡ true
+        clash b on = ap (λ x. x && not (is_active then_state.desk.book.rows id)) on ∙ ap not idle
+
+        by : (o : Option Side) → marks.find id kept.marks ≡ o → o ≡ None
+        by None found = refl
+        by (Some side) found =
+            let no : true ≡ false = sym (clash (is_active book.rows id) (sym (live_so id) ∙ leads.marked.stand.live id side found)) ∙ not_over in
+            cc
+
+    -- nothing is kept of it any more, and what waited for it goes back
+    left : marks.unless_over over_with_it id kept.marks ≡ marks.without id kept.marks
+    left = by over_with_it refl
+      where
+        by : (b : Bool) → over_with_it ≡ b → marks.unless_over b id kept.marks ≡ marks.without id kept.marks
+        by true over = refl
+        by false over = sym (without_none id kept.marks (none_kept over))
+
+    dropped_is : dropped_of over_with_it id kept.marks ≡ waiting_for id kept
+    dropped_is = by over_with_it refl
+      where
+        by : (b : Bool) → over_with_it ≡ b → dropped_of b id kept.marks ≡ waiting_for id kept
+        by true over = refl
+        by false over = sym (ap (λ (o : Option Side). total (marks.queue_if o)) (none_kept over))
+
+    was_active : over_with_it ≡ true → receiving.is_live (rooms_in (told_by s) s) id ≡ true
+    was_active over = live_so id ∙ (and_parts (is_active book.rows id) (not (is_active then_state.desk.book.rows id)) over).0
+
+    debt_then : then_state.windows.debt ≡ pending.shared + waiting_for id kept
+    debt_then =
+        telling.drops kept.marks (rooms_in (told_by s) s) leads.marked.stand over_with_it id was_active
+        ∙ ap (λ n. s.windows.debt + n) dropped_is
+        ∙ ap (λ n. n + waiting_for id kept) leads.keeps.credited.shared
+
+    marked_then : AreMarked setup.passing (marks.without id kept.marks) (rooms_in (told_by then_state) then_state)
+    marked_then =
+        subst (λ (ms : List Side). AreMarked setup.passing ms (rooms_in (told_by then_state) then_state)) left
+        (subst (AreMarked setup.passing (marks.unless_over over_with_it id kept.marks)) (sym (rooms_next setup run s leads.stands leads.so deed may (so_stays setup run deed tt leads.so)))
+        (marked_sent setup.passing kept.marks (rooms_in (told_by s) s) leads.marked (noted_of frame) over_with_it))
 
     -- they go back on other streams than this as before
     back_before : (other : ℕ) → GoBack new.inbound other → GoBack kept.inbound other
@@ -213,8 +265,8 @@ module _ (setup : Setup) (kept : View) (pending : Pending) (rest : List Frame) (
           goes_on = ap (λ (k : Kept). k.ended_by_client) (sym (find_other id other (Over true) kept.inbound.rows apart)) ∙ back.goes_on;
         }
 
-    -- A reset that is owed next is sent, and its stream is over.
-    pub reset_paid : OwnSegment setup run s outputs new (record pending { owed = rest }) (put outputs (ToClient (spell frame)))
+    -- A reset that is owed next is sent, and its stream is over: what waited of its DATA goes back.
+    pub reset_paid : OwnSegment setup run s outputs new (record pending { owed = rest; shared = pending.shared + waiting_for id kept }) (put outputs (ToClient (spell frame)))
     reset_paid = record {
       segment = record {
         moves = Does deed ∷ [];
@@ -234,18 +286,15 @@ module _ (setup : Setup) (kept : View) (pending : Pending) (rest : List Frame) (
             read = leads.keeps.read;
             credited = record {
               fresh = leads.keeps.credited.fresh;
-              shared = ap (λ n. s.windows.debt + n) none_dropped ∙ plus_none s.windows.debt ∙ leads.keeps.credited.shared;
-              own = λ back. leads.keeps.credited.own (back_before kept.inbound.last back);
-              others = λ other apart back. leads.keeps.credited.others other apart (back_before other back);
-              none_wait = leads.keeps.credited.none_wait;
+              shared = debt_then;
+              own = λ other back. leads.keeps.credited.own other (back_before other back);
             };
             counted = leads.keeps.counted;
           };
+          marked = marked_then;
+          in_effect = leads.in_effect;
         };
         puts = refl;
       };
       are_own = (fits, tt);
     }
-      where
-        plus_none : (n : ℕ) → n + 0 ≡ n
-        plus_none n = omega (arith)

@@ -1,6 +1,5 @@
 -- Where moves led to what is kept, nothing is pending, and it is at rest, something may come in.
-use Rattle.std.proofs.Common.{◌≡◌, ℕ, true, false, List, refl, sym, ◌∙◌, ap, subst, inl, inr}
-use Rattle.std.proofs.lemmas.Bool.Decides.{eqb_tells}
+use Rattle.std.proofs.Common.{◌≡◌, true, false, List, refl, sym, ◌∙◌, ap, subst}
 use Rattle.std.specs.List.{list_any}
 use Rattle.model.specs.Setup.{Setup}
 use Rattle.conduct.specs.Summary.{Summary}
@@ -22,7 +21,7 @@ use Rattle.policy.specs.Rule.{Rests, rooms_in}
 use Rattle.policy.specs.Steps.{told_by}
 use Rattle.policy.specs.Coming.{IsReady}
 use Rattle.policy.proofs.EndingMoves.{ready_same}
-use Rattle.relay.specs.View.{View, square, GoBack, Leads}
+use Rattle.relay.specs.View.{View, square, Leads}
 use Rattle.relay.specs.Rest.{IsAtRest}
 
 module _ (setup : Setup) (run : List Move) (kept : View) (s : State) (leads : Leads setup run kept square s) (rest : IsAtRest kept) where
@@ -71,17 +70,11 @@ module _ (setup : Setup) (run : List Move) (kept : View) (s : State) (leads : Le
   given_back = record {
     settled = leads.keeps.credited.fresh;
     shared = leads.keeps.credited.shared;
-    own = λ stream active ended. none_on stream (record {
+    own = λ stream active ended. leads.keeps.credited.own stream (record {
       active = ap (λ (u : Summary). (sight_in u).active stream) (sym told) ∙ active;
       goes_on = ap (λ (u : Summary). (sight_in u).ended stream) (sym told) ∙ ended;
     });
   }
-    where
-      none_on : (stream : ℕ) → GoBack kept.inbound stream → (s.windows.row stream).debt ≡ 0
-      none_on stream back = elim (eqb_tells stream kept.inbound.last) [
-        | inl same ↦ ap (λ n. (s.windows.row n).debt) same.1 ∙ leads.keeps.credited.own (subst (GoBack kept.inbound) same.1 back)
-        | inr apart ↦ leads.keeps.credited.others stream apart.1 back
-      ]
 
   pub rests : Rests (told_by s) s
   rests = record { conduct = conduct_rests; flushed = flushed; served = served; read = leads.keeps.read; given_back = λ open_there. given_back }

@@ -12,14 +12,19 @@ use Rattle.header_blocks.specs.Encoding.{first_encoding}
 use Rattle.judgement.specs.Inbound.{book_of}
 use Rattle.upstreams.specs.Kept.{State, nothing, with_due}
 use Rattle.upstreams.specs.Connections.{Connection, number_of}
+use Rattle.marks_kept.specs.Sides.{Side}
+use Rattle.marks_kept.specs.Sides.{find as find_side}
+use Rattle.marks_kept.specs.Standing.{StandFor}
 use Rattle.policy.specs.State as policy
+use Rattle.policy.specs.Rule.{rooms_in}
+use Rattle.policy.specs.Steps.{told_by}
 use Rattle.relay.specs.View.{View, Pending, square, Leads}
 
 -- what is to be done first: the gateway's settings are owed
 abbrev pub first_pending : Pending
 first_pending = record square { owed = settings_frame ∷ [] }
 
-module _ (setup : Setup) (kept : View) (book : book_of (record { given = []; untaken = 0 }) kept.inbound ≡ (first_desk setup).book) (offers : kept.offers ≡ offering.start) (upstreams : kept.upstreams ≡ nothing) (table : kept.inbound.table ≡ first_table) (encoding : kept.encoding ≡ first_encoding (inserts setup.policy)) (untaken : kept.untaken ≡ 0) where
+module _ (setup : Setup) (kept : View) (book : book_of (record { given = []; untaken = 0 }) kept.inbound ≡ (first_desk setup).book) (offers : kept.offers ≡ offering.start) (upstreams : kept.upstreams ≡ nothing) (table : kept.inbound.table ≡ first_table) (encoding : kept.encoding ≡ first_encoding (inserts setup.policy)) (marks : kept.marks ≡ []) (untaken : kept.untaken ≡ 0) where
   none_open : (k : ℕ) (c : Connection) → find number_of k kept.upstreams.live ≡ Some c → ⊥
   none_open k c found = let no : ◌≡◌ {A = Option Connection} None (Some c) = sym (ap (λ (u : State). find number_of k u.live) upstreams) ∙ found in cc
 
@@ -37,7 +42,21 @@ module _ (setup : Setup) (kept : View) (book : book_of (record { given = []; unt
       decoding = sym table;
       encoding = sym encoding;
       read = refl;
-      credited = record { fresh = refl; shared = refl; own = λ goes. refl; others = λ id apart goes. refl; none_wait = λ id. refl };
+      credited = record { fresh = refl; shared = refl; own = λ id goes. refl };
       counted = λ k c found. absurd (none_open k c found);
     };
+    marked = record {
+      stand = none_marked;
+      none = λ whole. marks;
+      some = λ id side found. let no : ◌≡◌ {A = Option Side} None (Some side) = sym (ap (λ (sides : List Side). find_side id sides) marks) ∙ found in cc;
+      all = λ streaming id live none. refl;
+    };
+    in_effect = tt;
   }
+    where
+      none_marked : StandFor kept.marks (rooms_in (told_by (policy.state_of setup [])) (policy.state_of setup []))
+      none_marked = record {
+        live = λ id side found. let no : ◌≡◌ {A = Option Side} None (Some side) = sym (ap (λ (sides : List Side). find_side id sides) marks) ∙ found in cc;
+        rows = λ id side found. let no : ◌≡◌ {A = Option Side} None (Some side) = sym (ap (λ (sides : List Side). find_side id sides) marks) ∙ found in cc;
+        rest = λ id live none. refl;
+      }

@@ -10,7 +10,8 @@ use Rattle.model.specs.Tapes.{Entry}
 use Rattle.model.specs.Openings.{Opened, opens, given}
 use Rattle.model.specs.Available.{heard, IsIn}
 use Rattle.model.specs.Known.{Known}
-use Rattle.model.specs.Courses.{items}
+use Rattle.model.specs.Causes.{Cause}
+use Rattle.model.specs.Courses.{course, items, first_of_both}
 use Rattle.model.specs.Offers.{is_to_head}
 use Rattle.model.proofs.ItemLaws.{head_stays}
 use Rattle.model.proofs.GivenLaws.{given_is}
@@ -94,6 +95,14 @@ found_before k j cs c is = elim (cases_eq k j) [
 
 -- ---- answers that stand for what was heard
 
+-- the gateway didn't reply to a stream itself before an entry, where it doesn't behind that
+pub calm_before : (known : Known) (stream : ℕ) (e : Entry) (t : List Entry) → (course known stream (e ∷ t)).cause ≡ None → (course known stream t).cause ≡ None
+calm_before known stream e t calm = stays (course known stream t).cause _ calm
+  where
+    stays : (first later : Option Cause) → first_of_both first later ≡ None → first ≡ None
+    stays None later is = refl
+    stays (Some cause) later is = is
+
 -- The answers that are kept stand for what was heard where the effect of what came is over.
 pub heard_settles : (setup : Setup) (run : List Move) (live : List Connection) → AreHeard setup run live → AreHeard setup (Settles ∷ run) live
 heard_settles setup run live are = are
@@ -106,12 +115,13 @@ pub heard_of_changed : (setup : Setup) (run : List Move) (live : List Connection
 heard_of_changed setup run live f lives_stay answers_stay are known same knows j c found =
     by (find number_of j live) refl (sym (find_map number_of f (λ x. ap k_of (lives_stay x)) j live) ∙ found)
   where
-    by : (o : Option Connection) → find number_of j live ≡ o → option_map f o ≡ Some c → c.live.whole ≡ false → IsHeard known (tape_of run) j c.answer
-    by None none is goes_on = cc
-    by (Some x) there is goes_on =
+    by : (o : Option Connection) → find number_of j live ≡ o → option_map f o ≡ Some c → c.live.whole ≡ false → (course known c.live.stream (tape_of run)).cause ≡ None → IsHeard known (tape_of run) j c.answer
+    by None none is goes_on calm = cc
+    by (Some x) there is goes_on calm =
         let changed : f x ≡ c = cc in
+        let same_live : x.live ≡ c.live = sym (lives_stay x) ∙ ap (λ (y : Connection). y.live) changed in
         subst (IsHeard known (tape_of run) j) (sym (answers_stay x) ∙ ap (λ (y : Connection). y.answer) changed)
-        (are known same knows j x there (ap (λ (l : Live). l.whole) (sym (lives_stay x)) ∙ ap (λ (y : Connection). y.live.whole) changed ∙ goes_on))
+        (are known same knows j x there (ap (λ (l : Live). l.whole) same_live ∙ goes_on) (ap (λ (l : Live). (course known l.stream (tape_of run)).cause) same_live ∙ calm))
 
 -- An answer stands for all that was heard behind an entry with which nothing is heard of its upstream and none is opened, where its stream has an
 -- item.
@@ -139,8 +149,8 @@ module _ (setup : Setup) (run : List Move) (s : State) (stand : Stands setup run
 
   -- Answers stand for what was heard behind a deed with which nothing is heard and no connection is opened.
   pub heard_behind : (d : Deed) → ((k : ℕ) → heard k (entry_of d ∷ tape_of run) ≡ heard k (tape_of run)) → opens (entry_of d ∷ tape_of run) ≡ opens (tape_of run) → AreHeard setup run live → AreHeard setup (Does d ∷ run) live
-  heard_behind d unheard none_opened are known same knows k c found goes_on =
-      heard_by_entry known (tape_of run) (entry_of d) k c (unheard k) none_opened (open_begun known same knows.0 k c found) (are known same knows.0 k c found goes_on)
+  heard_behind d unheard none_opened are known same knows k c found goes_on calm =
+      heard_by_entry known (tape_of run) (entry_of d) k c (unheard k) none_opened (open_begun known same knows.0 k c found) (are known same knows.0 k c found goes_on (calm_before known c.live.stream (entry_of d) (tape_of run) calm))
 
   -- such a deed
   abbrev pub IsUnheard : Deed → Type 0

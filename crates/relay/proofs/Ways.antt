@@ -1,16 +1,15 @@
 -- Where requests are passed on whole, all that is held waits, where moves led; and the numbers of open connections fall.
-use Rattle.std.proofs.Common.{◌≡◌, ℕ, suc, ◌<◌, ◌≤◌, Bool, true, false, ◌||◌, ◌==◌, List, [], ◌∷◌, ◌++◌, map, filter, Option, Some, None, refl, sym, ◌∙◌, ap, subst, if◌then◌else◌, arith}
+use Rattle.std.proofs.Common.{◌≡◌, ℕ, suc, ◌<◌, ◌≤◌, Bool, true, false, ◌||◌, ◌==◌, List, [], ◌∷◌, ◌++◌, map, Option, Some, None, refl, sym, ◌∙◌, ap, subst, if◌then◌else◌, arith}
 use Rattle.model.specs.Setup.{Setup, Passing}
-use Rattle.model.specs.Setup.Passing.{Whole as WholePassing, Streaming}
-use Rattle.model.specs.Logs.{Event}
+use Rattle.model.specs.Setup.Passing.{Whole as WholePassing}
 use Rattle.model.specs.Logs.Act.{Open, ToUp, Close, CloseClient}
 use Rattle.model.specs.Courses.{upstream_of}
 use Rattle.h1_writer.specs.Sending.{Stage}
 use Rattle.serving.specs.Written.{octets_of}
 use Rattle.serving.specs.Told.{Told}
-use Rattle.serving.specs.State.{Way, Held, Live, Due, State, Move, Turn, id_of, held_of, k_of, find, without, kept, with_way, held_at, held_with, unless_whole, waits_from, goes_now, is_streaming, is_whole, drop_from, dropped, held_opened, held_acted, held_after, answered, due_stream, live_acted, live_after, to_send, to_open, due_opened, due_acted, due_after, count_after, after, state_of}
+use Rattle.serving.specs.State.{Way, Held, Live, Due, State, Move, Turn, id_of, held_of, k_of, without, kept, with_way, held_at, held_with, goes_now, is_streaming, is_whole, drop_from, dropped, held_opened, answered, live_after, to_send, to_open, due_opened, count_after, after, state_of}
 use Rattle.serving.specs.State.Way.{Waiting, Going, Dropped}
-use Rattle.serving.specs.State.Due.{Nothing, ToOpen, ToSend}
+use Rattle.serving.specs.State.Due.{ToOpen}
 use Rattle.serving.specs.State.Move.{Takes, Begins, Gathers, Passes, Drops, Breaks, Notes, Hears, Fails, Sends, Acts}
 use Rattle.serving.specs.Rule.{MayOpen, MayMove, told_of, AreAllowed}
 use Rattle.upstreams.specs.Connections.{Connection, lives, AreBelow}
@@ -32,7 +31,7 @@ AreWaiting [] = Unit {0}
 AreWaiting (h ∷ hs) = IsWaiting h.way × AreWaiting hs
 
 -- a connection is due for a whole text
-abbrev IsWholeDue : Due → Type 0
+abbrev pub IsWholeDue : Due → Type 0
 IsWholeDue (ToOpen stream route text stage) = is_whole stage ≡ true
 IsWholeDue due = Unit {0}
 
@@ -85,7 +84,7 @@ either_waits true id way hs waits are = without_wait id hs are
 either_waits false id way hs waits are = with_wait id way hs waits are
 
 -- what is found waits
-found_waits : (id : ℕ) (hs : List Held) (h : Held) → AreWaiting hs → held_of id hs ≡ Some h → IsWaiting h.way
+pub found_waits : (id : ℕ) (hs : List Held) (h : Held) → AreWaiting hs → held_of id hs ≡ Some h → IsWaiting h.way
 found_waits id [] h are is = cc
 found_waits id (x ∷ hs) h are is = by (x.id == id) is (λ rest. found_waits id hs h are.1 rest)
   where
@@ -126,12 +125,36 @@ falling_answered : (whole : Bool) (k top : ℕ) (ls : List Live) → AreFalling 
 falling_answered whole k top [] fall = tt
 falling_answered whole k top (l ∷ ls) fall = (fall.0, falling_answered whole k l.k ls fall.1)
 
+-- they fall behind each move, however requests are passed on
+fall_behind : (setup : Setup) (before behind : Told) (s : State) → AreFalling (suc s.count) s.live → (m : Move) → MayMove setup before behind s m → AreFalling (suc (count_after s.count m)) (live_after s.live s.due m)
+fall_behind setup before behind s fall (Takes noted) may = fall
+fall_behind setup before behind s fall (Begins noted head ended route text stage) may = fall
+fall_behind setup before behind s fall (Gathers noted item route text old body written stage) may = fall
+fall_behind setup before behind s fall (Passes noted item k old written stage) may = fall
+fall_behind setup before behind s fall (Drops noted item) may = fall
+fall_behind setup before behind s fall (Breaks breach) may = fall
+fall_behind setup before behind s fall (Notes event) may = fall
+fall_behind setup before behind s fall (Hears event whole) may = falling_answered whole (upstream_of event) (suc s.count) s.live fall
+fall_behind setup before behind s fall (Fails k) may = falling_without k (suc s.count) s.live fall
+fall_behind setup before behind s fall (Sends noted) may = fall
+fall_behind setup before behind s fall (Acts (Open k route)) may = (let next = may.next in omega (arith, next), subst (λ n. AreFalling n s.live) (sym may.next) fall)
+fall_behind setup before behind s fall (Acts (ToUp k octets)) may = fall
+fall_behind setup before behind s fall (Acts (Close k)) may = falling_without k (suc s.count) s.live fall
+fall_behind setup before behind s fall (Acts CloseClient) may = fall
+
+turns_fall : (setup : Setup) (turns : List Turn) → AreAllowed setup turns → AreFalling (suc (state_of setup turns).count) (state_of setup turns).live
+turns_fall setup [] all = tt
+turns_fall setup (turn ∷ turns) all = fall_behind setup (told_of turns) turn.told (state_of setup turns) (turns_fall setup turns all.0) turn.move all.1.may
+
+-- where moves led
+pub numbers_fall : (setup : Setup) (run : List PolicyMove) (s : policy.State) → Stands setup run s → AreFalling (suc s.requests.count) s.requests.live
+numbers_fall setup run s stands = subst (λ (x : policy.State). AreFalling (suc x.requests.count) x.requests.live) stands.is (turns_fall setup (turns_of setup run) (turns_may setup run stands.allowed))
+
 -- ---- behind each move
 
 record Holds (setup : Setup) (s : State) : Type 0 where
   pub waiting : AreWaiting s.held
   pub due : IsWholeDue s.due
-  pub falling : AreFalling (suc s.count) s.live
 
 module _ (setup : Setup) (whole : setup.passing ≡ WholePassing) where
   goes_whole : (stage : Stage) → goes_now setup stage ≡ is_whole stage
@@ -142,35 +165,32 @@ module _ (setup : Setup) (whole : setup.passing ≡ WholePassing) where
     opened k route may = record {
       waiting = subst (λ (d : Due). AreWaiting (held_opened d k s.held)) (sym may.due) (subst (λ b. AreWaiting (held_with may.stream (if b then None else Some (Going k may.stage)) s.held)) (sym (subst IsWholeDue may.due h.due)) (without_wait may.stream s.held h.waiting));
       due = subst (λ (d : Due). IsWholeDue (due_opened d k)) (sym may.due) tt;
-      falling = (let next = may.next in omega (arith, next), subst (λ n. AreFalling n s.live) (sym may.next) h.falling);
     }
 
     hold_behind : (m : Move) → MayMove setup before behind s m → Holds setup (after setup behind s m)
-    hold_behind (Takes noted) may = record { waiting = kept_wait behind s.held h.waiting; due = h.due; falling = h.falling }
+    hold_behind (Takes noted) may = record { waiting = kept_wait behind s.held h.waiting; due = h.due }
     hold_behind (Begins noted head ended route text stage) may = record {
       waiting = either_waits (goes_now setup stage) noted.frame.id (Waiting route text stage []) s.held tt h.waiting;
       due = whole_due (goes_now setup stage) (is_whole stage) noted.frame.id route text stage (goes_whole stage) refl;
-      falling = h.falling;
     }
     hold_behind (Gathers noted item route text old body written stage) may = record {
       waiting = either_waits (is_whole stage) noted.frame.id (Waiting route text stage (body ++ octets_of item)) s.held tt h.waiting;
       due = whole_due (is_whole stage) (is_whole stage) noted.frame.id route (text ++ written) stage refl refl;
-      falling = h.falling;
     }
     hold_behind (Passes noted item k old written stage) may = absurd (found_waits noted.frame.id s.held (record { id = noted.frame.id; way = Going k old }) h.waiting may.1.found)
-    hold_behind (Drops noted item) may = record { waiting = h.waiting; due = h.due; falling = h.falling }
-    hold_behind (Breaks breach) may = record { waiting = h.waiting; due = h.due; falling = h.falling }
-    hold_behind (Notes event) may = record { waiting = h.waiting; due = h.due; falling = h.falling }
-    hold_behind (Hears event b) may = record { waiting = kept_wait behind s.held h.waiting; due = h.due; falling = falling_answered b (upstream_of event) (suc s.count) s.live h.falling }
-    hold_behind (Fails k) may = record { waiting = subst (λ (hs : List Held). AreWaiting (kept behind hs)) (sym (drop_none k s.held h.waiting)) (kept_wait behind s.held h.waiting); due = h.due; falling = falling_without k (suc s.count) s.live h.falling }
-    hold_behind (Sends noted) may = record { waiting = kept_wait behind s.held h.waiting; due = h.due; falling = h.falling }
+    hold_behind (Drops noted item) may = record { waiting = h.waiting; due = h.due }
+    hold_behind (Breaks breach) may = record { waiting = h.waiting; due = h.due }
+    hold_behind (Notes event) may = record { waiting = h.waiting; due = h.due }
+    hold_behind (Hears event b) may = record { waiting = kept_wait behind s.held h.waiting; due = h.due }
+    hold_behind (Fails k) may = record { waiting = subst (λ (hs : List Held). AreWaiting (kept behind hs)) (sym (drop_none k s.held h.waiting)) (kept_wait behind s.held h.waiting); due = h.due }
+    hold_behind (Sends noted) may = record { waiting = kept_wait behind s.held h.waiting; due = h.due }
     hold_behind (Acts (Open k route)) may = opened k route may
-    hold_behind (Acts (ToUp k octets)) may = record { waiting = h.waiting; due = tt; falling = h.falling }
-    hold_behind (Acts (Close k)) may = record { waiting = subst AreWaiting (sym (drop_none k s.held h.waiting)) h.waiting; due = h.due; falling = falling_without k (suc s.count) s.live h.falling }
-    hold_behind (Acts CloseClient) may = record { waiting = tt; due = h.due; falling = h.falling }
+    hold_behind (Acts (ToUp k octets)) may = record { waiting = h.waiting; due = tt }
+    hold_behind (Acts (Close k)) may = record { waiting = subst AreWaiting (sym (drop_none k s.held h.waiting)) h.waiting; due = h.due }
+    hold_behind (Acts CloseClient) may = record { waiting = tt; due = h.due }
 
   all_hold : (turns : List Turn) → AreAllowed setup turns → Holds setup (state_of setup turns)
-  all_hold [] all = record { waiting = tt; due = tt; falling = tt }
+  all_hold [] all = record { waiting = tt; due = tt }
   all_hold (turn ∷ turns) all = hold_behind (told_of turns) turn.told (state_of setup turns) (all_hold turns all.0) turn.move all.1.may
 
   -- where moves led
@@ -180,8 +200,11 @@ module _ (setup : Setup) (whole : setup.passing ≡ WholePassing) where
   pub all_wait : (run : List PolicyMove) (s : policy.State) → Stands setup run s → AreWaiting s.requests.held
   all_wait run s stands = (state_holds run s stands).waiting
 
+  pub all_due : (run : List PolicyMove) (s : policy.State) → Stands setup run s → IsWholeDue s.requests.due
+  all_due run s stands = (state_holds run s stands).due
+
   pub all_fall : (run : List PolicyMove) (s : policy.State) → Stands setup run s → AreFalling (suc s.requests.count) s.requests.live
-  all_fall run s stands = (state_holds run s stands).falling
+  all_fall run s stands = numbers_fall setup run s stands
 
 -- numbers of connections fall as those of the rule do
 pub falling_below : (top : ℕ) (cs : List Connection) → AreFalling top (lives cs) → AreBelow top cs

@@ -10,3 +10,4 @@ pub mod Rest
 pub mod Others
 pub mod Bringing
 pub mod Waits
+pub mod Ways

@@ -12,7 +12,9 @@ use Rattle.upstreams.specs.Connections.{lives}
 use Rattle.offers.specs.Asked.{windows_over}
 use Rattle.policy.specs.Moves.{Move, told_in}
 use Rattle.policy.specs.State.{State}
-use Rattle.relay.specs.View.{View, Pending, Leads}
+use Rattle.model.specs.Logs.{Output}
+use Rattle.relay.specs.View.{View, Pending, square, Leads}
+use Rattle.relay.specs.Bringing.{PerformsOwn}
 
 -- what is told of streams, and of the end; it doesn't depend on which connections were opened
 abbrev pub told_view : View → Told
@@ -41,6 +43,19 @@ pub record IsAtRest (kept : View) : Type 0 where
   pub none_done : NoneDone kept
   pub flushed : IsFlushed kept
 
+-- so many octets are to go back on the connection, and nothing else is pending
+abbrev pub back_of : ℕ → Pending
+back_of back = record square { shared = back }
+
+-- Where the connection goes on none are: they go back at once. Where it is to end they don't.
+abbrev pub IsBack : View → ℕ → Type 0
+IsBack kept back = GoesOn kept → back ≡ 0
+
 -- Moves led to what is kept, with what is pending.
 abbrev pub Reached : Setup → View → Pending → Type 0
 Reached setup kept pending = (run : List Move) × (s : State) × Leads setup run kept pending s
+
+-- Wherever moves led to what was kept, and nothing was pending but such octets, they lead on to what is kept now, and nothing else is pending then.
+abbrev pub PerformsBack : View → List Output → View → List Output → Type 0
+PerformsBack old outputs new outputs' =
+    (back : ℕ) → IsBack old back → (back' : ℕ) × IsBack new back' × ((setup : Setup) → PerformsOwn setup old (back_of back) outputs new (back_of back') outputs')

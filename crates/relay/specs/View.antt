@@ -1,12 +1,16 @@
 -- What the rooms together are seen as, and how that stands to the state of the rule.
-use Rattle.std.specs.Prelude.{◌≡◌, ℕ, true, false, List, [], Some}
+use Rattle.std.specs.Prelude.{◌≡◌, ℕ, ◌<◌, Bool, true, false, List, [], Some, None}
 use Rattle.model.specs.Frames.{Frame}
-use Rattle.model.specs.Setup.{Setup}
+use Rattle.model.specs.Setup.{Setup, Passing}
+use Rattle.model.specs.Setup.Passing.{Whole, Streaming}
+use Rattle.model.specs.Courses.{course}
 use Rattle.model.specs.Known.{Known}
 use Rattle.conduct.specs.Rows as rows
 use Rattle.conduct.specs.Rule.{AreKnown}
 use Rattle.offering.specs.State as offering
+use Rattle.receiving.specs.Marks.{total}
 use Rattle.receiving.specs.State as receiving
+use Rattle.receiving.specs.State.{is_live}
 use Rattle.serving.specs.State as serving
 use Rattle.serving.specs.State.{Due, find}
 use Rattle.header_blocks.specs.Encoding.{Encoding}
@@ -14,46 +18,49 @@ use Rattle.streams_kept.specs.Asked.{is_active}
 use Rattle.judgement.specs.Inbound.{Inbound, book_of}
 use Rattle.upstreams.specs.Kept as upstreams
 use Rattle.upstreams.specs.Connections.{Connection, number_of}
+use Rattle.marks_kept.specs.Sides.{Side}
+use Rattle.marks_kept.specs.Sides as marks
+use Rattle.marks_kept.specs.Standing.{StandFor}
 use Rattle.policy.specs.Moves.{Move}
 use Rattle.policy.specs.State.{State, conducts, tape_of}
+use Rattle.policy.specs.Rule.{rooms_in}
 use Rattle.policy.specs.Answered.{AreAnswered}
-use Rattle.policy.specs.Steps.{Stands}
+use Rattle.policy.specs.Steps.{told_by, Stands}
 use Rattle.relay.specs.Hearing.{IsHeard}
 
--- What is kept: of the client's frames and of its streams, of what is on offer for them, of requests and upstream connections, of the table
--- of blocks to the client, and how many octets for the client aren't taken.
+-- What is kept: of the client's frames and of its streams, of what is on offer for them, of requests and upstream connections, of DATA that
+-- waits for upstreams' sides, of the table of blocks to the client, and how many octets for the client aren't taken.
 pub record View : Type 0 where
   pub inbound : Inbound
   pub offers : offering.State
   pub upstreams : upstreams.State
+  pub marks : List Side
   pub encoding : Encoding
   pub untaken : ℕ
 
 -- What is to be done before anything may come in: frames that are owed, a connection or a text that is due, and octets of DATA that are
--- to go back: those of the last frame whose effect isn't over, and then on the connection and on the last frame's stream.
+-- to go back: those of the last frame whose effect isn't over, and then on the connection and on each stream.
 pub record Pending : Type 0 where
   pub owed : List Frame
   pub due : Due
   pub fresh : ℕ
   pub shared : ℕ
-  pub own : ℕ
+  pub own : ℕ → ℕ
 
 -- nothing is
 abbrev pub square : Pending
-square = record { owed = []; due = serving.Due.Nothing; fresh = 0; shared = 0; own = 0 }
+square = record { owed = []; due = serving.Due.Nothing; fresh = 0; shared = 0; own = λ id. 0 }
 
 -- Octets go back on a stream while it is active and the client hasn't ended it.
 pub record GoBack (inbound : Inbound) (id : ℕ) : Type 0 where
   pub active : is_active inbound.rows id ≡ true
   pub goes_on : (rows.find inbound.rows id).ended_by_client ≡ false
 
--- The octets that are to go back are these, and none wait: requests are passed on whole, so nothing waits for an upstream's side.
+-- The octets that are to go back are these.
 pub record IsCredited (pending : Pending) (inbound : Inbound) (windows : receiving.Kept) : Type 0 where
   pub fresh : windows.count ≡ pending.fresh
   pub shared : windows.debt ≡ pending.shared
-  pub own : GoBack inbound inbound.last → (windows.row inbound.last).debt ≡ pending.own
-  pub others : (id : ℕ) → (id ≡ inbound.last → ⊥) → GoBack inbound id → (windows.row id).debt ≡ 0
-  pub none_wait : (id : ℕ) → (windows.row id).queue ≡ []
+  pub own : (id : ℕ) → GoBack inbound id → (windows.row id).debt ≡ pending.own id
 
 -- The state is the one that is kept, with what is pending.
 pub record Keeps (kept : View) (pending : Pending) (s : State) : Type 0 where
@@ -67,16 +74,36 @@ pub record Keeps (kept : View) (pending : Pending) (s : State) : Type 0 where
   pub credited : IsCredited pending kept.inbound s.windows
   pub counted : (k : ℕ) (c : Connection) → find number_of k kept.upstreams.live ≡ Some c → (s.windows.out k ≡ c.out) × (s.windows.took k ≡ c.took)
 
+-- ---- octets that wait
+
+-- What is kept of DATA that waits is what the rule has: nothing where requests are passed on whole, and else something of each active stream for
+-- which a connection was opened, and of no other.
+pub record AreMarked (passing : Passing) (sides : List Side) (rooms : receiving.State) : Type 0 where
+  pub stand : StandFor sides rooms
+  pub none : passing ≡ Whole → sides ≡ []
+  pub some : (id : ℕ) (side : Side) → marks.find id sides ≡ Some side → 0 < side.k
+  pub all : passing ≡ Streaming → (id : ℕ) → is_live rooms id ≡ true → marks.find id sides ≡ None → (rooms.row id).k ≡ 0
+
+-- the octets that wait of a stream, which go back once it is over
+abbrev pub waiting_for : ℕ → View → ℕ
+waiting_for id kept = total (marks.queue_of id kept.marks)
+
 -- ---- where moves led
 
 -- What moves say of upstreams' answers is so, whatever is known beside them.
 abbrev pub AreSo : Setup → List Move → Type 0
 AreSo setup run = (known : Known) → known.setup ≡ setup → AreKnown known (conducts run) → AreAnswered known run
 
--- The answers that are kept stand for all that was heard.
+-- The answers that are kept stand for all that was heard, while they are no whole responses and the gateway doesn't reply to their streams itself.
 abbrev pub AreHeard : Setup → List Move → List Connection → Type 0
 AreHeard setup run live =
-    (known : Known) → known.setup ≡ setup → AreKnown known (conducts run) → (k : ℕ) (c : Connection) → find number_of k live ≡ Some c → c.live.whole ≡ false → IsHeard known (tape_of run) k c.answer
+    (known : Known) → known.setup ≡ setup → AreKnown known (conducts run) → (k : ℕ) (c : Connection) → find number_of k live ≡ Some c → c.live.whole ≡ false → (course known c.live.stream (tape_of run)).cause ≡ None
+    → IsHeard known (tape_of run) k c.answer
+
+-- What is due goes out before the effect of the last frame is over.
+abbrev pub IsInEffect : Due → Bool → Type 0
+IsInEffect serving.Due.Nothing settled = Unit {0}
+IsInEffect due settled = settled ≡ false
 
 -- The moves led to this state, and it is the one that is kept, with what is pending.
 pub record Leads (setup : Setup) (run : List Move) (kept : View) (pending : Pending) (s : State) : Type 0 where
@@ -84,3 +111,5 @@ pub record Leads (setup : Setup) (run : List Move) (kept : View) (pending : Pend
   pub so : AreSo setup run
   pub heard : AreHeard setup run kept.upstreams.live
   pub keeps : Keeps kept pending s
+  pub marked : AreMarked setup.passing kept.marks (rooms_in (told_by s) s)
+  pub in_effect : IsInEffect pending.due s.windows.settled

@@ -2,12 +2,13 @@
 
 use header_blocks::Encoder;
 use judgement::Connection;
+use marks_kept::Marks;
 use offers::Offers;
 use std::marker::Model;
 use upstreams::Upstreams;
 
 /// All that is kept of a connection to a client whose frames can be read, beside octets of a frame that isn't complete: of the client's frames and
-/// of its streams, of what is on offer for them, of requests that aren't whole and of open connections to upstreams, the encoder of blocks to the
+/// of its streams, of what is on offer for them, of requests that aren't whole and of open connections to upstreams, of DATA that waits for those, the encoder of blocks to the
 /// client, and how many octets that were put out for the client its side hasn't taken. A clause sees it as a `View`.
 #[derive(Drop)]
 pub struct Rooms {
@@ -17,6 +18,8 @@ pub struct Rooms {
     pub offers: Offers,
     /// Requests that aren't whole, and open connections to upstreams.
     pub upstreams: Upstreams,
+    /// What waits of streams' DATA until their upstreams' sides took what was put out for them, where requests are passed on as they come.
+    pub marks: Marks,
     /// The encoder of header blocks to the client.
     pub encoder: Encoder,
     /// How many octets for the client aren't taken.
@@ -28,5 +31,5 @@ impl Model for Rooms {
 
     ghost Value = { View };
 
-    ghost view = { λ rooms. record { inbound = rooms.inbound; offers = rooms.offers; upstreams = rooms.upstreams; encoding = rooms.encoder; untaken = rooms.untaken } };
+    ghost view = { λ rooms. record { inbound = rooms.inbound; offers = rooms.offers; upstreams = rooms.upstreams; marks = rooms.marks; encoding = rooms.encoder; untaken = rooms.untaken } };
 }

@@ -67,6 +67,13 @@ ends_counted parts text Chunking body sending on not_yet fits = absurd (not_yet 
 
 -- ---- a request that waits, as it lies in one piece of memory
 
+-- of which nothing of the body came
+pub head_alone : (route start : ℕ) (sender : Stage) (items : List ℕ) (request : Request) → (let kept : Request = record { route = route; text = take start items; stage = sender; body = drop start items } in kept ≡ request)
+    → request.body ≡ [] → items ≡ request.text
+head_alone route start sender items request view none =
+    let rest : drop start items ≡ [] = ap (λ (r : Request). r.body) view ∙ none in
+    sym (take-append-drop start items) ∙ ap (λ (os : List ℕ). take start items ++ os) rest ∙ append-nil (take start items) ∙ ap (λ (r : Request). r.text) view
+
 module _ (route start : ℕ) (sender : Stage) (items octets : List ℕ) where
   abbrev kept : Request
   kept = record { route = route; text = take start items; stage = sender; body = drop start items }

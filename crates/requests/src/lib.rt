@@ -1,8 +1,10 @@
-//! A request as it waits for its end, and the text that is sent for it then.
+//! A request as it waits for its end, and the text that is sent for it then; or as it goes out, piece by piece.
 #![tactic(auto)]
 
+mod going;
 #[cfg(test)]
 mod tests;
 mod waiting;
 
+pub use crate::going::Going;
 pub use crate::waiting::{Begun, Waiting, begin};

@@ -51,3 +51,67 @@ fn a_body_is_written_in_one_piece(rt: HostRuntime) -> Result<(), Fail> {
     );
     Ok(())
 }
+
+/// The head of a request on `/` of `h` that declares this length.
+fn head_of_length(
+    alloc: Global,
+    rt: &impl Abort,
+    length: &[u8],
+) -> Result<RequestHead, AllocError> {
+    let mut fields = Vec::new(alloc);
+    fields.push(Field::of(alloc, b":method", b"PUT")?)?;
+    fields.push(Field::of(alloc, b":scheme", b"http")?)?;
+    fields.push(Field::of(alloc, b":path", b"/")?)?;
+    fields.push(Field::of(alloc, b":authority", b"h")?)?;
+    fields.push(Field::of(alloc, b"content-length", length)?)?;
+    Ok(check_head(alloc, &fields, false).expect(rt, "a head"))
+}
+
+#[test]
+fn a_body_goes_out_in_chunks_as_it_comes(rt: HostRuntime) -> Result<(), Fail> {
+    let head = head_of(rt.alloc(), &rt, b"POST", false)?;
+    assert!(rt; head.length().is_none());
+    let Begun::Waits(request) = begin(rt.alloc(), &head, false, 7)? else {
+        return Err(Fail::from("whole"));
+    };
+    let (text, mut going) = request.go();
+    assert_eq!(rt;
+        text.as_slice(),
+        b"POST / HTTP/1.1\r\nhost: h\r\nvia: 2.0 h2gw\r\ntransfer-encoding: chunked\r\nconnection: close\r\n\r\n".as_slice()
+    );
+    let first = going.pass(rt.alloc(), b"hel", false)?;
+    assert_eq!(rt; first.as_slice(), b"3\r\nhel\r\n".as_slice());
+    let last = going.pass(rt.alloc(), b"lo", true)?;
+    assert_eq!(rt; last.as_slice(), b"2\r\nlo\r\n0\r\n\r\n".as_slice());
+    Ok(())
+}
+
+#[test]
+fn the_last_octet_is_held_back_until_the_end(rt: HostRuntime) -> Result<(), Fail> {
+    let head = head_of_length(rt.alloc(), &rt, b"5")?;
+    assert_eq!(rt; head.length(), Some(5));
+    let Begun::Waits(request) = begin(rt.alloc(), &head, false, 7)? else {
+        return Err(Fail::from("whole"));
+    };
+    let (text, mut going) = request.go();
+    assert!(rt; text.ends_with(b"content-length: 5\r\nconnection: close\r\n\r\n"));
+    let first = going.pass(rt.alloc(), b"hello", false)?;
+    assert_eq!(rt; first.as_slice(), b"hell".as_slice());
+    let last = going.pass(rt.alloc(), b"", true)?;
+    assert_eq!(rt; last.as_slice(), b"o".as_slice());
+    Ok(())
+}
+
+#[test]
+fn a_head_that_declares_no_octets_is_whole_with_the_end(rt: HostRuntime) -> Result<(), Fail> {
+    let head = head_of_length(rt.alloc(), &rt, b"0")?;
+    assert_eq!(rt; head.length(), Some(0));
+    let Begun::Waits(request) = begin(rt.alloc(), &head, false, 7)? else {
+        return Err(Fail::from("whole"));
+    };
+    let (text, mut going) = request.go();
+    assert!(rt; text.ends_with(b"content-length: 0\r\nconnection: close\r\n\r"));
+    let last = going.pass(rt.alloc(), b"", true)?;
+    assert_eq!(rt; last.as_slice(), b"\n".as_slice());
+    Ok(())
+}

@@ -5,6 +5,7 @@ ghost use Rattle.model.specs.Http2.{HasLength};
 ghost use Rattle.requests.specs.Waits.{Ends, MayEnd, IsEnded, IsEndedText};
 ghost use Rattle.requests.specs.Beginning.{IsBegun};
 
+use crate::going::Going;
 use h1_writer::Sender;
 use request_rules::RequestHead;
 use std::alloc::{AllocError, Global};
@@ -49,7 +50,7 @@ const MOST_ROOM: u64 = 65_536;
 const HEAD_ROOM: usize = 1024;
 
 /// Room for a chunk's line and for the last chunk (RFC 9112, section 7.1).
-const CHUNK_ROOM: usize = 32;
+pub(crate) const CHUNK_ROOM: usize = 32;
 
 /// Room for a head and for the length that it declares of a body, if that isn't 0.
 fn room_for(alloc: Global, length: Option<u64>) -> Result<Vec<u8>, AllocError>
@@ -128,6 +129,16 @@ impl Waiting {
         ensures unchanged { OnErr result (self.new ≡ self.old) }
     {
         self.octets.extend_from_slice(octets)
+    }
+
+    /// The text of its head, which goes out now, and the request whose body goes out as it comes; none of that has come.
+    pub fn go(self) -> (Vec<u8>, Going)
+        requires { self.body ≡ [] }
+        ensures head { result.0.items ≡ self.text }
+        ensures rest { result.1 ≡ self.stage }
+    {
+        let Waiting { sender, octets, .. } = self;
+        (octets, Going::by(sender))
     }
 
     /// The whole text, where these octets end the body: that of the head, and the body in one piece (RFC 9112, sections 6 and 7.1). An `Err`

@@ -125,6 +125,23 @@ fn what_is_heard_goes_to_its_stream(rt: HostRuntime) -> Result<(), Fail> {
 }
 
 #[test]
+fn what_waits_of_a_body_is_held_for_its_stream(rt: HostRuntime) -> Result<(), Fail> {
+    let mut offers = three(rt.alloc())?;
+    let mut answer = streamed(rt.alloc());
+    assert_eq!(rt; offers.held(3), 0);
+    let _heard = hear(&mut offers, 3, &mut answer, RESPONSE)?;
+    assert_eq!(rt; offers.held(3), 5);
+    assert_eq!(rt; offers.held(1), 0);
+    assert_eq!(rt; send(&mut offers, 3, 9), Next::Final(200, false));
+    assert_eq!(rt; send(&mut offers, 3, 2), Next::Octets(2, false));
+    assert_eq!(rt; offers.held(3), 3);
+    offers.close(3);
+    assert_eq!(rt; offers.held(3), 0);
+    assert_eq!(rt; offers.held(7), 0);
+    Ok(())
+}
+
+#[test]
 fn the_end_of_a_connection_ends_its_stream(rt: HostRuntime) -> Result<(), Fail> {
     let mut offers = three(rt.alloc())?;
     let mut answer = streamed(rt.alloc());

@@ -1,12 +1,17 @@
--- Which event may come is what the tape tells.
-use Rattle.std.proofs.Common.{◌≡◌, ℕ, ◌+◌, Bool, true, false, not, ◌&&◌, List, [], ◌∷◌, length, Option, Some, None, refl, sym, ◌∙◌, ap, subst, if◌then◌else◌}
+-- Which event may come is what the tape tells, where what takes room of upstreams is told rightly.
+use Rattle.std.proofs.Common.{◌≡◌, ℕ, ◌+◌, ◌-◌, Bool, true, false, not, ◌&&◌, List, length, Option, Some, None, refl, sym, ◌∙◌, ap, subst, arith, if◌then◌else◌}
 use Rattle.std.specs.Prelude.{is_some, nat_le, option_map}
-use Rattle.model.specs.Setup.{Setup}
+use Rattle.std.proofs.lemmas.Bool.{leb-true, le-leb}
+use Rattle.model.specs.Setup.{Setup, Passing}
+use Rattle.model.specs.Setup.Passing.{Whole, Streaming}
 use Rattle.model.specs.Logs.{Event}
 use Rattle.model.specs.Logs.Event.{Client, ClientEnd, ClientTook, Up, UpEnd, UpFailed, UpTook}
-use Rattle.model.specs.Tapes.{Entry}
+use Rattle.model.specs.Tapes.{Entry, sent}
 use Rattle.model.specs.Admission as admission
 use Rattle.model.specs.Admission.{is_open}
+use Rattle.model.specs.Openings.{opens, given}
+use Rattle.model.specs.Rooms.{IsRoom, IsAdmitted}
+use Rattle.model.specs.WindowsOnTape.{is_on, data_octets}
 use Rattle.model.specs.Known.{Known}
 use Rattle.conduct.specs.Rule.{AreKnown, known_of}
 use Rattle.conduct.specs.Summary.{Summary}
@@ -14,26 +19,38 @@ use Rattle.conduct.specs.Book.{Book}
 use Rattle.conduct.proofs.Knowing.{known_so}
 use Rattle.receiving.specs.Policy.{Gates, AreGates}
 use Rattle.receiving.specs.Policy as receiving_policy
+use Rattle.receiving.specs.Rooms.{IsHeld, AreHeld, admits_beside}
 use Rattle.receiving.specs.State as receiving
-use Rattle.receiving.specs.Rule as windows
-use Rattle.receiving.proofs.Resting.{receiving}
-use Rattle.receiving.proofs.Admitting.{admits_same}
-use Rattle.receiving.proofs.Ruling.{all_allowed, state_same}
+use Rattle.receiving.proofs.Admitting.{admitted, admits_it}
+use Rattle.receiving.proofs.Counting.{Counting}
 use Rattle.serving.specs.State as serving
 use Rattle.serving.specs.State.{find, live_of}
 use Rattle.serving.proofs.Connections.{connections_told}
-use Rattle.upstreams.specs.Connections.{Connection, number_of, lives}
+use Rattle.upstreams.specs.Connections.{Connection, number_of}
 use Rattle.policy.specs.Moves.{Move}
-use Rattle.policy.specs.State.{State, conducts, tape_of, turns_of, windows_of, gates_in, summary_at, state_of}
+use Rattle.policy.specs.State.{State, conducts, tape_of, turns_of, gates_in, summary_at}
 use Rattle.policy.specs.Rule.{rooms_in}
 use Rattle.policy.specs.Steps.{told_by}
-use Rattle.policy.proofs.Tapes.{requests_tape, windows_tape}
+use Rattle.policy.proofs.Tapes.{requests_tape}
 use Rattle.policy.proofs.Telling.{live_told, all_moved, sight_right, closed_told}
-use Rattle.policy.proofs.Placing.{windows_gates, windows_may, windows_right, turns_may, turns_so}
+use Rattle.policy.proofs.Placing.{turns_may, turns_so}
 use Rattle.policy.proofs.Stepping.{before_is}
 use Rattle.relay.specs.View.{View, Pending, Leads}
 use Rattle.relay.proofs.Lives.{lives_found}
-use Rattle.steps.specs.Admission.{may_take, is_up, admits}
+use Rattle.relay.proofs.Where.{windows_here}
+use Rattle.steps.specs.Admission.{may_take, is_up, held_of, held_on, room_of, room_on, admits}
+
+-- what fits the room that is left fits a room as at first
+both_fit : (n held : ℕ) → (nat_le n 65536 && nat_le n (65536 - held)) ≡ nat_le n (65536 - held)
+both_fit n held = by (nat_le n (65536 - held)) refl
+  where
+    by : (b : Bool) → nat_le n (65536 - held) ≡ b → (nat_le n 65536 && b) ≡ b
+    by true e = let less = leb-true n (65536 - held) e in ap (λ b. b && true) (le-leb n 65536 (omega (arith, less)))
+    by false e = none (nat_le n 65536)
+      where
+        none : (b : Bool) → (b && false) ≡ false
+        none true = refl
+        none false = refl
 
 module _ (setup : Setup) (run : List Move) (kept : View) (pending : Pending) (s : State) (leads : Leads setup run kept pending s) where
   abbrev known : Known
@@ -64,25 +81,15 @@ module _ (setup : Setup) (run : List Move) (kept : View) (pending : Pending) (s 
   gates_same : gates_in (summary_at setup run) (serving.state_of setup (turns_of setup run)) ≡ gates
   gates_same = ap (λ (u : Summary). gates_in u (serving.state_of setup (turns_of setup run))) (before_is setup run s leads.stands) ∙ ap (λ (x : State). gates_in (told_by s) x.requests) leads.stands.is
 
-  pub gates_so : AreGates (tape_of run) gates
+  gates_so : AreGates (tape_of run) gates
   gates_so = subst (λ (g : Gates). AreGates (tape_of run) g) gates_same gates_by_moves
 
-  -- the state of receiving is that of its moves
-  rooms_same : receiving.state_of setup.passing (windows.moves_of (windows_of setup run)) ≡ rooms
-  rooms_same =
-      sym (state_same known setup.passing (windows_of setup run) (windows_may setup run leads.stands.allowed) (windows_right known run knows leads.stands.allowed (leads.so known refl knows)))
-      ∙ ap (λ (g : Gates). windows.state_with g (windows.kept_behind setup.passing (windows_of setup run))) (windows_gates setup run ∙ gates_same)
-      ∙ ap (λ (x : State). windows.state_with gates x.windows) leads.stands.is
+  -- and what was put out and taken is counted rightly
+  counting : Counting (tape_of run) rooms
+  counting = (windows_here setup run s leads.stands leads.so).counting
 
-  by_moves : (event : Event) → receiving_policy.admits gates (receiving.state_of setup.passing (windows.moves_of (windows_of setup run))) event ≡ admission.is_admitted (receiving.tape_of (windows.moves_of (windows_of setup run))) event
-  by_moves event =
-      admits_same (receiving.tape_of (windows.moves_of (windows_of setup run))) (receiving.state_of setup.passing (windows.moves_of (windows_of setup run))) gates (subst (λ (t : List Entry). AreGates t gates) (sym (windows_tape setup run)) gates_so) event
-      (receiving setup.passing (windows.moves_of (windows_of setup run)) (all_allowed known setup.passing (windows_of setup run) (windows_may setup run leads.stands.allowed) (windows_right known run knows leads.stands.allowed (leads.so known refl knows)))).counting
+  -- ---- by what is kept
 
-  by_rooms : (event : Event) → receiving_policy.admits gates rooms event ≡ admission.is_admitted (tape_of run) event
-  by_rooms event = ap (λ (x : receiving.State). receiving_policy.admits gates x event) (sym rooms_same) ∙ by_moves event ∙ ap (λ (t : List Entry). admission.is_admitted t event) (windows_tape setup run)
-
-  -- by what is kept
   open_yet : gates.closed ≡ false
   open_yet = ap (λ (b : Book). b.closed) leads.keeps.book
 
@@ -99,9 +106,18 @@ module _ (setup : Setup) (run : List Move) (kept : View) (pending : Pending) (s 
       ∙ ap is_some (lives_found k kept.upstreams.live)
       ∙ some_mapped (λ (c : Connection). c.live) (find number_of k kept.upstreams.live)
 
-  unless : (b : Bool) (n : ℕ) → (b && nat_le n (if b then 65536 else 0)) ≡ (b && nat_le n 65536)
-  unless true n = refl
-  unless false n = refl
+  -- the room that is left
+  left : (found : Option Connection) → (if is_some found then 65536 else 0) - held_of kept.offers found ≡ room_of kept.offers found
+  left None = refl
+  left (Some c) = refl
+
+  room_left : (k : ℕ) → receiving_policy.room_in gates k - held_on kept k ≡ room_on kept k
+  room_left k = ap (λ b. (if b then 65536 else 0) - held_on kept k) (up k) ∙ left (find number_of k kept.upstreams.live)
+
+  -- octets of an upstream may come
+  fit : (n : ℕ) (found : Option Connection) → ((is_some found && nat_le n (if is_some found then 65536 else 0)) && nat_le n (room_of kept.offers found)) ≡ (is_some found && nat_le n (room_of kept.offers found))
+  fit n None = refl
+  fit n (Some c) = both_fit n (held_of kept.offers (Some c))
 
   taken : (k count : ℕ) (found : Option Connection) → find number_of k kept.upstreams.live ≡ found → (is_some found && nat_le (rooms.took k + count) (rooms.out k)) ≡ may_take found count
   taken k count None is = refl
@@ -109,20 +125,53 @@ module _ (setup : Setup) (run : List Move) (kept : View) (pending : Pending) (s 
       let counted = leads.keeps.counted k c is in
       ap (λ n. nat_le (n + count) (rooms.out k)) counted.1 ∙ ap (λ n. nat_le (c.took + count) n) counted.0
 
-  come : (event : Event) → receiving_policy.may_come gates rooms event ≡ admits kept event
-  come (Client piece) = ap (λ n. nat_le (length piece) 65536 && nat_le n 1073741824) untaken
-  come ClientEnd = refl
-  come (ClientTook count) = ap (λ n. nat_le count n) untaken
-  come (Up k piece) = unless (gates.is_up k) (length piece) ∙ ap (λ b. b && nat_le (length piece) 65536) (up k)
-  come (UpEnd k) = up k
-  come (UpFailed k) = up k
-  come (UpTook k count) = ap (λ b. b && nat_le (rooms.took k + count) (rooms.out k)) (up k) ∙ taken k count (find number_of k kept.upstreams.live) refl
+  and_true : (b : Bool) → (b && true) ≡ b
+  and_true true = refl
+  and_true false = refl
 
-  -- The event may come by what is kept just where it may by the tape.
-  pub admitted_by_tape : (event : Event) → admits kept event ≡ admission.is_admitted (tape_of run) event
-  admitted_by_tape event =
-      sym (come event) ∙ sym (ap (λ b. not b && receiving_policy.may_come gates rooms event) open_yet) ∙ by_rooms event
+  come : (event : Event) → (receiving_policy.may_come gates rooms event && Rattle.receiving.specs.Rooms.fits gates (held_on kept) event) ≡ admits kept event
+  come (Client piece) = and_true (nat_le (length piece) 65536 && nat_le gates.untaken 1073741824) ∙ ap (λ n. nat_le (length piece) 65536 && nat_le n 1073741824) untaken
+  come ClientEnd = refl
+  come (ClientTook count) = and_true (nat_le count gates.untaken) ∙ ap (λ n. nat_le count n) untaken
+  come (Up k piece) =
+      ap (λ n. (gates.is_up k && nat_le (length piece) (if gates.is_up k then 65536 else 0)) && nat_le (length piece) n) (room_left k)
+      ∙ ap (λ b. (b && nat_le (length piece) (if b then 65536 else 0)) && nat_le (length piece) (room_on kept k)) (up k)
+      ∙ fit (length piece) (find number_of k kept.upstreams.live)
+  come (UpEnd k) = and_true (gates.is_up k) ∙ up k
+  come (UpFailed k) = and_true (gates.is_up k) ∙ up k
+  come (UpTook k count) = and_true (gates.is_up k && nat_le (rooms.took k + count) (rooms.out k)) ∙ ap (λ b. b && nat_le (rooms.took k + count) (rooms.out k)) (up k) ∙ taken k count (find number_of k kept.upstreams.live) refl
+
+  beside : (event : Event) → admits_beside gates rooms (held_on kept) event ≡ admits kept event
+  beside event = ap (λ b. (not b && receiving_policy.may_come gates rooms event) && Rattle.receiving.specs.Rooms.fits gates (held_on kept) event) open_yet ∙ come event
 
   -- An upstream's connection is open by what is kept just where it is by the tape.
   pub up_by_tape : (k : ℕ) → is_up kept k ≡ is_open k (tape_of run)
   up_by_tape k = sym (up k) ∙ gates_so.is_up k
+
+  -- The event may come by what is kept just where it may by the tape.
+  module _ (known : Known) (event : Event) (told : AreHeld known (tape_of run) (held_on kept) event) where
+    pub admitted_by_kept : admits kept event ≡ true → IsAdmitted known (tape_of run) event
+    admitted_by_kept may = admitted known (tape_of run) rooms gates gates_so (held_on kept) counting event told (beside event ∙ may)
+
+    pub admitted_by_tape : IsAdmitted known (tape_of run) event → admits kept event ≡ true
+    admitted_by_tape may = sym (beside event) ∙ admits_it known (tape_of run) rooms gates gates_so (held_on kept) counting event told may
+
+  -- The room of an upstream is that of the tape.
+  same_room : (k : ℕ) → receiving_policy.room_in gates k ≡ admission.room k (tape_of run)
+  same_room k = ap (λ b. if b then 65536 else 0) (gates_so.is_up k)
+
+  pub room_by_tape : (known : Known) (k : ℕ) → IsHeld known.setup.passing known (tape_of run) k (held_on kept k) → IsRoom known.setup.passing known k (tape_of run) (room_on kept k)
+  room_by_tape known k told = subst (IsRoom known.setup.passing known k (tape_of run)) (room_left k) (by known.setup.passing told)
+    where
+      none : (n : ℕ) → n - 0 ≡ n
+      none n = omega arith
+
+      by : (passing : Passing) → IsHeld passing known (tape_of run) k (held_on kept k) → IsRoom passing known k (tape_of run) (receiving_policy.room_in gates k - held_on kept k)
+      by Whole h = ap (λ n. receiving_policy.room_in gates k - n) h ∙ none (receiving_policy.room_in gates k) ∙ same_room k
+      by Streaming h = record {
+        interims = h.interims;
+        head = h.head;
+        octets = h.octets;
+        seen = h.seen;
+        is = ap (λ n. receiving_policy.room_in gates k - n) h.is ∙ ap (λ n. n - (length h.octets - data_octets (is_on (given k (opens (tape_of run)))) (sent (tape_of run)))) (same_room k);
+      }

@@ -80,8 +80,8 @@ closed_behind moves run closed = ap is_closed (tape_behind moves run) ∙ by (ta
     by (Did (Close k) ∷ t) is = by t is
     by (Did CloseClient ∷ t) is = refl
 
-pub shut_follows : (setup : Setup) (kept : View) (fresh : ℕ) (pending : Pending) (o p : List Output) → ((run : List Move) (s : State) → Leads setup run kept (record square { fresh = fresh }) s → IsShut setup run s o p) → FollowsFrom setup kept (record square { fresh = fresh }) o pending None p
-shut_follows setup kept fresh pending o p shuts run s leads =
+pub shut_follows : (setup : Setup) (kept : View) (fresh back : ℕ) (pending : Pending) (o p : List Output) → ((run : List Move) (s : State) → Leads setup run kept (record square { fresh = fresh; shared = back }) s → IsShut setup run s o p) → FollowsFrom setup kept (record square { fresh = fresh; shared = back }) o pending None p
+shut_follows setup kept fresh back pending o p shuts run s leads =
     let shut = shuts run s leads in
     record {
       moves = shut.moves;

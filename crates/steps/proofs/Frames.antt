@@ -13,8 +13,8 @@ use Rattle.conduct.specs.Owing.{fault_in}
 use Rattle.conduct.specs.Quiet.{noted_of}
 use Rattle.conduct.specs.Rows.{ids_of}
 use Rattle.streams_kept.specs.Asked.{has}
-use Rattle.upstreams.specs.Requests.{due_in}
-use Rattle.upstreams.specs.declared.held.Outgoing.{Outgoing}
+use Rattle.upstreams.specs.Requests.{due_by}
+use Rattle.upstreams.specs.declared.held.Due.{Due}
 use Rattle.policy.specs.Ending.{IsFatal, ending_on_tape}
 use Rattle.policy.specs.Moves.{Deed, Move}
 use Rattle.policy.specs.Moves.Deed.{Takes}
@@ -22,7 +22,7 @@ use Rattle.policy.specs.Moves.Gain.{Nothing}
 use Rattle.policy.specs.State.{State}
 use Rattle.policy.specs.Steps.{told_by}
 use Rattle.relay.specs.View.{View, square, Leads}
-use Rattle.relay.specs.Rest.{IsAtRest}
+use Rattle.relay.specs.Rest.{IsAtRest, back_of}
 use Rattle.relay.specs.Performing.{put_all}
 use Rattle.relay.specs.Bringing.{PerformsOwn, Brings}
 use Rattle.relay.proofs.Bringing.{brings_then}
@@ -55,37 +55,37 @@ numbered_with a b new only few numbered id kept =
 module _ (setup : Setup) where
   -- ---- what was answered
 
-  pub plain_goes : (old new : View) (o p : List Output) (frame : Frame) (answer : Taken) (request : Option Outgoing) → answer ≡ plain_taken.Goes request → plain.IsPlainTaken setup old o frame answer new p → plain.IsPassed setup old o frame request new p
-  plain_goes old new o p frame answer request is taken = subst (λ (t : Taken). plain.IsPlainTaken setup old o frame t new p) is taken
+  pub plain_goes : (old new : View) (o p : List Output) (frame : Frame) (answer : Taken) (due : Due) (dropped : ℕ) → answer ≡ plain_taken.Goes due dropped → plain.IsPlainTaken setup old o frame answer new p → plain.IsPassed setup old o frame due dropped new p
+  plain_goes old new o p frame answer due dropped is taken = subst (λ (t : Taken). plain.IsPlainTaken setup old o frame t new p) is taken
 
   pub plain_ends : (old new : View) (o p : List Output) (frame : Frame) (answer : Taken) (code : ℕ) → answer ≡ plain_taken.Fatal code → plain.IsPlainTaken setup old o frame answer new p → plain.IsFatalFrame setup old o frame code new p
   plain_ends old new o p frame answer code is taken = subst (λ (t : Taken). plain.IsPlainTaken setup old o frame t new p) is taken
 
-  pub block_goes : (old new : View) (o p : List Output) (frame : Frame) (answer : BlockTaken) (request : Option Outgoing) (farewell : Option ℕ) → answer ≡ block_taken.Goes request farewell → block.IsBlockTaken setup old o frame answer new p → block.IsPassed setup old o frame request farewell new p
-  block_goes old new o p frame answer request farewell is taken = subst (λ (t : BlockTaken). block.IsBlockTaken setup old o frame t new p) is taken
+  pub block_goes : (old new : View) (o p : List Output) (frame : Frame) (answer : BlockTaken) (due : Due) (farewell : Option ℕ) (dropped : ℕ) → answer ≡ block_taken.Goes due farewell dropped → block.IsBlockTaken setup old o frame answer new p → block.IsPassed setup old o frame due farewell dropped new p
+  block_goes old new o p frame answer due farewell dropped is taken = subst (λ (t : BlockTaken). block.IsBlockTaken setup old o frame t new p) is taken
 
   pub block_ends : (old new : View) (o p : List Output) (frame : Frame) (answer : BlockTaken) (code : ℕ) → answer ≡ block_taken.Fatal code → block.IsBlockTaken setup old o frame answer new p → block.IsFatalFrame setup old o frame code new p
   block_ends old new o p frame answer code is taken = subst (λ (t : BlockTaken). block.IsBlockTaken setup old o frame t new p) is taken
 
   -- ---- it goes on
 
-  -- a frame without a fragment, and then the connection for a request that is due
-  pub plain_brings : (a b c : View) (o p q : List Output) (frame : Frame) (request : Option Outgoing) (fresh : ℕ) → fresh ≡ data_length is_any frame → plain.IsPassed setup a o frame request b p
-      → ((owed : List Frame) (n : ℕ) → PerformsOwn setup b (record square { owed = owed; due = due_in request; fresh = n }) p c (record square { owed = owed; fresh = n }) q)
-      → Brings setup a square o (Came (noted_of frame)) c (record square { fresh = fresh }) q
-  plain_brings a b c o p q frame request fresh is passed serves =
-      subst (λ n. Brings setup a square o (Came (noted_of frame)) c (record square { fresh = n }) q) (sym is)
-      (brings_then setup a b c square (record square { due = due_in request; fresh = data_length is_any frame }) (record square { fresh = data_length is_any frame }) o p q (Came (noted_of frame)) passed.brings (serves [] (data_length is_any frame)))
+  -- a frame without a fragment, and then what is due to an upstream
+  pub plain_brings : (a b c : View) (o p q : List Output) (frame : Frame) (due : Due) (dropped fresh : ℕ) → fresh ≡ data_length is_any frame → plain.IsPassed setup a o frame due dropped b p
+      → ((owed : List Frame) (n back : ℕ) → PerformsOwn setup b (record square { owed = owed; due = due_by due; fresh = n; shared = back }) p c (record square { owed = owed; fresh = n; shared = back }) q)
+      → Brings setup a square o (Came (noted_of frame)) c (record square { fresh = fresh; shared = dropped }) q
+  plain_brings a b c o p q frame due dropped fresh is passed serves =
+      subst (λ n. Brings setup a square o (Came (noted_of frame)) c (record square { fresh = n; shared = dropped }) q) (sym is)
+      (brings_then setup a b c square (record square { due = due_by due; fresh = data_length is_any frame; shared = dropped }) (record square { fresh = data_length is_any frame; shared = dropped }) o p q (Came (noted_of frame)) passed.brings (serves [] (data_length is_any frame) dropped))
 
-  -- a frame with one, the connection for a request that is due, and the farewell where it is owed
-  pub block_brings : (a b c d : View) (o p q r : List Output) (frame : Frame) (request : Option Outgoing) (farewell : Option ℕ) (passed : block.IsPassed setup a o frame request farewell b p)
-      → ((owed : List Frame) (n : ℕ) → PerformsOwn setup b (record square { owed = owed; due = due_in request; fresh = n }) p c (record square { owed = owed; fresh = n }) q)
-      → PerformsOwn setup c (record square { owed = farewell_frames farewell }) q d square r
-      → Brings setup a square o (Came (record { frame = frame; note = passed.note })) d square r
-  block_brings a b c d o p q r frame request farewell passed serves says =
+  -- a frame with one, what is due to an upstream, and the farewell where it is owed
+  pub block_brings : (a b c d : View) (o p q r : List Output) (frame : Frame) (due : Due) (farewell : Option ℕ) (dropped : ℕ) (passed : block.IsPassed setup a o frame due farewell dropped b p)
+      → ((owed : List Frame) (n back : ℕ) → PerformsOwn setup b (record square { owed = owed; due = due_by due; fresh = n; shared = back }) p c (record square { owed = owed; fresh = n; shared = back }) q)
+      → ((back : ℕ) → PerformsOwn setup c (record square { owed = farewell_frames farewell; shared = back }) q d (back_of back) r)
+      → Brings setup a square o (Came (record { frame = frame; note = passed.note })) d (back_of dropped) r
+  block_brings a b c d o p q r frame due farewell dropped passed serves says =
       let noted : Noted = record { frame = frame; note = passed.note } in
-      brings_then setup a c d square (record square { owed = farewell_frames farewell }) square o q r (Came noted)
-      (brings_then setup a b c square (record square { owed = farewell_frames farewell; due = due_in request }) (record square { owed = farewell_frames farewell }) o p q (Came noted) passed.brings (serves (farewell_frames farewell) 0)) says
+      brings_then setup a c d square (record square { owed = farewell_frames farewell; shared = dropped }) (back_of dropped) o q r (Came noted)
+      (brings_then setup a b c square (record square { owed = farewell_frames farewell; due = due_by due; shared = dropped }) (record square { owed = farewell_frames farewell; shared = dropped }) o p q (Came noted) passed.brings (serves (farewell_frames farewell) 0 dropped)) (says dropped)
 
   -- ---- it is an error of the connection
 

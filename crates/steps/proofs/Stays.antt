@@ -1,11 +1,15 @@
 -- What stays where the gateway comes to rest, and whether the connection is spent.
 use Rattle.std.proofs.Common.{◌≡◌, Bool, [], sym, ◌∙◌, ap}
 use Rattle.conduct.specs.Owing.{must_end_in}
-use Rattle.judgement.specs.Inbound.{Outside, told_of}
+use Rattle.judgement.specs.Inbound.{Inbound, Outside, told_of}
 use Rattle.relay.specs.View.{View}
-use Rattle.relay.specs.Rest.{told_view}
+use Rattle.relay.specs.Rest.{told_view, GoesOn}
 
 -- The connection is to end just where the answer is that it is spent.
 pub ends_as : (kept seen : View) (spent : Bool) → seen ≡ kept → ((outside : Outside) → spent ≡ must_end_in (told_of outside seen.inbound)) → (told_view kept).ends ≡ spent
 ends_as kept seen spent same tells =
     let outside : Outside = record { given = []; untaken = kept.untaken } in ap (λ (v : View). must_end_in (told_of outside v.inbound)) (sym same) ∙ sym (tells outside)
+
+-- Whether it goes on follows what came in alone.
+pub on_as : (old new : View) → new.inbound ≡ old.inbound → GoesOn new → GoesOn old
+on_as old new same on = ap (λ (i : Inbound). must_end_in (told_of (record { given = []; untaken = old.untaken }) i)) (sym same) ∙ on

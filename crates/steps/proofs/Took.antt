@@ -1,5 +1,5 @@
 -- What a side took leaves the gateway at rest, and nothing is put out for it.
-use Rattle.std.proofs.Common.{◌≡◌, ℕ, ◌<◌, ◌-◌, List, [], ◌∷◌, map, Some, refl, ap, ◌∙◌}
+use Rattle.std.proofs.Common.{◌≡◌, ℕ, ◌<◌, ◌-◌, not, ◌||◌, List, [], ◌∷◌, map, Some, refl, ap, ◌∙◌}
 use Rattle.std.specs.List.{list_any}
 use Rattle.model.specs.Admission.{high_water}
 use Rattle.model.specs.Logs.{Output}
@@ -7,11 +7,14 @@ use Rattle.model.specs.Setup.{Setup}
 use Rattle.serving.specs.State.{Live}
 use Rattle.serving.specs.Rule.{is_done}
 use Rattle.upstreams.specs.Connections.{Connection, lives, taken_at}
+use Rattle.upstreams.specs.Kept.{State}
 use Rattle.relay.specs.View.{View, square}
-use Rattle.relay.specs.Rest.{told_view}
+use Rattle.relay.specs.Rest.{told_view, NoneDone}
 use Rattle.relay.proofs.Bringing.{own_none}
 use Rattle.steps.specs.Comings.{FollowsFrom}
 use Rattle.steps.specs.Resting.{IsSettled}
+use Rattle.steps.specs.paying.Returning.{IsReturned}
+use Rattle.steps.specs.paying.Taking.{with_taken}
 use Rattle.steps.proofs.Following.{follows_own}
 
 -- which connections there are doesn't change with what their sides took
@@ -19,8 +22,8 @@ lives_taken : (k count : ℕ) (cs : List Connection) → lives (map (taken_at k 
 lives_taken k count [] = refl
 lives_taken k count (c ∷ cs) = ap (λ (ls : List Live). c.live ∷ ls) (lives_taken k count cs)
 
-pub up_rests : (kept : View) (k count : ℕ) → IsSettled kept → IsSettled (record kept { upstreams = record kept.upstreams { live = map (taken_at k count) kept.upstreams.live } })
-up_rests kept k count s = record {
+pub up_rests : (kept : View) (k stream count : ℕ) → IsSettled kept → IsSettled (with_taken k stream count kept)
+up_rests kept k stream count s = record {
   rest = record {
     goes_on = s.rest.goes_on;
     none_cut = s.rest.none_cut;
@@ -29,6 +32,15 @@ up_rests kept k count s = record {
   };
   numbered = s.numbered;
 }
+
+-- where octets were given back, none is done with that wasn't
+pub done_returned : (old new : View) → IsReturned old new → NoneDone old → NoneDone new
+done_returned old new r none =
+    ap (λ (u : State). list_any (is_done (told_view new)) (lives u.live)) r.upstreams ∙ same_any (lives old.upstreams.live) ∙ none
+  where
+    same_any : (ls : List Live) → list_any (is_done (told_view new)) ls ≡ list_any (is_done (told_view old)) ls
+    same_any [] = refl
+    same_any (l ∷ ls) = ap (λ b. (l.whole || not b) || list_any (is_done (told_view new)) ls) (r.served l.stream) ∙ ap (λ b. is_done (told_view old) l || b) (same_any ls)
 
 -- where few octets for the client were untaken, no part could go, and none can
 pub client_rests : (kept : View) (count : ℕ) → kept.untaken < high_water → IsSettled kept → IsSettled (record kept { untaken = kept.untaken - count })

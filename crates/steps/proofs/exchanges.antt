@@ -1,7 +1,7 @@
 pub mod Asking
-pub mod Where
 pub mod Few
 pub mod Opens
+pub mod Sends
 pub mod Coming
 pub mod Hears
 pub mod FailedRows

@@ -4,7 +4,9 @@ pub mod Paying
 pub mod Closes
 pub mod Noting
 pub mod Rows
+pub mod Returned
 pub mod Giving
 pub mod Settling
 pub mod Fitting
 pub mod Settled
+pub mod Taken

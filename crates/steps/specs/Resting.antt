@@ -3,6 +3,8 @@ use Rattle.std.specs.Prelude.{◌≡◌, ℕ, true, ◌<◌, Option, Some, None}
 use Rattle.model.specs.Setup.{Setup}
 use Rattle.model.specs.Setup.Passing.{Whole}
 use Rattle.streams_kept.specs.Asked.{has}
+use Rattle.answers.specs.declared.answer.Passing.{Passing}
+use Rattle.answers.specs.Waiting.{passing_in, limit_in}
 use Rattle.judgement.specs.Blocks.{IsFor}
 use Rattle.relay.specs.View.{View}
 use Rattle.relay.specs.Rest.{IsAtRest}
@@ -29,8 +31,12 @@ abbrev pub RestsSo : Went → View → Type 0
 RestsSo went.On kept = IsSettled kept
 RestsSo went.Over kept = Unit {0}
 
--- The setup is that of this service, and bodies are passed on whole.
+-- Bodies are passed on as the setup says.
+pub record IsPassedBy (setup : Setup) (way : Passing) : Type 0 where
+  pub passing : passing_in way ≡ setup.passing
+  pub limit : setup.passing ≡ Whole → limit_in way ≡ Some setup.max_response
+
+-- The setup is that of this service.
 pub record IsServed (setup : Setup) (service : Service) : Type 0 where
   pub terms : IsFor setup service.terms
-  pub response : setup.max_response ≡ service.max_response
-  pub whole : setup.passing ≡ Whole
+  pub passing : IsPassedBy setup service.passing

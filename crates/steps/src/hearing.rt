@@ -1,9 +1,7 @@
 //! Events of upstreams, and what the sides took.
 
-ghost use Rattle.std.specs.Prelude.{◌≡◌, ◌≤◌, List, [], ◌∷◌, length, true, Some, IfOk};
+ghost use Rattle.std.specs.Prelude.{◌≡◌, ◌≤◌, [], ◌∷◌, length, true, Some, IfOk};
 ghost use Rattle.model.specs.Setup.{Setup};
-ghost use Rattle.model.specs.Setup.Passing.{Whole};
-ghost use Rattle.model.specs.Logs.{Output};
 ghost use Rattle.model.specs.Logs.Event.{ClientTook, Up, UpEnd, UpFailed, UpTook};
 ghost use Rattle.relay.specs.View.{square};
 ghost use Rattle.relay.specs.Rest.{Reached};
@@ -15,7 +13,7 @@ ghost use Rattle.steps.specs.Resting.{now_of, IsSettled, RestsSo};
 use crate::exchanges;
 use crate::exchanges::stream_of;
 use crate::flushing::HIGH_WATER;
-use crate::paying::{note_client_took, note_up_took};
+use crate::paying::{note_client_took, note_up_took, return_dropped, return_taken};
 use crate::resting::{Went, rest, rest_behind};
 use outputs::Outputs;
 use relay::Rooms;
@@ -31,12 +29,13 @@ pub fn hear(
 ) -> Result<Went, AllocError>
     requires admitted { admits rooms.old (Up k octets.now) ≡ true }
     requires settled { IsSettled rooms.old }
-    requires reached { (setup : Setup) × (setup.passing ≡ Whole) × Reached setup rooms.old square }
-    ensures comes { IfOk result (λ went. (setup : Setup) → setup.passing ≡ Whole → ComesFrom setup rooms.old square out.old (OfEvent (Up k octets.now) ∷ []) square (now_of went rooms.new) out.new) }
+    requires reached { (setup : Setup) × Reached setup rooms.old square }
+    ensures comes { IfOk result (λ went. (setup : Setup) → ComesFrom setup rooms.old square out.old (OfEvent (Up k octets.now) ∷ []) square (now_of went rooms.new) out.new) }
     ensures rests { IfOk result (λ went. RestsSo went rooms.new) }
 {
     let stream = stream_of(rooms, k);
-    exchanges::hear(alloc, rooms, k, octets, out)?;
+    let back = exchanges::hear(alloc, rooms, k, octets, out)?;
+    return_dropped(rooms, back, out)?;
     rest_behind(alloc, rooms, stream, out)
 }
 
@@ -44,12 +43,13 @@ pub fn hear(
 pub fn end(alloc: Global, rooms: &mut Rooms, k: u32, out: &mut Outputs) -> Result<Went, AllocError>
     requires admitted { admits rooms.old (UpEnd k) ≡ true }
     requires settled { IsSettled rooms.old }
-    requires reached { (setup : Setup) × (setup.passing ≡ Whole) × Reached setup rooms.old square }
-    ensures comes { IfOk result (λ went. (setup : Setup) → setup.passing ≡ Whole → ComesFrom setup rooms.old square out.old (OfEvent (UpEnd k) ∷ []) square (now_of went rooms.new) out.new) }
+    requires reached { (setup : Setup) × Reached setup rooms.old square }
+    ensures comes { IfOk result (λ went. (setup : Setup) → ComesFrom setup rooms.old square out.old (OfEvent (UpEnd k) ∷ []) square (now_of went rooms.new) out.new) }
     ensures rests { IfOk result (λ went. RestsSo went rooms.new) }
 {
     let stream = stream_of(rooms, k);
-    exchanges::end(alloc, rooms, k, out)?;
+    let back = exchanges::end(alloc, rooms, k, out)?;
+    return_dropped(rooms, back, out)?;
     rest_behind(alloc, rooms, stream, out)
 }
 
@@ -58,12 +58,13 @@ pub fn end(alloc: Global, rooms: &mut Rooms, k: u32, out: &mut Outputs) -> Resul
 pub fn fail(alloc: Global, rooms: &mut Rooms, k: u32, out: &mut Outputs) -> Result<Went, AllocError>
     requires admitted { admits rooms.old (UpFailed k) ≡ true }
     requires settled { IsSettled rooms.old }
-    requires reached { (setup : Setup) × (setup.passing ≡ Whole) × Reached setup rooms.old square }
-    ensures comes { IfOk result (λ went. (setup : Setup) → setup.passing ≡ Whole → ComesFrom setup rooms.old square out.old (OfEvent (UpFailed k) ∷ []) square (now_of went rooms.new) out.new) }
+    requires reached { (setup : Setup) × Reached setup rooms.old square }
+    ensures comes { IfOk result (λ went. (setup : Setup) → ComesFrom setup rooms.old square out.old (OfEvent (UpFailed k) ∷ []) square (now_of went rooms.new) out.new) }
     ensures rests { IfOk result (λ went. RestsSo went rooms.new) }
 {
     let stream = stream_of(rooms, k);
-    exchanges::fail(rooms, k, out)?;
+    let back = exchanges::fail(rooms, k, out)?;
+    return_dropped(rooms, back, out)?;
     rest_behind(alloc, rooms, stream, out)
 }
 
@@ -77,8 +78,8 @@ pub fn client_took(
 ) -> Result<Went, AllocError>
     requires admitted { admits rooms.old (ClientTook count) ≡ true }
     requires settled { IsSettled rooms.old }
-    requires reached { (setup : Setup) × (setup.passing ≡ Whole) × Reached setup rooms.old square }
-    ensures comes { IfOk result (λ went. (setup : Setup) → setup.passing ≡ Whole → ComesFrom setup rooms.old square out.old (OfEvent (ClientTook count) ∷ []) square (now_of went rooms.new) out.new) }
+    requires reached { (setup : Setup) × Reached setup rooms.old square }
+    ensures comes { IfOk result (λ went. (setup : Setup) → ComesFrom setup rooms.old square out.old (OfEvent (ClientTook count) ∷ []) square (now_of went rooms.new) out.new) }
     ensures rests { IfOk result (λ went. RestsSo went rooms.new) }
 {
     let were_few = rooms.untaken < HIGH_WATER;
@@ -89,13 +90,26 @@ pub fn client_took(
     rest(alloc, rooms, out)
 }
 
-/// Notes that an open upstream's side took so many octets. Nothing is put out for that.
-pub fn up_took(rooms: &mut Rooms, k: u32, count: u64)
+/// Notes that an open upstream's side took so many octets. Octets of its stream's DATA that waited for them are given back (RFC 9113, section 6.9). An
+/// `Err` says that memory was refused; then what is kept and the outputs are of no use any more.
+pub fn up_took(
+    alloc: Global,
+    rooms: &mut Rooms,
+    k: u32,
+    count: u64,
+    out: &mut Outputs,
+) -> Result<Went, AllocError>
     requires admitted { admits rooms.old (UpTook k count) ≡ true }
     requires settled { IsSettled rooms.old }
-    requires reached { (setup : Setup) × (setup.passing ≡ Whole) × Reached setup rooms.old square }
-    ensures comes { (setup : Setup) (outputs : List Output) → setup.passing ≡ Whole → ComesFrom setup rooms.old square outputs (OfEvent (UpTook k count) ∷ []) square (Some rooms.new) outputs }
-    ensures rests { IsSettled rooms.new }
+    requires reached { (setup : Setup) × Reached setup rooms.old square }
+    ensures comes { IfOk result (λ went. (setup : Setup) → ComesFrom setup rooms.old square out.old (OfEvent (UpTook k count) ∷ []) square (now_of went rooms.new) out.new) }
+    ensures rests { IfOk result (λ went. RestsSo went rooms.new) }
 {
-    note_up_took(rooms, k, count);
+    let stream = stream_of(rooms, k);
+    let back = note_up_took(rooms, k, stream, count);
+    if back == 0 {
+        return Ok(Went::On);
+    }
+    return_taken(rooms, stream, back, out)?;
+    rest(alloc, rooms, out)
 }

@@ -12,5 +12,5 @@ mod taking;
 
 pub use crate::paying::closing::close_unserved;
 pub use crate::paying::control::{Control, pay};
-pub use crate::paying::returning::settle;
+pub use crate::paying::returning::{return_dropped, return_taken, settle};
 pub use crate::paying::taking::{note_client_took, note_up_took};

@@ -2,10 +2,9 @@
 
 ghost use Rattle.std.specs.Prelude.{◌≡◌, ℕ, true, ◌<◌, IfOk};
 ghost use Rattle.model.specs.Setup.{Setup};
-ghost use Rattle.model.specs.Setup.Passing.{Whole};
 ghost use Rattle.streams_kept.specs.Asked.{has};
 ghost use Rattle.relay.specs.View.{square};
-ghost use Rattle.relay.specs.Rest.{NoneCut, NoneDone, Reached};
+ghost use Rattle.relay.specs.Rest.{NoneCut, NoneDone, Reached, back_of, IsBack};
 ghost use Rattle.steps.specs.Closings.{NoneDoneBut};
 ghost use Rattle.steps.specs.Comings.{FollowsFrom};
 ghost use Rattle.steps.specs.Resting.{now_of, RestsSo};
@@ -33,11 +32,11 @@ pub(crate) fn rest_behind(
     id: u32,
     out: &mut Outputs,
 ) -> Result<Went, AllocError>
-    requires reached { (setup : Setup) × (setup.passing ≡ Whole) × Reached setup rooms.old square }
+    requires reached { (setup : Setup) × (back : ℕ) × IsBack rooms.old back × Reached setup rooms.old (back_of back) }
     requires none_cut { NoneCut rooms.old.offers }
     requires none_but { NoneDoneBut id rooms.old }
     requires numbered { (id : ℕ) → has rooms.old.inbound.rows id ≡ true → id < 2147483648 }
-    ensures follows { IfOk result (λ went. (setup : Setup) → setup.passing ≡ Whole → FollowsFrom setup rooms.old square out.old square (now_of went rooms.new) out.new) }
+    ensures follows { IfOk result (λ went. (back : ℕ) → IsBack rooms.old back → (setup : Setup) → FollowsFrom setup rooms.old (back_of back) out.old square (now_of went rooms.new) out.new) }
     ensures rests { IfOk result (λ went. RestsSo went rooms.new) }
 {
     close_unserved(rooms, id, out)?;
@@ -46,11 +45,11 @@ pub(crate) fn rest_behind(
 
 /// Responses go on, each in its turn, and then the gateway rests. A connection that is spent is shut.
 pub(crate) fn rest(alloc: Global, rooms: &mut Rooms, out: &mut Outputs) -> Result<Went, AllocError>
-    requires reached { (setup : Setup) × (setup.passing ≡ Whole) × Reached setup rooms.old square }
+    requires reached { (setup : Setup) × (back : ℕ) × IsBack rooms.old back × Reached setup rooms.old (back_of back) }
     requires none_cut { NoneCut rooms.old.offers }
     requires none_done { NoneDone rooms.old }
     requires numbered { (id : ℕ) → has rooms.old.inbound.rows id ≡ true → id < 2147483648 }
-    ensures follows { IfOk result (λ went. (setup : Setup) → setup.passing ≡ Whole → FollowsFrom setup rooms.old square out.old square (now_of went rooms.new) out.new) }
+    ensures follows { IfOk result (λ went. (back : ℕ) → IsBack rooms.old back → (setup : Setup) → FollowsFrom setup rooms.old (back_of back) out.old square (now_of went rooms.new) out.new) }
     ensures rests { IfOk result (λ went. RestsSo went rooms.new) }
 {
     flush(alloc, rooms, out)?;

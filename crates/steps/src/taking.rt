@@ -3,33 +3,35 @@
 ghost use Rattle.std.specs.Prelude.{◌≡◌, ◌≤◌, ◌<◌, ◌==◌, ◌||◌, ℕ, List, [], ◌∷◌, length, true, false, if◌then◌else◌, IfOk, OnOk};
 ghost use Rattle.model.specs.Frames.{Frame, data_kind};
 ghost use Rattle.model.specs.Setup.{Setup};
-ghost use Rattle.model.specs.Setup.Passing.{Whole};
 ghost use Rattle.model.specs.WindowsOnTape.{is_any, data_length};
 ghost use Rattle.frames.specs.Views.{frame_of};
 ghost use Rattle.streams_kept.specs.Asked.{has};
 ghost use Rattle.judgement.specs.AnyFrame.{has_fragment};
-ghost use Rattle.upstreams.specs.Requests.{due_in};
+ghost use Rattle.serving.specs.State.{is_streaming};
+ghost use Rattle.answers.specs.Waiting.{passing_in};
+ghost use Rattle.upstreams.specs.Requests.{due_by};
 ghost use Rattle.relay.specs.View.{square};
-ghost use Rattle.relay.specs.Rest.{NoneCut, Reached};
+ghost use Rattle.relay.specs.Rest.{NoneCut, Reached, back_of};
 ghost use Rattle.relay.specs.Bringing.{PerformsOwn};
 ghost use Rattle.steps.specs.block_frames.Following.{farewell_frames};
 ghost use Rattle.steps.specs.Closings.{NoneDoneBut};
 ghost use Rattle.steps.specs.Comings.{FollowsFrom, ComesFrom};
 ghost use Rattle.steps.specs.Inputs.Input.{OfFrame};
-ghost use Rattle.steps.specs.Resting.{now_of, IsSettled, RestsSo, IsServed};
+ghost use Rattle.steps.specs.Resting.{now_of, IsSettled, RestsSo, IsPassedBy, IsServed};
 
 use crate::block_frames::{BlockTaken, take_block};
 use crate::ending::{Ending, end, shut};
-use crate::exchanges::open;
-use crate::paying::{Control, pay, settle};
+use crate::exchanges::{open, send};
+use crate::paying::{Control, pay, return_dropped, settle};
 use crate::plain_frames::{Taken, take_plain};
 use crate::resting::{Went, rest_behind};
+use answers::Passing;
 use frames::View;
 use judgement::Terms;
 use outputs::Outputs;
 use relay::Rooms;
 use std::alloc::{AllocError, Global};
-use upstreams::Outgoing;
+use upstreams::Due;
 
 /// DATA (RFC 9113, section 6.1), and the types of frames that have a fragment of a header block (sections 6.2 and 6.10).
 const DATA: u8 = 0;
@@ -41,13 +43,23 @@ const CONTINUATION: u8 = 9;
 /// The code with which a connection ends that made no error (RFC 9113, section 7).
 const NO_ERROR: u32 = 0;
 
-/// By what a connection is served: by what requests are judged, and how many octets the body of a response may have.
+/// By what a connection is served: by what requests are judged, and how bodies are passed on.
 #[derive(Clone, Copy)]
 pub struct Service<'a> {
     /// By what requests are judged.
     pub terms: Terms<'a>,
-    /// The most octets of a response's body.
-    pub max_response: u64,
+    /// How bodies are passed on: whole, those of responses with so many octets at most, or as they come.
+    pub passing: Passing,
+}
+
+/// Whether bodies are passed on as they come.
+fn is_streaming(passing: Passing) -> bool
+    ensures { result ≡ is_streaming (passing_in passing) }
+{
+    match passing {
+        Passing::Whole(_) => false,
+        Passing::Streaming => true,
+    }
 }
 
 /// Whether a frame has a fragment of a header block.
@@ -69,46 +81,44 @@ pub(crate) fn data_octets(view: View<'_>) -> u32
     }
 }
 
-/// Opens the connection for a request that is due, if one is.
-fn serve(
-    rooms: &mut Rooms,
-    request: Option<Outgoing>,
-    max_response: u64,
-    out: &mut Outputs,
-) -> Result<(), AllocError>
-    requires reached { (setup : Setup) × (setup.passing ≡ Whole) × (setup.max_response ≡ max_response) × (owed : List Frame) × (fresh : ℕ) × Reached setup rooms.old (record square { owed = owed; due = due_in request; fresh = fresh }) }
-    ensures performs { OnOk result ((setup : Setup) (owed : List Frame) (fresh : ℕ) → setup.passing ≡ Whole → setup.max_response ≡ max_response → PerformsOwn setup rooms.old (record square { owed = owed; due = due_in request; fresh = fresh }) out.old rooms.new (record square { owed = owed; fresh = fresh }) out.new) }
+/// Opens the connection for a request that is due, or sends what is due of one that goes out.
+fn serve(rooms: &mut Rooms, due: Due, passing: Passing, out: &mut Outputs) -> Result<(), AllocError>
+    requires reached { (setup : Setup) × IsPassedBy setup passing × (owed : List Frame) × (fresh back : ℕ) × Reached setup rooms.old (record square { owed = owed; due = due_by due; fresh = fresh; shared = back }) }
+    ensures performs { OnOk result ((setup : Setup) (owed : List Frame) (fresh back : ℕ) → IsPassedBy setup passing → PerformsOwn setup rooms.old (record square { owed = owed; due = due_by due; fresh = fresh; shared = back }) out.old rooms.new (record square { owed = owed; fresh = fresh; shared = back }) out.new) }
     ensures stays { OnOk result ((rooms.new.inbound ≡ rooms.old.inbound) × (rooms.new.offers ≡ rooms.old.offers)) }
     ensures none_but { OnOk result ((id : ℕ) → NoneDoneBut id rooms.old → NoneDoneBut id rooms.new) }
 {
-    match request {
-        Some(request) => open(rooms, request, max_response, out),
-        None => Ok(()),
+    match due {
+        Due::Nothing => Ok(()),
+        Due::ToOpen(request) => open(rooms, request, passing, out),
+        Due::ToSend { number, text } => send(rooms, number, text, out),
     }
 }
 
-/// What follows a frame of the client: its octets of DATA are given back on the connection and on its stream, and then the gateway comes to rest.
+/// What follows a frame of the client: its octets of DATA are given back on the connection and on its stream, or wait, and then the gateway comes to
+/// rest.
 fn follow(
     alloc: Global,
     rooms: &mut Rooms,
     id: u32,
     octets: u32,
+    dropped: u64,
     out: &mut Outputs,
 ) -> Result<Went, AllocError>
-    requires reached { (setup : Setup) × (setup.passing ≡ Whole) × Reached setup rooms.old (record square { fresh = octets }) }
+    requires reached { (setup : Setup) × Reached setup rooms.old (record square { fresh = octets; shared = dropped }) }
     requires last { id ≡ rooms.old.inbound.last }
     requires few { octets ≤ 16384 }
     requires none_cut { NoneCut rooms.old.offers }
     requires none_but { NoneDoneBut id rooms.old }
     requires numbered { (id : ℕ) → has rooms.old.inbound.rows id ≡ true → id < 2147483648 }
-    ensures follows { IfOk result (λ went. (setup : Setup) → setup.passing ≡ Whole → FollowsFrom setup rooms.old (record square { fresh = octets }) out.old square (now_of went rooms.new) out.new) }
+    ensures follows { IfOk result (λ went. (setup : Setup) → FollowsFrom setup rooms.old (record square { fresh = octets; shared = dropped }) out.old square (now_of went rooms.new) out.new) }
     ensures rests { IfOk result (λ went. RestsSo went rooms.new) }
 {
     if rooms.inbound.is_spent() {
         shut(rooms, out)?;
         return Ok(Went::Over);
     }
-    settle(rooms, id, octets, out)?;
+    settle(rooms, id, octets, dropped, out)?;
     rest_behind(alloc, rooms, id, out)
 }
 
@@ -134,9 +144,9 @@ fn take_other(
             end(rooms, Ending::Frame(code), out)?;
             Ok(Went::Over)
         }
-        Taken::Goes { request } => {
-            serve(rooms, request, service.max_response, out)?;
-            follow(alloc, rooms, view.id, data_octets(view), out)
+        Taken::Goes { due, dropped } => {
+            serve(rooms, due, service.passing, out)?;
+            follow(alloc, rooms, view.id, data_octets(view), dropped, out)
         }
     }
 }
@@ -159,14 +169,20 @@ fn take_fragment(
     ensures comes { IfOk result (λ went. (setup : Setup) → IsServed setup service.entry → ComesFrom setup rooms.old square out.old (OfFrame (frame_of view.entry) ∷ []) square (now_of went rooms.new) out.new) }
     ensures rests { IfOk result (λ went. RestsSo went rooms.new) }
 {
-    match take_block(rooms, view, service.terms, out)? {
+    let at_once = is_streaming(service.passing);
+    match take_block(rooms, view, service.terms, at_once, out)? {
         BlockTaken::Fatal(code) => {
             end(rooms, Ending::Frame(code), out)?;
             Ok(Went::Over)
         }
-        BlockTaken::Goes { request, farewell } => {
-            serve(rooms, request, service.max_response, out)?;
+        BlockTaken::Goes {
+            due,
+            farewell,
+            dropped,
+        } => {
+            serve(rooms, due, service.passing, out)?;
             say_farewell(rooms, farewell, out)?;
+            return_dropped(rooms, dropped, out)?;
             rest_behind(alloc, rooms, view.id, out)
         }
     }
@@ -178,7 +194,7 @@ pub(crate) fn say_farewell(
     last: Option<u32>,
     out: &mut Outputs,
 ) -> Result<(), AllocError>
-    ensures performs { OnOk result ((setup : Setup) → PerformsOwn setup rooms.old (record square { owed = farewell_frames last }) out.old rooms.new square out.new) }
+    ensures performs { OnOk result ((setup : Setup) (back : ℕ) → PerformsOwn setup rooms.old (record square { owed = farewell_frames last; shared = back }) out.old rooms.new (back_of back) out.new) }
     ensures stays { OnOk result ((rooms.new.inbound ≡ rooms.old.inbound) × (rooms.new.offers ≡ rooms.old.offers)) }
     ensures upstreams { OnOk result (rooms.new.upstreams ≡ rooms.old.upstreams) }
 {

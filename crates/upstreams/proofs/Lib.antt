@@ -2,3 +2,4 @@ pub mod Lists
 pub mod Requests
 pub mod Openings
 pub mod Waiting
+pub mod Passed

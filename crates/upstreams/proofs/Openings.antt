@@ -1,5 +1,5 @@
 -- Open connections, whose numbers rise: where they are found, changed and removed.
-use Rattle.std.proofs.Common.{◌≡◌, ℕ, ◌+◌, ◌-◌, ◌<◌, ◌≤◌, ◌==◌, if◌then◌else◌, Bool, true, false, List, [], ◌∷◌, length, map, set, get_or, Some, None, Result, Ok, Err, sym, ap, ◌∙◌, subst, inl, inr, arith}
+use Rattle.std.proofs.Common.{◌≡◌, ℕ, ◌+◌, ◌-◌, ◌<◌, ◌≤◌, ◌==◌, if◌then◌else◌, Bool, true, false, List, [], ◌∷◌, ◌++◌, length, map, set, get_or, Some, None, Result, Ok, Err, sym, ap, ◌∙◌, subst, inl, inr, arith}
 use Rattle.std.specs.Prelude.{zero, suc, reverse, IfSome, IfNone}
 use Rattle.std.specs.List.{remove, push}
 use Rattle.std.specs.List.Sorted.{IsSearchInRange, IsBinarySearchResult, IsNonDecreasingBy}
@@ -45,6 +45,12 @@ once top cs below i j l m same = elim (cases_lt i j) [
 weaker : (low top : ℕ) (cs : List Connection) → low ≤ top → AreBelow low cs → AreBelow top cs
 weaker low top [] le below = tt
 weaker low top (c ∷ cs) le below = (let first = below.0 in omega (arith, first, le), below.1)
+
+-- one more was opened
+pub below_opened : (count : ℕ) (cs new : List Connection) (c : Connection) → new ≡ cs ++ c ∷ [] → c.live.k ≡ count + 1 → AreBelow (suc count) (reverse cs) → AreBelow (suc (count + 1)) (reverse new)
+below_opened count cs new c is next below =
+    subst (λ ys. AreBelow (suc (count + 1)) (reverse ys)) (sym is)
+    (subst (AreBelow (suc (count + 1))) (sym (reverse-append cs (c ∷ []))) (omega (arith, next), weaker (suc count) c.live.k (reverse cs) (omega (arith, next)) below))
 
 -- some are removed
 pub below_without : (k top : ℕ) (cs : List Connection) → AreBelow top cs → AreBelow top (without number_of k cs)

@@ -1,14 +1,14 @@
 -- What is held of requests, where it is found, changed and taken out.
-use Rattle.std.proofs.Common.{◌≡◌, ℕ, ◌<◌, List, [], ◌∷◌, ◌++◌, length, set, get_or, Some, None, Result, Ok, Err, OnOk, OnErr, refl, sym, ap, ◌∙◌, subst, arith}
-use Rattle.std.specs.Prelude.{Option, zero, suc, reverse}
+use Rattle.std.proofs.Common.{◌≡◌, ℕ, ◌<◌, ◌≤◌, Bool, true, false, List, [], ◌∷◌, ◌++◌, length, map, take, drop, set, get_or, Some, None, refl, sym, ap, ◌∙◌, subst, arith}
+use Rattle.std.specs.Prelude.{Option, zero, suc, reverse, option_map}
 use Rattle.std.specs.List.{remove}
-use Rattle.std.proofs.lemmas.List.{reverse-append}
-use Rattle.serving.specs.State.{Way, Held, id_of, held_of, held_at, held_with, with_way, without}
+use Rattle.std.proofs.lemmas.List.{reverse-append, map-append, set-get_or}
+use Rattle.serving.specs.State.{Way, Held, Due, id_of, held_of, held_at, held_with, with_way, without, drop_from}
+use Rattle.serving.specs.State.Way.{Waiting, Going, Dropped}
+use Rattle.serving.specs.State.Due.{Nothing}
 use Rattle.serving.specs.Held.{AreApart}
-use Rattle.serving.proofs.Lists.{way_of_own, way_of_other, found_key}
-use Rattle.serving.proofs.Served.{apart_with}
-use Rattle.upstreams.specs.declared.held.Outgoing.{Outgoing}
-use Rattle.upstreams.specs.Requests.{no_held, IsHeldAt, IsHeldNowhere, gathered_in, gathered, gathered_at, IsEnded, IsEndedFor}
+use Rattle.serving.proofs.Lists.{way_of_own, way_of_other, find_map}
+use Rattle.upstreams.specs.Requests.{no_held, IsHeldAt, IsHeldNowhere, MayTake, MayTakeOf, GoesBy, Takes, TakesBy}
 use Rattle.upstreams.proofs.Lists.{IsOnly, find_none, find_only, without_none, without_only, map_only, turned_none, turned_alone, nowhere}
 
 -- a stream that is held stands at one place
@@ -41,12 +41,53 @@ module _ (hs : List Held) (apart : AreApart (reverse hs)) (id place : ℕ) where
         ∙ sym (map_only id_of no_held hs id place only (with_way id way) (λ h other. way_of_other id way h other))
         ∙ ap (λ o. held_at id way o (reverse hs)) (sym found)
 
+    -- it is on another way
+    pub held_on : (x : Held) → x.id ≡ it.id → reverse (set hs place x) ≡ held_with id (Some x.way) (reverse hs)
+    held_on x same = ap (λ n. reverse (set hs place (let h : Held = record { id = n; way = x.way } in h))) (same ∙ is.has_key) ∙ held_there x.way
+
+    -- what may come of the stream may come of it
+    pub may_there : (octets : List ℕ) (ends : Bool) → MayTakeOf octets ends (held_of id (reverse hs)) → MayTake octets ends it.way
+    may_there octets ends may = subst (MayTakeOf octets ends) found may
+
+    -- it stays as it is, where it is dropped
+    pub stays_there : (octets : List ℕ) (ends : Bool) → it.way ≡ Dropped → Takes id octets ends (reverse hs) (held_of id (reverse hs)) Nothing (reverse hs)
+    stays_there octets ends e =
+        subst (λ (o : Option Held). Takes id octets ends (reverse hs) o Nothing (reverse hs)) (sym found)
+        (subst (λ (way : Way). TakesBy id octets ends (reverse hs) way Nothing (reverse hs)) (sym e) (refl, refl))
+
     -- more of its body came
-    pub gathered_there : (octets : List ℕ) → reverse (set hs place (record it { way = gathered_in octets it.way })) ≡ gathered id octets (reverse hs)
-    gathered_there octets =
-        ap (λ n. reverse (set hs place (let h : Held = record { id = n; way = gathered_in octets it.way } in h))) is.has_key
-        ∙ held_there (gathered_in octets it.way)
-        ∙ ap (λ o. gathered_at id octets o (reverse hs)) (sym found)
+    pub goes_there : (octets : List ℕ) (ends : Bool) (due : Due) (x : Held) → ends ≡ false → x.id ≡ it.id → GoesBy it.id octets false it.way due (Some x.way)
+        → Takes id octets ends (reverse hs) (held_of id (reverse hs)) due (reverse (set hs place x))
+    goes_there octets ends due x e same goes =
+        subst (λ b. Takes id octets b (reverse hs) (held_of id (reverse hs)) due (reverse (set hs place x))) (sym e)
+        (subst (λ (o : Option Held). Takes id octets false (reverse hs) o due (reverse (set hs place x))) (sym found)
+        (by it.way refl (subst (λ n. GoesBy n octets false it.way due (Some x.way)) is.has_key goes)))
+      where
+        by : (way : Way) → it.way ≡ way → GoesBy id octets false way due (Some x.way) → TakesBy id octets false (reverse hs) way due (reverse (set hs place x))
+        by (Waiting route text old body) e g = (Some x.way, g, held_on x same)
+        by (Going k old) e g = (Some x.way, g, held_on x same)
+        by Dropped e g =
+            let some : ◌≡◌ {A = Option Way} (Some x.way) (Some Dropped) = g.1 in
+            let way : x.way ≡ it.way = cc in (
+              g.0,
+              ap (λ n. reverse (set hs place (let h : Held = record { id = n; way = x.way } in h))) same
+                  ∙ ap (λ w. reverse (set hs place (let h : Held = record { id = it.id; way = w } in h))) way
+                  ∙ ap reverse (set-get_or hs place no_held),
+            )
+
+    -- its body ended
+    pub ends_there : (octets : List ℕ) (ends : Bool) (due : Due) (left : List Held) → ends ≡ true → left ≡ remove hs place → (it.way ≡ Dropped → ⊥) → GoesBy it.id octets true it.way due None
+        → Takes id octets ends (reverse hs) (held_of id (reverse hs)) due (reverse left)
+    ends_there octets ends due left e same on goes =
+        subst (λ ys. Takes id octets ends (reverse hs) (held_of id (reverse hs)) due (reverse ys)) (sym same)
+        (subst (λ b. Takes id octets b (reverse hs) (held_of id (reverse hs)) due (reverse (remove hs place))) (sym e)
+        (subst (λ (o : Option Held). Takes id octets true (reverse hs) o due (reverse (remove hs place))) (sym found)
+        (by it.way refl (subst (λ n. GoesBy n octets true it.way due None) is.has_key goes))))
+      where
+        by : (way : Way) → it.way ≡ way → GoesBy id octets true way due None → TakesBy id octets true (reverse hs) way due (reverse (remove hs place))
+        by (Waiting route text old body) e g = (None, g, sym taken_out)
+        by (Going k old) e g = (None, g, sym taken_out)
+        by Dropped e g = absurd (on e)
 
 -- ---- where nothing is held of a stream
 
@@ -60,27 +101,58 @@ module _ (hs : List Held) (id : ℕ) (none : IsHeldNowhere hs id) where
   pub held_new : (way : Way) → reverse (hs ++ record { id = id; way = way } ∷ []) ≡ held_with id (Some way) (reverse hs)
   held_new way = reverse-append hs (record { id = id; way = way } ∷ []) ∙ ap (λ o. held_at id way o (reverse hs)) (sym not_found)
 
-  pub none_gathered : (octets : List ℕ) → reverse hs ≡ gathered id octets (reverse hs)
-  none_gathered octets = ap (λ o. gathered_at id octets o (reverse hs)) (sym not_found)
+  pub none_there : (octets : List ℕ) (ends : Bool) → Takes id octets ends (reverse hs) (held_of id (reverse hs)) Nothing (reverse hs)
+  none_there octets ends = subst (λ (o : Option Held). Takes id octets ends (reverse hs) o Nothing (reverse hs)) (sym not_found) (refl, refl)
 
--- ---- no stream is held twice
+-- ---- where a connection is closed
 
-pub apart_gathered : (id : ℕ) (octets : List ℕ) (hs : List Held) → AreApart hs → AreApart (gathered id octets hs)
-apart_gathered id octets hs apart = by (held_of id hs)
-  where
-    by : (o : Option Held) → AreApart (gathered_at id octets o hs)
-    by None = apart
-    by (Some h) = apart_with id (Some (gathered_in octets h.way)) hs apart
+-- no stream is held twice, where each keeps its id
+pub apart_dropped : (k : ℕ) (hs : List Held) → AreApart hs → AreApart (map (drop_from k) hs)
+apart_dropped k [] apart = tt
+apart_dropped k (h ∷ hs) apart = (find_map id_of (drop_from k) (λ x. refl) h.id hs ∙ ap (option_map (drop_from k)) apart.0, apart_dropped k hs apart.1)
 
--- also where memory may be refused
-pub apart_behind : {T E : Type 0} (r : Result T E) (id : ℕ) (octets : List ℕ) (old new : List Held) → AreApart (reverse old) → OnOk r (reverse new ≡ gathered id octets (reverse old)) → OnErr r (new ≡ old) → AreApart (reverse new)
-apart_behind (Ok x) id octets old new apart ok err = subst AreApart (sym ok) (apart_gathered id octets (reverse old) apart)
-apart_behind (Err x) id octets old new apart ok err = subst (λ hs. AreApart (reverse hs)) (sym err) apart
+-- the front of what is held is dropped, and the rest isn't yet
+abbrev pub dropped_to : ℕ → ℕ → List Held → List Held
+dropped_to k i hs = map (drop_from k) (take i hs) ++ drop i hs
 
--- what was taken out is what was held of the stream
-pub ended_for : (id : ℕ) (octets : List ℕ) (hs : List Held) (request : Held) → Some request ≡ held_of id hs → (outgoing : Outgoing) → IsEnded request.id request.way octets outgoing → IsEndedFor id octets hs outgoing
-ended_for id octets hs request is outgoing ended = λ h found.
-    let both : Some request ≡ Some h = is ∙ found in
-    let same : request ≡ h = cc in
-    let own : request.id ≡ id = found_key id_of id hs request (sym is) in
-    subst (λ n. IsEnded n h.way octets outgoing) own (subst (λ (x : Held). IsEnded request.id x.way octets outgoing) same ended)
+dropped_at : (k i : ℕ) (hs : List Held) (d : Held) → get_or (dropped_to k i hs) i d ≡ get_or hs i d
+dropped_at k zero hs d = refl
+dropped_at k (suc i) [] d = refl
+dropped_at k (suc i) (h ∷ hs) d = dropped_at k i hs d
+
+dropped_more : (k i : ℕ) (hs : List Held) (d : Held) → i < length hs → set (dropped_to k i hs) i (drop_from k (get_or hs i d)) ≡ dropped_to k (suc i) hs
+dropped_more k i [] d lt = absurd (omega (arith, lt))
+dropped_more k zero (h ∷ hs) d lt = refl
+dropped_more k (suc i) (h ∷ hs) d lt = ap (λ ys. drop_from k h ∷ ys) (dropped_more k i hs d (omega arith))
+
+-- one more is dropped
+pub dropped_next : (k i : ℕ) (hs now : List Held) (x y : Held) → now ≡ dropped_to k i hs → i < length hs → y ≡ drop_from k (get_or now i x) → set now i y ≡ dropped_to k (suc i) hs
+dropped_next k i hs now x y front lt changed =
+    let own : get_or now i x ≡ get_or hs i x = ap (λ ys. get_or ys i x) front ∙ dropped_at k i hs x in
+    ap (λ ys. set ys i y) front ∙ ap (set (dropped_to k i hs) i) (changed ∙ ap (drop_from k) own) ∙ dropped_more k i hs x lt
+
+dropped_past : (k i : ℕ) (hs : List Held) → length hs ≤ i → dropped_to k i hs ≡ map (drop_from k) hs
+dropped_past k zero [] past = refl
+dropped_past k zero (h ∷ hs) past = absurd (omega (arith, past))
+dropped_past k (suc i) [] past = refl
+dropped_past k (suc i) (h ∷ hs) past = ap (λ ys. drop_from k h ∷ ys) (dropped_past k i hs (omega (arith, past)))
+
+front_taken : (xs ys : List Held) → take (length xs) (xs ++ ys) ≡ xs
+front_taken [] ys = refl
+front_taken (x ∷ xs) ys = ap (λ zs. x ∷ zs) (front_taken xs ys)
+
+-- what is held when they are turned round
+pub dropped_turned : (k : ℕ) (hs : List Held) → reverse (map (drop_from k) hs) ≡ map (drop_from k) (reverse hs)
+dropped_turned k [] = refl
+dropped_turned k (h ∷ hs) =
+    reverse-append (drop_from k h ∷ []) (map (drop_from k) hs)
+    ∙ ap (λ ys. ys ++ drop_from k h ∷ []) (dropped_turned k hs)
+    ∙ sym (map-append (drop_from k) (reverse hs) (h ∷ []))
+    ∙ ap (map (drop_from k)) (sym (reverse-append (h ∷ []) hs))
+
+-- behind the last one all are dropped
+pub dropped_out : (k i n : ℕ) (hs now : List Held) → now ≡ dropped_to k i hs → length hs ≤ i → n ≡ length now → reverse (take n (now ++ drop (length now) hs)) ≡ map (drop_from k) (reverse hs)
+dropped_out k i n hs now front past all =
+    ap (λ m. reverse (take m (now ++ drop (length now) hs))) all
+    ∙ ap reverse (front_taken now (drop (length now) hs) ∙ front ∙ dropped_past k i hs past)
+    ∙ dropped_turned k hs

@@ -6,11 +6,10 @@ use Rattle.request_rules.specs.Heads.{HeadParts}
 use Rattle.requests.specs.Waits as requests
 use Rattle.h1_writer.specs.Sending.{Stage}
 use Rattle.h1_writer.specs.Sending.Stage.{Whole}
-use Rattle.serving.specs.State.{Way, Held, id_of, held_of, held_at, held_with, with_way, is_whole}
+use Rattle.serving.specs.State.{Way, Held, Due, id_of, held_of, held_at, held_with, with_way, is_whole}
 use Rattle.serving.specs.State.Way.{Waiting}
 use Rattle.serving.proofs.Lists.{way_of_own, found_key, find_first, find_map}
-use Rattle.upstreams.specs.declared.held.Outgoing.{Outgoing}
-use Rattle.upstreams.specs.Requests.{gathered, gathered_at, gathered_in, MayEndFor}
+use Rattle.upstreams.specs.Requests.{MayTakeOf}
 use Rattle.upstreams.specs.Kept.{State, Begins}
 
 -- what is held of a stream is held of it
@@ -26,7 +25,7 @@ is_held id way hs = by (held_of id hs) refl
         ∙ ap Some (way_of_own id way h own)
         ∙ ap (λ n. let o : Option Held = Some (record { id = n; way = way }) in o) own
 
-module _ (old new : State) (id route : ℕ) (parts : HeadParts) (due : Option Outgoing) (b : Begins old id route parts false due new) (none : parts.length ≡ None) where
+module _ (old new : State) (id route : ℕ) (parts : HeadParts) (due : Due) (b : Begins old id route parts false false due new) (none : parts.length ≡ None) where
   pub begun_held : held_of id new.held ≡ Some (record { id = id; way = Waiting route b.text b.stage [] })
   begun_held = ap (λ (s : State). held_of id s.held) b.kept ∙ is_held id (Waiting route b.text b.stage []) old.held
 
@@ -34,16 +33,13 @@ module _ (old new : State) (id route : ℕ) (parts : HeadParts) (due : Option Ou
   goes_on whole = let clash : true ≡ false = sym (ap is_whole whole) ∙ b.whole in cc
 
   -- where it is held so, with a body so far
-  may_end_with : (body octets : List ℕ) (hs : List Held) → held_of id hs ≡ Some (record { id = id; way = Waiting route b.text b.stage body }) → MayEndFor id octets hs
-  may_end_with body octets hs found = record {
-    held = record { id = id; way = Waiting route b.text b.stage body };
-    found = found;
-    may = record { parts = parts; sending = b.sending; goes_on = goes_on; has_length = subst (λ l. HasLength l (body ++ octets)) (sym none) tt };
-  }
+  may_take_with : (body octets : List ℕ) (ends : Bool) (hs : List Held) → held_of id hs ≡ Some (record { id = id; way = Waiting route b.text b.stage body }) → MayTakeOf octets ends (held_of id hs)
+  may_take_with body octets ends hs found = subst (MayTakeOf octets ends) (sym found) (λ e. record {
+    parts = parts;
+    sending = b.sending;
+    goes_on = goes_on;
+    has_length = subst (λ l. HasLength l (body ++ octets)) (sym none) tt;
+  })
 
-  pub may_end : (octets : List ℕ) (hs : List Held) → held_of id hs ≡ held_of id new.held → MayEndFor id octets hs
-  may_end octets hs same = may_end_with [] octets hs (same ∙ begun_held)
-
-  pub may_end_behind : (more octets : List ℕ) → MayEndFor id octets (gathered id more new.held)
-  may_end_behind more octets = may_end_with more octets (gathered id more new.held)
-      (ap (λ o. held_of id (gathered_at id more o new.held)) begun_held ∙ is_held id (gathered_in more (Waiting route b.text b.stage [])) new.held)
+  pub may_take : (octets : List ℕ) (ends : Bool) (hs : List Held) → held_of id hs ≡ held_of id new.held → MayTakeOf octets ends (held_of id hs)
+  may_take octets ends hs same = may_take_with [] octets ends hs (same ∙ begun_held)

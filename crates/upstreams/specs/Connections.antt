@@ -1,5 +1,5 @@
 -- Open connections.
-use Rattle.std.specs.Prelude.{ℕ, ◌+◌, ◌<◌, ◌==◌, Bool, true, false, if◌then◌else◌, List, [], ◌∷◌, map, reverse, None}
+use Rattle.std.specs.Prelude.{ℕ, ◌+◌, ◌<◌, ◌==◌, ◌^◌, Bool, true, false, if◌then◌else◌, List, [], ◌∷◌, map, reverse, Option, Some, None}
 use Rattle.h1_reader.specs.declared.reader.Place.TheVariants as place
 use Rattle.answers.specs.Waiting.{Answer}
 use Rattle.answers.specs.declared.answer.Passing.{Passing}
@@ -51,6 +51,11 @@ put_at k count c = record { live = c.live; answer = c.answer; out = if c.live.k 
 -- so many more were taken
 abbrev pub taken_at : ℕ → ℕ → Connection → Connection
 taken_at k count c = record { live = c.live; answer = c.answer; out = c.out; took = if c.live.k == k then c.took + count else c.took }
+
+-- so many octets more can be counted for a connection, if it is open
+abbrev pub HasRoom : ℕ → Option Connection → Type 0
+HasRoom count None = Unit {0}
+HasRoom count (Some c) = c.out + count < 2 ^ 64
 
 -- ---- where they lie
 

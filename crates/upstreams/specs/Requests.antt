@@ -1,63 +1,82 @@
--- Requests that are held, and whole ones.
-use Rattle.std.specs.Prelude.{◌≡◌, ℕ, List, ◌++◌, Option, Some, None}
-use Rattle.requests.specs.Waits as requests
-use Rattle.requests.specs.Waits.{Request}
+-- Requests that aren't whole, and what is due for them.
+use Rattle.std.specs.Prelude.{◌≡◌, ℕ, Bool, true, false, List, ◌++◌, Option, Some, None}
+use Rattle.requests.specs.Waits.{MayEnd}
+use Rattle.requests.specs.Going.{MayGo}
+use Rattle.h1_writer.specs.Sending.{Stage, Continues}
 use Rattle.h1_writer.specs.Sending.Stage.{Whole}
-use Rattle.serving.specs.State.{Way, Held, id_of, held_of, held_with, Due}
-use Rattle.serving.specs.State.Way.{Waiting, Dropped}
-use Rattle.serving.specs.State.Due.{Nothing, ToOpen}
+use Rattle.serving.specs.State as serving
+use Rattle.serving.specs.State.{Way, Held, id_of, held_with, is_whole, unless_whole, to_send}
+use Rattle.serving.specs.State.Way.{Waiting, Going, Dropped}
+use Rattle.serving.specs.State.Due.{Nothing, ToOpen, ToSend}
 use Rattle.upstreams.specs.declared.held.Outgoing.{Outgoing}
+use Rattle.upstreams.specs.declared.held.Due.{Due}
+use Rattle.upstreams.specs.declared.held.Due.TheVariants as due
 use Rattle.upstreams.specs.Places.{IsAt, IsNowhere}
 
--- the way of a request that waits
-abbrev pub way_of : Request → Way
-way_of request = Waiting request.route request.text request.stage request.body
+-- what a text waits for: nothing, where no rest of it is to come
+abbrev pub stage_of : Option Stage → Stage
+stage_of None = Whole
+stage_of (Some stage) = stage
 
--- what is due for a whole request
-abbrev pub due_for : Outgoing → Due
-due_for outgoing = ToOpen outgoing.stream outgoing.route outgoing.text.items Whole
+-- what is due for a request that goes out
+abbrev pub due_for : Outgoing → serving.Due
+due_for outgoing = ToOpen outgoing.stream outgoing.route outgoing.text.items (stage_of outgoing.rest)
 
--- what is due, if something is
-abbrev pub due_in : Option Outgoing → Due
-due_in None = Nothing
-due_in (Some outgoing) = due_for outgoing
+-- what is due, as it is answered
+abbrev pub due_by : Due → serving.Due
+due_by due.Nothing = Nothing
+due_by (due.ToOpen outgoing) = due_for outgoing
+due_by (due.ToSend number text) = ToSend number text.items
 
 -- ---- octets of a body
 
--- they come behind those of a request that waits
-abbrev pub gathered_in : List ℕ → Way → Way
-gathered_in octets (Waiting route text stage body) = Waiting route text stage (body ++ octets)
-gathered_in octets way = way
+-- These octets may come of a request on this way, and end its body or don't.
+abbrev pub MayTake : List ℕ → Bool → Way → Type 0
+MayTake octets ends (Waiting route text stage body) = ends ≡ true → MayEnd (record { route = route; text = text; stage = stage; body = body }) octets
+MayTake octets ends (Going k stage) = MayGo stage octets ends
+MayTake octets ends Dropped = Unit {0}
 
--- the same for a stream, of which this is held
-abbrev pub gathered_at : ℕ → List ℕ → Option Held → List Held → List Held
-gathered_at id octets None hs = hs
-gathered_at id octets (Some h) hs = held_with id (Some (gathered_in octets h.way)) hs
+-- They may come of a stream of which this is held, or nothing.
+abbrev pub MayTakeOf : List ℕ → Bool → Option Held → Type 0
+MayTakeOf octets ends None = Unit {0}
+MayTakeOf octets ends (Some h) = MayTake octets ends h.way
 
-abbrev pub gathered : ℕ → List ℕ → List Held → List Held
-gathered id octets hs = gathered_at id octets (held_of id hs) hs
+-- A request that waits is whole with them: its text is due, and behind that of the head what is written for the whole body at once.
+pub record IsEnded (id : ℕ) (octets : List ℕ) (route : ℕ) (text : List ℕ) (old : Stage) (body : List ℕ) (due : serving.Due) : Type 0 where
+  pub written : List ℕ
+  pub continues : Continues old written (body ++ octets) Whole
+  pub due_is : due ≡ ToOpen id route (text ++ written) Whole
 
--- ---- the end of a body
+-- A request goes out on a connection: what is written for them is due there, and it is whole with them just where they end its body.
+pub record IsPassed (octets : List ℕ) (ends : Bool) (k : ℕ) (old : Stage) (due : serving.Due) (next : Option Way) : Type 0 where
+  pub written : List ℕ
+  pub stage : Stage
+  pub continues : Continues old written octets stage
+  pub whole : is_whole stage ≡ ends
+  pub due_is : due ≡ to_send k written
+  pub next_is : next ≡ unless_whole stage (Going k stage)
 
--- The request waits, and these octets may end its body.
-abbrev pub MayEnd : Way → List ℕ → Type 0
-MayEnd (Waiting route text stage body) octets = requests.MayEnd (record { route = route; text = text; stage = stage; body = body }) octets
-MayEnd way octets = ⊥
+-- What is due for them of a request that waits, and its way then, if it is on one: they are held, too, unless they end its body.
+abbrev pub Gathers : ℕ → List ℕ → Bool → ℕ → List ℕ → Stage → List ℕ → serving.Due → Option Way → Type 0
+Gathers id octets true route text old body due next = IsEnded id octets route text old body due × (next ≡ None)
+Gathers id octets false route text old body due next = (due ≡ Nothing) × (next ≡ Some (Waiting route text old (body ++ octets)))
 
--- This is the whole request of a stream with them.
-abbrev pub IsEnded : ℕ → Way → List ℕ → Outgoing → Type 0
-IsEnded id (Waiting route text stage body) octets outgoing =
-    (whole : List ℕ) × (due_for outgoing ≡ ToOpen id route whole Whole) × requests.IsEnded (record { route = route; text = text; stage = stage; body = body }) octets whole
-IsEnded id way octets outgoing = ⊥
+-- The same of a request on any way.
+abbrev pub GoesBy : ℕ → List ℕ → Bool → Way → serving.Due → Option Way → Type 0
+GoesBy id octets ends (Waiting route text old body) due next = Gathers id octets ends route text old body due next
+GoesBy id octets ends (Going k old) due next = IsPassed octets ends k old due next
+GoesBy id octets ends Dropped due next = (due ≡ Nothing) × (next ≡ Some Dropped)
 
--- The same of what is held of a stream.
-pub record MayEndFor (id : ℕ) (octets : List ℕ) (hs : List Held) : Type 0 where
-  pub held : Held
-  pub found : held_of id hs ≡ Some held
-  pub may : MayEnd held.way octets
+-- What is due for them of a stream's request, and what is held behind them; of one that is dropped all stays as it is.
+abbrev pub TakesBy : ℕ → List ℕ → Bool → List Held → Way → serving.Due → List Held → Type 0
+TakesBy id octets ends hs (Waiting route text old body) due new = (next : Option Way) × Gathers id octets ends route text old body due next × (new ≡ held_with id next hs)
+TakesBy id octets ends hs (Going k old) due new = (next : Option Way) × IsPassed octets ends k old due next × (new ≡ held_with id next hs)
+TakesBy id octets ends hs Dropped due new = (due ≡ Nothing) × (new ≡ hs)
 
-abbrev pub IsEndedFor : ℕ → List ℕ → List Held → Outgoing → Type 0
-IsEndedFor id octets hs outgoing = (h : Held) → held_of id hs ≡ Some h → IsEnded id h.way octets outgoing
+-- The same where this is held of the stream; where nothing is, all stays as it is.
+abbrev pub Takes : ℕ → List ℕ → Bool → List Held → Option Held → serving.Due → List Held → Type 0
+Takes id octets ends hs None due new = (due ≡ Nothing) × (new ≡ hs)
+Takes id octets ends hs (Some h) due new = TakesBy id octets ends hs h.way due new
 
 -- ---- where it is held
 

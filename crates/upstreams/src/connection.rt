@@ -1,6 +1,6 @@
 //! An open connection to an upstream.
 
-ghost use Rattle.std.specs.Prelude.{◌≡◌, ◌+◌, ◌<◌, ◌≤◌, ◌^◌, [], true};
+ghost use Rattle.std.specs.Prelude.{◌≡◌, ◌+◌, ◌<◌, ◌≤◌, ◌^◌, [], true, MatchBool};
 ghost use Rattle.upstreams.specs.Connections.{opened};
 ghost use Rattle.h1_reader.specs.Standing.{Stands};
 
@@ -76,11 +76,25 @@ impl Connection {
         *whole
     }
 
+    /// How its response is passed on.
+    pub fn passing(&self) -> Passing
+        ensures { result ≡ self.now.answer.way }
+    {
+        self.answer.passing()
+    }
+
     /// How many octets that were put out for it its side hasn't taken yet.
     pub fn untaken(&self) -> u64
         ensures { self.now.took + result ≡ self.now.out }
     {
         self.put_out - self.taken
+    }
+
+    /// Whether so many octets more can be counted.
+    pub(crate) fn has_room(&self, count: u64) -> bool
+        ensures { MatchBool result (self.now.out + count < 2 ^ 64) (self.now.out + count < 2 ^ 64 → ⊥) }
+    {
+        self.put_out.checked_add(count).is_some()
     }
 
     /// The response is whole.

@@ -1,63 +1,156 @@
 //! What is held of requests that aren't whole.
 
-ghost use Rattle.std.specs.Prelude.{◌≡◌, ◌==◌, false, length, reverse, Some, MatchOption, IfSome, IfNone, OnOk, OnErr, IfOk};
+ghost use Rattle.std.specs.Prelude.{◌≡◌, ◌==◌, ◌≤◌, true, false, length, map, reverse, Some, None, MatchBool, MatchOption, IfSome, IfNone, OnOk, OnErr, IfOk};
 ghost use Rattle.serving.specs.Held.{AreApart};
-ghost use Rattle.serving.specs.State.{id_of, held_of, held_with, without};
-ghost use Rattle.upstreams.specs.Requests.{way_of, gathered_in, gathered, MayEnd, IsEnded, IsHeldAt, IsHeldNowhere};
+ghost use Rattle.serving.specs.State.{id_of, held_of, held_with, without, to_send, dropped, drop_from, unless_whole};
+ghost use Rattle.serving.specs.State.Way.{Going as GoingOn, Dropped};
+ghost use Rattle.upstreams.specs.Ways.{way_of};
+ghost use Rattle.upstreams.specs.Requests.{stage_of, due_by, MayTake, MayTakeOf, GoesBy, Takes, IsHeldAt, IsHeldNowhere};
 
-use requests::Waiting;
-use std::alloc::AllocError;
+use requests::{Going, Waiting};
+use std::alloc::{AllocError, Global};
 use std::marker::Model;
 
-/// A whole request: a connection is to be opened for its stream, by the route at this place, and its text goes out there.
+/// A request that goes out: a connection is to be opened for its stream, by the route at this place, and its text goes out there.
 #[derive(Drop)]
 pub struct Outgoing {
     /// The stream's id.
     pub stream: u32,
     /// The place of its route, from 0.
     pub route: u32,
-    /// The text (RFC 9112, section 2.1).
+    /// The text (RFC 9112, section 2.1), or as much of it as goes out now.
     pub text: Vec<u8>,
+    /// What goes out as it comes, where the text isn't whole.
+    pub rest: Option<Going>,
+}
+
+/// What is due behind octets of a request's body.
+#[derive(Drop)]
+pub enum Due {
+    /// Nothing.
+    Nothing,
+    /// The request goes out.
+    ToOpen(Outgoing),
+    /// More of it goes out where it goes.
+    ToSend {
+        /// The number of its connection.
+        number: u32,
+        /// The octets, one or more.
+        text: Vec<u8>,
+    },
+}
+
+/// How far a request is that isn't whole.
+#[derive(Drop)]
+pub(crate) enum Way {
+    /// It waits for its end.
+    Waiting(Waiting),
+    /// It goes out on the connection with this number, as it comes.
+    Going(u32, Going),
+    /// Its connection is closed: what comes of it goes nowhere.
+    Dropped,
+}
+
+impl Way {
+    /// What goes out on a connection that is closed is dropped.
+    fn drop_from(&mut self, k: u32)
+        ensures { way_of self.new ≡ dropped k (way_of self.old) }
+    {
+        let on_it = match self {
+            Way::Going(number, _) => *number == k,
+            _ => false,
+        };
+        if on_it {
+            *self = Way::Dropped;
+        }
+    }
 }
 
 /// A stream whose request isn't whole. A clause sees it as the rule of requests does.
 #[derive(Drop)]
 pub struct Held {
     id: u32,
-    request: Waiting,
+    way: Way,
 }
 
 impl Model for Held {
     ghost use Rattle.serving.specs.State.{Held};
-    ghost use Rattle.upstreams.specs.Requests.{way_of};
+    ghost use Rattle.upstreams.specs.Ways.{way_of};
 
     ghost Value = { Held };
 
-    ghost view = { λ h. record { id = h.id; way = way_of h.request } };
+    ghost view = { λ h. record { id = h.id; way = way_of h.way } };
+}
+
+/// Octets that are due on a connection, if there are any.
+fn to_send(number: u32, text: Vec<u8>) -> Due
+    ensures { due_by result ≡ to_send number text.items }
+{
+    if text.is_empty() {
+        Due::Nothing
+    } else {
+        Due::ToSend { number, text }
+    }
 }
 
 impl Held {
-    /// More octets of its body have come. An `Err` says that memory was refused; it changes nothing.
-    fn gather(&mut self, octets: &[u8]) -> Result<(), AllocError>
-        ensures added { OnOk result (self.new ≡ record self.old { way = gathered_in octets.now self.old.way }) }
-        ensures unchanged { OnErr result (self.new ≡ self.old) }
+    /// More octets of its body come, which goes on behind them. An `Err` says that memory was refused.
+    fn go_on(&mut self, alloc: Global, octets: &[u8]) -> Result<Due, AllocError>
+        requires { MayTake octets.now false self.old.way }
+        ensures goes { IfOk result (λ due. GoesBy self.old.id octets.now false self.old.way (due_by due) (Some self.new.way)) }
+        ensures same { self.new.id ≡ self.old.id }
     {
-        self.request.gather(octets)
+        match &mut self.way {
+            Way::Waiting(request) => {
+                request.gather(octets)?;
+                Ok(Due::Nothing)
+            }
+            Way::Going(number, going) => {
+                let text = going.pass(alloc, octets, false)?;
+                Ok(to_send(*number, text))
+            }
+            Way::Dropped => Ok(Due::Nothing),
+        }
     }
 
-    /// The whole request, where these octets end its body. An `Err` says that memory was refused.
-    pub fn finish(self, octets: &[u8]) -> Result<Outgoing, AllocError>
-        requires { MayEnd self.way octets.now }
-        ensures { IfOk result (IsEnded self.id self.way octets.now) }
+    /// The last octets of its body come; it isn't dropped. An `Err` says that memory was refused.
+    fn finish(self, alloc: Global, octets: &[u8]) -> Result<Due, AllocError>
+        requires may { MayTake octets.now true self.way }
+        requires on { self.way ≡ Dropped → ⊥ }
+        ensures { IfOk result (λ due. GoesBy self.id octets.now true self.way (due_by due) None) }
     {
-        let Held { id, request } = self;
-        let route = request.route();
-        let text = request.finish(octets)?;
-        Ok(Outgoing {
-            stream: id,
-            route,
-            text,
-        })
+        let Held { id, way } = self;
+        match way {
+            Way::Waiting(request) => {
+                let route = request.route();
+                let text = request.finish(octets)?;
+                Ok(Due::ToOpen(Outgoing {
+                    stream: id,
+                    route,
+                    text,
+                    rest: None,
+                }))
+            }
+            Way::Going(number, mut going) => {
+                let text = going.pass(alloc, octets, true)?;
+                Ok(to_send(number, text))
+            }
+            Way::Dropped => unreachable!(),
+        }
+    }
+
+    /// Whether it is dropped.
+    fn is_dropped(&self) -> bool
+        ensures { MatchBool result (self.now.way ≡ Dropped) (self.now.way ≡ Dropped → ⊥) }
+    {
+        matches!(self.way, Way::Dropped)
+    }
+
+    /// What goes out on a connection that is closed is dropped.
+    fn drop_from(&mut self, k: u32)
+        ensures { self.new ≡ drop_from k self.old }
+    {
+        self.way.drop_from(k);
     }
 
     /// The id of the stream.
@@ -76,30 +169,75 @@ fn place_of(held: &[Held], id: u32) -> Option<usize>
     held.iter().position(|h| h.id() == id)
 }
 
-/// Holds a request that waits, in the place of what was held of its stream, or behind all. An `Err` says that memory was refused; it changes
+/// Holds a request on this way, in the place of what was held of its stream, or behind all. An `Err` says that memory was refused; it changes
 /// nothing.
-pub fn hold(held: &mut Vec<Held>, id: u32, request: Waiting) -> Result<(), AllocError>
+pub(crate) fn hold(held: &mut Vec<Held>, id: u32, way: Way) -> Result<(), AllocError>
     requires { AreApart (reverse held.old.items) }
-    ensures ok { OnOk result (reverse held.new.items ≡ held_with id (Some (way_of request)) (reverse held.old.items)) }
+    ensures ok { OnOk result (reverse held.new.items ≡ held_with id (Some (way_of way)) (reverse held.old.items)) }
     ensures err { OnErr result (held.new.items ≡ held.old.items) }
 {
     match place_of(held, id) {
-        Some(place) => held[place] = Held { id, request },
-        None => held.push(Held { id, request })?,
+        Some(place) => held[place] = Held { id, way },
+        None => held.push(Held { id, way })?,
     }
     Ok(())
 }
 
-/// More octets of the body of a stream's request have come. An `Err` says that memory was refused; it changes nothing.
-pub fn gather(held: &mut Vec<Held>, id: u32, octets: &[u8]) -> Result<(), AllocError>
+/// Holds the rest of a request that goes out on a connection, if there is one; else nothing of its stream. An `Err` says that memory was
+/// refused; it changes nothing.
+pub fn hold_rest(
+    held: &mut Vec<Held>,
+    id: u32,
+    k: u32,
+    rest: Option<Going>,
+) -> Result<(), AllocError>
     requires { AreApart (reverse held.old.items) }
-    ensures ok { OnOk result (reverse held.new.items ≡ gathered id octets.now (reverse held.old.items)) }
+    ensures ok { OnOk result (reverse held.new.items ≡ held_with id (unless_whole (stage_of rest) (GoingOn k (stage_of rest))) (reverse held.old.items)) }
     ensures err { OnErr result (held.new.items ≡ held.old.items) }
 {
-    let Some(place) = place_of(held, id) else {
+    let Some(going) = rest else {
+        let _none = take(held, id);
         return Ok(());
     };
-    held[place].gather(octets)
+    if going.is_whole() {
+        let _none = take(held, id);
+        return Ok(());
+    }
+    hold(held, id, Way::Going(k, going))
+}
+
+/// Octets of the body of a stream's request come, and end it or don't: what is due behind them. An `Err` says that memory was refused.
+pub fn take_body(
+    alloc: Global,
+    held: &mut Vec<Held>,
+    id: u32,
+    octets: &[u8],
+    ends: bool,
+) -> Result<Due, AllocError>
+    requires apart { AreApart (reverse held.old.items) }
+    requires may { MayTakeOf octets.now ends (held_of id (reverse held.old.items)) }
+    ensures takes { IfOk result (λ due. Takes id octets.now ends (reverse held.old.items) (held_of id (reverse held.old.items)) (due_by due) (reverse held.new.items)) }
+    ensures apart { AreApart (reverse held.new.items) }
+{
+    let Some(place) = place_of(held, id) else {
+        return Ok(Due::Nothing);
+    };
+    if !ends {
+        return held[place].go_on(alloc, octets);
+    }
+    if held[place].is_dropped() {
+        return Ok(Due::Nothing);
+    }
+    held.remove(place).finish(alloc, octets)
+}
+
+/// What goes out on a connection that is closed is dropped.
+pub fn drop_from(held: &mut Vec<Held>, k: u32)
+    ensures { reverse held.new.items ≡ map (drop_from k) (reverse held.old.items) }
+{
+    for h in held.iter_mut() {
+        h.drop_from(k);
+    }
 }
 
 /// Takes out what is held of a stream, if something is.

@@ -1,4 +1,4 @@
-//! Requests that wait for their end, and the open connections to upstreams, in code.
+//! Requests that aren't whole, and the open connections to upstreams, in code.
 //!
 //! A clause sees them as the rule of requests does: what is held of each stream and the open connections, the newest first, and how many
 //! were opened. Nothing is kept of what is due: a call answers it.
@@ -10,5 +10,5 @@ mod held;
 mod upstreams;
 
 pub use crate::connection::Connection;
-pub use crate::held::Outgoing;
+pub use crate::held::{Due, Outgoing};
 pub use crate::upstreams::Upstreams;

@@ -3,15 +3,16 @@ use Rattle.std.specs.Prelude.{IsErrOf, is_ok, OnOk}
 use Rattle.std.proofs.Common.{◌≡◌, ◌+◌, length, length-append, Ok, Err, Result, ◌||◌, Bool, true, false, Option, Some, List, [], ◌∷◌, ◌++◌, ℕ, take, drop, reverse, refl, ap, sym, ◌∙◌, subst, append_assoc, append-nil}
 use Rattle.std.specs.List.{list_any}
 use Rattle.std.proofs.lemmas.List.{reverse-append, take-append-drop, map-append}
-use Rattle.model.specs.Admission.{is_admitted}
+use Rattle.model.specs.Rooms.{IsAdmitted}
+use Rattle.conduct.specs.Rule.{known_of}
 use Rattle.model.specs.Logs as logs
 use Rattle.model.specs.Logs.{Step}
 use Rattle.model.specs.Setup.{Setup}
 use Rattle.outputs.specs.Views.{event_of, output_of, outputs_of}
 use Rattle.policy.specs.Moves.{Move}
-use Rattle.policy.specs.State.{tape_of}
+use Rattle.policy.specs.State.{conducts, tape_of}
 use Rattle.gateway.specs.Promises.{Promise}
-use Rattle.gateway.specs.Rooms.{AreRooms, turns}
+use Rattle.gateway.specs.Rooms.{AreRooms}
 use Rattle.gateway.specs.Stands.{Standing, Stands, StandsNext}
 use Rattle.gateway.proofs.Running.{promised_at}
 use Rattle.outputs.specs.declared.events.Event.{Event}
@@ -22,7 +23,7 @@ use Rattle.worlds.specs.Worlds.IsFrontOf.{Whole, Lacks}
 
 -- ---- whether the client is closed
 
-pub either_false : (a b : Bool) → (a || b) ≡ false → (a ≡ false) × (b ≡ false)
+either_false : (a b : Bool) → (a || b) ≡ false → (a ≡ false) × (b ≡ false)
 either_false false b h = (refl, h)
 either_false true b h = absurd (cc)
 
@@ -76,7 +77,7 @@ serves_none setup log g rooms handed before e none stands = record {
   is = e ∙ ap Some (sym (append-nil before));
   stands = stands;
   has_closed_is = refl;
-  rooms_are = subst (λ r. AreRooms [] r) (sym none) (record { numbers = []; rise = tt; listed = λ k. refl; each = refl });
+  rooms_are = subst (λ r. AreRooms (known_of setup []) [] r) (sym none) (record { rise = tt; listed = λ k. refl; each = tt });
   hands = λ earlier h. ([], h ∙ ap Some (sym (append-nil earlier)), tt);
 }
 
@@ -110,7 +111,7 @@ pub serves_more : (setup : Setup) (g g' : Standing) (before added : List Step) (
     → log ≡ Some (before ++ added ++ with_outputs (came event) (outputs_of out) ∷ []) → Steps g g' event old out
     → closed ≡ list_any (λ output. closes (output_of output)) out → has_closed added ≡ false
     → Stands setup g (reverse added) run
-    → ((next : StandsNext setup g' (reverse added) run (event_of event) (outputs_of out)) → AreRooms (tape_of (next.segment ++ run)) rooms)
+    → ((next : StandsNext setup g' (reverse added) run (event_of event) (outputs_of out)) → AreRooms (known_of setup (conducts (next.segment ++ run))) (tape_of (next.segment ++ run)) rooms)
     → AreAllHanded setup (length before) added earlier handed → handed' ≡ handed
     → Serves setup closed log g' rooms earlier handed' before
 serves_more setup g g' before added run event old out log closed rooms earlier handed handed' is steps ends still stands noted hands same =
@@ -151,9 +152,9 @@ front_lacks setup g g' before added run event old out log done more parts is ste
 
 -- An event came that may not.
 pub may_not_come : (setup : Setup) (closed : Bool) (log : Option (List Step)) (g : Standing) (rooms : List (ℕ × ℕ)) (old handed : Option (List Handed)) (before : List Step) (event : Event) → (s : Serves setup closed log g rooms old handed before)
-    → is_admitted (tape_of s.run) (event_of event) ≡ false → MayNotCome setup s.added (event_of event)
+    → (IsAdmitted (known_of setup (conducts s.run)) (tape_of s.run) (event_of event) → ⊥) → MayNotCome setup s.added (event_of event)
 may_not_come setup closed log g rooms old handed before event s refused =
-    let promised = promised_at setup g s.added s.run s.stands in record { promise = promised.0; refused = ap (λ t. is_admitted t (event_of event)) promised.1 ∙ refused }
+    let promised = promised_at setup g s.added s.run s.stands in record { promise = promised.0; refused = λ may. refused (subst (λ t. IsAdmitted (known_of setup (conducts s.run)) t (event_of event)) promised.1 (subst (λ k. IsAdmitted k promised.0.tape (event_of event)) promised.2 may)) }
 
 -- ---- a call of `next`
 
@@ -170,7 +171,7 @@ hands_one setup closed log g rooms old handed handed' before adds s = λ earlier
       parts = sym (append-nil s.added);
       steps = length-append before s.added;
       promise = p.0;
-      rooms = subst (λ t. AreRooms t rooms) (sym p.1) s.rooms_are;
+      rooms = subst (λ k. AreRooms k p.0.tape rooms) (sym p.2) (subst (λ t. AreRooms (known_of setup (conducts s.run)) t rooms) (sym p.1) s.rooms_are);
     } in (
       a.0 ++ one ∷ [],
       adds (before ++ s.added) (earlier ++ a.0) s.is a.1 ∙ ap Some (append_assoc earlier a.0 (one ∷ [])),
@@ -224,8 +225,3 @@ cut_outputs n out = ap outputs_of (sym (take-append-drop n out)) ∙ map-append 
 -- An error is the same one, whatever an answer would have been.
 pub same_fault : {A B E : Type 0} (fault other : E) → IsErrOf {T = A} (Err fault) other → IsErrOf {T = B} (Err fault) other
 same_fault fault other is = let same : fault ≡ other = cc in rw same refl
-
--- whether outputs open a connection or close one, as they are seen
-pub turns_seen : (out : List Output) → list_any turns (outputs_of out) ≡ list_any (λ output. turns (output_of output)) out
-turns_seen [] = refl
-turns_seen (o ∷ out) = ap (λ b. turns (output_of o) || b) (turns_seen out)

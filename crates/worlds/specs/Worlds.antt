@@ -3,11 +3,12 @@ use Rattle.std.specs.Prelude.{◌≡◌, ℕ, ◌+◌, Bool, true, false, Option
 use Rattle.model.specs.Logs as logs
 use Rattle.model.specs.Logs.{Step}
 use Rattle.model.specs.Setup.{Setup}
-use Rattle.model.specs.Admission.{is_admitted}
+use Rattle.model.specs.Rooms.{IsAdmitted}
+use Rattle.conduct.specs.Rule.{known_of}
 use Rattle.outputs.specs.declared.events.Event.{Event}
 use Rattle.outputs.specs.Views.{event_of}
 use Rattle.policy.specs.Moves.{Move}
-use Rattle.policy.specs.State.{tape_of}
+use Rattle.policy.specs.State.{conducts, tape_of}
 use Rattle.gateway.specs.Promises.{Promise}
 use Rattle.gateway.specs.Rooms.{AreRooms}
 use Rattle.gateway.specs.Stands.{Standing, Stands}
@@ -98,7 +99,7 @@ AddsFront setup old new = (before : List Step) → old ≡ Some before → AddsF
 -- What is promised holds of the log, by a tape behind which the event may not come.
 pub record MayNotCome (setup : Setup) (log : List Step) (event : logs.Event) : Type 0 where
   pub promise : Promise setup log
-  pub refused : is_admitted promise.tape event ≡ false
+  pub refused : IsAdmitted promise.known promise.tape event → ⊥
 
 -- The event that came last may not come behind what was added before it, and nothing is put out for it.
 abbrev pub AddsRefusedTo : Setup → List Step → Option (List Step) → Type 0
@@ -117,7 +118,7 @@ pub record IsHanded (setup : Setup) (before : ℕ) (added : List Step) (handed :
   pub parts : added ≡ front ++ rest
   pub steps : handed.steps ≡ before + length front
   pub promise : Promise setup front
-  pub rooms : AreRooms promise.tape handed.rooms
+  pub rooms : AreRooms promise.known promise.tape handed.rooms
 
 abbrev pub AreHanded : Setup → ℕ → List Step → List Handed → Type 0
 AreHanded setup before added [] = Unit {0}
@@ -146,5 +147,5 @@ pub record Serves (setup : Setup) (closed : Bool) (log : Option (List Step)) (g 
   pub is : log ≡ Some (before ++ added)
   pub stands : Stands setup g (reverse added) run
   pub has_closed_is : has_closed added ≡ closed
-  pub rooms_are : AreRooms (tape_of run) rooms
+  pub rooms_are : AreRooms (known_of setup (conducts run)) (tape_of run) rooms
   pub hands : AreAllHanded setup (length before) added old handed

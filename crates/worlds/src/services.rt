@@ -1,21 +1,21 @@
 //! A gateway before a world.
 
-ghost use Rattle.std.specs.Prelude.{◌≡◌, ◌+◌, ◌<◌, ◌^◌, ◌||◌, ◌∷◌, ◌++◌, [], List, Option, Some, length, reverse, true, false, IsOkAnd, IsErrOf, OnOk, OnErr, IfOk, IfErr};
+ghost use Rattle.std.specs.Prelude.{◌≡◌, ◌+◌, ◌<◌, ◌^◌, ◌∷◌, ◌++◌, [], List, Option, Some, length, reverse, true, false, IsOkAnd, IsErrOf, OnOk, OnErr, IfOk, IfErr};
 ghost use Rattle.model.specs.Logs.{Step, Output as Put};
 ghost use Rattle.std.specs.List.{list_any};
 ghost use Rattle.model.specs.Setup.{Setup};
 ghost use Rattle.outputs.specs.Views.{event_of, output_of, outputs_of};
 ghost use Rattle.policy.specs.Moves.{Move};
-ghost use Rattle.policy.specs.State.{tape_of};
+ghost use Rattle.policy.specs.State.{conducts, tape_of};
 ghost use Rattle.gateway.specs.Setups.{setup_of, IsServable};
-ghost use Rattle.gateway.specs.Stands.{Stands, StandsNext};
-ghost use Rattle.gateway.specs.Rooms.{AreRooms, turns, fails};
+ghost use Rattle.gateway.specs.Stands.{Stands};
 ghost use Rattle.worlds.specs.Worlds.{Handed, AddsRun, AddsFront, AddsFrontTo, AddsRefused, AddsRefusedTo, AreAllHanded, Hands, HandsTo, SaysEnd, ends, with_outputs, came, closes, has_closed, Serves, StandsSomewhere};
-ghost use Rattle.model.specs.Admission.{is_admitted};
+ghost use Rattle.model.specs.Rooms.{IsAdmitted};
+ghost use Rattle.conduct.specs.Rule.{known_of};
 
 use crate::world::{Next, World, WorldFault};
 use gateway::{Config, Event, Gateway, Output};
-use std::alloc::{AllocError, Global};
+use std::alloc::Global;
 
 /// How serving a world ended.
 #[derive(Clone, Copy, Debug, PartialEq, Eq, Drop)]
@@ -59,53 +59,6 @@ fn apply_all<W: World>(world: &mut W, outputs: &[Output]) -> Result<(), WorldFau
     Ok(())
 }
 
-/// Whether the connection to an upstream fails by an event.
-fn is_failure(event: &Event) -> bool
-    ensures { result ≡ fails (event_of event.now) }
-{
-    match event {
-        Event::UpFailed(_) => true,
-        Event::Client(_)
-        | Event::ClientEnd
-        | Event::ClientTook(_)
-        | Event::Up(_, _)
-        | Event::UpEnd(_)
-        | Event::UpTook(_, _) => false,
-    }
-}
-
-/// Whether outputs open a connection to an upstream, or close one.
-fn turn_connections(outputs: &[Output]) -> bool
-    ensures { result ≡ list_any (λ output. turns (output_of output)) outputs.now }
-{
-    outputs.iter().any(|output| matches!(output, Output::Open(_, _) | Output::Close(_)))
-}
-
-/// Whether a step opens or closes connections to upstreams.
-fn changes_rooms(event: &Event, outputs: &[Output]) -> bool
-    ensures { result ≡ (fails (event_of event.now) || list_any (λ output. turns (output_of output)) outputs.now) }
-{
-    is_failure(event) || turn_connections(outputs)
-}
-
-/// Brings the rooms of the open connections behind a step, with what was put out for its event. They are listed anew only where it
-/// opened or closed one.
-fn note_step(
-    gateway: &Gateway,
-    event: &Event,
-    outputs: &[Output],
-    rooms: &mut Vec<(u32, usize)>,
-) -> Result<(), AllocError>
-    ensures { OnOk result ((setup : Setup) (log : List Step) (run : List Move) (next : StandsNext setup gateway.now log run (event_of event.now) (outputs_of outputs.now))
-        → AreRooms (tape_of run) rooms.old.items → AreRooms (tape_of (next.segment ++ run)) rooms.new.items) }
-{
-    if changes_rooms(event, outputs) {
-        gateway.list_rooms(rooms)
-    } else {
-        Ok(())
-    }
-}
-
 /// Takes an event of the world, and applies what is put out for it. The answer is whether the client was closed. The rooms are those
 /// behind it then.
 fn take_event<W: World>(
@@ -122,12 +75,12 @@ fn take_event<W: World>(
     ensures stands { OnOk result ((setup : Setup) → StandsSomewhere setup gateway.old → StandsSomewhere setup gateway.new) }
     ensures world { IsErrOf result ServeFault.World → W.failures world.old < W.failures world.new }
     ensures log { IfOk result (λ closed. (setup : Setup) (before added : List Step) (run : List Move) (old : Option (List Handed)) → W.log world.old ≡ Some (before ++ added ++ came event.now ∷ [])
-        → Stands setup gateway.old (reverse added) run → has_closed added ≡ false → AreRooms (tape_of run) rooms.old.items → AreAllHanded setup (length before) added old (W.handed world.old)
+        → Stands setup gateway.old (reverse added) run → has_closed added ≡ false → AreAllHanded setup (length before) added old (W.handed world.old)
         → Serves setup closed (W.log world.new) gateway.new rooms.new.items old (W.handed world.new) before) }
     ensures front { IsErrOf result ServeFault.World → (setup : Setup) (before added : List Step) (run : List Move) → W.log world.old ≡ Some (before ++ added ++ came event.now ∷ [])
         → Stands setup gateway.old (reverse added) run → AddsFrontTo setup before (W.log world.new) }
     ensures refused { IsErrOf result ServeFault.NotAdmitted → (W.log world.new ≡ W.log world.old)
-        × ((setup : Setup) (log : List Step) (run : List Move) → Stands setup gateway.old log run → is_admitted (tape_of run) (event_of event.now) ≡ false) }
+        × ((setup : Setup) (log : List Step) (run : List Move) → Stands setup gateway.old log run → IsAdmitted (known_of setup (conducts run)) (tape_of run) (event_of event.now) → ⊥) }
     ensures adds { OnErr result ((before : List Step) → W.log world.old ≡ Some (before ++ came event.now ∷ []) → (outputs : List Put) × (W.log world.new ≡ Some (before ++ with_outputs (came event.now) outputs ∷ []))) }
     ensures handed { W.handed world.new ≡ W.handed world.old }
 {
@@ -138,7 +91,7 @@ fn take_event<W: World>(
     if gateway.step(event, &mut outputs).is_err() {
         return Err(ServeFault::Memory);
     }
-    if note_step(gateway, event, &outputs, rooms).is_err() {
+    if gateway.list_rooms(rooms).is_err() {
         return Err(ServeFault::Memory);
     }
     match apply_all(world, &outputs) {

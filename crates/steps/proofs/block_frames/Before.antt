@@ -5,7 +5,6 @@ use Rattle.std.specs.List.{list_any, list_all}
 use Rattle.std.proofs.lemmas.Bool.{and_parts}
 use Rattle.model.specs.Frames.{Frame, data_kind, headers_kind, continuation_kind, settings_kind, rst_stream_kind, is_ack, goaway, no_error}
 use Rattle.model.specs.Setup.{Setup}
-use Rattle.model.specs.Setup.Passing.{Whole as WholePassing}
 use Rattle.model.specs.StreamStates.{most_streams}
 use Rattle.model.specs.Tables.{Table}
 use Rattle.model.specs.Tapes.{Note, Noted, Entry}
@@ -48,7 +47,7 @@ use Rattle.policy.specs.State.{State, conducts, tape_of}
 use Rattle.policy.specs.Coming.{IsReady, IsGained}
 use Rattle.policy.specs.Steps.{told_by, told_behind}
 use Rattle.relay.specs.Taking.{IsFrameTaken}
-use Rattle.relay.specs.View.{View, Pending, square, Leads}
+use Rattle.relay.specs.View.{View, Pending, square, Leads, waiting_for}
 use Rattle.relay.specs.Rest.{IsAtRest}
 use Rattle.relay.specs.Bringing.{Course}
 use Rattle.relay.specs.Led.{IsLed}
@@ -60,7 +59,11 @@ use Rattle.relay.proofs.Heads as heads
 use Rattle.relay.proofs.Resting.{rests_are_ready}
 use Rattle.relay.proofs.Sound.{boxes}
 use Rattle.relay.proofs.Staying.{rows_kept}
-use Rattle.steps.specs.block_frames.Following.{farewell_behind, farewell_frames, IsNewest}
+use Rattle.marks_kept.specs.Sides.{unless_over}
+use Rattle.marks_kept.specs.Standing.{dropped_of}
+use Rattle.marks_kept.proofs.Rising.{without_none}
+use Rattle.relay.proofs.Marked.{none_marked, none_waits}
+use Rattle.steps.specs.block_frames.Following.{farewell_behind, farewell_frames, marks_if, dropped_if, IsNewest}
 use Rattle.steps.proofs.block_frames.Lists.{above_kept}
 use Rattle.steps.proofs.block_frames.Streams.{may_be_opened, ids_behind}
 
@@ -179,13 +182,41 @@ module _ (setup : Setup) (old : View) (rest : IsAtRest old) (run : List Move) (s
       abbrev pub then_state : State
       then_state = coming.then_state setup run old s leads ready noted next gain (is_taken gain gained)
 
+      abbrev pub live_there : Bool
+      live_there = is_active (inbound_behind setup old.inbound noted next).rows noted.frame.id
+
+      -- what is kept then, and what is pending
+      abbrev pub there : offering.State → upstreams.State → View
+      there offers upstream = record old { inbound = inbound_behind setup old.inbound noted next; offers = offers; upstreams = upstream; marks = marks_if live_there noted.frame.id old.marks }
+
+      abbrev pub pending_there : List Frame → Due → Pending
+      pending_there owed due = record square { owed = owed; due = due; shared = dropped_if live_there (waiting_for noted.frame.id old) }
+
+      marks_there : unless_over (change_between old.inbound.rows (inbound_behind setup old.inbound noted next).rows noted.frame.id).over noted.frame.id old.marks ≡ marks_if live_there noted.frame.id old.marks
+      marks_there = by (is_active old.inbound.rows noted.frame.id) refl live_there
+        where
+          by : (was : Bool) → is_active old.inbound.rows noted.frame.id ≡ was → (now : Bool) → unless_over (was && not now) noted.frame.id old.marks ≡ marks_if now noted.frame.id old.marks
+          by true is true = refl
+          by true is false = refl
+          by false is true = refl
+          by false is false = sym (without_none noted.frame.id old.marks (none_marked setup run old square s leads noted.frame.id is))
+
+      back_there : dropped_of (change_between old.inbound.rows (inbound_behind setup old.inbound noted next).rows noted.frame.id).over noted.frame.id old.marks ≡ dropped_if live_there (waiting_for noted.frame.id old)
+      back_there = by (is_active old.inbound.rows noted.frame.id) refl live_there
+        where
+          by : (was : Bool) → is_active old.inbound.rows noted.frame.id ≡ was → (now : Bool) → dropped_of (was && not now) noted.frame.id old.marks ≡ dropped_if now (waiting_for noted.frame.id old)
+          by true is true = refl
+          by true is false = refl
+          by false is true = refl
+          by false is false = sym (none_waits setup run old square s leads noted.frame.id is)
+
       -- Where it leads, by what is kept then.
       pub leads_there : (owed : List Frame) (due : Due) (offers : offering.State) (upstream : upstreams.State) → upstream.live ≡ old.upstreams.live → owes_in setup false (told_of no_outside old.inbound) (Came noted) ≡ owed
           → offers_with noted.frame.id (change_between old.inbound.rows (inbound_behind setup old.inbound noted next).rows noted.frame.id) old.offers ≡ offers
           → Rattle.serving.specs.State.after setup (told_of_rows (inbound_behind setup old.inbound noted next)) (upstreams.with_due old.upstreams Due.Nothing) (Rattle.policy.specs.Moves.gained noted gain) ≡ upstreams.with_due upstream due
-          → (outputs : List Output) → Course setup run s outputs (Came noted) (record old { inbound = inbound_behind setup old.inbound noted next; offers = offers; upstreams = upstream }) (record square { owed = owed; due = due }) outputs
+          → (outputs : List Output) → Course setup run s outputs (Came noted) (there offers upstream) (pending_there owed due) outputs
       leads_there owed due offers upstream same owes on_offer requests outputs =
-          coming.begins setup run old s leads ready noted next gain (is_taken gain gained) outputs (record old { inbound = inbound_behind setup old.inbound noted next; offers = offers; upstreams = upstream }) (record square { owed = owed; due = due })
-          (subst (λ (xs : List ℕ). Leads setup (Does (Takes noted next gain) ∷ run) (record old { inbound = inbound_behind setup old.inbound noted next; offers = offers; upstreams = upstream; encoding = encoding_with xs old.encoding }) (record square { owed = owed; due = due }) then_state) (names_none (told_of no_outside old.inbound) noted.frame of)
-          (subst (λ n. Leads setup (Does (Takes noted next gain) ∷ run) (record old { inbound = inbound_behind setup old.inbound noted next; offers = offers; upstreams = upstream; encoding = encoding_with (named_by (verdict_in (told_of no_outside old.inbound) noted.frame) noted.frame) old.encoding }) (record square { owed = owed; due = due; fresh = n }) then_state) (brings_none noted.frame of)
-          (coming.leads_then setup run old s leads ready noted next gain (is_taken gain gained) owed due offers upstream same owes on_offer requests)))
+          coming.begins setup run old s leads ready noted next gain (is_taken gain gained) outputs (there offers upstream) (pending_there owed due)
+          (subst (λ (xs : List ℕ). Leads setup (Does (Takes noted next gain) ∷ run) (record (there offers upstream) { encoding = encoding_with xs old.encoding }) (pending_there owed due) then_state) (names_none (told_of no_outside old.inbound) noted.frame of)
+          (subst (λ n. Leads setup (Does (Takes noted next gain) ∷ run) (record (there offers upstream) { encoding = encoding_with (named_by (verdict_in (told_of no_outside old.inbound) noted.frame) noted.frame) old.encoding }) (record (pending_there owed due) { fresh = n }) then_state) (brings_none noted.frame of)
+          (coming.leads_then setup run old s leads ready noted next gain (is_taken gain gained) owed due offers upstream (there offers upstream).marks (pending_there owed due).shared same owes on_offer requests marks_there back_there)))

@@ -45,7 +45,12 @@ use Rattle.policy.specs.State.{State}
 use Rattle.policy.specs.Rule.{added_in}
 use Rattle.policy.specs.Coming.{IsGained}
 use Rattle.policy.specs.Steps.{told_by, told_behind}
-use Rattle.relay.specs.View.{View, square, Leads}
+use Rattle.receiving.specs.Marks.{total}
+use Rattle.marks_kept.specs.Sides.{Side, queue_if, queue_of}
+use Rattle.marks_kept.specs.Sides.{without as without_side}
+use Rattle.marks_kept.proofs.Looking.{gone_own}
+use Rattle.marks_kept.proofs.Rising.{without_none}
+use Rattle.relay.specs.View.{View, square, waiting_for, Leads}
 use Rattle.relay.specs.Rest.{IsAtRest}
 use Rattle.relay.specs.Bringing.{Course, Brings, PerformsOwn}
 use Rattle.relay.proofs.Bringing.{own_none, own_then, brings_then}
@@ -54,15 +59,15 @@ use Rattle.relay.proofs.Coming as coming
 use Rattle.relay.proofs.Resets.{reset_view, reset_paid}
 use Rattle.steps.proofs.paying.Paying.{pays_control}
 use Rattle.steps.specs.declared.paying.control.Control.TheVariants as control
-use Rattle.steps.specs.block_frames.Following.{offers_if, held_if, followed, forgotten, farewell_frames, with_farewell, put_farewell}
+use Rattle.steps.specs.block_frames.Following.{offers_if, held_if, marks_if, dropped_if, dropped_by, followed, forgotten, farewell_frames, with_farewell, put_farewell}
 use Rattle.steps.proofs.block_frames.Lists.{offers_followed, offers_replied, offers_gone, held_by, held_gone}
 use Rattle.steps.proofs.block_frames.Before.{ready, kept_rows, box_there, is_taken, leads_there}
 
 -- the farewell is paid, if it is owed
-pub pays_farewell : (setup : Setup) (kept : View) (last : Option ℕ) (rest : List Frame) (outputs : List Output)
-    → PerformsOwn setup kept (record square { owed = farewell_frames last ++ rest }) outputs (with_farewell last kept) (record square { owed = rest }) (put_farewell last outputs)
-pays_farewell setup kept None rest outputs = own_none setup kept (record square { owed = rest }) outputs
-pays_farewell setup kept (Some last) rest outputs = pays_control setup kept (record square { owed = goaway last no_error ∷ rest }) rest (control.Farewell last no_error) tt refl refl outputs
+pub pays_farewell : (setup : Setup) (kept : View) (back : ℕ) (last : Option ℕ) (rest : List Frame) (outputs : List Output)
+    → PerformsOwn setup kept (record square { owed = farewell_frames last ++ rest; shared = back }) outputs (with_farewell last kept) (record square { owed = rest; shared = back }) (put_farewell last outputs)
+pays_farewell setup kept back None rest outputs = own_none setup kept (record square { owed = rest; shared = back }) outputs
+pays_farewell setup kept back (Some last) rest outputs = pays_control setup kept (record square { owed = goaway last no_error ∷ rest; shared = back }) rest (control.Farewell last no_error) tt refl refl outputs
 
 -- it changes nothing but what is untaken
 farewell_view : (last : Option ℕ) (kept : View) → with_farewell last kept ≡ record kept { untaken = (with_farewell last kept).untaken }
@@ -97,7 +102,7 @@ module _ (setup : Setup) (old : View) (rest : IsAtRest old) (noted : Noted) (nex
     -- It leads on, with nothing gained.
     pub brings_none : (owed : List Frame) (offers : offering.State) → owes_in setup false (told_of no_outside old.inbound) (Came noted) ≡ owed
         → ((run : List Move) (s : State) → Leads setup run old square s → offers_with id (change_between old.inbound.rows behind.rows id) old.offers ≡ offers)
-        → (outputs : List Output) → Brings setup old square outputs (Came noted) (record behind_view { offers = offers; upstreams = held_now }) (record square { owed = owed }) outputs
+        → (outputs : List Output) → Brings setup old square outputs (Came noted) (record behind_view { offers = offers; upstreams = held_now; marks = marks_if (is_active behind.rows id) id old.marks }) (record square { owed = owed; shared = dropped_by id behind_view }) outputs
     brings_none owed offers owes on_offer outputs run s leads =
         leads_there setup old rest run s leads noted next of mild is_noted read NoGain (gains_none run s leads) owed Nothing offers held_now refl owes (on_offer run s leads)
         (ap (λ (hs : List Held). record (with_due old.upstreams Nothing) { held = hs }) (coming.held_then setup run old s leads (ready setup old rest run s leads) noted next NoGain (is_taken setup old rest run s leads noted next of mild is_noted read NoGain (gains_none run s leads)) ∙ held_by served id old.upstreams.held))
@@ -105,7 +110,7 @@ module _ (setup : Setup) (old : View) (rest : IsAtRest old) (noted : Noted) (nex
 
     -- What is kept of its stream follows.
     pub brings_followed : (owed : List Frame) → owes_in setup false (told_of no_outside old.inbound) (Came noted) ≡ owed → found_by (find old.inbound.rows id).brief.cause (find behind.rows id).brief.cause ≡ None
-        → (outputs : List Output) → Brings setup old square outputs (Came noted) (followed id behind_view) (record square { owed = owed }) outputs
+        → (outputs : List Output) → Brings setup old square outputs (Came noted) (followed id behind_view) (record square { owed = owed; shared = dropped_by id behind_view }) outputs
     brings_followed owed owes no_cause outputs =
         brings_none owed (offers_if (is_active behind.rows id) id old.offers) owes (λ run s leads.
         ap (λ (c : Option Cause). offers_with id (record { opens = not (is_active old.inbound.rows id) && is_active behind.rows id; over = is_active old.inbound.rows id && not (is_active behind.rows id); caused = c }) old.offers) no_cause
@@ -113,7 +118,7 @@ module _ (setup : Setup) (old : View) (rest : IsAtRest old) (noted : Noted) (nex
 
     -- The gateway's reply is on offer.
     pub brings_replied : (owed : List Frame) (cause : Cause) → owes_in setup false (told_of no_outside old.inbound) (Came noted) ≡ owed → found_by (find old.inbound.rows id).brief.cause (find behind.rows id).brief.cause ≡ Some cause → is_active behind.rows id ≡ true
-        → (outputs : List Output) → Brings setup old square outputs (Came noted) (record (followed id behind_view) { offers = record (followed id behind_view).offers { kept = offering.change id (offering.answered cause) (followed id behind_view).offers.kept } }) (record square { owed = owed }) outputs
+        → (outputs : List Output) → Brings setup old square outputs (Came noted) (record (followed id behind_view) { offers = record (followed id behind_view).offers { kept = offering.change id (offering.answered cause) (followed id behind_view).offers.kept } }) (record square { owed = owed; shared = dropped_by id behind_view }) outputs
     brings_replied owed cause owes caused active outputs =
         brings_none owed (record (offers_if (is_active behind.rows id) id old.offers) { kept = offering.change id (offering.answered cause) (offers_if (is_active behind.rows id) id old.offers).kept }) owes (λ run s leads.
         ap (λ (c : Option Cause). offers_with id (record { opens = not (is_active old.inbound.rows id) && is_active behind.rows id; over = is_active old.inbound.rows id && not (is_active behind.rows id); caused = c }) old.offers) caused
@@ -124,18 +129,22 @@ module _ (setup : Setup) (old : View) (rest : IsAtRest old) (noted : Noted) (nex
     -- The stream is reset, behind the farewell.
     pub brings_reset : (last : Option ℕ) (code : ℕ) → owes_in setup false (told_of no_outside old.inbound) (Came noted) ≡ farewell_frames last ++ rst_stream id code ∷ [] → may_open (ids_of behind.rows) id ≡ false → id < 2147483648
         → (outputs : List Output)
-        → Brings setup old square outputs (Came noted) (record (forgotten id (record old { inbound = record behind { rows = changed id (Over true) behind.rows } })) { untaken = (with_farewell last old).untaken + length (spell (rst_stream id code)) }) square (put (put_farewell last outputs) (ToClient (spell (rst_stream id code))))
+        → Brings setup old square outputs (Came noted) (record (forgotten id (record old { inbound = record behind { rows = changed id (Over true) behind.rows } })) { untaken = (with_farewell last old).untaken + length (spell (rst_stream id code)) }) (record square { shared = waiting_for id old }) (put (put_farewell last outputs) (ToClient (spell (rst_stream id code))))
     brings_reset last code owes known small outputs =
-        subst (λ (v : View). Brings setup old square outputs (Came noted) v square (put (put_farewell last outputs) (ToClient (spell (rst_stream id code))))) same
-        (brings_then setup old first (reset_view paid id code) square (record square { owed = farewell_frames last ++ rst_stream id code ∷ [] }) square outputs outputs (put (put_farewell last outputs) (ToClient (spell (rst_stream id code)))) (Came noted)
+        subst (λ n. Brings setup old square outputs (Came noted) target (record square { shared = n }) (put (put_farewell last outputs) (ToClient (spell (rst_stream id code))))) all_back
+        (subst (λ (v : View). Brings setup old square outputs (Came noted) v (record square { shared = back_first + waiting_for id paid }) (put (put_farewell last outputs) (ToClient (spell (rst_stream id code))))) same
+        (brings_then setup old first (reset_view paid id code) square (record square { owed = farewell_frames last ++ rst_stream id code ∷ []; shared = back_first }) (record square { shared = back_first + waiting_for id paid }) outputs outputs (put (put_farewell last outputs) (ToClient (spell (rst_stream id code)))) (Came noted)
         (brings_none (farewell_frames last ++ rst_stream id code ∷ []) (offers_with id (change_between old.inbound.rows behind.rows id) old.offers) owes (λ run s leads. refl) outputs)
-        (own_then setup first paid (reset_view paid id code) (record square { owed = farewell_frames last ++ rst_stream id code ∷ [] }) (record square { owed = rst_stream id code ∷ [] }) square outputs (put_farewell last outputs) (put (put_farewell last outputs) (ToClient (spell (rst_stream id code))))
-        (subst (λ (v : View). PerformsOwn setup first (record square { owed = farewell_frames last ++ rst_stream id code ∷ [] }) outputs v (record square { owed = rst_stream id code ∷ [] }) (put_farewell last outputs)) (farewell_view last first)
-        (pays_farewell setup first last (rst_stream id code ∷ []) outputs))
-        (reset_paid setup paid (record square { owed = rst_stream id code ∷ [] }) [] id code refl refl known (fits_reset id code small) (put_farewell last outputs))))
+        (own_then setup first paid (reset_view paid id code) (record square { owed = farewell_frames last ++ rst_stream id code ∷ []; shared = back_first }) (record square { owed = rst_stream id code ∷ []; shared = back_first }) (record square { shared = back_first + waiting_for id paid }) outputs (put_farewell last outputs) (put (put_farewell last outputs) (ToClient (spell (rst_stream id code))))
+        (subst (λ (v : View). PerformsOwn setup first (record square { owed = farewell_frames last ++ rst_stream id code ∷ []; shared = back_first }) outputs v (record square { owed = rst_stream id code ∷ []; shared = back_first }) (put_farewell last outputs)) (farewell_view last first)
+        (pays_farewell setup first back_first last (rst_stream id code ∷ []) outputs))
+        (reset_paid setup paid (record square { owed = rst_stream id code ∷ []; shared = back_first }) [] id code refl refl known (fits_reset id code small) (put_farewell last outputs)))))
       where
         first : View
-        first = record behind_view { offers = offers_with id (change_between old.inbound.rows behind.rows id) old.offers; upstreams = held_now }
+        first = record behind_view { offers = offers_with id (change_between old.inbound.rows behind.rows id) old.offers; upstreams = held_now; marks = marks_if (is_active behind.rows id) id old.marks }
+
+        back_first : ℕ
+        back_first = dropped_by id behind_view
 
         paid : View
         paid = record first { untaken = (with_farewell last first).untaken }
@@ -147,11 +156,26 @@ module _ (setup : Setup) (old : View) (rest : IsAtRest old) (noted : Noted) (nex
         target : View
         target = record (forgotten id (record old { inbound = record behind { rows = changed id (Over true) behind.rows } })) { untaken = (with_farewell last old).untaken + length (spell (rst_stream id code)) }
 
+        marks_gone : (b : Bool) → without_side id (marks_if b id old.marks) ≡ without_side id old.marks
+        marks_gone true = refl
+        marks_gone false = without_none id (without_side id old.marks) (gone_own id old.marks)
+
         same : reset_view paid id code ≡ target
         same =
             ap (λ n. record (reset_view paid id code) { untaken = n + length (spell (rst_stream id code)) }) (untaken_same last)
-            ∙ ap (λ (ks : List offering.Kept). record target { offers = record old.offers { kept = ks }; upstreams = record old.upstreams { held = serving.without id_of id (held_if served id old.upstreams.held) } }) (offers_gone id (change_between old.inbound.rows behind.rows id) old.offers)
-            ∙ ap (λ (hs : List Held). record target { upstreams = record old.upstreams { held = hs } }) (held_gone served id old.upstreams.held)
+            ∙ ap (λ (ks : List offering.Kept). record target { offers = record old.offers { kept = ks }; upstreams = record old.upstreams { held = serving.without id_of id (held_if served id old.upstreams.held) }; marks = without_side id first.marks }) (offers_gone id (change_between old.inbound.rows behind.rows id) old.offers)
+            ∙ ap (λ (hs : List Held). record target { upstreams = record old.upstreams { held = hs }; marks = without_side id first.marks }) (held_gone served id old.upstreams.held)
+            ∙ ap (λ (ms : List Side). record target { marks = ms }) (marks_gone (is_active behind.rows id))
+
+        plus_none : (n : ℕ) → n + 0 ≡ n
+        plus_none n = omega (arith)
+
+        by_back : (b : Bool) → dropped_if b (waiting_for id old) + total (queue_of id (marks_if b id old.marks)) ≡ waiting_for id old
+        by_back true = omega (arith)
+        by_back false = ap (λ (o : Option Side). waiting_for id old + total (queue_if o)) (gone_own id old.marks) ∙ plus_none (waiting_for id old)
+
+        all_back : back_first + waiting_for id paid ≡ waiting_for id old
+        all_back = by_back (is_active behind.rows id)
 
   -- ---- a frame with a fault
 

@@ -8,8 +8,7 @@ use Rattle.model.specs.Frames.{Frame, rst_stream_kind}
 use Rattle.model.specs.Logs.{Output}
 use Rattle.model.specs.Http2.{authority_of, path_of}
 use Rattle.model.specs.Malformed.{is_malformed_block, are_trailers, has_length}
-use Rattle.model.specs.Setup.{Setup, Passing}
-use Rattle.model.specs.Setup.Passing.{Whole as WholePassing}
+use Rattle.model.specs.Setup.{Setup}
 use Rattle.model.specs.Tables.{Table}
 use Rattle.model.specs.Tapes.{Note, Noted}
 use Rattle.model.specs.Tapes.Note.{Fields}
@@ -35,9 +34,9 @@ use Rattle.conduct.specs.Book.{Book, summary_in, book_after}
 use Rattle.offering.specs.State as offering
 use Rattle.offering.specs.Rule.{found_by}
 use Rattle.serving.specs.State as serving
-use Rattle.serving.specs.State.{Held, Due, id_of, held_of, held_with, goes_now, waits_from, is_whole, is_streaming}
+use Rattle.serving.specs.State.{Held, Way, Due, held_of, held_with, goes_now, waits_from, is_whole, is_streaming}
 use Rattle.serving.specs.State.Due.{Nothing, ToOpen}
-use Rattle.serving.specs.State.Way.{Waiting}
+use Rattle.serving.specs.State.Way.{Waiting, Going, Dropped}
 use Rattle.serving.specs.Rule.{IsServing}
 use Rattle.tables.specs.Rule.{IsNoted}
 use Rattle.tables.specs.Verdicts.{verdict_in}
@@ -47,26 +46,25 @@ use Rattle.judgement.specs.Inbound.{Inbound, book_of, told_of}
 use Rattle.judgement.specs.Fragments.{IsOfBlock}
 use Rattle.upstreams.specs.Kept as upstreams
 use Rattle.upstreams.specs.Kept.{with_due, Begins}
-use Rattle.upstreams.specs.Requests.{due_in, due_for, MayEndFor, IsEndedFor}
-use Rattle.upstreams.specs.declared.held.Outgoing.{Outgoing}
-use Rattle.policy.specs.Moves.{Gain, Move, told_in}
+use Rattle.upstreams.specs.Requests.{Gathers, IsPassed, TakesBy}
+use Rattle.upstreams.specs.Requests.{Takes as TakesOf}
+use Rattle.policy.specs.Moves.{Gain, Move, gained, told_in}
 use Rattle.policy.specs.Moves.Deed.{Takes}
 use Rattle.policy.specs.State.{State}
 use Rattle.policy.specs.Rule.{Adds, AddsHead}
 use Rattle.policy.specs.Coming.{IsGained}
 use Rattle.policy.specs.Steps.{told_by, told_behind}
-use Rattle.relay.specs.View.{View, square, Leads}
+use Rattle.relay.specs.View.{View, square, Leads, waiting_for}
 use Rattle.relay.specs.Rest.{IsAtRest}
-use Rattle.relay.specs.Bringing.{Brings}
-use Rattle.relay.specs.Waits.{WaitsFor}
+use Rattle.relay.specs.Bringing.{Course, Brings}
+use Rattle.relay.specs.Ways.{IsHeldFor}
 use Rattle.relay.proofs.Coming.{no_outside, inbound_behind, change_between, offers_with, told_of_rows}
-use Rattle.relay.proofs.Waits.{all_so, waits_for}
-use Rattle.steps.specs.block_frames.Following.{offers_if, held_if, followed}
+use Rattle.steps.specs.block_frames.Following.{offers_if, held_if, marks_if, dropped_if, dropped_by, followed}
 use Rattle.steps.proofs.block_frames.Lists.{offers_followed}
 use Rattle.steps.proofs.block_frames.Streams.{goes_on_with}
 use Rattle.steps.proofs.block_frames.Before.{box_there, leads_there}
 
-module _ (setup : Setup) (whole : setup.passing ≡ WholePassing) (old : View) (rest : IsAtRest old) (noted : Noted) (next : Table) (of : IsOfBlock noted.frame) (mild : is_fatal (fault_in (told_of no_outside old.inbound) (Came noted)) ≡ false)
+module _ (setup : Setup) (old : View) (rest : IsAtRest old) (noted : Noted) (next : Table) (of : IsOfBlock noted.frame) (mild : is_fatal (fault_in (told_of no_outside old.inbound) (Came noted)) ≡ false)
     (is_noted : IsNoted (completed_in old.inbound.block noted.frame) (verdict_in (told_of no_outside old.inbound) noted.frame).is_error old.inbound.table noted.note next) (read : is_read noted.note ≡ false → (verdict_in (told_of no_outside old.inbound) noted.frame).is_error ≡ true)
     (counted : (noted.frame.id == 0) ≡ false) (active : is_active (inbound_behind setup old.inbound noted next).rows noted.frame.id ≡ true) (no_cause : (find (inbound_behind setup old.inbound noted next).rows noted.frame.id).brief.cause ≡ None) where
   abbrev id : ℕ
@@ -101,11 +99,11 @@ module _ (setup : Setup) (whole : setup.passing ≡ WholePassing) (old : View) (
   -- ---- a request begins
 
   module _ (fields : List Field) (ends : Bool) (route : ℕ) (adds : AddsHead setup (told_of no_outside old.inbound) noted (Block fields ends)) where
-    pub brings_begun : (owed : List Frame) → owes_in setup false (told_of no_outside old.inbound) (Came noted) ≡ owed → (parts : Rattle.request_rules.specs.Heads.HeadParts) → GoesOn setup fields ends parts route
-        → (request : Option Outgoing) (new : upstreams.State) → Begins (followed id behind_view).upstreams id route parts ends request new
-        → (outputs : List Output) → Brings setup old square outputs (Came noted) (record (followed id behind_view) { upstreams = new }) (record square { owed = owed; due = due_in request }) outputs
-    brings_begun owed owes parts goes request new begun outputs run s leads =
-        leads_there setup old rest run s leads noted next of mild is_noted read gained_by is_so owed (due_in request) (offers_if (is_active behind.rows id) id old.offers) new
+    pub brings_begun : (at_once : Bool) → at_once ≡ is_streaming setup.passing → (owed : List Frame) → owes_in setup false (told_of no_outside old.inbound) (Came noted) ≡ owed → (parts : Rattle.request_rules.specs.Heads.HeadParts) → GoesOn setup fields ends parts route
+        → (due : Due) (new : upstreams.State) → Begins (followed id behind_view).upstreams id route parts ends at_once due new
+        → (outputs : List Output) → Brings setup old square outputs (Came noted) (record (followed id behind_view) { upstreams = new }) (record square { owed = owed; due = due; shared = dropped_by id behind_view }) outputs
+    brings_begun at_once as_set owed owes parts goes due new begun outputs run s leads =
+        leads_there setup old rest run s leads noted next of mild is_noted read gained_by is_so owed due (offers_if (is_active behind.rows id) id old.offers) new
         (ap (λ (u : upstreams.State). u.live) begun.kept) owes (followed_there run s leads) requests outputs
       where
         gained_by : Gain
@@ -122,56 +120,81 @@ module _ (setup : Setup) (whole : setup.passing ≡ WholePassing) (old : View) (
           },
         )
 
-        goes_so : goes_now setup begun.stage ≡ ends
-        goes_so = ap (λ (p : Passing). is_streaming p || is_whole begun.stage) whole ∙ begun.whole
+        goes_so : goes_now setup begun.stage ≡ (at_once || ends)
+        goes_so = ap (λ b. b || is_whole begun.stage) (sym as_set) ∙ ap (λ b. at_once || b) begun.whole
 
-        requests : serving.after setup (told_of_rows behind) (with_due old.upstreams Nothing) (serving.Move.Begins noted fields ends route begun.text begun.stage) ≡ with_due new (due_in request)
+        requests : serving.after setup (told_of_rows behind) (with_due old.upstreams Nothing) (serving.Move.Begins noted fields ends route begun.text begun.stage) ≡ with_due new due
         requests =
             ap (λ b. record (with_due old.upstreams Nothing) { held = held_with id (waits_from b (Waiting route begun.text begun.stage [])) old.upstreams.held; due = serving.to_open b id route begun.text begun.stage }) goes_so
-            ∙ ap (λ (d : Due). record (with_due old.upstreams Nothing) { held = held_with id (waits_from ends (Waiting route begun.text begun.stage [])) old.upstreams.held; due = d }) (sym begun.due_is)
-            ∙ ap (λ b. record (with_due old.upstreams (due_in request)) { held = held_with id (waits_from ends (Waiting route begun.text begun.stage [])) (held_if b id old.upstreams.held) }) (sym served)
-            ∙ ap (λ (u : upstreams.State). with_due u (due_in request)) (sym begun.kept)
+            ∙ ap (λ (d : Due). record (with_due old.upstreams Nothing) { held = held_with id (waits_from (at_once || ends) (Waiting route begun.text begun.stage [])) old.upstreams.held; due = d }) (sym begun.due_is)
+            ∙ ap (λ b. record (with_due old.upstreams due) { held = held_with id (waits_from (at_once || ends) (Waiting route begun.text begun.stage [])) (held_if b id old.upstreams.held) }) (sym served)
+            ∙ ap (λ (u : upstreams.State). with_due u due) (sym begun.kept)
 
   -- ---- trailers end one
 
-  module _ (fields : List Field) (adds : Adds setup (told_of no_outside old.inbound) noted (Block fields true)) where
-    pub brings_ended : (owed : List Frame) → owes_in setup false (told_of no_outside old.inbound) (Came noted) ≡ owed
-        → ((run : List Move) (s : State) → Leads setup run old square s → WaitsFor (find old.inbound.rows id).brief id old.upstreams.held)
-        → (request : Outgoing) → IsEndedFor id [] old.upstreams.held request
-        → (outputs : List Output) → is_active old.inbound.rows id ≡ true
-        → Brings setup old square outputs (Came noted) (record behind_view { upstreams = record old.upstreams { held = serving.without id_of id old.upstreams.held } }) (record square { owed = owed; due = due_in (Some request) }) outputs
-    brings_ended owed owes waits request ended outputs was run s leads =
-        leads_there setup old rest run s leads noted next of mild is_noted read gained_by is_so owed (due_for request) old.offers (record old.upstreams { held = serving.without id_of id old.upstreams.held })
-        refl owes (followed_there run s leads ∙ stays) requests outputs
+  module _ (fields : List Field) (adds : Adds setup (told_of no_outside old.inbound) noted (Block fields true)) (was : is_active old.inbound.rows id ≡ true)
+      (run : List Move) (s : State) (leads : Leads setup run old square s) (held : IsHeldFor (find old.inbound.rows id).brief id old.upstreams.held) (owed : List Frame) (owes : owes_in setup false (told_of no_outside old.inbound) (Came noted) ≡ owed) (outputs : List Output) where
+    abbrev upstream_then : List Held → upstreams.State
+    upstream_then hs = record old.upstreams { held = hs }
+
+    held_there : s.requests.held ≡ old.upstreams.held
+    held_there = ap (λ (r : serving.State). r.held) leads.keeps.requests
+
+    adds_there : Adds setup (told_by s) noted (Block fields true)
+    adds_there = subst (λ (b : Book). Adds setup (summary_in b) noted (Block fields true)) (sym leads.keeps.book) (record { adds = adds.adds; goes_on = adds.goes_on })
+
+    stays : offers_if (is_active behind.rows id) id old.offers ≡ old.offers
+    stays =
+        ap (λ b. offers_if b id old.offers) active
+        ∙ ap (λ b. if b then old.offers else record old.offers { kept = old.offers.kept ++ offering.blank id ∷ [] }) (box_there setup old rest run s leads id ∙ was)
+
+    -- it comes with what it gains, where that leaves this
+    ends_by : (due : Due) (hs : List Held) (gain : Gain) → IsGained setup (told_behind setup s (Takes noted next gain)) s noted gain
+        → serving.after setup (told_of_rows behind) (with_due old.upstreams Nothing) (gained noted gain) ≡ with_due (upstream_then hs) due
+        → Course setup run s outputs (Came noted) (record behind_view { upstreams = upstream_then hs }) (record square { owed = owed; due = due }) outputs
+    ends_by due hs gain is_so requests =
+        subst (λ b. Course setup run s outputs (Came noted) (record behind_view { upstreams = upstream_then hs; marks = marks_if b id old.marks }) (record square { owed = owed; due = due; shared = dropped_if b (waiting_for id old) }) outputs) active
+        (leads_there setup old rest run s leads noted next of mild is_noted read gain is_so owed due old.offers (upstream_then hs) refl owes (followed_there run s leads ∙ stays) requests outputs)
+
+    ended_waiting : (route : ℕ) (text : List ℕ) (stage : Stage) (body : List ℕ) → held_of id s.requests.held ≡ Some (record { id = id; way = Waiting route text stage body })
+        → (due : Due) (after : Option Way) (hs : List Held) → Gathers id [] true route text stage body due after → hs ≡ held_with id after old.upstreams.held
+        → Course setup run s outputs (Came noted) (record behind_view { upstreams = upstream_then hs }) (record square { owed = owed; due = due }) outputs
+    ended_waiting route text stage body found due after hs gathers held_then =
+        ends_by due hs gain_now
+        (adds_there, record { serving = serving_now gain_now run s leads; found = found; gathered = (gathers.0.continues, refl) })
+        (ap (λ (hs : List Held). with_due (upstream_then hs) (ToOpen id route (text ++ gathers.0.written) Whole)) (ap (λ (o : Option Way). held_with id o old.upstreams.held) (sym gathers.1) ∙ sym held_then)
+        ∙ ap (λ (d : Due). with_due (upstream_then hs) d) (sym gathers.0.due_is))
       where
-        w : WaitsFor (find old.inbound.rows id).brief id old.upstreams.held
-        w = waits run s leads
+        gain_now : Gain
+        gain_now = Gain.Gathers (Block fields true) route text stage body gathers.0.written Whole
 
-        whole_text : (x : List ℕ) × (due_for request ≡ ToOpen id w.route x Whole) × Rattle.requests.specs.Waits.IsEnded (record { route = w.route; text = w.text; stage = w.stage; body = w.body }) [] x
-        whole_text = ended (record { id = id; way = Waiting w.route w.text w.stage w.body }) w.found
+    ended_going : (number : ℕ) (stage : Stage) → held_of id s.requests.held ≡ Some (record { id = id; way = Going number stage })
+        → (due : Due) (after : Option Way) (hs : List Held) → IsPassed [] true number stage due after → hs ≡ held_with id after old.upstreams.held
+        → Course setup run s outputs (Came noted) (record behind_view { upstreams = upstream_then hs }) (record square { owed = owed; due = due }) outputs
+    ended_going number stage found due after hs passed held_then =
+        ends_by due hs gain_now
+        (adds_there, record { serving = serving_now gain_now run s leads; found = found; continues = passed.continues; whole = passed.whole })
+        (ap (λ (hs : List Held). with_due (upstream_then hs) (serving.to_send number passed.written)) (ap (λ (o : Option Way). held_with id o old.upstreams.held) (sym passed.next_is) ∙ sym held_then)
+        ∙ ap (λ (d : Due). with_due (upstream_then hs) d) (sym passed.due_is))
+      where
+        gain_now : Gain
+        gain_now = Gain.Passes (Block fields true) number stage passed.written passed.stage
 
-        gained_by : Gain
-        gained_by = Gain.Gathers (Block fields true) w.route w.text w.stage w.body whole_text.2.written Whole
+    ended_dropped : held_of id s.requests.held ≡ Some (record { id = id; way = Dropped }) → (due : Due) (hs : List Held) → due ≡ Nothing → hs ≡ old.upstreams.held
+        → Course setup run s outputs (Came noted) (record behind_view { upstreams = upstream_then hs }) (record square { owed = owed; due = due }) outputs
+    ended_dropped found due hs nothing same =
+        ends_by due hs (Gain.Drops (Block fields true)) (adds_there, record { serving = serving_now (Gain.Drops (Block fields true)) run s leads; found = found })
+        (ap (λ (hs : List Held). with_due (upstream_then hs) Nothing) (sym same) ∙ ap (λ (d : Due). with_due (upstream_then hs) d) (sym nothing))
 
-        is_so : IsGained setup (told_behind setup s (Takes noted next gained_by)) s noted gained_by
-        is_so = (
-          subst (λ (b : Book). Adds setup (summary_in b) noted (Block fields true)) (sym leads.keeps.book) (record { adds = adds.adds; goes_on = adds.goes_on }),
-          record {
-            serving = serving_now gained_by run s leads;
-            found = ap (λ (r : serving.State). held_of id r.held) leads.keeps.requests ∙ w.found;
-            gathered = (whole_text.2.continues, refl);
-          },
-        )
-
-        stays : offers_if (is_active behind.rows id) id old.offers ≡ old.offers
-        stays =
-            ap (λ b. offers_if b id old.offers) active
-            ∙ ap (λ b. if b then old.offers else record old.offers { kept = old.offers.kept ++ offering.blank id ∷ [] }) (box_there setup old rest run s leads id ∙ was)
-
-        requests : serving.after setup (told_of_rows behind) (with_due old.upstreams Nothing) (serving.Move.Gathers noted (Block fields true) w.route w.text w.stage w.body whole_text.2.written Whole) ≡ with_due (record old.upstreams { held = serving.without id_of id old.upstreams.held }) (due_for request)
-        requests =
-            ap (λ (x : List ℕ). record (with_due old.upstreams Nothing) { held = serving.without id_of id old.upstreams.held; due = ToOpen id w.route x Whole }) (sym whole_text.2.is)
-            ∙ ap (λ (d : Due). record (with_due old.upstreams Nothing) { held = serving.without id_of id old.upstreams.held; due = d }) (sym whole_text.1)
+    pub brings_ended : (due : Due) (hs : List Held) → TakesOf id [] true old.upstreams.held (held_of id old.upstreams.held) due hs
+        → Course setup run s outputs (Came noted) (record behind_view { upstreams = upstream_then hs }) (record square { owed = owed; due = due }) outputs
+    brings_ended due hs takes = by held.way (ap (λ (xs : List Held). held_of id xs) held_there ∙ held.found) (subst (λ (o : Option Held). TakesOf id [] true old.upstreams.held o due hs) held.found takes)
+      where
+        by : (way : Way) → held_of id s.requests.held ≡ Some (record { id = id; way = way }) → TakesBy id [] true old.upstreams.held way due hs
+            → Course setup run s outputs (Came noted) (record behind_view { upstreams = upstream_then hs }) (record square { owed = owed; due = due }) outputs
+        by (Waiting route text stage body) found takes = ended_waiting route text stage body found due takes.0 hs takes.1 takes.2
+        by (Going number stage) found takes = ended_going number stage found due takes.0 hs takes.1 takes.2
+        by Dropped found takes = ended_dropped found due hs takes.0 takes.1
 
 -- ---- trailers without a fault
 

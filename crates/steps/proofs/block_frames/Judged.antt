@@ -5,7 +5,6 @@ use Rattle.model.specs.Frames.{Frame}
 use Rattle.model.specs.Http2.{HasLength}
 use Rattle.model.specs.Logs.{Output}
 use Rattle.model.specs.Setup.{Setup}
-use Rattle.model.specs.Setup.Passing.{Whole as WholePassing}
 use Rattle.model.specs.StreamStates.{most_streams}
 use Rattle.model.specs.Tapes.{Noted}
 use Rattle.model.specs.Tapes.Note.{Fields}
@@ -37,7 +36,8 @@ use Rattle.relay.specs.Rest.{IsAtRest}
 use Rattle.relay.proofs.Coming.{no_outside, inbound_behind}
 use Rattle.relay.proofs.Heads.{none_cut_behind, begun_if_out}
 use Rattle.relay.proofs.Resets.{inactive}
-use Rattle.relay.proofs.Waits.{all_so}
+use Rattle.serving.specs.State.{is_streaming}
+use Rattle.relay.proofs.HeldFor.{go_on_so}
 use Rattle.steps.specs.block_frames.Following.{IsNewest, farewell_behind}
 use Rattle.steps.specs.block_frames.Acting.{IsActed, MayAct}
 use Rattle.steps.specs.block_frames.Taken.{IsBlockTaken}
@@ -47,7 +47,7 @@ use Rattle.steps.proofs.block_frames.Assembled.{reset_is, fatal_taken, stream_ta
 use Rattle.steps.proofs.block_frames.Requests.{active, ended_is, begun_taken, may_end_then, ended_taken}
 use Rattle.steps.proofs.block_frames.Replies.{replied_taken}
 
-module _ (setup : Setup) (whole : setup.passing ≡ WholePassing) (old : View) (rest : IsAtRest old) (run : List Move) (s : State) (leads : Leads setup run old square s) (frame : Frame) (of : IsOfBlock frame) where
+module _ (setup : Setup) (old : View) (rest : IsAtRest old) (run : List Move) (s : State) (leads : Leads setup run old square s) (frame : Frame) (of : IsOfBlock frame) (at_once : Bool) where
   abbrev id : ℕ
   id = frame.id
 
@@ -63,7 +63,7 @@ module _ (setup : Setup) (whole : setup.passing ≡ WholePassing) (old : View) (
   calm : (find old.inbound.rows id).brief.over ≡ false → (find old.inbound.rows id).brief.cause ≡ None
   calm =
       subst (λ (b : Book). (find b.rows id).brief.over ≡ false → (find b.rows id).brief.cause ≡ None) leads.keeps.book
-      ((all_so setup run s leads.stands leads.so whole (ap (λ (b : Book). b.closed) leads.keeps.book)).no_cause id)
+      ((go_on_so setup run s leads.stands leads.so (ap (λ (b : Book). b.closed) leads.keeps.book)).no_cause id)
 
   -- a reply leaves no reset owed where no final head is out, or its cause has no code
   module _ (judging : Setup) (why : Why) (fields : List Field) (no_cause : (find old.inbound.rows id).brief.cause ≡ None) (because : cause_of_block judging (Rattle.conduct.specs.Summary.carried_in (find old.inbound.rows id).brief) (Fields fields) ≡ Some (cause_of why)) where
@@ -124,24 +124,24 @@ module _ (setup : Setup) (whole : setup.passing ≡ WholePassing) (old : View) (
         let says = is.judged.says in
         let same = left_is setup old.inbound mid (record { frame = frame; note = is.note }) is.next is.judged.left is.stays is.table in
         record {
-          active = ap (λ (i : Inbound). is_active i.rows id) same ∙ active setup whole old rest frame mid of rows_are few_are outputs small half calm (judged.Begins head route) is is.judged.faultless says.0 says.2 says.1 says.3;
-          no_body = λ ended. says.4.2.no_body (sym (ended_is setup whole old rest frame mid of rows_are few_are outputs small half calm (judged.Begins head route) is is.judged.faultless says.0 says.2 says.1 says.3) ∙ (ap (λ (i : Inbound). (find i.rows id).ended_by_client) (sym same) ∙ ended));
+          active = ap (λ (i : Inbound). is_active i.rows id) same ∙ active setup old rest frame mid of rows_are few_are outputs small half calm (judged.Begins head route) is is.judged.faultless says.0 says.2 says.1 says.3;
+          no_body = λ ended. says.4.2.no_body (sym (ended_is setup old rest frame mid of rows_are few_are outputs small half calm (judged.Begins head route) is is.judged.faultless says.0 says.2 says.1 says.3) ∙ (ap (λ (i : Inbound). (find i.rows id).ended_by_client) (sym same) ∙ ended));
         }
     may_act (judged.Answered why) is =
         let says = is.judged.says in
         let same = left_is setup old.inbound mid (record { frame = frame; note = is.note }) is.next is.judged.left is.stays is.table in
-        ap (λ (i : Inbound). is_active i.rows id) same ∙ active setup whole old rest frame mid of rows_are few_are outputs small half calm (judged.Answered why) is is.judged.faultless says.0 says.2 says.1 says.3
-    may_act judged.Trailers is = may_end_then setup whole old rest frame mid of rows_are few_are outputs small half calm is run s leads
+        ap (λ (i : Inbound). is_active i.rows id) same ∙ active setup old rest frame mid of rows_are few_are outputs small half calm (judged.Answered why) is is.judged.faultless says.0 says.2 says.1 says.3
+    may_act judged.Trailers is = may_end_then setup old rest frame mid of rows_are few_are outputs small half calm is run s leads
 
     -- ---- what comes of it, for any setup
 
-    pub all_taken : (judging : Setup) → judging.passing ≡ WholePassing → (answer : BlockJudged) → IsFragmentJudged judging no_outside old.inbound frame mid answer → (result : BlockTaken) (new : View) (put_out : List Output) → IsActed id answer (farewell_behind (length old.inbound.rows) mid.rows) mid_view outputs result new put_out → IsBlockTaken judging old outputs frame result new put_out
-    all_taken judging passes (judged.Failed (fault.Connection code)) is result new put_out acted = fatal_taken judging old rest frame mid of rows_are few_are outputs small code is result new put_out acted
-    all_taken judging passes (judged.Failed (fault.Stream code)) is result new put_out acted = stream_taken judging old rest frame mid of rows_are few_are outputs small code is result new put_out acted
-    all_taken judging passes (judged.Failed fault.Discarded) is result new put_out acted = discarded_taken judging old rest frame mid of rows_are few_are outputs small is result new put_out acted
-    all_taken judging passes judged.GoesOn is result new put_out acted = part_taken judging old rest frame mid of rows_are few_are outputs small is result new put_out acted
-    all_taken judging passes judged.Ignored is result new put_out acted = ignored_taken judging old rest frame mid of rows_are few_are outputs small is result new put_out acted
-    all_taken judging passes (judged.Begins head route) is result new put_out acted = begun_taken judging passes old rest frame mid of rows_are few_are outputs small half calm head route is result new put_out acted
-    all_taken judging passes judged.Trailers is result new put_out acted = ended_taken judging passes old rest frame mid of rows_are few_are outputs small half calm is result new put_out acted
+    pub all_taken : (judging : Setup) → at_once ≡ is_streaming judging.passing → (answer : BlockJudged) → IsFragmentJudged judging no_outside old.inbound frame mid answer → (result : BlockTaken) (new : View) (put_out : List Output) → IsActed id at_once answer (farewell_behind (length old.inbound.rows) mid.rows) mid_view outputs result new put_out → IsBlockTaken judging old outputs frame result new put_out
+    all_taken judging passes (judged.Failed (fault.Connection code)) is result new put_out acted = fatal_taken judging old rest frame mid of rows_are few_are outputs small at_once code is result new put_out acted
+    all_taken judging passes (judged.Failed (fault.Stream code)) is result new put_out acted = stream_taken judging old rest frame mid of rows_are few_are outputs small at_once code is result new put_out acted
+    all_taken judging passes (judged.Failed fault.Discarded) is result new put_out acted = discarded_taken judging old rest frame mid of rows_are few_are outputs small at_once is result new put_out acted
+    all_taken judging passes judged.GoesOn is result new put_out acted = part_taken judging old rest frame mid of rows_are few_are outputs small at_once is result new put_out acted
+    all_taken judging passes judged.Ignored is result new put_out acted = ignored_taken judging old rest frame mid of rows_are few_are outputs small at_once is result new put_out acted
+    all_taken judging passes (judged.Begins head route) is result new put_out acted = begun_taken judging old rest frame mid of rows_are few_are outputs small half calm at_once passes head route is result new put_out acted
+    all_taken judging passes judged.Trailers is result new put_out acted = ended_taken judging old rest frame mid of rows_are few_are outputs small half calm is result new put_out acted
     all_taken judging passes (judged.Answered why) is result new put_out acted =
-        replied_taken judging passes old rest frame mid of rows_are few_are outputs small half calm why is (none_cut_own judging why is.judged.says.1 is.judged.says.4.0 is.judged.says.4.1) result new put_out acted
+        replied_taken judging old rest frame mid of rows_are few_are outputs small half calm why is (none_cut_own judging why is.judged.says.1 is.judged.says.4.0 is.judged.says.4.1) result new put_out acted

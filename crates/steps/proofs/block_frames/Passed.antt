@@ -29,10 +29,10 @@ use Rattle.judgement.specs.Inbound.{Inbound, book_of, told_of}
 use Rattle.judgement.specs.Fragments.{IsOfBlock, IsFragmentJudged}
 use Rattle.judgement.specs.declared.answers.BlockJudged.{BlockJudged}
 use Rattle.upstreams.specs.Connections.{lives}
-use Rattle.upstreams.specs.Requests.{due_in}
-use Rattle.upstreams.specs.declared.held.Outgoing.{Outgoing}
+use Rattle.upstreams.specs.Requests.{due_by}
+use Rattle.serving.specs.State.{Due}
 use Rattle.policy.specs.Rule.{added_in}
-use Rattle.relay.specs.View.{View, square}
+use Rattle.relay.specs.View.{View, square, waiting_for}
 use Rattle.relay.specs.Rest.{IsAtRest, NoneCut}
 use Rattle.relay.specs.Bringing.{Brings}
 use Rattle.relay.proofs.Answered.{block_owes_at_fault, block_failed}
@@ -41,7 +41,7 @@ use Rattle.relay.proofs.Coming.{no_outside, inbound_behind}
 use Rattle.relay.proofs.Waits.{behind_rows}
 use Rattle.steps.specs.Closings.{IsAbout}
 use Rattle.steps.proofs.Closings.{about_changed, about_then, frame_served}
-use Rattle.steps.specs.block_frames.Following.{followed, farewell_behind, farewell_frames, with_farewell, put_farewell}
+use Rattle.steps.specs.block_frames.Following.{followed, dropped_by, farewell_behind, farewell_frames, with_farewell, put_farewell}
 use Rattle.steps.specs.block_frames.Acting.{IsFollowed, IsReset}
 use Rattle.steps.specs.block_frames.Taken.{IsFatalFrame, IsBlockTaken}
 use Rattle.steps.specs.declared.block_frames.taking.BlockTaken.{BlockTaken}
@@ -140,15 +140,16 @@ module _ (setup : Setup) (old : View) (rest : IsAtRest old) (frame : Frame) (mid
       pub passed_none : mid ≡ behind → added_in setup told noted ≡ [] → owes_in setup false told (Came noted) ≡ farewell_frames last → first_of_both (find old.inbound.rows id).brief.cause (caused setup told noted) ≡ (find old.inbound.rows id).brief.cause
           → (result : BlockTaken) (new : View) (put_out : List Output) → IsFollowed id last mid_view outputs result new put_out → IsBlockTaken setup old outputs frame result new put_out
       passed_none same adds owes cause (taken.Fatal code) new put_out acted = absurd acted.goes
-      passed_none same adds owes cause (taken.Goes request farewell) new put_out acted = record {
+      passed_none same adds owes cause (taken.Goes due farewell dropped) new put_out acted = record {
         note = is.note;
         brings =
-            subst (λ (o : List Output). Brings setup old square outputs (Came noted) new (record square { owed = farewell_frames farewell; due = due_in request }) o) (sym acted.puts)
-            (subst (λ (v : View). Brings setup old square outputs (Came noted) v (record square { owed = farewell_frames farewell; due = due_in request }) outputs) (sym acted.kept)
-            (subst (λ (r : Option Outgoing). Brings setup old square outputs (Came noted) (followed id mid_view) (record square { owed = farewell_frames farewell; due = due_in r }) outputs) (sym acted.goes.0)
-            (subst (λ (l : Option ℕ). Brings setup old square outputs (Came noted) (followed id mid_view) (record square { owed = farewell_frames l }) outputs) (sym acted.goes.1)
-            (subst (λ (i : Inbound). Brings setup old square outputs (Came noted) (followed id (record old { inbound = i })) (record square { owed = farewell_frames last }) outputs) (sym same)
-            (brings_followed setup old rest noted is.next of mild is.is_noted is.read adds (farewell_frames last) owes (none_caused cause) outputs)))));
+            subst (λ (o : List Output). Brings setup old square outputs (Came noted) new (record square { owed = farewell_frames farewell; due = due_by due; shared = dropped }) o) (sym acted.puts)
+            (subst (λ (v : View). Brings setup old square outputs (Came noted) v (record square { owed = farewell_frames farewell; due = due_by due; shared = dropped }) outputs) (sym acted.kept)
+            (subst (λ (r : Due). Brings setup old square outputs (Came noted) (followed id mid_view) (record square { owed = farewell_frames farewell; due = r; shared = dropped }) outputs) (sym acted.goes.0)
+            (subst (λ n. Brings setup old square outputs (Came noted) (followed id mid_view) (record square { owed = farewell_frames farewell; shared = n }) outputs) (sym acted.goes.2)
+            (subst (λ (l : Option ℕ). Brings setup old square outputs (Came noted) (followed id mid_view) (record square { owed = farewell_frames l; shared = dropped_by id mid_view }) outputs) (sym acted.goes.1)
+            (subst (λ (i : Inbound). Brings setup old square outputs (Came noted) (followed id (record old { inbound = i })) (record square { owed = farewell_frames last; shared = dropped_by id (record old { inbound = i }) }) outputs) (sym same)
+            (brings_followed setup old rest noted is.next of mild is.is_noted is.read adds (farewell_frames last) owes (none_caused cause) outputs))))));
         none_cut = subst (λ (v : View). NoneCut v.offers) (sym acted.kept) (cut_followed (is_active mid.rows id) id old.offers rest.none_cut);
         about = about_so mild new (ap (λ (v : View). v.inbound.rows) acted.kept ∙ ap (λ (i : Inbound). i.rows) same) (ap (λ (v : View). lives v.upstreams.live) acted.kept);
         ids = λ other there. opened_so new.inbound.rows (ap (λ (v : View). ids_of v.inbound.rows) acted.kept ∙ ap (λ (i : Inbound). ids_of i.rows) same) other there;
@@ -159,17 +160,18 @@ module _ (setup : Setup) (old : View) (rest : IsAtRest old) (frame : Frame) (mid
       pub passed_reset : (code : ℕ) → mid ≡ record behind { rows = changed id (Over true) behind.rows } → fault_in told (Came noted) ≡ Some (errors.Fault.Stream code)
           → (result : BlockTaken) (new : View) (put_out : List Output) → IsReset id code last mid_view outputs result new put_out → IsBlockTaken setup old outputs frame result new put_out
       passed_reset code same fault (taken.Fatal told_code) new put_out acted = absurd acted.goes
-      passed_reset code same fault (taken.Goes request farewell_left) new put_out acted = record {
+      passed_reset code same fault (taken.Goes due farewell_left dropped) new put_out acted = record {
         note = is.note;
         brings =
-            subst (λ (o : List Output). Brings setup old square outputs (Came noted) new (record square { owed = farewell_frames farewell_left; due = due_in request }) o) (sym acted.puts)
-            (subst (λ (v : View). Brings setup old square outputs (Came noted) v (record square { owed = farewell_frames farewell_left; due = due_in request }) out_then) (sym (acted.kept ∙ untaken_same last))
-            (subst (λ (r : Option Outgoing). Brings setup old square outputs (Came noted) target (record square { owed = farewell_frames farewell_left; due = due_in r }) out_then) (sym acted.goes.0)
-            (subst (λ (l : Option ℕ). Brings setup old square outputs (Came noted) target (record square { owed = farewell_frames l }) out_then) (sym acted.goes.1)
-            (subst (λ (i : Inbound). Brings setup old square outputs (Came noted) (record (Rattle.steps.specs.block_frames.Following.forgotten id (record old { inbound = i })) { untaken = (with_farewell last old).untaken + length (Rattle.model.specs.Frames.spell (rst_stream id code)) }) square out_then) (sym same)
+            subst (λ (o : List Output). Brings setup old square outputs (Came noted) new (record square { owed = farewell_frames farewell_left; due = due_by due; shared = dropped }) o) (sym acted.puts)
+            (subst (λ (v : View). Brings setup old square outputs (Came noted) v (record square { owed = farewell_frames farewell_left; due = due_by due; shared = dropped }) out_then) (sym (acted.kept ∙ untaken_same last))
+            (subst (λ (r : Due). Brings setup old square outputs (Came noted) target (record square { owed = farewell_frames farewell_left; due = r; shared = dropped }) out_then) (sym acted.goes.0)
+            (subst (λ n. Brings setup old square outputs (Came noted) target (record square { owed = farewell_frames farewell_left; shared = n }) out_then) (sym acted.goes.2)
+            (subst (λ (l : Option ℕ). Brings setup old square outputs (Came noted) target (record square { owed = farewell_frames l; shared = waiting_for id old }) out_then) (sym acted.goes.1)
+            (subst (λ (i : Inbound). Brings setup old square outputs (Came noted) (record (Rattle.steps.specs.block_frames.Following.forgotten id (record old { inbound = i })) { untaken = (with_farewell last old).untaken + length (Rattle.model.specs.Frames.spell (rst_stream id code)) }) (record square { shared = waiting_for id old }) out_then) (sym same)
             (brings_reset setup old rest noted is.next of mild is.is_noted is.read (block_failed setup (book_of no_outside old.inbound) noted of few_rows (errors.Fault.Stream code) fault) last code
             (block_owes_at_fault setup (book_of no_outside old.inbound) noted of few_rows (errors.Fault.Stream code) refl fault ∙ ap (λ (fs : List Frame). fs ++ rst_stream id code ∷ []) (farewell same_rows))
-            (not_to_open setup old rest noted is.next of mild is.is_noted is.read (errors.Fault.Stream code) fault) small outputs)))));
+            (not_to_open setup old rest noted is.next of mild is.is_noted is.read (errors.Fault.Stream code) fault) small outputs))))));
         none_cut = subst (λ (v : View). NoneCut v.offers) (sym acted.kept) (cut_without id old.offers rest.none_cut);
         about = reset_about mild new (ap (λ (v : View). v.inbound.rows) acted.kept ∙ ap (λ (i : Inbound). i.rows) same) (ap (λ (v : View). lives v.upstreams.live) acted.kept);
         ids = λ other there. opened_so new.inbound.rows (ap (λ (v : View). ids_of v.inbound.rows) acted.kept ∙ same_rows) other there;

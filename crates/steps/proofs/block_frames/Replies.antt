@@ -6,7 +6,6 @@ use Rattle.model.specs.Frames.{Frame, spell}
 use Rattle.model.specs.Logs.{Output}
 use Rattle.model.specs.Logs.Output.{ToClient}
 use Rattle.model.specs.Setup.{Setup}
-use Rattle.model.specs.Setup.Passing.{Whole as WholePassing}
 use Rattle.model.specs.StreamStates.{most_streams}
 use Rattle.model.specs.Tapes.{Noted, put}
 use Rattle.model.specs.Tapes.Note.{Fields}
@@ -35,15 +34,15 @@ use Rattle.judgement.specs.Blocks.{SaysOf}
 use Rattle.judgement.specs.Fragments.{IsOfBlock, IsFragmentJudged}
 use Rattle.judgement.specs.declared.answers.BlockJudged.TheVariants as judged
 use Rattle.upstreams.specs.Connections.{lives}
-use Rattle.upstreams.specs.Requests.{due_in}
-use Rattle.upstreams.specs.declared.held.Outgoing.{Outgoing}
+use Rattle.upstreams.specs.Requests.{due_by}
+use Rattle.serving.specs.State.{Due}
 use Rattle.policy.specs.Rule.{added_in}
-use Rattle.relay.specs.View.{View, square}
+use Rattle.relay.specs.View.{View, square, waiting_for}
 use Rattle.relay.specs.Rest.{IsAtRest, NoneCut}
 use Rattle.relay.specs.Bringing.{Brings}
 use Rattle.relay.proofs.Answered.{whole_gain, whole_owes, caused_by}
 use Rattle.relay.proofs.Coming.{no_outside, inbound_behind}
-use Rattle.steps.specs.block_frames.Following.{followed, forgotten, farewell_behind, farewell_frames, with_farewell, put_farewell}
+use Rattle.steps.specs.block_frames.Following.{followed, forgotten, dropped_by, farewell_behind, farewell_frames, with_farewell, put_farewell}
 use Rattle.steps.specs.block_frames.Acting.{IsReplied, IsReset, IsOffered}
 use Rattle.steps.specs.block_frames.Taken.{IsBlockTaken}
 use Rattle.steps.specs.declared.block_frames.taking.BlockTaken.{BlockTaken}
@@ -55,7 +54,7 @@ use Rattle.steps.proofs.block_frames.Passed.{farewell, opened_so, about_so, rese
 use Rattle.steps.proofs.block_frames.Streams.{found_behind}
 use Rattle.steps.proofs.block_frames.Requests.{active}
 
-module _ (setup : Setup) (whole : setup.passing ≡ WholePassing) (old : View) (rest : IsAtRest old) (frame : Frame) (mid : Inbound) (of : IsOfBlock frame) (kept : AreKept old.inbound.rows) (few_rows : length (ids_of old.inbound.rows) ≤ most_streams) (outputs : List Output) (small : frame.id < 2147483648)
+module _ (setup : Setup) (old : View) (rest : IsAtRest old) (frame : Frame) (mid : Inbound) (of : IsOfBlock frame) (kept : AreKept old.inbound.rows) (few_rows : length (ids_of old.inbound.rows) ≤ most_streams) (outputs : List Output) (small : frame.id < 2147483648)
     (not_half : is_over_in (find old.inbound.rows frame.id) ≡ false → (find old.inbound.rows frame.id).ended_by_gateway ≡ false) (calm : (find old.inbound.rows frame.id).brief.over ≡ false → (find old.inbound.rows frame.id).brief.cause ≡ None)
     (why : Why) (is : IsFragmentJudged setup no_outside old.inbound frame mid (judged.Answered why))
     (own : (k : offering.Kept) → offering.find frame.id old.offers.kept ≡ Some k → ((find old.inbound.rows frame.id).head_out ≡ false) ⊎ (reset_code (cause_of why) ≡ None) → (offering.answered (cause_of why) k).cut ≡ false) where
@@ -90,7 +89,7 @@ module _ (setup : Setup) (whole : setup.passing ≡ WholePassing) (old : View) (
   same_rows = ap (λ (i : Inbound). ids_of i.rows) same
 
   live : is_active behind.rows id ≡ true
-  live = active setup whole old rest frame mid of kept few_rows outputs small not_half calm (judged.Answered why) is is.judged.faultless says.0 says.2 says.1 says.3
+  live = active setup old rest frame mid of kept few_rows outputs small not_half calm (judged.Answered why) is is.judged.faultless says.0 says.2 says.1 says.3
 
   out_same : (find mid.rows id).head_out ≡ (find old.inbound.rows id).head_out
   out_same = ap (λ (i : Inbound). (find i.rows id).head_out) same ∙ ap (λ (k : Kept). k.head_out) (found_behind setup book noted kept live)
@@ -121,14 +120,15 @@ module _ (setup : Setup) (whole : setup.passing ≡ WholePassing) (old : View) (
   offered : farewell_frames last ++ reset_for id (find old.inbound.rows id).head_out None (Some cause) ≡ farewell_frames last → ((find old.inbound.rows id).head_out ≡ false) ⊎ (reset_code cause ≡ None)
       → (result : BlockTaken) (new : View) (put_out : List Output) → IsOffered id cause last (record old { inbound = mid }) outputs result new put_out → IsBlockTaken setup old outputs frame result new put_out
   offered none late (taken.Fatal code) new put_out acted = absurd acted.goes
-  offered none late (taken.Goes request farewell_left) new put_out acted = record {
+  offered none late (taken.Goes due farewell_left dropped) new put_out acted = record {
     note = is.note;
     brings =
-        subst (λ (o : List Output). Brings setup old square outputs (Came noted) new (record square { owed = farewell_frames farewell_left; due = due_in request }) o) (sym acted.puts)
-        (subst (λ (v : View). Brings setup old square outputs (Came noted) v (record square { owed = farewell_frames farewell_left; due = due_in request }) outputs) (sym (acted.kept ∙ ap target same))
-        (subst (λ (r : Option Outgoing). Brings setup old square outputs (Came noted) (target behind) (record square { owed = farewell_frames farewell_left; due = due_in r }) outputs) (sym acted.goes.0)
-        (subst (λ (l : Option ℕ). Brings setup old square outputs (Came noted) (target behind) (record square { owed = farewell_frames l }) outputs) (sym acted.goes.1)
-        (brings_replied setup old rest noted is.next of (ap is_fatal is.judged.faultless) is.is_noted is.read none_gained (farewell_frames last) cause (owed_so ∙ none) now_caused live outputs))));
+        subst (λ (o : List Output). Brings setup old square outputs (Came noted) new (record square { owed = farewell_frames farewell_left; due = due_by due; shared = dropped }) o) (sym acted.puts)
+        (subst (λ (v : View). Brings setup old square outputs (Came noted) v (record square { owed = farewell_frames farewell_left; due = due_by due; shared = dropped }) outputs) (sym (acted.kept ∙ ap target same))
+        (subst (λ (r : Due). Brings setup old square outputs (Came noted) (target behind) (record square { owed = farewell_frames farewell_left; due = r; shared = dropped }) outputs) (sym acted.goes.0)
+        (subst (λ n. Brings setup old square outputs (Came noted) (target behind) (record square { owed = farewell_frames farewell_left; shared = n }) outputs) (sym (acted.goes.2 ∙ ap (λ (i : Inbound). dropped_by id (record old { inbound = i })) same))
+        (subst (λ (l : Option ℕ). Brings setup old square outputs (Came noted) (target behind) (record square { owed = farewell_frames l; shared = dropped_by id (record old { inbound = behind }) }) outputs) (sym acted.goes.1)
+        (brings_replied setup old rest noted is.next of (ap is_fatal is.judged.faultless) is.is_noted is.read none_gained (farewell_frames last) cause (owed_so ∙ none) now_caused live outputs)))));
     none_cut = subst (λ (v : View). NoneCut v.offers) (sym (acted.kept ∙ ap target same)) cut;
     about = about_so setup old rest frame mid of kept few_rows outputs small (judged.Answered why) is (ap is_fatal is.judged.faultless) new (ap (λ (v : View). v.inbound.rows) acted.kept ∙ ap (λ (i : Inbound). i.rows) same) (ap (λ (v : View). lives v.upstreams.live) acted.kept);
     ids = λ other there. opened_so setup old rest frame mid of kept few_rows outputs small (judged.Answered why) is new.inbound.rows (ap (λ (v : View). ids_of v.inbound.rows) acted.kept ∙ same_rows) other there;
@@ -147,15 +147,16 @@ module _ (setup : Setup) (whole : setup.passing ≡ WholePassing) (old : View) (
   reset_so : (code : ℕ) → (find old.inbound.rows id).head_out ≡ true → reset_code cause ≡ Some code
       → (result : BlockTaken) (new : View) (put_out : List Output) → IsReset id code last (record old { inbound = record mid { rows = changed id (Over true) mid.rows } }) outputs result new put_out → IsBlockTaken setup old outputs frame result new put_out
   reset_so code out coded (taken.Fatal found) new put_out acted = absurd acted.goes
-  reset_so code out coded (taken.Goes request farewell_left) new put_out acted = record {
+  reset_so code out coded (taken.Goes due farewell_left dropped) new put_out acted = record {
     note = is.note;
     brings =
-        subst (λ (o : List Output). Brings setup old square outputs (Came noted) new (record square { owed = farewell_frames farewell_left; due = due_in request }) o) (sym acted.puts)
-        (subst (λ (v : View). Brings setup old square outputs (Came noted) v (record square { owed = farewell_frames farewell_left; due = due_in request }) out_then) (sym (acted.kept ∙ untaken_same last ∙ ap target same))
-        (subst (λ (r : Option Outgoing). Brings setup old square outputs (Came noted) (target behind) (record square { owed = farewell_frames farewell_left; due = due_in r }) out_then) (sym acted.goes.0)
-        (subst (λ (l : Option ℕ). Brings setup old square outputs (Came noted) (target behind) (record square { owed = farewell_frames l }) out_then) (sym acted.goes.1)
+        subst (λ (o : List Output). Brings setup old square outputs (Came noted) new (record square { owed = farewell_frames farewell_left; due = due_by due; shared = dropped }) o) (sym acted.puts)
+        (subst (λ (v : View). Brings setup old square outputs (Came noted) v (record square { owed = farewell_frames farewell_left; due = due_by due; shared = dropped }) out_then) (sym (acted.kept ∙ untaken_same last ∙ ap target same))
+        (subst (λ (r : Due). Brings setup old square outputs (Came noted) (target behind) (record square { owed = farewell_frames farewell_left; due = r; shared = dropped }) out_then) (sym acted.goes.0)
+        (subst (λ n. Brings setup old square outputs (Came noted) (target behind) (record square { owed = farewell_frames farewell_left; shared = n }) out_then) (sym acted.goes.2)
+        (subst (λ (l : Option ℕ). Brings setup old square outputs (Came noted) (target behind) (record square { owed = farewell_frames l; shared = waiting_for id old }) out_then) (sym acted.goes.1)
         (brings_reset setup old rest noted is.next of (ap is_fatal is.judged.faultless) is.is_noted is.read none_gained last code
-        (owed_so ∙ ap (λ b. farewell_frames last ++ reset_for id b None (Some cause)) out ∙ ap (λ (o : Option ℕ). farewell_frames last ++ Rattle.model.specs.ErrorClause.reset_with id o) coded) known small outputs))));
+        (owed_so ∙ ap (λ b. farewell_frames last ++ reset_for id b None (Some cause)) out ∙ ap (λ (o : Option ℕ). farewell_frames last ++ Rattle.model.specs.ErrorClause.reset_with id o) coded) known small outputs)))));
     none_cut = subst (λ (v : View). NoneCut v.offers) (sym acted.kept) (cut_without id old.offers rest.none_cut);
     about = reset_about setup old rest frame mid of kept few_rows outputs small (judged.Answered why) is (ap is_fatal is.judged.faultless) new (ap (λ (v : View). v.inbound.rows) acted.kept ∙ ap (λ (i : Inbound). changed id (Over true) i.rows) same) (ap (λ (v : View). lives v.upstreams.live) acted.kept);
     ids = λ other there. opened_so setup old rest frame mid of kept few_rows outputs small (judged.Answered why) is new.inbound.rows (ap (λ (v : View). ids_of v.inbound.rows) acted.kept ∙ same_ids id (Over true) mid.rows ∙ same_rows) other there;

@@ -6,7 +6,6 @@ use Rattle.model.specs.Messages.Item.{Block}
 use Rattle.model.specs.Frames.{Frame}
 use Rattle.model.specs.Logs.{Output}
 use Rattle.model.specs.Setup.{Setup}
-use Rattle.model.specs.Setup.Passing.{Whole as WholePassing}
 use Rattle.model.specs.StreamStates.{most_streams}
 use Rattle.model.specs.Tapes.{Noted}
 use Rattle.model.specs.Tapes.Note.{Fields}
@@ -16,7 +15,7 @@ use Rattle.model.specs.Courses.{first_of_both, cause_of_block}
 use Rattle.model.specs.Decoding.{Partial}
 use Rattle.model.specs.ErrorClause.{is_fatal}
 use Rattle.model.specs.Lifetimes.{ends_by}
-use Rattle.conduct.specs.Summary.{Stream as Kept, Summary, carried_in}
+use Rattle.conduct.specs.Summary.{Stream as Kept, Brief, Summary, carried_in}
 use Rattle.conduct.specs.Judging.{is_over_in, completed_in}
 use Rattle.conduct.specs.Owing.{fault_in}
 use Rattle.conduct.specs.Rows.{ids_of, find}
@@ -24,7 +23,7 @@ use Rattle.conduct.specs.Book.{Book}
 use Rattle.conduct.specs.Tidy.{AreKept}
 use Rattle.request_rules.specs.Heads.{HeadParts}
 use Rattle.serving.specs.State as serving
-use Rattle.serving.specs.State.{id_of}
+use Rattle.serving.specs.State.{Way, Held, Due, held_of, is_streaming}
 use Rattle.streams_kept.specs.Asked.{is_active}
 use Rattle.judgement.specs.Inbound.{Inbound, book_of, told_of}
 use Rattle.judgement.specs.Blocks.{SaysOf}
@@ -34,19 +33,19 @@ use Rattle.judgement.specs.declared.answers.BlockJudged.TheVariants as judged
 use Rattle.upstreams.specs.Kept as upstreams
 use Rattle.upstreams.specs.Kept.{Begins}
 use Rattle.upstreams.specs.Connections.{lives}
-use Rattle.upstreams.specs.Requests.{due_in, MayEndFor}
+use Rattle.upstreams.specs.Requests.{due_by, MayTake, MayTakeOf}
 use Rattle.policy.specs.Moves.{Move}
 use Rattle.policy.specs.State.{State}
 use Rattle.policy.specs.Rule.{Adds}
 use Rattle.relay.specs.View.{View, square, Leads}
 use Rattle.relay.specs.Rest.{IsAtRest, NoneCut}
 use Rattle.relay.specs.Bringing.{Brings}
-use Rattle.relay.specs.Waits.{WaitsFor}
+use Rattle.relay.specs.Ways.{GoesBy, IsHeldFor}
 use Rattle.relay.proofs.Answered.{whole_gain, whole_owes, caused_by, head_none, not_reset}
 use Rattle.relay.proofs.Answered as answered
 use Rattle.relay.proofs.Coming.{no_outside, inbound_behind}
-use Rattle.relay.proofs.Waits.{waits_for, begun_active}
-use Rattle.steps.specs.block_frames.Following.{followed, farewell_behind, farewell_frames}
+use Rattle.relay.proofs.HeldFor.{held_for, within_length, begun_active}
+use Rattle.steps.specs.block_frames.Following.{followed, dropped_by, farewell_behind, farewell_frames}
 use Rattle.steps.specs.block_frames.Acting.{HasBegun, HasEnded}
 use Rattle.steps.specs.block_frames.Taken.{IsBlockTaken}
 use Rattle.steps.specs.declared.block_frames.taking.BlockTaken.{BlockTaken}
@@ -57,7 +56,7 @@ use Rattle.steps.proofs.block_frames.Lists.{cut_followed}
 use Rattle.steps.proofs.block_frames.Passed.{farewell, opened_so, about_so}
 use Rattle.steps.proofs.block_frames.Streams.{active_behind, found_behind, unended}
 
-module _ (setup : Setup) (whole : setup.passing ≡ WholePassing) (old : View) (rest : IsAtRest old) (frame : Frame) (mid : Inbound) (of : IsOfBlock frame) (kept : AreKept old.inbound.rows) (few_rows : length (ids_of old.inbound.rows) ≤ most_streams) (outputs : List Output) (small : frame.id < 2147483648)
+module _ (setup : Setup) (old : View) (rest : IsAtRest old) (frame : Frame) (mid : Inbound) (of : IsOfBlock frame) (kept : AreKept old.inbound.rows) (few_rows : length (ids_of old.inbound.rows) ≤ most_streams) (outputs : List Output) (small : frame.id < 2147483648)
     (not_half : is_over_in (find old.inbound.rows frame.id) ≡ false → (find old.inbound.rows frame.id).ended_by_gateway ≡ false) (calm : (find old.inbound.rows frame.id).brief.over ≡ false → (find old.inbound.rows frame.id).brief.cause ≡ None) where
   abbrev id : ℕ
   id = frame.id
@@ -106,21 +105,22 @@ module _ (setup : Setup) (whole : setup.passing ≡ WholePassing) (old : View) (
           ∙ ap (λ (c : Option Cause). first_of_both c None) (calm on)
 
   -- a request begins
-  pub begun_taken : (head : HeadParts) (route : ℕ) (is : IsFragmentJudged setup no_outside old.inbound frame mid (judged.Begins head route)) (result : BlockTaken) (new : View) (put_out : List Output) → HasBegun id route head last (record old { inbound = mid }) outputs result new put_out → IsBlockTaken setup old outputs frame result new put_out
-  begun_taken head route is (taken.Fatal code) new put_out acted = absurd acted.begun
-  begun_taken head route is (taken.Goes request farewell_left) new put_out acted = record {
+  pub begun_taken : (at_once : Bool) → at_once ≡ is_streaming setup.passing → (head : HeadParts) (route : ℕ) (is : IsFragmentJudged setup no_outside old.inbound frame mid (judged.Begins head route)) (result : BlockTaken) (new : View) (put_out : List Output) → HasBegun id route head at_once last (record old { inbound = mid }) outputs result new put_out → IsBlockTaken setup old outputs frame result new put_out
+  begun_taken at_once as_set head route is (taken.Fatal code) new put_out acted = absurd acted.begun
+  begun_taken at_once as_set head route is (taken.Goes due farewell_left dropped) new put_out acted = record {
     note = is.note;
     brings =
-        subst (λ (o : List Output). Brings setup old square outputs (Came noted_here) new (record square { owed = farewell_frames farewell_left; due = due_in request }) o) (sym acted.puts)
-        (subst (λ (v : View). Brings setup old square outputs (Came noted_here) v (record square { owed = farewell_frames farewell_left; due = due_in request }) outputs) (sym (acted.kept ∙ ap (λ (i : Inbound). record (followed id (record old { inbound = i })) { upstreams = new.upstreams }) same))
-        (subst (λ (l : Option ℕ). Brings setup old square outputs (Came noted_here) (record (followed id (record old { inbound = there })) { upstreams = new.upstreams }) (record square { owed = farewell_frames l; due = due_in request }) outputs) (sym acted.begun.1)
-        (brings_begun setup whole old rest noted_here is.next of (ap is_fatal is.judged.faultless) is.is_noted is.read (of_stream (judged.Begins head route) is is.judged.faultless says.0 says.2 says.1 says.3) live (no_reply (judged.Begins head route) is is.judged.faultless says.0 says.2 says.1 says.3 says.4.1 none) says.1 says.0.ends route
+        subst (λ (o : List Output). Brings setup old square outputs (Came noted_here) new (record square { owed = farewell_frames farewell_left; due = due_by due; shared = dropped }) o) (sym acted.puts)
+        (subst (λ (v : View). Brings setup old square outputs (Came noted_here) v (record square { owed = farewell_frames farewell_left; due = due_by due; shared = dropped }) outputs) (sym (acted.kept ∙ ap (λ (i : Inbound). record (followed id (record old { inbound = i })) { upstreams = new.upstreams }) same))
+        (subst (λ (l : Option ℕ). Brings setup old square outputs (Came noted_here) (record (followed id (record old { inbound = there })) { upstreams = new.upstreams }) (record square { owed = farewell_frames l; due = due_by due; shared = dropped }) outputs) (sym acted.begun.1)
+        (subst (λ n. Brings setup old square outputs (Came noted_here) (record (followed id (record old { inbound = there })) { upstreams = new.upstreams }) (record square { owed = farewell_frames last; due = due_by due; shared = n }) outputs) (sym (acted.begun.2 ∙ ap (λ (i : Inbound). dropped_by id (record old { inbound = i })) same))
+        (brings_begun setup old rest noted_here is.next of (ap is_fatal is.judged.faultless) is.is_noted is.read (of_stream (judged.Begins head route) is is.judged.faultless says.0 says.2 says.1 says.3) live (no_reply (judged.Begins head route) is is.judged.faultless says.0 says.2 says.1 says.3 says.4.1 none) says.1 says.0.ends route
         (whole_gain setup book noted_here of few_rows is.judged.faultless says.0 says.2 says.1 says.3 (judged.Begins head route) says.4)
-        (farewell_frames last)
+        at_once as_set (farewell_frames last)
         (whole_owes setup book noted_here of few_rows is.judged.faultless says.0 says.2 says.1 says.3 (judged.Begins head route) says.4 ∙ append-nil _ ∙ farewell setup old rest frame mid of kept few_rows outputs small (judged.Begins head route) is (ap (λ (i : Inbound). ids_of i.rows) same))
-        head says.4.2 request new.upstreams
-        (subst (λ b. Begins (followed id (record old { inbound = there })).upstreams id route head b request new.upstreams) (ended_is (judged.Begins head route) is is.judged.faultless says.0 says.2 says.1 says.3)
-        (subst (λ (i : Inbound). Begins (followed id (record old { inbound = i })).upstreams id route head (find i.rows id).ended_by_client request new.upstreams) same acted.begun.0)) outputs)));
+        head says.4.2 (due_by due) new.upstreams
+        (subst (λ b. Begins (followed id (record old { inbound = there })).upstreams id route head b at_once (due_by due) new.upstreams) (ended_is (judged.Begins head route) is is.judged.faultless says.0 says.2 says.1 says.3)
+        (subst (λ (i : Inbound). Begins (followed id (record old { inbound = i })).upstreams id route head (find i.rows id).ended_by_client at_once (due_by due) new.upstreams) same acted.begun.0)) outputs))));
     none_cut = subst (λ (v : View). NoneCut v.offers) (sym acted.kept) (cut_followed (is_active mid.rows id) id old.offers rest.none_cut);
     about = about_so setup old rest frame mid of kept few_rows outputs small (judged.Begins head route) is (ap is_fatal is.judged.faultless) new (ap (λ (v : View). v.inbound.rows) acted.kept ∙ ap (λ (i : Inbound). i.rows) same) (ap (λ (u : upstreams.State). lives u.live) acted.begun.0.kept);
     ids = λ other found. opened_so setup old rest frame mid of kept few_rows outputs small (judged.Begins head route) is new.inbound.rows (ap (λ (v : View). ids_of v.inbound.rows) acted.kept ∙ ap (λ (i : Inbound). ids_of i.rows) same) other found;
@@ -144,12 +144,12 @@ module _ (setup : Setup) (whole : setup.passing ≡ WholePassing) (old : View) (
       none : cause_of_block setup (carried_in (find old.inbound.rows id).brief) (Fields says.1) ≡ None
       none = head_none setup book noted_here of few_rows is.judged.faultless says.0 says.2 says.1 says.3 (find old.inbound.rows id).brief says.4.0 says.4.2.no_cause
 
-  -- the request of a stream whose items go on waits
-  waits_so : (run : List Move) (s : State) → Leads setup run old square s → (find old.inbound.rows id).brief.begun ≡ true → (find old.inbound.rows id).brief.over ≡ false → WaitsFor (find old.inbound.rows id).brief id old.upstreams.held
-  waits_so run s leads begun over =
-      subst (λ (r : serving.State). WaitsFor (find old.inbound.rows id).brief id r.held) leads.keeps.requests
-      (subst (λ (b : Book). WaitsFor (find b.rows id).brief id s.requests.held) leads.keeps.book
-      (waits_for setup run s leads.stands leads.so whole (ap (λ (b : Book). b.closed) leads.keeps.book) id
+  -- something is held of a stream whose items go on
+  held_so : (run : List Move) (s : State) → Leads setup run old square s → (find old.inbound.rows id).brief.begun ≡ true → (find old.inbound.rows id).brief.over ≡ false → IsHeldFor (find old.inbound.rows id).brief id old.upstreams.held
+  held_so run s leads begun over =
+      subst (λ (hs : List Held). IsHeldFor (find old.inbound.rows id).brief id hs) (ap (λ (r : serving.State). r.held) leads.keeps.requests)
+      (subst (λ (b : Book). IsHeldFor (find b.rows id).brief id s.requests.held) leads.keeps.book
+      (held_for setup run s leads.stands leads.so (ap (λ (b : Book). b.closed) leads.keeps.book) (ap (λ (r : serving.State). r.due) leads.keeps.requests) id
       (subst (λ (b : Book). (find b.rows id).brief.begun ≡ true) (sym leads.keeps.book) begun) (subst (λ (b : Book). (find b.rows id).brief.over ≡ false) (sym leads.keeps.book) over)))
 
   module _ (is : IsFragmentJudged setup no_outside old.inbound frame mid judged.Trailers) where
@@ -167,26 +167,46 @@ module _ (setup : Setup) (whole : setup.passing ≡ WholePassing) (old : View) (
     ends_so = trailers_end setup told noted_then says_then.0 says_then.1 says_then.2 says_then.3 is.judged.faultless (calm says_then.4.1) says_then.4.0 says_then.4.2
 
     -- So the request may end.
-    pub may_end_then : (run : List Move) (s : State) → Leads setup run old square s → MayEndFor id [] old.upstreams.held
-    may_end_then run s leads =
-        let w = waits_so run s leads says_then.4.0 says_then.4.1 in
-        record { held = record { id = id; way = serving.Way.Waiting w.route w.text w.stage w.body }; found = w.found; may = w.may_end [] ends_so.1 }
+    pub may_end_then : (run : List Move) (s : State) → Leads setup run old square s → MayTakeOf [] true (held_of id old.upstreams.held)
+    may_end_then run s leads = subst (MayTakeOf [] true) (sym held.found) (by held.way held.goes)
+      where
+        brief : Brief
+        brief = (find old.inbound.rows id).brief
+
+        held : IsHeldFor brief id old.upstreams.held
+        held = held_so run s leads says_then.4.0 says_then.4.1
+
+        by : (way : Way) → GoesBy brief way → MayTake [] true way
+        by (serving.Way.Waiting route text stage body) goes = λ last. goes.may_end [] ends_so.1
+        by (serving.Way.Going number stage) goes = record {
+          parts = goes.parts;
+          ended = false;
+          text = goes.text;
+          pieces = goes.pieces;
+          sending = goes.sending;
+          may_push = goes.may_push [] (within_length brief.declared (brief.octets + 0) ends_so.1);
+          has_length = λ last. goes.full [] ends_so.1;
+        }
+        by serving.Way.Dropped goes = tt
 
     pub ended_taken : (result : BlockTaken) (new : View) (put_out : List Output) → HasEnded id last (record old { inbound = mid }) outputs result new put_out → IsBlockTaken setup old outputs frame result new put_out
-    ended_taken (taken.Fatal code) new put_out acted = absurd acted.whole
-    ended_taken (taken.Goes None farewell_left) new put_out acted = absurd acted.whole
-    ended_taken (taken.Goes (Some request) farewell_left) new put_out acted = record {
+    ended_taken (taken.Fatal code) new put_out acted = absurd acted.goes
+    ended_taken (taken.Goes due farewell_left dropped) new put_out acted = record {
       note = is.note;
       brings =
-          subst (λ (o : List Output). Brings setup old square outputs (Came noted_then) new (record square { owed = farewell_frames farewell_left; due = due_in (Some request) }) o) (sym acted.puts)
-          (subst (λ (v : View). Brings setup old square outputs (Came noted_then) v (record square { owed = farewell_frames farewell_left; due = due_in (Some request) }) outputs) (sym (acted.kept ∙ ap (λ (i : Inbound). record old { inbound = i; upstreams = record old.upstreams { held = serving.without id_of id old.upstreams.held } }) same))
-          (subst (λ (l : Option ℕ). Brings setup old square outputs (Came noted_then) (record old { inbound = behind_then; upstreams = record old.upstreams { held = serving.without id_of id old.upstreams.held } }) (record square { owed = farewell_frames l; due = due_in (Some request) }) outputs) (sym acted.whole.1)
-          (brings_ended setup whole old rest noted_then is.next of (ap is_fatal is.judged.faultless) is.is_noted is.read (of_stream judged.Trailers is is.judged.faultless says_then.0 says_then.2 says_then.1 says_then.3) (active judged.Trailers is is.judged.faultless says_then.0 says_then.2 says_then.1 says_then.3)
+          subst (λ (o : List Output). Brings setup old square outputs (Came noted_then) new (record square { owed = farewell_frames farewell_left; due = due_by due; shared = dropped }) o) (sym acted.puts)
+          (subst (λ (v : View). Brings setup old square outputs (Came noted_then) v (record square { owed = farewell_frames farewell_left; due = due_by due; shared = dropped }) outputs) (sym (acted.kept ∙ ap (λ (i : Inbound). record old { inbound = i; upstreams = record old.upstreams { held = new.upstreams.held } }) same))
+          (subst (λ (d : Due). Brings setup old square outputs (Came noted_then) (record old { inbound = behind_then; upstreams = record old.upstreams { held = new.upstreams.held } }) (record square { owed = farewell_frames farewell_left; due = d; shared = dropped }) outputs) (sym acted.goes.0)
+          (subst (λ (l : Option ℕ). Brings setup old square outputs (Came noted_then) (record old { inbound = behind_then; upstreams = record old.upstreams { held = new.upstreams.held } }) (record square { owed = farewell_frames l; due = acted.due; shared = dropped }) outputs) (sym acted.goes.1)
+          (subst (λ n. Brings setup old square outputs (Came noted_then) (record old { inbound = behind_then; upstreams = record old.upstreams { held = new.upstreams.held } }) (record square { owed = farewell_frames last; due = acted.due; shared = n }) outputs) (sym acted.goes.2)
+          (λ run s leads.
+          brings_ended setup old rest noted_then is.next of (ap is_fatal is.judged.faultless) is.is_noted is.read (of_stream judged.Trailers is is.judged.faultless says_then.0 says_then.2 says_then.1 says_then.3) (active judged.Trailers is is.judged.faultless says_then.0 says_then.2 says_then.1 says_then.3)
           (no_reply judged.Trailers is is.judged.faultless says_then.0 says_then.2 says_then.1 says_then.3 says_then.4.1 says_then.4.2) says_then.1
           (subst (λ b. Adds setup told noted_then (Block says_then.1 b)) ends_so.0 (whole_gain setup book noted_then of few_rows is.judged.faultless says_then.0 says_then.2 says_then.1 says_then.3 judged.Trailers says_then.4))
+          (begun_active old.inbound.rows kept id says_then.4.0) run s leads (held_so run s leads says_then.4.0 says_then.4.1)
           (farewell_frames last)
           (whole_owes setup book noted_then of few_rows is.judged.faultless says_then.0 says_then.2 says_then.1 says_then.3 judged.Trailers says_then.4 ∙ append-nil _ ∙ farewell setup old rest frame mid of kept few_rows outputs small judged.Trailers is (ap (λ (i : Inbound). ids_of i.rows) same))
-          (λ run s leads. waits_so run s leads says_then.4.0 says_then.4.1) request acted.whole.0 outputs (begun_active old.inbound.rows kept id says_then.4.0))));
+          outputs acted.due new.upstreams.held acted.takes)))));
       none_cut = subst (λ (v : View). NoneCut v.offers) (sym acted.kept) rest.none_cut;
       about = about_so setup old rest frame mid of kept few_rows outputs small judged.Trailers is (ap is_fatal is.judged.faultless) new (ap (λ (v : View). v.inbound.rows) acted.kept ∙ ap (λ (i : Inbound). i.rows) same) (ap (λ (v : View). lives v.upstreams.live) acted.kept);
       ids = λ other found. opened_so setup old rest frame mid of kept few_rows outputs small judged.Trailers is new.inbound.rows (ap (λ (v : View). ids_of v.inbound.rows) acted.kept ∙ ap (λ (i : Inbound). ids_of i.rows) same) other found;

@@ -185,7 +185,7 @@ none_kept : (ks : List offering.Kept) → map (λ (k : offering.Kept). k.id) ks 
 none_kept [] is = refl
 none_kept (k ∷ ks) is = cc
 
-module _ (setup : Setup) (run : List Move) (kept : View) (s : State) (fresh : ℕ) (leads : Leads setup run kept (record square { fresh = fresh }) s) (ends : (told_view kept).ends ≡ true) where
+module _ (setup : Setup) (run : List Move) (kept : View) (s : State) (fresh back : ℕ) (leads : Leads setup run kept (record square { fresh = fresh; shared = back }) s) (ends : (told_view kept).ends ≡ true) where
   abbrev known : Known
   known = known_of setup (conducts run)
 
@@ -219,11 +219,11 @@ module _ (setup : Setup) (run : List Move) (kept : View) (s : State) (fresh : �
   abbrev rising : List Live
   rising = reverse (lives kept.upstreams.live)
 
-  back : lives kept.upstreams.live ≡ reverse rising
-  back = sym (reverse-reverse (lives kept.upstreams.live))
+  turned : lives kept.upstreams.live ≡ reverse rising
+  turned = sym (reverse-reverse (lives kept.upstreams.live))
 
   abbrev closed : AreClosed setup run s (closes_of rising)
-  closed = close_each setup rising run s (subst AreApart back apart) (subst (λ (ls : List Live). IsSpent setup run s ls) back is_spent)
+  closed = close_each setup rising run s (subst AreApart turned apart) (subst (λ (ls : List Live). IsSpent setup run s ls) turned is_spent)
 
   abbrev behind : List Move
   behind = closes_of rising ++ run

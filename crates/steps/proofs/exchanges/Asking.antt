@@ -1,7 +1,7 @@
 -- A request's text begins with HEAD and a space just where that is its method.
-use Rattle.std.proofs.Common.{◌≡◌, ℕ, Bool, true, false, ◌&&◌, ◌==◌, List, [], ◌∷◌, ◌++◌, codes, refl, sym, ◌∙◌, ap, append_assoc, inl, inr}
+use Rattle.std.proofs.Common.{◌≡◌, ℕ, ◌+◌, ◌≤◌, Bool, true, false, ◌&&◌, ◌==◌, List, [], ◌∷◌, ◌++◌, codes, length, refl, sym, ◌∙◌, ap, append_assoc, length-append, inl, inr, arith}
 use Rattle.std.specs.Prelude.{bytes_eq}
-use Rattle.std.specs.List.{list_all}
+use Rattle.std.specs.List.{list_all, concat, flat_map}
 use Rattle.std.proofs.lemmas.Bool.{and_parts}
 use Rattle.std.proofs.lemmas.Bool.Decides.{eqb_tells}
 use Rattle.model.specs.Octets.{some_of, is_token_octet}
@@ -11,7 +11,8 @@ use Rattle.model.specs.Http1.{crlf}
 use Rattle.model.specs.Http2.{method_of, path_of}
 use Rattle.model.specs.Causes.{is_front_of}
 use Rattle.request_rules.specs.Heads.{parts_of, request_with}
-use Rattle.h1_writer.specs.Sending.{head_of, content_of, SentWhole}
+use Rattle.h1_writer.specs.Sending.{Stage, Sending, head_of, content_of, chunk_text}
+use Rattle.h1_writer.specs.Sending.Stage.{Whole, Counting, Holding, Chunking}
 
 -- a space is no octet of a token
 no_space : (octet : ℕ) → is_token_octet octet ≡ true → (octet == 32) ≡ false
@@ -45,22 +46,56 @@ all_of : (xs : List ℕ) → some_of is_token_octet xs ≡ true → list_all is_
 all_of [] some = let no : false ≡ true = some in cc
 all_of (x ∷ xs) some = some
 
--- A text goes on behind a method and a space.
+-- a text that is long enough begins with a word just where it does with more behind it
+front_longer : (word text more : List ℕ) → length word ≤ length text → is_front_of word (text ++ more) ≡ is_front_of word text
+front_longer [] text more long = refl
+front_longer (w ∷ ws) [] more long = absurd (omega (arith, long))
+front_longer (w ∷ ws) (x ∷ text) more long = ap (λ b. (w == x) && b) (front_longer ws text more (omega (arith, long)))
+
+-- A text goes on behind a method and a space, with some octets.
 record GoesOnBehind (method text : List ℕ) : Type 0 where
   pub rest : List ℕ
   pub is : text ≡ method ++ 32 ∷ rest
+  pub long : 6 ≤ length rest
 
 and_more : (method text more : List ℕ) → GoesOnBehind method text → GoesOnBehind method (text ++ more)
-and_more method text more g = record { rest = g.rest ++ more; is = ap (λ x. x ++ more) g.is ∙ append_assoc method (32 ∷ g.rest) more }
+and_more method text more g = record {
+  rest = g.rest ++ more;
+  is = ap (λ x. x ++ more) g.is ∙ append_assoc method (32 ∷ g.rest) more;
+  long = (let low = g.long in omega (arith, low, length-append g.rest more));
+}
 
--- The text of a whole request begins with HEAD and a space just where its method is HEAD.
-pub asked_is : (head : List Field) (ended : Bool) (text : List ℕ) (pieces : List (List ℕ)) → some_of is_token_octet (method_of head) ≡ true → SentWhole (parts_of head) ended text pieces → is_front_of (codes "HEAD ") text ≡ bytes_eq (method_of head) (codes "HEAD")
-asked_is head ended text pieces token sent =
-    let whole : GoesOnBehind (method_of head) (head_of (parts_of head) ended ++ content_of (parts_of head).length ended pieces) =
-    and_more (method_of head) _ (content_of (parts_of head).length ended pieces)
-    (and_more (method_of head) _ crlf
-    (and_more (method_of head) _ (lines_text (written_fields (request_with (parts_of head) []) (framing_of (parts_of head).length ended)))
-    (and_more (method_of head) _ crlf
-    (and_more (method_of head) _ (codes " HTTP/1.1")
-    (and_more (method_of head) (method_of head ++ 32 ∷ []) (path_of head) (record { rest = []; is = refl })))))) in
-    ap (λ x. is_front_of (codes "HEAD ") x) (sent.is ∙ whole.is) ∙ front_is (codes "HEAD") (method_of head) whole.rest refl (all_of (method_of head) token)
+-- a request's line does
+line_goes : (method path : List ℕ) → GoesOnBehind method (((method ++ 32 ∷ []) ++ path) ++ codes " HTTP/1.1")
+line_goes method path = record {
+  rest = path ++ codes " HTTP/1.1";
+  is = append_assoc (method ++ 32 ∷ []) path (codes " HTTP/1.1") ∙ append_assoc method (32 ∷ []) (path ++ codes " HTTP/1.1");
+  long = (let nine : length (codes " HTTP/1.1") ≡ 9 = refl in omega (arith, nine, length-append path (codes " HTTP/1.1")));
+}
+
+module _ (head : List Field) (token : some_of is_token_octet (method_of head) ≡ true) where
+  -- a head's text does, whatever comes behind it
+  head_goes : (ended : Bool) (more : List ℕ) → GoesOnBehind (method_of head) (head_of (parts_of head) ended ++ more)
+  head_goes ended more =
+      and_more (method_of head) _ more
+      (and_more (method_of head) _ crlf
+      (and_more (method_of head) _ (lines_text (written_fields (request_with (parts_of head) []) (framing_of (parts_of head).length ended)))
+      (and_more (method_of head) _ crlf (line_goes (method_of head) (path_of head)))))
+
+  asks : (ended : Bool) (more : List ℕ) → is_front_of (codes "HEAD ") (head_of (parts_of head) ended ++ more) ≡ bytes_eq (method_of head) (codes "HEAD")
+  asks ended more =
+      let g = head_goes ended more in
+      ap (λ x. is_front_of (codes "HEAD ") x) g.is ∙ front_is (codes "HEAD") (method_of head) g.rest refl (all_of (method_of head) token)
+
+  -- A request's text begins with HEAD and a space just where its method is HEAD, whether it is whole or not.
+  pub asked_is : (ended : Bool) (text : List ℕ) (pieces : List (List ℕ)) (stage : Stage) → Sending (parts_of head) ended text pieces stage → is_front_of (codes "HEAD ") text ≡ bytes_eq (method_of head) (codes "HEAD")
+  asked_is ended text pieces Whole sent = ap (λ x. is_front_of (codes "HEAD ") x) sent.is ∙ asks ended (content_of (parts_of head).length ended pieces)
+  asked_is ended text pieces (Counting left) sent = ap (λ x. is_front_of (codes "HEAD ") x) sent.is ∙ asks false (concat pieces)
+  asked_is ended text pieces Chunking sent = ap (λ x. is_front_of (codes "HEAD ") x) sent.is ∙ asks false (flat_map chunk_text pieces)
+  asked_is ended text pieces (Holding octet) sent =
+      let g = head_goes false (concat pieces) in
+      let five : length (codes "HEAD ") ≡ 5 = refl in
+      let low = g.long in
+      let same : length text + 1 ≡ length (method_of head) + length (32 ∷ g.rest) = sym (length-append text (octet ∷ [])) ∙ ap length (sent.is ∙ g.is) ∙ length-append (method_of head) (32 ∷ g.rest) in
+      let long : length (codes "HEAD ") ≤ length text = omega (arith, five, low, same) in
+      sym (front_longer (codes "HEAD ") text (octet ∷ []) long) ∙ ap (λ x. is_front_of (codes "HEAD ") x) sent.is ∙ asks false (concat pieces)

@@ -1,14 +1,11 @@
 -- What comes of an upstream, in the words of the calls: it goes on, is whole, or fails.
-use Rattle.std.proofs.Common.{◌≡◌, ℕ, ◌≤◌, Bool, true, false, ◌&&◌, List, ◌∷◌, ◌++◌, length, Some, refl, sym, ◌∙◌, ap, subst, inl, inr, if◌then◌else◌}
+use Rattle.std.proofs.Common.{◌≡◌, ℕ, ◌≤◌, Bool, true, false, ◌&&◌, List, ◌∷◌, ◌++◌, length, Option, Some, None, refl, sym, ◌∙◌, ap, subst, inl, inr, if◌then◌else◌}
 use Rattle.std.specs.Prelude.{◌⊎◌, nat_le}
 use Rattle.std.proofs.lemmas.Bool.{le-leb}
 use Rattle.model.specs.Logs.{Output}
 use Rattle.model.specs.Logs.Event.{Up, UpEnd, UpFailed}
-use Rattle.model.specs.Logs.Act.{Close}
-use Rattle.model.specs.Logs.Output.{Does as Puts}
 use Rattle.model.specs.Setup.{Setup}
 use Rattle.model.specs.Setup.Passing.{Whole as WholePassing}
-use Rattle.model.specs.Tapes.{put}
 use Rattle.model.specs.Tapes.Entry.{Happened}
 use Rattle.model.specs.Known.{Known}
 use Rattle.conduct.specs.Rule.{AreKnown}
@@ -24,7 +21,9 @@ use Rattle.serving.proofs.Standing as standing
 use Rattle.h1_reader.specs.Standing.{Breaks, IsEnd, is_done}
 use Rattle.h1_reader.specs.declared.reader.Ended.TheVariants as reader
 use Rattle.read_answers.specs.Telling.{news_of, news_at_end}
-use Rattle.answers.specs.Waiting.{Answer, passing_in, Waits}
+use Rattle.answers.specs.Waiting.{Answer, passing_in, limit_in, Waits}
+use Rattle.answers.specs.declared.answer.Passing.{Passing as Way}
+use Rattle.answers.specs.declared.answer.Passing.TheVariants as way
 use Rattle.answers.specs.Hearing.{Tells, IsTooLong}
 use Rattle.offers.specs.Changes.{refilled}
 use Rattle.upstreams.specs.Connections.{Connection, number_of}
@@ -37,16 +36,22 @@ use Rattle.relay.specs.Rest.{IsAtRest}
 use Rattle.relay.specs.Hearing.{IsHeard}
 use Rattle.relay.specs.Bringing.{Course}
 use Rattle.relay.proofs.Hearing as hearing
+use Rattle.steps.specs.exchanges.Giving.{replied_to, closed_at}
 use Rattle.steps.proofs.exchanges.Coming as coming
 use Rattle.steps.proofs.exchanges.Hears as hears
 use Rattle.steps.proofs.exchanges.Fails as fails
-use Rattle.steps.proofs.exchanges.Where.{stands_here}
+use Rattle.relay.proofs.Where.{stands_here}
 
 -- octets of an open connection may come, as its end may
 octets_come : (k : ℕ) (octets : List ℕ) → length octets ≤ 65536 → (gates : Gates) (rooms : receiving.State) → gates.is_up k ≡ true → may_come gates rooms (Up k octets) ≡ true
 octets_come k octets short gates rooms up = ap (λ b. b && nat_le (length octets) (if b then 65536 else 0)) up ∙ le-leb (length octets) 65536 short
 
-module _ (setup : Setup) (whole : setup.passing ≡ WholePassing) (kept : View) (rest : IsAtRest kept) (run : List Move) (s : State) (leads : Leads setup run kept square s) (k : ℕ) (c : Connection) (found : find number_of k kept.upstreams.live ≡ Some c) (outputs : List Output) where
+-- a response of which no more than so many octets are passed on is passed on whole
+limited_whole : (way : Way) (most : ℕ) → limit_in way ≡ Some most → passing_in way ≡ WholePassing
+limited_whole (way.Whole limit) most is = refl
+limited_whole way.Streaming most none = let no : ◌≡◌ {A = Option ℕ} None (Some most) = none in cc
+
+module _ (setup : Setup) (kept : View) (rest : IsAtRest kept) (run : List Move) (s : State) (leads : Leads setup run kept square s) (k : ℕ) (c : Connection) (found : find number_of k kept.upstreams.live ≡ Some c) (outputs : List Output) where
   stand : standing.Stands (coming.known_here setup kept rest run s leads k c found) (tape_of run) s.requests
   stand = stands_here setup run s leads.stands leads.so
 
@@ -87,7 +92,7 @@ module _ (setup : Setup) (whole : setup.passing ≡ WholePassing) (kept : View) 
           hears.heard_performs setup kept rest run s leads k c found (Up k octets) refl refl tt (λ y. refl) (octets_come k octets short) news w new box x there (tells.offers base.parts base.waits) told_so stands_on outputs
 
     -- octets with which the answer fails
-    failing_octets : (why : Breaks c.answer.reader octets ⊎ IsTooLong c.answer octets) → (w : Bool) × ((known : Known) → known.setup ≡ setup → AreKnown known (conducts run) → IsAnswered known (tape_of run) (Fails (Up k octets) c.live.stream w))
+    abbrev failing_octets : (why : Breaks c.answer.reader octets ⊎ IsTooLong c.answer octets) → (w : Bool) × ((known : Known) → known.setup ≡ setup → AreKnown known (conducts run) → IsAnswered known (tape_of run) (Fails (Up k octets) c.live.stream w))
     failing_octets (inl breaks) = (
       false,
       λ known same knows.
@@ -107,10 +112,18 @@ module _ (setup : Setup) (whole : setup.passing ≡ WholePassing) (kept : View) 
           ),
     )
 
-    pub octets_fail : Breaks c.answer.reader octets ⊎ IsTooLong c.answer octets → Course setup run s outputs (Happened (Up k octets)) (fails.failed_view kept c.live.stream k) (record square { owed = fails.resets_for kept c.live.stream }) (put outputs (Puts (Close k)))
+    -- responses that fail for their length are passed on whole; others aren't whole with the octets
+    is_part : (why : Breaks c.answer.reader octets ⊎ IsTooLong c.answer octets) → (setup.passing ≡ WholePassing → ⊥) → (failing_octets why).0 ≡ false
+    is_part (inl breaks) streams = refl
+    is_part (inr long) streams = absurd (streams (sym base.set_up.passing ∙ limited_whole c.answer.way long.most long.limit))
+
+    pub octets_fail : Breaks c.answer.reader octets ⊎ IsTooLong c.answer octets → fails.FailsBy setup kept run s k c.live.stream outputs (Happened (Up k octets))
     octets_fail why =
         let it = failing_octets why in
-        fails.failed_performs setup whole kept rest run s leads k c found (Up k octets) refl tt (λ y. refl) (octets_come k octets short) it.0 it.1 refl outputs
+        record {
+          opened = λ streams answer. fails.failure_open setup kept rest run s leads k c found (Up k octets) refl tt (λ y. refl) (octets_come k octets short) it.0 it.1 refl (is_part why streams) answer outputs;
+          closed = fails.failure_closed setup kept rest run s leads k c found (Up k octets) refl tt (λ y. refl) (octets_come k octets short) it.0 it.1 refl outputs;
+        }
 
   -- ---- the end of the connection
 
@@ -132,18 +145,22 @@ module _ (setup : Setup) (whole : setup.passing ≡ WholePassing) (kept : View) 
         hears.heard_performs setup kept rest run s leads k c found (UpEnd k) refl refl tt (λ y. refl) (λ gates rooms up. up) (news_at_end (passing_in c.answer.way) base.parts) true new box x there (grows base.parts base.waits) end_told
         (λ no. absurd (let clash : true ≡ false = no in cc)) outputs
 
-  pub end_fails : IsEnd reader.Short c.answer.reader → Course setup run s outputs (Happened (UpEnd k)) (fails.failed_view kept c.live.stream k) (record square { owed = fails.resets_for kept c.live.stream }) (put outputs (Puts (Close k)))
-  end_fails cut_short =
-      fails.failed_performs setup whole kept rest run s leads k c found (UpEnd k) refl tt (λ y. refl) (λ gates rooms up. up) false
-      (λ known same knows.
-      let it = same_parts known same knows in
-      let o = coming.given_here setup kept rest run s leads k c found in
-      hearing.end_short known (tape_of run) k c.live.stream c.answer o.0 o.1 o.2 o.3 stand.numbered stand.apart it (coming.not_ended setup kept rest run s leads k c found) cut_short)
-      refl outputs
+  module _ (cut_short : IsEnd reader.Short c.answer.reader) where
+    end_judged : (known : Known) → known.setup ≡ setup → AreKnown known (conducts run) → IsAnswered known (tape_of run) (Fails (UpEnd k) c.live.stream false)
+    end_judged known same knows =
+        let it = same_parts known same knows in
+        let o = coming.given_here setup kept rest run s leads k c found in
+        hearing.end_short known (tape_of run) k c.live.stream c.answer o.0 o.1 o.2 o.3 stand.numbered stand.apart it (coming.not_ended setup kept rest run s leads k c found) cut_short
+
+    pub end_fails : fails.FailsBy setup kept run s k c.live.stream outputs (Happened (UpEnd k))
+    end_fails = record {
+      opened = λ streams answer. fails.failure_open setup kept rest run s leads k c found (UpEnd k) refl tt (λ y. refl) (λ gates rooms up. up) false end_judged refl refl answer outputs;
+      closed = fails.failure_closed setup kept rest run s leads k c found (UpEnd k) refl tt (λ y. refl) (λ gates rooms up. up) false end_judged refl outputs;
+    }
 
   -- its failure
-  pub failure_brings : Course setup run s outputs (Happened (UpFailed k)) (fails.failed_view kept c.live.stream k) (record square { owed = fails.resets_for kept c.live.stream }) outputs
+  pub failure_brings : Course setup run s outputs (Happened (UpFailed k)) (replied_to c.live.stream (closed_at k kept)) (record square { owed = fails.resets_for kept c.live.stream }) outputs
   failure_brings =
-      fails.gone_performs setup whole kept rest run s leads k c found (UpFailed k) refl tt (λ y. refl) (λ gates rooms up. up) false
+      fails.failure_gone setup kept rest run s leads k c found (UpFailed k) refl tt (λ y. refl) (λ gates rooms up. up) false
       (λ known same knows. (coming.gone_whole setup kept rest run s leads k c found known same knows, tt))
       refl outputs

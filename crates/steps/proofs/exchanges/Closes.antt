@@ -1,14 +1,11 @@
 -- What the calls come to, by what an upstream's octets, its end or its failure come to.
-use Rattle.std.proofs.Common.{◌≡◌, ℕ, ◌<◌, ◌≤◌, Bool, true, false, ◌==◌, List, [], ◌∷◌, map, length, Option, Some, None, refl, sym, ◌∙◌, ap, subst, inl, inr, if◌then◌else◌}
-use Rattle.std.specs.Prelude.{is_some, option_map, IfSome}
+use Rattle.std.proofs.Common.{◌≡◌, ℕ, ◌<◌, ◌≤◌, Bool, true, false, List, map, length, Option, Some, None, Result, Ok, Err, refl, sym, ◌∙◌, ap, subst, inl, inr}
+use Rattle.std.specs.Prelude.{is_some, option_map, IfSome, IfOk, OnOk}
 use Rattle.std.proofs.lemmas.Bool.Decides.{eqb_tells}
 use Rattle.model.specs.Logs.{Output}
 use Rattle.model.specs.Logs.Event.{Up, UpEnd, UpFailed}
-use Rattle.model.specs.Logs.Act.{Close}
-use Rattle.model.specs.Logs.Output.{Does as Puts}
 use Rattle.model.specs.Setup.{Setup}
-use Rattle.model.specs.Setup.Passing.{Whole as WholePassing}
-use Rattle.model.specs.Tapes.{Entry, put}
+use Rattle.model.specs.Tapes.{Entry}
 use Rattle.model.specs.Tapes.Entry.{Happened}
 use Rattle.model.specs.Causes.Cause.{BadAnswer}
 use Rattle.offering.specs.Outbox.{Outbox}
@@ -22,35 +19,32 @@ use Rattle.answers.specs.declared.answer.Ended.{Ended}
 use Rattle.answers.specs.declared.answer.Ended.TheVariants as ended
 use Rattle.offers.specs.Asked.{is_cut_if, is_kept}
 use Rattle.offers.specs.Changes.{with_box, refilled}
-use Rattle.serving.specs.State.{find, without}
+use Rattle.serving.specs.State.{find}
 use Rattle.streams_kept.specs.Asked.{has, is_active}
-use Rattle.upstreams.specs.Connections.{Connection, number_of, answer_at, whole_at}
+use Rattle.upstreams.specs.Connections.{Connection, number_of, whole_at}
 use Rattle.policy.specs.Moves.{Move}
 use Rattle.policy.specs.State.{State}
 use Rattle.relay.specs.View.{View, square, Leads}
-use Rattle.relay.specs.Rest.{IsAtRest, NoneCut}
+use Rattle.relay.specs.Rest.{IsAtRest, NoneCut, back_of}
 use Rattle.relay.specs.Bringing.{Course, Brings}
 use Rattle.relay.proofs.Kept.{change_none}
 use Rattle.relay.proofs.Resets.{has_same}
-use Rattle.steps.specs.exchanges.Giving.{replied_to, reset_if, is_cut_then, closed_at, IsGivenUp}
+use Rattle.steps.specs.exchanges.Giving.{replied_to, reset_if, put_if, back_if, given_if, is_cut_then, closed_at, abandoned_if, put_abandoned, IsGivenUp, IsAbandoned}
 use Rattle.steps.specs.exchanges.Taking.{answered_with, AreTaken, IsEndTaken}
 use Rattle.steps.proofs.exchanges.Brings as brings
 use Rattle.steps.proofs.exchanges.FailedRows.{there}
-use Rattle.steps.proofs.exchanges.Fails.{failed_view, resets_for}
+use Rattle.steps.proofs.exchanges.Fails.{FailsBy}
 use Rattle.steps.proofs.exchanges.Hears.{change_as}
-use Rattle.steps.proofs.exchanges.Pays.{failure_paid, active_row, box_kept}
+use Rattle.steps.proofs.exchanges.Pays.{lost_paid, abandon_paid, active_row, box_kept}
+
+-- ---- what calls promise that may be refused memory
+
+-- what follows from what an answer is
+pub if_then : {T : Type 0} {E : Type 0} {A : T → Type 0} {B : Type 0} (r : Result T E) → ((x : T) → A x → B) → IfOk r A → OnOk r B
+if_then (Ok x) f a = f x a
+if_then (Err e) f a = tt
 
 -- ---- connections
-
--- one that goes, whatever its answer was
-without_answer : (k : ℕ) (answer : Answer) (cs : List Connection) → without number_of k (map (answer_at k answer) cs) ≡ without number_of k cs
-without_answer k answer [] = refl
-without_answer k answer (c ∷ cs) = by (c.live.k == k) refl (without_answer k answer cs)
-  where
-    by : (b : Bool) → (c.live.k == k) ≡ b → without number_of k (map (answer_at k answer) cs) ≡ without number_of k cs
-        → (if b then without number_of k (map (answer_at k answer) cs) else answer_at k answer c ∷ without number_of k (map (answer_at k answer) cs)) ≡ (if b then without number_of k cs else c ∷ without number_of k cs)
-    by true is more = more
-    by false is more = ap (λ b. let x : Connection = record c { answer = if b then answer else c.answer } in x ∷ without number_of k (map (answer_at k answer) cs)) is ∙ ap (λ (xs : List Connection). c ∷ xs) more
 
 -- an open connection, of this stream
 pub record IsFoundFor (k stream : ℕ) (cs : List Connection) : Type 0 where
@@ -93,8 +87,15 @@ given_none_cut stream kept none false is j y there = elim (eqb_tells stream j) [
   | inr apart ↦ none j y (sym (find_other stream j (answered BadAnswer) kept.offers.kept (answered_id BadAnswer) apart.1) ∙ there)
 ]
 
-pub given_up_none_cut : (stream : ℕ) (old new : View) (outputs put_out : List Output) → NoneCut old.offers → IsGivenUp stream old outputs new put_out → NoneCut new.offers
-given_up_none_cut stream old new outputs put_out none given = subst (λ (v : View). NoneCut v.offers) (sym given.kept) (given_none_cut stream old none (is_cut_then stream old) refl)
+pub given_up_none_cut : (stream : ℕ) (old new : View) (outputs put_out : List Output) (back : Option ℕ) → NoneCut old.offers → IsGivenUp stream old outputs back new put_out → NoneCut new.offers
+given_up_none_cut stream old new outputs put_out back none given = subst (λ (v : View). NoneCut v.offers) (sym given.kept) (given_none_cut stream old none (is_cut_then stream old) refl)
+
+pub abandoned_none_cut : (k stream : ℕ) (old new : View) (outputs put_out : List Output) (back : ℕ) → NoneCut old.offers → IsAbandoned k stream old outputs back new put_out → NoneCut new.offers
+abandoned_none_cut k stream old new outputs put_out back none given = subst (λ (v : View). NoneCut v.offers) (sym given.kept) (by (is_cut_then stream old) refl)
+  where
+    by : (b : Bool) → is_cut_then stream old ≡ b → NoneCut (abandoned_if b k stream old).offers
+    by true is = given_none_cut stream old none true is
+    by false is = given_none_cut stream old none false is
 
 -- ---- streams
 
@@ -103,47 +104,64 @@ given_same : (b : Bool) (stream id : ℕ) (kept : View) → has (reset_if b stre
 given_same true stream id kept = has_same stream id _ (replied_to stream kept).inbound.rows ∙ has_same stream id _ kept.inbound.rows
 given_same false stream id kept = has_same stream id _ kept.inbound.rows
 
-pub given_up_numbered : (stream : ℕ) (old new : View) (outputs put_out : List Output) → ((id : ℕ) → has old.inbound.rows id ≡ true → id < 2147483648) → IsGivenUp stream old outputs new put_out → (id : ℕ) → has new.inbound.rows id ≡ true → id < 2147483648
-given_up_numbered stream old new outputs put_out few given id there =
-    few id (sym (ap (λ (v : View). has v.inbound.rows id) given.kept ∙ given_same (is_cut_then stream old) stream id old) ∙ there)
+pub given_up_numbered : (stream : ℕ) (old new : View) (outputs put_out : List Output) (back : Option ℕ) → ((id : ℕ) → has old.inbound.rows id ≡ true → id < 2147483648) → IsGivenUp stream old outputs back new put_out → (id : ℕ) → has new.inbound.rows id ≡ true → id < 2147483648
+given_up_numbered stream old new outputs put_out back few given id is =
+    few id (sym (ap (λ (v : View). has v.inbound.rows id) given.kept ∙ given_same (is_cut_then stream old) stream id old) ∙ is)
+
+pub abandoned_numbered : (k stream : ℕ) (old new : View) (outputs put_out : List Output) (back : ℕ) → ((id : ℕ) → has old.inbound.rows id ≡ true → id < 2147483648) → IsAbandoned k stream old outputs back new put_out → (id : ℕ) → has new.inbound.rows id ≡ true → id < 2147483648
+abandoned_numbered k stream old new outputs put_out back few given id is =
+    few id (sym (ap (λ (v : View). has v.inbound.rows id) given.kept ∙ by (is_cut_then stream old)) ∙ is)
+  where
+    by : (b : Bool) → has (abandoned_if b k stream old).inbound.rows id ≡ has old.inbound.rows id
+    by true = given_same true stream id old
+    by false = given_same false stream id old
 
 -- ---- what comes of an upstream
 
-module _ (kept : View) (rest : IsAtRest kept) (k : ℕ) (outputs : List Output) (setup : Setup) (whole : setup.passing ≡ WholePassing) where
-  -- where a stream is given up, the connection being gone
-  abandoned : (c : Connection) (stream : ℕ) (entry : Entry) (before new : View) (between put_out : List Output) → find number_of k kept.upstreams.live ≡ Some c → stream ≡ c.live.stream → before ≡ closed_at k kept → stream < 2147483648
-      → IsGivenUp stream before between new put_out
-      → ((run : List Move) (s : State) → Leads setup run kept square s → Course setup run s outputs entry (failed_view kept c.live.stream k) (record square { owed = resets_for kept c.live.stream }) between)
-      → Brings setup kept square outputs entry new square put_out
-  abandoned c stream entry before new between put_out found of closed few given course run s leads =
-      let own : IsGivenUp c.live.stream (closed_at k kept) between new put_out = subst (λ (v : View). IsGivenUp c.live.stream v between new put_out) closed (subst (λ n. IsGivenUp n before between new put_out) of given) in
-      subst (λ (v : View). Course setup run s outputs entry v square put_out) (sym own.kept)
-      (subst (λ (o : List Output). Course setup run s outputs entry (reset_if (is_cut_then c.live.stream (closed_at k kept)) c.live.stream (replied_to c.live.stream (closed_at k kept))) square o) (sym own.puts)
-      (failure_paid setup kept rest run s leads k c found outputs between entry (subst (λ n. n < 2147483648) of few) (course run s leads)))
+-- so many octets go back
+abbrev pub count_of : Option ℕ → ℕ
+count_of None = 0
+count_of (Some count) = count
+
+module _ (kept : View) (rest : IsAtRest kept) (k : ℕ) (outputs : List Output) (setup : Setup) where
+  -- where a stream is given up with an answer that failed
+  abandoned : (c : Connection) (stream : ℕ) (entry : Entry) (answer : Answer) (middle new : View) (put_out : List Output) (count : ℕ) → find number_of k kept.upstreams.live ≡ Some c → stream ≡ c.live.stream → middle ≡ answered_with k answer kept.offers kept → stream < 2147483648
+      → IsAbandoned k stream middle outputs count new put_out
+      → ((run : List Move) (s : State) → Leads setup run kept square s → FailsBy setup kept run s k c.live.stream outputs entry)
+      → Brings setup kept square outputs entry new (back_of count) put_out
+  abandoned c stream entry answer middle new put_out count found of is few given fails run s leads =
+      let own : IsAbandoned k c.live.stream (answered_with k answer kept.offers kept) outputs count new put_out =
+      subst (λ (v : View). IsAbandoned k c.live.stream v outputs count new put_out) is (subst (λ n. IsAbandoned k n middle outputs count new put_out) of given) in
+      subst (λ (v : View). Course setup run s outputs entry v (back_of count) put_out) (sym own.kept)
+      (subst (λ (o : List Output). Course setup run s outputs entry (abandoned_if (is_cut_then c.live.stream kept) k c.live.stream (answered_with k answer kept.offers kept)) (back_of count) o) (sym own.puts)
+      (subst (λ n. Course setup run s outputs entry (abandoned_if (is_cut_then c.live.stream kept) k c.live.stream (answered_with k answer kept.offers kept)) (back_of n) (put_abandoned (is_cut_then c.live.stream kept) k c.live.stream outputs)) (sym (own.back_is ∙ same_back (is_cut_then c.live.stream kept)))
+      (abandon_paid setup kept rest run s leads k c found (subst (λ n. n < 2147483648) of few) outputs entry answer (fails run s leads))))
+    where
+      same_back : (b : Bool) → back_if b c.live.stream (answered_with k answer kept.offers kept) ≡ back_if b c.live.stream kept
+      same_back true = refl
+      same_back false = refl
 
   module _ (octets : List ℕ) (short : length octets ≤ 65536) where
     pub goes_on : (new : View) → AreTaken kept k octets heard.GoesOn new → Brings setup kept square outputs (Happened (Up k octets)) new square outputs
     goes_on new taken run s leads =
         let h = taken.hears in
         subst (λ (v : View). Course setup run s outputs (Happened (Up k octets)) v square outputs) (sym (taken.is ∙ ap (λ (o : offering.State). answered_with k taken.answer o kept) h.is))
-        (brings.octets_bring setup whole kept rest run s leads k taken.connection taken.found outputs octets short false taken.answer h.stream h.box h.found h.hears)
+        (brings.octets_bring setup kept rest run s leads k taken.connection taken.found outputs octets short false taken.answer h.stream h.box h.found h.hears)
 
     pub is_whole : (middle new : View) → AreTaken kept k octets heard.Whole middle → new ≡ record middle { upstreams = record middle.upstreams { live = map (whole_at k) middle.upstreams.live } } → Brings setup kept square outputs (Happened (Up k octets)) new square outputs
     is_whole middle new taken marked run s leads =
         let h = taken.hears in
         subst (λ (v : View). Course setup run s outputs (Happened (Up k octets)) v square outputs)
         (sym (marked ∙ ap (λ (v : View). record v { upstreams = record v.upstreams { live = map (whole_at k) v.upstreams.live } }) (taken.is ∙ ap (λ (o : offering.State). answered_with k taken.answer o kept) h.is)))
-        (brings.octets_bring setup whole kept rest run s leads k taken.connection taken.found outputs octets short true taken.answer h.stream h.box h.found h.hears)
+        (brings.octets_bring setup kept rest run s leads k taken.connection taken.found outputs octets short true taken.answer h.stream h.box h.found h.hears)
 
-    pub fails : (stream : ℕ) (middle new : View) (put_out : List Output) → AreTaken kept k octets heard.Failed middle → IfSome (find number_of k kept.upstreams.live) (λ c. stream ≡ c.live.stream) → stream < 2147483648 → IsGivenUp stream (closed_at k middle) (put outputs (Puts (Close k))) new put_out → Brings setup kept square outputs (Happened (Up k octets)) new square put_out
-    fails stream middle new put_out taken of few given =
+    pub fails : (stream : ℕ) (middle new : View) (put_out : List Output) (count : ℕ) → AreTaken kept k octets heard.Failed middle → IfSome (find number_of k kept.upstreams.live) (λ c. stream ≡ c.live.stream) → stream < 2147483648 → IsAbandoned k stream middle outputs count new put_out → Brings setup kept square outputs (Happened (Up k octets)) new (back_of count) put_out
+    fails stream middle new put_out count taken of few given =
         let h = taken.hears in
         let same : taken.offers ≡ kept.offers = h.is ∙ ap (λ (b : Outbox). refilled taken.connection.live.stream b kept.offers) h.hears.0 ∙ refilled_same taken.connection.live.stream kept.offers h.stream h.found in
-        let closed : closed_at k middle ≡ closed_at k kept =
-        ap (closed_at k) (taken.is ∙ ap (λ (o : offering.State). answered_with k taken.answer o kept) same) ∙ ap (λ (cs : List Connection). record (closed_at k kept) { upstreams = record kept.upstreams { live = cs } }) (without_answer k taken.answer kept.upstreams.live) in
-        abandoned taken.connection stream (Happened (Up k octets)) (closed_at k middle) new (put outputs (Puts (Close k))) put_out taken.found
-        (subst (λ (o : Option Connection). IfSome o (λ c. stream ≡ c.live.stream)) taken.found of) closed few given
-        (λ run s leads. brings.octets_fail setup whole kept rest run s leads k taken.connection taken.found outputs octets short h.hears.1)
+        abandoned taken.connection stream (Happened (Up k octets)) taken.answer middle new put_out count taken.found
+        (subst (λ (o : Option Connection). IfSome o (λ c. stream ≡ c.live.stream)) taken.found of) (taken.is ∙ ap (λ (o : offering.State). answered_with k taken.answer o kept) same) few given
+        (λ run s leads. brings.octets_fail setup kept rest run s leads k taken.connection taken.found outputs octets short h.hears.1)
 
   -- ---- the end
 
@@ -152,24 +170,31 @@ module _ (kept : View) (rest : IsAtRest kept) (k : ℕ) (outputs : List Output) 
       let h = taken.ends in
       subst (λ (v : View). Course setup run s outputs (Happened (UpEnd k)) v square outputs)
       (sym (marked ∙ ap (λ (v : View). record v { upstreams = record v.upstreams { live = map (whole_at k) v.upstreams.live } }) (taken.is ∙ ap (λ (o : offering.State). answered_with k taken.answer o kept) h.is)))
-      (brings.end_brings setup whole kept rest run s leads k taken.connection taken.found outputs taken.answer h.stream h.box h.found h.ends.0 h.ends.1)
+      (brings.end_brings setup kept rest run s leads k taken.connection taken.found outputs taken.answer h.stream h.box h.found h.ends.0 h.ends.1)
 
-  pub cut_short : (stream : ℕ) (middle new : View) (put_out : List Output) → IsEndTaken kept k ended.Short middle → IfSome (find number_of k kept.upstreams.live) (λ c. stream ≡ c.live.stream) → stream < 2147483648 → IsGivenUp stream (closed_at k middle) (put outputs (Puts (Close k))) new put_out → Brings setup kept square outputs (Happened (UpEnd k)) new square put_out
-  cut_short stream middle new put_out taken of few given =
+  pub cut_short : (stream : ℕ) (middle new : View) (put_out : List Output) (count : ℕ) → IsEndTaken kept k ended.Short middle → IfSome (find number_of k kept.upstreams.live) (λ c. stream ≡ c.live.stream) → stream < 2147483648 → IsAbandoned k stream middle outputs count new put_out → Brings setup kept square outputs (Happened (UpEnd k)) new (back_of count) put_out
+  cut_short stream middle new put_out count taken of few given =
       let h = taken.ends in
       let same : taken.offers ≡ kept.offers = h.is ∙ ap (λ (b : Outbox). refilled taken.connection.live.stream b kept.offers) h.ends.1 ∙ refilled_same taken.connection.live.stream kept.offers h.stream h.found in
-      let closed : closed_at k middle ≡ closed_at k kept =
-      ap (closed_at k) (taken.is ∙ ap (λ (o : offering.State). answered_with k taken.answer o kept) same) ∙ ap (λ (cs : List Connection). record (closed_at k kept) { upstreams = record kept.upstreams { live = cs } }) (without_answer k taken.answer kept.upstreams.live) in
-      abandoned taken.connection stream (Happened (UpEnd k)) (closed_at k middle) new (put outputs (Puts (Close k))) put_out taken.found
-      (subst (λ (o : Option Connection). IfSome o (λ c. stream ≡ c.live.stream)) taken.found of) closed few given
-      (λ run s leads. brings.end_fails setup whole kept rest run s leads k taken.connection taken.found outputs h.ends.0)
+      abandoned taken.connection stream (Happened (UpEnd k)) taken.answer middle new put_out count taken.found
+      (subst (λ (o : Option Connection). IfSome o (λ c. stream ≡ c.live.stream)) taken.found of) (taken.is ∙ ap (λ (o : offering.State). answered_with k taken.answer o kept) same) few given
+      (λ run s leads. brings.end_fails setup kept rest run s leads k taken.connection taken.found outputs h.ends.0)
 
   -- ---- the failure
 
-  pub is_gone : (stream : ℕ) (new : View) (put_out : List Output) → is_some (find number_of k kept.upstreams.live) ≡ true → IfSome (find number_of k kept.upstreams.live) (λ c. stream ≡ c.live.stream) → stream < 2147483648 → IsGivenUp stream (closed_at k kept) outputs new put_out → Brings setup kept square outputs (Happened (UpFailed k)) new square put_out
-  is_gone stream new put_out opened of few given =
+  pub is_gone : (stream : ℕ) (new : View) (put_out : List Output) (waited : Option ℕ) (count : ℕ) → is_some (find number_of k kept.upstreams.live) ≡ true → IfSome (find number_of k kept.upstreams.live) (λ c. stream ≡ c.live.stream) → stream < 2147483648
+      → IsGivenUp stream (closed_at k kept) outputs waited new put_out → count ≡ count_of waited → Brings setup kept square outputs (Happened (UpFailed k)) new (back_of count) put_out
+  is_gone stream new put_out waited count opened of few given counted run s leads =
       let it = found_for k stream kept.upstreams.live opened of in
-      abandoned it.connection stream (Happened (UpFailed k)) (closed_at k kept) new outputs put_out it.found it.of refl few given (λ run s leads. brings.failure_brings setup whole kept rest run s leads k it.connection it.found outputs)
+      let own : IsGivenUp it.connection.live.stream (closed_at k kept) outputs waited new put_out = subst (λ n. IsGivenUp n (closed_at k kept) outputs waited new put_out) it.of given in
+      subst (λ (v : View). Course setup run s outputs (Happened (UpFailed k)) v (back_of count) put_out) (sym own.kept)
+      (subst (λ (o : List Output). Course setup run s outputs (Happened (UpFailed k)) (reset_if (is_cut_then it.connection.live.stream kept) it.connection.live.stream (replied_to it.connection.live.stream (closed_at k kept))) (back_of count) o) (sym own.puts)
+      (subst (λ n. Course setup run s outputs (Happened (UpFailed k)) (reset_if (is_cut_then it.connection.live.stream kept) it.connection.live.stream (replied_to it.connection.live.stream (closed_at k kept))) (back_of n) (put_if (is_cut_then it.connection.live.stream kept) it.connection.live.stream outputs)) (sym (counted ∙ ap count_of own.back_is ∙ same_back it.connection.live.stream (is_cut_then it.connection.live.stream kept)))
+      (lost_paid setup kept rest run s leads k it.connection it.found (subst (λ n. n < 2147483648) it.of few) outputs (Happened (UpFailed k)) (brings.failure_brings setup kept rest run s leads k it.connection it.found outputs))))
+    where
+      same_back : (id : ℕ) (b : Bool) → count_of (given_if b id (closed_at k kept)) ≡ back_if b id kept
+      same_back id true = refl
+      same_back id false = refl
 
 -- ---- what holds behind what was taken
 

@@ -13,7 +13,7 @@ use Rattle.model.specs.Admission.{is_open}
 use Rattle.model.specs.Openings.{Opened, opens, given}
 use Rattle.model.specs.Available.{heard, has_ended, IsIn}
 use Rattle.model.specs.Known.{Known}
-use Rattle.model.specs.Courses.{items, upstream_of}
+use Rattle.model.specs.Courses.{course, items, upstream_of}
 use Rattle.model.specs.Offers.{is_to_head}
 use Rattle.model.specs.Responses.{IsComplete}
 use Rattle.model.proofs.GivenLaws.{given_is, number_above}
@@ -48,8 +48,8 @@ use Rattle.relay.specs.Rest.{IsAtRest}
 use Rattle.relay.proofs.Hearing.{items_behind_event}
 use Rattle.relay.proofs.Resting.{rests_are_ready}
 use Rattle.relay.proofs.Sound as sound
-use Rattle.relay.proofs.Staying.{found_live}
-use Rattle.steps.proofs.exchanges.Where.{own, own_led, stands_here}
+use Rattle.relay.proofs.Staying.{found_live, calm_before}
+use Rattle.relay.proofs.Where.{led_to, own, own_led, stands_here}
 
 module _ (setup : Setup) (kept : View) (rest : IsAtRest kept) (run : List Move) (s : State) (leads : Leads setup run kept square s) (k : ℕ) (c : Connection) (found : find number_of k kept.upstreams.live ≡ Some c) where
   abbrev pub t : List Entry
@@ -131,19 +131,26 @@ module _ (setup : Setup) (kept : View) (rest : IsAtRest kept) (run : List Move) 
 
   -- ---- answers
 
+  -- the gateway doesn't reply to its stream itself
+  pub calm : (known : Known) → known.setup ≡ setup → AreKnown known (conducts run) → (course known stream t).cause ≡ None
+  calm known same knows =
+      let right = sound.right known run s (led_to known setup run s same knows leads.stands leads.so) in
+      let event = event_of (UpFailed k) refl in
+      sym (right.cause stream (sym (right.active stream) ∙ event.active)) ∙ event.no_cause
+
   -- the answer stands for what was heard, whatever is known: these pieces were told
   abbrev pub heard_own : IsHeard known_here t k c.answer
-  heard_own = leads.heard known_here refl (own_led setup run s leads.stands leads.so).knows k c found not_whole
+  heard_own = let knows = (own_led setup run s leads.stands leads.so).knows in leads.heard known_here refl knows k c found not_whole (calm known_here refl knows)
 
   abbrev pub heard_here : (known : Known) → known.setup ≡ setup → AreKnown known (conducts run) → IsHeard known t k c.answer
   heard_here known same knows =
-      let is = leads.heard known same knows k c found not_whole in
+      let is = leads.heard known same knows k c found not_whole (calm known same knows) in
       record { parts = heard_own.parts; stands = heard_own.stands; short = heard_own.short; goes_on = heard_own.goes_on; waits = heard_own.waits; asked = is.asked; set_up = is.set_up }
 
   -- answers of the others stand for what was heard behind the event
-  pub heard_beside : (event : Event) → upstream_of event ≡ k → (known : Known) → known.setup ≡ setup → AreKnown known (conducts run) → (j : ℕ) (x : Connection) → (j ≡ k → ⊥) → find number_of j kept.upstreams.live ≡ Some x → x.live.whole ≡ false → IsHeard known (Happened event ∷ t) j x.answer
-  heard_beside event of known same knows j x apart there on =
-      let is = leads.heard known same knows j x there on in
+  pub heard_beside : (event : Event) → upstream_of event ≡ k → (known : Known) → known.setup ≡ setup → AreKnown known (conducts run) → (j : ℕ) (x : Connection) → (j ≡ k → ⊥) → find number_of j kept.upstreams.live ≡ Some x → x.live.whole ≡ false → (course known x.live.stream (Happened event ∷ t)).cause ≡ None → IsHeard known (Happened event ∷ t) j x.answer
+  heard_beside event of known same knows j x apart there on no_cause =
+      let is = leads.heard known same knows j x there on (calm_before known x.live.stream (Happened event) t no_cause) in
       record {
         parts = is.parts;
         stands = subst (λ y. Reads y is.parts x.answer.reader) (sym (heard_same t (Happened event) j (λ e. apart (e ∙ of)))) is.stands;

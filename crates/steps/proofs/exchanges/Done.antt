@@ -1,5 +1,5 @@
 -- Which connections are done with behind what came of an upstream; and the one whose response is whole is closed.
-use Rattle.std.proofs.Common.{◌≡◌, ℕ, Bool, true, false, ◌==◌, List, [], ◌∷◌, map, Some, refl, sym, ◌∙◌, ap, subst, if◌then◌else◌}
+use Rattle.std.proofs.Common.{◌≡◌, ℕ, Bool, true, false, ◌==◌, List, [], ◌∷◌, map, Option, Some, refl, sym, ◌∙◌, ap, subst, if◌then◌else◌}
 use Rattle.std.specs.Prelude.{option_map}
 use Rattle.std.specs.List.{list_any}
 use Rattle.std.proofs.lemmas.Bool.{eq-eqb}
@@ -7,7 +7,6 @@ use Rattle.model.specs.Logs.{Output}
 use Rattle.model.specs.Logs.Act.{Close}
 use Rattle.model.specs.Logs.Output.{Does as Puts}
 use Rattle.model.specs.Setup.{Setup}
-use Rattle.model.specs.Setup.Passing.{Whole as WholePassing}
 use Rattle.model.specs.Tapes.{Entry, put}
 use Rattle.conduct.specs.Rows.{find as find_row, slot_of}
 use Rattle.conduct.specs.Rows.Slot.{Over}
@@ -24,9 +23,9 @@ use Rattle.relay.specs.Bringing.{Brings}
 use Rattle.relay.proofs.Bringing.{brings_then}
 use Rattle.relay.proofs.Lives.{IsDone, lives_same}
 use Rattle.steps.specs.Closings.{NoneDoneBut, IsAbout}
-use Rattle.steps.specs.exchanges.Giving.{closed_at, replied_to, reset_behind, reset_if, is_cut_then, IsGivenUp}
+use Rattle.steps.specs.exchanges.Giving.{closed_at, replied_to, reset_behind, reset_if, abandoned_if, is_cut_then, IsGivenUp, IsAbandoned}
 use Rattle.steps.specs.exchanges.Taking.{answered_with}
-use Rattle.steps.proofs.Closings.{about_but, about_changed, about_then, closed_still}
+use Rattle.steps.proofs.Closings.{about_but, about_changed, about_then, closed_but, closed_still}
 use Rattle.steps.proofs.paying.Closes.{closes}
 
 -- all that is kept, where the response of a connection is whole
@@ -71,9 +70,17 @@ given_about_if b stream old = by b
     by false = replied
 
 -- None but the stream's are done with behind it.
-pub given_none_but : (stream : ℕ) (old new : View) (outputs put_out : List Output) → NoneDone old → IsGivenUp stream old outputs new put_out → NoneDoneBut stream new
-given_none_but stream old new outputs put_out none given =
+pub given_none_but : (stream : ℕ) (old new : View) (outputs put_out : List Output) (back : Option ℕ) → NoneDone old → IsGivenUp stream old outputs back new put_out → NoneDoneBut stream new
+given_none_but stream old new outputs put_out back none given =
     about_but stream old new (subst (λ (v : View). IsAbout stream old v) (sym given.kept) (given_about_if (is_cut_then stream old) stream old)) none
+
+-- The same where its connection may be closed too.
+pub abandoned_none_but : (k stream : ℕ) (old new : View) (outputs put_out : List Output) (back : ℕ) → NoneDone old → IsAbandoned k stream old outputs back new put_out → NoneDoneBut stream new
+abandoned_none_but k stream old new outputs put_out back none given = subst (λ (v : View). NoneDoneBut stream v) (sym given.kept) (by (is_cut_then stream old))
+  where
+    by : (b : Bool) → NoneDoneBut stream (abandoned_if b k stream old)
+    by true = about_but stream old (reset_behind stream (replied_to stream old)) (given_about_if true stream old) none
+    by false = closed_but stream k (replied_to stream old) (about_but stream old (replied_to stream old) (given_about_if false stream old) none)
 
 -- ---- a response that is whole
 
@@ -89,10 +96,10 @@ whole_done k kept c found = record {
 }
 
 -- Behind what came of its upstream the connection is closed.
-pub whole_closes : (setup : Setup) → setup.passing ≡ WholePassing → (old kept new : View) (k : ℕ) (c : Connection) (entry : Entry) (outputs put_out : List Output) → find number_of k kept.upstreams.live ≡ Some c
+pub whole_closes : (setup : Setup) (old kept new : View) (k : ℕ) (c : Connection) (entry : Entry) (outputs put_out : List Output) → find number_of k kept.upstreams.live ≡ Some c
     → Brings setup old square outputs entry (marked k kept) square outputs → new ≡ closed_at k (marked k kept) → put_out ≡ put outputs (Puts (Close k)) → Brings setup old square outputs entry new square put_out
-whole_closes setup whole old kept new k c entry outputs put_out found brings is puts =
+whole_closes setup old kept new k c entry outputs put_out found brings is puts =
     subst (λ (v : View). Brings setup old square outputs entry v square put_out) (sym is)
     (subst (λ (o : List Output). Brings setup old square outputs entry (closed_at k (marked k kept)) square o) (sym puts)
     (brings_then setup old (marked k kept) (closed_at k (marked k kept)) square square square outputs outputs (put outputs (Puts (Close k))) entry brings
-    (closes setup whole (marked k kept) k (λ top below. whole_done k kept c found) outputs)))
+    (closes setup (marked k kept) 0 k (λ top below. whole_done k kept c found) outputs)))

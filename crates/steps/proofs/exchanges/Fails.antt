@@ -1,21 +1,24 @@
--- An upstream's answer fails: the gateway replies to its stream itself, and the connection is closed, or is gone with it. This performs.
-use Rattle.std.proofs.Common.{◌≡◌, ℕ, Bool, true, false, not, ◌&&◌, ◌||◌, ◌==◌, List, [], ◌∷◌, map, Option, Some, None, refl, sym, ◌∙◌, ap, subst, inl, if◌then◌else◌}
+-- An upstream's answer fails: the gateway replies to its stream itself, and the connection is closed, or is open still, or is gone with it. This
+-- performs.
+use Rattle.std.proofs.Common.{◌≡◌, ℕ, Bool, true, false, not, ◌&&◌, ◌||◌, ◌==◌, List, [], ◌∷◌, map, Option, Some, None, refl, sym, ◌∙◌, ap, subst, inl, inr, if◌then◌else◌}
 use Rattle.std.specs.Prelude.{option_map, is_none}
 use Rattle.std.proofs.lemmas.Bool.{ne_eqb, and_parts, or_right}
+use Rattle.std.proofs.lemmas.Bool.Decides.{eqb_tells}
 use Rattle.model.specs.Frames.{Frame, internal_error}
 use Rattle.model.specs.Logs.{Event, Output}
 use Rattle.model.specs.Logs.Act.{Close}
 use Rattle.model.specs.Logs.Output.{Does as Puts}
 use Rattle.model.specs.Setup.{Setup}
-use Rattle.model.specs.Setup.Passing.{Whole as WholePassing}
-use Rattle.model.specs.Tapes.{put}
+use Rattle.model.specs.Setup.Passing.{Whole}
+use Rattle.model.specs.Tapes.{Entry, put}
 use Rattle.model.specs.Tapes.Entry.{Happened, Did}
 use Rattle.model.specs.ErrorClause.{rst_stream}
 use Rattle.model.specs.Causes.Cause.{BadAnswer}
 use Rattle.model.specs.Openings.{Opened, opens, given}
 use Rattle.model.specs.Known.{Known}
 use Rattle.model.specs.Lifetimes.{is_opened, is_over, is_active}
-use Rattle.model.specs.Courses.{items, upstream_of}
+use Rattle.model.specs.Causes.{Cause}
+use Rattle.model.specs.Courses.{course, items, upstream_of}
 use Rattle.model.proofs.OpenedLaws.{none_zero}
 use Rattle.model.proofs.ItemLaws.{head_stays}
 use Rattle.conduct.specs.Judging.{is_active_in}
@@ -31,13 +34,14 @@ use Rattle.serving.specs.State as serving
 use Rattle.serving.specs.State.{Held, Live, find, id_of, k_of, live_of, without, drop_from}
 use Rattle.serving.specs.State.Due.{Nothing}
 use Rattle.serving.specs.Rule.{is_done}
-use Rattle.serving.proofs.Lists.{find_gone, find_map}
+use Rattle.serving.proofs.Lists.{found_key, find_gone, find_map}
 use Rattle.streams_kept.specs.Asked as asked
-use Rattle.judgement.specs.Inbound.{Inbound, book_of}
+use Rattle.judgement.specs.Inbound.{book_of}
 use Rattle.judgement.specs.Sending.{behind_failure, reset_if_out}
 use Rattle.judgement.proofs.SendingEvents.{fails_lead, closes_lead, happened_desk, did_desk}
 use Rattle.upstreams.specs.Kept as upstreams
-use Rattle.upstreams.specs.Connections.{Connection, number_of, lives}
+use Rattle.answers.specs.Waiting.{Answer}
+use Rattle.upstreams.specs.Connections.{Connection, number_of, lives, answer_at}
 use Rattle.policy.specs.Moves.{Deed, Move, conduct_of, told_in, failed as failed_request}
 use Rattle.policy.specs.Moves.Deed.{Fails, Acts}
 use Rattle.policy.specs.Moves.Move.{Does}
@@ -49,17 +53,22 @@ use Rattle.policy.specs.Steps.{told_by, told_behind, next, MayGoOn, Stands}
 use Rattle.policy.proofs.Coming.{may_fail}
 use Rattle.policy.proofs.Going.{may_act}
 use Rattle.policy.proofs.Stepping.{one_more}
-use Rattle.relay.specs.View.{View, square, Keeps, GoBack, Leads, AreSo, AreHeard}
+use Rattle.relay.specs.View.{View, Pending, square, GoBack, IsCredited, AreMarked, Leads, AreSo, AreHeard}
+use Rattle.relay.specs.Hearing.{IsHeard}
 use Rattle.relay.specs.Rest.{IsAtRest}
 use Rattle.relay.specs.Bringing.{Course}
 use Rattle.relay.proofs.Hearing.{items_behind_event}
-use Rattle.relay.proofs.Kept.{held_behind}
-use Rattle.relay.proofs.Lives.{lives_closed}
-use Rattle.relay.proofs.Staying.{so_stays, found_live, found_before, open_begun, rows_kept, all_held_served}
-use Rattle.relay.proofs.Ways.{AreWaiting, drop_none, all_wait}
+use Rattle.relay.proofs.Kept.{AreServed, held_behind}
+use Rattle.relay.proofs.Lives.{lives_closed, lives_same}
+use Rattle.relay.proofs.Marking.{rooms_next, marked_event}
+use Rattle.relay.proofs.Sound as sound
+use Rattle.relay.proofs.Staying.{so_stays, found_live, found_before, open_begun, calm_before, rows_kept, all_held_served}
+use Rattle.relay.proofs.Where.{led_to, right_here}
+use Rattle.steps.specs.exchanges.Giving.{replied_to, closed_at}
+use Rattle.steps.specs.exchanges.Taking.{answered_with}
 use Rattle.steps.proofs.exchanges.Coming as coming
 use Rattle.steps.proofs.exchanges.FailedRows as failing
-use Rattle.steps.proofs.exchanges.Where.{right_here}
+use Rattle.steps.proofs.exchanges.Hears.{unanswered}
 
 -- a connection that goes, whether its response is whole or not
 without_answered : (w : Bool) (k : ℕ) (ls : List Live) → without k_of k (map (serving.answered w k) ls) ≡ without k_of k ls
@@ -76,27 +85,35 @@ without_answered w k (l ∷ ls) = by (l.k == k) refl (without_answered w k ls)
         ∙ ap (λ (xs : List Live). l ∷ xs) more
         ∙ sym (ap (λ b. if b then without k_of k ls else l ∷ without k_of k ls) is)
 
--- ---- what is kept behind the failure
+-- what is held is of the same streams where some of it is dropped
+served_dropped : (told : Told) (k : ℕ) (hs : List Held) → AreServed told hs → AreServed told (map (drop_from k) hs)
+served_dropped told k [] are = tt
+served_dropped told k (h ∷ hs) are = (are.0, served_dropped told k hs are.1)
 
--- the client's streams, where the answer for one failed
-abbrev pub failed_inbound : Inbound → ℕ → Inbound
-failed_inbound inbound stream = record inbound { rows = failing.failed_rows_of inbound.rows stream }
+-- a connection that is found where an answer changed was there before, and is that one, or is as it was
+record IsFrom (k : ℕ) (answer : Answer) (cs : List Connection) (j : ℕ) (now : Connection) : Type 0 where
+  pub before : Connection
+  pub there : find number_of j cs ≡ Some before
+  pub is : answer_at k answer before ≡ now
 
--- all that is kept: the gateway replies to the stream, nothing is held of it, and its connection is gone
-abbrev pub failed_view : View → ℕ → ℕ → View
-failed_view kept stream k = record {
-  inbound = failed_inbound kept.inbound stream;
-  offers = record kept.offers { kept = offering.change stream (answered BadAnswer) kept.offers.kept };
-  upstreams = record kept.upstreams { held = without id_of stream kept.upstreams.held; live = without number_of k kept.upstreams.live };
-  encoding = kept.encoding;
-  untaken = kept.untaken;
-}
+found_from : (k : ℕ) (answer : Answer) (cs : List Connection) (j : ℕ) (now : Connection) → find number_of j (map (answer_at k answer) cs) ≡ Some now → IsFrom k answer cs j now
+found_from k answer cs j now is = by (find number_of j cs) refl (sym (find_map number_of (answer_at k answer) (λ y. refl) j cs) ∙ is)
+  where
+    by : (o : Option Connection) → find number_of j cs ≡ o → option_map (answer_at k answer) o ≡ Some now → IsFrom k answer cs j now
+    by None there none = let clash : ◌≡◌ {A = Option Connection} None (Some now) = none in cc
+    by (Some y) there some = record { before = y; there = there; is = let same : answer_at k answer y ≡ now = cc in same }
 
 -- the reset that is owed, where a final head is out
 abbrev pub resets_for : View → ℕ → List Frame
 resets_for kept stream = if is_none (rows.find kept.inbound.rows stream).brief.cause && (rows.find kept.inbound.rows stream).head_out then rst_stream stream internal_error ∷ [] else []
 
-module _ (setup : Setup) (whole : setup.passing ≡ WholePassing) (kept : View) (rest : IsAtRest kept) (run : List Move) (s : State) (leads : Leads setup run kept square s) (k : ℕ) (c : Connection) (found : find number_of k kept.upstreams.live ≡ Some c)
+-- The answer for a stream fails with what came in: its connection is open still, but where too long a response failed, which is passed on
+-- whole; and it may be closed at once.
+pub record FailsBy (setup : Setup) (kept : View) (run : List Move) (s : State) (k stream : ℕ) (outputs : List Output) (entry : Entry) : Type 0 where
+  pub opened : (setup.passing ≡ Whole → ⊥) → (answer : Answer) → Course setup run s outputs entry (replied_to stream (answered_with k answer kept.offers kept)) (record square { owed = resets_for kept stream }) outputs
+  pub closed : Course setup run s outputs entry (closed_at k (replied_to stream kept)) (record square { owed = resets_for kept stream }) (put outputs (Puts (Close k)))
+
+module _ (setup : Setup) (kept : View) (rest : IsAtRest kept) (run : List Move) (s : State) (leads : Leads setup run kept square s) (k : ℕ) (c : Connection) (found : find number_of k kept.upstreams.live ≡ Some c)
     (event : Event) (of : upstream_of event ≡ k) (breaks_off : MayBreakOff event)
     (quiet : (x : receiving.State) → receiving.with_event x event ≡ record x { settled = false }) (comes : (gates : Gates) (rooms : receiving.State) → gates.is_up k ≡ true → may_come gates rooms event ≡ true)
     (w : Bool) (so : (known : Known) → known.setup ≡ setup → AreKnown known (conducts run) → IsAnswered known (tape_of run) (Fails event c.live.stream w)) where
@@ -158,6 +175,15 @@ module _ (setup : Setup) (whole : setup.passing ≡ WholePassing) (kept : View) 
   so_one : AreSo setup one_run
   so_one known same knows = (leads.so known same knows.0, so known same knows.0)
 
+  -- the gateway replies to the stream itself then, whatever is known
+  caused_one : (known : Known) → known.setup ≡ setup → AreKnown known (conducts one_run) → (course known stream (Happened event ∷ tape_of run)).cause ≡ Some BadAnswer
+  caused_one known same knows =
+      let right = sound.right known one_run one (led_to known setup one_run one same knows stands_one so_one) in
+      let active : asked.is_active one.desk.book.rows stream ≡ true = ap (λ (d : Desk). asked.is_active d.book.rows stream) desk_one ∙ failing.active_then book.rows stream active_here stream ∙ active_here in
+      sym (right.cause stream (sym (right.active stream) ∙ active))
+      ∙ ap (λ (d : Desk). (rows.find d.book.rows stream).brief.cause) desk_one
+      ∙ failing.cause_then book.rows stream active_here no_cause
+
   -- ---- what is held
 
   abbrev told_one : Told
@@ -176,8 +202,17 @@ module _ (setup : Setup) (whole : setup.passing ≡ WholePassing) (kept : View) 
   windows_one : one.windows ≡ record s.windows { settled = false }
   windows_one = ap receiving.kept_of (quiet (rooms_in (told_by s) s))
 
+  abbrev rooms : receiving.State
+  rooms = rooms_in (told_by s) s
+
+  marked_one : AreMarked setup.passing kept.marks (rooms_in (told_by one) one)
+  marked_one = subst (AreMarked setup.passing kept.marks) (sym (rooms_next setup run s leads.stands leads.so deed may_one so_one ∙ quiet rooms)) (marked_event setup.passing kept.marks rooms leads.marked)
+
   abbrev new : View
-  new = failed_view kept stream k
+  new = replied_to stream kept
+
+  abbrev pending : Pending
+  pending = record square { owed = resets_for kept stream }
 
   book_one : one.desk.book ≡ book_of (record { given = book.given; untaken = kept.untaken }) new.inbound
   book_one = ap (λ (d : Desk). d.book) desk_one ∙ ap (λ (b : Book). behind_failure b stream) leads.keeps.book
@@ -197,6 +232,16 @@ module _ (setup : Setup) (whole : setup.passing ≡ WholePassing) (kept : View) 
     goes_on = sym (failing.ended_then kept.inbound.rows stream active_kept id) ∙ back.goes_on;
   }
 
+  credited_one : IsCredited pending new.inbound one.windows
+  credited_one = record {
+    fresh = ap (λ (x : receiving.Kept). x.count) windows_one ∙ leads.keeps.credited.fresh;
+    shared = ap (λ (x : receiving.Kept). x.debt) windows_one ∙ leads.keeps.credited.shared;
+    own = λ id back. ap (λ (x : receiving.Kept). (x.row id).debt) windows_one ∙ leads.keeps.credited.own id (back_before id back);
+  }
+
+  counted_one : (j : ℕ) (x : Connection) → find number_of j kept.upstreams.live ≡ Some x → (one.windows.out j ≡ x.out) × (one.windows.took j ≡ x.took)
+  counted_one j x is = let was = leads.keeps.counted j x is in (ap (λ (y : receiving.Kept). y.out j) windows_one ∙ was.0, ap (λ (y : receiving.Kept). y.took j) windows_one ∙ was.1)
+
   -- ---- answers of the others
 
   begun_one : (known : Known) → known.setup ≡ setup → AreKnown known (conducts run) → (j : ℕ) (x : Connection) → find number_of j kept.upstreams.live ≡ Some x → items known (given j (opens (tape_of run))) (Happened event ∷ tape_of run) ≡ [] → ⊥
@@ -208,10 +253,8 @@ module _ (setup : Setup) (whole : setup.passing ≡ WholePassing) (kept : View) 
   apart_from j x is same = let clash : ◌≡◌ {A = Option Connection} None (Some x) = sym (find_gone number_of k kept.upstreams.live) ∙ ap (λ n. find number_of n (without number_of k kept.upstreams.live)) (sym same) ∙ is in absurd (let no : ◌≡◌ {A = Option Connection} None (Some x) = clash in cc)
 
   heard_one : AreHeard setup one_run (without number_of k kept.upstreams.live)
-  heard_one known same knows j x is on =
-      coming.heard_beside setup kept rest run s leads k c found event of known same knows.0 j x (apart_from j x is) (found_before k j kept.upstreams.live x is) on
-
-  -- ---- the connection is closed then
+  heard_one known same knows j x is on calm =
+      coming.heard_beside setup kept rest run s leads k c found event of known same knows.0 j x (apart_from j x is) (found_before k j kept.upstreams.live x is) on calm
 
   module _ (as_heard : failed_request event w ≡ serving.Move.Hears event w) where
     requests_one : one.requests ≡ record { held = without id_of stream kept.upstreams.held; live = map (serving.answered w k) (lives kept.upstreams.live); due = Nothing; count = kept.upstreams.count }
@@ -221,6 +264,77 @@ module _ (setup : Setup) (whole : setup.passing ≡ WholePassing) (kept : View) 
         ∙ ap (λ (hs : List Held). record { held = hs; live = map (serving.answered w (upstream_of event)) s.requests.live; due = s.requests.due; count = s.requests.count }) held_one
         ∙ ap (λ n. record { held = without id_of stream s.requests.held; live = map (serving.answered w n) s.requests.live; due = s.requests.due; count = s.requests.count }) of
         ∙ ap (λ (r : serving.State). record { held = without id_of stream r.held; live = map (serving.answered w k) r.live; due = r.due; count = r.count }) leads.keeps.requests
+
+    -- ---- the connection is open still
+
+    module _ (part : w ≡ false) (answer : Answer) where
+      -- what is kept then: of its answer nothing more is asked
+      abbrev pub open_view : View
+      open_view = replied_to stream (answered_with k answer kept.offers kept)
+
+      lives_open : map (serving.answered w k) (lives kept.upstreams.live) ≡ lives open_view.upstreams.live
+      lives_open =
+          ap (λ b. map (serving.answered b k) (lives kept.upstreams.live)) part
+          ∙ subst (λ (ls : List Live). map (serving.answered false k) ls ≡ ls) (coming.lives_are setup kept rest run s leads k c found) (unanswered (told_in (told_by s)) k s.requests.live (coming.none_done_yet setup kept rest run s leads k c found))
+          ∙ sym (lives_same (answer_at k answer) (λ y. refl) kept.upstreams.live)
+
+      heard_open : AreHeard setup one_run open_view.upstreams.live
+      heard_open known same knows j now is on calm =
+          let from = found_from k answer kept.upstreams.live j now is in
+          let y = from.before in
+          let number : y.live.k ≡ j = found_key number_of j kept.upstreams.live y from.there in
+          let live_is : y.live ≡ now.live = ap (λ (z : Connection). z.live) from.is in
+          elim (eqb_tells j k) [
+            | inl here ↦ absurd (
+                let own : Some y ≡ Some c = sym from.there ∙ ap (λ n. find number_of n kept.upstreams.live) here.1 ∙ found in
+                let this : y ≡ c = cc in
+                let no : ◌≡◌ {A = Option Cause} (Some BadAnswer) None =
+                sym (caused_one known same knows) ∙ ap (λ n. (course known n (Happened event ∷ tape_of run)).cause) (ap (λ (z : Connection). z.live.stream) (sym this) ∙ ap (λ (l : Live). l.stream) live_is) ∙ calm in
+                let clash : ◌≡◌ {A = Option Cause} (Some BadAnswer) None = no in cc
+                )
+            | inr off ↦ (
+                let other : (y.live.k == k) ≡ false = ap (λ n. n == k) number ∙ off.0 in
+                subst (λ (a : Answer). IsHeard known (Happened event ∷ tape_of run) j a) (sym (ap (λ b. if b then answer else y.answer) other) ∙ ap (λ (z : Connection). z.answer) from.is)
+                (coming.heard_beside setup kept rest run s leads k c found event of known same knows.0 j y off.1 from.there (ap (λ (l : Live). l.whole) live_is ∙ on)
+                (ap (λ (l : Live). (course known l.stream (Happened event ∷ tape_of run)).cause) live_is ∙ calm))
+                )
+          ]
+
+      -- The answer fails, and its connection is open still.
+      pub failure_open : (outputs : List Output) → Course setup run s outputs (Happened event) open_view pending outputs
+      failure_open outputs = record {
+        segment = record {
+          moves = Does deed ∷ [];
+          state = one;
+          by_rule = (s, refl, may_one, refl);
+          leads = record {
+            stands = stands_one;
+            so = so_one;
+            heard = heard_open;
+            keeps = record {
+              book = book_one ∙ ap (λ (os : List Opened). book_of (record { given = os; untaken = kept.untaken }) new.inbound) (sym (ap (λ (b : Book). b.given) book_one));
+              owed = queue_one;
+              offers = offers_one;
+              requests = requests_one ∙ ap (λ (ls : List Live). record { held = without id_of stream kept.upstreams.held; live = ls; due = Nothing; count = kept.upstreams.count }) lives_open;
+              decoding = leads.keeps.decoding;
+              encoding = leads.keeps.encoding;
+              read = leads.keeps.read;
+              credited = credited_one;
+              counted = λ j now is.
+                  let from = found_from k answer kept.upstreams.live j now is in
+                  let was = counted_one j from.before from.there in (was.0 ∙ ap (λ (z : Connection). z.out) from.is, was.1 ∙ ap (λ (z : Connection). z.took) from.is);
+            };
+            marked = marked_one;
+            in_effect = tt;
+          };
+          puts = refl;
+        };
+        own = [];
+        begins = refl;
+        are_own = tt;
+      }
+
+    -- ---- the connection is closed then
 
     abbrev second : Deed
     second = Acts (Close k)
@@ -249,14 +363,13 @@ module _ (setup : Setup) (whole : setup.passing ≡ WholePassing) (kept : View) 
           (record { nothing = ap (λ (r : serving.State). r.due) requests_one; live = serving.answered w k c.live; found = live_one; why = inl done_one }),
     )
 
-    waiting_one : AreWaiting (without id_of stream kept.upstreams.held)
-    waiting_one = subst AreWaiting (ap (λ (r : serving.State). r.held) requests_one) (all_wait setup whole one_run one stands_one)
+    abbrev closed_view : View
+    closed_view = closed_at k new
 
-    requests_two : two.requests ≡ upstreams.with_due new.upstreams Nothing
+    requests_two : two.requests ≡ upstreams.with_due closed_view.upstreams Nothing
     requests_two =
         ap (λ (r : serving.State). serving.after setup (told_in (told_behind setup one second)) r (serving.Move.Acts (Close k))) requests_one
-        ∙ ap (λ (hs : List Held). record { held = hs; live = without k_of k (map (serving.answered w k) (lives kept.upstreams.live)); due = Nothing; count = kept.upstreams.count }) (drop_none k (without id_of stream kept.upstreams.held) waiting_one)
-        ∙ ap (λ (ls : List Live). record { held = without id_of stream kept.upstreams.held; live = ls; due = Nothing; count = kept.upstreams.count }) (without_answered w k (lives kept.upstreams.live) ∙ sym (lives_closed k kept.upstreams.live))
+        ∙ ap (λ (ls : List Live). record { held = map (drop_from k) (without id_of stream kept.upstreams.held); live = ls; due = Nothing; count = kept.upstreams.count }) (without_answered w k (lives kept.upstreams.live) ∙ sym (lives_closed k kept.upstreams.live))
 
     book_two : two.desk.book ≡ book_of (record { given = two.desk.book.given; untaken = kept.untaken }) new.inbound
     book_two =
@@ -264,8 +377,8 @@ module _ (setup : Setup) (whole : setup.passing ≡ WholePassing) (kept : View) 
         ∙ ap (λ (os : List Opened). book_of (record { given = os; untaken = kept.untaken }) new.inbound) (sym (ap (λ (d : Desk). d.book.given) desk_two ∙ ap (λ (b : Book). b.given) book_one))
 
     heard_two : AreHeard setup (Does second ∷ one_run) (without number_of k kept.upstreams.live)
-    heard_two known same knows j x is on =
-        let was = heard_one known same knows.0 j x is on in
+    heard_two known same knows j x is on calm =
+        let was = heard_one known same knows.0 j x is on (calm_before known x.live.stream (Did (Close k)) (Happened event ∷ tape_of run) calm) in
         record {
           parts = was.parts;
           stands = was.stands;
@@ -276,33 +389,34 @@ module _ (setup : Setup) (whole : setup.passing ≡ WholePassing) (kept : View) 
           set_up = was.set_up;
         }
 
-    keeps_two : Keeps new (record square { owed = resets_for kept stream }) two
-    keeps_two = record {
-      book = book_two;
-      owed = ap (λ (d : Desk). d.queue) desk_two ∙ queue_one;
-      offers = offers_one;
-      requests = requests_two;
-      decoding = leads.keeps.decoding;
-      encoding = leads.keeps.encoding;
-      read = leads.keeps.read;
-      credited = record {
-        fresh = ap (λ (x : receiving.Kept). x.count) windows_one ∙ leads.keeps.credited.fresh;
-        shared = ap (λ (x : receiving.Kept). x.debt) windows_one ∙ leads.keeps.credited.shared;
-        own = λ back. ap (λ (x : receiving.Kept). (x.row kept.inbound.last).debt) windows_one ∙ leads.keeps.credited.own (back_before kept.inbound.last back);
-        others = λ id apart back. ap (λ (x : receiving.Kept). (x.row id).debt) windows_one ∙ leads.keeps.credited.others id apart (back_before id back);
-        none_wait = λ id. ap (λ (x : receiving.Kept). (x.row id).queue) windows_one ∙ leads.keeps.credited.none_wait id;
-      };
-      counted = λ j x is. let was = leads.keeps.counted j x (found_before k j kept.upstreams.live x is) in (ap (λ (y : receiving.Kept). y.out j) windows_one ∙ was.0, ap (λ (y : receiving.Kept). y.took j) windows_one ∙ was.1);
-    }
+    so_two : AreSo setup (Does second ∷ one_run)
+    so_two = so_stays setup one_run second tt so_one
 
     -- The answer fails with octets or with the end of its connection, which is closed then.
-    pub failed_performs : (outputs : List Output) → Course setup run s outputs (Happened event) new (record square { owed = resets_for kept stream }) (put outputs (Puts (Close k)))
-    failed_performs outputs = record {
+    pub failure_closed : (outputs : List Output) → Course setup run s outputs (Happened event) closed_view pending (put outputs (Puts (Close k)))
+    failure_closed outputs = record {
       segment = record {
         moves = Does second ∷ Does deed ∷ [];
         state = two;
         by_rule = (one, (s, refl, may_one, refl), may_two, refl);
-        leads = record { stands = one_more setup one_run one (Does second) stands_one may_two; so = so_stays setup one_run second tt so_one; heard = heard_two; keeps = keeps_two };
+        leads = record {
+          stands = one_more setup one_run one (Does second) stands_one may_two;
+          so = so_two;
+          heard = heard_two;
+          keeps = record {
+            book = book_two;
+            owed = ap (λ (d : Desk). d.queue) desk_two ∙ queue_one;
+            offers = offers_one;
+            requests = requests_two;
+            decoding = leads.keeps.decoding;
+            encoding = leads.keeps.encoding;
+            read = leads.keeps.read;
+            credited = credited_one;
+            counted = λ j x is. counted_one j x (found_before k j kept.upstreams.live x is);
+          };
+          marked = subst (AreMarked setup.passing kept.marks) (sym (rooms_next setup one_run one stands_one so_one second may_two so_two)) marked_one;
+          in_effect = tt;
+        };
         puts = refl;
       };
       own = Did (Close k) ∷ [];
@@ -313,18 +427,26 @@ module _ (setup : Setup) (whole : setup.passing ≡ WholePassing) (kept : View) 
   -- ---- the connection is gone with it
 
   module _ (as_failed : failed_request event w ≡ serving.Move.Fails k) where
-    requests_gone : one.requests ≡ upstreams.with_due new.upstreams Nothing
+    -- what is kept then
+    abbrev gone_view : View
+    gone_view = replied_to stream (closed_at k kept)
+
+    held_gone : serving.kept told_one (map (drop_from k) s.requests.held) ≡ without id_of stream (map (drop_from k) s.requests.held)
+    held_gone =
+        held_behind (told_in (told_by s)) told_one stream (failing.served_other book.rows stream active_here) (map (drop_from k) s.requests.held) (served_dropped (told_in (told_by s)) k s.requests.held (all_held_served setup run s leads.stands leads.so))
+        ∙ ap (λ b. if b then map (drop_from k) s.requests.held else without id_of stream (map (drop_from k) s.requests.held)) not_served
+
+    requests_gone : one.requests ≡ upstreams.with_due gone_view.upstreams Nothing
     requests_gone =
         ap (λ (m : serving.Move). serving.after setup (told_in (told_behind setup s deed)) s.requests m) as_failed
         ∙ ap (λ (d : Desk). serving.after setup (told_in (summary_in d.book)) s.requests (serving.Move.Fails k)) desk_one
-        ∙ ap (λ (hs : List Held). record { held = serving.kept told_one hs; live = without k_of k s.requests.live; due = s.requests.due; count = s.requests.count }) (drop_none k s.requests.held (all_wait setup whole run s leads.stands))
-        ∙ ap (λ (hs : List Held). record { held = hs; live = without k_of k s.requests.live; due = s.requests.due; count = s.requests.count }) held_one
-        ∙ ap (λ (r : serving.State). record { held = without id_of stream r.held; live = without k_of k r.live; due = r.due; count = r.count }) leads.keeps.requests
-        ∙ ap (λ (ls : List Live). record { held = without id_of stream kept.upstreams.held; live = ls; due = Nothing; count = kept.upstreams.count }) (sym (lives_closed k kept.upstreams.live))
+        ∙ ap (λ (hs : List Held). record { held = hs; live = without k_of k s.requests.live; due = s.requests.due; count = s.requests.count }) held_gone
+        ∙ ap (λ (r : serving.State). record { held = without id_of stream (map (drop_from k) r.held); live = without k_of k r.live; due = r.due; count = r.count }) leads.keeps.requests
+        ∙ ap (λ (ls : List Live). record { held = without id_of stream (map (drop_from k) kept.upstreams.held); live = ls; due = Nothing; count = kept.upstreams.count }) (sym (lives_closed k kept.upstreams.live))
 
     -- The answer fails with its connection.
-    pub gone_performs : (outputs : List Output) → Course setup run s outputs (Happened event) new (record square { owed = resets_for kept stream }) outputs
-    gone_performs outputs = record {
+    pub failure_gone : (outputs : List Output) → Course setup run s outputs (Happened event) gone_view pending outputs
+    failure_gone outputs = record {
       segment = record {
         moves = Does deed ∷ [];
         state = one;
@@ -341,15 +463,11 @@ module _ (setup : Setup) (whole : setup.passing ≡ WholePassing) (kept : View) 
             decoding = leads.keeps.decoding;
             encoding = leads.keeps.encoding;
             read = leads.keeps.read;
-            credited = record {
-              fresh = ap (λ (x : receiving.Kept). x.count) windows_one ∙ leads.keeps.credited.fresh;
-              shared = ap (λ (x : receiving.Kept). x.debt) windows_one ∙ leads.keeps.credited.shared;
-              own = λ back. ap (λ (x : receiving.Kept). (x.row kept.inbound.last).debt) windows_one ∙ leads.keeps.credited.own (back_before kept.inbound.last back);
-              others = λ id apart back. ap (λ (x : receiving.Kept). (x.row id).debt) windows_one ∙ leads.keeps.credited.others id apart (back_before id back);
-              none_wait = λ id. ap (λ (x : receiving.Kept). (x.row id).queue) windows_one ∙ leads.keeps.credited.none_wait id;
-            };
-            counted = λ j x is. let was = leads.keeps.counted j x (found_before k j kept.upstreams.live x is) in (ap (λ (y : receiving.Kept). y.out j) windows_one ∙ was.0, ap (λ (y : receiving.Kept). y.took j) windows_one ∙ was.1);
+            credited = credited_one;
+            counted = λ j x is. counted_one j x (found_before k j kept.upstreams.live x is);
           };
+          marked = marked_one;
+          in_effect = tt;
         };
         puts = refl;
       };

@@ -9,7 +9,7 @@ use Rattle.model.specs.Setup.{Setup}
 use Rattle.model.specs.Tapes.Entry.{Happened}
 use Rattle.model.specs.Openings.{Opened}
 use Rattle.model.specs.Known.{Known}
-use Rattle.model.specs.Courses.{upstream_of}
+use Rattle.model.specs.Courses.{course, upstream_of}
 use Rattle.conduct.specs.Rule.{AreKnown}
 use Rattle.conduct.specs.Book.{Book, Desk, desk_after, summary_in}
 use Rattle.offering.specs.Outbox.{Outbox, News, grown}
@@ -34,16 +34,18 @@ use Rattle.policy.specs.Moves.{Deed, Move, conduct_of, told_in}
 use Rattle.policy.specs.Moves.Deed.{Hears}
 use Rattle.policy.specs.Moves.Move.{Does}
 use Rattle.policy.specs.State.{State, conducts, tape_of}
+use Rattle.policy.specs.Rule.{rooms_in}
 use Rattle.policy.specs.Answered.{IsAnswered}
 use Rattle.policy.specs.Steps.{told_by, told_behind, next, MayGoOn}
 use Rattle.policy.proofs.Coming.{may_hear}
 use Rattle.policy.proofs.Stepping.{one_more}
-use Rattle.relay.specs.View.{View, square, Keeps, Leads, AreHeard}
+use Rattle.relay.specs.View.{View, square, Keeps, AreMarked, AreSo, Leads, AreHeard}
 use Rattle.relay.specs.Rest.{IsAtRest}
 use Rattle.relay.specs.Hearing.{IsHeard}
 use Rattle.relay.specs.Bringing.{Course}
 use Rattle.relay.proofs.Kept.{held_behind}
 use Rattle.relay.proofs.Lives.{lives_whole, lives_same}
+use Rattle.relay.proofs.Marking.{rooms_next, marked_event}
 use Rattle.relay.proofs.Staying.{rows_kept, all_held_served}
 use Rattle.steps.proofs.exchanges.Coming as coming
 
@@ -185,6 +187,10 @@ module _ (setup : Setup) (kept : View) (rest : IsAtRest kept) (run : List Move) 
     whole_same true y other = ap (λ b. if b then true else y.live.whole) other
     whole_same false y other = refl
 
+    stream_same : (w : Bool) (y : Connection) → (changed w y).live.stream ≡ y.live.stream
+    stream_same true y = refl
+    stream_same false y = refl
+
     answer_new : (w : Bool) (y : Connection) → (y.live.k == k) ≡ true → (changed w y).answer ≡ answer
     answer_new true y own = ap (λ b. if b then answer else y.answer) own
     answer_new false y own = ap (λ b. if b then answer else y.answer) own
@@ -194,7 +200,7 @@ module _ (setup : Setup) (kept : View) (rest : IsAtRest kept) (run : List Move) 
     now_whole false y own on = refl
 
     heard_then : AreHeard setup (Does deed ∷ run) heard_view.upstreams.live
-    heard_then known same knows j now is on =
+    heard_then known same knows j now is on calm =
         let from = found_from whole j now is in
         let y = from.before in
         let on_it : (changed whole y).live.whole ≡ false = ap (λ (z : Connection). z.live.whole) from.is ∙ on in
@@ -209,12 +215,21 @@ module _ (setup : Setup) (kept : View) (rest : IsAtRest kept) (run : List Move) 
           | inr off ↦ (
               let other : (y.live.k == k) ≡ false = ap (λ n. n == k) number ∙ off.0 in
               subst (λ (a : Answer). IsHeard known (Happened event ∷ tape_of run) j a) (sym (answer_same whole y other) ∙ ap (λ (z : Connection). z.answer) from.is)
-              (coming.heard_beside setup kept rest run s leads k c found event of known same knows.0 j y off.1 from.there (sym (whole_same whole y other) ∙ on_it))
+              (coming.heard_beside setup kept rest run s leads k c found event of known same knows.0 j y off.1 from.there (sym (whole_same whole y other) ∙ on_it)
+              (ap (λ n. (course known n (Happened event ∷ tape_of run)).cause) (sym (stream_same whole y) ∙ ap (λ (z : Connection). z.live.stream) from.is) ∙ calm))
               )
         ]
 
     windows_then : then_state.windows ≡ record s.windows { settled = false }
-    windows_then = ap receiving.kept_of (quiet (Rattle.policy.specs.Rule.rooms_in (told_by s) s))
+    windows_then = ap receiving.kept_of (quiet (rooms_in (told_by s) s))
+
+    so_then : AreSo setup (Does deed ∷ run)
+    so_then known same knows = (leads.so known same knows.0, so known same knows.0)
+
+    marked_then : AreMarked setup.passing kept.marks (rooms_in (told_by then_state) then_state)
+    marked_then =
+        subst (AreMarked setup.passing kept.marks) (sym (rooms_next setup run s leads.stands leads.so deed may so_then ∙ quiet (rooms_in (told_by s) s)))
+        (marked_event setup.passing kept.marks (rooms_in (told_by s) s) leads.marked)
 
     keeps_then : Keeps heard_view square then_state
     keeps_then = record {
@@ -228,9 +243,7 @@ module _ (setup : Setup) (kept : View) (rest : IsAtRest kept) (run : List Move) 
       credited = record {
         fresh = ap (λ (w : receiving.Kept). w.count) windows_then ∙ leads.keeps.credited.fresh;
         shared = ap (λ (w : receiving.Kept). w.debt) windows_then ∙ leads.keeps.credited.shared;
-        own = λ back. ap (λ (w : receiving.Kept). (w.row kept.inbound.last).debt) windows_then ∙ leads.keeps.credited.own back;
-        others = λ id apart back. ap (λ (w : receiving.Kept). (w.row id).debt) windows_then ∙ leads.keeps.credited.others id apart back;
-        none_wait = λ id. ap (λ (w : receiving.Kept). (w.row id).queue) windows_then ∙ leads.keeps.credited.none_wait id;
+        own = λ id back. ap (λ (w : receiving.Kept). (w.row id).debt) windows_then ∙ leads.keeps.credited.own id back;
       };
       counted = λ j now is.
           let from = found_from whole j now is in
@@ -249,9 +262,11 @@ module _ (setup : Setup) (kept : View) (rest : IsAtRest kept) (run : List Move) 
         by_rule = (s, refl, may, refl);
         leads = record {
           stands = one_more setup run s (Does deed) leads.stands may;
-          so = λ known same knows. (leads.so known same knows.0, so known same knows.0);
+          so = so_then;
           heard = heard_then;
           keeps = keeps_then;
+          marked = marked_then;
+          in_effect = tt;
         };
         puts = refl;
       };

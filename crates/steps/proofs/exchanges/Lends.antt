@@ -37,7 +37,7 @@ module _ (kept : View) (k stream : ℕ) (nothing lent answer : Answer) (first la
       ∙ ap (λ (cs : List Connection). record kept.upstreams { live = cs }) (answer_twice k nothing answer kept.upstreams.live)
 
   abbrev then_view : View
-  then_view = record { inbound = kept.inbound; offers = offers; upstreams = last; encoding = kept.encoding; untaken = kept.untaken }
+  then_view = record { inbound = kept.inbound; offers = offers; upstreams = last; marks = kept.marks; encoding = kept.encoding; untaken = kept.untaken }
 
   view_is : then_view ≡ answered_with k answer offers kept
   view_is = ap (λ (u : upstreams.State). record then_view { upstreams = u }) put_back

@@ -1,19 +1,19 @@
 -- A connection that is due is opened, and its text goes out there: this performs.
-use Rattle.std.proofs.Common.{◌≡◌, ℕ, suc, ◌+◌, ◌<◌, Bool, true, false, not, ◌==◌, ◌&&◌, ◌||◌, List, [], ◌∷◌, map, length, Option, Some, None, codes, refl, sym, ◌∙◌, ap, subst, inl, inr, if◌then◌else◌, arith}
-use Rattle.std.specs.Prelude.{is_none, is_some, option_map}
+use Rattle.std.proofs.Common.{◌≡◌, ◌≢◌, ℕ, suc, ◌+◌, ◌<◌, Bool, true, false, not, ◌==◌, ◌&&◌, ◌||◌, List, [], ◌∷◌, ◌++◌, map, length, Option, Some, None, codes, refl, sym, ◌∙◌, ap, subst, inl, inr, if◌then◌else◌, arith}
+use Rattle.std.specs.Prelude.{is_none, is_some, option_map, nat_lt}
 use Rattle.std.specs.List.{list_any}
-use Rattle.std.proofs.lemmas.Bool.{eq-eqb, ne_eqb, and_parts}
+use Rattle.std.proofs.lemmas.Bool.{eq-eqb, eqb-true, ltb-true, ne_eqb, and_parts}
 use Rattle.std.proofs.lemmas.Bool.Decides.{eqb_tells}
 use Rattle.model.specs.Frames.{Frame}
 use Rattle.model.specs.Logs.{Output}
 use Rattle.model.specs.Logs.Act.{Open, ToUp}
 use Rattle.model.specs.Logs.Output.{Does as Puts}
-use Rattle.model.specs.Setup.{Setup}
+use Rattle.model.specs.Setup.{Setup, Passing as Way}
 use Rattle.model.specs.Setup.Passing.{Whole as WholePassing, Streaming}
 use Rattle.model.specs.Tapes.{Entry, put}
 use Rattle.model.specs.Tapes.Entry.{Did}
 use Rattle.model.specs.Causes.{is_front_of, Cause}
-use Rattle.model.specs.Openings.{Opened, opens, given, last_stream}
+use Rattle.model.specs.Openings.{Opened, opens, given, last_stream, connection_of}
 use Rattle.model.specs.Known.{Known}
 use Rattle.model.specs.Lifetimes.{opened, is_opened, is_active}
 use Rattle.model.specs.Courses.{items}
@@ -30,24 +30,28 @@ use Rattle.receiving.specs.State as receiving
 use Rattle.receiving.proofs.Resting.{Receiving}
 use Rattle.receiving.proofs.Incoming.{live_among}
 use Rattle.h1_reader.specs.Standing.{Stands as Reads}
-use Rattle.h1_writer.specs.Sending.Stage.{Whole}
+use Rattle.h1_writer.specs.Sending.{Stage}
 use Rattle.offering.specs.Sight.{sight_in}
+use Rattle.answers.specs.Waiting.{passing_in, Waits}
 use Rattle.answers.specs.declared.answer.Passing.{Passing}
-use Rattle.answers.specs.declared.answer.Passing.TheVariants as way
+use Rattle.marks_kept.specs.Sides.{Side, is_above_all}
+use Rattle.marks_kept.specs.Sides.{find as find_side, opened as opened_side}
+use Rattle.marks_kept.proofs.Looking.{above_all, joined_own}
+use Rattle.streams_kept.specs.Asked as asked
 use Rattle.serving.specs.State as serving
-use Rattle.serving.specs.State.{Way, Held, Live, Due, id_of, held_of, find, without}
-use Rattle.serving.specs.State.Way.{Waiting, Going, Dropped}
+use Rattle.serving.specs.State.{Held, Live, Due, find, held_with, unless_whole}
+use Rattle.serving.specs.State.Way.{Going}
 use Rattle.serving.specs.State.Due.{Nothing, ToOpen, ToSend}
 use Rattle.serving.specs.Rule as requests
 use Rattle.serving.specs.Rule.{is_done}
 use Rattle.serving.proofs.Lists.{found_key, find_map}
 use Rattle.serving.proofs.Opening.{given_none_in}
 use Rattle.serving.proofs.Standing as standing
-use Rattle.serving.proofs.Standing.{IsOpening, IsDue, IsFresh, IsOnWay}
-use Rattle.serving.proofs.Texts.{none_end}
+use Rattle.serving.proofs.Standing.{IsOpening, IsDue, IsFresh}
 use Rattle.judgement.specs.Inbound.{book_of}
 use Rattle.judgement.proofs.SendingEvents.{opens_lead, puts_lead, did_desk}
 use Rattle.upstreams.specs.Kept as upstreams
+use Rattle.upstreams.specs.Kept.{opened_for}
 use Rattle.upstreams.specs.Connections.{Connection, number_of, lives, put_at}
 use Rattle.upstreams.specs.Connections as connections
 use Rattle.policy.specs.Moves.{Deed, Move, conduct_of, told_in}
@@ -59,42 +63,44 @@ use Rattle.policy.specs.Steps.{told_by, told_behind, next, MayGoOn, Stands}
 use Rattle.policy.proofs.Going.{may_act}
 use Rattle.policy.proofs.Stepping.{one_more}
 use Rattle.policy.proofs.Telling.{all_moved}
-use Rattle.relay.specs.View.{View, Pending, square, Keeps, Leads, AreSo, AreHeard}
+use Rattle.relay.specs.View.{View, Pending, square, Keeps, AreMarked, Leads, AreSo, AreHeard}
 use Rattle.relay.specs.Hearing.{IsHeard}
 use Rattle.relay.specs.Rest.{told_view}
 use Rattle.relay.specs.Bringing.{OwnSegment, PerformsOwn}
+use Rattle.relay.proofs.Connected.{connection_one}
 use Rattle.relay.proofs.Lives.{lives_same}
+use Rattle.relay.proofs.Marking.{rooms_next, marked_opened, marked_opened_beside, marked_put, marked_put_beside}
+use Rattle.relay.proofs.Newest.{due_newest}
 use Rattle.relay.proofs.Sound as sound
-use Rattle.relay.proofs.Staying.{so_stays, heard_stays, heard_of_changed, open_begun, rows_kept}
+use Rattle.relay.proofs.Staying.{so_stays, heard_stays, heard_of_changed, open_begun, calm_before, rows_kept}
 use Rattle.steps.specs.Closings.{told_but, NoneDoneBut}
+use Rattle.steps.specs.Resting.{IsPassedBy}
+use Rattle.steps.specs.exchanges.Opening.{with_side}
 use Rattle.steps.proofs.exchanges.Asking.{asked_is}
 use Rattle.steps.proofs.exchanges.Few.{few_given, none_connected}
-use Rattle.steps.proofs.exchanges.Where.{led_to, own, own_led, right_here, stands_here, windows_here}
-
--- ---- what is held
-
--- where nothing is found nothing goes
-none_without : (id : ℕ) (hs : List Held) → held_of id hs ≡ None → without id_of id hs ≡ hs
-none_without id [] none = refl
-none_without id (h ∷ hs) none = by (h.id == id) none (none_without id hs)
-  where
-    by : (b : Bool) → (if b then Some h else held_of id hs) ≡ None → (held_of id hs ≡ None → without id_of id hs ≡ hs) → (if b then without id_of id hs else h ∷ without id_of id hs) ≡ h ∷ hs
-    by true none rest = let clash : ◌≡◌ {A = Option Held} (Some h) None = none in cc
-    by false none rest = ap (λ (xs : List Held). h ∷ xs) (rest none)
-
--- nothing is held of a stream for which a connection is due
-none_on_way : (known : Known) (t : List Entry) (s : serving.State) (stream route : ℕ) (text : List ℕ) (w : Way) → IsOpening known t stream route text Whole → IsOnWay known t s stream w → ⊥
-none_on_way known t s stream route text (Waiting r x stage body) due on = none_end (items known stream t) on.awaited.goes_on (due.written.ends refl)
-none_on_way known t s stream route text (Going k stage) due on = due.none_given on.o on.given
-none_on_way known t s stream route text Dropped due on = due.none_given on.o on.given
+use Rattle.relay.proofs.Where.{led_to, own, own_led, right_here, stands_here, windows_here, live_here}
 
 -- ---- whether the request asks for a head
 
 -- a request's items ask for a head just where its text begins so
-asks_as_text : (known : Known) (t : List Entry) (stream route : ℕ) (text : List ℕ) → IsOpening known t stream route text Whole → is_front_of (codes "HEAD ") text ≡ is_to_head (items known stream t)
-asks_as_text known t stream route text due =
+asks_as_text : (known : Known) (t : List Entry) (stream route : ℕ) (text : List ℕ) (stage : Stage) → IsOpening known t stream route text stage → is_front_of (codes "HEAD ") text ≡ is_to_head (items known stream t)
+asks_as_text known t stream route text stage due =
     let w = due.written in
-    asked_is w.head w.ended text w.pieces w.well_formed.method_holds w.sending ∙ sym (ap is_to_head w.is)
+    asked_is w.head w.well_formed.method_holds w.ended text w.pieces stage w.sending ∙ sym (ap is_to_head w.is)
+
+-- ---- what is kept of DATA that waits
+
+-- of a stream above all that are kept nothing is
+pub none_above : (id : ℕ) (sides : List Side) → is_above_all id sides ≡ true → find_side id sides ≡ None
+none_above id [] above = refl
+none_above id (side ∷ sides) above = by (side.id == id) refl (none_above id sides)
+  where
+    parts : (nat_lt side.id id ≡ true) × (is_above_all id sides ≡ true)
+    parts = and_parts (nat_lt side.id id) (is_above_all id sides) above
+
+    by : (b : Bool) → (side.id == id) ≡ b → (is_above_all id sides ≡ true → find_side id sides ≡ None) → (if b then Some side else find_side id sides) ≡ None
+    by true is rest = let less : side.id < id = ltb-true side.id id parts.0 in let same = eqb-true side.id id is in absurd (omega (arith, less, same))
+    by false apart rest = rest parts.1
 
 -- ---- rows of windows
 
@@ -102,17 +108,13 @@ debt_same : (b : Bool) (k : ℕ) (r : receiving.Row) → (if b then receiving.gi
 debt_same true k r = refl
 debt_same false k r = refl
 
-queue_same : (b : Bool) (k : ℕ) (r : receiving.Row) → (if b then receiving.given k r else r).queue ≡ r.queue
-queue_same true k r = refl
-queue_same false k r = refl
-
-module _ (setup : Setup) (whole : setup.passing ≡ WholePassing) (kept : View) (owed : List Frame) (fresh stream route : ℕ) (text : List ℕ) where
+module _ (setup : Setup) (kept : View) (owed : List Frame) (fresh back stream route : ℕ) (text : List ℕ) (stage : Stage) where
   -- what is pending before and behind it
   abbrev pub due_before : Pending
-  due_before = record square { owed = owed; due = ToOpen stream route text Whole; fresh = fresh }
+  due_before = record square { owed = owed; due = ToOpen stream route text stage; fresh = fresh; shared = back }
 
   abbrev pub due_behind : Pending
-  due_behind = record square { owed = owed; fresh = fresh }
+  due_behind = record square { owed = owed; fresh = fresh; shared = back }
 
   -- the number of the connection
   abbrev pub number : ℕ
@@ -125,17 +127,17 @@ module _ (setup : Setup) (whole : setup.passing ≡ WholePassing) (kept : View) 
     stand : standing.Stands (own setup run s leads.stands leads.so) t s.requests
     stand = stands_here setup run s leads.stands leads.so
 
-    due_is : s.requests.due ≡ ToOpen stream route text Whole
+    due_is : s.requests.due ≡ ToOpen stream route text stage
     due_is = ap (λ (r : serving.State). r.due) leads.keeps.requests
 
     count_is : s.requests.count ≡ kept.upstreams.count
     count_is = ap (λ (r : serving.State). r.count) leads.keeps.requests
 
     -- what is due can be done, whatever is known
-    due_for : (known : Known) → known.setup ≡ setup → AreKnown known (conducts run) → IsOpening known t stream route text Whole
+    due_for : (known : Known) → known.setup ≡ setup → AreKnown known (conducts run) → IsOpening known t stream route text stage
     due_for known same knows = subst (IsDue known t s.requests) due_is (sound.stands known run s (led_to known setup run s same knows leads.stands leads.so)).due
 
-    due : IsOpening (own setup run s leads.stands leads.so) t stream route text Whole
+    due : IsOpening (own setup run s leads.stands leads.so) t stream route text stage
     due = subst (IsDue (own setup run s leads.stands leads.so) t s.requests) due_is stand.due
 
     -- nothing is known of the connection yet
@@ -144,13 +146,6 @@ module _ (setup : Setup) (whole : setup.passing ≡ WholePassing) (kept : View) 
 
     last_is : (told_by s).last ≡ stream
     last_is = (right_here setup run s leads.stands leads.so).last ∙ due.last
-
-    none_held : held_of stream s.requests.held ≡ None
-    none_held = by (held_of stream s.requests.held) refl
-      where
-        by : (o : Option Held) → held_of stream s.requests.held ≡ o → held_of stream s.requests.held ≡ None
-        by None is = is
-        by (Some h) is = absurd (none_on_way (own setup run s leads.stands leads.so) t s.requests stream route text h.way due (stand.held stream h is))
 
     -- ---- how many there are
 
@@ -189,7 +184,7 @@ module _ (setup : Setup) (whole : setup.passing ≡ WholePassing) (kept : View) 
     desk_one = did_desk setup false s.desk (Open number route) (record s.desk.book { given = given_one }) [] (opens_lead setup s.desk.book number route (rows_kept setup run s leads.stands))
 
     may_open : requests.MayOpen s.requests number route
-    may_open = record { stream = stream; text = text; stage = Whole; due = due_is; next = ap suc (sym count_is) }
+    may_open = record { stream = stream; text = text; stage = stage; due = due_is; next = ap suc (sym count_is) }
 
     rooms : Receiving setup.passing t (rooms_in (told_by s) s)
     rooms = windows_here setup run s leads.stands leads.so
@@ -231,11 +226,12 @@ module _ (setup : Setup) (whole : setup.passing ≡ WholePassing) (kept : View) 
     abbrev new_live : Live
     new_live = record { k = number; stream = stream; whole = false }
 
-    requests_one : one.requests ≡ record { held = kept.upstreams.held; live = new_live ∷ lives kept.upstreams.live; due = ToSend number text; count = number }
-    requests_one =
-        ap (λ (r : serving.State). serving.after setup (told_in (told_behind setup s first)) r (serving.Move.Acts (Open number route))) leads.keeps.requests
-        ∙ ap (λ (hs : List Held). record { held = hs; live = new_live ∷ lives kept.upstreams.live; due = ToSend number text; count = number })
-        (none_without stream kept.upstreams.held (sym (ap (λ (r : serving.State). held_of stream r.held) leads.keeps.requests) ∙ none_held))
+    -- what is held then: what is still to come of the request goes out there
+    abbrev pub held_then : List Held
+    held_then = held_with stream (unless_whole stage (Going number stage)) kept.upstreams.held
+
+    requests_one : one.requests ≡ record { held = held_then; live = new_live ∷ lives kept.upstreams.live; due = ToSend number text; count = number }
+    requests_one = ap (λ (r : serving.State). serving.after setup (told_in (told_behind setup s first)) r (serving.Move.Acts (Open number route))) leads.keeps.requests
 
     -- ---- its text goes out
 
@@ -258,12 +254,12 @@ module _ (setup : Setup) (whole : setup.passing ≡ WholePassing) (kept : View) 
         due = ap (λ (r : serving.State). r.due) requests_one;
         window = record {
           opened = ap (λ (r : serving.State). is_some (serving.live_of number r.live)) requests_one ∙ ap (λ b. is_some (if b then Some new_live else serving.live_of number (lives kept.upstreams.live))) (eq-eqb number number refl);
-          in_effect = λ streaming. let clash : WholePassing ≡ Streaming = sym whole ∙ streaming in cc;
+          in_effect = λ streaming. leads.in_effect;
         };
       }),
     )
 
-    requests_two : two.requests ≡ record { held = kept.upstreams.held; live = new_live ∷ lives kept.upstreams.live; due = Nothing; count = number }
+    requests_two : two.requests ≡ record { held = held_then; live = new_live ∷ lives kept.upstreams.live; due = Nothing; count = number }
     requests_two = ap (λ (r : serving.State). serving.after setup (told_in (told_behind setup one second)) r (serving.Move.Acts (ToUp number text))) requests_one
 
     book_two : two.desk.book ≡ record s.desk.book { given = given_one }
@@ -281,9 +277,70 @@ module _ (setup : Setup) (whole : setup.passing ≡ WholePassing) (kept : View) 
     given_other : (j : ℕ) → (number ≡ j → ⊥) → given j (opens opened_tape) ≡ given j (opens t)
     given_other j apart = ap (λ b. if b then last_stream t else given j (opens t)) (ne_eqb number j apart)
 
-    module _ (to_head : Bool) (max : ℕ) (asks : to_head ≡ is_front_of (codes "HEAD ") text) (most : setup.max_response ≡ max) (reads : Reads [] [] (connections.opened number stream to_head (way.Whole max)).answer.reader) where
+    -- ---- what is kept of DATA that waits
+
+    abbrev windows_before : receiving.State
+    windows_before = rooms_in (told_by s) s
+
+    -- no side is its
+    no_side : (side : Side) → find_side stream kept.marks ≡ Some side → ⊥
+    no_side side found =
+        let some = leads.marked.some stream side found in
+        let none : side.k ≡ 0 = sym (leads.marked.stand.rows stream side found).k ∙ ap (λ n. (windows_before.row n).k) (sym last_is) ∙ window.first in
+        omega (arith, some, none)
+
+    none_kept : find_side stream kept.marks ≡ None
+    none_kept = by (find_side stream kept.marks) refl
+      where
+        by : (o : Option Side) → find_side stream kept.marks ≡ o → o ≡ None
+        by None found = refl
+        by (Some side) found = absurd (no_side side found)
+
+    -- it is above all of which something is kept
+    pub above : setup.passing ≡ Streaming → is_above_all stream kept.marks ≡ true
+    above streaming = above_all stream kept.marks (λ other side found.
+        let on : asked.is_active s.desk.book.rows other ≡ true = sym (live_here setup run s leads.stands leads.so other) ∙ leads.marked.stand.live other side found in
+        due_newest setup run s leads.stands leads.so streaming stream route text stage due_is other (and_parts (asked.has s.desk.book.rows other) _ on).0
+        (λ own. no_side side (ap (λ n. find_side n kept.marks) (sym own) ∙ found)))
+
+    -- the new number is no other stream's
+    abbrev windows_opened : receiving.State
+    windows_opened = receiving.with_act windows_before (Open number route)
+
+    alone_one : (other : ℕ) → other ≢ stream → receiving.is_live windows_opened other ≡ true → (windows_opened.row other).k ≢ number
+    alone_one other apart on same =
+        let here : (windows_before.row other).k ≡ number = sym (ap (λ b. (if b then receiving.given number (windows_before.row other) else windows_before.row other).k) (ne_eqb (told_by s).last other (λ is. apart (sym (sym last_is ∙ is))))) ∙ same in
+        let active : is_active other t ≡ true = sym (live_among setup.passing t windows_before other rooms.keeping) ∙ on in
+        let first : connection_of other (opens t) ≡ number = sym (rooms.keeping.streams other active).connection ∙ here in
+        apart (connection_one (record { k = number; route = route; stream = stream } ∷ opens t) other stream number (ap suc (sym count_is ∙ stand.count), stand.numbered)
+        (ap (λ b. if b then number else connection_of other (opens t)) (ne_eqb stream other (λ is. apart (sym is))) ∙ first)
+        (ap (λ b. if b then number else connection_of stream (opens t)) (eq-eqb stream stream refl)) (omega arith))
+
+    marked_by : (p : Way) → setup.passing ≡ p → AreMarked setup.passing (with_side p stream number (length text) kept.marks) (receiving.with_act windows_opened (ToUp number text))
+    marked_by WholePassing is =
+        marked_put_beside setup.passing kept.marks windows_opened (marked_opened_beside setup.passing kept.marks windows_before leads.marked number route is) number text
+        (λ id side found. absurd (let no : ◌≡◌ {A = Option Side} None (Some side) = ap (λ (sides : List Side). find_side id sides) (sym (leads.marked.none is)) ∙ found in let clash : ◌≡◌ {A = Option Side} None (Some side) = no in cc))
+    marked_by Streaming is =
+        let opened_here : AreMarked setup.passing (kept.marks ++ opened_side stream number ∷ []) windows_opened =
+        subst (λ n. AreMarked setup.passing (kept.marks ++ opened_side n number ∷ []) windows_opened) last_is
+        (marked_opened setup.passing kept.marks windows_before leads.marked number route (omega arith) is window.active (ap (λ n. find_side n kept.marks) last_is ∙ none_kept) none_out none_taken) in
+        marked_put setup.passing (kept.marks ++ opened_side stream number ∷ []) windows_opened opened_here number stream text (opened_side stream number) (joined_own (opened_side stream number) kept.marks none_kept) refl alone_one
+
+    marked_two : AreMarked setup.passing (with_side setup.passing stream number (length text) kept.marks) (rooms_in (told_by two) two)
+    marked_two =
+        subst (AreMarked setup.passing (with_side setup.passing stream number (length text) kept.marks))
+        (sym (rooms_next setup (Does first ∷ run) one stands_one so_one second may_two (so_stays setup (Does first ∷ run) second tt so_one)
+        ∙ ap (λ (x : receiving.State). receiving.with_act x (ToUp number text)) (rooms_next setup run s leads.stands leads.so first may_one so_one)))
+        (marked_by setup.passing refl)
+
+    module _ (to_head : Bool) (passing : Passing) (passed : IsPassedBy setup passing) (asks : to_head ≡ is_front_of (codes "HEAD ") text) (reads : Reads [] [] (connections.opened number stream to_head passing).answer.reader) where
       abbrev pub new_connection : Connection
-      new_connection = connections.opened number stream to_head (way.Whole max)
+      new_connection = connections.opened number stream to_head passing
+
+      -- nothing waits of its answer
+      none_waits : (p : Way) → Waits p [] new_connection.answer
+      none_waits WholePassing = (refl, refl)
+      none_waits Streaming = (refl, refl)
 
       -- the new answer stands for nothing
       heard_new : (known : Known) → known.setup ≡ setup → AreKnown known (conducts run) → IsHeard known opened_tape number new_connection.answer
@@ -295,12 +352,15 @@ module _ (setup : Setup) (whole : setup.passing ≡ WholePassing) (kept : View) 
             stands = subst (λ x. Reads x [] new_connection.answer.reader) (sym new.unheard) reads;
             short = omega arith;
             goes_on = refl;
-            waits = (refl, refl);
+            waits = none_waits (passing_in passing);
             asked =
-                asks ∙ asks_as_text known t stream route text it
+                asks ∙ asks_as_text known t stream route text stage it
                 ∙ head_stays known stream t (Did (Open number route)) some
                 ∙ ap (λ n. is_to_head (items known n opened_tape)) (sym given_new);
-            set_up = record { passing = sym (ap (λ (x : Setup). x.passing) same ∙ whole); limit = λ w. ap (λ n. Some n) (sym (ap (λ (x : Setup). x.max_response) same ∙ most)) };
+            set_up = record {
+              passing = passed.passing ∙ sym (ap (λ (x : Setup). x.passing) same);
+              limit = λ is. passed.limit (sym (ap (λ (x : Setup). x.passing) same) ∙ is) ∙ ap (λ (x : Setup). Some x.max_response) (sym same);
+            };
           }
 
       -- and the others as before
@@ -319,7 +379,7 @@ module _ (setup : Setup) (whole : setup.passing ≡ WholePassing) (kept : View) 
       }
 
       heard_one : AreHeard setup (Does first ∷ run) (new_connection ∷ kept.upstreams.live)
-      heard_one known same knows j c found goes_on = elim (eqb_tells number j) [
+      heard_one known same knows j c found goes_on calm = elim (eqb_tells number j) [
         | inl is ↦ (
             let it : Some new_connection ≡ Some c = sym (ap (λ b. if b then Some new_connection else find number_of j kept.upstreams.live) is.0) ∙ found in
             let this : new_connection ≡ c = cc in
@@ -327,7 +387,7 @@ module _ (setup : Setup) (whole : setup.passing ≡ WholePassing) (kept : View) 
             )
         | inr off ↦ (
             let before : find number_of j kept.upstreams.live ≡ Some c = sym (ap (λ b. if b then Some new_connection else find number_of j kept.upstreams.live) off.0) ∙ found in
-            heard_other known same knows.0 j c off.1 before (leads.heard known same knows.0 j c before goes_on)
+            heard_other known same knows.0 j c off.1 before (leads.heard known same knows.0 j c before goes_on (calm_before known c.live.stream (Did (Open number route)) t calm))
             )
       ]
 
@@ -375,7 +435,7 @@ module _ (setup : Setup) (whole : setup.passing ≡ WholePassing) (kept : View) 
               subst (λ (y : Connection). (two.windows.out j ≡ y.out) × (two.windows.took j ≡ y.took)) this (counted_one j x is)
 
       abbrev pub opened_view : View
-      opened_view = record kept { upstreams = record kept.upstreams { live = put_out (new_connection ∷ kept.upstreams.live); count = number } }
+      opened_view = record kept { marks = with_side setup.passing stream number (length text) kept.marks; upstreams = record { held = held_then; live = put_out (new_connection ∷ kept.upstreams.live); count = number } }
 
       keeps_two : Keeps opened_view due_behind two
       keeps_two = record {
@@ -385,16 +445,14 @@ module _ (setup : Setup) (whole : setup.passing ≡ WholePassing) (kept : View) 
             ∙ ap (λ (os : List Opened). book_of (record { given = os; untaken = kept.untaken }) kept.inbound) (sym (ap (λ (b : Book). b.given) book_two));
         owed = ap (λ (d : Desk). d.queue) desk_two ∙ ap (λ (d : Desk). d.queue) desk_one ∙ leads.keeps.owed;
         offers = leads.keeps.offers;
-        requests = requests_two ∙ ap (λ (ls : List Live). record { held = kept.upstreams.held; live = ls; due = Nothing; count = number }) (sym (lives_same (put_at number (length text)) (λ c. refl) (new_connection ∷ kept.upstreams.live)));
+        requests = requests_two ∙ ap (λ (ls : List Live). record { held = held_then; live = ls; due = Nothing; count = number }) (sym (lives_same (put_at number (length text)) (λ c. refl) (new_connection ∷ kept.upstreams.live)));
         decoding = leads.keeps.decoding;
         encoding = leads.keeps.encoding;
         read = leads.keeps.read;
         credited = record {
           fresh = leads.keeps.credited.fresh;
           shared = leads.keeps.credited.shared;
-          own = λ back. debt_same ((told_by s).last == kept.inbound.last) number (s.windows.row kept.inbound.last) ∙ leads.keeps.credited.own back;
-          others = λ id apart back. debt_same ((told_by s).last == id) number (s.windows.row id) ∙ leads.keeps.credited.others id apart back;
-          none_wait = λ id. queue_same ((told_by s).last == id) number (s.windows.row id) ∙ leads.keeps.credited.none_wait id;
+          own = λ id goes. debt_same ((told_by s).last == id) number (s.windows.row id) ∙ leads.keeps.credited.own id goes;
         };
         counted = counted_two;
       }
@@ -412,6 +470,8 @@ module _ (setup : Setup) (whole : setup.passing ≡ WholePassing) (kept : View) 
             heard = heard_of_changed setup (Does second ∷ Does first ∷ run) (new_connection ∷ kept.upstreams.live) (put_at number (length text)) (λ c. refl) (λ c. refl)
                 (heard_stays setup (Does first ∷ run) one stands_one so_one (new_connection ∷ kept.upstreams.live) (ap (λ (r : serving.State). r.live) requests_one) second tt heard_one);
             keeps = keeps_two;
+            marked = marked_two;
+            in_effect = tt;
           };
           puts = refl;
         };
@@ -420,18 +480,25 @@ module _ (setup : Setup) (whole : setup.passing ≡ WholePassing) (kept : View) 
 
 -- ---- in the words of the calls
 
-module _ (kept : View) (stream route max : ℕ) (text : List ℕ) (to_head : Bool) (middle behind : upstreams.State) (k count : ℕ) (before between after : List Output)
-    (asks : to_head ≡ is_front_of (codes "HEAD ") text) (reads : Reads [] [] (connections.opened (suc kept.upstreams.count) stream to_head (way.Whole max)).answer.reader)
+module _ (kept : View) (stream route : ℕ) (text : List ℕ) (stage : Stage) (to_head : Bool) (passing : Passing) (middle behind : upstreams.State) (sides : List Side) (k count : ℕ) (before between after : List Output)
+    (asks : to_head ≡ is_front_of (codes "HEAD ") text) (reads : Reads [] [] (connections.opened (suc kept.upstreams.count) stream to_head passing).answer.reader)
     (is_number : k ≡ suc kept.upstreams.count) (is_count : count ≡ length text)
-    (opened_is : middle ≡ record kept.upstreams { live = connections.opened (suc kept.upstreams.count) stream to_head (way.Whole max) ∷ kept.upstreams.live; count = suc kept.upstreams.count })
-    (put_is : behind ≡ record middle { live = map (put_at k count) middle.live })
+    (opened_is : middle ≡ opened_for stream to_head passing stage kept.upstreams)
+    (put_is : behind ≡ record middle { live = map (put_at k count) middle.live }) (sides_are : sides ≡ with_side (passing_in passing) stream k count kept.marks)
     (opens_out : between ≡ put before (Puts (Open k route))) (puts_out : after ≡ put between (Puts (ToUp k text))) where
-  upstreams_are : record kept.upstreams { live = map (put_at (suc kept.upstreams.count) (length text)) (connections.opened (suc kept.upstreams.count) stream to_head (way.Whole max) ∷ kept.upstreams.live); count = suc kept.upstreams.count } ≡ behind
+  upstreams_are : (let u : upstreams.State = opened_for stream to_head passing stage kept.upstreams in record u { live = map (put_at (suc kept.upstreams.count) (length text)) u.live }) ≡ behind
   upstreams_are =
-      ap (λ n. let u : upstreams.State = record kept.upstreams { live = map (put_at n (length text)) (connections.opened (suc kept.upstreams.count) stream to_head (way.Whole max) ∷ kept.upstreams.live); count = suc kept.upstreams.count } in u) (sym is_number)
-      ∙ ap (λ n. let u : upstreams.State = record kept.upstreams { live = map (put_at k n) (connections.opened (suc kept.upstreams.count) stream to_head (way.Whole max) ∷ kept.upstreams.live); count = suc kept.upstreams.count } in u) (sym is_count)
+      ap (λ n. let u : upstreams.State = opened_for stream to_head passing stage kept.upstreams in record u { live = map (put_at n (length text)) u.live }) (sym is_number)
+      ∙ ap (λ n. let u : upstreams.State = opened_for stream to_head passing stage kept.upstreams in record u { live = map (put_at k n) u.live }) (sym is_count)
       ∙ ap (λ (u : upstreams.State). record u { live = map (put_at k count) u.live }) (sym opened_is)
       ∙ sym put_is
+
+  marks_are : (p : Way) → passing_in passing ≡ p → with_side p stream (suc kept.upstreams.count) (length text) kept.marks ≡ sides
+  marks_are p is =
+      ap (λ n. with_side p stream n (length text) kept.marks) (sym is_number)
+      ∙ ap (λ n. with_side p stream k n kept.marks) (sym is_count)
+      ∙ ap (λ (x : Way). with_side x stream k count kept.marks) (sym is)
+      ∙ sym sides_are
 
   outputs_are : put (put before (Puts (Open (suc kept.upstreams.count) route))) (Puts (ToUp (suc kept.upstreams.count) text)) ≡ after
   outputs_are =
@@ -440,17 +507,19 @@ module _ (kept : View) (stream route max : ℕ) (text : List ℕ) (to_head : Boo
       ∙ sym puts_out
 
   -- The calls perform.
-  pub calls_perform : (setup : Setup) (owed : List Frame) (fresh : ℕ) → setup.passing ≡ WholePassing → setup.max_response ≡ max → PerformsOwn setup kept (record square { owed = owed; due = ToOpen stream route text Whole; fresh = fresh }) before (record kept { upstreams = behind }) (record square { owed = owed; fresh = fresh }) after
-  calls_perform setup owed fresh whole most run s leads =
-      subst (λ (u : upstreams.State). OwnSegment setup run s before (record kept { upstreams = u }) (record square { owed = owed; fresh = fresh }) after) upstreams_are
-      (subst (λ (o : List Output). OwnSegment setup run s before (opened_view setup whole kept owed fresh stream route text run s leads to_head max asks most reads) (record square { owed = owed; fresh = fresh }) o) outputs_are
-      (opened_performs setup whole kept owed fresh stream route text run s leads to_head max asks most reads before))
+  pub calls_perform : (setup : Setup) (owed : List Frame) (fresh back : ℕ) → IsPassedBy setup passing
+      → PerformsOwn setup kept (record square { owed = owed; due = ToOpen stream route text stage; fresh = fresh; shared = back }) before (record kept { upstreams = behind; marks = sides }) (record square { owed = owed; fresh = fresh; shared = back }) after
+  calls_perform setup owed fresh back passed run s leads =
+      subst (λ (u : upstreams.State). OwnSegment setup run s before (record kept { upstreams = u; marks = sides }) (record square { owed = owed; fresh = fresh; shared = back }) after) upstreams_are
+      (subst (λ (ms : List Side). OwnSegment setup run s before (record (opened_view setup kept owed fresh back stream route text stage run s leads to_head passing passed asks reads) { marks = ms }) (record square { owed = owed; fresh = fresh; shared = back }) after) (marks_are setup.passing passed.passing)
+      (subst (λ (o : List Output). OwnSegment setup run s before (opened_view setup kept owed fresh back stream route text stage run s leads to_head passing passed asks reads) (record square { owed = owed; fresh = fresh; shared = back }) o) outputs_are
+      (opened_performs setup kept owed fresh back stream route text stage run s leads to_head passing passed asks reads before)))
 
 -- The new connection isn't done with, since its stream is served.
-pub opens_but : (kept : View) (next stream k count : ℕ) (to_head : Bool) (passing : Passing) (middle behind : upstreams.State) → (told_view kept).served stream ≡ true
-    → middle ≡ record kept.upstreams { live = connections.opened next stream to_head passing ∷ kept.upstreams.live; count = next } → behind ≡ record middle { live = map (put_at k count) middle.live }
-    → (id : ℕ) → NoneDoneBut id kept → NoneDoneBut id (record kept { upstreams = behind })
-opens_but kept next stream k count to_head passing middle behind served opened_is put_is id none =
+pub opens_but : (kept : View) (stream k count : ℕ) (to_head : Bool) (passing : Passing) (stage : Stage) (middle behind : upstreams.State) (sides : List Side) → (told_view kept).served stream ≡ true
+    → middle ≡ opened_for stream to_head passing stage kept.upstreams → behind ≡ record middle { live = map (put_at k count) middle.live }
+    → (id : ℕ) → NoneDoneBut id kept → NoneDoneBut id (record kept { upstreams = behind; marks = sides })
+opens_but kept stream k count to_head passing stage middle behind sides served opened_is put_is id none =
     ap (λ (ls : List Live). list_any (is_done (told_but id kept)) ls)
     (ap (λ (u : upstreams.State). lives u.live) put_is ∙ lives_same (put_at k count) (λ c. refl) middle.live ∙ ap (λ (u : upstreams.State). lives u.live) opened_is)
     ∙ by (id == stream)

@@ -1,48 +1,63 @@
 -- Behind an answer that failed: the reset that is owed, where a final head is out, is paid, and none is owed then.
-use Rattle.std.proofs.Common.{◌≡◌, ℕ, ◌<◌, Bool, true, false, ◌&&◌, ◌==◌, List, [], ◌∷◌, ◌++◌, Option, Some, None, refl, sym, ◌∙◌, ap, subst, if◌then◌else◌, append_assoc, arith}
-use Rattle.std.specs.Prelude.{is_some, is_none, option_map}
+use Rattle.std.proofs.Common.{◌≡◌, ℕ, ◌<◌, Bool, true, false, ◌&&◌, ◌==◌, List, [], ◌∷◌, ◌++◌, ◌+◌, map, Option, Some, None, refl, sym, ◌∙◌, ap, subst, inl, inr, if◌then◌else◌, append_assoc, arith}
+use Rattle.std.specs.Prelude.{◌⊎◌, is_some, is_none, option_map}
 use Rattle.std.specs.List.{list_any}
 use Rattle.model.specs.Frames.{Frame, Fits, spell, internal_error}
-use Rattle.model.specs.Logs.{Event, Output}
-use Rattle.model.specs.Logs.Output.{ToClient}
+use Rattle.model.specs.Logs.{Output}
+use Rattle.model.specs.Logs.Act.{Close}
+use Rattle.model.specs.Logs.Output.{ToClient, Does}
 use Rattle.model.specs.Setup.{Setup}
+use Rattle.model.specs.Setup.Passing.{Whole}
 use Rattle.model.specs.Tapes.{Entry, put, sent}
-use Rattle.model.specs.Available.{items_on}
+use Rattle.model.specs.Openings.{Opened, opens}
+use Rattle.model.specs.Available.{items_on, heard, has_ended, shown, IsShown}
+use Rattle.model.specs.Known.{Known}
+use Rattle.model.specs.Deliveries.{Delivery}
+use Rattle.model.specs.Responses.{IsComplete}
+use Rattle.model.specs.Offers.{is_to_head, IsOffered}
+use Rattle.model.specs.Causes.{Cause}
 use Rattle.model.specs.Causes.Cause.{BadAnswer}
-use Rattle.model.specs.Courses.{is_final}
+use Rattle.model.specs.Courses.{items, is_final}
 use Rattle.model.specs.ErrorClause.{rst_stream}
-use Rattle.model.specs.Lifetimes.{is_active}
+use Rattle.model.specs.Lifetimes.{is_active, may_open}
+use Rattle.model.proofs.DeliveryReadings.{one_connection}
 use Rattle.model.proofs.HeadLaws.{out_by_read}
 use Rattle.conduct.specs.Summary.{Stream as Conducted, summary_of}
 use Rattle.conduct.specs.Rows as rows
 use Rattle.conduct.specs.Book.{Book}
 use Rattle.conduct.specs.Told as conduct
 use Rattle.conduct.proofs.Telling.{book_told, live_told}
-use Rattle.offering.specs.Outbox.{Outbox}
+use Rattle.offering.specs.Outbox.{Outbox, offered_by}
 use Rattle.offering.specs.Outbox.Outbox.{Before, Behind, Over}
 use Rattle.offering.specs.State as offering
 use Rattle.offering.specs.State.{Kept, answered, answered_box, change}
 use Rattle.offering.proofs.Keeping.{answered_id, find_changed}
 use Rattle.offering.proofs.Offering.{IsKeptIf, IsHeld}
 use Rattle.offering.proofs.Standing as offered
+use Rattle.offering.proofs.Standing.{HasNoOffer}
+use Rattle.answers.specs.Waiting.{Answer}
+use Rattle.h1_reader.proofs.Telling.{not_done}
 use Rattle.offers.specs.Asked.{is_cut_if, is_kept}
 use Rattle.serving.specs.State.{Held, find, id_of, without}
+use Rattle.serving.proofs.Standing as standing
 use Rattle.streams_kept.specs.Asked as asked
-use Rattle.upstreams.specs.Connections.{Connection, number_of}
+use Rattle.streams_kept.specs.Asked.{has}
+use Rattle.upstreams.specs.Connections.{Connection, number_of, answer_at}
 use Rattle.policy.specs.Moves.{Move}
 use Rattle.policy.specs.State.{State, conducts, tape_of}
 use Rattle.policy.proofs.Telling.{all_moved}
-use Rattle.relay.specs.View.{View, Pending, square, Leads}
+use Rattle.relay.specs.View.{View, Pending, square, waiting_for, Leads}
 use Rattle.relay.specs.Rest.{IsAtRest}
-use Rattle.relay.specs.Bringing.{Course, PerformsOwn}
+use Rattle.relay.specs.Bringing.{Course, OwnSegment, PerformsOwn}
 use Rattle.relay.proofs.Bringing.{own_behind, segments_then}
 use Rattle.relay.proofs.Performing.{tape_behind}
 use Rattle.relay.proofs.Resets.{reset_view, reset_paid, has_same}
-use Rattle.steps.specs.exchanges.Giving.{reset_behind, reset_if, put_if, is_cut_then}
+use Rattle.steps.specs.exchanges.Giving.{replied_to, reset_behind, reset_if, put_if, back_if, is_cut_then, closed_at, abandoned_if, put_abandoned}
+use Rattle.steps.specs.exchanges.Taking.{answered_with}
 use Rattle.steps.proofs.exchanges.Coming as coming
 use Rattle.steps.proofs.exchanges.FailedRows as failing
-use Rattle.steps.proofs.exchanges.Fails.{failed_view, resets_for}
-use Rattle.steps.proofs.exchanges.Where.{own, own_led, placed_here, right_here}
+use Rattle.steps.proofs.exchanges.Fails.{resets_for, FailsBy}
+use Rattle.relay.proofs.Where.{own, own_led, placed_here, right_here, stands_here}
 
 -- what goes once goes no more
 without_twice : (id : ℕ) (hs : List Held) → without id_of id (without id_of id hs) ≡ without id_of id hs
@@ -54,8 +69,8 @@ without_twice id (h ∷ hs) = by (h.id == id) refl (without_twice id hs)
     by false is more = ap (λ b. if b then without id_of id (without id_of id hs) else h ∷ without id_of id (without id_of id hs)) is ∙ ap (λ (xs : List Held). h ∷ xs) more
 
 -- something came in, and then the gateway did something of its own
-course_then : (setup : Setup) (run : List Move) (s : State) (o p q : List Output) (b c : View) (y z : Pending) (entry : Entry) → Course setup run s o entry b y p → PerformsOwn setup b y p c z q → Course setup run s o entry c z q
-course_then setup run s o p q b c y z entry one later =
+pub course_own : (setup : Setup) (run : List Move) (s : State) (o p q : List Output) (b c : View) (y z : Pending) (entry : Entry) → Course setup run s o entry b y p → PerformsOwn setup b y p c z q → Course setup run s o entry c z q
+course_own setup run s o p q b c y z entry one later =
     let two = later (one.segment.moves ++ run) one.segment.state one.segment.leads in
     record {
       segment = segments_then setup run s o p q b c y z one.segment two.segment;
@@ -64,9 +79,36 @@ course_then setup run s o p q b c y z entry one later =
       are_own = own_behind (tape_of two.segment.moves) one.own two.are_own one.are_own;
     }
 
+-- one that goes, whatever its answer was
+pub without_answer : (k : ℕ) (answer : Answer) (cs : List Connection) → without number_of k (map (answer_at k answer) cs) ≡ without number_of k cs
+without_answer k answer [] = refl
+without_answer k answer (c ∷ cs) = by (c.live.k == k) refl (without_answer k answer cs)
+  where
+    by : (b : Bool) → (c.live.k == k) ≡ b → without number_of k (map (answer_at k answer) cs) ≡ without number_of k cs
+        → (if b then without number_of k (map (answer_at k answer) cs) else answer_at k answer c ∷ without number_of k (map (answer_at k answer) cs)) ≡ (if b then without number_of k cs else c ∷ without number_of k cs)
+    by true is more = more
+    by false is more = ap (λ b. let x : Connection = record c { answer = if b then answer else c.answer } in x ∷ without number_of k (map (answer_at k answer) cs)) is ∙ ap (λ (xs : List Connection). c ∷ xs) more
+
 -- the frame of a reset is as long as a frame may be
 reset_fits : (stream : ℕ) → stream < 2147483648 → Fits (rst_stream stream internal_error)
 reset_fits stream few = record { kind = omega arith; flags = omega arith; id = few; payload = omega arith }
+
+-- a reset that is owed is paid behind the reply: the octets that waited of its DATA go back
+pub pays_reset : (setup : Setup) (v : View) (stream : ℕ) → has v.inbound.rows stream ≡ true → stream < 2147483648 → (outputs : List Output)
+    → PerformsOwn setup (replied_to stream v) (record square { owed = rst_stream stream internal_error ∷ [] }) outputs (reset_behind stream (replied_to stream v)) (record square { shared = waiting_for stream v }) (put outputs (ToClient (spell (rst_stream stream internal_error))))
+pays_reset setup v stream there few outputs run s leads =
+    subst (λ (x : View). OwnSegment setup run s outputs x (record square { shared = waiting_for stream v }) (put outputs (ToClient (spell (rst_stream stream internal_error))))) reset_is
+    (subst (λ n. OwnSegment setup run s outputs (reset_view (replied_to stream v) stream internal_error) (record square { shared = n }) (put outputs (ToClient (spell (rst_stream stream internal_error))))) (none_more (waiting_for stream v))
+    (reset_paid setup (replied_to stream v) (record square { owed = rst_stream stream internal_error ∷ [] }) [] stream internal_error refl refl not_to_open (reset_fits stream few) outputs run s leads))
+  where
+    none_more : (n : ℕ) → 0 + n ≡ n
+    none_more n = omega arith
+
+    reset_is : reset_view (replied_to stream v) stream internal_error ≡ reset_behind stream (replied_to stream v)
+    reset_is = ap (λ (hs : List Held). record (reset_behind stream (replied_to stream v)) { upstreams = record v.upstreams { held = hs } }) (without_twice stream v.upstreams.held)
+
+    not_to_open : may_open (rows.ids_of (replied_to stream v).inbound.rows) stream ≡ false
+    not_to_open = failing.opened_once (rows.ids_of (replied_to stream v).inbound.rows) stream (has_same stream stream _ v.inbound.rows ∙ there)
 
 module _ (setup : Setup) (kept : View) (rest : IsAtRest kept) (run : List Move) (s : State) (leads : Leads setup run kept square s) (k : ℕ) (c : Connection) (found : find number_of k kept.upstreams.live ≡ Some c) where
   abbrev stream : ℕ
@@ -120,6 +162,61 @@ module _ (setup : Setup) (kept : View) (rest : IsAtRest kept) (run : List Move) 
           let none : x.cut ≡ false = rest.none_cut stream x is in
           cut_by x x.box none (it.stands none)
 
+  -- where responses are passed on whole no final head is out of one that isn't
+  module _ (whole : setup.passing ≡ Whole) where
+    abbrev known_here : Known
+    known_here = own setup run s leads.stands leads.so
+
+    no_head : (read : Delivery) (box : Outbox) → (offered_by read box).head ≡ read.head → is_some read.head ≡ true → IsOffered known_here t stream (offered_by read box) ⊎ HasNoOffer known_here t stream read box → ⊥
+    no_head read box same some (inr none) =
+        let no : false ≡ true = ap (λ (d : Delivery). is_some d.head) (sym none.nothing_read) ∙ some in let clash : false ≡ true = no in cc
+    no_head read box same some (inl (inl replied)) =
+        let calm = coming.calm setup kept rest run s leads k c found known_here refl (own_led setup run s leads.stands leads.so).knows in
+        let no : ◌≡◌ {A = Option Cause} None (Some replied.cause) = sym calm ∙ replied.has_cause in cc
+    no_head read box same some (inl (inr passed)) = by passed.shows
+      where
+        stand : standing.Stands known_here t s.requests
+        stand = stands_here setup run s leads.stands leads.so
+
+        same_o : passed.o ≡ (coming.given_here setup kept rest run s leads k c found).0
+        same_o =
+            let o = coming.given_here setup kept rest run s leads k c found in
+            one_connection (opens t) passed.o o.0 stand.apart passed.given.is_opened o.1 (passed.given.is_given ∙ sym o.3)
+
+        number : passed.o.k ≡ k
+        number = ap (λ (o : Opened). o.k) same_o ∙ (coming.given_here setup kept rest run s leads k c found).2
+
+        by : IsShown setup.passing (heard passed.o.k t) (has_ended passed.o.k t) (is_to_head (items known_here stream t)) (offered_by read box) → ⊥
+        by (inl whole_one) =
+            let is = coming.heard_own setup kept rest run s leads k c found in
+            let asked : c.answer.reader.to_head ≡ is_to_head (items known_here stream t) = is.asked ∙ ap (λ n. is_to_head (items known_here n t)) (coming.given_is_stream setup kept rest run s leads k c found) in
+            not_done (heard k t) is.parts c.answer.reader is.stands is.goes_on
+            (subst (λ b. IsComplete (heard k t) false b) (sym asked)
+            (subst (λ b. IsComplete (heard k t) b (is_to_head (items known_here stream t))) (coming.not_ended setup kept rest run s leads k c found)
+            (subst (λ n. IsComplete (heard n t) (has_ended n t) (is_to_head (items known_here stream t))) number (whole_one.response, whole_one.is_whole))))
+        by (inr begun) =
+            let none : read.head ≡ None = sym same ∙ ap (λ (d : Delivery). d.head) begun.says ∙ ap (λ p. (shown p begun.interims begun.head begun.octets).head) whole in
+            let no : false ≡ true = sym (ap (λ o. is_some o) none) ∙ some in
+            absurd (let clash : false ≡ true = no in cc)
+
+    never_cut : (x : Kept) (box : Outbox) → x.cut ≡ false → offered.Stands known_here t stream box → (answered_box BadAnswer x box).cut ≡ false
+    never_cut x (Before interims head body whole) none st = none
+    never_cut x (Behind body whole) none st = absurd (no_head st.read (Behind body whole) refl st.fits.0 st.offer)
+    never_cut x Over none st = absurd (no_head st.read Over refl st.fits.0 st.offer)
+
+    pub whole_not_cut : is_cut_then stream kept ≡ false
+    whole_not_cut = ap is_cut_if (find_changed stream (answered BadAnswer) kept.offers.kept (answered_id BadAnswer)) ∙ by (offering.find stream kept.offers.kept) refl
+      where
+        held : IsKeptIf known_here t stream (offering.find stream kept.offers.kept)
+        held = subst (λ (o : offering.State). IsKeptIf known_here t stream (offering.find stream o.kept)) leads.keeps.offers ((placed_here setup run s leads.stands leads.so).offering.kept stream active_on_tape)
+
+        by : (o : Option Kept) → offering.find stream kept.offers.kept ≡ o → is_cut_if (option_map (answered BadAnswer) o) ≡ false
+        by None is = absurd (subst (IsKeptIf known_here t stream) is held)
+        by (Some x) is =
+            let it : IsHeld known_here t stream x = subst (IsKeptIf known_here t stream) is held in
+            let none : x.cut ≡ false = rest.none_cut stream x is in
+            never_cut x x.box none (it.stands none)
+
   -- ---- the reset is paid
 
   owed_is : resets_for kept stream ≡ (if is_cut_then stream kept then rst_stream stream internal_error ∷ [] else [])
@@ -127,22 +224,36 @@ module _ (setup : Setup) (kept : View) (rest : IsAtRest kept) (run : List Move) 
       ap (λ o. if is_none o && (rows.find kept.inbound.rows stream).head_out then rst_stream stream internal_error ∷ [] else []) no_cause
       ∙ ap (λ b. if b then rst_stream stream internal_error ∷ [] else []) (sym cut_is)
 
-  abbrev failed_now : View
-  failed_now = failed_view kept stream k
+  there : has kept.inbound.rows stream ≡ true
+  there = failing.there kept.inbound.rows stream active_row
 
-  reset_is : reset_view failed_now stream internal_error ≡ reset_behind stream failed_now
-  reset_is = ap (λ (hs : List Held). record (reset_behind stream failed_now) { upstreams = record failed_now.upstreams { held = hs } }) (without_twice stream kept.upstreams.held)
+  module _ (few : stream < 2147483648) (outputs : List Output) (entry : Entry) where
+    -- Where the answer fails with its connection, and a reset that is owed is paid, octets are to go back.
+    pub lost_paid : Course setup run s outputs entry (replied_to stream (closed_at k kept)) (record square { owed = resets_for kept stream }) outputs
+        → Course setup run s outputs entry (reset_if (is_cut_then stream kept) stream (replied_to stream (closed_at k kept))) (record square { shared = back_if (is_cut_then stream kept) stream kept }) (put_if (is_cut_then stream kept) stream outputs)
+    lost_paid course = by (is_cut_then stream kept) (subst (λ (fs : List Frame). Course setup run s outputs entry (replied_to stream (closed_at k kept)) (record square { owed = fs }) outputs) owed_is course)
+      where
+        by : (b : Bool) → Course setup run s outputs entry (replied_to stream (closed_at k kept)) (record square { owed = if b then rst_stream stream internal_error ∷ [] else [] }) outputs
+            → Course setup run s outputs entry (reset_if b stream (replied_to stream (closed_at k kept))) (record square { shared = back_if b stream kept }) (put_if b stream outputs)
+        by false done = done
+        by true owing = course_own setup run s outputs outputs (put outputs (ToClient (spell (rst_stream stream internal_error)))) (replied_to stream (closed_at k kept)) (reset_behind stream (replied_to stream (closed_at k kept))) (record square { owed = rst_stream stream internal_error ∷ [] }) (record square { shared = waiting_for stream kept }) entry owing (pays_reset setup (closed_at k kept) stream there few outputs)
 
-  not_to_open : Rattle.model.specs.Lifetimes.may_open (rows.ids_of failed_now.inbound.rows) stream ≡ false
-  not_to_open = failing.opened_once (rows.ids_of failed_now.inbound.rows) stream (has_same stream stream _ kept.inbound.rows ∙ failing.there kept.inbound.rows stream active_row)
+    -- The same where its connection is closed behind the gateway's reply, and is open still behind a reset.
+    pub abandon_paid : (answer : Answer) → FailsBy setup kept run s k stream outputs entry
+        → Course setup run s outputs entry (abandoned_if (is_cut_then stream kept) k stream (answered_with k answer kept.offers kept)) (record square { shared = back_if (is_cut_then stream kept) stream kept }) (put_abandoned (is_cut_then stream kept) k stream outputs)
+    abandon_paid answer fails = by (is_cut_then stream kept) refl
+      where
+        owed : (b : Bool) → is_cut_then stream kept ≡ b → resets_for kept stream ≡ (if b then rst_stream stream internal_error ∷ [] else [])
+        owed b is = owed_is ∙ ap (λ x. if x then rst_stream stream internal_error ∷ [] else []) is
 
-  -- Where the answer fails, and a reset that is owed is paid, nothing is pending.
-  pub failure_paid : (outputs between : List Output) (entry : Entry) → stream < 2147483648 → Course setup run s outputs entry failed_now (record square { owed = resets_for kept stream }) between → Course setup run s outputs entry (reset_if (is_cut_then stream kept) stream failed_now) square (put_if (is_cut_then stream kept) stream between)
-  failure_paid outputs between entry few course = by (is_cut_then stream kept) (subst (λ (fs : List Frame). Course setup run s outputs entry failed_now (record square { owed = fs }) between) owed_is course)
-    where
-      by : (b : Bool) → Course setup run s outputs entry failed_now (record square { owed = if b then rst_stream stream internal_error ∷ [] else [] }) between → Course setup run s outputs entry (reset_if b stream failed_now) square (put_if b stream between)
-      by false done = done
-      by true owing =
-          subst (λ (v : View). Course setup run s outputs entry v square (put between (ToClient (spell (rst_stream stream internal_error))))) reset_is
-          (course_then setup run s outputs between (put between (ToClient (spell (rst_stream stream internal_error)))) failed_now (reset_view failed_now stream internal_error) (record square { owed = rst_stream stream internal_error ∷ [] }) square entry owing
-          (λ later x l. reset_paid setup failed_now (record square { owed = rst_stream stream internal_error ∷ [] }) [] stream internal_error refl refl not_to_open (reset_fits stream few) between later x l))
+        streams : is_cut_then stream kept ≡ true → setup.passing ≡ Whole → ⊥
+        streams cut whole = let no : true ≡ false = sym cut ∙ whole_not_cut whole in let clash : true ≡ false = no in cc
+
+        by : (b : Bool) → is_cut_then stream kept ≡ b → Course setup run s outputs entry (abandoned_if b k stream (answered_with k answer kept.offers kept)) (record square { shared = back_if b stream kept }) (put_abandoned b k stream outputs)
+        by false is =
+            subst (λ (cs : List Connection). Course setup run s outputs entry (record (closed_at k (replied_to stream kept)) { upstreams = record (closed_at k (replied_to stream kept)).upstreams { live = cs } }) square (put outputs (Does (Close k)))) (sym (without_answer k answer kept.upstreams.live))
+            (subst (λ (fs : List Frame). Course setup run s outputs entry (closed_at k (replied_to stream kept)) (record square { owed = fs }) (put outputs (Does (Close k)))) (owed false is) fails.closed)
+        by true is =
+            course_own setup run s outputs outputs (put outputs (ToClient (spell (rst_stream stream internal_error)))) (replied_to stream (answered_with k answer kept.offers kept)) (reset_behind stream (replied_to stream (answered_with k answer kept.offers kept))) (record square { owed = rst_stream stream internal_error ∷ [] }) (record square { shared = waiting_for stream kept }) entry
+            (subst (λ (fs : List Frame). Course setup run s outputs entry (replied_to stream (answered_with k answer kept.offers kept)) (record square { owed = fs }) outputs) (owed true is) (fails.opened (streams is) answer))
+            (pays_reset setup (answered_with k answer kept.offers kept) stream there few outputs)

@@ -14,7 +14,7 @@ use Rattle.streams_kept.specs.Asked.{has, is_active}
 use Rattle.streams_kept.specs.Sending.{head_sent, data_sent, is_served}
 use Rattle.outputs.specs.Sent.{data_frame}
 use Rattle.outputs.specs.Blocks.{frames_of, filled_before, block_frames}
-use Rattle.relay.specs.View.{View}
+use Rattle.relay.specs.View.{View, waiting_for}
 use Rattle.upstreams.specs.Connections.{lives}
 use Rattle.relay.specs.Rest.{NoneCut, NoneDone}
 use Rattle.steps.specs.Closings.{IsAbout}
@@ -128,6 +128,11 @@ sent_about u outputs id ends v put_out sent = about_then id u v (ended id v) (fi
     first : IsPartSent u outputs id ends v put_out → IsAbout id u v
     first (inl (is_final, h)) = about_changed id (slot_of (head_sent is_final ends (find_row u.inbound.rows id))) u v (ap (λ (w : View). w.inbound.rows) h.kept) (ap (λ (w : View). lives w.upstreams.live) h.kept)
     first (inr h) = about_changed id (slot_of (data_sent (length h.octets) ends (find_row u.inbound.rows id))) u v (ap (λ (w : View). w.inbound.rows) h.kept) (ap (λ (w : View). lives w.upstreams.live) h.kept)
+
+-- A part that goes changes nothing of what waits.
+pub sent_waits : (u : View) (outputs : List Output) (id : ℕ) (ends : Bool) (v : View) (put_out : List Output) → IsPartSent u outputs id ends v put_out → waiting_for id v ≡ waiting_for id u
+sent_waits u outputs id ends v put_out (inl (is_final, h)) = ap (λ (w : View). waiting_for id w) h.kept
+sent_waits u outputs id ends v put_out (inr h) = ap (λ (w : View). waiting_for id w) h.kept
 
 -- Behind one that doesn't end its stream no connection is done with, if none was before.
 pub sent_none_done : (u : View) (outputs : List Output) (id : ℕ) (v : View) (put_out : List Output) → is_active u.inbound.rows id ≡ true → IsPartSent u outputs id false v put_out → NoneDone u → NoneDone v

@@ -32,6 +32,7 @@ use Rattle.receiving.specs.State as receiving
 use Rattle.tables.specs.State as tables
 use Rattle.tables.specs.Rule.{MayGive, IsGiven}
 use Rattle.header_blocks.specs.Encodes.{IsWrittenBy}
+use Rattle.streams_kept.specs.Asked.{is_active}
 use Rattle.streams_kept.specs.Sending.{head_sent, data_sent}
 use Rattle.judgement.specs.Sending.{AreWithin, early_reset}
 use Rattle.judgement.proofs.SendingBooks.{block_leads, data_leads}
@@ -45,7 +46,7 @@ use Rattle.relay.specs.View.{View}
 use Rattle.relay.specs.Passing.{PartGoes}
 use Rattle.relay.proofs.Staying.{rows_kept}
 use Rattle.steps.specs.flushing.Changes.{part_gone, unless_active, octets_of_frames}
-use Rattle.steps.proofs.flushing.Placed.{book_at, state_at, At}
+use Rattle.steps.proofs.flushing.Placed.{book_at, state_at, At, back_if}
 use Rattle.steps.proofs.flushing.Paths.{Path, path_then}
 use Rattle.steps.proofs.flushing.Sending.{MaySend, may_pass, joins, goes_on_with, fragment_rightly, fragment_path, whole_path}
 
@@ -69,6 +70,10 @@ module _ (setup : Setup) (given : List Opened) (rest : tables.State) (windows : 
   -- what is kept of all
   abbrev behind_block : ℕ → View → View
   behind_block count u = part_gone block.id part (head_kept u) u.inbound.window (record u.encoding { table = table; limits = None }) count u
+
+  -- what waited of its stream goes back where that is over
+  abbrev behind_windows : ℕ → View → receiving.Kept
+  behind_windows count u = back_if (not (is_active (behind_block count u).inbound.rows block.id)) block.id u windows
 
   abbrev reset_then : View → List Frame
   reset_then u = early_reset (book_at u None given) block.id block.ends
@@ -123,19 +128,19 @@ module _ (setup : Setup) (given : List Opened) (rest : tables.State) (windows : 
     }
 
     -- The last frame of the block goes.
-    last_path : (outputs : List Output) → Path setup run u [] begun outputs (unless_active block.id (behind_block (length (spell last)) u)) (reset_then u) None (put outputs (ToClient (spell last))) given rest windows
+    last_path : (outputs : List Output) → Path setup run u [] begun outputs (unless_active block.id (behind_block (length (spell last)) u)) (reset_then u) None (put outputs (ToClient (spell last))) given rest windows (behind_windows (length (spell last)) u)
     last_path outputs =
-        subst (λ n. Path setup run u [] begun outputs (unless_active n (part_gone n part (head_sent (is_final item) block.ends (find u.inbound.rows n)) u.inbound.window (record u.encoding { table = table; limits = None }) (length (spell last)) u)) (early_reset (book_at u None given) n block.ends) None (put outputs (ToClient (spell last))) given rest windows) (sym on_stream)
+        subst (λ n. Path setup run u [] begun outputs (unless_active n (part_gone n part (head_sent (is_final item) block.ends (find u.inbound.rows n)) u.inbound.window (record u.encoding { table = table; limits = None }) (length (spell last)) u)) (early_reset (book_at u None given) n block.ends) None (put outputs (ToClient (spell last))) given rest windows (back_if (not (is_active (part_gone n part (head_sent (is_final item) block.ends (find u.inbound.rows n)) u.inbound.window (record u.encoding { table = table; limits = None }) (length (spell last)) u).inbound.rows n)) n u windows)) (sym on_stream)
         (whole_path setup run u begun given rest windows at noted is.no_update is.fits item part table (head_sent (is_final item) block.ends (find u.inbound.rows last.id)) u.inbound.window (record u.encoding { table = table; limits = None })
         (early_reset (book_at u None given) last.id block.ends) may_here.active refl refl (block_leads setup (book_at u begun given) noted block fields rows completes refl)
         (ap (λ (b : Option Partial). tables.encoding_after b table u.encoding) completes) goes outputs)
 
   -- All its frames go, and behind the last one the part is complete.
   pub block_path : (frames : List Frame) (run : List Move) (u : View) (begun : Option Partial) → At setup run u [] begun given rest windows → MaySend u block.id → IsBlockOf u → (begun ≡ None → u.untaken < high_water) → Complete block begun frames → (outputs : List Output)
-      → Path setup run u [] begun outputs (unless_active block.id (behind_block (octets_of_frames frames) u)) (reset_then u) None (put_frames outputs frames) given rest windows
+      → Path setup run u [] begun outputs (unless_active block.id (behind_block (octets_of_frames frames) u)) (reset_then u) None (put_frames outputs frames) given rest windows (behind_windows (octets_of_frames frames) u)
   block_path [] run u begun at may of in_time complete outputs = absurd complete
   block_path (last ∷ []) run u begun at may of in_time complete outputs =
-      subst (λ n. Path setup run u [] begun outputs (unless_active block.id (behind_block n u)) (reset_then u) None (put outputs (ToClient (spell last))) given rest windows) (sym (add-zero (length (spell last))))
+      subst (λ n. Path setup run u [] begun outputs (unless_active block.id (behind_block n u)) (reset_then u) None (put outputs (ToClient (spell last))) given rest windows (behind_windows n u)) (sym (add-zero (length (spell last))))
       (last_path run u begun at may of in_time last complete.0 complete.1 (sym complete.0.on_stream) outputs)
   block_path (frame ∷ next ∷ frames) run u begun at may of in_time complete outputs =
       let is = complete.0 in
@@ -148,8 +153,8 @@ module _ (setup : Setup) (given : List Opened) (rest : tables.State) (windows : 
       (record { found = of.found; next = of.next; is = of.is; written = of.written })
       (λ none. absurd (still_begun block.id begun frame is complete.1 none)) complete.2 (put outputs (ToClient (spell frame))) in
       let sum : (u.untaken + length (spell frame)) + octets_of_frames (next ∷ frames) ≡ u.untaken + (length (spell frame) + octets_of_frames (next ∷ frames)) = add_assoc u.untaken (length (spell frame)) (octets_of_frames (next ∷ frames)) in
-      path_then setup given rest windows run u v (unless_active block.id (behind_block (octets_of_frames (frame ∷ next ∷ frames)) u)) [] [] (reset_then u) begun (begun_after begun frame) None outputs (put outputs (ToClient (spell frame))) (put_frames outputs (frame ∷ next ∷ frames)) first
-      (subst (λ n. Path setup (first.moves ++ run) v [] (begun_after begun frame) (put outputs (ToClient (spell frame))) (unless_active block.id (record (behind_block 0 u) { untaken = n })) (reset_then u) None (put_frames outputs (frame ∷ next ∷ frames)) given rest windows) sum more)
+      path_then setup given rest windows windows (behind_windows (octets_of_frames (frame ∷ next ∷ frames)) u) run u v (unless_active block.id (behind_block (octets_of_frames (frame ∷ next ∷ frames)) u)) [] [] (reset_then u) begun (begun_after begun frame) None outputs (put outputs (ToClient (spell frame))) (put_frames outputs (frame ∷ next ∷ frames)) first
+      (subst (λ n. Path setup (first.moves ++ run) v [] (begun_after begun frame) (put outputs (ToClient (spell frame))) (unless_active block.id (record (behind_block 0 u) { untaken = n })) (reset_then u) None (put_frames outputs (frame ∷ next ∷ frames)) given rest windows (behind_windows 0 u)) sum more)
 
 -- ---- octets of a body
 
@@ -200,8 +205,8 @@ module _ (setup : Setup) (given : List Opened) (rest : tables.State) (windows : 
   data_rows = rows_kept setup run before at.stands
 
   -- The octets go in one frame.
-  pub data_path : (outputs : List Output) → Path setup run u [] None outputs (unless_active id (behind_octets ends)) (early_reset (book_at u None given) id ends) None (put outputs (ToClient (spell frame))) given rest windows
+  pub data_path : (outputs : List Output) → Path setup run u [] None outputs (unless_active id (behind_octets ends)) (early_reset (book_at u None given) id ends) None (put outputs (ToClient (spell frame))) given rest windows (back_if (not (is_active (behind_octets ends).inbound.rows id)) id u windows)
   data_path outputs =
-      subst (λ b. Path setup run u [] None outputs (unless_active id (behind_octets b)) (early_reset (book_at u None given) id b) None (put outputs (ToClient (spell frame))) given rest windows) (sending.data_ends id octets ends)
+      subst (λ b. Path setup run u [] None outputs (unless_active id (behind_octets b)) (early_reset (book_at u None given) id b) None (put outputs (ToClient (spell frame))) given rest windows (back_if (not (is_active (behind_octets b).inbound.rows id)) id u windows)) (sending.data_ends id octets ends)
       (whole_path setup run u None given rest windows at data_noted refl data_fits (Content octets ends) (Octets octets ends) u.encoding.table (data_kept (ends_stream frame)) (u.inbound.window -ℤ pos (length octets)) u.encoding
       (early_reset (book_at u None given) id (ends_stream frame)) may.active refl refl (data_leads setup (book_at u None given) data_noted data_rows refl refl) refl data_goes outputs)

@@ -20,10 +20,10 @@ use Rattle.header_blocks.specs.Encoding.{Encoding}
 use Rattle.streams_kept.specs.Asked.{has, is_active}
 use Rattle.judgement.specs.Sending.{early_reset}
 use Rattle.policy.specs.Moves.{Move}
-use Rattle.relay.specs.View.{View}
+use Rattle.relay.specs.View.{View, waiting_for}
 use Rattle.steps.specs.flushing.Changes.{part_gone, let_go, unless_active, reset_gone, ended, put_at_end}
 use Rattle.steps.proofs.flushing.Rows.{over_told, active_own, not_flip}
-use Rattle.steps.proofs.flushing.Placed.{book_at}
+use Rattle.steps.proofs.flushing.Placed.{book_at, back_on, back_if}
 use Rattle.steps.proofs.flushing.Paths.{Path, path_then}
 use Rattle.steps.proofs.flushing.Sending.{reset_path}
 
@@ -63,20 +63,25 @@ module _ (setup : Setup) (given : List Opened) (rest : tables.State) (windows : 
     abbrev pub end_put : List Output → List Output
     end_put outputs = if ends then put_at_end id v outputs else outputs
 
-    pub end_path : (outputs put_out : List Output) → Path setup run u [] begun outputs (unless_active id v) (early_reset (book_at u None given) id ends) None put_out given rest windows → Path setup run u [] begun outputs end_view [] None (end_put put_out) given rest windows
+    -- what waited of it goes back then
+    abbrev pub end_windows : receiving.Kept
+    end_windows = if ends then back_on (waiting_for id u) windows else windows
+
+    pub end_path : (outputs put_out : List Output) → Path setup run u [] begun outputs (unless_active id v) (early_reset (book_at u None given) id ends) None put_out given rest windows (back_if (not (is_active v.inbound.rows id)) id u windows)
+        → Path setup run u [] begun outputs end_view [] None (end_put put_out) given rest windows end_windows
     end_path outputs put_out path = by ends was.ended_by_client refl active_then path
       where
         by : (b e : Bool) → was.ended_by_client ≡ e → is_active v.inbound.rows id ≡ not (e && b)
-            → Path setup run u [] begun outputs (unless_active id v) (if b && not e then rst_stream id no_error ∷ [] else []) None put_out given rest windows
-            → Path setup run u [] begun outputs (if b then ended id v else v) [] None (if b then put_at_end id v put_out else put_out) given rest windows
-        by false true client on path = subst (λ a. Path setup run u [] begun outputs (if a then v else let_go id v) [] None put_out given rest windows) on path
-        by false false client on path = subst (λ a. Path setup run u [] begun outputs (if a then v else let_go id v) [] None put_out given rest windows) on path
+            → Path setup run u [] begun outputs (unless_active id v) (if b && not e then rst_stream id no_error ∷ [] else []) None put_out given rest windows (back_if (not (is_active v.inbound.rows id)) id u windows)
+            → Path setup run u [] begun outputs (if b then ended id v else v) [] None (if b then put_at_end id v put_out else put_out) given rest windows (if b then back_on (waiting_for id u) windows else windows)
+        by false true client on path = subst (λ a. Path setup run u [] begun outputs (if a then v else let_go id v) [] None put_out given rest windows (back_if (not a) id u windows)) on path
+        by false false client on path = subst (λ a. Path setup run u [] begun outputs (if a then v else let_go id v) [] None put_out given rest windows (back_if (not a) id u windows)) on path
         by true true client off path =
-            subst (λ a. Path setup run u [] begun outputs (let_go id (if a then reset_gone id no_error v else v)) [] None (if a then put put_out (ToClient (spell (rst_stream id no_error))) else put_out) given rest windows) (sym off)
-            (subst (λ a. Path setup run u [] begun outputs (if a then v else let_go id v) [] None put_out given rest windows) off path)
+            subst (λ a. Path setup run u [] begun outputs (let_go id (if a then reset_gone id no_error v else v)) [] None (if a then put put_out (ToClient (spell (rst_stream id no_error))) else put_out) given rest windows (back_on (waiting_for id u) windows)) (sym off)
+            (subst (λ a. Path setup run u [] begun outputs (if a then v else let_go id v) [] None put_out given rest windows (back_if (not a) id u windows)) off path)
         by true false client on path =
-            let first : Path setup run u [] begun outputs v (rst_stream id no_error ∷ []) None put_out given rest windows = subst (λ a. Path setup run u [] begun outputs (if a then v else let_go id v) (rst_stream id no_error ∷ []) None put_out given rest windows) on path in
+            let first : Path setup run u [] begun outputs v (rst_stream id no_error ∷ []) None put_out given rest windows windows = subst (λ a. Path setup run u [] begun outputs (if a then v else let_go id v) (rst_stream id no_error ∷ []) None put_out given rest windows (back_if (not a) id u windows)) on path in
             let out = put put_out (ToClient (spell (rst_stream id no_error))) in
-            subst (λ a. Path setup run u [] begun outputs (let_go id (if a then reset_gone id no_error v else v)) [] None (if a then out else put_out) given rest windows) (sym on)
-            (path_then setup given rest windows run u v (let_go id (reset_gone id no_error v)) [] (rst_stream id no_error ∷ []) [] begun None None outputs put_out out first
+            subst (λ a. Path setup run u [] begun outputs (let_go id (if a then reset_gone id no_error v else v)) [] None (if a then out else put_out) given rest windows (back_on (waiting_for id u) windows)) (sym on)
+            (path_then setup given rest windows windows (back_on (waiting_for id u) windows) run u v (let_go id (reset_gone id no_error v)) [] (rst_stream id no_error ∷ []) [] begun None None outputs put_out out first
             (reset_path setup (first.moves ++ run) v id no_error given rest windows first.at on small put_out))

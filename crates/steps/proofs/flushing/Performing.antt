@@ -40,14 +40,14 @@ use Rattle.outputs.specs.Blocks.{block_frames}
 use Rattle.outputs.proofs.Fragments.{block_completes}
 use Rattle.policy.specs.Moves.{Move}
 use Rattle.policy.specs.State.{State}
-use Rattle.relay.specs.View.{View, square, Leads}
+use Rattle.relay.specs.View.{View, square, Leads, Pending, waiting_for}
 use Rattle.relay.specs.Rest.{NoneCut}
 use Rattle.relay.specs.Bringing.{OwnSegment, PerformsOwn}
 use Rattle.steps.specs.flushing.Changes.{part_gone, ended, put_at_end, octets_of_frames, IsHeadPart, AreOctetsPart, IsHeadSent, AreOctetsSent, IsPartSent}
 use Rattle.steps.proofs.flushing.Rows.{not_flip}
 use Rattle.steps.proofs.flushing.Facts.{ready_active, ready_unended}
 use Rattle.steps.proofs.flushing.Statuses.{HasStatuses, statuses_right, final_told, IsLate}
-use Rattle.steps.proofs.flushing.Placed.{At, led_at}
+use Rattle.steps.proofs.flushing.Placed.{At, led_at, owing, back_on}
 use Rattle.steps.proofs.flushing.Paths.{path_performs}
 use Rattle.steps.proofs.flushing.Sending.{MaySend}
 use Rattle.steps.proofs.flushing.Blocks.{block_path, data_path}
@@ -138,6 +138,10 @@ module _ (u : View) (id : ℕ) (none_cut : NoneCut u.offers) (turn : IsNextTurn 
   it : HasReady windows u.offers.kept id
   it = has_ready windows u.offers id turn
 
+  -- what waited of a stream that is over goes back
+  abbrev pub behind : Bool → Pending
+  behind ends = record square { shared = if ends then waiting_for id u else 0 }
+
   module _ (setup : Setup) (run : List Move) (s : State) (leads : Leads setup run u square s) where
     found_in_state : find id s.offers.kept ≡ Some it.stream
     found_in_state = ap (λ (o : offering.State). find id o.kept) leads.keeps.offers ∙ it.found
@@ -153,11 +157,16 @@ module _ (u : View) (id : ℕ) (none_cut : NoneCut u.offers) (turn : IsNextTurn 
     }
 
     at : At setup run u [] None s.desk.book.given s.tables s.windows
-    at = led_at setup run u [] s leads
+    at = led_at setup run u [] 0 s leads
+
+    -- what goes back in the end
+    back_then : (b : Bool) → (if b then back_on (waiting_for id u) s.windows else s.windows).debt ≡ (if b then waiting_for id u else 0)
+    back_then true = let none = leads.keeps.credited.shared in omega (arith, none)
+    back_then false = leads.keeps.credited.shared
 
   -- A head goes, and where it ends the response the stream is over.
   pub head_performs : (setup : Setup) (outputs : List Output) (is_final_one ends : Bool) (v : View) (put_out : List Output) → IsHeadSent u outputs id is_final_one ends v put_out
-      → PerformsOwn setup u square outputs (if ends then ended id v else v) square (if ends then put_at_end id v put_out else put_out)
+      → PerformsOwn setup u square outputs (if ends then ended id v else v) (behind ends) (if ends then put_at_end id v put_out else put_out)
   head_performs setup outputs is_final_one ends v put_out h run s leads =
       let may = may_send setup run s leads in
       let next = chosen_next 1 it.stream.box h.part (omega arith) (part_here 1 id u.offers.kept it.stream h.part it.found h.next) in
@@ -168,14 +177,15 @@ module _ (u : View) (id : ℕ) (none_cut : NoneCut u.offers) (turn : IsNextTurn 
       (block_completes id ends h.block small (section_some h.fields h.head u.encoding h.table h.block h.section h.written)) outputs in
       let gone : Bool → View = λ f. part_gone id h.part (head_sent f ends (find_row u.inbound.rows id)) u.inbound.window (record u.encoding { table = h.table; limits = None }) (octets_of_frames (block_frames id ends h.block)) u in
       let whole = end_path setup s.desk.book.given s.tables s.windows run u None id may.active may.unended small h.part (head_sent (is_final (Block h.fields ends)) ends (find_row u.inbound.rows id)) u.inbound.window (record u.encoding { table = h.table; limits = None }) (octets_of_frames (block_frames id ends h.block)) ends refl outputs (put_frames outputs (block_frames id ends h.block)) path in
-      subst (λ (w : View). OwnSegment setup run s outputs (if ends then ended id w else w) square (if ends then put_at_end id w put_out else put_out)) (sym h.kept)
-      (subst (λ f. OwnSegment setup run s outputs (if ends then ended id (gone f) else gone f) square (if ends then put_at_end id (gone f) put_out else put_out)) right.1
-      (subst (λ (o : List Output). OwnSegment setup run s outputs (if ends then ended id (gone (is_final (Block h.fields ends))) else gone (is_final (Block h.fields ends))) square (if ends then put_at_end id (gone (is_final (Block h.fields ends))) o else o)) (sym h.puts)
-      (path_performs setup run s u (if ends then ended id (gone (is_final (Block h.fields ends))) else gone (is_final (Block h.fields ends))) [] [] outputs (if ends then put_at_end id (gone (is_final (Block h.fields ends))) (put_frames outputs (block_frames id ends h.block)) else put_frames outputs (block_frames id ends h.block)) leads whole)))
+      subst (λ (w : View). OwnSegment setup run s outputs (if ends then ended id w else w) (behind ends) (if ends then put_at_end id w put_out else put_out)) (sym h.kept)
+      (subst (λ f. OwnSegment setup run s outputs (if ends then ended id (gone f) else gone f) (behind ends) (if ends then put_at_end id (gone f) put_out else put_out)) right.1
+      (subst (λ (o : List Output). OwnSegment setup run s outputs (if ends then ended id (gone (is_final (Block h.fields ends))) else gone (is_final (Block h.fields ends))) (behind ends) (if ends then put_at_end id (gone (is_final (Block h.fields ends))) o else o)) (sym h.puts)
+      (subst (λ n. OwnSegment setup run s outputs (if ends then ended id (gone (is_final (Block h.fields ends))) else gone (is_final (Block h.fields ends))) (owing [] n) (if ends then put_at_end id (gone (is_final (Block h.fields ends))) (put_frames outputs (block_frames id ends h.block)) else put_frames outputs (block_frames id ends h.block))) (back_then setup run s leads ends)
+      (path_performs setup run s u (if ends then ended id (gone (is_final (Block h.fields ends))) else gone (is_final (Block h.fields ends))) [] [] outputs (if ends then put_at_end id (gone (is_final (Block h.fields ends))) (put_frames outputs (block_frames id ends h.block)) else put_frames outputs (block_frames id ends h.block)) 0 (if ends then back_on (waiting_for id u) s.windows else s.windows) leads whole))))
 
   -- So do octets.
   pub octets_perform : (setup : Setup) (outputs : List Output) (ends : Bool) (v : View) (put_out : List Output) → AreOctetsSent u outputs id ends v put_out
-      → PerformsOwn setup u square outputs (if ends then ended id v else v) square (if ends then put_at_end id v put_out else put_out)
+      → PerformsOwn setup u square outputs (if ends then ended id v else v) (behind ends) (if ends then put_at_end id v put_out else put_out)
   octets_perform setup outputs ends v put_out h run s leads =
       let may = may_send setup run s leads in
       let part_is : h.part ≡ Octets h.octets ends = octets_part h.part h.octets ends h.are in
@@ -184,10 +194,11 @@ module _ (u : View) (id : ℕ) (none_cut : NoneCut u.offers) (turn : IsNextTurn 
       let gone : Part → View = λ p. part_gone id p (data_sent (length h.octets) ends (find_row u.inbound.rows id)) (u.inbound.window -ℤ pos (length h.octets)) u.encoding (length (spell (data_frame id ends h.octets))) u in
       let out = put outputs (ToClient (spell (data_frame id ends h.octets))) in
       let whole = end_path setup s.desk.book.given s.tables s.windows run u None id may.active may.unended small (Octets h.octets ends) (data_sent (length h.octets) ends (find_row u.inbound.rows id)) (u.inbound.window -ℤ pos (length h.octets)) u.encoding (length (spell (data_frame id ends h.octets))) ends refl outputs out path in
-      subst (λ (w : View). OwnSegment setup run s outputs (if ends then ended id w else w) square (if ends then put_at_end id w put_out else put_out)) (sym h.kept)
-      (subst (λ p. OwnSegment setup run s outputs (if ends then ended id (gone p) else gone p) square (if ends then put_at_end id (gone p) put_out else put_out)) (sym part_is)
-      (subst (λ (o : List Output). OwnSegment setup run s outputs (if ends then ended id (gone (Octets h.octets ends)) else gone (Octets h.octets ends)) square (if ends then put_at_end id (gone (Octets h.octets ends)) o else o)) (sym h.puts)
-      (path_performs setup run s u (if ends then ended id (gone (Octets h.octets ends)) else gone (Octets h.octets ends)) [] [] outputs (if ends then put_at_end id (gone (Octets h.octets ends)) out else out) leads whole)))
+      subst (λ (w : View). OwnSegment setup run s outputs (if ends then ended id w else w) (behind ends) (if ends then put_at_end id w put_out else put_out)) (sym h.kept)
+      (subst (λ p. OwnSegment setup run s outputs (if ends then ended id (gone p) else gone p) (behind ends) (if ends then put_at_end id (gone p) put_out else put_out)) (sym part_is)
+      (subst (λ (o : List Output). OwnSegment setup run s outputs (if ends then ended id (gone (Octets h.octets ends)) else gone (Octets h.octets ends)) (behind ends) (if ends then put_at_end id (gone (Octets h.octets ends)) o else o)) (sym h.puts)
+      (subst (λ n. OwnSegment setup run s outputs (if ends then ended id (gone (Octets h.octets ends)) else gone (Octets h.octets ends)) (owing [] n) (if ends then put_at_end id (gone (Octets h.octets ends)) out else out)) (back_then setup run s leads ends)
+      (path_performs setup run s u (if ends then ended id (gone (Octets h.octets ends)) else gone (Octets h.octets ends)) [] [] outputs (if ends then put_at_end id (gone (Octets h.octets ends)) out else out) 0 (if ends then back_on (waiting_for id u) s.windows else s.windows) leads whole))))
     where
       octets_part : (part : Part) (octets : List ℕ) (last : Bool) → AreOctetsPart (Some part) octets last → part ≡ Octets octets last
       octets_part (Octets octets last) sent e are = ap (λ xs. Octets xs last) (sym are.0) ∙ ap (λ b. Octets sent b) (sym are.1)
@@ -204,13 +215,21 @@ module _ (u : View) (id : ℕ) (none_cut : NoneCut u.offers) (turn : IsNextTurn 
 
   -- So does a part of either kind.
   pub part_performs : (setup : Setup) (outputs : List Output) (ends : Bool) (v : View) (put_out : List Output) → IsPartSent u outputs id ends v put_out
-      → PerformsOwn setup u square outputs (if ends then ended id v else v) square (if ends then put_at_end id v put_out else put_out)
+      → PerformsOwn setup u square outputs (if ends then ended id v else v) (behind ends) (if ends then put_at_end id v put_out else put_out)
   part_performs setup outputs ends v put_out (inl head) = head_performs setup outputs head.0 ends v put_out head.1
   part_performs setup outputs ends v put_out (inr octets) = octets_perform setup outputs ends v put_out octets
 
+  -- The last part went, and the stream ended: what waited of it goes back.
+  pub ends_then : (setup : Setup) (outputs : List Output) (v : View) (put_out : List Output) → IsPartSent u outputs id true v put_out
+      → (dropped : ℕ) (w : View) (out_then : List Output) → dropped ≡ waiting_for id u → w ≡ ended id v → out_then ≡ put_at_end id v put_out → PerformsOwn setup u square outputs w (record square { shared = dropped }) out_then
+  ends_then setup outputs v put_out sent dropped w out_then waits kept puts =
+      subst (λ (x : View). PerformsOwn setup u square outputs x (record square { shared = dropped }) out_then) (sym kept)
+      (subst (λ n. PerformsOwn setup u square outputs (ended id v) (record square { shared = n }) out_then) (sym waits)
+      (subst (λ (o : List Output). PerformsOwn setup u square outputs (ended id v) (record square { shared = waiting_for id u }) o) (sym puts) (part_performs setup outputs true v put_out sent)))
+
 -- The stream whose turn it is is active.
-pub turn_active : (setup : Setup) (run : List Move) (s : State) (u : View) (id : ℕ) → Leads setup run u square s → IsNextTurn u.offers.last (ready (windows_over u.inbound.rows u.inbound.first_size u.inbound.window) u.offers) (Some id) → is_active u.inbound.rows id ≡ true
-turn_active setup run s u id leads turn =
+pub turn_active : (setup : Setup) (run : List Move) (s : State) (u : View) (pending : Pending) (id : ℕ) → Leads setup run u pending s → IsNextTurn u.offers.last (ready (windows_over u.inbound.rows u.inbound.first_size u.inbound.window) u.offers) (Some id) → is_active u.inbound.rows id ≡ true
+turn_active setup run s u pending id leads turn =
     let windows = windows_over u.inbound.rows u.inbound.first_size u.inbound.window in
     let it = has_ready windows u.offers id turn in
     ap (λ (b : Book). is_active_in id (summary_in b)) (sym leads.keeps.book)

@@ -1,5 +1,6 @@
 -- The state as it is kept, in one form, and moves from one such state to the next.
-use Rattle.std.proofs.Common.{◌≡◌, ℕ, ◌+◌, Bool, true, false, not, ◌==◌, List, [], ◌∷◌, ◌++◌, Option, Some, None, refl, ◌∙◌, ap, subst, if◌then◌else◌, add-zero}
+use Rattle.std.proofs.Common.{◌≡◌, ℕ, ◌+◌, Bool, true, false, not, ◌&&◌, ◌==◌, List, [], ◌∷◌, ◌++◌, Option, Some, None, refl, sym, ◌∙◌, ap, subst, if◌then◌else◌, add-zero}
+use Rattle.std.proofs.lemmas.Bool.{and_parts}
 use Rattle.model.specs.Messages.{Item}
 use Rattle.model.specs.Frames.{Frame, rst_stream_kind, window_update_kind}
 use Rattle.model.specs.Setup.{Setup}
@@ -17,7 +18,6 @@ use Rattle.offering.specs.Sight.{Sight, sight_in}
 use Rattle.offering.specs.State as offering
 use Rattle.receiving.specs.State as receiving
 use Rattle.receiving.specs.Rule.{is_over_by}
-use Rattle.receiving.specs.Marks.{total}
 use Rattle.serving.specs.State as serving
 use Rattle.serving.specs.State.{Held, find}
 use Rattle.serving.specs.State.Due.{Nothing}
@@ -33,9 +33,14 @@ use Rattle.policy.specs.Moves.Deed.{Sends, Goes}
 use Rattle.policy.specs.Moves.Move.{Does}
 use Rattle.policy.specs.State.{State}
 use Rattle.policy.specs.Rule.{rooms_in}
-use Rattle.policy.specs.Steps.{Stands, told_by, next}
-use Rattle.relay.specs.View.{View, Pending, square, IsCredited, Keeps, AreSo, AreHeard, Leads}
+use Rattle.policy.specs.Steps.{Stands, told_by, told_behind, next}
+use Rattle.marks_kept.specs.Sides.{unless_over}
+use Rattle.marks_kept.specs.Standing.{dropped_of}
+use Rattle.marks_kept.proofs.Telling as telling
+use Rattle.relay.specs.View.{View, Pending, square, waiting_for, IsCredited, Keeps, AreMarked, AreSo, AreHeard, Leads}
 use Rattle.relay.proofs.Kept.{AreServed}
+use Rattle.relay.proofs.Where.{live_here}
+use Rattle.relay.proofs.Marking.{marked_sent}
 
 -- ---- the form
 
@@ -53,9 +58,17 @@ state_at u owed begun given rest windows = record {
   windows = windows;
 }
 
--- what is pending where only frames are owed
-abbrev pub owing : List Frame → Pending
-owing owed = record square { owed = owed }
+-- what is pending where frames are owed, and octets are to go back on the connection
+abbrev pub owing : List Frame → ℕ → Pending
+owing owed back = record square { owed = owed; shared = back }
+
+-- what the rule keeps of windows where so many octets more are to go back on the connection
+abbrev pub back_on : ℕ → receiving.Kept → receiving.Kept
+back_on count windows = record windows { debt = windows.debt + count }
+
+-- those that waited of a stream go back once it isn't active
+abbrev pub back_if : Bool → ℕ → View → receiving.Kept → receiving.Kept
+back_if over id u windows = if over then back_on (waiting_for id u) windows else windows
 
 -- octets of connections are counted
 abbrev pub AreCounted : View → receiving.Kept → Type 0
@@ -66,8 +79,9 @@ pub record At (setup : Setup) (run : List Move) (u : View) (owed : List Frame) (
   pub stands : Stands setup run (state_at u owed begun given rest windows)
   pub so : AreSo setup run
   pub heard : AreHeard setup run u.upstreams.live
-  pub credited : IsCredited square u.inbound windows
+  pub credited : IsCredited (record square { shared = windows.debt }) u.inbound windows
   pub counted : AreCounted u windows
+  pub marked : AreMarked setup.passing u.marks (rooms_in (told_by (state_at u owed begun given rest windows)) (state_at u owed begun given rest windows))
 
 -- a state by its parts
 by_parts : (s : State) (d : Desk) (o : offering.State) (r : serving.State) (t : tables.State) → s.desk ≡ d → s.offers ≡ o → s.requests ≡ r → s.tables ≡ t → s ≡ record { desk = d; offers = o; requests = r; tables = t; windows = s.windows }
@@ -78,8 +92,8 @@ by_parts s d o r t e f g h =
     ∙ ap (λ (x : tables.State). record s { desk = d; offers = o; requests = r; tables = x }) h
 
 -- The state that is kept has the form.
-pub state_is : (u : View) (owed : List Frame) (s : State) → Keeps u (owing owed) s → s ≡ state_at u owed None s.desk.book.given s.tables s.windows
-state_is u owed s keeps =
+pub state_is : (u : View) (owed : List Frame) (back : ℕ) (s : State) → Keeps u (owing owed back) s → s ≡ state_at u owed None s.desk.book.given s.tables s.windows
+state_is u owed back s keeps =
     by_parts s (record { book = book_at u None s.desk.book.given; queue = owed }) u.offers (upstreams.with_due u.upstreams Nothing) (record s.tables { decoding = u.inbound.table; lost = false; encoding = u.encoding })
     (ap (λ (b : Book). record s.desk { book = b }) keeps.book ∙ ap (λ (q : List Frame). record { book = book_at u None s.desk.book.given; queue = q }) keeps.owed)
     keeps.offers keeps.requests
@@ -88,21 +102,24 @@ state_is u owed s keeps =
     ∙ ap (λ e. record s.tables { decoding = u.inbound.table; lost = false; encoding = e }) keeps.encoding)
 
 -- Where moves led to what is kept they led to the form, and back.
-pub led_at : (setup : Setup) (run : List Move) (u : View) (owed : List Frame) (s : State) → Leads setup run u (owing owed) s → At setup run u owed None s.desk.book.given s.tables s.windows
-led_at setup run u owed s leads = record {
-  stands = subst (Stands setup run) (state_is u owed s leads.keeps) leads.stands;
+pub led_at : (setup : Setup) (run : List Move) (u : View) (owed : List Frame) (back : ℕ) (s : State) → Leads setup run u (owing owed back) s → At setup run u owed None s.desk.book.given s.tables s.windows
+led_at setup run u owed back s leads = record {
+  stands = subst (Stands setup run) (state_is u owed back s leads.keeps) leads.stands;
   so = leads.so;
   heard = leads.heard;
-  credited = record { fresh = leads.keeps.credited.fresh; shared = leads.keeps.credited.shared; own = leads.keeps.credited.own; others = leads.keeps.credited.others; none_wait = leads.keeps.credited.none_wait };
+  credited = record { fresh = leads.keeps.credited.fresh; shared = refl; own = leads.keeps.credited.own };
   counted = leads.keeps.counted;
+  marked = subst (λ (x : State). AreMarked setup.passing u.marks (rooms_in (told_by x) x)) (state_is u owed back s leads.keeps) leads.marked;
 }
 
-pub at_led : (setup : Setup) (run : List Move) (u : View) (owed : List Frame) (given : List Opened) (rest : tables.State) (windows : receiving.Kept) → At setup run u owed None given rest windows → Leads setup run u (owing owed) (state_at u owed None given rest windows)
+pub at_led : (setup : Setup) (run : List Move) (u : View) (owed : List Frame) (given : List Opened) (rest : tables.State) (windows : receiving.Kept) → At setup run u owed None given rest windows → Leads setup run u (owing owed windows.debt) (state_at u owed None given rest windows)
 at_led setup run u owed given rest windows at = record {
   stands = at.stands;
   so = at.so;
   heard = at.heard;
-  keeps = record { book = refl; owed = refl; offers = refl; requests = refl; decoding = refl; encoding = refl; read = refl; credited = record { fresh = at.credited.fresh; shared = at.credited.shared; own = at.credited.own; others = at.credited.others; none_wait = at.credited.none_wait }; counted = at.counted };
+  keeps = record { book = refl; owed = refl; offers = refl; requests = refl; decoding = refl; encoding = refl; read = refl; credited = record { fresh = at.credited.fresh; shared = refl; own = at.credited.own }; counted = at.counted };
+  marked = at.marked;
+  in_effect = tt;
 }
 
 -- ---- a frame is sent
@@ -119,11 +136,6 @@ served_same before behind same (h ∷ hs) are = (same h.id ∙ are.0, served_sam
 
 pub held_same : (before behind : Told) → ((id : ℕ) → behind.served id ≡ before.served id) → (hs : List Held) → AreServed before hs → serving.kept behind hs ≡ hs
 held_same before behind same hs are = all_kept behind hs (served_same before behind same hs are)
-
--- nothing that waits goes back with a stream
-none_dropped : (over : Bool) (n : ℕ) (s : receiving.State) (id : ℕ) → (s.row id).queue ≡ [] → (n + receiving.dropped over s id) ≡ n
-none_dropped true n s id none = ap (λ q. n + total q) none ∙ add-zero n
-none_dropped false n s id none = add-zero n
 
 module _ (setup : Setup) (u : View) (owed : List Frame) (begun : Option Partial) (given : List Opened) (rest : tables.State) (windows : receiving.Kept) (noted : Noted) (table : Table) (new : Book) (called : List Frame) where
   abbrev s : State
@@ -148,16 +160,46 @@ module _ (setup : Setup) (u : View) (owed : List Frame) (begun : Option Partial)
   abbrev desk_then : Desk
   desk_then = record { book = new; queue = rest_of owed ++ called }
 
-  -- octets that wait don't go back, since there are none
-  windows_then : ((id : ℕ) → (windows.row id).queue ≡ []) → (noted.frame.kind == window_update_kind) ≡ false
-      → receiving.kept_of (receiving.after setup.passing (rooms_in (told_by s) s) (given_or_sent (noted.frame.kind == window_update_kind) before (sight_in behind) noted)) ≡ windows
-  windows_then none_wait no_update =
-      ap (λ b. receiving.kept_of (receiving.after setup.passing (rooms_in (told_by s) s) (given_or_sent b before (sight_in behind) noted))) no_update
-      ∙ ap (λ n. record windows { debt = n }) (none_dropped (is_over_by before (sight_in behind) noted.frame.id) windows.debt (rooms_in (told_by s) s) noted.frame.id (none_wait noted.frame.id))
+  abbrev rooms : receiving.State
+  rooms = rooms_in (told_by s) s
 
-  module _ (leads : LeadsTo setup false (book_at u begun given) (Sent noted) new called) (no_update : (noted.frame.kind == window_update_kind) ≡ false) (none_wait : (id : ℕ) → (windows.row id).queue ≡ []) (held : List Held) (held_is : serving.kept (told_in behind) u.upstreams.held ≡ held) where
+  -- the stream is over with it, or isn't
+  abbrev over_is : Bool → Type 0
+  over_is over = is_over_by before (sight_in behind) noted.frame.id ≡ over
+
+  -- octets that waited go back with a stream that is over
+  windows_then : (over : Bool) → over_is over → (noted.frame.kind == window_update_kind) ≡ false → (run : List Move) → Stands setup run s → AreSo setup run → AreMarked setup.passing u.marks rooms
+      → receiving.kept_of (receiving.after setup.passing rooms (given_or_sent (noted.frame.kind == window_update_kind) before (sight_in behind) noted)) ≡ back_if over noted.frame.id u windows
+  windows_then over is no_update run stands so marked =
+      ap (λ b. receiving.kept_of (receiving.after setup.passing rooms (given_or_sent b before (sight_in behind) noted))) no_update
+      ∙ ap (λ n. record windows { debt = n }) (telling.drops u.marks rooms marked.stand (is_over_by before (sight_in behind) noted.frame.id) noted.frame.id was_active)
+      ∙ ap (λ b. record windows { debt = windows.debt + dropped_of b noted.frame.id u.marks }) is
+      ∙ by over
+    where
+      was_active : is_over_by before (sight_in behind) noted.frame.id ≡ true → receiving.is_live rooms noted.frame.id ≡ true
+      was_active gone = live_here setup run s stands so noted.frame.id ∙ (and_parts (before.active noted.frame.id) (not ((sight_in behind).active noted.frame.id)) gone).0
+
+      by : (b : Bool) → record windows { debt = windows.debt + dropped_of b noted.frame.id u.marks } ≡ back_if b noted.frame.id u windows
+      by true = refl
+      by false = ap (λ n. record windows { debt = n }) (add-zero windows.debt)
+
+  -- what is kept of DATA stands for that
+  pub marked_then : (over : Bool) → over_is over → (noted.frame.kind == window_update_kind) ≡ false → AreMarked setup.passing u.marks rooms
+      → AreMarked setup.passing (unless_over over noted.frame.id u.marks) (receiving.after setup.passing rooms (given_or_sent (noted.frame.kind == window_update_kind) before (sight_in behind) noted))
+  marked_then over is no_update marked =
+      subst (λ b. AreMarked setup.passing (unless_over over noted.frame.id u.marks) (receiving.after setup.passing rooms (given_or_sent b before (sight_in behind) noted))) (sym no_update)
+      (subst (λ b. AreMarked setup.passing (unless_over over noted.frame.id u.marks) (receiving.with_sent rooms noted b)) (sym is) (marked_sent setup.passing u.marks rooms marked noted over))
+
+  module _ (leads : LeadsTo setup false (book_at u begun given) (Sent noted) new called) (no_update : (noted.frame.kind == window_update_kind) ≡ false) (over : Bool) (gone : over_is over) (run : List Move) (stands : Stands setup run s) (so : AreSo setup run) (marked : AreMarked setup.passing u.marks rooms) (held : List Held) (held_is : serving.kept (told_in behind) u.upstreams.held ≡ held) where
     desk_is : (d : Deed) → conduct_of d ≡ record { entry = Sent noted; fails = false } → desk_after setup s.desk (conduct_of d) ≡ desk_then
     desk_is d same = ap (desk_after setup s.desk) same ∙ sent_desk setup false s.desk noted new called leads
+
+    -- what is kept of DATA stands for the windows behind either
+    pub marked_behind : (d : Deed) → conduct_of d ≡ record { entry = Sent noted; fails = false } → window_of before (sight_in behind) d ≡ given_or_sent (noted.frame.kind == window_update_kind) before (sight_in behind) noted
+        → AreMarked setup.passing (unless_over over noted.frame.id u.marks) (receiving.after setup.passing rooms (window_of before (sight_in (told_behind setup s d)) d))
+    marked_behind d same as_sent =
+        subst (λ (x : Desk). AreMarked setup.passing (unless_over over noted.frame.id u.marks) (receiving.after setup.passing rooms (window_of before (sight_in (summary_in x.book)) d))) (sym (desk_is d same))
+        (subst (λ (m : receiving.Move). AreMarked setup.passing (unless_over over noted.frame.id u.marks) (receiving.after setup.passing rooms m)) (sym as_sent) (marked_then over gone no_update marked))
 
     -- The state behind a frame that brings no stream an item.
     pub behind_sent : next setup s (Does (Sends noted table)) ≡ record {
@@ -165,12 +207,12 @@ module _ (setup : Setup) (u : View) (owed : List Frame) (begun : Option Partial)
       offers = record u.offers { kept = offering.unless_over (noted.frame.kind == rst_stream_kind) noted.frame.id u.offers.kept };
       requests = upstreams.with_due (record u.upstreams { held = held }) Nothing;
       tables = record rest { decoding = u.inbound.table; lost = false; encoding = tables.encoding_after (completed_in begun noted.frame) table u.encoding };
-      windows = windows;
+      windows = back_if over noted.frame.id u windows;
     }
     behind_sent =
         ap (λ (x : Desk). state_then x (Sends noted table)) (desk_is (Sends noted table) refl)
         ∙ ap (λ (hs : List Held). record (state_then desk_then (Sends noted table)) { requests = upstreams.with_due (record u.upstreams { held = hs }) Nothing }) held_is
-        ∙ ap (λ (w : receiving.Kept). record (state_then desk_then (Sends noted table)) { requests = upstreams.with_due (record u.upstreams { held = held }) Nothing; windows = w }) (windows_then none_wait no_update)
+        ∙ ap (λ (w : receiving.Kept). record (state_then desk_then (Sends noted table)) { requests = upstreams.with_due (record u.upstreams { held = held }) Nothing; windows = w }) (windows_then over gone no_update run stands so marked)
 
     -- That behind one with which a part is complete.
     pub behind_part : (item : Item) (part : Part) → next setup s (Does (Goes noted item part table)) ≡ record {
@@ -178,9 +220,9 @@ module _ (setup : Setup) (u : View) (owed : List Frame) (begun : Option Partial)
       offers = record { kept = offering.unless_over (not (is_active_in noted.frame.id behind)) noted.frame.id (offering.change noted.frame.id (offering.gone part) u.offers.kept); last = noted.frame.id };
       requests = upstreams.with_due (record u.upstreams { held = held }) Nothing;
       tables = record rest { decoding = u.inbound.table; lost = false; encoding = tables.encoding_after (completed_in begun noted.frame) table u.encoding };
-      windows = windows;
+      windows = back_if over noted.frame.id u windows;
     }
     behind_part item part =
         ap (λ (x : Desk). state_then x (Goes noted item part table)) (desk_is (Goes noted item part table) refl)
         ∙ ap (λ (hs : List Held). record (state_then desk_then (Goes noted item part table)) { requests = upstreams.with_due (record u.upstreams { held = hs }) Nothing }) held_is
-        ∙ ap (λ (w : receiving.Kept). record (state_then desk_then (Goes noted item part table)) { requests = upstreams.with_due (record u.upstreams { held = held }) Nothing; windows = w }) (windows_then none_wait no_update)
+        ∙ ap (λ (w : receiving.Kept). record (state_then desk_then (Goes noted item part table)) { requests = upstreams.with_due (record u.upstreams { held = held }) Nothing; windows = w }) (windows_then over gone no_update run stands so marked)

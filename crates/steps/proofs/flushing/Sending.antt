@@ -45,13 +45,16 @@ use Rattle.offers.specs.Asked.{windows_over}
 use Rattle.outputs.specs.Blocks.{IsFragment}
 use Rattle.outputs.proofs.Going as sending
 use Rattle.upstreams.specs.Kept as upstreams
-use Rattle.policy.specs.Moves.{told_in, Move}
+use Rattle.policy.specs.Moves.{told_in, window_of, Move}
 use Rattle.policy.specs.Moves.Deed.{Sends, Goes}
 use Rattle.policy.specs.Moves.Move.{Does}
 use Rattle.policy.specs.State.{State}
+use Rattle.policy.specs.Rule.{rooms_in}
 use Rattle.policy.specs.Steps.{told_by, told_behind, next, MayGoOn}
 use Rattle.policy.proofs.Going.{may_pay}
-use Rattle.relay.specs.View.{View, square, GoBack, IsCredited}
+use Rattle.offering.specs.Sight.{sight_in}
+use Rattle.marks_kept.specs.Sides.{unless_over}
+use Rattle.relay.specs.View.{View, Pending, square, GoBack, waiting_for, IsCredited, AreMarked}
 use Rattle.relay.specs.Rest.{NoneCut}
 use Rattle.relay.specs.Passing.{MayPass, PartGoes}
 use Rattle.relay.proofs.Kept.{AreServed, held_behind}
@@ -59,8 +62,12 @@ use Rattle.relay.proofs.Passing.{part_goes_on, fragment_goes_on}
 use Rattle.relay.proofs.Staying.{rows_kept, all_held_served}
 use Rattle.steps.specs.flushing.Changes.{part_gone, let_go, unless_active, reset_gone}
 use Rattle.steps.proofs.flushing.Rows.{found_other, found_own, over_told, active_other, active_own, not_flip}
-use Rattle.steps.proofs.flushing.Placed.{book_at, state_at, At, held_same, behind_sent, behind_part}
+use Rattle.steps.proofs.flushing.Placed.{book_at, state_at, back_on, back_if, At, held_same, marked_behind, behind_sent, behind_part}
 use Rattle.steps.proofs.flushing.Paths.{Path, sends_path, part_path}
+
+stays_active : (b : Bool) → (b && not b) ≡ false
+stays_active true = refl
+stays_active false = refl
 
 -- ---- what holds of a stream whose part goes
 
@@ -173,15 +180,16 @@ module _ (setup : Setup) (run : List Move) (u : View) (begun : Option Partial) (
 
       fragment_next : next setup s (Does (Sends (noted_of frame) table)) ≡ state_at v [] (Some more.0) given rest windows
       fragment_next =
-          behind_sent setup u [] begun given rest windows (noted_of frame) table (book_at v (Some more.0) given) [] leads is.no_update at.credited.none_wait u.upstreams.held (held_same (told_in (told_by s)) (told_in (summary_in (book_at v (Some more.0) given))) (λ id. refl) u.upstreams.held served)
+          behind_sent setup u [] begun given rest windows (noted_of frame) table (book_at v (Some more.0) given) [] leads is.no_update false (stays_active (is_active u.inbound.rows frame.id)) run at.stands at.so at.marked u.upstreams.held (held_same (told_in (told_by s)) (told_in (summary_in (book_at v (Some more.0) given))) (λ id. refl) u.upstreams.held served)
           ∙ ap (λ b. record (state_at v [] (Some more.0) given rest windows) { offers = record u.offers { kept = offering.unless_over b frame.id u.offers.kept }; tables = record rest { decoding = u.inbound.table; lost = false; encoding = tables.encoding_after (completed_in begun frame) table u.encoding } }) is.no_reset
           ∙ ap (λ (b : Option Partial). record (state_at v [] (Some more.0) given rest windows) { tables = record rest { decoding = u.inbound.table; lost = false; encoding = tables.encoding_after b table u.encoding } }) goes
 
       -- A fragment goes with which the block isn't complete.
-      pub fragment_path : (outputs : List Output) → Path setup run u [] begun outputs v [] (begun_after begun frame) (put outputs (ToClient (spell frame))) given rest windows
+      pub fragment_path : (outputs : List Output) → Path setup run u [] begun outputs v [] (begun_after begun frame) (put outputs (ToClient (spell frame))) given rest windows windows
       fragment_path outputs =
-          subst (λ (b : Option Partial). Path setup run u [] begun outputs v [] b (put outputs (ToClient (spell frame))) given rest windows) (sym (ap (λ x. if x then None else joined begun frame) unended ∙ more.1))
-          (sends_path setup given rest windows run u [] begun at v [] (Some more.0) outputs refl at.credited (noted_of frame) table is.fits fragment_may fragment_next)
+          subst (λ (b : Option Partial). Path setup run u [] begun outputs v [] b (put outputs (ToClient (spell frame))) given rest windows windows) (sym (ap (λ x. if x then None else joined begun frame) unended ∙ more.1))
+          (sends_path setup given rest windows run u [] begun at v [] (Some more.0) outputs refl false frame.id refl at.credited (noted_of frame) table is.fits fragment_may fragment_next
+          (marked_behind setup u [] begun given rest windows (noted_of frame) table (book_at v (Some more.0) given) [] leads is.no_update false (stays_active (is_active u.inbound.rows frame.id)) run at.stands at.so at.marked u.upstreams.held (held_same (told_in (told_by s)) (told_in (summary_in (book_at v (Some more.0) given))) (λ id. refl) u.upstreams.held served) (Sends (noted_of frame) table) refl refl))
 
 -- ---- octets go back on the same streams
 
@@ -203,14 +211,8 @@ module _ (inbound : Inbound) (window : ℤ) (id : ℕ) (slot : Slot) (active : i
         }
   ]
 
-  pub credited_still : (windows : receiving.Kept) → IsCredited square inbound windows → IsCredited square behind windows
-  credited_still windows c = record {
-    fresh = c.fresh;
-    shared = c.shared;
-    own = λ goes. c.own (back inbound.last goes);
-    others = λ other apart goes. c.others other apart (back other goes);
-    none_wait = c.none_wait;
-  }
+  pub credited_still : (pending : Pending) (windows : receiving.Kept) → IsCredited pending inbound windows → IsCredited pending behind windows
+  credited_still pending windows c = record { fresh = c.fresh; shared = c.shared; own = λ other goes. c.own other (back other goes) }
 
 -- ---- a part is complete
 
@@ -273,27 +275,42 @@ module _ (setup : Setup) (run : List Move) (u : View) (begun : Option Partial) (
     may_go : MayGoOn setup state (Does (Goes noted item part table))
     may_go = part_goes_on setup state noted item part table refl goes
 
-    credited_then : IsCredited square gone.inbound windows
-    credited_then = credited_still u.inbound window id (slot_of k) active client_still windows at.credited
+    credited_then : IsCredited (record square { shared = windows.debt }) gone.inbound windows
+    credited_then = credited_still u.inbound window id (slot_of k) active client_still (record square { shared = windows.debt }) windows at.credited
+
+    credited_over : IsCredited (record square { shared = (back_on (waiting_for id u) windows).debt }) gone.inbound (back_on (waiting_for id u) windows)
+    credited_over = record { fresh = credited_then.fresh; shared = refl; own = credited_then.own }
+
+    over_then : (b : Bool) → is_active gone.inbound.rows id ≡ b → (is_active u.inbound.rows id && not (is_active gone.inbound.rows id)) ≡ not b
+    over_then b is = ap (λ x. x && not (is_active gone.inbound.rows id)) active ∙ ap not is
 
     -- A part goes: behind it the stream is kept while it is active.
-    pub whole_path : (outputs : List Output) → Path setup run u [] begun outputs (unless_active id gone) called None (put outputs (ToClient (spell noted.frame))) given rest windows
+    pub whole_path : (outputs : List Output) → Path setup run u [] begun outputs (unless_active id gone) called None (put outputs (ToClient (spell noted.frame))) given rest windows (back_if (not (is_active gone.inbound.rows id)) id u windows)
     whole_path outputs = by (is_active gone.inbound.rows id) refl
       where
-        step : (b : Bool) → is_active gone.inbound.rows id ≡ b → (held : List Held) → serving.kept told_then u.upstreams.held ≡ held
-            → next setup state (Does (Goes noted item part table)) ≡ record (state_at gone called None given rest windows) { offers = record { kept = offering.unless_over (not b) id (offering.change id (offering.gone part) u.offers.kept); last = id }; requests = upstreams.with_due (record u.upstreams { held = held }) serving.Due.Nothing }
-        step b is held same =
-            behind_part setup u [] begun given rest windows noted table (book_at gone None given) called leads no_update at.credited.none_wait held same item part
-            ∙ ap (λ x. record (state_at gone called None given rest windows) { offers = record { kept = offering.unless_over (not x) id (offering.change id (offering.gone part) u.offers.kept); last = id }; requests = upstreams.with_due (record u.upstreams { held = held }) serving.Due.Nothing; tables = record rest { decoding = u.inbound.table; lost = false; encoding = tables.encoding_after (completed_in begun noted.frame) table u.encoding } }) is
-            ∙ ap (λ (e : Encoding). record (state_at gone called None given rest windows) { offers = record { kept = offering.unless_over (not b) id (offering.change id (offering.gone part) u.offers.kept); last = id }; requests = upstreams.with_due (record u.upstreams { held = held }) serving.Due.Nothing; tables = record rest { decoding = u.inbound.table; lost = false; encoding = e } }) encoded
+        gone_held : is_active gone.inbound.rows id ≡ false → serving.kept told_then u.upstreams.held ≡ serving.without id_of id u.upstreams.held
+        gone_held is = held_behind told told_then id others_same u.upstreams.held served_here ∙ ap (λ b. if b && is_none (find gone.inbound.rows id).brief.cause then u.upstreams.held else serving.without id_of id u.upstreams.held) is
 
-        by : (b : Bool) → is_active gone.inbound.rows id ≡ b → Path setup run u [] begun outputs (if b then gone else let_go id gone) called None (put outputs (ToClient (spell noted.frame))) given rest windows
+        step : (b : Bool) → is_active gone.inbound.rows id ≡ b → (held : List Held) → serving.kept told_then u.upstreams.held ≡ held
+            → next setup state (Does (Goes noted item part table)) ≡ record (state_at gone called None given rest (back_if (not b) id u windows)) { offers = record { kept = offering.unless_over (not b) id (offering.change id (offering.gone part) u.offers.kept); last = id }; requests = upstreams.with_due (record u.upstreams { held = held }) serving.Due.Nothing }
+        step b is held same =
+            behind_part setup u [] begun given rest windows noted table (book_at gone None given) called leads no_update (not b) (over_then b is) run at.stands at.so at.marked held same item part
+            ∙ ap (λ x. record (state_at gone called None given rest (back_if (not b) id u windows)) { offers = record { kept = offering.unless_over (not x) id (offering.change id (offering.gone part) u.offers.kept); last = id }; requests = upstreams.with_due (record u.upstreams { held = held }) serving.Due.Nothing; tables = record rest { decoding = u.inbound.table; lost = false; encoding = tables.encoding_after (completed_in begun noted.frame) table u.encoding } }) is
+            ∙ ap (λ (e : Encoding). record (state_at gone called None given rest (back_if (not b) id u windows)) { offers = record { kept = offering.unless_over (not b) id (offering.change id (offering.gone part) u.offers.kept); last = id }; requests = upstreams.with_due (record u.upstreams { held = held }) serving.Due.Nothing; tables = record rest { decoding = u.inbound.table; lost = false; encoding = e } }) encoded
+
+        marked_now : (b : Bool) → is_active gone.inbound.rows id ≡ b → (held : List Held) → serving.kept told_then u.upstreams.held ≡ held
+            → AreMarked setup.passing (unless_over (not b) id u.marks) (receiving.after setup.passing (rooms_in (told_by state) state) (window_of (sight_in (told_by state)) (sight_in (told_behind setup state (Goes noted item part table))) (Goes noted item part table)))
+        marked_now b is held same =
+            marked_behind setup u [] begun given rest windows noted table (book_at gone None given) called leads no_update (not b) (over_then b is) run at.stands at.so at.marked held same (Goes noted item part table) refl refl
+
+        by : (b : Bool) → is_active gone.inbound.rows id ≡ b → Path setup run u [] begun outputs (if b then gone else let_go id gone) called None (put outputs (ToClient (spell noted.frame))) given rest windows (back_if (not b) id u windows)
         by true is =
-            part_path setup given rest windows run u [] begun at gone called None outputs refl credited_then noted item part table fits may_go
+            part_path setup given rest windows run u [] begun at gone called None outputs refl false id refl credited_then noted item part table fits may_go
             (step true is u.upstreams.held (held_same told told_then (same_served is) u.upstreams.held served_here))
+            (marked_now true is u.upstreams.held (held_same told told_then (same_served is) u.upstreams.held served_here))
         by false is =
-            part_path setup given rest windows run u [] begun at (let_go id gone) called None outputs refl credited_then noted item part table fits may_go
-            (step false is (serving.without id_of id u.upstreams.held) (held_behind told told_then id others_same u.upstreams.held served_here ∙ ap (λ b. if b && is_none (find gone.inbound.rows id).brief.cause then u.upstreams.held else serving.without id_of id u.upstreams.held) is))
+            part_path setup given rest windows run u [] begun at (let_go id gone) called None outputs refl true id refl credited_over noted item part table fits may_go
+            (step false is (serving.without id_of id u.upstreams.held) (gone_held is)) (marked_now false is (serving.without id_of id u.upstreams.held) (gone_held is))
 
 -- ---- a reset that is owed
 
@@ -334,18 +351,25 @@ module _ (setup : Setup) (run : List Move) (u : View) (id code : ℕ) (given : L
   not_active : is_active cut.inbound.rows id ≡ false
   not_active = active_own id (Over true) u.inbound.rows reset_there
 
-  reset_next : next setup before_reset (Does (Sends reset_noted encoding_table)) ≡ state_at (let_go id cut) [] None given rest windows
+  over_now : (is_active u.inbound.rows id && not (is_active cut.inbound.rows id)) ≡ true
+  over_now = ap (λ b. b && not (is_active cut.inbound.rows id)) active ∙ ap not not_active
+
+  held_now : serving.kept (told_in (summary_in (book_at cut None given))) u.upstreams.held ≡ serving.without id_of id u.upstreams.held
+  held_now =
+      held_behind (told_in (told_by before_reset)) (told_in (summary_in (book_at cut None given))) id others_as_before u.upstreams.held (all_held_served setup run before_reset at.stands at.so)
+      ∙ ap (λ b. if b && is_none (find cut.inbound.rows id).brief.cause then u.upstreams.held else serving.without id_of id u.upstreams.held) not_active
+
+  reset_next : next setup before_reset (Does (Sends reset_noted encoding_table)) ≡ state_at (let_go id cut) [] None given rest (back_on (waiting_for id u) windows)
   reset_next =
-      behind_sent setup u (rst_stream id code ∷ []) None given rest windows reset_noted encoding_table (book_at cut None given) [] reset_leads_to refl at.credited.none_wait (serving.without id_of id u.upstreams.held)
-      (held_behind (told_in (told_by before_reset)) (told_in (summary_in (book_at cut None given))) id others_as_before u.upstreams.held (all_held_served setup run before_reset at.stands at.so)
-      ∙ ap (λ b. if b && is_none (find cut.inbound.rows id).brief.cause then u.upstreams.held else serving.without id_of id u.upstreams.held) not_active)
+      behind_sent setup u (rst_stream id code ∷ []) None given rest windows reset_noted encoding_table (book_at cut None given) [] reset_leads_to refl true over_now run at.stands at.so at.marked (serving.without id_of id u.upstreams.held) held_now
 
   reset_fits : Fits (rst_stream id code)
   reset_fits = record { kind = omega arith; flags = omega arith; id = small; payload = omega arith }
 
   -- The stream is reset, and over.
-  pub reset_path : (outputs : List Output) → Path setup run u (rst_stream id code ∷ []) None outputs (let_go id cut) [] None (put outputs (ToClient (spell (rst_stream id code)))) given rest windows
+  pub reset_path : (outputs : List Output) → Path setup run u (rst_stream id code ∷ []) None outputs (let_go id cut) [] None (put outputs (ToClient (spell (rst_stream id code)))) given rest windows (back_on (waiting_for id u) windows)
   reset_path outputs =
-      sends_path setup given rest windows run u (rst_stream id code ∷ []) None at (let_go id cut) [] None outputs refl
-      (credited_still u.inbound u.inbound.window id (Over true) active (λ off. absurd (let clash : true ≡ false = off in cc)) windows at.credited)
+      let still = credited_still u.inbound u.inbound.window id (Over true) active (λ off. absurd (let clash : true ≡ false = off in cc)) (record square { shared = windows.debt }) windows at.credited in
+      sends_path setup given rest windows run u (rst_stream id code ∷ []) None at (let_go id cut) [] None outputs refl true id refl (record { fresh = still.fresh; shared = refl; own = still.own })
       reset_noted encoding_table reset_fits reset_may reset_next
+      (marked_behind setup u (rst_stream id code ∷ []) None given rest windows reset_noted encoding_table (book_at cut None given) [] reset_leads_to refl true over_now run at.stands at.so at.marked (serving.without id_of id u.upstreams.held) held_now (Sends reset_noted encoding_table) refl refl)

@@ -1,17 +1,16 @@
 -- A connection that is done with is closed: this performs.
-use Rattle.std.proofs.Common.{◌≡◌, ℕ, suc, false, List, [], ◌∷◌, refl, sym, ◌∙◌, ap, subst, inl}
+use Rattle.std.proofs.Common.{◌≡◌, ℕ, suc, false, List, [], ◌∷◌, map, refl, sym, ◌∙◌, ap, subst, inl}
 use Rattle.model.specs.Logs.{Output}
 use Rattle.model.specs.Logs.Output.{Does as Puts}
 use Rattle.model.specs.Logs.Act.{Close}
 use Rattle.model.specs.Setup.{Setup}
-use Rattle.model.specs.Setup.Passing.{Whole}
 use Rattle.model.specs.Tapes.{put}
 use Rattle.model.specs.Openings.{Opened}
 use Rattle.conduct.specs.Book.{Book, Desk, desk_after, summary_in}
 use Rattle.judgement.specs.Inbound.{book_of}
 use Rattle.judgement.proofs.SendingEvents.{closes_lead, did_desk}
 use Rattle.serving.specs.State as serving
-use Rattle.serving.specs.State.{Held, Live, k_of, live_of, find, without}
+use Rattle.serving.specs.State.{Live, k_of, live_of, find, without, drop_from}
 use Rattle.serving.specs.Rule.{is_done, MayClose}
 use Rattle.upstreams.specs.Kept as upstreams
 use Rattle.upstreams.specs.Connections.{number_of, lives, AreBelow}
@@ -22,19 +21,20 @@ use Rattle.policy.specs.State.{State}
 use Rattle.policy.specs.Steps.{told_by, told_behind, next, MayGoOn}
 use Rattle.policy.proofs.Going.{may_act}
 use Rattle.policy.proofs.Stepping.{one_more}
-use Rattle.relay.specs.View.{View, square, Keeps, Leads}
-use Rattle.relay.specs.Rest.{told_view}
+use Rattle.relay.specs.View.{View, Keeps, AreMarked, Leads}
+use Rattle.relay.specs.Rest.{told_view, back_of}
 use Rattle.relay.specs.Bringing.{PerformsOwn}
 use Rattle.relay.proofs.Lives.{IsDone, lives_closed}
+use Rattle.relay.proofs.Marking.{rooms_next}
 use Rattle.relay.proofs.Staying.{so_stays, heard_stays, heard_of_fewer, rows_kept, found_live, found_before}
-use Rattle.relay.proofs.Ways.{all_wait, all_fall, drop_none, falling_below}
+use Rattle.relay.proofs.Ways.{numbers_fall, falling_below}
 
-module _ (setup : Setup) (whole : setup.passing ≡ Whole) (kept : View) (k : ℕ) (done_is : (top : ℕ) → AreBelow top kept.upstreams.live → IsDone (told_view kept) kept.upstreams.live k) (outputs : List Output) where
+module _ (setup : Setup) (kept : View) (back k : ℕ) (done_is : (top : ℕ) → AreBelow top kept.upstreams.live → IsDone (told_view kept) kept.upstreams.live k) (outputs : List Output) where
   -- what is kept then
   abbrev pub closed_view : View
-  closed_view = record kept { upstreams = record kept.upstreams { live = without number_of k kept.upstreams.live } }
+  closed_view = record kept { upstreams = record kept.upstreams { held = map (drop_from k) kept.upstreams.held; live = without number_of k kept.upstreams.live } }
 
-  module _ (run : List Move) (s : State) (leads : Leads setup run kept square s) where
+  module _ (run : List Move) (s : State) (leads : Leads setup run kept (back_of back) s) where
     abbrev deed : Deed
     deed = Acts (Close k)
 
@@ -45,7 +45,7 @@ module _ (setup : Setup) (whole : setup.passing ≡ Whole) (kept : View) (k : �
     done : IsDone (told_view kept) kept.upstreams.live k
     done =
         done_is (suc s.requests.count)
-        (falling_below (suc s.requests.count) kept.upstreams.live (subst (Rattle.relay.proofs.Ways.AreFalling (suc s.requests.count)) open_ones (all_fall setup whole run s leads.stands)))
+        (falling_below (suc s.requests.count) kept.upstreams.live (subst (Rattle.relay.proofs.Ways.AreFalling (suc s.requests.count)) open_ones (numbers_fall setup run s leads.stands)))
 
     desk : desk_after setup s.desk (conduct_of deed) ≡ s.desk
     desk = did_desk setup false s.desk (Close k) s.desk.book [] (closes_lead setup s.desk.book k (rows_kept setup run s leads.stands))
@@ -76,11 +76,10 @@ module _ (setup : Setup) (whole : setup.passing ≡ Whole) (kept : View) (k : �
 
     requests_kept : then_state.requests ≡ upstreams.with_due closed_view.upstreams serving.Due.Nothing
     requests_kept =
-        ap (λ (hs : List Held). record { held = hs; live = without k_of k s.requests.live; due = s.requests.due; count = s.requests.count }) (drop_none k s.requests.held (all_wait setup whole run s leads.stands))
-        ∙ ap (λ (r : serving.State). record { held = r.held; live = without k_of k r.live; due = r.due; count = r.count }) leads.keeps.requests
-        ∙ ap (λ (ls : List Live). record { held = kept.upstreams.held; live = ls; due = serving.Due.Nothing; count = kept.upstreams.count }) (sym (lives_closed k kept.upstreams.live))
+        ap (λ (r : serving.State). record { held = map (drop_from k) r.held; live = without k_of k r.live; due = r.due; count = r.count }) leads.keeps.requests
+        ∙ ap (λ (ls : List Live). record { held = map (drop_from k) kept.upstreams.held; live = ls; due = serving.Due.Nothing; count = kept.upstreams.count }) (sym (lives_closed k kept.upstreams.live))
 
-    keeps : Keeps closed_view square then_state
+    keeps : Keeps closed_view (back_of back) then_state
     keeps = record {
       book = book_kept;
       owed = ap (λ (d : Desk). d.queue) desk ∙ leads.keeps.owed;
@@ -93,16 +92,18 @@ module _ (setup : Setup) (whole : setup.passing ≡ Whole) (kept : View) (k : �
       counted = λ j c found. leads.keeps.counted j c (found_before k j kept.upstreams.live c found);
     }
 
-    leads_on : Leads setup (Does deed ∷ run) closed_view square then_state
+    leads_on : Leads setup (Does deed ∷ run) closed_view (back_of back) then_state
     leads_on = record {
       stands = one_more setup run s (Does deed) leads.stands may;
       so = so_stays setup run deed tt leads.so;
       heard = heard_of_fewer setup (Does deed ∷ run) kept.upstreams.live k (heard_stays setup run s leads.stands leads.so kept.upstreams.live open_ones deed tt leads.heard);
       keeps = keeps;
+      marked = subst (AreMarked setup.passing kept.marks) (sym (rooms_next setup run s leads.stands leads.so deed may (so_stays setup run deed tt leads.so))) leads.marked;
+      in_effect = tt;
     }
 
   -- A connection that is done with is closed.
-  pub closes : PerformsOwn setup kept square outputs closed_view square (put outputs (Puts (Close k)))
+  pub closes : PerformsOwn setup kept (back_of back) outputs closed_view (back_of back) (put outputs (Puts (Close k)))
   closes run s leads = record {
     segment = record { moves = Does (deed run s leads) ∷ []; state = then_state run s leads; by_rule = (s, refl, may run s leads, refl); leads = leads_on run s leads; puts = refl };
     are_own = tt;

@@ -35,9 +35,10 @@ use Rattle.policy.specs.Rule.{rooms_in}
 use Rattle.policy.specs.Steps.{told_by, told_behind, next, MayGoOn}
 use Rattle.policy.proofs.Going.{may_give}
 use Rattle.policy.proofs.Stepping.{one_more}
-use Rattle.relay.specs.View.{View, Pending, Keeps, Leads, IsCredited}
+use Rattle.relay.specs.View.{View, Pending, Keeps, AreMarked, IsInEffect, Leads, IsCredited}
 use Rattle.relay.specs.Bringing.{PerformsOwn}
 use Rattle.relay.proofs.Kept.{AreServed}
+use Rattle.relay.proofs.Marking.{rooms_next, marked_given}
 use Rattle.relay.proofs.Staying.{so_stays, heard_stays, all_held_served}
 use Rattle.steps.proofs.paying.Held.{all_kept}
 
@@ -145,12 +146,21 @@ module _ (setup : Setup) (kept : View) (inbound : Inbound) (untaken : ℕ) (same
       counted = counted;
     }
 
+    marked : AreMarked setup.passing kept.marks (rooms_in (told_by then_state) then_state)
+    marked =
+        subst (AreMarked setup.passing kept.marks)
+        (sym (rooms_next setup run s leads.stands leads.so deed may (so_stays setup run deed tt leads.so)
+        ∙ ap (λ n. receiving.after setup.passing (rooms_in (told_by s) s) (given_or_sent (n == window_update_kind) (sight_in (told_by s)) (sight_in (told_behind setup s deed)) (noted_of frame))) kind))
+        (marked_given setup.passing kept.marks (rooms_in (told_by s) s) leads.marked (frame.id == 0) (noted_of frame))
+
     leads_on : Leads setup (Does deed ∷ run) given_view pending' then_state
     leads_on = record {
       stands = one_more setup run s (Does deed) leads.stands may;
       so = so_stays setup run deed tt leads.so;
       heard = heard_stays setup run s leads.stands leads.so kept.upstreams.live (ap (λ (r : serving.State). r.live) leads.keeps.requests) deed tt leads.heard;
       keeps = keeps;
+      marked = marked;
+      in_effect = subst (λ (d : serving.Due). IsInEffect d then_state.windows.settled) (sym still_nothing_due) tt;
     }
 
   -- The frame that gives them back is sent.

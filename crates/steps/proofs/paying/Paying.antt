@@ -1,5 +1,5 @@
 -- A control frame that is owed next is sent: this performs.
-use Rattle.std.proofs.Common.{◌≡◌, ℕ, ◌+◌, false, ◌&&◌, ◌||◌, ◌==◌, List, [], ◌∷◌, ◌++◌, append-nil, length, Option, Some, None, Result, Ok, Err, OnOk, refl, sym, ◌∙◌, ap, subst, if◌then◌else◌, arith}
+use Rattle.std.proofs.Common.{◌≡◌, ℕ, ◌+◌, Bool, true, false, not, ◌&&◌, ◌||◌, ◌==◌, List, [], ◌∷◌, ◌++◌, append-nil, length, Option, Some, None, Result, Ok, Err, OnOk, refl, sym, ◌∙◌, ap, subst, if◌then◌else◌, arith}
 use Rattle.model.specs.Frames.{Frame, Fits, spell, continuation_kind, has_flag}
 use Rattle.model.specs.Logs.{Output}
 use Rattle.model.specs.Logs.Output.{ToClient}
@@ -33,14 +33,17 @@ use Rattle.policy.specs.State.{State, gates_in}
 use Rattle.policy.specs.Steps.{told_by, told_behind, next, MayGoOn}
 use Rattle.policy.proofs.Going.{may_pay}
 use Rattle.policy.proofs.Stepping.{one_more}
-use Rattle.relay.specs.View.{View, Pending, Keeps, Leads, IsCredited}
+use Rattle.receiving.specs.Rule.{is_over_by}
+use Rattle.policy.specs.Rule.{rooms_in}
+use Rattle.relay.specs.View.{View, Pending, Keeps, AreMarked, IsInEffect, Leads, IsCredited}
 use Rattle.relay.specs.Bringing.{PerformsOwn}
 use Rattle.steps.proofs.paying.Held.{all_kept}
 use Rattle.relay.proofs.Staying.{so_stays, heard_stays, rows_kept, all_held_served}
 use Rattle.steps.specs.paying.Controls.{frame_of, IsShort}
 use Rattle.steps.specs.declared.paying.control.Control.{Control}
 use Rattle.steps.specs.declared.paying.control.Control.TheVariants as control
-use Rattle.steps.proofs.paying.Windows.{windows_sent}
+use Rattle.relay.proofs.Marking.{rooms_next, marked_sent}
+use Rattle.steps.proofs.paying.Windows.{windows_sent, rooms_sent}
 
 -- it completes no header block
 completes_none : (before : Option Partial) (frame : Frame) → IsControl frame → completed_in before frame ≡ None
@@ -123,13 +126,27 @@ module _ (setup : Setup) (kept : View) (pending : Pending) (rest : List Frame) (
     encoding_kept : then_state.tables.encoding ≡ kept.encoding
     encoding_kept = ap (λ (b : Option Partial). tables.encoding_after b s.tables.encoding.table s.tables.encoding) (completes_none (told_by s).block_out frame control) ∙ leads.keeps.encoding
 
+    -- no stream is over with it
+    none_over : is_over_by (sight_in (told_by s)) (sight_in (told_behind setup s deed)) frame.id ≡ false
+    none_over = ap (λ (u : Summary). is_over_by (sight_in (told_by s)) (sight_in u) frame.id) told ∙ neither ((sight_in (told_by s)).active frame.id)
+      where
+        neither : (b : Bool) → (b && not b) ≡ false
+        neither true = refl
+        neither false = refl
+
     windows_kept : then_state.windows ≡ s.windows
-    windows_kept = windows_sent setup.passing (gates_in (told_by s) s.requests) s.windows (sight_in (told_by s)) (sight_in (told_behind setup s deed)) (noted_of frame) control.no_update leads.keeps.credited.none_wait
+    windows_kept = windows_sent setup.passing (gates_in (told_by s) s.requests) s.windows (sight_in (told_by s)) (sight_in (told_behind setup s deed)) (noted_of frame) control.no_update none_over
+
+    marked : AreMarked setup.passing kept.marks (rooms_in (told_by then_state) then_state)
+    marked =
+        subst (AreMarked setup.passing kept.marks)
+        (sym (rooms_next setup run s leads.stands leads.so deed may (so_stays setup run deed tt leads.so) ∙ rooms_sent setup.passing (rooms_in (told_by s) s) (sight_in (told_by s)) (sight_in (told_behind setup s deed)) (noted_of frame) control.no_update none_over))
+        (marked_sent setup.passing kept.marks (rooms_in (told_by s) s) leads.marked (noted_of frame) false)
 
     credited : IsCredited paid_pending kept.inbound then_state.windows
     credited =
         let was = leads.keeps.credited in
-        subst (λ (w : receiving.Kept). IsCredited paid_pending kept.inbound w) (sym windows_kept) (record { fresh = was.fresh; shared = was.shared; own = was.own; others = was.others; none_wait = was.none_wait })
+        subst (λ (w : receiving.Kept). IsCredited paid_pending kept.inbound w) (sym windows_kept) (record { fresh = was.fresh; shared = was.shared; own = was.own })
 
     counted : (k : ℕ) (c : Connection) → find number_of k kept.upstreams.live ≡ Some c → (then_state.windows.out k ≡ c.out) × (then_state.windows.took k ≡ c.took)
     counted k c found = subst (λ (w : receiving.Kept). (w.out k ≡ c.out) × (w.took k ≡ c.took)) (sym windows_kept) (leads.keeps.counted k c found)
@@ -153,6 +170,8 @@ module _ (setup : Setup) (kept : View) (pending : Pending) (rest : List Frame) (
       so = so_stays setup run deed tt leads.so;
       heard = heard_stays setup run s leads.stands leads.so kept.upstreams.live (ap (λ (r : serving.State). r.live) leads.keeps.requests) deed tt leads.heard;
       keeps = keeps;
+      marked = marked;
+      in_effect = subst (λ (d : serving.Due). IsInEffect d then_state.windows.settled) (sym nothing_due) tt;
     }
 
   -- A frame that is owed is sent, and then it is owed no more.

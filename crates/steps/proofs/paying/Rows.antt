@@ -1,10 +1,11 @@
 -- Rows behind octets that are given back on one stream: nothing but its room changes.
-use Rattle.std.proofs.Common.{◌≡◌, ℕ, Bool, true, false, not, ◌&&◌, ◌||◌, ◌==◌, List, [], ◌∷◌, length, filter, refl, sym, ◌∙◌, ap, inl, inr, if◌then◌else◌}
+use Rattle.std.proofs.Common.{◌≡◌, ℕ, suc, Bool, true, false, not, ◌&&◌, ◌||◌, ◌==◌, List, [], ◌∷◌, length, filter, refl, sym, ◌∙◌, ap, inl, inr, if◌then◌else◌, arith}
 use Rattle.std.specs.Prelude.{is_none}
 use Rattle.std.specs.List.{list_any}
-use Rattle.std.proofs.lemmas.Bool.{and_parts, not-true, ne_eqb}
+use Rattle.std.proofs.lemmas.Bool.{and_parts, not-true, ne_eqb, eqb-true}
 use Rattle.std.proofs.lemmas.Bool.Decides.{eqb_tells}
 use Rattle.model.specs.Lifetimes.{may_open}
+use Rattle.model.specs.StreamStates.{most_streams}
 use Rattle.model.proofs.OpenedLaws.{not_opened}
 use Rattle.conduct.specs.Summary.{Stream as Kept}
 use Rattle.conduct.specs.Judging.{is_over_in}
@@ -15,6 +16,8 @@ use Rattle.streams_kept.specs.Asked.{with_slot, changed, has, is_active}
 use Rattle.streams_kept.specs.Sending.{given_back, is_served}
 use Rattle.streams_kept.proofs.Changes.{same_ids}
 use Rattle.judgement.specs.Sending.{with_kept}
+use Rattle.relay.specs.View.{View}
+use Rattle.relay.specs.Rest.{GoesOn}
 
 -- ---- one row changes
 
@@ -86,3 +89,27 @@ not_to_open ids id there = by (may_open ids id) refl
     by : (b : Bool) → may_open ids id ≡ b → may_open ids id ≡ false
     by true may = absurd (let no : false ≡ true = sym (not_opened ids id may) ∙ there in cc)
     by false none = none
+
+-- where a test passes one, some are left
+some_left : (test : ℕ → Bool) (ids : List ℕ) (id : ℕ) → list_any (λ other. other == id) ids ≡ true → test id ≡ true → (length (filter test ids) == 0) ≡ false
+some_left test [] id there passes = absurd (let no : false ≡ true = there in cc)
+some_left test (x ∷ ids) id there passes = by (x == id) refl (test x) refl there (λ rest. some_left test ids id rest passes)
+  where
+    above : (xs : List ℕ) → (length (x ∷ xs) == 0) ≡ false
+    above xs = ne_eqb (length (x ∷ xs)) 0 (λ same. let none : suc (length xs) ≡ 0 = same in omega (arith, none))
+
+    by : (own : Bool) → (x == id) ≡ own → (b : Bool) → test x ≡ b → (own || list_any (λ other. other == id) ids) ≡ true → (list_any (λ other. other == id) ids ≡ true → (length (filter test ids) == 0) ≡ false) → (length (filter test (x ∷ ids)) == 0) ≡ false
+    by own is true keeps there more = ap (λ b. length (if b then x ∷ filter test ids else filter test ids) == 0) keeps ∙ above (filter test ids)
+    by true is false fails there more = absurd (let clash : true ≡ false = sym passes ∙ ap test (sym (eqb-true x id is)) ∙ fails in cc)
+    by false is false fails there more = ap (λ b. length (if b then x ∷ filter test ids else filter test ids) == 0) fails ∙ more there
+
+-- While a stream is active the connection isn't to end.
+pub active_goes_on : (kept : View) (id : ℕ) → is_active kept.inbound.rows id ≡ true → GoesOn kept
+active_goes_on kept id live =
+    let parts = and_parts (has kept.inbound.rows id) (not (is_over_in (find kept.inbound.rows id))) live in
+    ap (λ b. (length (ids_of kept.inbound.rows) == most_streams) && b) (some_left (λ n. not (is_over_in (find kept.inbound.rows n))) (ids_of kept.inbound.rows) id parts.0 parts.1)
+    ∙ none (length (ids_of kept.inbound.rows) == most_streams)
+  where
+    none : (b : Bool) → (b && false) ≡ false
+    none true = refl
+    none false = refl

@@ -1,57 +1,71 @@
 -- What is done where the effect of the last frame is over, put together.
-use Rattle.std.proofs.Common.{◌≡◌, ℕ, ◌<◌, ◌≤◌, true, false, not, List, sym, ◌∙◌, subst, arith}
+use Rattle.std.proofs.Common.{◌≡◌, ℕ, ◌+◌, ◌<◌, true, false, not, List, sym, ◌∙◌, subst, arith}
 use Rattle.std.proofs.lemmas.Bool.{and_parts}
 use Rattle.model.specs.Frames.{spell}
 use Rattle.model.specs.Logs.{Output}
 use Rattle.model.specs.Logs.Output.{ToClient}
 use Rattle.model.specs.Setup.{Setup}
-use Rattle.model.specs.Setup.Passing.{Whole}
 use Rattle.model.specs.StreamStates.{most_streams}
 use Rattle.model.specs.Tapes.{put}
 use Rattle.conduct.specs.Rows.{find}
 use Rattle.conduct.specs.Judging.{is_over_in}
 use Rattle.outputs.specs.Sent.{window_update}
 use Rattle.streams_kept.specs.Asked.{has, is_active}
+use Rattle.marks_kept.specs.Sides.{has_untaken}
 use Rattle.relay.specs.View.{View, square}
 use Rattle.relay.specs.Rest.{GoesOn}
 use Rattle.relay.specs.Bringing.{PerformsOwn}
 use Rattle.relay.proofs.Bringing.{own_none, own_then}
-use Rattle.steps.specs.paying.Returning.{goes_back_on, given_on_connection, given_on_stream}
+use Rattle.steps.specs.paying.Returning.{own_of, goes_back_on, given_on_connection, given_on_stream}
 use Rattle.steps.proofs.paying.Rows.{has_stays, spent_stays}
 use Rattle.steps.proofs.paying.Settling.{fresh, due_back, due_on_stream, settles, forgets, gives_shared, gives_own}
 use Rattle.steps.proofs.paying.Fitting.{of_stream}
 
--- Without octets nothing goes back.
-pub none_back : (setup : Setup) (kept : View) (count : ℕ) (outputs : List Output) → count ≡ 0 → PerformsOwn setup kept (fresh count) outputs kept square outputs
-none_back setup kept count outputs none = subst (λ n. PerformsOwn setup kept (fresh n) outputs kept square outputs) (sym none) (own_none setup kept square outputs)
+-- Without octets nothing goes back but what is dropped.
+pub none_fresh : (setup : Setup) (kept : View) (count shared : ℕ) (outputs : List Output) → count ≡ 0 → PerformsOwn setup kept (fresh count shared) outputs kept (record square { shared = shared }) outputs
+none_fresh setup kept count shared outputs none = subst (λ n. PerformsOwn setup kept (fresh n shared) outputs kept (record square { shared = shared }) outputs) (sym none) (own_none setup kept (record square { shared = shared }) outputs)
 
-module _ (setup : Setup) (whole : setup.passing ≡ Whole) (kept : View) (count : ℕ) (some : 0 < count) (few : count ≤ 16384) (on : GoesOn kept) (outputs : List Output) where
-  small : count < 2147483648
-  small = omega (arith, few)
+-- Nothing goes back.
+pub none_back : (setup : Setup) (kept : View) (shared : ℕ) (outputs : List Output) → shared ≡ 0 → PerformsOwn setup kept (record square { shared = shared }) outputs kept square outputs
+none_back setup kept shared outputs none = subst (λ n. PerformsOwn setup kept (record square { shared = n }) outputs kept square outputs) (sym none) (own_none setup kept square outputs)
+
+-- What is dropped goes back on the connection.
+pub dropped_back : (setup : Setup) (kept : View) (shared : ℕ) (outputs : List Output) → 0 < shared → shared < 2147483648 → GoesOn kept
+    → PerformsOwn setup kept (record square { shared = shared }) outputs (given_on_connection kept shared) square (put outputs (ToClient (spell (window_update 0 shared))))
+dropped_back setup kept shared outputs some small on = gives_shared setup kept shared (λ id. 0) some small on outputs
+
+module _ (setup : Setup) (kept : View) (count shared all : ℕ) (some : 0 < count) (sum : all ≡ count + shared) (small : all < 2147483648) (on : GoesOn kept) (none : has_untaken kept.inbound.last kept.marks ≡ false) (outputs : List Output) where
+  abbrev id : ℕ
+  id = kept.inbound.last
 
   abbrev first : View
-  first = given_on_connection kept count
+  first = given_on_connection kept all
 
   abbrev first_out : List Output
-  first_out = put outputs (ToClient (spell (window_update 0 count)))
+  first_out = put outputs (ToClient (spell (window_update 0 all)))
 
-  shared_back : PerformsOwn setup kept (fresh count) outputs first (due_on_stream count) first_out
-  shared_back = own_then setup kept kept first (fresh count) (due_back count) (due_on_stream count) outputs outputs first_out (settles setup whole kept count outputs) (gives_shared setup kept count some small on outputs)
+  -- the effect is over, and then they go back on the connection
+  shared_back : PerformsOwn setup kept (fresh count shared) outputs first (due_on_stream id count) first_out
+  shared_back =
+      own_then setup kept kept first (fresh count shared) (due_back id count all) (due_on_stream id count) outputs outputs first_out
+      (subst (λ n. PerformsOwn setup kept (fresh count shared) outputs kept (due_back id count n) outputs) (sym sum) (settles setup kept count shared outputs none))
+      (gives_shared setup kept all (own_of id count) (omega (arith, some, sum)) small on outputs)
 
   -- They go back on the connection alone.
-  pub back_on_connection : goes_back_on kept.inbound.rows kept.inbound.last ≡ false → PerformsOwn setup kept (fresh count) outputs first square first_out
-  back_on_connection over = own_then setup kept first first (fresh count) (due_on_stream count) square outputs first_out first_out shared_back (forgets setup first count first_out over)
+  pub back_on_connection : goes_back_on kept.inbound.rows id ≡ false → PerformsOwn setup kept (fresh count shared) outputs first square first_out
+  back_on_connection over = own_then setup kept first first (fresh count shared) (due_on_stream id count) square outputs first_out first_out shared_back (forgets setup first id count first_out over)
 
   -- They go back on the stream too.
-  pub back_on_both : (id : ℕ) → id ≡ kept.inbound.last → goes_back_on kept.inbound.rows id ≡ true → id < 2147483648
-      → PerformsOwn setup kept (fresh count) outputs (given_on_stream first id count) square (put first_out (ToClient (spell (window_update id count))))
-  back_on_both id last goes in_range = own_then setup kept first (given_on_stream first id count) (fresh count) (due_on_stream count) square outputs first_out (put first_out (ToClient (spell (window_update id count)))) shared_back own
+  pub back_on_both : (stream : ℕ) → stream ≡ id → goes_back_on kept.inbound.rows stream ≡ true → stream < 2147483648
+      → PerformsOwn setup kept (fresh count shared) outputs (given_on_stream first stream count) square (put first_out (ToClient (spell (window_update stream count))))
+  back_on_both stream same goes in_range = own_then setup kept first (given_on_stream first stream count) (fresh count shared) (due_on_stream id count) square outputs first_out (put first_out (ToClient (spell (window_update stream count)))) shared_back own
     where
-      own : PerformsOwn setup first (due_on_stream count) first_out (given_on_stream first id count) square (put first_out (ToClient (spell (window_update id count))))
+      own : PerformsOwn setup first (due_on_stream id count) first_out (given_on_stream first stream count) square (put first_out (ToClient (spell (window_update stream count))))
       own run s leads =
-          gives_own setup first id count last goes in_range
-          (of_stream setup run first (due_on_stream count) s leads id (and_parts (has kept.inbound.rows id) (not (is_over_in (find kept.inbound.rows id))) (and_parts (is_active kept.inbound.rows id) (not (find kept.inbound.rows id).ended_by_client) goes).0).0)
-          some small on first_out run s leads
+          (subst (λ n. PerformsOwn setup first (due_on_stream n count) first_out (given_on_stream first stream count) square (put first_out (ToClient (spell (window_update stream count))))) same
+          (gives_own setup first stream count goes in_range
+          (of_stream setup run first (due_on_stream id count) s leads stream (and_parts (has kept.inbound.rows stream) (not (is_over_in (find kept.inbound.rows stream))) (and_parts (is_active kept.inbound.rows stream) (not (find kept.inbound.rows stream).ended_by_client) goes).0).0)
+          some (omega (arith, small, sum)) on first_out)) run s leads
 
 -- ---- what stays
 

@@ -1,12 +1,12 @@
 -- The effect of the last frame is over, and the octets of DATA that came with it go back, on the connection and on its stream while that goes on.
-use Rattle.std.proofs.Common.{◌≡◌, ℕ, ◌+◌, ◌<◌, Bool, true, false, not, ◌&&◌, ◌||◌, ◌==◌, List, [], ◌∷◌, Some, refl, sym, ◌∙◌, ap, subst, if◌then◌else◌, arith}
-use Rattle.std.specs.Prelude.{pos, ◌+ℤ◌}
-use Rattle.std.proofs.lemmas.Bool.{and_parts, and_from, not-true, eq-eqb, ne_eqb}
+use Rattle.std.proofs.Common.{◌≡◌, ℕ, ◌+◌, ◌<◌, Bool, true, false, not, ◌&&◌, ◌||◌, ◌==◌, List, [], ◌∷◌, Option, Some, None, refl, sym, ◌∙◌, ap, subst, if◌then◌else◌, arith}
+use Rattle.std.specs.Prelude.{nat_lt, pos, ◌+ℤ◌}
+use Rattle.std.proofs.lemmas.Bool.{and_parts, and_from, not-true, eq-eqb, eqb-true}
 use Rattle.model.specs.Frames.{Frame, Fits, spell}
 use Rattle.model.specs.Logs.{Output}
 use Rattle.model.specs.Logs.Output.{ToClient}
 use Rattle.model.specs.Setup.{Setup, Passing}
-use Rattle.model.specs.Setup.Passing.{Whole}
+use Rattle.model.specs.Setup.Passing.{Whole, Streaming}
 use Rattle.model.specs.Tapes.{put}
 use Rattle.conduct.specs.Owing.{must_end_in}
 use Rattle.conduct.specs.Rows as rows
@@ -15,8 +15,12 @@ use Rattle.conduct.specs.Book.{Book, summary_in}
 use Rattle.offering.specs.Sight.{sight_in}
 use Rattle.receiving.specs.Rule.{OwesAll}
 use Rattle.receiving.specs.State as receiving
-use Rattle.receiving.specs.State.{kept_of, with_given, must_wait, settle_by, change, owing, paid, blank}
-use Rattle.serving.specs.State.{Held}
+use Rattle.receiving.specs.State.{kept_of, with_given, must_wait, settle_by, change, owing, paid, waits, is_live}
+use Rattle.receiving.proofs.Counting.{Counting}
+use Rattle.serving.specs.State.{Held, Due}
+use Rattle.marks_kept.specs.Sides.{Side, waiting, has_untaken, has_untaken_if}
+use Rattle.marks_kept.specs.Sides.{find as find_side, change as change_side}
+use Rattle.marks_kept.proofs.Telling.{must_wait_is}
 use Rattle.streams_kept.specs.Asked.{is_active}
 use Rattle.streams_kept.specs.Sending.{given_back}
 use Rattle.judgement.specs.Inbound.{Inbound}
@@ -26,130 +30,218 @@ use Rattle.outputs.specs.Sent.{window_update}
 use Rattle.outputs.proofs.Going.{update_grants, update_goes}
 use Rattle.policy.specs.Moves.{Move, told_in}
 use Rattle.policy.specs.Moves.Move.{Settles}
-use Rattle.policy.specs.State.{State}
+use Rattle.policy.specs.State.{State, tape_of}
 use Rattle.policy.specs.Rule.{rooms_in}
 use Rattle.policy.specs.Steps.{told_by, next}
 use Rattle.policy.proofs.Stepping.{one_more}
-use Rattle.relay.specs.View.{View, Pending, square, GoBack, Keeps, Leads, IsCredited}
+use Rattle.relay.specs.View.{View, Pending, square, GoBack, Keeps, AreMarked, AreSo, Leads, IsCredited}
 use Rattle.relay.specs.Rest.{GoesOn}
 use Rattle.relay.specs.Bringing.{PerformsOwn}
 use Rattle.relay.proofs.Kept.{AreServed}
+use Rattle.relay.proofs.Where.{windows_here}
+use Rattle.relay.proofs.Marking.{rooms_settled, marked_back, marked_waits}
 use Rattle.relay.proofs.Staying.{so_settles, heard_settles, rows_kept}
-use Rattle.steps.specs.paying.Returning.{goes_back_on, given_on_connection, given_on_stream}
+use Rattle.steps.specs.paying.Returning.{own_of, goes_back_on, given_on_connection, given_on_stream}
 use Rattle.steps.proofs.paying.Rows.{stays, active_stays, not_to_open}
 use Rattle.steps.proofs.paying.Giving.{IsGivenBack, gives}
 
--- ---- the effect is over
+-- ---- what is to go back
 
 -- what is to go back when the effect of the last frame isn't over, and when it is
-abbrev pub fresh : ℕ → Pending
-fresh count = record square { fresh = count }
+abbrev pub fresh : ℕ → ℕ → Pending
+fresh count shared = record square { fresh = count; shared = shared }
 
-abbrev pub due_back : ℕ → Pending
-due_back count = record square { shared = count; own = count }
+abbrev pub due_back : ℕ → ℕ → ℕ → Pending
+due_back id count shared = record square { shared = shared; own = own_of id count }
 
 -- what is to go back when the connection has it
-abbrev pub due_on_stream : ℕ → Pending
-due_on_stream count = record square { own = count }
+abbrev pub due_on_stream : ℕ → ℕ → Pending
+due_on_stream id count = record square { own = own_of id count }
 
--- a row that changes or doesn't has no octets that wait, where it had none
-changed_queue : (b : Bool) (f : receiving.Row → receiving.Row) (r : receiving.Row) → ((x : receiving.Row) → (f x).queue ≡ x.queue) → r.queue ≡ [] → (if b then f r else r).queue ≡ []
-changed_queue true f r same none = same r ∙ none
-changed_queue false f r same none = none
+-- ---- the effect is over
 
-module _ (setup : Setup) (whole : setup.passing ≡ Whole) (kept : View) (count : ℕ) (outputs : List Output) (run : List Move) (s : State) (leads : Leads setup run kept (fresh count) s) where
+module _ (setup : Setup) (kept : View) (count shared : ℕ) (run : List Move) (s : State) (leads : Leads setup run kept (fresh count shared) s) where
+  abbrev rooms : receiving.State
+  rooms = rooms_in (told_by s) s
+
+  abbrev stream : ℕ
+  stream = kept.inbound.last
+
   -- the stream of the last frame
-  last : s.desk.book.last ≡ kept.inbound.last
+  last : s.desk.book.last ≡ stream
   last = ap (λ (b : Book). b.last) leads.keeps.book
 
   abbrev then_state : State
   then_state = next setup s Settles
 
-  windows_then : then_state.windows ≡ kept_of (settle_by false (rooms_in (told_by s) s))
-  windows_then = ap (λ (p : Passing). kept_of (settle_by (must_wait p (rooms_in (told_by s) s)) (rooms_in (told_by s) s))) whole
+  -- not all is taken that was put out for it just where that is kept so
+  waits_is : must_wait setup.passing rooms ≡ has_untaken stream kept.marks
+  waits_is = by setup.passing refl
+    where
+      none_kept : setup.passing ≡ Whole → has_untaken stream kept.marks ≡ false
+      none_kept whole = ap (has_untaken stream) (leads.marked.none whole)
 
-  credited_then : IsCredited (due_back count) kept.inbound (kept_of (settle_by false (rooms_in (told_by s) s)))
-  credited_then =
+      streaming : setup.passing ≡ Streaming → (o : Option Side) → find_side rooms.stream kept.marks ≡ o → must_wait Streaming rooms ≡ has_untaken_if o
+      streaming is (Some side) found = must_wait_is kept.marks rooms leads.marked.stand side found ∙ ap has_untaken_if found
+      streaming is None none = nowhere (is_live rooms rooms.stream) refl
+        where
+          counting : Counting (tape_of run) rooms
+          counting = (windows_here setup run s leads.stands leads.so).counting
+
+          nowhere : (live : Bool) → is_live rooms rooms.stream ≡ live → (live && nat_lt (rooms.took (rooms.row rooms.stream).k) (rooms.out (rooms.row rooms.stream).k)) ≡ false
+          nowhere false off = refl
+          nowhere true on =
+              let at_none : (rooms.row rooms.stream).k ≡ 0 = leads.marked.all is rooms.stream on none in
+              ap (λ k. nat_lt (rooms.took k) (rooms.out k)) at_none
+              ∙ ap (λ n. nat_lt n (rooms.out 0)) counting.none_took
+              ∙ ap (nat_lt 0) counting.none_out
+
+      by : (p : Passing) → setup.passing ≡ p → must_wait p rooms ≡ has_untaken stream kept.marks
+      by Whole is = sym (none_kept is)
+      by Streaming is = streaming is (find_side rooms.stream kept.marks) refl ∙ ap (λ n. has_untaken n kept.marks) last
+
+  windows_then : (b : Bool) → has_untaken stream kept.marks ≡ b → then_state.windows ≡ kept_of (settle_by b rooms)
+  windows_then b is = ap (λ x. kept_of (settle_by x rooms)) (waits_is ∙ is)
+
+  so_then : AreSo setup (Settles ∷ run)
+  so_then = so_settles setup run leads.so
+
+  rooms_then : (b : Bool) → has_untaken stream kept.marks ≡ b → rooms_in (told_by then_state) then_state ≡ settle_by b rooms
+  rooms_then b is = rooms_settled setup run s leads.stands leads.so so_then ∙ ap (λ x. settle_by x rooms) (waits_is ∙ is)
+
+  -- where they go back
+
+  credited_back : IsCredited (due_back stream count (count + shared)) kept.inbound (kept_of (settle_by false rooms))
+  credited_back =
       let was = leads.keeps.credited in
       let fresh_is = was.fresh in
       let shared_is = was.shared in
       record {
         fresh = refl;
         shared = omega (arith, fresh_is, shared_is);
-        own = λ goes.
-            let own_is = was.own goes in
-            ap (λ b. (if b then owing s.windows.count (s.windows.row kept.inbound.last) else s.windows.row kept.inbound.last).debt) (eq-eqb s.desk.book.last kept.inbound.last last)
-            ∙ (let sum : (s.windows.row kept.inbound.last).debt + s.windows.count ≡ count = omega (arith, own_is, fresh_is) in sum);
-        others = λ id apart goes.
-            ap (λ b. (if b then owing s.windows.count (s.windows.row id) else s.windows.row id).debt) (ne_eqb s.desk.book.last id (λ same. apart (sym same ∙ last)))
-            ∙ was.others id apart goes;
-        none_wait = λ id. changed_queue (s.desk.book.last == id) (owing s.windows.count) (s.windows.row id) (λ x. refl) (was.none_wait id);
+        own = λ id goes. by id goes (s.desk.book.last == id) refl;
       }
+    where
+      by : (id : ℕ) → GoBack kept.inbound id → (b : Bool) → (s.desk.book.last == id) ≡ b → (change s.desk.book.last (owing s.windows.count) s.windows.row id).debt ≡ own_of stream count id
+      by id goes true is =
+          let own_is = leads.keeps.credited.own id goes in
+          let fresh_is = leads.keeps.credited.fresh in
+          ap (λ b. (if b then owing s.windows.count (s.windows.row id) else s.windows.row id).debt) is
+          ∙ (let sum : (s.windows.row id).debt + s.windows.count ≡ count = omega (arith, own_is, fresh_is) in sum)
+          ∙ sym (ap (λ b. if b then count else 0) (ap (λ n. n == id) (sym last) ∙ is))
+      by id goes false is =
+          ap (λ b. (if b then owing s.windows.count (s.windows.row id) else s.windows.row id).debt) is
+          ∙ leads.keeps.credited.own id goes
+          ∙ sym (ap (λ b. if b then count else 0) (ap (λ n. n == id) (sym last) ∙ is))
 
-  counted_then : (k : ℕ) (c : Rattle.upstreams.specs.Connections.Connection) → Rattle.serving.specs.State.find Rattle.upstreams.specs.Connections.number_of k kept.upstreams.live ≡ Some c → (then_state.windows.out k ≡ c.out) × (then_state.windows.took k ≡ c.took)
-  counted_then k c found =
-      let so = leads.keeps.counted k c found in (
-        ap (λ (w : receiving.Kept). w.out k) windows_then ∙ so.0,
-        ap (λ (w : receiving.Kept). w.took k) windows_then ∙ so.1,
-      )
+  -- where they wait
 
-  settled_keeps : Keeps kept (due_back count) then_state
-  settled_keeps = record {
+  credited_waits : IsCredited (record square { shared = shared }) kept.inbound (kept_of (settle_by true rooms))
+  credited_waits = record {
+    fresh = refl;
+    shared = leads.keeps.credited.shared;
+    own = λ id goes. by (s.desk.book.last == id) (s.windows.row id) (leads.keeps.credited.own id goes);
+  }
+    where
+      by : (b : Bool) (r : receiving.Row) → r.debt ≡ 0 → (if b then waits (s.windows.out (s.windows.row s.desk.book.last).k) s.windows.count r else r).debt ≡ 0
+      by true r none = none
+      by false r none = none
+
+  keeps_then : (sides : List Side) (pending : Pending) → pending.owed ≡ [] → pending.due ≡ Due.Nothing → (b : Bool) → has_untaken stream kept.marks ≡ b → IsCredited pending kept.inbound (kept_of (settle_by b rooms)) → Keeps (record kept { marks = sides }) pending then_state
+  keeps_then sides pending nothing nothing_due b is credited = record {
     book = leads.keeps.book;
-    owed = leads.keeps.owed;
+    owed = leads.keeps.owed ∙ sym nothing;
     offers = leads.keeps.offers;
-    requests = leads.keeps.requests;
+    requests = leads.keeps.requests ∙ ap (λ (d : Due). Rattle.upstreams.specs.Kept.with_due kept.upstreams d) (sym nothing_due);
     decoding = leads.keeps.decoding;
     encoding = leads.keeps.encoding;
     read = leads.keeps.read;
-    credited = subst (λ (w : receiving.Kept). IsCredited (due_back count) kept.inbound w) (sym windows_then) credited_then;
-    counted = counted_then;
+    credited = subst (λ (w : receiving.Kept). IsCredited pending kept.inbound w) (sym (windows_then b is)) credited;
+    counted = λ k c found.
+        let so = leads.keeps.counted k c found in
+        let same = counts b in (
+          ap (λ (w : receiving.Kept). w.out k) (windows_then b is) ∙ ap (λ (f : ℕ → ℕ). f k) same.0 ∙ so.0,
+          ap (λ (w : receiving.Kept). w.took k) (windows_then b is) ∙ ap (λ (f : ℕ → ℕ). f k) same.1 ∙ so.1,
+        );
   }
+    where
+      counts : (b : Bool) → ((kept_of (settle_by b rooms)).out ≡ s.windows.out) × ((kept_of (settle_by b rooms)).took ≡ s.windows.took)
+      counts true = (refl, refl)
+      counts false = (refl, refl)
 
-  settled_leads : Leads setup (Settles ∷ run) kept (due_back count) then_state
-  settled_leads = record {
+  settled_back : has_untaken stream kept.marks ≡ false → Leads setup (Settles ∷ run) kept (due_back stream count (count + shared)) then_state
+  settled_back none = record {
     stands = one_more setup run s Settles leads.stands tt;
-    so = so_settles setup run leads.so;
+    so = so_then;
     heard = heard_settles setup run kept.upstreams.live leads.heard;
-    keeps = settled_keeps;
+    keeps = keeps_then kept.marks (due_back stream count (count + shared)) refl refl false none credited_back;
+    marked = subst (AreMarked setup.passing kept.marks) (sym (rooms_then false none)) (marked_back setup.passing kept.marks rooms leads.marked);
+    in_effect = tt;
   }
 
--- The effect of the last frame is over: its octets are to go back.
-pub settles : (setup : Setup) → setup.passing ≡ Whole → (kept : View) (count : ℕ) (outputs : List Output) → PerformsOwn setup kept (fresh count) outputs kept (due_back count) outputs
-settles setup whole kept count outputs run s leads = record {
-  segment = record { moves = Settles ∷ []; state = then_state setup whole kept count outputs run s leads; by_rule = (s, refl, tt, refl); leads = settled_leads setup whole kept count outputs run s leads; puts = refl };
+  -- what is kept where they wait
+  abbrev waiting_view : View
+  waiting_view = record kept { marks = change_side stream (waiting count) kept.marks }
+
+  settled_waits : has_untaken stream kept.marks ≡ true → Leads setup (Settles ∷ run) waiting_view (record square { shared = shared }) then_state
+  settled_waits some = record {
+    stands = one_more setup run s Settles leads.stands tt;
+    so = so_then;
+    heard = heard_settles setup run kept.upstreams.live leads.heard;
+    keeps = keeps_then (change_side stream (waiting count) kept.marks) (record square { shared = shared }) refl refl true some credited_waits;
+    marked =
+        subst (AreMarked setup.passing (change_side stream (waiting count) kept.marks)) (sym (rooms_then true some))
+        (subst (λ n. AreMarked setup.passing (change_side stream (waiting n) kept.marks) (settle_by true rooms)) leads.keeps.credited.fresh
+        (subst (λ n. AreMarked setup.passing (change_side n (waiting rooms.count) kept.marks) (settle_by true rooms)) last
+        (by (find_side rooms.stream kept.marks) refl)));
+    in_effect = tt;
+  }
+    where
+      by : (o : Option Side) → find_side rooms.stream kept.marks ≡ o → AreMarked setup.passing (change_side rooms.stream (waiting rooms.count) kept.marks) (settle_by true rooms)
+      by (Some side) found = marked_waits setup.passing kept.marks rooms leads.marked side found
+      by None none = absurd (let no : true ≡ false = sym some ∙ ap (λ n. has_untaken n kept.marks) (sym last) ∙ ap has_untaken_if none in cc)
+
+-- The effect of the last frame is over: its octets are to go back, where all is taken that was put out for its stream.
+pub settles : (setup : Setup) (kept : View) (count shared : ℕ) (outputs : List Output) → has_untaken kept.inbound.last kept.marks ≡ false → PerformsOwn setup kept (fresh count shared) outputs kept (due_back kept.inbound.last count (count + shared)) outputs
+settles setup kept count shared outputs none run s leads = record {
+  segment = record { moves = Settles ∷ []; state = then_state setup kept count shared run s leads; by_rule = (s, refl, tt, refl); leads = settled_back setup kept count shared run s leads none; puts = refl };
+  are_own = tt;
+}
+
+-- Else they wait.
+pub defers : (setup : Setup) (kept : View) (count shared : ℕ) (outputs : List Output) → has_untaken kept.inbound.last kept.marks ≡ true
+    → PerformsOwn setup kept (fresh count shared) outputs (record kept { marks = change_side kept.inbound.last (waiting count) kept.marks }) (record square { shared = shared }) outputs
+defers setup kept count shared outputs some run s leads = record {
+  segment = record { moves = Settles ∷ []; state = then_state setup kept count shared run s leads; by_rule = (s, refl, tt, refl); leads = settled_waits setup kept count shared run s leads some; puts = refl };
   are_own = tt;
 }
 
 -- ---- where the stream doesn't go on
 
 -- Nothing goes back on it.
-pub forgets : (setup : Setup) (kept : View) (count : ℕ) (outputs : List Output) → goes_back_on kept.inbound.rows kept.inbound.last ≡ false → PerformsOwn setup kept (due_on_stream count) outputs kept square outputs
-forgets setup kept count outputs over run s leads = record {
-  segment = record { moves = []; state = s; by_rule = refl; leads = record { stands = leads.stands; so = leads.so; heard = leads.heard; keeps = keeps }; puts = refl };
+pub forgets : (setup : Setup) (kept : View) (id count : ℕ) (outputs : List Output) → goes_back_on kept.inbound.rows id ≡ false → PerformsOwn setup kept (due_on_stream id count) outputs kept square outputs
+forgets setup kept id count outputs over run s leads = record {
+  segment = record { moves = []; state = s; by_rule = refl; leads = record { stands = leads.stands; so = leads.so; heard = leads.heard; keeps = keeps; marked = leads.marked; in_effect = tt }; puts = refl };
   are_own = tt;
 }
   where
+    by : (other : ℕ) → GoBack kept.inbound other → (b : Bool) → (id == other) ≡ b → (s.windows.row other).debt ≡ 0
+    by other goes true is =
+        absurd (let no : false ≡ true = sym over ∙ ap (goes_back_on kept.inbound.rows) (eqb-true id other is) ∙ and_from (is_active kept.inbound.rows other) (not (rows.find kept.inbound.rows other).ended_by_client) goes.active (ap not goes.goes_on) in cc)
+    by other goes false is = leads.keeps.credited.own other goes ∙ ap (λ b. if b then count else 0) is
+
     keeps : Keeps kept square s
-    keeps =
-        let was = leads.keeps.credited in
-        record {
-          book = leads.keeps.book;
-          owed = leads.keeps.owed;
-          offers = leads.keeps.offers;
-          requests = leads.keeps.requests;
-          decoding = leads.keeps.decoding;
-          encoding = leads.keeps.encoding;
-          read = leads.keeps.read;
-          credited = record {
-            fresh = was.fresh;
-            shared = was.shared;
-            own = λ goes. absurd (let no : false ≡ true = sym over ∙ and_from (is_active kept.inbound.rows kept.inbound.last) (not (rows.find kept.inbound.rows kept.inbound.last).ended_by_client) goes.active (ap not goes.goes_on) in cc);
-            others = was.others;
-            none_wait = was.none_wait;
-          };
-          counted = leads.keeps.counted;
-        }
+    keeps = record {
+      book = leads.keeps.book;
+      owed = leads.keeps.owed;
+      offers = leads.keeps.offers;
+      requests = leads.keeps.requests;
+      decoding = leads.keeps.decoding;
+      encoding = leads.keeps.encoding;
+      read = leads.keeps.read;
+      credited = record { fresh = leads.keeps.credited.fresh; shared = leads.keeps.credited.shared; own = λ other goes. by other goes (id == other) refl };
+      counted = leads.keeps.counted;
+    }
 
 -- ---- frames that give them back
 
@@ -161,12 +253,19 @@ update_fits id count small = record { kind = omega arith; flags = omega arith; i
 goes_on_told : (setup : Setup) (run : List Move) (kept : View) (pending : Pending) (s : State) → Leads setup run kept pending s → GoesOn kept → must_end_in (told_by s) ≡ false
 goes_on_told setup run kept pending s leads on = ap (λ (b : Book). must_end_in (summary_in b)) leads.keeps.book ∙ on
 
-module _ (setup : Setup) (kept : View) (count : ℕ) (some : 0 < count) (small : count < 2147483648) (on : GoesOn kept) (outputs : List Output) where
+module _ (setup : Setup) (kept : View) (count : ℕ) (own : ℕ → ℕ) (some : 0 < count) (small : count < 2147483648) (on : GoesOn kept) (outputs : List Output) where
+  -- what is to go back, on the connection too and then on streams alone
+  abbrev both : Pending
+  both = record square { shared = count; own = own }
+
+  abbrev streams : Pending
+  streams = record square { own = own }
+
   -- the receiving window of the connection behind it
   abbrev with_room : Inbound
   with_room = record kept.inbound { room = kept.inbound.room +ℤ pos count }
 
-  shared_shown : (run : List Move) (s : State) → Leads setup run kept (due_back count) s → IsGivenBack kept with_room (kept.untaken + 13) (due_on_stream count) (window_update 0 count) setup s
+  shared_shown : (run : List Move) (s : State) → Leads setup run kept both s → IsGivenBack kept with_room (kept.untaken + 13) streams (window_update 0 count) setup s
   shared_shown run s leads = record {
     book = behind_update s.desk.book (window_update 0 count);
     leads_to = update_leads setup s.desk.book (noted_of (window_update 0 count)) (rows_kept setup run s leads.stands) (ap (λ (b : Book). b.block_out) leads.keeps.book) refl refl;
@@ -175,22 +274,22 @@ module _ (setup : Setup) (kept : View) (count : ℕ) (some : 0 < count) (small :
         ∙ ap (λ n. behind_book n) (update_grants 0 count small);
     served = λ hs are. are;
     not_to_open = refl;
-    goes_on = goes_on_told setup run kept (due_back count) s leads on;
+    goes_on = goes_on_told setup run kept both s leads on;
     rightly = update_goes (told_by s) 0 count some small refl;
     owed = update_grants 0 count small ∙ sym leads.keeps.credited.shared;
     credited =
         let was = leads.keeps.credited in
-        record { fresh = was.fresh; shared = refl; own = λ goes. was.own (record { active = goes.active; goes_on = goes.goes_on }); others = λ id apart goes. was.others id apart (record { active = goes.active; goes_on = goes.goes_on }); none_wait = was.none_wait };
+        record { fresh = was.fresh; shared = refl; own = λ id goes. was.own id (record { active = goes.active; goes_on = goes.goes_on }) };
   }
     where
       behind_book : ℕ → Book
       behind_book n = record (Rattle.judgement.specs.Inbound.book_of (record { given = s.desk.book.given; untaken = kept.untaken + 13 }) kept.inbound) { room = kept.inbound.room +ℤ pos n }
 
   -- Octets go back on the connection.
-  pub gives_shared : PerformsOwn setup kept (due_back count) outputs (given_on_connection kept count) (due_on_stream count) (put outputs (ToClient (spell (window_update 0 count))))
-  gives_shared = gives setup kept with_room (kept.untaken + 13) refl (due_back count) (due_on_stream count) refl refl refl refl (window_update 0 count) refl (update_fits 0 count (omega arith)) outputs shared_shown
+  pub gives_shared : PerformsOwn setup kept both outputs (given_on_connection kept count) streams (put outputs (ToClient (spell (window_update 0 count))))
+  gives_shared = gives setup kept with_room (kept.untaken + 13) refl both streams refl refl refl refl (window_update 0 count) refl (update_fits 0 count (omega arith)) outputs shared_shown
 
-module _ (setup : Setup) (kept : View) (id count : ℕ) (last : id ≡ kept.inbound.last) (goes : goes_back_on kept.inbound.rows id ≡ true) (in_range : id < 2147483648) (of_stream : (id == 0) ≡ false) (some : 0 < count) (small : count < 2147483648) (on : GoesOn kept) (outputs : List Output) where
+module _ (setup : Setup) (kept : View) (id count : ℕ) (goes : goes_back_on kept.inbound.rows id ≡ true) (in_range : id < 2147483648) (of_stream : (id == 0) ≡ false) (some : 0 < count) (small : count < 2147483648) (on : GoesOn kept) (outputs : List Output) where
   abbrev frame : Frame
   frame = window_update id count
 
@@ -211,7 +310,7 @@ module _ (setup : Setup) (kept : View) (id count : ℕ) (last : id ≡ kept.inbo
     goes_on = sym (stays kept.inbound.rows id count live (λ k. k.ended_by_client) (λ k. refl) other) ∙ back.goes_on;
   }
 
-  module _ (run : List Move) (s : State) (leads : Leads setup run kept (due_on_stream count) s) where
+  module _ (run : List Move) (s : State) (leads : Leads setup run kept (due_on_stream id count) s) where
     -- what is told of the stream
     told_live : (sight_in (told_by s)).active id ≡ true
     told_live = ap (λ (b : Book). (sight_in (summary_in b)).active id) leads.keeps.book ∙ live
@@ -222,7 +321,7 @@ module _ (setup : Setup) (kept : View) (id count : ℕ) (last : id ≡ kept.inbo
     owed_own : OwesAll (sight_in (told_by s)) (rooms_in (told_by s) s) frame (id == 0)
     owed_own =
         subst (OwesAll (sight_in (told_by s)) (rooms_in (told_by s) s) frame) (sym of_stream)
-        (told_live, told_open, update_grants id count small ∙ sym (leads.keeps.credited.own (subst (GoBack kept.inbound) last (record { active = live; goes_on = open_side }))) ∙ ap (λ n. (s.windows.row n).debt) (sym last))
+        (told_live, told_open, update_grants id count small ∙ sym (ap (λ b. if b then count else 0) (eq-eqb id id refl)) ∙ sym (leads.keeps.credited.own id (record { active = live; goes_on = open_side })))
 
     served_same : (hs : List Held) → AreServed (told_in (told_by s)) hs → AreServed (told_in (summary_in (behind_stream_update s.desk.book frame))) hs
     served_same [] are = tt
@@ -241,12 +340,15 @@ module _ (setup : Setup) (kept : View) (id count : ℕ) (last : id ≡ kept.inbo
         record {
           fresh = was.fresh;
           shared = was.shared;
-          own = λ back. ap (λ b. (if b then paid (s.windows.row kept.inbound.last) else s.windows.row kept.inbound.last).debt) (eq-eqb id kept.inbound.last last);
-          others = λ other apart back.
-              ap (λ b. (if b then paid (s.windows.row other) else s.windows.row other).debt) (ne_eqb id other (λ same. apart (sym same ∙ last)))
-              ∙ was.others other apart (back_before other back);
-          none_wait = λ other. changed_queue (id == other) paid (s.windows.row other) (λ x. refl) (was.none_wait other);
+          own = λ other back. by other back (id == other) refl;
         }
+      where
+        by : (other : ℕ) → GoBack with_row other → (b : Bool) → (id == other) ≡ b → (change id paid s.windows.row other).debt ≡ 0
+        by other back true is = ap (λ b. (if b then paid (s.windows.row other) else s.windows.row other).debt) is
+        by other back false is =
+            ap (λ b. (if b then paid (s.windows.row other) else s.windows.row other).debt) is
+            ∙ leads.keeps.credited.own other (back_before other back)
+            ∙ ap (λ b. if b then count else 0) is
 
     abbrev own_book : ℕ → Book
     own_book n = record (Rattle.judgement.specs.Inbound.book_of (record { given = s.desk.book.given; untaken = kept.untaken + 13 }) kept.inbound) { rows = with_kept id (given_back n (rows.find kept.inbound.rows id)) kept.inbound.rows }
@@ -258,12 +360,12 @@ module _ (setup : Setup) (kept : View) (id count : ℕ) (last : id ≡ kept.inbo
       book_is = ap (λ (b : Book). behind_stream_update b frame) leads.keeps.book ∙ ap own_book (update_grants id count small);
       served = served_same;
       not_to_open = not_to_open (told_by s).opened id (and_parts ((sight_in (told_by s)).opened id) _ told_live).0;
-      goes_on = goes_on_told setup run kept (due_on_stream count) s leads on;
+      goes_on = goes_on_told setup run kept (due_on_stream id count) s leads on;
       rightly = update_goes (told_by s) id count some small (ap (λ b. b || (sight_in (told_by s)).active id && not ((sight_in (told_by s)).ended id)) of_stream ∙ and_from ((sight_in (told_by s)).active id) (not ((sight_in (told_by s)).ended id)) told_live (ap not told_open));
       owed = owed_own;
       credited = subst (λ b. IsCredited square with_row (kept_of (with_given b (rooms_in (told_by s) s) (noted_of frame)))) (sym of_stream) credited_own;
     }
 
-  -- Octets go back on the stream of the last frame.
-  pub gives_own : PerformsOwn setup kept (due_on_stream count) outputs (given_on_stream kept id count) square (put outputs (ToClient (spell frame)))
-  gives_own = gives setup kept with_row (kept.untaken + 13) refl (due_on_stream count) square refl refl refl refl frame refl (update_fits id count in_range) outputs own_shown
+  -- Octets go back on one stream.
+  pub gives_own : PerformsOwn setup kept (due_on_stream id count) outputs (given_on_stream kept id count) square (put outputs (ToClient (spell frame)))
+  gives_own = gives setup kept with_row (kept.untaken + 13) refl (due_on_stream id count) square refl refl refl refl frame refl (update_fits id count in_range) outputs own_shown

@@ -5,7 +5,6 @@ use Rattle.std.specs.Prelude.{is_none, option_map}
 use Rattle.model.specs.Frames.{Frame, Fits, data_kind, rst_stream_kind, window_update_kind, settings_kind, ping_kind, settings_ack, enhance_your_calm, is_ack, content, ends_stream, flow_control_error}
 use Rattle.model.specs.Logs.{Output}
 use Rattle.model.specs.Setup.{Setup}
-use Rattle.model.specs.Setup.Passing.{Whole}
 use Rattle.model.specs.SettingValues.{settings_in, settings_fault, values_of, header_table_size, initial_window_after, SettingsFault, code_of_fault}
 use Rattle.model.specs.Tapes.Note.{NoBlock}
 use Rattle.model.specs.Decoding.{Partial}
@@ -43,12 +42,12 @@ use Rattle.judgement.specs.declared.answers.Judged.{Judged}
 use Rattle.judgement.specs.declared.answers.Judged.TheVariants as judged
 use Rattle.judgement.specs.Sending.{behind_reset}
 use Rattle.judgement.proofs.SendingBooks.{reset_leads}
-use Rattle.upstreams.specs.Requests.{due_in}
+use Rattle.upstreams.specs.Requests.{due_by}
 use Rattle.policy.specs.Moves.{Move}
 use Rattle.policy.specs.State.{State}
 use Rattle.policy.specs.Steps.{told_by}
 use Rattle.policy.specs.Rule.{Adds, added_in}
-use Rattle.relay.specs.View.{View, square, Leads}
+use Rattle.relay.specs.View.{View, square, Leads, waiting_for}
 use Rattle.relay.specs.Rest.{IsAtRest, NoneCut, Reached}
 use Rattle.relay.specs.Bringing.{Brings}
 use Rattle.relay.proofs.Answered.{plain_gain, plain_owes}
@@ -69,7 +68,7 @@ use Rattle.steps.proofs.plain_frames.Coming.{few, kept_rows}
 use Rattle.steps.proofs.plain_frames.Quiet.{quiet, taken_by, passed_over}
 use Rattle.steps.proofs.plain_frames.Ending.{none_cut_without, reset_by_client, refused}
 use Rattle.steps.proofs.plain_frames.Bodies.{is_active_now}
-use Rattle.steps.proofs.plain_frames.Contents.{left_alone, may_end, gathers, finishes}
+use Rattle.steps.proofs.plain_frames.Contents.{left_alone, may_take, content_comes}
 use Rattle.steps.proofs.plain_frames.Replies.{head_same, offered, offered_cuts_none, cut_short}
 
 -- a reset fits to be spelled
@@ -122,7 +121,7 @@ module _ (s : Summary) (frame : Frame) (has : has_settings frame ≡ true) (faul
 
 -- ---- one frame
 
-module _ (setup : Setup) (whole : setup.passing ≡ Whole) (old : View) (rest : IsAtRest old) (setup' : Setup) (reached : Reached setup' old square) (frame : Frame) (plain : IsPlain frame) (small : frame.id < 2147483648) (inbound : Inbound) (table : inbound.table ≡ old.inbound.table) where
+module _ (setup : Setup) (old : View) (rest : IsAtRest old) (setup' : Setup) (reached : Reached setup' old square) (frame : Frame) (plain : IsPlain frame) (small : frame.id < 2147483648) (inbound : Inbound) (table : inbound.table ≡ old.inbound.table) where
   abbrev b : Book
   b = book_of no_outside old.inbound
 
@@ -133,15 +132,17 @@ module _ (setup : Setup) (whole : setup.passing ≡ Whole) (old : View) (rest : 
   kept = kept_rows setup' reached.0 old reached.1 reached.2
 
   -- what is done, in words of the answer that is given
-  finish : (due : Due) (answer : Taken) (outputs new_outputs put_out : List Output) (target new : View) → Goes due answer → new ≡ target → put_out ≡ new_outputs
-      → Brings setup old square outputs (coming frame) target (record square { due = due; fresh = data_length is_any frame }) new_outputs → NoneCut target.offers → IsAbout frame.id old target → ids_of target.inbound.rows ≡ ids_of old.inbound.rows → target.inbound.last ≡ frame.id
+  finish : (due : Due) (back : ℕ) (answer : Taken) (outputs new_outputs put_out : List Output) (target new : View) → Goes due back answer → new ≡ target → put_out ≡ new_outputs
+      → Brings setup old square outputs (coming frame) target (record square { due = due; fresh = data_length is_any frame; shared = back }) new_outputs → NoneCut target.offers → IsAbout frame.id old target → ids_of target.inbound.rows ≡ ids_of old.inbound.rows → target.inbound.last ≡ frame.id
       → IsPlainTaken setup old outputs frame answer new put_out
-  finish due (taken.Fatal code) outputs new_outputs put_out target new goes new_is puts brings none_cut about ids last = absurd goes
-  finish due (taken.Goes request) outputs new_outputs put_out target new goes new_is puts brings none_cut about ids last =
-      subst (λ (v : View). IsPassed setup old outputs frame request v put_out) (sym new_is)
-      (subst (λ (o : List Output). IsPassed setup old outputs frame request target o) (sym puts)
+  finish due back (taken.Fatal code) outputs new_outputs put_out target new goes new_is puts brings none_cut about ids last = absurd goes
+  finish due back (taken.Goes answer dropped) outputs new_outputs put_out target new goes new_is puts brings none_cut about ids last =
+      subst (λ (v : View). IsPassed setup old outputs frame answer dropped v put_out) (sym new_is)
+      (subst (λ (o : List Output). IsPassed setup old outputs frame answer dropped target o) (sym puts)
       (record {
-        brings = subst (λ (d : Due). Brings setup old square outputs (coming frame) target (record square { due = d; fresh = data_length is_any frame }) new_outputs) (sym goes) brings;
+        brings =
+            subst (λ (d : Due). Brings setup old square outputs (coming frame) target (record square { due = d; fresh = data_length is_any frame; shared = dropped }) new_outputs) (sym goes.0)
+            (subst (λ n. Brings setup old square outputs (coming frame) target (record square { due = due; fresh = data_length is_any frame; shared = n }) new_outputs) (sym goes.1) brings);
         none_cut = none_cut;
         about = about;
         ids = ids;
@@ -166,7 +167,7 @@ module _ (setup : Setup) (whole : setup.passing ≡ Whole) (old : View) (rest : 
 
   fatal_so : (code : ℕ) (answer : Taken) (outputs put_out : List Output) (new : View) → ((outside : Outside) → IsJudged setup (book_of outside old.inbound) frame (book_of outside inbound) (judged.Failed (fault.Connection code)))
       → Ends code answer → new ≡ mid → put_out ≡ outputs → IsPlainTaken setup old outputs frame answer new put_out
-  fatal_so code (taken.Goes request) outputs put_out new failed ends new_is puts = absurd ends
+  fatal_so code (taken.Goes answer dropped) outputs put_out new failed ends new_is puts = absurd ends
   fatal_so code (taken.Fatal told) outputs put_out new failed ends new_is puts = record {
     nothing_put = puts;
     upstreams = ap (λ (v : View). v.upstreams) new_is;
@@ -191,7 +192,7 @@ module _ (setup : Setup) (whole : setup.passing ≡ Whole) (old : View) (rest : 
       → ((outside : Outside) → owes_in setup false (told_of outside old.inbound) (coming frame) ≡ []) → ((run : List Move) (s : State) → Leads setup run old square s → added_in setup (told_by s) (noted_of frame) ≡ [])
       → (given : Taken) (outputs put_out : List Output) (new : View) → IsLeft mid outputs given new put_out → IsPlainTaken setup old outputs frame given new put_out
   quiet_so answer taken kind is no_data no_reset no_settings owes adds given outputs put_out new left =
-      finish Nothing given outputs outputs put_out mid new left.goes left.kept left.puts
+      finish Nothing 0 given outputs outputs put_out mid new left.goes left.kept left.puts
       (quiet setup old rest frame plain inbound table answer taken (ap (λ k. k == data_kind) is ∙ no_data) (ap (λ k. k == rst_stream_kind) is ∙ no_reset) [] old.encoding owes
       (λ outside. names_none (told_of outside old.inbound) frame (ap (λ k. has_settings (record frame { kind = k })) is ∙ no_settings) old.encoding) adds outputs)
       rest.none_cut (about_left (taken no_outside).left (ap is_fatal (taken no_outside).faultless)) (ids_left (taken no_outside).left) (last_left (taken no_outside).left)
@@ -202,7 +203,7 @@ module _ (setup : Setup) (whole : setup.passing ≡ Whole) (old : View) (rest : 
       → ((outside : Outside) → owes_in setup false (told_of outside old.inbound) (coming frame) ≡ owed ∷ []) → ((run : List Move) (s : State) → Leads setup run old square s → added_in setup (told_by s) (noted_of frame) ≡ [])
       → (given : Taken) (outputs put_out : List Output) (new : View) → IsPaid owed (record mid { encoding = encoding }) outputs given new put_out → IsPlainTaken setup old outputs frame given new put_out
   paid_so answer taken kind is no_data no_reset encoding encodes owed owes adds given outputs put_out new paid =
-      finish Nothing given outputs put_out put_out new new paid.goes refl refl
+      finish Nothing 0 given outputs put_out put_out new new paid.goes refl refl
       (brings_then setup old (record mid { encoding = encoding }) new square (record square { owed = owed ∷ []; fresh = data_length is_any frame }) (record square { fresh = data_length is_any frame }) outputs outputs put_out (coming frame)
       (quiet setup old rest frame plain inbound table answer taken (ap (λ k. k == data_kind) is ∙ no_data) (ap (λ k. k == rst_stream_kind) is ∙ no_reset) (owed ∷ []) encoding owes encodes adds outputs)
       (paid.performs setup [] (record square { owed = owed ∷ []; fresh = data_length is_any frame }) refl refl))
@@ -216,33 +217,27 @@ module _ (setup : Setup) (whole : setup.passing ≡ Whole) (old : View) (rest : 
       → (octets : List ℕ) (ends : Bool) → octets ≡ content frame → ends ≡ ends_stream frame → cause_behind setup b frame ≡ cause_before b frame
       → ((outside : Outside) → owes_in setup false (told_of outside old.inbound) (coming frame) ≡ [])
       → ((run : List Move) (s : State) → Leads setup run old square s → (GoesOn (told_by s) frame.id → Adds setup (told_by s) (noted_of frame) (Content octets ends)) × (((told_by s).stream frame.id).brief.over ≡ true → added_in setup (told_by s) (noted_of frame) ≡ []))
-      → (on : Bool) → goes_on old.inbound.rows frame.id ≡ on → (last : Bool) → ends ≡ last → (given : Taken) (outputs put_out : List Output) (new : View) → IsContentIf on last frame.id octets mid outputs given new put_out → IsPlainTaken setup old outputs frame given new put_out
-  content_so answer so kind octets ends a c d owes gains false on last ends_is given outputs put_out new left =
-      finish Nothing given outputs outputs put_out mid new left.goes left.kept left.puts
+      → (on : Bool) → goes_on old.inbound.rows frame.id ≡ on → (given : Taken) (outputs put_out : List Output) (new : View) → IsContentIf on ends frame.id octets mid outputs given new put_out → IsPlainTaken setup old outputs frame given new put_out
+  content_so answer so kind octets ends a c d owes gains false on given outputs put_out new left =
+      finish Nothing 0 given outputs outputs put_out mid new left.goes left.kept left.puts
       (left_alone setup old rest frame plain inbound table answer so kind octets ends a c d owes gains on outputs)
       rest.none_cut (let about = about_left (so no_outside).left (ap is_fatal (so no_outside).faultless) in record { served = about.served; live = about.live }) (ids_left (so no_outside).left) (last_left (so no_outside).left)
-  content_so answer so kind octets ends a c d owes gains true on false ends_is given outputs put_out new done =
-      finish Nothing given outputs outputs put_out _ new done.0.goes done.0.kept done.1
-      (gathers setup old rest frame plain inbound table answer so kind octets ends a c d owes gains whole on ends_is outputs)
-      rest.none_cut (let about = about_left (so no_outside).left (ap is_fatal (so no_outside).faultless) in record { served = about.served; live = about.live }) (ids_left (so no_outside).left) (last_left (so no_outside).left)
-  content_so answer so kind octets ends a c d owes gains true on true ends_is (taken.Fatal code) outputs put_out new done = absurd done.0.whole
-  content_so answer so kind octets ends a c d owes gains true on true ends_is (taken.Goes None) outputs put_out new done = absurd done.0.whole
-  content_so answer so kind octets ends a c d owes gains true on true ends_is (taken.Goes (Some request)) outputs put_out new done =
-      finish (due_in (Some request)) (taken.Goes (Some request)) outputs outputs put_out _ new refl done.0.kept done.1
-      (finishes setup old rest frame plain inbound table answer so kind octets ends a c d owes gains whole on ends_is request done.0.whole outputs)
+  content_so answer so kind octets ends a c d owes gains true on given outputs put_out new done =
+      finish done.0.due 0 given outputs outputs put_out _ new done.0.goes done.0.kept done.1
+      (content_comes setup old rest frame plain inbound table answer so kind octets ends a c d owes gains on done.0.due new.upstreams.held done.0.takes outputs)
       rest.none_cut (let about = about_left (so no_outside).left (ap is_fatal (so no_outside).faultless) in record { served = about.served; live = about.live }) (ids_left (so no_outside).left) (last_left (so no_outside).left)
 
   -- a body that is too long
   replied_so : (taken : (outside : Outside) → IsTaken setup (book_of outside old.inbound) frame (book_of outside inbound) judged.LargeBody) → ((outside : Outside) → IsTaken setup' (book_of outside old.inbound) frame (book_of outside inbound) judged.LargeBody) → (out : Bool) → (find old.inbound.rows frame.id).head_out ≡ out
       → (given : Taken) (outputs put_out : List Output) (new : View) → IsRepliedBy out frame.id mid outputs given new put_out → IsPlainTaken setup old outputs frame given new put_out
   replied_so taken taken' false out given outputs put_out new done =
-      finish Nothing given outputs outputs put_out _ new done.goes done.kept done.puts
+      finish Nothing 0 given outputs outputs put_out _ new done.goes done.kept done.puts
       (offered setup old rest frame plain inbound table taken out outputs)
       (offered_cuts_none setup' old rest frame plain inbound table taken' out reached.0 reached.1 reached.2)
       (let about = about_left (taken no_outside).left (ap is_fatal (taken no_outside).faultless) in record { served = about.served; live = about.live })
       (ids_left (taken no_outside).left) (last_left (taken no_outside).left)
   replied_so taken taken' true out given outputs put_out new done =
-      finish Nothing given outputs _ put_out _ new done.goes done.kept done.puts
+      finish Nothing (waiting_for frame.id old) given outputs _ put_out _ new done.goes done.kept done.puts
       (cut_short setup old rest frame plain inbound table taken out (fits frame.id enhance_your_calm small) outputs)
       (none_cut_without frame.id old.offers rest.none_cut)
       (about_then frame.id old mid _ (about_left (taken no_outside).left (ap is_fatal (taken no_outside).faultless)) (about_changed frame.id (Over true) mid _ refl refl))
@@ -253,7 +248,7 @@ module _ (setup : Setup) (whole : setup.passing ≡ Whole) (old : View) (rest : 
       → IsActed (goes_on old.inbound.rows frame.id) frame.id answer mid outputs given new put_out → IsPlainTaken setup old outputs frame given new put_out
   acted_so (judged.Failed (fault.Connection code)) so so' given outputs put_out new done = fatal_so code given outputs put_out new so done.0 done.1 done.2
   acted_so (judged.Failed (fault.Stream code)) so so' given outputs put_out new done =
-      finish Nothing given outputs _ put_out _ new done.goes done.kept done.puts
+      finish Nothing (waiting_for frame.id old) given outputs _ put_out _ new done.goes done.kept done.puts
       (refused setup old rest frame plain inbound table code (fits frame.id code small) (λ outside. (so outside).is) (so no_outside).left outputs)
       (none_cut_without frame.id old.offers rest.none_cut)
       (record { served = λ other apart. ap (λ (rows : List Row). is_served rows other) (reset_book ∙ ap (λ (x : Book). x.rows) reset) ∙ (about_changed frame.id (Over true) left_view (record left_view { inbound = record inbound { rows = changed frame.id (Over true) left_rows } }) refl refl).served other apart ∙ frame_served setup b (noted_of frame) (ap is_fatal (so no_outside).is) kept other apart; live = refl })
@@ -280,7 +275,7 @@ module _ (setup : Setup) (whole : setup.passing ≡ Whole) (old : View) (rest : 
       last : inbound.last ≡ frame.id
       last = ap (λ (x : Book). x.last) (so no_outside).left
   acted_so (judged.Failed fault.Discarded) so so' given outputs put_out new done =
-      finish Nothing given outputs outputs put_out mid new done.goes done.kept done.puts
+      finish Nothing 0 given outputs outputs put_out mid new done.goes done.kept done.puts
       (passed_over setup old rest frame plain inbound table (λ outside. (so outside).left) (λ outside. (so outside).is) outputs)
       rest.none_cut (about_left (so no_outside).left (ap is_fatal (so no_outside).is)) (ids_left (so no_outside).left) (last_left (so no_outside).left)
   acted_so judged.Ignored so so' given outputs put_out new done =
@@ -317,7 +312,7 @@ module _ (setup : Setup) (whole : setup.passing ≡ Whole) (old : View) (rest : 
       (λ run s leads. plain_gain setup s.desk.book frame plain (few setup run old s leads) (book_of (record { given = s.desk.book.given; untaken = old.untaken }) inbound) (judged.Ping octets) (taken_by setup old rest frame plain inbound table (judged.Ping octets) so run s leads))
       given outputs put_out new done
   acted_so judged.Reset so so' given outputs put_out new done =
-      finish Nothing given outputs outputs put_out _ new done.goes done.kept done.puts
+      finish Nothing (waiting_for frame.id old) given outputs outputs put_out _ new done.goes done.kept done.puts
       (reset_by_client setup old rest frame plain inbound table so (so no_outside).says outputs)
       (none_cut_without frame.id old.offers rest.none_cut)
       (let about = about_left (so no_outside).left (ap is_fatal (so no_outside).faultless) in record { served = about.served; live = about.live })
@@ -326,22 +321,22 @@ module _ (setup : Setup) (whole : setup.passing ≡ Whole) (old : View) (rest : 
       content_so (judged.Content octets ends) so (so no_outside).says.0 octets.now ends (so no_outside).says.1 (so no_outside).says.2 (so no_outside).says.3
       (λ outside. plain_owes setup (book_of outside old.inbound) frame plain (book_of outside inbound) (judged.Content octets ends) (so outside))
       (λ run s leads. plain_gain setup s.desk.book frame plain (few setup run old s leads) (book_of (record { given = s.desk.book.given; untaken = old.untaken }) inbound) (judged.Content octets ends) (taken_by setup old rest frame plain inbound table (judged.Content octets ends) so run s leads))
-      (goes_on old.inbound.rows frame.id) refl ends refl given outputs put_out new done
+      (goes_on old.inbound.rows frame.id) refl given outputs put_out new done
   acted_so judged.LargeBody so so' given outputs put_out new done =
       replied_so so so' (find old.inbound.rows frame.id).head_out refl given outputs put_out new
       (subst (λ out. IsRepliedBy out frame.id mid outputs given new put_out) (head_same setup' old rest frame plain inbound table so' reached.0 reached.1 reached.2) done)
 
   -- What has to be so for it is.
-  pub may_act : setup'.passing ≡ Whole → (answer : Judged) → ((outside : Outside) → IsJudged setup' (book_of outside old.inbound) frame (book_of outside inbound) answer) → length frame.payload ≤ 16384 → MayAct (goes_on old.inbound.rows frame.id) frame.id answer mid
-  may_act whole' (judged.Failed fault) so short = tt
-  may_act whole' judged.Ignored so short = tt
-  may_act whole' (judged.Settings change) so short = tt
-  may_act whole' (judged.Ping octets) so short = subst (λ (xs : List ℕ). length xs ≤ 16384) (sym (so no_outside).says.2) short
-  may_act whole' judged.Granted so short = tt
-  may_act whole' judged.Reset so short = tt
-  may_act whole' (judged.Content octets ends) so short = λ on last.
-      may_end setup' old rest frame plain inbound table (judged.Content octets ends) so (so no_outside).says.0 octets.now ends (so no_outside).says.1 (so no_outside).says.2 (so no_outside).says.3
+  pub may_act : (answer : Judged) → ((outside : Outside) → IsJudged setup' (book_of outside old.inbound) frame (book_of outside inbound) answer) → length frame.payload ≤ 16384 → MayAct (goes_on old.inbound.rows frame.id) frame.id answer mid
+  may_act (judged.Failed fault) so short = tt
+  may_act judged.Ignored so short = tt
+  may_act (judged.Settings change) so short = tt
+  may_act (judged.Ping octets) so short = subst (λ (xs : List ℕ). length xs ≤ 16384) (sym (so no_outside).says.2) short
+  may_act judged.Granted so short = tt
+  may_act judged.Reset so short = tt
+  may_act (judged.Content octets ends) so short = λ on.
+      may_take setup' old rest frame plain inbound table (judged.Content octets ends) so (so no_outside).says.0 octets.now ends (so no_outside).says.1 (so no_outside).says.2 (so no_outside).says.3
       (λ outside. plain_owes setup' (book_of outside old.inbound) frame plain (book_of outside inbound) (judged.Content octets ends) (so outside))
       (λ run s leads. plain_gain setup' s.desk.book frame plain (few setup' run old s leads) (book_of (record { given = s.desk.book.given; untaken = old.untaken }) inbound) (judged.Content octets ends) (taken_by setup' old rest frame plain inbound table (judged.Content octets ends) so run s leads))
-      whole' on reached.0 reached.1 reached.2 last
-  may_act whole' judged.LargeBody so short = is_active_now setup' old rest frame plain inbound table judged.LargeBody so (so no_outside).says.0 reached.0 reached.1 reached.2
+      on reached.0 reached.1 reached.2
+  may_act judged.LargeBody so short = is_active_now setup' old rest frame plain inbound table judged.LargeBody so (so no_outside).says.0 reached.0 reached.1 reached.2

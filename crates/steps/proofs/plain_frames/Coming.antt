@@ -52,6 +52,8 @@ use Rattle.relay.proofs.Kept.{AreServed, change_none}
 use Rattle.relay.proofs.Staying.{rows_kept, all_held_served}
 use Rattle.relay.proofs.Resting.{rests_are_ready}
 use Rattle.relay.proofs.Coming as coming
+use Rattle.marks_kept.specs.Sides.{Side, unless_over}
+use Rattle.marks_kept.specs.Standing.{dropped_of}
 use Rattle.relay.proofs.Coming.{no_outside, inbound_in, inbound_behind, change_between, offers_with, encoding_with, told_of_rows, leads_then, begins}
 use Rattle.steps.proofs.plain_frames.Streams.{none_completed, change_is_none}
 
@@ -103,12 +105,14 @@ module _ (setup : Setup) (old : View) (rest : IsAtRest old) (frame : Frame) (pla
       ap (λ (b : Book). inbound_in (tables.table_after (completed_in old.inbound.block frame) old.inbound.table old.inbound.table) b) (sym left)
       ∙ ap (λ (t : Table). record inbound { table = t }) (block_none (completed_in old.inbound.block frame) (completes_none (book_of no_outside old.inbound) kept) ∙ sym table)
 
-  -- What it gains its request, what is kept of requests then, and what is on offer.
-  pub record Passes (offers : offering.State) (upstream : upstreams.State) (due : Due) (s : State) : Type 0 where
+  -- What it gains its request, what is kept of requests then, what is on offer, and what is kept of DATA that waits, with what goes back of it.
+  pub record Passes (offers : offering.State) (upstream : upstreams.State) (sides : List Side) (shared : ℕ) (due : Due) (s : State) : Type 0 where
     pub gain : Gain
     pub right : IsGained setup (told_behind setup s (Takes (noted_of frame) old.inbound.table gain)) s (noted_of frame) gain
     pub requests : serving.after setup (told_of_rows inbound) (upstreams.with_due old.upstreams Due.Nothing) (gained (noted_of frame) gain) ≡ upstreams.with_due upstream due
     pub on_offer : offers_with frame.id (change_between old.inbound.rows inbound.rows frame.id) old.offers ≡ offers
+    pub marked : unless_over (change_between old.inbound.rows inbound.rows frame.id).over frame.id old.marks ≡ sides
+    pub returned : dropped_of (change_between old.inbound.rows inbound.rows frame.id).over frame.id old.marks ≡ shared
 
   taken_with : (run : List Move) (s : State) → Leads setup run old square s → (gain : Gain) → IsGained setup (told_behind setup s (Takes noted old.inbound.table gain)) s noted gain → IsFrameTaken setup s noted old.inbound.table gain
   taken_with run s leads gain right = record {
@@ -119,12 +123,12 @@ module _ (setup : Setup) (old : View) (rest : IsAtRest old) (frame : Frame) (pla
   }
 
   -- The frame comes, and this is kept behind it.
-  pub came : (owed : List Frame) (due : Due) (offers : offering.State) (upstream : upstreams.State) (encoding : Encoding) → upstream.live ≡ old.upstreams.live
+  pub came : (owed : List Frame) (due : Due) (offers : offering.State) (upstream : upstreams.State) (sides : List Side) (shared : ℕ) (encoding : Encoding) → upstream.live ≡ old.upstreams.live
       → ((outside : Outside) → owes_in setup false (told_of outside old.inbound) (coming frame) ≡ owed)
       → ((outside : Outside) → encoding_with (named_by (verdict_in (told_of outside old.inbound) frame) frame) old.encoding ≡ encoding)
-      → ((run : List Move) (s : State) → Leads setup run old square s → Passes offers upstream due s) → (outputs : List Output)
-      → Brings setup old square outputs (coming frame) (record { inbound = inbound; offers = offers; upstreams = upstream; encoding = encoding; untaken = old.untaken }) (record square { owed = owed; due = due; fresh = data_length is_any frame }) outputs
-  came owed due offers upstream encoding live owes encodes by outputs run s leads =
+      → ((run : List Move) (s : State) → Leads setup run old square s → Passes offers upstream sides shared due s) → (outputs : List Output)
+      → Brings setup old square outputs (coming frame) (record { inbound = inbound; offers = offers; upstreams = upstream; marks = sides; encoding = encoding; untaken = old.untaken }) (record square { owed = owed; due = due; fresh = data_length is_any frame; shared = shared }) outputs
+  came owed due offers upstream sides shared encoding live owes encodes by outputs run s leads =
       let p = by run s leads in
       let ready = rests_are_ready setup run old s leads rest in
       let taken = taken_with run s leads p.gain p.right in
@@ -134,10 +138,14 @@ module _ (setup : Setup) (old : View) (rest : IsAtRest old) (frame : Frame) (pla
       ap (λ (i : Inbound). offers_with frame.id (change_between old.inbound.rows i.rows frame.id) old.offers) same ∙ p.on_offer in
       let requests : serving.after setup (told_of_rows (inbound_behind setup old.inbound noted old.inbound.table)) (upstreams.with_due old.upstreams Due.Nothing) (gained noted p.gain) ≡ upstreams.with_due upstream due =
       ap (λ (i : Inbound). serving.after setup (told_of_rows i) (upstreams.with_due old.upstreams Due.Nothing) (gained noted p.gain)) same ∙ p.requests in
+      let marked : unless_over (change_between old.inbound.rows (inbound_behind setup old.inbound noted old.inbound.table).rows frame.id).over frame.id old.marks ≡ sides =
+      ap (λ (i : Inbound). unless_over (change_between old.inbound.rows i.rows frame.id).over frame.id old.marks) same ∙ p.marked in
+      let returned : dropped_of (change_between old.inbound.rows (inbound_behind setup old.inbound noted old.inbound.table).rows frame.id).over frame.id old.marks ≡ shared =
+      ap (λ (i : Inbound). dropped_of (change_between old.inbound.rows i.rows frame.id).over frame.id old.marks) same ∙ p.returned in
       begins setup run old s leads ready noted old.inbound.table p.gain taken outputs _ _
-      (subst (λ (e : Encoding). Leads setup (Does (Takes noted old.inbound.table p.gain) ∷ run) (record { inbound = inbound; offers = offers; upstreams = upstream; encoding = e; untaken = old.untaken }) (record square { owed = owed; due = due; fresh = data_length is_any frame }) (next setup s (Does (Takes noted old.inbound.table p.gain)))) (encodes outside)
-      (subst (λ (i : Inbound). Leads setup (Does (Takes noted old.inbound.table p.gain) ∷ run) (record { inbound = i; offers = offers; upstreams = upstream; encoding = encoding_with (named_by (verdict_in (told_of outside old.inbound) frame) frame) old.encoding; untaken = old.untaken }) (record square { owed = owed; due = due; fresh = data_length is_any frame }) (next setup s (Does (Takes noted old.inbound.table p.gain)))) same
-      (leads_then setup run old s leads ready noted old.inbound.table p.gain taken owed due offers upstream live (owes outside) on_offer requests)))
+      (subst (λ (e : Encoding). Leads setup (Does (Takes noted old.inbound.table p.gain) ∷ run) (record { inbound = inbound; offers = offers; upstreams = upstream; marks = sides; encoding = e; untaken = old.untaken }) (record square { owed = owed; due = due; fresh = data_length is_any frame; shared = shared }) (next setup s (Does (Takes noted old.inbound.table p.gain)))) (encodes outside)
+      (subst (λ (i : Inbound). Leads setup (Does (Takes noted old.inbound.table p.gain) ∷ run) (record { inbound = i; offers = offers; upstreams = upstream; marks = sides; encoding = encoding_with (named_by (verdict_in (told_of outside old.inbound) frame) frame) old.encoding; untaken = old.untaken }) (record square { owed = owed; due = due; fresh = data_length is_any frame; shared = shared }) (next setup s (Does (Takes noted old.inbound.table p.gain)))) same
+      (leads_then setup run old s leads ready noted old.inbound.table p.gain taken owed due offers upstream sides shared live (owes outside) on_offer requests marked returned)))
 
   -- ---- where it gains nothing
 
@@ -161,7 +169,7 @@ module _ (setup : Setup) (old : View) (rest : IsAtRest old) (frame : Frame) (pla
     held_goes off = held_behind_it ∙ ap (λ b. if b then old.upstreams.held else without id_of frame.id old.upstreams.held) off
 
     -- Nothing changes where the stream is as before.
-    pub passes_same : (is_active inbound.rows frame.id ≡ is_active old.inbound.rows frame.id) × ((find inbound.rows frame.id).brief.cause ≡ (find old.inbound.rows frame.id).brief.cause) → Passes old.offers old.upstreams Due.Nothing s
+    pub passes_same : (is_active inbound.rows frame.id ≡ is_active old.inbound.rows frame.id) × ((find inbound.rows frame.id).brief.cause ≡ (find old.inbound.rows frame.id).brief.cause) → Passes old.offers old.upstreams old.marks 0 Due.Nothing s
     passes_same same =
         let b : Book = book_of no_outside old.inbound in
         let kept = kept_rows setup run old s leads in
@@ -175,4 +183,10 @@ module _ (setup : Setup) (old : View) (rest : IsAtRest old) (frame : Frame) (pla
               ap (λ (rows : List Row). offers_with frame.id (change_between old.inbound.rows rows frame.id) old.offers) rows
               ∙ ap (λ (c : offering.Change). offers_with frame.id c old.offers) (change_is_none setup b frame plain kept there)
               ∙ ap (λ (ks : List offering.Kept). record old.offers { kept = ks }) (change_none frame.id old.offers.kept);
+          marked =
+              ap (λ (rows : List Row). unless_over (change_between old.inbound.rows rows frame.id).over frame.id old.marks) rows
+              ∙ ap (λ (c : offering.Change). unless_over c.over frame.id old.marks) (change_is_none setup b frame plain kept there);
+          returned =
+              ap (λ (rows : List Row). dropped_of (change_between old.inbound.rows rows frame.id).over frame.id old.marks) rows
+              ∙ ap (λ (c : offering.Change). dropped_of c.over frame.id old.marks) (change_is_none setup b frame plain kept there);
         }

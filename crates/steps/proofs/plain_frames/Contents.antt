@@ -1,4 +1,5 @@
--- Octets of a request's body: they wait with it, or end it, and then the whole request is due.
+-- Octets of a request's body: they wait with it, or end it, and then the whole request is due; or they go out, where it does, or are dropped with
+-- it.
 use Rattle.std.proofs.Common.{◌≡◌, ℕ, ◌+◌, Bool, true, false, not, ◌&&◌, ◌||◌, ◌==◌, if◌then◌else◌, List, [], ◌++◌, length, Option, Some, None, refl, sym, ◌∙◌, ap, subst}
 use Rattle.std.proofs.lemmas.Bool.{and_parts}
 use Rattle.std.specs.Prelude.{is_none, is_some}
@@ -7,7 +8,6 @@ use Rattle.model.specs.Malformed.{has_length, is_within, is_malformed_content}
 use Rattle.model.specs.Frames.{Frame, data_kind, content, ends_stream, protocol_error}
 use Rattle.model.specs.Logs.{Output}
 use Rattle.model.specs.Setup.{Setup}
-use Rattle.model.specs.Setup.Passing.{Whole}
 use Rattle.model.specs.Causes.{Cause}
 use Rattle.model.specs.Decoding.{Partial}
 use Rattle.model.specs.Errors.{first_of}
@@ -21,34 +21,38 @@ use Rattle.conduct.specs.Owing.{fault_in, owes_in}
 use Rattle.conduct.specs.Rows.{Row, find}
 use Rattle.conduct.specs.Quiet.{noted_of, coming}
 use Rattle.conduct.specs.Book.{Book, summary_in, book_after}
+use Rattle.h1_writer.specs.Sending.{Stage}
 use Rattle.h1_writer.specs.Sending.Stage.{Whole as WholeText}
 use Rattle.offering.specs.State as offering
 use Rattle.serving.specs.Rule.{IsServing}
 use Rattle.serving.specs.State as serving
-use Rattle.serving.specs.State.{Held, Way, Due, id_of, without, held_of, held_with}
-use Rattle.serving.specs.State.Way.{Waiting}
+use Rattle.serving.specs.State.{Held, Way, Due, is_whole, held_of, held_with}
+use Rattle.serving.specs.State.Way.{Waiting, Going, Dropped}
 use Rattle.streams_kept.specs.Asked.{has, is_active}
 use Rattle.judgement.specs.Inbound.{Inbound, Outside, book_of, told_of}
 use Rattle.judgement.specs.Judgement.{IsPlain, IsTaken}
 use Rattle.judgement.specs.Judgement as judgement
 use Rattle.judgement.specs.declared.answers.Judged.{Judged}
 use Rattle.upstreams.specs.Kept as upstreams
-use Rattle.upstreams.specs.Requests.{due_for, gathered, gathered_at, MayEndFor, IsEndedFor}
-use Rattle.upstreams.specs.declared.held.Outgoing.{Outgoing}
+use Rattle.upstreams.specs.Requests.{MayTake, MayTakeOf, Gathers, IsPassed, TakesBy}
+use Rattle.upstreams.specs.Requests.{Takes as TakesOf}
 use Rattle.upstreams.specs.Connections.{lives}
-use Rattle.policy.specs.Moves.{Gain, Move, told_in}
+use Rattle.policy.specs.Moves.{Gain, Move, gained, told_in}
+use Rattle.policy.specs.Coming.{IsGained}
 use Rattle.policy.specs.Moves.Deed.{Takes}
 use Rattle.policy.specs.State.{State}
 use Rattle.policy.specs.Rule.{added_in, Adds}
 use Rattle.policy.specs.Steps.{told_by, told_behind}
 use Rattle.relay.specs.Gains.{GoesOn}
-use Rattle.relay.specs.Waits.{WaitsFor}
+use Rattle.relay.specs.Ways.{GoesBy, IsHeldFor}
 use Rattle.relay.specs.View.{View, square, Leads}
 use Rattle.relay.specs.Rest.{IsAtRest}
 use Rattle.relay.specs.Bringing.{Brings}
 use Rattle.relay.proofs.Kept.{change_none}
-use Rattle.relay.proofs.Waits.{waits_for, all_so}
-use Rattle.relay.proofs.Coming.{no_outside, change_between, offers_with}
+use Rattle.relay.proofs.HeldFor.{go_on_so, held_for}
+use Rattle.marks_kept.specs.Sides.{unless_over}
+use Rattle.marks_kept.specs.Standing.{dropped_of}
+use Rattle.relay.proofs.Coming.{no_outside, change_between, offers_with, told_of_rows}
 use Rattle.steps.specs.plain_frames.Acting.{goes_on}
 use Rattle.steps.proofs.plain_frames.Streams.{none_completed, change_is_none}
 use Rattle.steps.proofs.plain_frames.Standing.{of_rows}
@@ -66,6 +70,10 @@ right_length within ends true is last = refl
 right_length false ends false is last = cc
 right_length true true false is last = cc
 right_length true false false is last = cc
+
+right_within : (within ends right : Bool) → (not within || ends && not right) ≡ false → within ≡ true
+right_within true ends right is = refl
+right_within false ends right is = cc
 
 module _ (setup : Setup) (old : View) (rest : IsAtRest old) (frame : Frame) (plain : IsPlain frame) (inbound : Inbound) (table : inbound.table ≡ old.inbound.table) (answer : Judged) (taken : (outside : Outside) → IsTaken setup (book_of outside old.inbound) frame (book_of outside inbound) answer) (kind : frame.kind ≡ data_kind)
     (octets : List ℕ) (ends : Bool) (octets_are : octets ≡ content frame) (ends_is : ends ≡ ends_stream frame) (same_cause : judgement.cause_behind setup (book_of no_outside old.inbound) frame ≡ judgement.cause_before (book_of no_outside old.inbound) frame) where
@@ -93,14 +101,22 @@ module _ (setup : Setup) (old : View) (rest : IsAtRest old) (frame : Frame) (pla
       ∙ ap (λ (c : offering.Change). offers_with frame.id c old.offers) (change_is_none setup b frame plain (kept_rows setup run old s leads) there)
       ∙ ap (λ (ks : List offering.Kept). record old.offers { kept = ks }) (change_none frame.id old.offers.kept)
 
+  -- nothing that waits of its DATA goes
+  change_same : (run : List Move) (s : State) → Leads setup run old square s → (change_between old.inbound.rows inbound.rows frame.id).over ≡ false
+  change_same run s leads =
+      let rows : inbound.rows ≡ (book_after setup false b (coming frame)).rows = ap (λ (x : Book). x.rows) (taken no_outside).left in
+      let there = subst (λ (rows : List Row). (is_active rows frame.id ≡ is_active old.inbound.rows frame.id) × ((find rows frame.id).brief.cause ≡ k.brief.cause)) rows (stream_same run s leads) in
+      ap (λ (rows : List Row). (change_between old.inbound.rows rows frame.id).over) rows
+      ∙ ap (λ (c : offering.Change). c.over) (change_is_none setup b frame plain (kept_rows setup run old s leads) there)
+
   module _ (owes : (outside : Outside) → owes_in setup false (told_of outside old.inbound) (coming frame) ≡ []) (gains : (run : List Move) (s : State) → Leads setup run old square s → (GoesOn (told_by s) frame.id → Adds setup (told_by s) (noted_of frame) (Content octets ends)) × (((told_by s).stream frame.id).brief.over ≡ true → added_in setup (told_by s) (noted_of frame) ≡ [])) where
     abbrev mild_so : (outside : Outside) → is_fatal (fault_in (told_of outside old.inbound) (coming frame)) ≡ false
     mild_so = mild setup old rest frame plain inbound table answer taken kind
 
-    passes_with : (upstream : upstreams.State) (due : Due) → upstream.live ≡ old.upstreams.live → ((run : List Move) (s : State) → Leads setup run old square s → Passes setup old rest frame plain inbound table (taken no_outside).left mild_so old.offers upstream due s) → (outputs : List Output)
+    passes_with : (upstream : upstreams.State) (due : Due) → upstream.live ≡ old.upstreams.live → ((run : List Move) (s : State) → Leads setup run old square s → Passes setup old rest frame plain inbound table (taken no_outside).left mild_so old.offers upstream old.marks 0 due s) → (outputs : List Output)
         → Brings setup old square outputs (coming frame) (record old { inbound = inbound; upstreams = upstream }) (record square { due = due; fresh = data_length is_any frame }) outputs
     passes_with upstream due live passes outputs =
-        came setup old rest frame plain inbound table (taken no_outside).left mild_so [] due old.offers upstream old.encoding live owes (names setup old rest frame plain inbound table answer taken kind) passes outputs
+        came setup old rest frame plain inbound table (taken no_outside).left mild_so [] due old.offers upstream old.marks 0 old.encoding live owes (names setup old rest frame plain inbound table answer taken kind) passes outputs
 
     -- ---- where nothing more of the request is looked at
 
@@ -119,7 +135,7 @@ module _ (setup : Setup) (old : View) (rest : IsAtRest old) (frame : Frame) (pla
 
     -- ---- where it goes on
 
-    module _ (whole : setup.passing ≡ Whole) (on : goes_on old.inbound.rows frame.id ≡ true) where
+    module _ (on : goes_on old.inbound.rows frame.id ≡ true) where
       not_over : k.brief.over ≡ false
       not_over = flipped k.brief.over (and_parts (is_active old.inbound.rows frame.id) (not k.brief.over) on).1
 
@@ -134,43 +150,63 @@ module _ (setup : Setup) (old : View) (rest : IsAtRest old) (frame : Frame) (pla
         active_there = ap (λ (x : Book). is_active x.rows frame.id) leads.keeps.book ∙ was_active setup old rest frame plain inbound table answer taken kind run s leads
 
         cause_there : (find s.desk.book.rows frame.id).brief.cause ≡ None
-        cause_there = (all_so setup run s leads.stands leads.so whole open_yet).no_cause frame.id over_there
+        cause_there = (go_on_so setup run s leads.stands leads.so open_yet).no_cause frame.id over_there
 
         no_cause : k.brief.cause ≡ None
         no_cause = ap (λ (x : Book). (find x.rows frame.id).brief.cause) (sym leads.keeps.book) ∙ cause_there
 
-        -- the request waits
-        waits : WaitsFor k.brief frame.id s.requests.held
-        waits =
-            subst (λ (x : Book). WaitsFor (find x.rows frame.id).brief frame.id s.requests.held) leads.keeps.book
-            (waits_for setup run s leads.stands leads.so whole open_yet frame.id (begun_where setup run s leads.stands frame.id active_there over_there) over_there)
+        -- its request is held
+        held : IsHeldFor k.brief frame.id s.requests.held
+        held =
+            subst (λ (x : Book). IsHeldFor (find x.rows frame.id).brief frame.id s.requests.held) leads.keeps.book
+            (held_for setup run s leads.stands leads.so open_yet (ap (λ (r : serving.State). r.due) leads.keeps.requests) frame.id (begun_where setup run s leads.stands frame.id active_there over_there) over_there)
 
         held_is : s.requests.held ≡ old.upstreams.held
         held_is = ap (λ (r : serving.State). r.held) leads.keeps.requests
 
-        waits_found : held_of frame.id old.upstreams.held ≡ Some (record { id = frame.id; way = Waiting waits.route waits.text waits.stage waits.body })
-        waits_found = ap (λ (hs : List Held). held_of frame.id hs) (sym held_is) ∙ waits.found
+        abbrev of_stream : Held
+        of_stream = record { id = frame.id; way = held.way }
 
-        -- octets that end the body may
-        length_right : ends ≡ true → has_length k.brief.declared (k.brief.octets + length octets) ≡ true
-        length_right last =
-            right_length (is_within k.brief.declared (k.brief.octets + length octets)) ends (has_length k.brief.declared (k.brief.octets + length octets)) malformed last
+        held_found : held_of frame.id old.upstreams.held ≡ Some of_stream
+        held_found = ap (λ (hs : List Held). held_of frame.id hs) (sym held_is) ∙ held.found
+
+        -- it makes no request malformed
+        fine : is_malformed_content (carried_in k.brief) octets ends ≡ false
+        fine =
+            ap (λ (xs : List ℕ). is_malformed_content (carried_in k.brief) xs ends) octets_are
+            ∙ ap (λ x. is_malformed_content (carried_in k.brief) (content frame) x) ends_is
+            ∙ sym (
+            ap (λ (o : Option Cause). not (is_some o) && is_malformed (carried_in k.brief) (completed_in old.inbound.block frame) (noted_of frame)) no_cause
+            ∙ ap (λ (o : Option Partial). is_malformed (carried_in k.brief) o (noted_of frame)) (none_completed setup b frame plain (kept_rows setup run old s leads))
+            ∙ ap (λ n. n == data_kind && is_malformed_content (carried_in k.brief) (content frame) (ends_stream frame)) kind)
+            ∙ row
           where
             row : (not (is_some k.brief.cause) && is_malformed (carried_in k.brief) (completed_in old.inbound.block frame) (noted_of frame)) ≡ false
             row = none_if _ (Stream protocol_error) (second_none (first_of (rows_in (summary_in b) (noted_of frame))) (malformed_in k.brief (summary_in b) (coming frame)) (taken no_outside).faultless)
 
-            malformed : is_malformed_content (carried_in k.brief) octets ends ≡ false
-            malformed =
-                ap (λ (xs : List ℕ). is_malformed_content (carried_in k.brief) xs ends) octets_are
-                ∙ ap (λ x. is_malformed_content (carried_in k.brief) (content frame) x) ends_is
-                ∙ sym (
-                ap (λ (o : Option Cause). not (is_some o) && is_malformed (carried_in k.brief) (completed_in old.inbound.block frame) (noted_of frame)) no_cause
-                ∙ ap (λ (o : Option Partial). is_malformed (carried_in k.brief) o (noted_of frame)) (none_completed setup b frame plain (kept_rows setup run old s leads))
-                ∙ ap (λ n. n == data_kind && is_malformed_content (carried_in k.brief) (content frame) (ends_stream frame)) kind)
-                ∙ row
+        -- octets keep within what was declared, and those that end the body reach it
+        within : is_within k.brief.declared (k.brief.octets + length octets) ≡ true
+        within = right_within (is_within k.brief.declared (k.brief.octets + length octets)) ends (has_length k.brief.declared (k.brief.octets + length octets)) fine
 
-        pub may_end : ends ≡ true → MayEndFor frame.id octets old.upstreams.held
-        may_end last = record { held = record { id = frame.id; way = Waiting waits.route waits.text waits.stage waits.body }; found = waits_found; may = waits.may_end octets (length_right last) }
+        length_right : ends ≡ true → has_length k.brief.declared (k.brief.octets + length octets) ≡ true
+        length_right last = right_length (is_within k.brief.declared (k.brief.octets + length octets)) ends (has_length k.brief.declared (k.brief.octets + length octets)) fine last
+
+        -- So they may come of what is held.
+        pub may_take : MayTakeOf octets ends (held_of frame.id old.upstreams.held)
+        may_take = subst (MayTakeOf octets ends) (sym held_found) (by held.way held.goes)
+          where
+            by : (way : Way) → GoesBy k.brief way → MayTake octets ends way
+            by (Waiting route text stage body) goes = λ last. goes.may_end octets (length_right last)
+            by (Going number stage) goes = record {
+              parts = goes.parts;
+              ended = false;
+              text = goes.text;
+              pieces = goes.pieces;
+              sending = goes.sending;
+              may_push = goes.may_push octets within;
+              has_length = λ last. goes.full octets (length_right last);
+            }
+            by Dropped goes = tt
 
         -- the stream is served behind the frame
         serves : (gain : Gain) → IsServing (told_in (told_behind setup s (Takes (noted_of frame) old.inbound.table gain))) (noted_of frame)
@@ -188,36 +224,77 @@ module _ (setup : Setup) (old : View) (rest : IsAtRest old) (frame : Frame) (pla
         adds : Adds setup (told_by s) (noted_of frame) (Content octets ends)
         adds = (gains run s leads).0 (record { not_over = over_there; no_cause = cause_there })
 
-        -- ---- its body goes on
+        abbrev upstream_then : List Held → upstreams.State
+        upstream_then hs = record old.upstreams { held = hs }
 
-        gathered_passes : ends ≡ false → Passes setup old rest frame plain inbound table (taken no_outside).left mild_so old.offers (record old.upstreams { held = gathered frame.id octets old.upstreams.held }) Due.Nothing s
-        gathered_passes more =
-            let w = waits in
-            record {
-              gain = Gain.Gathers (Content octets false) w.route w.text w.stage w.body [] w.stage;
-              right = (subst (λ x. Adds setup (told_by s) (noted_of frame) (Content octets x)) more adds, record { serving = serves (Gain.Gathers (Content octets false) w.route w.text w.stage w.body [] w.stage); found = w.found; gathered = (refl, refl) });
-              requests =
-                  ap (λ x. let r : serving.State = record { held = held_with frame.id (if x then None else Some (Waiting w.route w.text w.stage (w.body ++ octets))) old.upstreams.held; live = lives old.upstreams.live; due = serving.to_open x frame.id w.route (w.text ++ []) w.stage; count = old.upstreams.count } in r) w.part
-                  ∙ ap (λ (hs : List Held). upstreams.with_due (record old.upstreams { held = hs }) Due.Nothing) (sym (ap (λ (o : Option Held). gathered_at frame.id octets o old.upstreams.held) waits_found));
-              on_offer = offers_same run s leads;
-            }
+        -- It comes with what it gains, where that leaves this.
+        passes_by : (due : Due) (hs : List Held) (gain : Gain) → IsGained setup (told_behind setup s (Takes (noted_of frame) old.inbound.table gain)) s (noted_of frame) gain
+            → serving.after setup (told_of_rows inbound) (upstreams.with_due old.upstreams Due.Nothing) (gained (noted_of frame) gain) ≡ upstreams.with_due (upstream_then hs) due
+            → Passes setup old rest frame plain inbound table (taken no_outside).left mild_so old.offers (upstream_then hs) old.marks 0 due s
+        passes_by due hs gain right requests = record {
+          gain = gain;
+          right = right;
+          requests = requests;
+          on_offer = offers_same run s leads;
+          marked = ap (λ x. unless_over x frame.id old.marks) (change_same run s leads);
+          returned = ap (λ x. dropped_of x frame.id old.marks) (change_same run s leads);
+        }
 
-        -- ---- it ends
+        -- ---- it waits
 
-        finished_passes : ends ≡ true → (outgoing : Outgoing) → IsEndedFor frame.id octets old.upstreams.held outgoing → Passes setup old rest frame plain inbound table (taken no_outside).left mild_so old.offers (record old.upstreams { held = without id_of frame.id old.upstreams.held }) (due_for outgoing) s
-        finished_passes last outgoing ended =
-            let w = waits in
-            let e = ended (record { id = frame.id; way = Waiting w.route w.text w.stage w.body }) waits_found in
-            record {
-              gain = Gain.Gathers (Content octets true) w.route w.text w.stage w.body e.2.written WholeText;
-              right = (subst (λ x. Adds setup (told_by s) (noted_of frame) (Content octets x)) last adds, record { serving = serves (Gain.Gathers (Content octets true) w.route w.text w.stage w.body e.2.written WholeText); found = w.found; gathered = (e.2.continues, refl) });
-              requests = ap (λ (d : Due). upstreams.with_due (record old.upstreams { held = without id_of frame.id old.upstreams.held }) d) (sym (e.1 ∙ ap (λ (text : List ℕ). Due.ToOpen frame.id w.route text WholeText) e.2.is));
-              on_offer = offers_same run s leads;
-            }
+        waiting_passes : (route : ℕ) (text : List ℕ) (stage : Stage) (body : List ℕ) → is_whole stage ≡ false → held_of frame.id s.requests.held ≡ Some (record { id = frame.id; way = Waiting route text stage body })
+            → (last : Bool) → ends ≡ last → (due : Due) (next : Option Way) (hs : List Held) → Gathers frame.id octets last route text stage body due next → hs ≡ held_with frame.id next old.upstreams.held
+            → Passes setup old rest frame plain inbound table (taken no_outside).left mild_so old.offers (upstream_then hs) old.marks 0 due s
+        waiting_passes route text stage body part found false more due next hs gathers held_then =
+            passes_by due hs gain_now
+            (subst (λ x. Adds setup (told_by s) (noted_of frame) (Content octets x)) more adds, record { serving = serves gain_now; found = found; gathered = (refl, refl) })
+            (ap (λ x. let r : serving.State = record { held = held_with frame.id (if x then None else Some (Waiting route text stage (body ++ octets))) old.upstreams.held; live = lives old.upstreams.live; due = serving.to_open x frame.id route (text ++ []) stage; count = old.upstreams.count } in r) part
+            ∙ ap (λ (hs : List Held). upstreams.with_due (upstream_then hs) Due.Nothing) (ap (λ (o : Option Way). held_with frame.id o old.upstreams.held) (sym gathers.1) ∙ sym held_then)
+            ∙ ap (λ (d : Due). upstreams.with_due (upstream_then hs) d) (sym gathers.0))
+          where
+            gain_now : Gain
+            gain_now = Gain.Gathers (Content octets false) route text stage body [] stage
+        waiting_passes route text stage body part found true last due next hs gathers held_then =
+            passes_by due hs gain_now
+            (subst (λ x. Adds setup (told_by s) (noted_of frame) (Content octets x)) last adds, record { serving = serves gain_now; found = found; gathered = (gathers.0.continues, refl) })
+            (ap (λ (hs : List Held). upstreams.with_due (upstream_then hs) (Due.ToOpen frame.id route (text ++ gathers.0.written) WholeText)) (ap (λ (o : Option Way). held_with frame.id o old.upstreams.held) (sym gathers.1) ∙ sym held_then)
+            ∙ ap (λ (d : Due). upstreams.with_due (upstream_then hs) d) (sym gathers.0.due_is))
+          where
+            gain_now : Gain
+            gain_now = Gain.Gathers (Content octets true) route text stage body gathers.0.written WholeText
 
-      pub gathers : ends ≡ false → (outputs : List Output) → Brings setup old square outputs (coming frame) (record old { inbound = inbound; upstreams = record old.upstreams { held = gathered frame.id octets old.upstreams.held } }) (record square { fresh = data_length is_any frame }) outputs
-      gathers more outputs = passes_with (record old.upstreams { held = gathered frame.id octets old.upstreams.held }) Due.Nothing refl (λ run s leads. gathered_passes run s leads more) outputs
+        -- ---- it goes out
 
-      pub finishes : ends ≡ true → (outgoing : Outgoing) → IsEndedFor frame.id octets old.upstreams.held outgoing → (outputs : List Output)
-          → Brings setup old square outputs (coming frame) (record old { inbound = inbound; upstreams = record old.upstreams { held = without id_of frame.id old.upstreams.held } }) (record square { due = due_for outgoing; fresh = data_length is_any frame }) outputs
-      finishes last outgoing ended outputs = passes_with (record old.upstreams { held = without id_of frame.id old.upstreams.held }) (due_for outgoing) refl (λ run s leads. finished_passes run s leads last outgoing ended) outputs
+        going_passes : (number : ℕ) (stage : Stage) → held_of frame.id s.requests.held ≡ Some (record { id = frame.id; way = Going number stage })
+            → (due : Due) (next : Option Way) (hs : List Held) → IsPassed octets ends number stage due next → hs ≡ held_with frame.id next old.upstreams.held
+            → Passes setup old rest frame plain inbound table (taken no_outside).left mild_so old.offers (upstream_then hs) old.marks 0 due s
+        going_passes number stage found due next hs passed held_then =
+            passes_by due hs gain_now
+            (adds, record { serving = serves gain_now; found = found; continues = passed.continues; whole = passed.whole })
+            (ap (λ (hs : List Held). upstreams.with_due (upstream_then hs) (serving.to_send number passed.written)) (ap (λ (o : Option Way). held_with frame.id o old.upstreams.held) (sym passed.next_is) ∙ sym held_then)
+            ∙ ap (λ (d : Due). upstreams.with_due (upstream_then hs) d) (sym passed.due_is))
+          where
+            gain_now : Gain
+            gain_now = Gain.Passes (Content octets ends) number stage passed.written passed.stage
+
+        -- ---- what comes of it is dropped
+
+        dropped_passes : held_of frame.id s.requests.held ≡ Some (record { id = frame.id; way = Dropped }) → (due : Due) (hs : List Held) → due ≡ Due.Nothing → hs ≡ old.upstreams.held
+            → Passes setup old rest frame plain inbound table (taken no_outside).left mild_so old.offers (upstream_then hs) old.marks 0 due s
+        dropped_passes found due hs nothing same =
+            passes_by due hs (Gain.Drops (Content octets ends)) (adds, record { serving = serves (Gain.Drops (Content octets ends)); found = found })
+            (ap (λ (hs : List Held). upstreams.with_due (upstream_then hs) Due.Nothing) (sym same) ∙ ap (λ (d : Due). upstreams.with_due (upstream_then hs) d) (sym nothing))
+
+        content_passes : (due : Due) (hs : List Held) → TakesOf frame.id octets ends old.upstreams.held (held_of frame.id old.upstreams.held) due hs → Passes setup old rest frame plain inbound table (taken no_outside).left mild_so old.offers (upstream_then hs) old.marks 0 due s
+        content_passes due hs takes = by held.way held.found held.goes (subst (λ (o : Option Held). TakesOf frame.id octets ends old.upstreams.held o due hs) held_found takes)
+          where
+            by : (way : Way) → held_of frame.id s.requests.held ≡ Some (record { id = frame.id; way = way }) → GoesBy k.brief way → TakesBy frame.id octets ends old.upstreams.held way due hs
+                → Passes setup old rest frame plain inbound table (taken no_outside).left mild_so old.offers (upstream_then hs) old.marks 0 due s
+            by (Waiting route text stage body) found goes takes = waiting_passes route text stage body goes.part found ends refl due takes.0 hs takes.1 takes.2
+            by (Going number stage) found goes takes = going_passes number stage found due takes.0 hs takes.1 takes.2
+            by Dropped found goes takes = dropped_passes found due hs takes.0 takes.1
+
+      -- Octets of its body are taken.
+      pub content_comes : (due : Due) (hs : List Held) → TakesOf frame.id octets ends old.upstreams.held (held_of frame.id old.upstreams.held) due hs → (outputs : List Output)
+          → Brings setup old square outputs (coming frame) (record old { inbound = inbound; upstreams = record old.upstreams { held = hs } }) (record square { due = due; fresh = data_length is_any frame }) outputs
+      content_comes due hs takes outputs = passes_with (record old.upstreams { held = hs }) due refl (λ run s leads. content_passes run s leads due hs takes) outputs

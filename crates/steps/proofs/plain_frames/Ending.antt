@@ -1,5 +1,5 @@
 -- A stream that is over with a frame: the client resets it, or it is reset since the frame is an error of it.
-use Rattle.std.proofs.Common.{◌≡◌, ℕ, ◌≤◌, ◌+◌, Bool, true, false, not, ◌&&◌, ◌||◌, ◌==◌, if◌then◌else◌, List, [], ◌∷◌, length, Option, Some, None, refl, sym, ◌∙◌, ap, subst, inl, inr}
+use Rattle.std.proofs.Common.{◌≡◌, ℕ, ◌≤◌, ◌+◌, Bool, true, false, not, ◌&&◌, ◌||◌, ◌==◌, if◌then◌else◌, List, [], ◌∷◌, length, Option, Some, None, refl, sym, ◌∙◌, ap, subst, inl, inr, arith}
 use Rattle.std.proofs.lemmas.Bool.{eq-eqb}
 use Rattle.std.proofs.lemmas.Bool.Decides.{eqb_tells}
 use Rattle.std.specs.Prelude.{is_none}
@@ -40,7 +40,7 @@ use Rattle.upstreams.specs.Kept as upstreams
 use Rattle.policy.specs.Moves.{Gain, Move}
 use Rattle.policy.specs.State.{State}
 use Rattle.policy.specs.Steps.{told_by}
-use Rattle.relay.specs.View.{View, Pending, square, Leads}
+use Rattle.relay.specs.View.{View, Pending, square, waiting_for, Leads}
 use Rattle.relay.specs.Rest.{IsAtRest, NoneCut}
 use Rattle.relay.specs.Bringing.{Brings, PerformsOwn}
 use Rattle.relay.proofs.Kept.{changed_goes}
@@ -48,6 +48,12 @@ use Rattle.relay.proofs.Gaining.{none_at_fault}
 use Rattle.relay.proofs.Answered.{plain_gain, plain_owes, plain_owes_at_fault}
 use Rattle.relay.proofs.Bringing.{brings_then}
 use Rattle.relay.proofs.Resets.{reset_view, reset_paid}
+use Rattle.receiving.specs.Marks.{total}
+use Rattle.marks_kept.specs.Sides.{Side, unless_over, queue_if, queue_of}
+use Rattle.marks_kept.specs.Sides.{without as without_side}
+use Rattle.marks_kept.specs.Standing.{dropped_of}
+use Rattle.marks_kept.proofs.Looking.{gone_own}
+use Rattle.marks_kept.proofs.Rising.{without_none}
 use Rattle.relay.proofs.Coming.{no_outside, inbound_in, inbound_behind, frame_book, change_between, offers_with, told_of_rows}
 use Rattle.steps.specs.plain_frames.Kept.{forgotten}
 use Rattle.steps.proofs.plain_frames.Streams.{behind_frame, none_completed, ids_now, stays_idle, dies}
@@ -122,15 +128,15 @@ module _ (setup : Setup) (old : View) (rest : IsAtRest old) (frame : Frame) (pla
         ∙ or_second k.reset_by_gateway true ((behind_frame setup b frame).ended_by_client && k.ended_by_gateway) refl
 
     -- Nothing is kept of the stream any more.
-    pub reset_by_client : (outputs : List Output) → Brings setup old square outputs (coming frame) (forgotten frame.id (record old { inbound = inbound })) (record square { fresh = data_length is_any frame }) outputs
+    pub reset_by_client : (outputs : List Output) → Brings setup old square outputs (coming frame) (forgotten frame.id (record old { inbound = inbound })) (record square { fresh = data_length is_any frame; shared = waiting_for frame.id old }) outputs
     reset_by_client outputs =
         came setup old rest frame plain inbound table (taken no_outside).left (λ outside. ap is_fatal (taken outside).faultless) [] Due.Nothing
-        (record old.offers { kept = offering.without frame.id old.offers.kept }) (record old.upstreams { held = without id_of frame.id old.upstreams.held }) old.encoding refl
+        (record old.offers { kept = offering.without frame.id old.offers.kept }) (record old.upstreams { held = without id_of frame.id old.upstreams.held }) (without_side frame.id old.marks) (waiting_for frame.id old) old.encoding refl
         (λ outside. plain_owes setup (book_of outside old.inbound) frame plain (book_of outside inbound) judged.Reset (taken outside))
         (λ outside. names_none (told_of outside old.inbound) frame (ap (λ k. has_settings (record frame { kind = k })) kind) old.encoding)
         passes outputs
       where
-        passes : (run : List Move) (s : State) (leads : Leads setup run old square s) → Passes setup old rest frame plain inbound table (taken no_outside).left (λ outside. ap is_fatal (taken outside).faultless) (record old.offers { kept = offering.without frame.id old.offers.kept }) (record old.upstreams { held = without id_of frame.id old.upstreams.held }) Due.Nothing s
+        passes : (run : List Move) (s : State) (leads : Leads setup run old square s) → Passes setup old rest frame plain inbound table (taken no_outside).left (λ outside. ap is_fatal (taken outside).faultless) (record old.offers { kept = offering.without frame.id old.offers.kept }) (record old.upstreams { held = without id_of frame.id old.upstreams.held }) (without_side frame.id old.marks) (waiting_for frame.id old) Due.Nothing s
         passes run s leads =
             let kept : AreKept old.inbound.rows = kept_rows setup run old s leads in
             let rows : inbound.rows ≡ (book_after setup false b (coming frame)).rows = ap (λ (x : Book). x.rows) (taken no_outside).left in
@@ -150,6 +156,8 @@ module _ (setup : Setup) (old : View) (rest : IsAtRest old) (frame : Frame) (pla
               on_offer =
                   ap (λ (c : Change). offers_with frame.id c old.offers) change
                   ∙ ap (λ (ks : List offering.Kept). record old.offers { kept = ks }) (changed_goes frame.id (offering.answered_if caused) (answered_if_id caused) old.offers.kept);
+              marked = ap (λ (c : Change). unless_over c.over frame.id old.marks) change;
+              returned = ap (λ (c : Change). dropped_of c.over frame.id old.marks) change;
             }
 
 -- ---- a reset behind a frame
@@ -170,14 +178,38 @@ module _ (setup : Setup) (old : View) (rest : IsAtRest old) (frame : Frame) (pla
   abbrev upstream_mid : upstreams.State
   upstream_mid = record old.upstreams { held = serving.kept (told_of_rows mid) old.upstreams.held }
 
+  abbrev over_mid : Bool
+  over_mid = (change_between old.inbound.rows mid.rows frame.id).over
+
   abbrev view_mid : View
-  view_mid = record { inbound = mid; offers = offers_mid; upstreams = upstream_mid; encoding = old.encoding; untaken = old.untaken }
+  view_mid = record { inbound = mid; offers = offers_mid; upstreams = upstream_mid; marks = unless_over over_mid frame.id old.marks; encoding = old.encoding; untaken = old.untaken }
 
   abbrev owing : Pending
-  owing = record square { owed = rst_stream frame.id code ∷ []; fresh = data_length is_any frame }
+  owing = record square { owed = rst_stream frame.id code ∷ []; fresh = data_length is_any frame; shared = dropped_of over_mid frame.id old.marks }
 
   abbrev final : View
   final = record (forgotten frame.id (record old { inbound = inbound })) { untaken = old.untaken + length (spell (rst_stream frame.id code)) }
+
+  abbrev paid : Pending
+  paid = record square { fresh = data_length is_any frame; shared = waiting_for frame.id old }
+
+  -- nothing is kept of its DATA, and what waited goes back
+  marks_gone : without_side frame.id (unless_over over_mid frame.id old.marks) ≡ without_side frame.id old.marks
+  marks_gone = by over_mid
+    where
+      by : (b : Bool) → without_side frame.id (unless_over b frame.id old.marks) ≡ without_side frame.id old.marks
+      by true = without_none frame.id (without_side frame.id old.marks) (gone_own frame.id old.marks)
+      by false = refl
+
+  all_back : dropped_of over_mid frame.id old.marks + total (queue_of frame.id (unless_over over_mid frame.id old.marks)) ≡ waiting_for frame.id old
+  all_back = by over_mid
+    where
+      plus_none : (n : ℕ) → n + 0 ≡ n
+      plus_none n = omega (arith)
+
+      by : (b : Bool) → dropped_of b frame.id old.marks + total (queue_of frame.id (unless_over b frame.id old.marks)) ≡ waiting_for frame.id old
+      by true = ap (λ (o : Option Side). waiting_for frame.id old + total (queue_if o)) (gone_own frame.id old.marks) ∙ plus_none (waiting_for frame.id old)
+      by false = omega (arith)
 
   module _ (run : List Move) (s : State) (leads : Leads setup run old square s) where
     kept : AreKept old.inbound.rows
@@ -194,7 +226,7 @@ module _ (setup : Setup) (old : View) (rest : IsAtRest old) (frame : Frame) (pla
 
     comes : (outputs : List Output) → Brings setup old square outputs (coming frame) view_mid owing outputs
     comes outputs =
-        came setup old rest frame plain mid table_mid left_mid mild (rst_stream frame.id code ∷ []) Due.Nothing offers_mid upstream_mid old.encoding refl
+        came setup old rest frame plain mid table_mid left_mid mild (rst_stream frame.id code ∷ []) Due.Nothing offers_mid upstream_mid (unless_over over_mid frame.id old.marks) (dropped_of over_mid frame.id old.marks) old.encoding refl
         (λ outside. plain_owes_at_fault setup (book_of outside old.inbound) frame plain (Stream code) refl (fault outside))
         (λ outside. fault_names_none (told_of outside old.inbound) frame (Stream code) refl (fault outside) old.encoding)
         (λ run s leads. record {
@@ -202,6 +234,8 @@ module _ (setup : Setup) (old : View) (rest : IsAtRest old) (frame : Frame) (pla
           right = none_at_fault setup (told_by s) (noted_of frame) (Stream code) (ap (λ (x : Book). fault_in (summary_in x) (coming frame)) leads.keeps.book ∙ fault (record { given = s.desk.book.given; untaken = old.untaken }));
           requests = refl;
           on_offer = refl;
+          marked = refl;
+          returned = refl;
         })
         outputs
 
@@ -240,12 +274,15 @@ module _ (setup : Setup) (old : View) (rest : IsAtRest old) (frame : Frame) (pla
     final_is =
         ap (λ (i : Inbound). record (reset_view view_mid frame.id code) { inbound = i }) inbound_is
         ∙ ap (λ (ks : List offering.Kept). record (reset_view view_mid frame.id code) { inbound = inbound; offers = record old.offers { kept = ks } }) (all_goes frame.id (change_between old.inbound.rows mid.rows frame.id) old.offers.kept opens_no)
-        ∙ ap (λ (hs : List Held). record final { upstreams = record old.upstreams { held = hs } }) held_is
+        ∙ ap (λ (hs : List Held). record final { upstreams = record old.upstreams { held = hs }; marks = without_side frame.id view_mid.marks }) held_is
+        ∙ ap (λ (ms : List Side). record final { marks = ms }) marks_gone
 
-    resets : (outputs : List Output) → PerformsOwn setup view_mid owing outputs final (record square { fresh = data_length is_any frame }) (put outputs (ToClient (spell (rst_stream frame.id code))))
-    resets outputs = subst (λ (v : View). PerformsOwn setup view_mid owing outputs v (record square { fresh = data_length is_any frame }) (put outputs (ToClient (spell (rst_stream frame.id code))))) final_is (reset_paid setup view_mid owing [] frame.id code refl refl known fits outputs)
+    resets : (outputs : List Output) → PerformsOwn setup view_mid owing outputs final paid (put outputs (ToClient (spell (rst_stream frame.id code))))
+    resets outputs =
+        subst (λ n. PerformsOwn setup view_mid owing outputs final (record square { fresh = data_length is_any frame; shared = n }) (put outputs (ToClient (spell (rst_stream frame.id code))))) all_back
+        (subst (λ (v : View). PerformsOwn setup view_mid owing outputs v (record square { fresh = data_length is_any frame; shared = owing.shared + waiting_for frame.id view_mid }) (put outputs (ToClient (spell (rst_stream frame.id code))))) final_is (reset_paid setup view_mid owing [] frame.id code refl refl known fits outputs))
 
   -- The stream is reset, and nothing is kept of it any more.
-  pub refused : (outputs : List Output) → Brings setup old square outputs (coming frame) final (record square { fresh = data_length is_any frame }) (put outputs (ToClient (spell (rst_stream frame.id code))))
+  pub refused : (outputs : List Output) → Brings setup old square outputs (coming frame) final paid (put outputs (ToClient (spell (rst_stream frame.id code))))
   refused outputs run s leads =
-      brings_then setup old view_mid final square owing (record square { fresh = data_length is_any frame }) outputs outputs (put outputs (ToClient (spell (rst_stream frame.id code)))) (coming frame) (comes run s leads outputs) (resets run s leads outputs) run s leads
+      brings_then setup old view_mid final square owing paid outputs outputs (put outputs (ToClient (spell (rst_stream frame.id code)))) (coming frame) (comes run s leads outputs) (resets run s leads outputs) run s leads

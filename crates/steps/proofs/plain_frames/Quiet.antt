@@ -66,9 +66,9 @@ module _ (setup : Setup) (old : View) (rest : IsAtRest old) (frame : Frame) (pla
         → ((run : List Move) (s : State) → Leads setup run old square s → added_in setup (told_by s) (noted_of frame) ≡ []) → (outputs : List Output)
         → Brings setup old square outputs (coming frame) (record old { inbound = inbound; encoding = encoding }) (record square { owed = owed; fresh = data_length is_any frame }) outputs
     quiet no_data no_reset owed encoding owes encodes adds outputs =
-        came setup old rest frame plain inbound table (taken no_outside).left (λ outside. ap is_fatal (taken outside).faultless) owed Due.Nothing old.offers old.upstreams encoding refl owes encodes passes outputs
+        came setup old rest frame plain inbound table (taken no_outside).left (λ outside. ap is_fatal (taken outside).faultless) owed Due.Nothing old.offers old.upstreams old.marks 0 encoding refl owes encodes passes outputs
       where
-        passes : (run : List Move) (s : State) (leads : Leads setup run old square s) → Passes setup old rest frame plain inbound table (taken no_outside).left (λ outside. ap is_fatal (taken outside).faultless) old.offers old.upstreams Due.Nothing s
+        passes : (run : List Move) (s : State) (leads : Leads setup run old square s) → Passes setup old rest frame plain inbound table (taken no_outside).left (λ outside. ap is_fatal (taken outside).faultless) old.offers old.upstreams old.marks 0 Due.Nothing s
         passes run s leads =
             let kept : AreKept old.inbound.rows = kept_rows setup run old s leads in
             passes_same setup old rest frame plain inbound table (taken no_outside).left (λ outside. ap is_fatal (taken outside).faultless) run s leads (adds run s leads)
@@ -87,12 +87,12 @@ module _ (setup : Setup) (old : View) (rest : IsAtRest old) (frame : Frame) (pla
     -- It comes, and nothing changes.
     pub passed_over : (outputs : List Output) → Brings setup old square outputs (coming frame) (record old { inbound = inbound }) (record square { fresh = data_length is_any frame }) outputs
     passed_over outputs =
-        came setup old rest frame plain inbound table (left no_outside) (λ outside. ap is_fatal (discarded outside)) [] Due.Nothing old.offers old.upstreams old.encoding refl
+        came setup old rest frame plain inbound table (left no_outside) (λ outside. ap is_fatal (discarded outside)) [] Due.Nothing old.offers old.upstreams old.marks 0 old.encoding refl
         (λ outside. plain_owes_at_fault setup (book_of outside old.inbound) frame plain Discarded refl (discarded outside))
         (λ outside. fault_names_none (told_of outside old.inbound) frame Discarded refl (discarded outside) old.encoding)
         passes outputs
       where
-        passes : (run : List Move) (s : State) (leads : Leads setup run old square s) → Passes setup old rest frame plain inbound table (left no_outside) (λ outside. ap is_fatal (discarded outside)) old.offers old.upstreams Due.Nothing s
+        passes : (run : List Move) (s : State) (leads : Leads setup run old square s) → Passes setup old rest frame plain inbound table (left no_outside) (λ outside. ap is_fatal (discarded outside)) old.offers old.upstreams old.marks 0 Due.Nothing s
         passes run s leads =
             let kept : AreKept old.inbound.rows = kept_rows setup run old s leads in
             passes_same setup old rest frame plain inbound table (left no_outside) (λ outside. ap is_fatal (discarded outside)) run s leads

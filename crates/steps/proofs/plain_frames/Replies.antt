@@ -1,5 +1,5 @@
 -- A body that is longer than the gateway takes: it replies itself, or resets the stream where the final head of a response is out.
-use Rattle.std.proofs.Common.{◌≡◌, ◌+◌, true, false, not, ◌&&◌, List, [], ◌∷◌, length, Option, Some, None, refl, sym, ◌∙◌, ap, subst, inl, inr}
+use Rattle.std.proofs.Common.{◌≡◌, ◌+◌, true, false, not, ◌&&◌, List, [], ◌∷◌, length, Option, Some, None, refl, sym, ◌∙◌, ap, subst, inl, inr, arith, ℕ}
 use Rattle.std.proofs.lemmas.Bool.Decides.{eqb_tells}
 use Rattle.std.specs.Prelude.{is_none, option_map}
 use Rattle.model.specs.Frames.{Frame, Fits, spell, data_kind, enhance_your_calm}
@@ -28,7 +28,7 @@ use Rattle.judgement.specs.declared.answers.Judged.TheVariants as judged
 use Rattle.upstreams.specs.Kept as upstreams
 use Rattle.policy.specs.Moves.{Gain, Move}
 use Rattle.policy.specs.State.{State}
-use Rattle.relay.specs.View.{View, Pending, square, Leads}
+use Rattle.relay.specs.View.{View, Pending, square, waiting_for, Leads}
 use Rattle.relay.specs.Rest.{IsAtRest, NoneCut}
 use Rattle.relay.specs.Bringing.{Brings, PerformsOwn}
 use Rattle.relay.proofs.Answered.{plain_gain, plain_owes}
@@ -36,6 +36,8 @@ use Rattle.relay.proofs.Bringing.{brings_then}
 use Rattle.relay.proofs.Heads.{none_cut_behind}
 use Rattle.relay.proofs.Kept.{changed_goes}
 use Rattle.relay.proofs.Resets.{reset_view, reset_paid}
+use Rattle.marks_kept.specs.Sides.{unless_over}
+use Rattle.marks_kept.specs.Standing.{dropped_of}
 use Rattle.relay.proofs.Coming.{no_outside, change_between, offers_with}
 use Rattle.relay.specs.Owed.{owed_for}
 use Rattle.steps.specs.plain_frames.Kept.{forgotten}
@@ -52,7 +54,7 @@ module _ (setup : Setup) (old : View) (rest : IsAtRest old) (frame : Frame) (pla
   replied = offering.change frame.id (answered Cause.LargeBody) old.offers.kept
 
   abbrev mid : View
-  mid = record { inbound = inbound; offers = record old.offers { kept = replied }; upstreams = record old.upstreams { held = without id_of frame.id old.upstreams.held }; encoding = old.encoding; untaken = old.untaken }
+  mid = record { inbound = inbound; offers = record old.offers { kept = replied }; upstreams = record old.upstreams { held = without id_of frame.id old.upstreams.held }; marks = old.marks; encoding = old.encoding; untaken = old.untaken }
 
   module _ (run : List Move) (s : State) (leads : Leads setup run old square s) where
     now_active : is_active inbound.rows frame.id ≡ true
@@ -76,12 +78,12 @@ module _ (setup : Setup) (old : View) (rest : IsAtRest old) (frame : Frame) (pla
       → Brings setup old square outputs (coming frame) mid (record square { owed = owed; fresh = data_length is_any frame }) outputs
   comes owed owes outputs =
       came setup old rest frame plain inbound table (taken no_outside).left (mild setup old rest frame plain inbound table judged.LargeBody taken kind) owed Due.Nothing
-      (record old.offers { kept = replied }) (record old.upstreams { held = without id_of frame.id old.upstreams.held }) old.encoding refl
+      (record old.offers { kept = replied }) (record old.upstreams { held = without id_of frame.id old.upstreams.held }) old.marks 0 old.encoding refl
       (λ outside. plain_owes setup (book_of outside old.inbound) frame plain (book_of outside inbound) judged.LargeBody (taken outside) ∙ owes outside)
       (names setup old rest frame plain inbound table judged.LargeBody taken kind)
       passes outputs
     where
-      passes : (run : List Move) (s : State) (leads : Leads setup run old square s) → Passes setup old rest frame plain inbound table (taken no_outside).left (mild setup old rest frame plain inbound table judged.LargeBody taken kind) (record old.offers { kept = replied }) (record old.upstreams { held = without id_of frame.id old.upstreams.held }) Due.Nothing s
+      passes : (run : List Move) (s : State) (leads : Leads setup run old square s) → Passes setup old rest frame plain inbound table (taken no_outside).left (mild setup old rest frame plain inbound table judged.LargeBody taken kind) (record old.offers { kept = replied }) (record old.upstreams { held = without id_of frame.id old.upstreams.held }) old.marks 0 Due.Nothing s
       passes run s leads =
           let none = plain_gain setup s.desk.book frame plain (few setup run old s leads) (book_of (record { given = s.desk.book.given; untaken = old.untaken }) inbound) judged.LargeBody (taken_by setup old rest frame plain inbound table judged.LargeBody taken run s leads) in
           record {
@@ -92,6 +94,8 @@ module _ (setup : Setup) (old : View) (rest : IsAtRest old) (frame : Frame) (pla
                 (held_goes setup old rest frame plain inbound table (taken no_outside).left (mild setup old rest frame plain inbound table judged.LargeBody taken kind) run s leads none
                 (ap (λ x. x && is_none (find inbound.rows frame.id).brief.cause) (now_active run s leads) ∙ ap (λ (o : Option Cause). is_none o) (caused run s leads)));
             on_offer = ap (λ (c : Change). offers_with frame.id c old.offers) (change run s leads);
+            marked = ap (λ (c : Change). unless_over c.over frame.id old.marks) (change run s leads);
+            returned = ap (λ (c : Change). dropped_of c.over frame.id old.marks) (change run s leads);
           }
 
   -- The gateway's reply is on offer.
@@ -122,13 +126,18 @@ module _ (setup : Setup) (old : View) (rest : IsAtRest old) (frame : Frame) (pla
 
   -- The stream is reset, and nothing is kept of it any more.
   pub cut_short : (find old.inbound.rows frame.id).head_out ≡ true → Fits (rst_stream frame.id enhance_your_calm) → (outputs : List Output)
-      → Brings setup old square outputs (coming frame) final (record square { fresh = data_length is_any frame }) (put outputs (ToClient (spell (rst_stream frame.id enhance_your_calm))))
+      → Brings setup old square outputs (coming frame) final (record square { fresh = data_length is_any frame; shared = waiting_for frame.id old }) (put outputs (ToClient (spell (rst_stream frame.id enhance_your_calm))))
   cut_short out fits outputs run s leads =
-      brings_then setup old mid final square owing (record square { fresh = data_length is_any frame }) outputs outputs (put outputs (ToClient (spell (rst_stream frame.id enhance_your_calm)))) (coming frame)
+      brings_then setup old mid final square owing (record square { fresh = data_length is_any frame; shared = waiting_for frame.id old }) outputs outputs (put outputs (ToClient (spell (rst_stream frame.id enhance_your_calm)))) (coming frame)
       (comes (rst_stream frame.id enhance_your_calm ∷ []) (λ outside. ap (λ out. reset_for frame.id out None (Some Cause.LargeBody)) out) outputs)
-      (subst (λ (v : View). PerformsOwn setup mid owing outputs v (record square { fresh = data_length is_any frame }) (put outputs (ToClient (spell (rst_stream frame.id enhance_your_calm))))) final_is (reset_paid setup mid owing [] frame.id enhance_your_calm refl refl (active_closed inbound.rows frame.id (now_active run s leads)) fits outputs))
+      (subst (λ (v : View). PerformsOwn setup mid owing outputs v (record square { fresh = data_length is_any frame; shared = waiting_for frame.id old }) (put outputs (ToClient (spell (rst_stream frame.id enhance_your_calm))))) final_is
+      (subst (λ n. PerformsOwn setup mid owing outputs (reset_view mid frame.id enhance_your_calm) (record square { fresh = data_length is_any frame; shared = n }) (put outputs (ToClient (spell (rst_stream frame.id enhance_your_calm))))) (none_plus (waiting_for frame.id old))
+      (reset_paid setup mid owing [] frame.id enhance_your_calm refl refl (active_closed inbound.rows frame.id (now_active run s leads)) fits outputs)))
       run s leads
     where
+      none_plus : (n : ℕ) → 0 + n ≡ n
+      none_plus n = omega (arith)
+
       final_is : reset_view mid frame.id enhance_your_calm ≡ final
       final_is =
           ap (λ (ks : List offering.Kept). record (reset_view mid frame.id enhance_your_calm) { offers = record old.offers { kept = ks } }) (changed_goes frame.id (answered Cause.LargeBody) (answered_id Cause.LargeBody) old.offers.kept)

@@ -12,45 +12,45 @@ use Rattle.conduct.specs.Rows.{find}
 use Rattle.conduct.specs.Rows.Slot.{Over}
 use Rattle.offering.specs.State.{change, answered}
 use Rattle.request_rules.specs.Heads.{HeadParts}
-use Rattle.serving.specs.State.{id_of, without}
+use Rattle.serving.specs.State.{Due, id_of, held_of, without}
+use Rattle.serving.specs.State.Due.{Nothing}
 use Rattle.streams_kept.specs.Asked.{is_active, changed}
 use Rattle.judgement.specs.declared.answers.Fault.TheVariants as fault
 use Rattle.judgement.specs.declared.answers.BlockJudged.{BlockJudged}
 use Rattle.judgement.specs.declared.answers.BlockJudged.TheVariants as judged
 use Rattle.upstreams.specs.Kept as upstreams
 use Rattle.upstreams.specs.Kept.{Begins}
-use Rattle.upstreams.specs.Requests.{MayEndFor, IsEndedFor}
-use Rattle.upstreams.specs.declared.held.Outgoing.{Outgoing}
-use Rattle.relay.specs.View.{View}
-use Rattle.steps.specs.block_frames.Following.{followed, forgotten, IsNewest, with_farewell, put_farewell}
+use Rattle.upstreams.specs.Requests.{due_by, MayTakeOf, Takes}
+use Rattle.relay.specs.View.{View, waiting_for}
+use Rattle.steps.specs.block_frames.Following.{followed, forgotten, dropped_by, IsNewest, with_farewell, put_farewell}
 use Rattle.steps.specs.declared.block_frames.taking.BlockTaken.{BlockTaken}
 use Rattle.steps.specs.declared.block_frames.taking.BlockTaken.TheVariants as taken
 
 -- It ends with this code.
 abbrev pub Ends : ℕ → BlockTaken → Type 0
 Ends code (taken.Fatal told) = told ≡ code
-Ends code (taken.Goes request farewell) = ⊥
+Ends code (taken.Goes due farewell dropped) = ⊥
 
--- It goes on: nothing is due, and this farewell is owed yet.
-abbrev pub Goes : Option ℕ → BlockTaken → Type 0
-Goes last (taken.Fatal code) = ⊥
-Goes last (taken.Goes request farewell) = (request ≡ None) × (farewell ≡ last)
+-- It goes on: nothing is due, this farewell is owed yet, and so many octets that waited of the stream's DATA go back.
+abbrev pub Goes : Option ℕ → ℕ → BlockTaken → Type 0
+Goes last back (taken.Fatal code) = ⊥
+Goes last back (taken.Goes due farewell dropped) = (due_by due ≡ Nothing) × (farewell ≡ last) × (dropped ≡ back)
 
 -- What is kept of the stream follows, and nothing else is done.
 pub record IsFollowed (id : ℕ) (last : Option ℕ) (old : View) (outputs : List Output) (answer : BlockTaken) (new : View) (put_out : List Output) : Type 0 where
-  pub goes : Goes last answer
+  pub goes : Goes last (dropped_by id old) answer
   pub kept : new ≡ followed id old
   pub puts : put_out ≡ outputs
 
 -- The stream is reset, behind the farewell, and nothing is kept of it any more.
 pub record IsReset (id code : ℕ) (last : Option ℕ) (old : View) (outputs : List Output) (answer : BlockTaken) (new : View) (put_out : List Output) : Type 0 where
-  pub goes : Goes None answer
+  pub goes : Goes None (waiting_for id old) answer
   pub kept : new ≡ record (forgotten id old) { untaken = (with_farewell last old).untaken + length (spell (rst_stream id code)) }
   pub puts : put_out ≡ put (put_farewell last outputs) (ToClient (spell (rst_stream id code)))
 
 -- The gateway's reply is on offer.
 pub record IsOffered (id : ℕ) (cause : model.Cause) (last : Option ℕ) (old : View) (outputs : List Output) (answer : BlockTaken) (new : View) (put_out : List Output) : Type 0 where
-  pub goes : Goes last answer
+  pub goes : Goes last (dropped_by id old) answer
   pub kept : new ≡ record (followed id old) { offers = record (followed id old).offers { kept = change id (answered cause) (followed id old).offers.kept } }
   pub puts : put_out ≡ outputs
 
@@ -60,38 +60,40 @@ IsReplied true (Some code) id cause last old outputs answer new put_out =
     IsReset id code last (record old { inbound = record old.inbound { rows = changed id (Over true) old.inbound.rows } }) outputs answer new put_out
 IsReplied _ _ id cause last old outputs answer new put_out = IsOffered id cause last old outputs answer new put_out
 
--- what is answered of a request that begins, with this farewell
-abbrev pub IsBegun : ℕ → ℕ → HeadParts → Bool → Option ℕ → upstreams.State → BlockTaken → upstreams.State → Type 0
-IsBegun id route parts ended last old (taken.Fatal code) new = ⊥
-IsBegun id route parts ended last old (taken.Goes request farewell) new = Begins old id route parts ended request new × (farewell ≡ last)
+-- what is answered of a request that begins, and goes out at once or doesn't, with this farewell, and octets that go back
+abbrev pub IsBegun : ℕ → ℕ → HeadParts → Bool → Bool → Option ℕ → ℕ → upstreams.State → BlockTaken → upstreams.State → Type 0
+IsBegun id route parts ended at_once last back old (taken.Fatal code) new = ⊥
+IsBegun id route parts ended at_once last back old (taken.Goes due farewell dropped) new =
+    Begins old id route parts ended at_once (due_by due) new × (farewell ≡ last) × (dropped ≡ back)
 
 -- A request began.
-pub record HasBegun (id route : ℕ) (parts : HeadParts) (last : Option ℕ) (old : View) (outputs : List Output) (answer : BlockTaken) (new : View) (put_out : List Output) : Type 0 where
-  pub begun : IsBegun id route parts (find old.inbound.rows id).ended_by_client last (followed id old).upstreams answer new.upstreams
+pub record HasBegun (id route : ℕ) (parts : HeadParts) (at_once : Bool) (last : Option ℕ) (old : View) (outputs : List Output) (answer : BlockTaken) (new : View) (put_out : List Output) : Type 0 where
+  pub begun : IsBegun id route parts (find old.inbound.rows id).ended_by_client at_once last (dropped_by id old) (followed id old).upstreams answer new.upstreams
   pub kept : new ≡ record (followed id old) { upstreams = new.upstreams }
   pub puts : put_out ≡ outputs
 
--- what is answered of one that ended
-abbrev pub IsWhole : ℕ → Option ℕ → upstreams.State → BlockTaken → Type 0
-IsWhole id last old (taken.Fatal code) = ⊥
-IsWhole id last old (taken.Goes None farewell) = ⊥
-IsWhole id last old (taken.Goes (Some request) farewell) = IsEndedFor id [] old.held request × (farewell ≡ last)
+-- this is due, with this farewell, and nothing that waited goes back
+abbrev pub GoesWith : Due → Option ℕ → BlockTaken → Type 0
+GoesWith due last (taken.Fatal code) = ⊥
+GoesWith due last (taken.Goes answer farewell dropped) = (due_by answer ≡ due) × (farewell ≡ last) × (dropped ≡ 0)
 
 -- It ended with trailers.
 pub record HasEnded (id : ℕ) (last : Option ℕ) (old : View) (outputs : List Output) (answer : BlockTaken) (new : View) (put_out : List Output) : Type 0 where
-  pub whole : IsWhole id last old.upstreams answer
-  pub kept : new ≡ record old { upstreams = record old.upstreams { held = without id_of id old.upstreams.held } }
+  pub due : Due
+  pub goes : GoesWith due last answer
+  pub takes : Takes id [] true old.upstreams.held (held_of id old.upstreams.held) due new.upstreams.held
+  pub kept : new ≡ record old { upstreams = record old.upstreams { held = new.upstreams.held } }
   pub puts : put_out ≡ outputs
 
 -- All that is done by an answer, with the farewell that is owed.
-abbrev pub IsActed : ℕ → BlockJudged → Option ℕ → View → List Output → BlockTaken → View → List Output → Type 0
-IsActed id (judged.Failed (fault.Connection code)) last old outputs answer new put_out = Ends code answer × (new ≡ old) × (put_out ≡ outputs)
-IsActed id (judged.Failed (fault.Stream code)) last old outputs answer new put_out = IsReset id code last old outputs answer new put_out
-IsActed id (judged.Begins head route) last old outputs answer new put_out = HasBegun id route head last old outputs answer new put_out
-IsActed id (judged.Answered cause) last old outputs answer new put_out =
+abbrev pub IsActed : ℕ → Bool → BlockJudged → Option ℕ → View → List Output → BlockTaken → View → List Output → Type 0
+IsActed id at_once (judged.Failed (fault.Connection code)) last old outputs answer new put_out = Ends code answer × (new ≡ old) × (put_out ≡ outputs)
+IsActed id at_once (judged.Failed (fault.Stream code)) last old outputs answer new put_out = IsReset id code last old outputs answer new put_out
+IsActed id at_once (judged.Begins head route) last old outputs answer new put_out = HasBegun id route head at_once last old outputs answer new put_out
+IsActed id at_once (judged.Answered cause) last old outputs answer new put_out =
     IsReplied (find old.inbound.rows id).head_out (model.reset_code (cause_of cause)) id (cause_of cause) last old outputs answer new put_out
-IsActed id judged.Trailers last old outputs answer new put_out = HasEnded id last old outputs answer new put_out
-IsActed id other last old outputs answer new put_out = IsFollowed id last old outputs answer new put_out
+IsActed id at_once judged.Trailers last old outputs answer new put_out = HasEnded id last old outputs answer new put_out
+IsActed id at_once other last old outputs answer new put_out = IsFollowed id last old outputs answer new put_out
 
 -- A request that begins is on an active stream, and declares no body where its head ends it.
 pub record MayBegin (id : ℕ) (parts : HeadParts) (old : View) : Type 0 where
@@ -102,5 +104,5 @@ pub record MayBegin (id : ℕ) (parts : HeadParts) (old : View) : Type 0 where
 abbrev pub MayAct : ℕ → BlockJudged → View → Type 0
 MayAct id (judged.Begins head route) old = MayBegin id head old
 MayAct id (judged.Answered cause) old = is_active old.inbound.rows id ≡ true
-MayAct id judged.Trailers old = MayEndFor id [] old.upstreams.held
+MayAct id judged.Trailers old = MayTakeOf [] true (held_of id old.upstreams.held)
 MayAct id other old = Unit {0}

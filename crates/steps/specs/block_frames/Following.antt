@@ -14,7 +14,9 @@ use Rattle.offers.specs.Asked.{is_kept, is_above_all}
 use Rattle.serving.specs.State.{Held, id_of, without}
 use Rattle.streams_kept.specs.Asked.{is_active}
 use Rattle.streams_kept.specs.Sending.{is_served}
-use Rattle.relay.specs.View.{View}
+use Rattle.marks_kept.specs.Sides.{Side}
+use Rattle.marks_kept.specs.Sides as marks
+use Rattle.relay.specs.View.{View, waiting_for}
 
 -- ---- one stream
 
@@ -28,12 +30,25 @@ abbrev pub held_if : Bool → ℕ → List Held → List Held
 held_if true id hs = hs
 held_if false id hs = without id_of id hs
 
--- both by the rows
+-- what is kept of its DATA that waits stays where it is active, and else goes back
+abbrev pub marks_if : Bool → ℕ → List Side → List Side
+marks_if true id sides = sides
+marks_if false id sides = marks.without id sides
+
+abbrev pub dropped_if : Bool → ℕ → ℕ
+dropped_if true waits = 0
+dropped_if false waits = waits
+
+-- all by the rows
 abbrev pub followed : ℕ → View → View
 followed id kept = record kept {
   offers = offers_if (is_active kept.inbound.rows id) id kept.offers;
   upstreams = record kept.upstreams { held = held_if (is_served kept.inbound.rows id) id kept.upstreams.held };
+  marks = marks_if (is_active kept.inbound.rows id) id kept.marks;
 }
+
+abbrev pub dropped_by : ℕ → View → ℕ
+dropped_by id kept = dropped_if (is_active kept.inbound.rows id) (waiting_for id kept)
 
 -- A stream for which something is to be on offer from now on is above all others.
 abbrev pub IsNewest : Bool → ℕ → offering.State → Type 0
@@ -44,6 +59,7 @@ abbrev pub forgotten : ℕ → View → View
 forgotten id kept = record kept {
   offers = record kept.offers { kept = offering.without id kept.offers.kept };
   upstreams = record kept.upstreams { held = without id_of id kept.upstreams.held };
+  marks = marks.without id kept.marks;
 }
 
 -- ---- the farewell of the last stream that a connection may have (RFC 9113, section 6.8)

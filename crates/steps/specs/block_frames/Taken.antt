@@ -9,8 +9,8 @@ use Rattle.model.specs.Tapes.Entry.{Came}
 use Rattle.model.specs.Errors.Fault.{Connection}
 use Rattle.conduct.specs.Owing.{fault_in}
 use Rattle.streams_kept.specs.Asked.{has}
-use Rattle.upstreams.specs.Requests.{due_in}
-use Rattle.upstreams.specs.declared.held.Outgoing.{Outgoing}
+use Rattle.upstreams.specs.Requests.{due_by}
+use Rattle.upstreams.specs.declared.held.Due.{Due}
 use Rattle.policy.specs.Moves.{Move}
 use Rattle.policy.specs.State.{State}
 use Rattle.policy.specs.Steps.{told_by}
@@ -23,11 +23,11 @@ use Rattle.steps.specs.block_frames.Following.{farewell_frames}
 use Rattle.steps.specs.declared.block_frames.taking.BlockTaken.{BlockTaken}
 use Rattle.steps.specs.declared.block_frames.taking.BlockTaken.TheVariants as taken
 
--- The connection goes on: the frame came, with what is noted of its block, and what it calls for was sent; a request may be due, and the
--- farewell of the last stream may be owed yet. It was about its stream alone, and no other is opened.
-pub record IsPassed (setup : Setup) (old : View) (outputs : List Output) (frame : Frame) (request : Option Outgoing) (farewell : Option ℕ) (new : View) (put_out : List Output) : Type 0 where
+-- The connection goes on: the frame came, with what is noted of its block, and what it calls for was sent; a request or a text may be due, the
+-- farewell of the last stream may be owed yet, and octets that waited of a stream that is over go back. It was about its stream alone, and no other is opened.
+pub record IsPassed (setup : Setup) (old : View) (outputs : List Output) (frame : Frame) (due : Due) (farewell : Option ℕ) (dropped : ℕ) (new : View) (put_out : List Output) : Type 0 where
   pub note : Note
-  pub brings : Brings setup old square outputs (Came (record { frame = frame; note = note })) new (record square { owed = farewell_frames farewell; due = due_in request }) put_out
+  pub brings : Brings setup old square outputs (Came (record { frame = frame; note = note })) new (record square { owed = farewell_frames farewell; due = due_by due; shared = dropped }) put_out
   pub none_cut : NoneCut new.offers
   pub about : IsAbout frame.id old new
   pub ids : (id : ℕ) → has new.inbound.rows id ≡ true → (has old.inbound.rows id ≡ true) ⊎ (frame.id ≡ id)
@@ -47,4 +47,4 @@ pub record IsFatalFrame (setup : Setup) (old : View) (outputs : List Output) (fr
 -- What was answered is so.
 abbrev pub IsBlockTaken : Setup → View → List Output → Frame → BlockTaken → View → List Output → Type 0
 IsBlockTaken setup old outputs frame (taken.Fatal code) new put_out = IsFatalFrame setup old outputs frame code new put_out
-IsBlockTaken setup old outputs frame (taken.Goes request farewell) new put_out = IsPassed setup old outputs frame request farewell new put_out
+IsBlockTaken setup old outputs frame (taken.Goes due farewell dropped) new put_out = IsPassed setup old outputs frame due farewell dropped new put_out

@@ -15,6 +15,7 @@ answered_with k answer offers kept = record {
   inbound = kept.inbound;
   offers = offers;
   upstreams = record kept.upstreams { live = map (answer_at k answer) kept.upstreams.live };
+  marks = kept.marks;
   encoding = kept.encoding;
   untaken = kept.untaken;
 }

@@ -27,6 +27,7 @@ use Rattle.offers.specs.Asked.{part_for}
 use Rattle.offers.specs.Changes.{behind_turn}
 use Rattle.outputs.specs.Sent.{data_frame, put_frames}
 use Rattle.outputs.specs.Blocks.{block_frames}
+use Rattle.marks_kept.specs.Sides as marks
 use Rattle.relay.specs.View.{View}
 
 -- a part of a stream went out in so many octets, and this is kept of the stream, of the connection's window and of the encoder
@@ -38,11 +39,12 @@ part_gone id part kept window encoding count u = record u {
   untaken = u.untaken + count;
 }
 
--- nothing is on offer for a stream any more, and nothing is held of its request
+-- nothing is on offer for a stream any more, and nothing is held of its request nor kept of its DATA
 abbrev pub let_go : ℕ → View → View
 let_go id u = record u {
   offers = record u.offers { kept = offering.without id u.offers.kept };
   upstreams = record u.upstreams { held = serving.without id_of id u.upstreams.held };
+  marks = marks.without id u.marks;
 }
 
 -- the same, where the stream isn't active any more

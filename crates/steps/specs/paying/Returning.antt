@@ -1,10 +1,19 @@
 -- Octets of DATA that are given back (RFC 9113, section 6.9), and what is kept behind the frame that gives them.
-use Rattle.std.specs.Prelude.{ℕ, ◌+◌, Bool, not, ◌&&◌, List, pos, ◌+ℤ◌}
+use Rattle.std.specs.Prelude.{◌≡◌, ◌≤◌, ℕ, ◌+◌, Bool, not, ◌&&◌, ◌==◌, if◌then◌else◌, List, pos, ◌+ℤ◌}
 use Rattle.conduct.specs.Rows.{Row, find}
-use Rattle.streams_kept.specs.Asked.{is_active}
-use Rattle.streams_kept.specs.Sending.{given_back}
+use Rattle.streams_kept.specs.Asked.{has, is_active}
+use Rattle.streams_kept.specs.Sending.{given_back, is_served}
 use Rattle.judgement.specs.Sending.{with_kept}
-use Rattle.relay.specs.View.{View}
+use Rattle.relay.specs.View.{View, Pending, square}
+use Rattle.relay.specs.Rest.{GoesOn}
+
+-- so many octets on one stream, and none on any other
+abbrev pub own_of : ℕ → ℕ → ℕ → ℕ
+own_of id count other = if id == other then count else 0
+
+-- so many octets are to go back, on the connection and on a stream, and nothing else is pending
+abbrev pub back_on : ℕ → ℕ → Pending
+back_on id count = record square { shared = count; own = own_of id count }
 
 -- they go back on a stream: it is active, and the client hasn't ended it
 abbrev pub goes_back_on : List Row → ℕ → Bool
@@ -17,3 +26,13 @@ given_on_connection kept count = record kept { inbound = record kept.inbound { r
 abbrev pub given_on_stream : View → ℕ → ℕ → View
 given_on_stream kept id count =
     record kept { inbound = record kept.inbound { rows = with_kept id (given_back count (find kept.inbound.rows id)) kept.inbound.rows }; untaken = kept.untaken + 13 }
+
+-- Octets were given back, or wait: windows, what waits and what is untaken changed, and nothing else.
+pub record IsReturned (old new : View) : Type 0 where
+  pub offers : new.offers ≡ old.offers
+  pub upstreams : new.upstreams ≡ old.upstreams
+  pub encoding : new.encoding ≡ old.encoding
+  pub goes_on : GoesOn old → GoesOn new
+  pub opened : (id : ℕ) → has new.inbound.rows id ≡ has old.inbound.rows id
+  pub served : (id : ℕ) → is_served new.inbound.rows id ≡ is_served old.inbound.rows id
+  pub more : old.untaken ≤ new.untaken

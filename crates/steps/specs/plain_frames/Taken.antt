@@ -1,5 +1,5 @@
 -- What comes of a frame of the client without a fragment of a header block.
-use Rattle.std.specs.Prelude.{◌≡◌, ℕ, List, Some, Option}
+use Rattle.std.specs.Prelude.{◌≡◌, ℕ, List, Some}
 use Rattle.model.specs.Frames.{Frame}
 use Rattle.model.specs.Logs.{Output}
 use Rattle.model.specs.Setup.{Setup}
@@ -9,8 +9,8 @@ use Rattle.model.specs.WindowsOnTape.{is_any, data_length}
 use Rattle.conduct.specs.Owing.{fault_in}
 use Rattle.conduct.specs.Quiet.{noted_of}
 use Rattle.conduct.specs.Rows.{ids_of}
-use Rattle.upstreams.specs.Requests.{due_in}
-use Rattle.upstreams.specs.declared.held.Outgoing.{Outgoing}
+use Rattle.upstreams.specs.Requests.{due_by}
+use Rattle.upstreams.specs.declared.held.Due.{Due}
 use Rattle.policy.specs.Moves.{Move}
 use Rattle.policy.specs.State.{State}
 use Rattle.policy.specs.Steps.{told_by}
@@ -22,10 +22,10 @@ use Rattle.steps.specs.Closings.{IsAbout}
 use Rattle.steps.specs.declared.plain_frames.taking.Taken.{Taken}
 use Rattle.steps.specs.declared.plain_frames.taking.Taken.TheVariants as taken
 
--- The connection goes on: the frame came, all that it calls for was sent, and a request may be due; its octets of DATA go back once its
--- effect is over. It was about its stream alone; no stream is opened, and it was the last frame's stream.
-pub record IsPassed (setup : Setup) (old : View) (outputs : List Output) (frame : Frame) (due : Option Outgoing) (new : View) (put_out : List Output) : Type 0 where
-  pub brings : Brings setup old square outputs (Came (noted_of frame)) new (record square { due = due_in due; fresh = data_length is_any frame }) put_out
+-- The connection goes on: the frame came, all that it calls for was sent, and a request or a text may be due; its octets of DATA go back once its
+-- effect is over, and so do these that waited of a stream that is over. It was about its stream alone; no stream is opened, and it was the last frame's stream.
+pub record IsPassed (setup : Setup) (old : View) (outputs : List Output) (frame : Frame) (due : Due) (dropped : ℕ) (new : View) (put_out : List Output) : Type 0 where
+  pub brings : Brings setup old square outputs (Came (noted_of frame)) new (record square { due = due_by due; fresh = data_length is_any frame; shared = dropped }) put_out
   pub none_cut : NoneCut new.offers
   pub about : IsAbout frame.id old new
   pub ids : ids_of new.inbound.rows ≡ ids_of old.inbound.rows
@@ -44,4 +44,4 @@ pub record IsFatalFrame (setup : Setup) (old : View) (outputs : List Output) (fr
 -- What was answered is so.
 abbrev pub IsPlainTaken : Setup → View → List Output → Frame → Taken → View → List Output → Type 0
 IsPlainTaken setup old outputs frame (taken.Fatal code) new put_out = IsFatalFrame setup old outputs frame code new put_out
-IsPlainTaken setup old outputs frame (taken.Goes request) new put_out = IsPassed setup old outputs frame request new put_out
+IsPlainTaken setup old outputs frame (taken.Goes due dropped) new put_out = IsPassed setup old outputs frame due dropped new put_out

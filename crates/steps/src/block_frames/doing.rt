@@ -1,16 +1,20 @@
 //! What is done behind the judgement of a frame.
 
-ghost use Rattle.std.specs.Prelude.{◌≡◌, ◌+◌, ◌<◌, true, length, OnOk};
+ghost use Rattle.std.specs.Prelude.{◌≡◌, ◌+◌, ◌<◌, true, length, if◌then◌else◌, IfOk, OnOk};
 ghost use Rattle.model.specs.Frames.{spell};
 ghost use Rattle.model.specs.ErrorClause.{rst_stream};
 ghost use Rattle.model.specs.Logs.Output.{ToClient};
 ghost use Rattle.model.specs.Tapes.{put};
 ghost use Rattle.conduct.specs.Rows.{find};
 ghost use Rattle.streams_kept.specs.Asked.{is_active};
-ghost use Rattle.steps.specs.block_frames.Following.{followed, forgotten, farewell_behind, held_if, offers_if, put_farewell, with_farewell, IsNewest};
+ghost use Rattle.receiving.specs.Marks.{total};
+ghost use Rattle.marks_kept.specs.Sides.{queue_of};
+ghost use Rattle.relay.specs.View.{waiting_for};
+ghost use Rattle.steps.specs.block_frames.Following.{followed, forgotten, dropped_by, farewell_behind, held_if, marks_if, offers_if, put_farewell, with_farewell, IsNewest};
 
 use crate::paying::{Control, pay};
 use judgement::Connection;
+use marks_kept::Marks;
 use offers::Offers;
 use outputs::Outputs;
 use relay::Rooms;
@@ -90,16 +94,26 @@ fn follow_requests(upstreams: &mut Upstreams, id: u32, served: bool)
     }
 }
 
-/// What is kept of a stream follows what the judgement left of it. An `Err` says that memory was refused.
-pub(crate) fn follow(rooms: &mut Rooms, id: u32) -> Result<(), AllocError>
+/// Nothing is kept of a stream's DATA that waited once the stream isn't active: so many octets go back.
+fn follow_marks(marks: &mut Marks, id: u32, active: bool) -> u64
+    ensures kept { marks.new ≡ marks_if active id marks.old }
+    ensures dropped { result ≡ (if active then 0 else total (queue_of id marks.old)) }
+{
+    if active { 0 } else { marks.close(id) }
+}
+
+/// What is kept of a stream follows what the judgement left of it; so many octets that waited of its DATA go back. An `Err` says that memory was
+/// refused.
+pub(crate) fn follow(rooms: &mut Rooms, id: u32) -> Result<u64, AllocError>
     requires { IsNewest (is_active rooms.old.inbound.rows id) id rooms.old.offers }
-    ensures { OnOk result (rooms.new ≡ followed id rooms.old) }
+    ensures kept { OnOk result (rooms.new ≡ followed id rooms.old) }
+    ensures dropped { IfOk result (λ dropped. dropped ≡ dropped_by id rooms.old) }
 {
     let active = is_active(rooms.inbound.streams(), id);
     follow_offers(&mut rooms.offers, id, active)?;
     let served = rooms.inbound.is_served(id);
     follow_requests(&mut rooms.upstreams, id, served);
-    Ok(())
+    Ok(follow_marks(&mut rooms.marks, id, active))
 }
 
 /// Pays the farewell, where it is owed (RFC 9113, section 6.8). An `Err` says that memory was refused.
@@ -124,25 +138,28 @@ fn pay_farewell(
     }
 }
 
-/// Sends the reset of a stream behind the farewell, if that is owed; nothing is kept of the stream any more (RFC 9113, section 6.4). An `Err` says
-/// that memory was refused.
+/// Sends the reset of a stream behind the farewell, if that is owed; nothing is kept of the stream any more (RFC 9113, section 6.4), and so many
+/// octets that waited of its DATA go back. An `Err` says that memory was refused.
 pub(crate) fn reset(
     rooms: &mut Rooms,
     id: u32,
     code: u32,
     farewell: Option<u32>,
     out: &mut Outputs,
-) -> Result<(), AllocError>
+) -> Result<u64, AllocError>
     requires { id < 2147483648 }
+    ensures dropped { IfOk result (λ dropped. dropped ≡ waiting_for id rooms.old) }
     ensures kept { OnOk result (rooms.new ≡ record (forgotten id rooms.old) { untaken = (with_farewell farewell rooms.old).untaken + length (spell (rst_stream id code)) }) }
     ensures sent { OnOk result (out.new ≡ put (put_farewell farewell out.old) (ToClient (spell (rst_stream id code)))) }
 {
     pay_farewell(rooms, farewell, out)?;
     rooms.offers.close(id);
     rooms.upstreams.forget(id);
+    let dropped = rooms.marks.close(id);
     let Some(untaken) = rooms.untaken.checked_add(RESET_OCTETS) else {
         return Err(AllocError);
     };
     rooms.untaken = untaken;
-    out.send_rst_stream(id, code)
+    out.send_rst_stream(id, code)?;
+    Ok(dropped)
 }

@@ -4,14 +4,14 @@ ghost use Rattle.std.specs.Prelude.{◌≡◌, ◌≤◌, ◌<◌, ℕ, true, []
 ghost use Rattle.model.specs.Http2.{HasLength};
 ghost use Rattle.model.specs.Causes.{reset_code};
 ghost use Rattle.model.specs.Setup.{Setup};
-ghost use Rattle.model.specs.Setup.Passing.{Whole};
 ghost use Rattle.causes.specs.Views.{cause_of};
 ghost use Rattle.conduct.specs.Rows.{find};
 ghost use Rattle.frames.specs.Views.{frame_of};
 ghost use Rattle.streams_kept.specs.Asked.{is_active};
 ghost use Rattle.judgement.specs.Blocks.{IsFor};
 ghost use Rattle.judgement.specs.Fragments.{IsOfBlock};
-ghost use Rattle.upstreams.specs.Requests.{MayEndFor};
+ghost use Rattle.serving.specs.State.{held_of, is_streaming};
+ghost use Rattle.upstreams.specs.Requests.{MayTakeOf};
 ghost use Rattle.relay.specs.View.{square};
 ghost use Rattle.relay.specs.Rest.{IsAtRest, Reached};
 ghost use Rattle.steps.specs.block_frames.Following.{IsNewest};
@@ -26,19 +26,21 @@ use outputs::Outputs;
 use relay::Rooms;
 use request_rules::RequestHead;
 use std::alloc::AllocError;
-use upstreams::Outgoing;
+use upstreams::Due;
 
 /// What is to be done behind a frame of the client that has a fragment of a header block.
 #[derive(Drop)]
 pub enum BlockTaken {
     /// The connection ends with GOAWAY and this code (RFC 9113, section 5.4.1).
     Fatal(u32),
-    /// It goes on; a whole request may be due to its upstream.
+    /// It goes on; a request, or more of one, may be due to its upstream.
     Goes {
-        /// The request.
-        request: Option<Outgoing>,
+        /// What is due.
+        due: Due,
         /// The last stream that the connection may have, where GOAWAY with NO_ERROR is owed, since it was opened (RFC 9113, section 6.8).
         farewell: Option<u32>,
+        /// How many octets that waited of the stream's DATA go back on the connection, since it is over.
+        dropped: u64,
     },
 }
 
@@ -52,10 +54,11 @@ fn pass(
     requires { IsNewest (is_active rooms.old.inbound.rows id) id rooms.old.offers }
     ensures { IfOk result (λ taken. IsFollowed id farewell rooms.old out.old taken rooms.new out.new) }
 {
-    follow(rooms, id)?;
+    let dropped = follow(rooms, id)?;
     Ok(BlockTaken::Goes {
-        request: None,
+        due: Due::Nothing,
         farewell,
+        dropped,
     })
 }
 
@@ -70,30 +73,36 @@ pub(crate) fn refuse(
     requires { id < 2147483648 }
     ensures { IfOk result (λ taken. IsReset id code farewell rooms.old out.old taken rooms.new out.new) }
 {
-    reset(rooms, id, code, farewell, out)?;
+    let dropped = reset(rooms, id, code, farewell, out)?;
     Ok(BlockTaken::Goes {
-        request: None,
+        due: Due::Nothing,
         farewell: None,
+        dropped,
     })
 }
 
-/// Begins a request: it is due where its head ends it, and waits else (RFC 9113, section 8.1).
+/// Begins a request: it is due where its head ends it, or where requests go out at once, and waits else (RFC 9113, section 8.1).
 fn begin(
     rooms: &mut Rooms,
     id: u32,
     head: &RequestHead,
     route: u32,
+    at_once: bool,
     farewell: Option<u32>,
     out: &mut Outputs,
 ) -> Result<BlockTaken, AllocError>
     requires newest { IsNewest (is_active rooms.old.inbound.rows id) id rooms.old.offers }
     requires may { MayBegin id head.now rooms.old }
-    ensures { IfOk result (λ taken. HasBegun id route head.now farewell rooms.old out.old taken rooms.new out.new) }
+    ensures { IfOk result (λ taken. HasBegun id route head.now at_once farewell rooms.old out.old taken rooms.new out.new) }
 {
     let ended = has_ended(&rooms.inbound, id);
-    follow(rooms, id)?;
-    let request = rooms.upstreams.begin(id, route, head, ended)?;
-    Ok(BlockTaken::Goes { request, farewell })
+    let dropped = follow(rooms, id)?;
+    let due = rooms.upstreams.begin(id, route, head, ended, at_once)?;
+    Ok(BlockTaken::Goes {
+        due,
+        farewell,
+        dropped,
+    })
 }
 
 /// Replies to a request in place of an upstream, or resets its stream where it is too late for that.
@@ -115,28 +124,30 @@ fn reply(
             return refuse(rooms, id, code, farewell, out);
         }
     }
-    follow(rooms, id)?;
+    let dropped = follow(rooms, id)?;
     rooms.offers.reply(id, cause)?;
     Ok(BlockTaken::Goes {
-        request: None,
+        due: Due::Nothing,
         farewell,
+        dropped,
     })
 }
 
-/// Ends a request behind which trailers came: it is due.
+/// Ends a request behind which trailers came: it is due, or what is left of it where it goes out.
 fn finish(
     rooms: &mut Rooms,
     id: u32,
     farewell: Option<u32>,
     out: &mut Outputs,
 ) -> Result<BlockTaken, AllocError>
-    requires { MayEndFor id [] rooms.old.upstreams.held }
+    requires { MayTakeOf [] true (held_of id rooms.old.upstreams.held) }
     ensures { IfOk result (λ taken. HasEnded id farewell rooms.old out.old taken rooms.new out.new) }
 {
-    let request = rooms.upstreams.finish(id, &[])?;
+    let due = rooms.upstreams.take_body(id, &[], true)?;
     Ok(BlockTaken::Goes {
-        request: Some(request),
+        due,
         farewell,
+        dropped: 0,
     })
 }
 
@@ -144,6 +155,7 @@ fn finish(
 fn act(
     rooms: &mut Rooms,
     id: u32,
+    at_once: bool,
     answer: BlockJudged,
     farewell: Option<u32>,
     out: &mut Outputs,
@@ -151,12 +163,14 @@ fn act(
     requires newest { IsNewest (is_active rooms.old.inbound.rows id) id rooms.old.offers }
     requires may { MayAct id answer rooms.old }
     requires of_stream { id < 2147483648 }
-    ensures { IfOk result (λ taken. IsActed id answer farewell rooms.old out.old taken rooms.new out.new) }
+    ensures { IfOk result (λ taken. IsActed id at_once answer farewell rooms.old out.old taken rooms.new out.new) }
 {
     match answer {
         BlockJudged::Failed(Fault::Connection(code)) => Ok(BlockTaken::Fatal(code)),
         BlockJudged::Failed(Fault::Stream(code)) => refuse(rooms, id, code, farewell, out),
-        BlockJudged::Begins { head, route } => begin(rooms, id, &head, route, farewell, out),
+        BlockJudged::Begins { head, route } => {
+            begin(rooms, id, &head, route, at_once, farewell, out)
+        },
         BlockJudged::Answered(cause) => reply(rooms, id, cause, farewell, out),
         BlockJudged::Trailers => finish(rooms, id, farewell, out),
         BlockJudged::Failed(Fault::Discarded) | BlockJudged::GoesOn | BlockJudged::Ignored => {
@@ -166,12 +180,14 @@ fn act(
 }
 
 /// Takes a frame of the client that has a fragment of a header block: HEADERS or CONTINUATION. Its stream is reset where it is in error, or where it is
-/// too late to reply (RFC 9113, section 5.4.2); then the farewell goes before that, if it is owed. An `Err` says that memory was refused; then
+/// too late to reply (RFC 9113, section 5.4.2); then the farewell goes before that, if it is owed. A request goes out at once, before its body came, where
+/// bodies are passed on as they come. An `Err` says that memory was refused; then
 /// neither the rooms nor the outputs are of use any more.
 pub fn take_block(
     rooms: &mut Rooms,
     view: View<'_>,
     terms: Terms<'_>,
+    at_once: bool,
     out: &mut Outputs,
 ) -> Result<BlockTaken, AllocError>
     requires kind { IsOfBlock (frame_of view) }
@@ -179,11 +195,11 @@ pub fn take_block(
     requires few { length terms.routes.now ≤ u32.MAX }
     requires of_stream { view.id < 2147483648 }
     requires rest { IsAtRest rooms.old }
-    requires reached { (setup : Setup) × IsFor setup terms × (setup.passing ≡ Whole) × Reached setup rooms.old square }
-    ensures { IfOk result (λ taken. (setup : Setup) → IsFor setup terms.entry → setup.passing ≡ Whole → IsBlockTaken setup rooms.old out.old (frame_of view.entry) taken rooms.new out.new) }
+    requires reached { (setup : Setup) × IsFor setup terms × (at_once ≡ is_streaming setup.passing) × Reached setup rooms.old square }
+    ensures { IfOk result (λ taken. (setup : Setup) → IsFor setup terms.entry → at_once ≡ is_streaming setup.passing → IsBlockTaken setup rooms.old out.old (frame_of view.entry) taken rooms.new out.new) }
 {
     let before = rooms.inbound.streams().count();
     let answer = rooms.inbound.judge_fragment(view, terms)?;
     let farewell = farewell_behind(before, rooms.inbound.streams());
-    act(rooms, view.id, answer, farewell, out)
+    act(rooms, view.id, at_once, answer, farewell, out)
 }

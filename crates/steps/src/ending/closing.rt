@@ -36,7 +36,7 @@ pub fn end(rooms: &mut Rooms, why: Ending, out: &mut Outputs) -> Result<(), Allo
 /// upstream, and the client's. What is kept is of no use behind it, whatever it answers. An `Err` says that memory was refused.
 pub fn shut(rooms: &mut Rooms, out: &mut Outputs) -> Result<(), AllocError>
     requires spent { (told_view rooms.old).ends ≡ true }
-    ensures { OnOk result ((setup : Setup) (run : List Move) (s : State) (fresh : ℕ) → Leads setup run rooms.old (record square { fresh = fresh }) s → IsShut setup run s out.old out.new) }
+    ensures { OnOk result ((setup : Setup) (run : List Move) (s : State) (fresh back : ℕ) → Leads setup run rooms.old (record square { fresh = fresh; shared = back }) s → IsShut setup run s out.old out.new) }
 {
     close_all(&rooms.upstreams, out)
 }

@@ -1,15 +1,14 @@
 //! Upstreams are heard: octets of one, the end of its connection, and its failure.
 
-ghost use Rattle.std.specs.Prelude.{◌≡◌, ℕ, ◌<◌, ◌≤◌, true, length, IfSome, OnOk, is_some};
+ghost use Rattle.std.specs.Prelude.{◌≡◌, ℕ, ◌<◌, ◌≤◌, true, length, IfSome, IfOk, OnOk, is_some};
 ghost use Rattle.model.specs.Logs.Event.{Up, UpEnd, UpFailed};
 ghost use Rattle.model.specs.Setup.{Setup};
-ghost use Rattle.model.specs.Setup.Passing.{Whole};
 ghost use Rattle.model.specs.Tapes.Entry.{Happened};
 ghost use Rattle.serving.specs.State.{find};
 ghost use Rattle.streams_kept.specs.Asked.{has};
 ghost use Rattle.upstreams.specs.Connections.{number_of};
 ghost use Rattle.relay.specs.View.{square};
-ghost use Rattle.relay.specs.Rest.{IsAtRest, NoneCut, Reached};
+ghost use Rattle.relay.specs.Rest.{IsAtRest, NoneCut, Reached, back_of};
 ghost use Rattle.relay.specs.Bringing.{Brings};
 ghost use Rattle.steps.specs.Closings.{NoneDoneBut};
 
@@ -21,44 +20,46 @@ use relay::Rooms;
 use std::alloc::{AllocError, Global};
 
 /// Octets came of the upstream whose open connection has this number, at most 65,536 of them: what is news of its response is on offer. Where
-/// that is whole with them the connection is closed; where it fails with them (RFC 9110, section 15.6.3) it is too, and the gateway replies itself. An
-/// `Err` says that memory was refused; then neither the rooms nor the outputs are of use any more, as from each call here.
+/// that is whole with them the connection is closed; where it fails with them (RFC 9110, section 15.6.3) it is too, and the gateway replies itself, or
+/// resets the stream, whose connection is closed once octets of its DATA that waited are given back: so many are the answer, as from each
+/// call here. An `Err` says that memory was refused; then neither the rooms nor the outputs are of use any more.
 pub fn hear(
     alloc: Global,
     rooms: &mut Rooms,
     k: u32,
     octets: &[u8],
     out: &mut Outputs,
-) -> Result<(), AllocError>
+) -> Result<u64, AllocError>
     requires opened { is_some (find number_of k rooms.old.upstreams.live) ≡ true }
     requires short { length octets.now ≤ 65536 }
     requires rest { IsAtRest rooms.old }
     requires numbered { (id : ℕ) → has rooms.old.inbound.rows id ≡ true → id < 2147483648 }
-    requires reached { (setup : Setup) × (setup.passing ≡ Whole) × Reached setup rooms.old square }
-    ensures brings { OnOk result ((setup : Setup) → setup.passing ≡ Whole → Brings setup rooms.old square out.old (Happened (Up k octets.now)) rooms.new square out.new) }
+    requires reached { (setup : Setup) × Reached setup rooms.old square }
+    ensures brings { IfOk result (λ back. (setup : Setup) → Brings setup rooms.old square out.old (Happened (Up k octets.now)) rooms.new (back_of back) out.new) }
     ensures none_cut { OnOk result (NoneCut rooms.new.offers) }
     ensures none_but { OnOk result (IfSome (find number_of k rooms.old.upstreams.live) (λ connection. NoneDoneBut connection.live.stream rooms.new)) }
     ensures numbered { OnOk result ((id : ℕ) → has rooms.new.inbound.rows id ≡ true → id < 2147483648) }
 {
     let stream = stream_of(rooms, k);
     match take_octets(alloc, rooms, k, octets)? {
-        Heard::GoesOn => Ok(()),
+        Heard::GoesOn => Ok(0),
         Heard::Whole => {
             rooms.upstreams.mark_whole(k);
-            close(rooms, k, out)
+            close(rooms, k, out)?;
+            Ok(0)
         }
         Heard::Failed => abandon(rooms, k, stream, out),
     }
 }
 
-/// The upstream ended the open connection with this number (RFC 9112, section 8): its response is whole with that, or else fails; it is closed in
-/// both cases.
-pub fn end(alloc: Global, rooms: &mut Rooms, k: u32, out: &mut Outputs) -> Result<(), AllocError>
+/// The upstream ended the open connection with this number (RFC 9112, section 8): its response is whole with that, and it is closed, or else
+/// fails.
+pub fn end(alloc: Global, rooms: &mut Rooms, k: u32, out: &mut Outputs) -> Result<u64, AllocError>
     requires opened { is_some (find number_of k rooms.old.upstreams.live) ≡ true }
     requires rest { IsAtRest rooms.old }
     requires numbered { (id : ℕ) → has rooms.old.inbound.rows id ≡ true → id < 2147483648 }
-    requires reached { (setup : Setup) × (setup.passing ≡ Whole) × Reached setup rooms.old square }
-    ensures brings { OnOk result ((setup : Setup) → setup.passing ≡ Whole → Brings setup rooms.old square out.old (Happened (UpEnd k)) rooms.new square out.new) }
+    requires reached { (setup : Setup) × Reached setup rooms.old square }
+    ensures brings { IfOk result (λ back. (setup : Setup) → Brings setup rooms.old square out.old (Happened (UpEnd k)) rooms.new (back_of back) out.new) }
     ensures none_cut { OnOk result (NoneCut rooms.new.offers) }
     ensures none_but { OnOk result (IfSome (find number_of k rooms.old.upstreams.live) (λ connection. NoneDoneBut connection.live.stream rooms.new)) }
     ensures numbered { OnOk result ((id : ℕ) → has rooms.new.inbound.rows id ≡ true → id < 2147483648) }
@@ -67,24 +68,28 @@ pub fn end(alloc: Global, rooms: &mut Rooms, k: u32, out: &mut Outputs) -> Resul
     match take_end(alloc, rooms, k)? {
         Ended::Complete => {
             rooms.upstreams.mark_whole(k);
-            close(rooms, k, out)
+            close(rooms, k, out)?;
+            Ok(0)
         }
         Ended::Short => abandon(rooms, k, stream, out),
     }
 }
 
 /// The open connection with this number failed, and is gone: its response fails with it.
-pub fn fail(rooms: &mut Rooms, k: u32, out: &mut Outputs) -> Result<(), AllocError>
+pub fn fail(rooms: &mut Rooms, k: u32, out: &mut Outputs) -> Result<u64, AllocError>
     requires opened { is_some (find number_of k rooms.old.upstreams.live) ≡ true }
     requires rest { IsAtRest rooms.old }
     requires numbered { (id : ℕ) → has rooms.old.inbound.rows id ≡ true → id < 2147483648 }
-    requires reached { (setup : Setup) × (setup.passing ≡ Whole) × Reached setup rooms.old square }
-    ensures brings { OnOk result ((setup : Setup) → setup.passing ≡ Whole → Brings setup rooms.old square out.old (Happened (UpFailed k)) rooms.new square out.new) }
+    requires reached { (setup : Setup) × Reached setup rooms.old square }
+    ensures brings { IfOk result (λ back. (setup : Setup) → Brings setup rooms.old square out.old (Happened (UpFailed k)) rooms.new (back_of back) out.new) }
     ensures none_cut { OnOk result (NoneCut rooms.new.offers) }
     ensures none_but { OnOk result (IfSome (find number_of k rooms.old.upstreams.live) (λ connection. NoneDoneBut connection.live.stream rooms.new)) }
     ensures numbered { OnOk result ((id : ℕ) → has rooms.new.inbound.rows id ≡ true → id < 2147483648) }
 {
     let stream = stream_of(rooms, k);
     rooms.upstreams.close(k);
-    give_up(rooms, stream, out)
+    match give_up(rooms, stream, out)? {
+        Some(waiting) => Ok(waiting),
+        None => Ok(0),
+    }
 }

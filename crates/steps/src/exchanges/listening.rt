@@ -8,7 +8,7 @@ ghost use Rattle.offers.specs.Asked.{is_kept};
 ghost use Rattle.serving.specs.State.{find};
 ghost use Rattle.streams_kept.specs.Asked.{is_active};
 ghost use Rattle.upstreams.specs.Connections.{number_of};
-ghost use Rattle.steps.specs.exchanges.Giving.{closed_at, IsGivenUp};
+ghost use Rattle.steps.specs.exchanges.Giving.{closed_at, IsAbandoned};
 ghost use Rattle.steps.specs.exchanges.Taking.{AreTaken, IsEndTaken};
 
 use crate::exchanges::failing::give_up;
@@ -70,17 +70,24 @@ pub(crate) fn close(rooms: &mut Rooms, k: u32, out: &mut Outputs) -> Result<(), 
     out.close_up(k)
 }
 
-/// Closes the connection whose answer failed, and gives its stream up. An `Err` says that memory was refused.
+/// Gives up the stream of the connection whose answer failed. Where the gateway replies, the connection is closed at once. Where the stream is reset
+/// it isn't closed yet, since the octets of its DATA that waited go back before that: so many are the answer. An `Err` says that memory was
+/// refused.
 pub(crate) fn abandon(
     rooms: &mut Rooms,
     k: u32,
     stream: u32,
     out: &mut Outputs,
-) -> Result<(), AllocError>
+) -> Result<u64, AllocError>
     requires live { is_active rooms.old.inbound.rows stream ≡ true }
     requires numbered { stream < 2147483648 }
-    ensures { OnOk result (IsGivenUp stream (closed_at k rooms.old) (put out.old (Does (Close k))) rooms.new out.new) }
+    ensures { IfOk result (λ back. IsAbandoned k stream rooms.old out.old back rooms.new out.new) }
 {
-    close(rooms, k, out)?;
-    give_up(rooms, stream, out)
+    match give_up(rooms, stream, out)? {
+        Some(waiting) => Ok(waiting),
+        None => {
+            close(rooms, k, out)?;
+            Ok(0)
+        }
+    }
 }

@@ -7,6 +7,7 @@ ghost use Rattle.conduct.specs.Rows.{find};
 ghost use Rattle.offering.specs.State.{are_open, can_turn};
 ghost use Rattle.streams_kept.specs.Asked.{is_active};
 ghost use Rattle.offers.specs.Asked.{is_head, part_for, windows_over};
+ghost use Rattle.relay.specs.View.{waiting_for};
 ghost use Rattle.steps.specs.flushing.Changes.{ended, put_at_end, IsHeadPart, IsHeadSent, AreOctetsSent, IsPartSent};
 
 use judgement::Connection;
@@ -160,10 +161,11 @@ pub fn send_part(
 }
 
 /// A stream is over that the gateway ended: where the client hasn't ended it, it is reset (RFC 9113, section 8.1). Nothing is on offer for it any
-/// more, and nothing is held of its request. An `Err` says that memory was refused.
-pub fn end_stream(rooms: &mut Rooms, id: u32, out: &mut Outputs) -> Result<(), AllocError>
+/// more, and nothing is held of its request; so many octets that waited of its DATA go back. An `Err` says that memory was refused.
+pub fn end_stream(rooms: &mut Rooms, id: u32, out: &mut Outputs) -> Result<u64, AllocError>
     requires small { id < 2147483648 }
     requires room { rooms.old.untaken + 13 < 2 ^ 64 }
+    ensures dropped { IfOk result (λ dropped. dropped ≡ waiting_for id rooms.old) }
     ensures kept { OnOk result (rooms.new ≡ ended id rooms.old) }
     ensures puts { OnOk result (out.new ≡ put_at_end id rooms.old out.old) }
 {
@@ -174,5 +176,5 @@ pub fn end_stream(rooms: &mut Rooms, id: u32, out: &mut Outputs) -> Result<(), A
     }
     rooms.offers.close(id);
     rooms.upstreams.forget(id);
-    Ok(())
+    Ok(rooms.marks.close(id))
 }

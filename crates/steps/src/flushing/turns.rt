@@ -3,17 +3,14 @@
 ghost use Rattle.std.specs.Prelude.{◌≡◌, ℕ, ◌<◌, true, Some, OnOk};
 ghost use Rattle.model.specs.Admission.{high_water};
 ghost use Rattle.model.specs.Setup.{Setup};
-ghost use Rattle.model.specs.Setup.Passing.{Whole};
 ghost use Rattle.model.specs.Turns.{IsNextTurn};
 ghost use Rattle.offering.specs.State.{ready};
 ghost use Rattle.streams_kept.specs.Asked.{has};
 ghost use Rattle.offers.specs.Asked.{windows_over};
-ghost use Rattle.relay.specs.View.{square};
-ghost use Rattle.relay.specs.Rest.{NoneCut, NoneDone, IsFlushed, Reached};
-ghost use Rattle.relay.specs.Bringing.{PerformsOwn};
+ghost use Rattle.relay.specs.Rest.{NoneCut, NoneDone, IsFlushed, Reached, back_of, IsBack, PerformsBack};
 
 use crate::flushing::parts::{end_stream, send_part};
-use crate::paying::close_unserved;
+use crate::paying::{close_unserved, return_dropped};
 use outputs::Outputs;
 use relay::Rooms;
 use std::alloc::{AllocError, Global};
@@ -21,16 +18,16 @@ use std::alloc::{AllocError, Global};
 /// As long as fewer octets for the client are untaken, parts of responses begin (this project's profile).
 pub const HIGH_WATER: u64 = 65536;
 
-/// Sends the next part of the stream whose turn it is; where that ends the stream, no connection of it stays open. An `Err` says that memory was
-/// refused.
+/// Sends the next part of the stream whose turn it is; where that ends the stream, what waited of its DATA goes back, and no connection of it stays
+/// open. An `Err` says that memory was refused.
 fn pass_one(alloc: Global, rooms: &mut Rooms, id: u32, out: &mut Outputs) -> Result<(), AllocError>
-    requires reached { (setup : Setup) × Reached setup rooms.old square }
+    requires reached { (setup : Setup) × (back : ℕ) × IsBack rooms.old back × Reached setup rooms.old (back_of back) }
     requires none_done { NoneDone rooms.old }
     requires turn { IsNextTurn rooms.old.offers.last (ready (windows_over rooms.old.inbound.rows rooms.old.inbound.first_size rooms.old.inbound.window) rooms.old.offers) (Some id) }
     requires none_cut { NoneCut rooms.old.offers }
     requires numbered { (id : ℕ) → has rooms.old.inbound.rows id ≡ true → id < 2147483648 }
     requires few { rooms.old.untaken < high_water }
-    ensures performs { OnOk result ((setup : Setup) → setup.passing ≡ Whole → PerformsOwn setup rooms.old square out.old rooms.new square out.new) }
+    ensures performs { OnOk result (PerformsBack rooms.old out.old rooms.new out.new) }
     ensures none_cut { OnOk result (NoneCut rooms.new.offers) }
     ensures none_done { OnOk result (NoneDone rooms.new) }
     ensures numbered { OnOk result ((id : ℕ) → has rooms.new.inbound.rows id ≡ true → id < 2147483648) }
@@ -38,7 +35,8 @@ fn pass_one(alloc: Global, rooms: &mut Rooms, id: u32, out: &mut Outputs) -> Res
 {
     let ends = send_part(alloc, rooms, id, out)?;
     if ends {
-        end_stream(rooms, id, out)?;
+        let dropped = end_stream(rooms, id, out)?;
+        return_dropped(rooms, dropped, out)?;
         close_unserved(rooms, id, out)?;
     }
     Ok(())
@@ -59,11 +57,11 @@ pub fn next_turn(rooms: &Rooms) -> Option<u32>
 /// 5.1, 6.9.1 and 8.1). A stream whose response ends before its request did is reset. Nothing is on offer any more for a stream that is over, and nothing
 /// held of its request, and no connection of it is open. An `Err` says that memory was refused; then the rooms and the outputs are of no use any more.
 pub fn flush(alloc: Global, rooms: &mut Rooms, out: &mut Outputs) -> Result<(), AllocError>
-    requires reached { (setup : Setup) × (setup.passing ≡ Whole) × Reached setup rooms.old square }
+    requires reached { (setup : Setup) × (back : ℕ) × IsBack rooms.old back × Reached setup rooms.old (back_of back) }
     requires none_cut { NoneCut rooms.old.offers }
     requires none_done { NoneDone rooms.old }
     requires numbered { (id : ℕ) → has rooms.old.inbound.rows id ≡ true → id < 2147483648 }
-    ensures performs { OnOk result ((setup : Setup) → setup.passing ≡ Whole → PerformsOwn setup rooms.old square out.old rooms.new square out.new) }
+    ensures performs { OnOk result (PerformsBack rooms.old out.old rooms.new out.new) }
     ensures flushed { OnOk result (IsFlushed rooms.new) }
     ensures none_cut { OnOk result (NoneCut rooms.new.offers) }
     ensures none_done { OnOk result (NoneDone rooms.new) }

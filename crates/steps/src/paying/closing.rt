@@ -1,12 +1,10 @@
 //! Connections of a stream that isn't served any more are closed.
 
-ghost use Rattle.std.specs.Prelude.{◌≡◌, option_map, OnOk};
+ghost use Rattle.std.specs.Prelude.{◌≡◌, ℕ, option_map, OnOk};
 ghost use Rattle.model.specs.Setup.{Setup};
-ghost use Rattle.model.specs.Setup.Passing.{Whole};
 ghost use Rattle.serving.specs.State.{find};
 ghost use Rattle.upstreams.specs.Connections.{number_of, stream_of};
-ghost use Rattle.relay.specs.View.{square};
-ghost use Rattle.relay.specs.Rest.{NoneDone};
+ghost use Rattle.relay.specs.Rest.{NoneDone, back_of};
 ghost use Rattle.relay.specs.Bringing.{PerformsOwn};
 ghost use Rattle.steps.specs.Closings.{NoneDoneBut};
 
@@ -28,7 +26,7 @@ fn newest_of(rooms: &Rooms, id: u32) -> Option<u32>
 /// refused; then neither the rooms nor the outputs are of use any more.
 pub fn close_unserved(rooms: &mut Rooms, id: u32, out: &mut Outputs) -> Result<(), AllocError>
     requires { NoneDoneBut id rooms.old }
-    ensures performs { OnOk result ((setup : Setup) → setup.passing ≡ Whole → PerformsOwn setup rooms.old square out.old rooms.new square out.new) }
+    ensures performs { OnOk result ((setup : Setup) (back : ℕ) → PerformsOwn setup rooms.old (back_of back) out.old rooms.new (back_of back) out.new) }
     ensures none_done { OnOk result (NoneDone rooms.new) }
     ensures inbound { OnOk result (rooms.new.inbound ≡ rooms.old.inbound) }
     ensures offers { OnOk result (rooms.new.offers ≡ rooms.old.offers) }

@@ -1,25 +1,28 @@
-//! Octets of DATA that came are given back (RFC 9113, section 6.9): requests are passed on whole, so nothing waits for an upstream's side.
+//! Octets of DATA that came are given back (RFC 9113, section 6.9), at once or once their stream's upstream took what was put out for it.
 
-ghost use Rattle.std.specs.Prelude.{◌≡◌, ◌<◌, ◌≤◌, ℕ, true, not, ◌&&◌, OnOk, pos, ◌+ℤ◌, ◌≤ℤ◌};
+ghost use Rattle.std.specs.Prelude.{◌≡◌, ◌<◌, ◌≤◌, ℕ, true, IfOk, OnOk, pos, ◌+ℤ◌, ◌≤ℤ◌};
 ghost use Rattle.model.specs.Frames.{spell};
 ghost use Rattle.model.specs.Setup.{Setup};
-ghost use Rattle.model.specs.Setup.Passing.{Whole};
 ghost use Rattle.model.specs.Logs.Output.{ToClient};
 ghost use Rattle.model.specs.Tapes.{put};
 ghost use Rattle.model.specs.Windows.{greatest_window};
 ghost use Rattle.conduct.specs.Rows.{find};
 ghost use Rattle.streams_kept.specs.Asked.{has, is_active};
-ghost use Rattle.streams_kept.specs.Sending.{is_served, AreReturnable};
+ghost use Rattle.streams_kept.specs.Sending.{AreReturnable};
+ghost use Rattle.marks_kept.specs.Sides.{change, waiting};
 ghost use Rattle.outputs.specs.Sent.{window_update};
 ghost use Rattle.relay.specs.View.{square};
-ghost use Rattle.relay.specs.Rest.{GoesOn, Reached};
+ghost use Rattle.relay.specs.Rest.{GoesOn, Reached, back_of, IsBack};
 ghost use Rattle.relay.specs.Bringing.{PerformsOwn};
-ghost use Rattle.steps.specs.paying.Returning.{goes_back_on, given_on_connection, given_on_stream};
+ghost use Rattle.steps.specs.paying.Returning.{back_on, goes_back_on, given_on_connection, given_on_stream, IsReturned};
 
 use crate::paying::counting::count_untaken;
 use outputs::Outputs;
 use relay::Rooms;
 use std::alloc::AllocError;
+
+/// The most octets that one gives back (RFC 9113, section 6.9).
+const GREATEST: u64 = 2147483647;
 
 /// How many octets a WINDOW_UPDATE is spelled with (RFC 9113, sections 4.1 and 6.9).
 const UPDATE: u64 = 13;
@@ -65,31 +68,100 @@ fn give_back_on(
     Ok(())
 }
 
-/// The last frame's effect is over: the octets of DATA that came with it are given back, of which there are at most 16,384, on the connection and
-/// on its stream while that goes on (RFC 9113, section 6.9). An `Err` says that memory was refused; then neither the rooms nor the outputs are of
-/// use any more.
+/// So many octets as a WINDOW_UPDATE can give back (RFC 9113, section 6.9). More never wait: an `Err` says that these would.
+fn returnable(octets: u64) -> Result<u32, AllocError>
+    ensures { IfOk result (λ count. (count ≡ octets) × (count < 2147483648)) }
+{
+    if octets > GREATEST {
+        return Err(AllocError);
+    }
+    Ok(octets as u32)
+}
+
+/// Octets that waited of a stream that is over are given back, on the connection, unless that is to end (RFC 9113, section 6.9): then they don't go back any
+/// more. An `Err` says that memory was refused; then neither the rooms nor the outputs are of use any more.
+pub fn return_dropped(rooms: &mut Rooms, dropped: u64, out: &mut Outputs) -> Result<(), AllocError>
+    requires reached { (setup : Setup) × Reached setup rooms.old (back_of dropped) }
+    ensures performs { OnOk result ((back : ℕ) × IsBack rooms.new back × ((setup : Setup) → PerformsOwn setup rooms.old (back_of dropped) out.old rooms.new (back_of back) out.new)) }
+    ensures stays { OnOk result (IsReturned rooms.old rooms.new) }
+{
+    if dropped == 0 {
+        return Ok(());
+    }
+    if rooms.inbound.is_spent() {
+        return Ok(());
+    }
+    let octets = returnable(dropped)?;
+    give_back(rooms, octets, out)
+}
+
+/// So many octets of the last frame wait until its stream's upstream has taken all that was put out for it. An `Err` says that memory was
+/// refused, or that these would be more than 2^64 - 1, which never wait.
+fn wait(rooms: &mut Rooms, stream: u32, octets: u32) -> Result<(), AllocError>
+    ensures { OnOk result (rooms.new ≡ record rooms.old { marks = change stream (waiting octets) rooms.old.marks }) }
+{
+    let count = u64::from(octets);
+    if rooms.marks.total(stream).checked_add(count).is_none() {
+        return Err(AllocError);
+    }
+    rooms.marks.wait(stream, count)
+}
+
+/// The last frame's effect is over. The octets of DATA that came with it, of which there are at most 16,384, wait where its stream's upstream hasn't
+/// taken all that was put out for it; else they are given back, on the connection and on their stream while that goes on (RFC 9113, section 6.9), and
+/// with them on the connection those that waited of a stream that is over. An `Err` says that memory was refused; then neither the rooms nor the
+/// outputs are of use any more.
 pub fn settle(
     rooms: &mut Rooms,
     stream: u32,
     octets: u32,
+    dropped: u64,
     out: &mut Outputs,
 ) -> Result<(), AllocError>
-    requires reached { (setup : Setup) × (setup.passing ≡ Whole) × Reached setup rooms.old (record square { fresh = octets }) }
+    requires reached { (setup : Setup) × Reached setup rooms.old (record square { fresh = octets; shared = dropped }) }
     requires goes_on { GoesOn rooms.old }
     requires few { octets ≤ 16384 }
     requires last { stream ≡ rooms.old.inbound.last }
     requires numbered { (id : ℕ) → has rooms.old.inbound.rows id ≡ true → id < 2147483648 }
-    ensures performs { OnOk result ((setup : Setup) → setup.passing ≡ Whole → PerformsOwn setup rooms.old (record square { fresh = octets }) out.old rooms.new square out.new) }
-    ensures goes_on { OnOk result (GoesOn rooms.new) }
-    ensures numbered { OnOk result ((id : ℕ) → has rooms.new.inbound.rows id ≡ true → id < 2147483648) }
-    ensures offers { OnOk result (rooms.new.offers ≡ rooms.old.offers) }
-    ensures upstreams { OnOk result (rooms.new.upstreams ≡ rooms.old.upstreams) }
-    ensures served { OnOk result ((id : ℕ) → is_served rooms.new.inbound.rows id ≡ is_served rooms.old.inbound.rows id) }
-    ensures encoding { OnOk result (rooms.new.encoding ≡ rooms.old.encoding) }
+    ensures performs { OnOk result ((setup : Setup) → PerformsOwn setup rooms.old (record square { fresh = octets; shared = dropped }) out.old rooms.new square out.new) }
+    ensures stays { OnOk result (IsReturned rooms.old rooms.new) }
 {
     if octets == 0 {
+        return return_dropped(rooms, dropped, out);
+    }
+    if rooms.marks.has_untaken(stream) {
+        wait(rooms, stream, octets)?;
+        return return_dropped(rooms, dropped, out);
+    }
+    let Some(sum) = dropped.checked_add(u64::from(octets)) else {
+        return Err(AllocError);
+    };
+    let all = returnable(sum)?;
+    give_back(rooms, all, out)?;
+    if goes_back_on(rooms, stream) {
+        give_back_on(rooms, stream, octets, out)?;
+    }
+    Ok(())
+}
+
+/// So many octets of a stream's DATA that don't wait any more are given back, on the connection and on the stream while that goes on (RFC 9113,
+/// section 6.9). An `Err` says that memory was refused; then neither the rooms nor the outputs are of use any more.
+pub fn return_taken(
+    rooms: &mut Rooms,
+    stream: u32,
+    back: u64,
+    out: &mut Outputs,
+) -> Result<(), AllocError>
+    requires reached { (setup : Setup) × Reached setup rooms.old (back_on stream back) }
+    requires goes_on { GoesOn rooms.old }
+    requires numbered { (id : ℕ) → has rooms.old.inbound.rows id ≡ true → id < 2147483648 }
+    ensures performs { OnOk result ((setup : Setup) → PerformsOwn setup rooms.old (back_on stream back) out.old rooms.new square out.new) }
+    ensures stays { OnOk result (IsReturned rooms.old rooms.new) }
+{
+    if back == 0 {
         return Ok(());
     }
+    let octets = returnable(back)?;
     give_back(rooms, octets, out)?;
     if goes_back_on(rooms, stream) {
         give_back_on(rooms, stream, octets, out)?;

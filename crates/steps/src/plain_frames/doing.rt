@@ -1,11 +1,12 @@
 //! What is done behind the judgement of a frame.
 
-ghost use Rattle.std.specs.Prelude.{◌≡◌, ◌+◌, ◌<◌, List, length, OnOk};
+ghost use Rattle.std.specs.Prelude.{◌≡◌, ◌+◌, ◌<◌, List, length, IfOk, OnOk};
 ghost use Rattle.model.specs.Frames.{spell};
 ghost use Rattle.model.specs.ErrorClause.{rst_stream};
 ghost use Rattle.model.specs.Logs.Output.{ToClient};
 ghost use Rattle.model.specs.SettingValues.{Setting, smallest_value, last_value, values_of, header_table_size};
 ghost use Rattle.model.specs.Tapes.{put};
+ghost use Rattle.relay.specs.View.{waiting_for};
 ghost use Rattle.steps.specs.plain_frames.Kept.{forgotten, limited};
 
 use header_blocks::Encoder;
@@ -17,31 +18,36 @@ use std::alloc::AllocError;
 /// The octets of a RST_STREAM on the wire (RFC 9113, sections 4.1 and 6.4).
 const RESET_OCTETS: u64 = 13;
 
-/// Nothing is kept any more of a stream that is over.
-pub(crate) fn forget(rooms: &mut Rooms, id: u32)
-    ensures { rooms.new ≡ forgotten id rooms.old }
+/// Nothing is kept any more of a stream that is over: so many octets that waited of its DATA go back (RFC 9113, section 6.9).
+pub(crate) fn forget(rooms: &mut Rooms, id: u32) -> u64
+    ensures kept { rooms.new ≡ forgotten id rooms.old }
+    ensures dropped { result ≡ waiting_for id rooms.old }
 {
     rooms.offers.close(id);
     rooms.upstreams.forget(id);
+    rooms.marks.close(id)
 }
 
-/// Sends the reset of a stream (RFC 9113, section 6.4), of which nothing is kept any more. An `Err` says that memory was refused.
+/// Sends the reset of a stream (RFC 9113, section 6.4), of which nothing is kept any more; the octets that waited of its DATA are the answer. An
+/// `Err` says that memory was refused.
 pub(crate) fn reset(
     rooms: &mut Rooms,
     id: u32,
     code: u32,
     out: &mut Outputs,
-) -> Result<(), AllocError>
+) -> Result<u64, AllocError>
     requires { id < 2147483648 }
+    ensures dropped { IfOk result (λ dropped. dropped ≡ waiting_for id rooms.old) }
     ensures kept { OnOk result (rooms.new ≡ record (forgotten id rooms.old) { untaken = rooms.old.untaken + length (spell (rst_stream id code)) }) }
     ensures sent { OnOk result (out.new ≡ put out.old (ToClient (spell (rst_stream id code)))) }
 {
-    forget(rooms, id);
+    let dropped = forget(rooms, id);
     let Some(untaken) = rooms.untaken.checked_add(RESET_OCTETS) else {
         return Err(AllocError);
     };
     rooms.untaken = untaken;
-    out.send_rst_stream(id, code)
+    out.send_rst_stream(id, code)?;
+    Ok(dropped)
 }
 
 /// Notes the limits of the header table that settings name: the smallest and the last stand for all (RFC 7541, section 4.2).

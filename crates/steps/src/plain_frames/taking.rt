@@ -3,15 +3,16 @@
 ghost use Rattle.std.specs.Prelude.{◌≡◌, ◌≤◌, ◌<◌, ℕ, true, length, IfOk};
 ghost use Rattle.model.specs.ErrorClause.{ping_ack};
 ghost use Rattle.model.specs.Setup.{Setup};
-ghost use Rattle.model.specs.Setup.Passing.{Whole};
 ghost use Rattle.conduct.specs.Rows.{find};
 ghost use Rattle.frames.specs.Views.{frame_of};
 ghost use Rattle.streams_kept.specs.Asked.{is_active};
 ghost use Rattle.judgement.specs.Judgement.{IsPlain};
-ghost use Rattle.upstreams.specs.Requests.{MayEndFor};
+ghost use Rattle.serving.specs.State.{held_of};
+ghost use Rattle.upstreams.specs.Requests.{MayTakeOf};
 ghost use Rattle.relay.specs.View.{square};
 ghost use Rattle.relay.specs.Rest.{IsAtRest, Reached};
-ghost use Rattle.steps.specs.plain_frames.Acting.{goes_on, IsActed, IsContent, IsPaid, IsRepliedBy, IsReset, IsSet, MayAct};
+ghost use Rattle.serving.specs.State.Due.{Nothing};
+ghost use Rattle.steps.specs.plain_frames.Acting.{goes_on, Goes, IsActed, IsContent, IsPaid, IsRepliedBy, IsReset, IsSet, MayAct};
 ghost use Rattle.steps.specs.plain_frames.Taken.{IsPlainTaken};
 
 use crate::paying::{Control, pay};
@@ -23,7 +24,7 @@ use outputs::Outputs;
 use relay::Rooms;
 use settings::Change;
 use std::alloc::AllocError;
-use upstreams::Outgoing;
+use upstreams::Due;
 
 /// The client asks for too much (RFC 9113, section 7).
 const ENHANCE_YOUR_CALM: u32 = 11;
@@ -33,11 +34,23 @@ const ENHANCE_YOUR_CALM: u32 = 11;
 pub enum Taken {
     /// The connection ends with GOAWAY and this code (RFC 9113, section 5.4.1).
     Fatal(u32),
-    /// It goes on; a whole request may be due to its upstream.
+    /// It goes on; a request, or more of one, may be due to its upstream, and octets that waited of a stream's DATA go back on the connection.
     Goes {
-        /// The request.
-        request: Option<Outgoing>,
+        /// What is due.
+        due: Due,
+        /// How many octets.
+        dropped: u64,
     },
+}
+
+/// It goes on, nothing is due, and so many octets go back.
+fn goes(dropped: u64) -> Taken
+    ensures { Goes Nothing dropped result }
+{
+    Taken::Goes {
+        due: Due::Nothing,
+        dropped,
+    }
 }
 
 /// Whether items of a stream's request may come yet.
@@ -74,7 +87,7 @@ pub(crate) fn acknowledge(
 {
     note_limits(&mut rooms.encoder, change);
     pay(rooms, Control::SettingsAck, out)?;
-    Ok(Taken::Goes { request: None })
+    Ok(goes(0))
 }
 
 /// Answers a PING with its octets (RFC 9113, section 6.7).
@@ -87,7 +100,7 @@ pub(crate) fn answer_ping(
     ensures { IfOk result (λ taken. IsPaid (ping_ack octets.now) rooms.old out.old taken rooms.new out.new) }
 {
     pay(rooms, Control::PingAck(octets), out)?;
-    Ok(Taken::Goes { request: None })
+    Ok(goes(0))
 }
 
 /// Resets a stream on which the frame is an error (RFC 9113, section 5.4.2).
@@ -100,28 +113,22 @@ pub(crate) fn refuse(
     requires { id < 2147483648 }
     ensures { IfOk result (λ taken. IsReset id code rooms.old out.old taken rooms.new out.new) }
 {
-    reset(rooms, id, code, out)?;
-    Ok(Taken::Goes { request: None })
+    let dropped = reset(rooms, id, code, out)?;
+    Ok(goes(dropped))
 }
 
-/// Takes octets of the body of a request, which may end it; then it is due.
+/// Takes octets of the body of a request, which may end it: they wait with it, or are due where it goes out.
 pub(crate) fn take_content(
     rooms: &mut Rooms,
     id: u32,
     octets: &[u8],
     ends: bool,
 ) -> Result<Taken, AllocError>
-    requires { ends ≡ true → MayEndFor id octets.now rooms.old.upstreams.held }
+    requires { MayTakeOf octets.now ends (held_of id rooms.old.upstreams.held) }
     ensures { IfOk result (λ taken. IsContent ends id octets.now rooms.old taken rooms.new) }
 {
-    if ends {
-        let request = rooms.upstreams.finish(id, octets)?;
-        return Ok(Taken::Goes {
-            request: Some(request),
-        });
-    }
-    rooms.upstreams.gather(id, octets)?;
-    Ok(Taken::Goes { request: None })
+    let due = rooms.upstreams.take_body(id, octets, ends)?;
+    Ok(Taken::Goes { due, dropped: 0 })
 }
 
 /// Replies to a request whose body is too long (RFC 9110, section 15.5.14), or resets its stream where it is too late to reply.
@@ -136,7 +143,7 @@ pub(crate) fn reply(rooms: &mut Rooms, id: u32, out: &mut Outputs) -> Result<Tak
     }
     rooms.offers.reply(id, Cause::LargeBody)?;
     rooms.upstreams.forget(id);
-    Ok(Taken::Goes { request: None })
+    Ok(goes(0))
 }
 
 /// Does what the judgement of a frame says.
@@ -156,16 +163,13 @@ fn act(
         Judged::Failed(Fault::Stream(code)) => refuse(rooms, id, code, out),
         Judged::Settings(change) => acknowledge(rooms, change, out),
         Judged::Ping(octets) => answer_ping(rooms, octets, out),
-        Judged::Reset => {
-            forget(rooms, id);
-            Ok(Taken::Goes { request: None })
-        }
+        Judged::Reset => Ok(goes(forget(rooms, id))),
         Judged::Content(octets, ends) if goes_on => take_content(rooms, id, octets, ends),
         Judged::LargeBody => reply(rooms, id, out),
         Judged::Failed(Fault::Discarded)
         | Judged::Ignored
         | Judged::Granted
-        | Judged::Content(..) => Ok(Taken::Goes { request: None }),
+        | Judged::Content(..) => Ok(goes(0)),
     }
 }
 
@@ -184,8 +188,8 @@ pub fn take_plain(
     requires plain { IsPlain (frame_of view) }
     requires of_stream { view.id < 2147483648 }
     requires rest { IsAtRest rooms.old }
-    requires reached { (setup : Setup) × (setup.max_body ≡ max_body) × (setup.passing ≡ Whole) × Reached setup rooms.old square }
-    ensures { IfOk result (λ taken. (setup : Setup) → setup.max_body ≡ max_body → setup.passing ≡ Whole → IsPlainTaken setup rooms.old out.old (frame_of view.entry) taken rooms.new out.new) }
+    requires reached { (setup : Setup) × (setup.max_body ≡ max_body) × Reached setup rooms.old square }
+    ensures { IfOk result (λ taken. (setup : Setup) → setup.max_body ≡ max_body → IsPlainTaken setup rooms.old out.old (frame_of view.entry) taken rooms.new out.new) }
 {
     let goes_on = goes_on(&rooms.inbound, view.id);
     let answer = rooms.inbound.judge(view, max_body);

@@ -1,4 +1,4 @@
-use Rattle.std.proofs.Common.{not, ◌++◌, ◌∷◌, [], ◌∙◌, sym, ap, if◌then◌else◌}
+use Rattle.std.proofs.Common.{◌≡◌, true, false, not, ◌++◌, ◌∷◌, [], ◌∙◌, sym, ap, if◌then◌else◌}
 use Rattle.gateway.specs.Setups.{setup_of}
 use Rattle.gateway.proofs.Running.{running_more, running_promised, running_refused, on_ok_at}
 use Rattle.gateway.proofs.runs.run.Goals as goal
@@ -6,7 +6,7 @@ use Rattle.gateway.proofs.runs.run.Goals as goal
 pub returns-then-not-admits-clause-refused : goal.returns-then-not-admits-clause-refused
 returns-then-not-admits-clause-refused c =
     running_refused (setup_of c.args.config.now) c.args.events.now c.loop-n.n c.loop-n.outputs.items c.loop-n.gateway c.index-events-n.result c.loop-n-test.true c.index-events-n.is
-    (λ setup log run stands. sym (c.admits.ensures.log setup log run stands) ∙ c.if-not-admits.true) c.loop-n.invariant
+    (λ setup log run stands may. absurd (let no : true ≡ false = sym ((c.admits.ensures.log setup log run stands).1 may) ∙ c.if-not-admits.true in cc)) c.loop-n.invariant
 
 pub loop-n-preserved : goal.loop-n-preserved
 loop-n-preserved c =

@@ -14,17 +14,17 @@ use Rattle.steps.proofs.hearing.client_took.Goals as goal
 pub rest-requires-clause-reached : goal.rest-requires-clause-reached
 rest-requires-clause-reached c =
     let before = c.requires.reached in
-    let here = c.note_client_took.ensures.brings before.0 c.args.out.now before.2.0 before.2.1 before.2.2 in
-    (before.0, before.1, (_, here.segment.state, here.segment.leads))
+    let here = c.note_client_took.ensures.brings before.0 c.args.out.now before.1.0 before.1.1 before.1.2 in
+    (before.0, 0, (λ on. refl), (_, here.segment.state, here.segment.leads))
 
 pub returns-clause-comes : goal.returns-clause-comes
 returns-clause-comes c =
     if_ok c.rest.result
-    (λ went follows setup whole.
-    comes_then setup c.args.rooms.now c.note_client_took.new.rooms square square square c.args.out.now c.args.out.now c.rest.new.out (Happened (ClientTook c.args.count)) (OfEvent (ClientTook c.args.count)) (now_of went c.rest.new.rooms) refl (c.note_client_took.ensures.brings setup c.args.out.now) (follows setup whole)) c.rest.ensures.follows
+    (λ went follows setup.
+    comes_then setup c.args.rooms.now c.note_client_took.new.rooms square square square c.args.out.now c.args.out.now c.rest.new.out (Happened (ClientTook c.args.count)) (OfEvent (ClientTook c.args.count)) (now_of went c.rest.new.rooms) refl (c.note_client_took.ensures.brings setup c.args.out.now) (follows 0 (λ on. refl) setup)) c.rest.ensures.follows
 
 pub returns-then-were_few-clause-comes : goal.returns-then-were_few-clause-comes
-returns-then-were_few-clause-comes c setup whole =
+returns-then-were_few-clause-comes c setup =
     comes_then setup c.args.rooms.now c.note_client_took.new.rooms square square square c.args.out.now c.args.out.now c.args.out.now (Happened (ClientTook c.args.count)) (OfEvent (ClientTook c.args.count)) (Some c.note_client_took.new.rooms) refl (c.note_client_took.ensures.brings setup c.args.out.now) (follows_none setup c.note_client_took.new.rooms c.args.out.now)
 
 pub returns-then-were_few-clause-rests : goal.returns-then-were_few-clause-rests

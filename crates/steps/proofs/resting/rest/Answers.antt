@@ -1,5 +1,7 @@
-use Rattle.std.proofs.Common.{None, ◌∙◌}
+use Rattle.std.proofs.Common.{None, ◌∙◌, subst}
 use Rattle.relay.specs.View.{square}
+use Rattle.relay.specs.Rest.{back_of}
+use Rattle.relay.specs.Bringing.{PerformsOwn}
 use Rattle.steps.proofs.Ends.{shut_follows}
 use Rattle.steps.proofs.Following.{follows_own, follows_then}
 use Rattle.steps.proofs.Stays.{ends_as}
@@ -9,13 +11,17 @@ pub shut-requires : goal.shut-requires
 shut-requires c = record { spent = ends_as c.flush.new.rooms _ c.is_spent.result c.rooms.view_is c.is_spent.ensures ∙ c.if-is_spent.true }
 
 pub returns-then-is_spent-clause-follows : goal.returns-then-is_spent-clause-follows
-returns-then-is_spent-clause-follows c setup whole =
-    follows_then setup c.args.rooms.now c.flush.new.rooms square square square c.args.out.now c.flush.new.out c.shut.new.out None (c.in_ok-flush.ensures.performs setup whole)
-    (shut_follows setup c.flush.new.rooms 0 square c.flush.new.out c.shut.new.out (λ run s leads. c.in_ok-shut.ensures setup run s 0 leads))
+returns-then-is_spent-clause-follows c back is_back setup =
+    let flushed = c.in_ok-flush.ensures.performs back is_back in
+    follows_then setup c.args.rooms.now c.flush.new.rooms (back_of back) (back_of flushed.0) square c.args.out.now c.flush.new.out c.shut.new.out None (flushed.2 setup)
+    (shut_follows setup c.flush.new.rooms 0 flushed.0 square c.flush.new.out c.shut.new.out (λ run s leads. c.in_ok-shut.ensures setup run s 0 flushed.0 leads))
 
 pub returns-clause-follows : goal.returns-clause-follows
-returns-clause-follows c setup whole =
-    follows_own setup c.args.rooms.now c.flush.new.rooms square square c.args.out.now c.flush.new.out (c.in_ok-flush.ensures.performs setup whole)
+returns-clause-follows c back is_back setup =
+    let flushed = c.in_ok-flush.ensures.performs back is_back in
+    let on = ends_as c.flush.new.rooms _ c.is_spent.result c.rooms.view_is c.is_spent.ensures ∙ c.if-is_spent.false in
+    follows_own setup c.args.rooms.now c.flush.new.rooms (back_of back) square c.args.out.now c.flush.new.out
+    (subst (λ n. PerformsOwn setup c.args.rooms.now (back_of back) c.args.out.now c.flush.new.rooms (back_of n) c.flush.new.out) (flushed.1 on) (flushed.2 setup))
 
 pub returns-clause-rests : goal.returns-clause-rests
 returns-clause-rests c =

@@ -3,17 +3,18 @@ use Rattle.judgement.specs.Inbound.{Inbound}
 use Rattle.offering.specs.State as offering
 use Rattle.streams_kept.specs.Asked.{has}
 use Rattle.relay.specs.View.{square}
-use Rattle.relay.specs.Rest.{NoneCut}
+use Rattle.relay.specs.Rest.{NoneCut, back_of}
 use Rattle.steps.specs.Resting.{now_of}
 use Rattle.steps.proofs.Following.{follows_then}
 use Rattle.steps.proofs.Results.{if_ok}
+use Rattle.steps.proofs.Stays.{on_as}
 use Rattle.steps.proofs.resting.rest_behind.Goals as goal
 
 pub rest-requires-clause-reached : goal.rest-requires-clause-reached
 rest-requires-clause-reached c =
     let before = c.requires.reached in
-    let here = c.in_ok-close_unserved.ensures.performs before.0 before.1 before.2.0 before.2.1 before.2.2 in
-    (before.0, before.1, (_, here.segment.state, here.segment.leads))
+    let here = c.in_ok-close_unserved.ensures.performs before.0 before.1 before.3.0 before.3.1 before.3.2 in
+    (before.0, before.1, (λ on. before.2 (on_as c.args.rooms.now c.close_unserved.new.rooms c.in_ok-close_unserved.ensures.inbound on)), (_, here.segment.state, here.segment.leads))
 
 pub rest-requires-clause-none_cut : goal.rest-requires-clause-none_cut
 rest-requires-clause-none_cut c = subst (λ (o : offering.State). NoneCut o) (sym c.in_ok-close_unserved.ensures.offers) c.requires.none_cut
@@ -24,5 +25,6 @@ rest-requires-clause-numbered c id kept = c.requires.numbered id (subst (λ (i :
 pub returns-clause-follows : goal.returns-clause-follows
 returns-clause-follows c =
     if_ok c.rest.result
-    (λ went follows setup whole.
-    follows_then setup c.args.rooms.now c.close_unserved.new.rooms square square square c.args.out.now c.close_unserved.new.out c.rest.new.out (now_of went c.rest.new.rooms) (c.in_ok-close_unserved.ensures.performs setup whole) (follows setup whole)) c.rest.ensures.follows
+    (λ went follows back is_back setup.
+    follows_then setup c.args.rooms.now c.close_unserved.new.rooms (back_of back) (back_of back) square c.args.out.now c.close_unserved.new.out c.rest.new.out (now_of went c.rest.new.rooms) (c.in_ok-close_unserved.ensures.performs setup back)
+    (follows back (λ on. is_back (on_as c.args.rooms.now c.close_unserved.new.rooms c.in_ok-close_unserved.ensures.inbound on)) setup)) c.rest.ensures.follows

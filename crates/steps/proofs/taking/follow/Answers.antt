@@ -1,7 +1,9 @@
-use Rattle.std.proofs.Common.{◌∙◌, ap}
+use Rattle.std.proofs.Common.{refl, sym, ◌∙◌, ap, subst}
+use Rattle.offering.specs.State as offering
 use Rattle.upstreams.specs.Kept.{State}
 use Rattle.upstreams.specs.Connections.{lives}
 use Rattle.relay.specs.View.{square}
+use Rattle.relay.specs.Rest.{NoneCut}
 use Rattle.steps.specs.Resting.{now_of}
 use Rattle.steps.proofs.Closings.{but_stays}
 use Rattle.steps.proofs.Ends.{shut_follows}
@@ -14,7 +16,7 @@ pub shut-requires : goal.shut-requires
 shut-requires c = record { spent = ends_as c.args.rooms.now _ c.is_spent.result c.rooms.view_is c.is_spent.ensures ∙ c.if-is_spent.true }
 
 pub returns-then-is_spent-clause-follows : goal.returns-then-is_spent-clause-follows
-returns-then-is_spent-clause-follows c setup whole = shut_follows setup c.args.rooms.now c.args.octets square c.args.out.now c.shut.new.out (λ run s leads. c.in_ok-shut.ensures setup run s c.args.octets leads)
+returns-then-is_spent-clause-follows c setup = shut_follows setup c.args.rooms.now c.args.octets c.args.dropped square c.args.out.now c.shut.new.out (λ run s leads. c.in_ok-shut.ensures setup run s c.args.octets c.args.dropped leads)
 
 pub settle-requires-clause-goes_on : goal.settle-requires-clause-goes_on
 settle-requires-clause-goes_on c = ends_as c.args.rooms.now _ c.is_spent.result c.rooms.view_is c.is_spent.ensures ∙ c.if-is_spent.false
@@ -22,15 +24,21 @@ settle-requires-clause-goes_on c = ends_as c.args.rooms.now _ c.is_spent.result 
 pub rest_behind-requires-clause-reached : goal.rest_behind-requires-clause-reached
 rest_behind-requires-clause-reached c =
     let before = c.requires.reached in
-    let here = c.in_ok-settle.ensures.performs before.0 before.1 before.2.0 before.2.1 before.2.2 in
-    (before.0, before.1, (_, here.segment.state, here.segment.leads))
+    let here = c.in_ok-settle.ensures.performs before.0 before.1.0 before.1.1 before.1.2 in
+    (before.0, 0, (λ on. refl), (_, here.segment.state, here.segment.leads))
 
 pub returns-clause-follows : goal.returns-clause-follows
 returns-clause-follows c =
     if_ok c.rest_behind.result
-    (λ went follows setup whole.
-    follows_then setup c.args.rooms.now c.settle.new.rooms (record square { fresh = c.args.octets }) square square c.args.out.now c.settle.new.out c.rest_behind.new.out (now_of went c.rest_behind.new.rooms) (c.in_ok-settle.ensures.performs setup whole) (follows setup whole)) c.rest_behind.ensures.follows
+    (λ went follows setup.
+    follows_then setup c.args.rooms.now c.settle.new.rooms (record square { fresh = c.args.octets; shared = c.args.dropped }) square square c.args.out.now c.settle.new.out c.rest_behind.new.out (now_of went c.rest_behind.new.rooms) (c.in_ok-settle.ensures.performs setup) (follows 0 (λ on. refl) setup)) c.rest_behind.ensures.follows
+
+pub rest_behind-requires-clause-none_cut : goal.rest_behind-requires-clause-none_cut
+rest_behind-requires-clause-none_cut c = subst (λ (o : offering.State). NoneCut o) (sym c.in_ok-settle.ensures.stays.offers) c.requires.none_cut
+
+pub rest_behind-requires-clause-numbered : goal.rest_behind-requires-clause-numbered
+rest_behind-requires-clause-numbered c id there = c.requires.numbered id (sym (c.in_ok-settle.ensures.stays.opened id) ∙ there)
 
 pub rest_behind-requires-clause-none_but : goal.rest_behind-requires-clause-none_but
 rest_behind-requires-clause-none_but c =
-    but_stays c.args.id c.args.rooms.now c.settle.new.rooms c.in_ok-settle.ensures.served (ap (λ (u : State). lives u.live) c.in_ok-settle.ensures.upstreams) c.requires.none_but
+    but_stays c.args.id c.args.rooms.now c.settle.new.rooms c.in_ok-settle.ensures.stays.served (ap (λ (u : State). lives u.live) c.in_ok-settle.ensures.stays.upstreams) c.requires.none_but

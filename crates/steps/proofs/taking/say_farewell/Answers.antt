@@ -1,6 +1,7 @@
 use Rattle.std.proofs.Common.{ℕ, [], ◌∷◌, Option, refl, sym, subst}
 use Rattle.model.specs.Frames.{goaway, no_error}
 use Rattle.relay.specs.View.{square}
+use Rattle.relay.specs.Rest.{back_of}
 use Rattle.relay.specs.Bringing.{PerformsOwn}
 use Rattle.relay.proofs.Bringing.{own_none}
 use Rattle.steps.specs.block_frames.Following.{farewell_frames}
@@ -10,10 +11,10 @@ use Rattle.steps.proofs.taking.say_farewell.Goals as goal
 pub returns-in-Some-clause-performs : goal.returns-in-Some-clause-performs
 returns-in-Some-clause-performs c =
     on_ok c.pay.result
-    (λ performs setup.
-    subst (λ (last : Option ℕ). PerformsOwn setup c.args.rooms.now (record square { owed = farewell_frames last }) c.args.out.now c.pay.new.rooms square c.pay.new.out) (sym c.in-Some.is)
-    (performs setup [] (record square { owed = goaway c.in-Some.last no_error ∷ [] }) refl refl)) c.pay.ensures.performs
+    (λ performs setup back.
+    subst (λ (last : Option ℕ). PerformsOwn setup c.args.rooms.now (record square { owed = farewell_frames last; shared = back }) c.args.out.now c.pay.new.rooms (back_of back) c.pay.new.out) (sym c.in-Some.is)
+    (performs setup [] (record square { owed = goaway c.in-Some.last no_error ∷ []; shared = back }) refl refl)) c.pay.ensures.performs
 
 pub returns-in-None-clause-performs : goal.returns-in-None-clause-performs
-returns-in-None-clause-performs c setup =
-    subst (λ (last : Option ℕ). PerformsOwn setup c.args.rooms.now (record square { owed = farewell_frames last }) c.args.out.now c.args.rooms.now square c.args.out.now) (sym c.in-None.is) (own_none setup c.args.rooms.now square c.args.out.now)
+returns-in-None-clause-performs c setup back =
+    subst (λ (last : Option ℕ). PerformsOwn setup c.args.rooms.now (record square { owed = farewell_frames last; shared = back }) c.args.out.now c.args.rooms.now (back_of back) c.args.out.now) (sym c.in-None.is) (own_none setup c.args.rooms.now (back_of back) c.args.out.now)

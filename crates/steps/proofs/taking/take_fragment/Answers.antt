@@ -1,5 +1,9 @@
-use Rattle.std.proofs.Common.{◌≡◌, true, sym, ◌∙◌, ap, refl, subst}
+use Rattle.std.proofs.Common.{◌≡◌, Bool, true, sym, ◌∙◌, ap, refl, subst}
+use Rattle.model.specs.Setup.{Setup}
 use Rattle.model.specs.Tapes.Entry.{Came}
+use Rattle.answers.specs.declared.answer.Passing.{Passing}
+use Rattle.answers.specs.Waiting.{passing_in}
+use Rattle.serving.specs.State.{is_streaming}
 use Rattle.frames.specs.Views.{frame_of}
 use Rattle.judgement.specs.Inbound.{Inbound}
 use Rattle.offering.specs.State as offering
@@ -9,69 +13,90 @@ use Rattle.upstreams.specs.Kept.{State}
 use Rattle.upstreams.specs.Connections.{lives}
 use Rattle.steps.specs.block_frames.Following.{farewell_frames}
 use Rattle.relay.specs.View.{square}
-use Rattle.relay.specs.Rest.{NoneCut}
+use Rattle.relay.specs.Rest.{NoneCut, back_of}
+use Rattle.relay.proofs.Bringing.{brings_then}
 use Rattle.steps.specs.Inputs.Input.{OfFrame}
-use Rattle.steps.specs.Resting.{now_of}
+use Rattle.steps.specs.Resting.{now_of, IsPassedBy}
 use Rattle.steps.proofs.Closings.{about_but, but_stays}
 use Rattle.steps.proofs.Following.{comes_then}
 use Rattle.steps.proofs.Frames.{numbered_with, block_goes, block_ends, block_brings, fatal_comes}
 use Rattle.steps.proofs.Results.{if_ok}
 use Rattle.steps.proofs.taking.take_fragment.Goals as goal
 
+-- bodies are passed on as they come just where the service says so
+streams_so : (setup : Setup) (way : Passing) (streams : Bool) → IsPassedBy setup way → streams ≡ is_streaming (passing_in way) → streams ≡ is_streaming setup.passing
+streams_so setup way streams passed is = is ∙ ap is_streaming passed.passing
+
 pub serve-requires : goal.serve-requires
 serve-requires c =
     let before = c.requires.reached in
     let passed =
-    block_goes before.0 c.args.rooms.now c.take_block.new.rooms c.args.out.now c.take_block.new.out (frame_of c.args.view) c.in_ok-code.field-0 c.in-Goes.request c.in-Goes.farewell c.in-Goes.is (c.in_ok-code.ensures before.0 before.1.terms before.1.whole) in
+    block_goes before.0 c.args.rooms.now c.take_block.new.rooms c.args.out.now c.take_block.new.out (frame_of c.args.view) c.in_ok-code.field-0 c.in-Goes.due c.in-Goes.farewell c.in-Goes.dropped c.in-Goes.is (c.in_ok-code.ensures before.0 before.1.terms (streams_so before.0 c.args.service.passing c.is_streaming-at_once.result before.1.passing c.is_streaming-at_once.ensures)) in
     let here = passed.brings before.2.0 before.2.1 before.2.2 in
-    record { reached = (before.0, before.1.whole, before.1.response, farewell_frames c.in-Goes.farewell, 0, (_, here.segment.state, here.segment.leads)) }
+    record { reached = (before.0, before.1.passing, farewell_frames c.in-Goes.farewell, 0, c.in-Goes.dropped, (_, here.segment.state, here.segment.leads)) }
+
+pub return_dropped-requires : goal.return_dropped-requires
+return_dropped-requires c =
+    let before = c.requires.reached in
+    let passed =
+    block_goes before.0 c.args.rooms.now c.take_block.new.rooms c.args.out.now c.take_block.new.out (frame_of c.args.view) c.in_ok-code.field-0 c.in-Goes.due c.in-Goes.farewell c.in-Goes.dropped c.in-Goes.is (c.in_ok-code.ensures before.0 before.1.terms (streams_so before.0 c.args.service.passing c.is_streaming-at_once.result before.1.passing c.is_streaming-at_once.ensures)) in
+    let here =
+    block_brings before.0 c.args.rooms.now c.take_block.new.rooms c.serve.new.rooms c.say_farewell.new.rooms c.args.out.now c.take_block.new.out c.serve.new.out c.say_farewell.new.out (frame_of c.args.view) c.in-Goes.due c.in-Goes.farewell c.in-Goes.dropped passed
+    (λ owed n back. c.in_ok-serve-in-Goes.ensures.performs before.0 owed n back before.1.passing) (λ back. c.in_ok-say_farewell-in-Goes.ensures.performs before.0 back) before.2.0 before.2.1 before.2.2 in
+    record { reached = (before.0, (_, here.segment.state, here.segment.leads)) }
 
 pub rest_behind-requires-clause-reached : goal.rest_behind-requires-clause-reached
 rest_behind-requires-clause-reached c =
     let before = c.requires.reached in
     let passed =
-    block_goes before.0 c.args.rooms.now c.take_block.new.rooms c.args.out.now c.take_block.new.out (frame_of c.args.view) c.in_ok-code.field-0 c.in-Goes.request c.in-Goes.farewell c.in-Goes.is (c.in_ok-code.ensures before.0 before.1.terms before.1.whole) in
+    block_goes before.0 c.args.rooms.now c.take_block.new.rooms c.args.out.now c.take_block.new.out (frame_of c.args.view) c.in_ok-code.field-0 c.in-Goes.due c.in-Goes.farewell c.in-Goes.dropped c.in-Goes.is (c.in_ok-code.ensures before.0 before.1.terms (streams_so before.0 c.args.service.passing c.is_streaming-at_once.result before.1.passing c.is_streaming-at_once.ensures)) in
     let here =
-    block_brings before.0 c.args.rooms.now c.take_block.new.rooms c.serve.new.rooms c.say_farewell.new.rooms c.args.out.now c.take_block.new.out c.serve.new.out c.say_farewell.new.out (frame_of c.args.view) c.in-Goes.request c.in-Goes.farewell passed
-    (λ owed n. c.in_ok-serve-in-Goes.ensures.performs before.0 owed n before.1.whole before.1.response) (c.in_ok-say_farewell-in-Goes.ensures.performs before.0) before.2.0 before.2.1 before.2.2 in
-    (before.0, before.1.whole, (_, here.segment.state, here.segment.leads))
+    block_brings before.0 c.args.rooms.now c.take_block.new.rooms c.serve.new.rooms c.say_farewell.new.rooms c.args.out.now c.take_block.new.out c.serve.new.out c.say_farewell.new.out (frame_of c.args.view) c.in-Goes.due c.in-Goes.farewell c.in-Goes.dropped passed
+    (λ owed n back. c.in_ok-serve-in-Goes.ensures.performs before.0 owed n back before.1.passing) (λ back. c.in_ok-say_farewell-in-Goes.ensures.performs before.0 back) before.2.0 before.2.1 before.2.2 in
+    let returned = c.in_ok-return_dropped-in-Goes.ensures.performs in
+    let there = returned.2 before.0 _ here.segment.state here.segment.leads in
+    (before.0, returned.0, returned.1, (_, there.segment.state, there.segment.leads))
 
 pub rest_behind-requires-clause-none_cut : goal.rest_behind-requires-clause-none_cut
 rest_behind-requires-clause-none_cut c =
     let before = c.requires.reached in
     let passed =
-    block_goes before.0 c.args.rooms.now c.take_block.new.rooms c.args.out.now c.take_block.new.out (frame_of c.args.view) c.in_ok-code.field-0 c.in-Goes.request c.in-Goes.farewell c.in-Goes.is (c.in_ok-code.ensures before.0 before.1.terms before.1.whole) in
-    subst (λ (o : offering.State). NoneCut o) (sym (c.in_ok-say_farewell-in-Goes.ensures.stays.1 ∙ c.in_ok-serve-in-Goes.ensures.stays.1)) passed.none_cut
+    block_goes before.0 c.args.rooms.now c.take_block.new.rooms c.args.out.now c.take_block.new.out (frame_of c.args.view) c.in_ok-code.field-0 c.in-Goes.due c.in-Goes.farewell c.in-Goes.dropped c.in-Goes.is (c.in_ok-code.ensures before.0 before.1.terms (streams_so before.0 c.args.service.passing c.is_streaming-at_once.result before.1.passing c.is_streaming-at_once.ensures)) in
+    subst (λ (o : offering.State). NoneCut o) (sym (c.in_ok-return_dropped-in-Goes.ensures.stays.offers ∙ c.in_ok-say_farewell-in-Goes.ensures.stays.1 ∙ c.in_ok-serve-in-Goes.ensures.stays.1)) passed.none_cut
 
 pub rest_behind-requires-clause-none_but : goal.rest_behind-requires-clause-none_but
 rest_behind-requires-clause-none_but c =
     let before = c.requires.reached in
     let passed =
-    block_goes before.0 c.args.rooms.now c.take_block.new.rooms c.args.out.now c.take_block.new.out (frame_of c.args.view) c.in_ok-code.field-0 c.in-Goes.request c.in-Goes.farewell c.in-Goes.is (c.in_ok-code.ensures before.0 before.1.terms before.1.whole) in
-    but_stays c.args.view.id c.serve.new.rooms c.say_farewell.new.rooms (λ stream. ap (λ (i : Inbound). is_served i.rows stream) c.in_ok-say_farewell-in-Goes.ensures.stays.0) (ap (λ (u : State). lives u.live) c.in_ok-say_farewell-in-Goes.ensures.upstreams)
-    (c.in_ok-serve-in-Goes.ensures.none_but c.args.view.id (about_but c.args.view.id c.args.rooms.now c.take_block.new.rooms passed.about c.requires.settled.rest.none_done))
+    block_goes before.0 c.args.rooms.now c.take_block.new.rooms c.args.out.now c.take_block.new.out (frame_of c.args.view) c.in_ok-code.field-0 c.in-Goes.due c.in-Goes.farewell c.in-Goes.dropped c.in-Goes.is (c.in_ok-code.ensures before.0 before.1.terms (streams_so before.0 c.args.service.passing c.is_streaming-at_once.result before.1.passing c.is_streaming-at_once.ensures)) in
+    but_stays c.args.view.id c.say_farewell.new.rooms c.return_dropped.new.rooms c.in_ok-return_dropped-in-Goes.ensures.stays.served (ap (λ (u : State). lives u.live) c.in_ok-return_dropped-in-Goes.ensures.stays.upstreams)
+    (but_stays c.args.view.id c.serve.new.rooms c.say_farewell.new.rooms (λ stream. ap (λ (i : Inbound). is_served i.rows stream) c.in_ok-say_farewell-in-Goes.ensures.stays.0) (ap (λ (u : State). lives u.live) c.in_ok-say_farewell-in-Goes.ensures.upstreams)
+    (c.in_ok-serve-in-Goes.ensures.none_but c.args.view.id (about_but c.args.view.id c.args.rooms.now c.take_block.new.rooms passed.about c.requires.settled.rest.none_done)))
 
 pub rest_behind-requires-clause-numbered : goal.rest_behind-requires-clause-numbered
 rest_behind-requires-clause-numbered c id kept =
     let before = c.requires.reached in
     let passed =
-    block_goes before.0 c.args.rooms.now c.take_block.new.rooms c.args.out.now c.take_block.new.out (frame_of c.args.view) c.in_ok-code.field-0 c.in-Goes.request c.in-Goes.farewell c.in-Goes.is (c.in_ok-code.ensures before.0 before.1.terms before.1.whole) in
+    block_goes before.0 c.args.rooms.now c.take_block.new.rooms c.args.out.now c.take_block.new.out (frame_of c.args.view) c.in_ok-code.field-0 c.in-Goes.due c.in-Goes.farewell c.in-Goes.dropped c.in-Goes.is (c.in_ok-code.ensures before.0 before.1.terms (streams_so before.0 c.args.service.passing c.is_streaming-at_once.result before.1.passing c.is_streaming-at_once.ensures)) in
     numbered_with c.args.rooms.now c.take_block.new.rooms c.args.view.id passed.ids c.requires.of_stream c.requires.settled.numbered id
-    (subst (λ (i : Inbound). has i.rows id ≡ true) (c.in_ok-say_farewell-in-Goes.ensures.stays.0 ∙ c.in_ok-serve-in-Goes.ensures.stays.0) kept)
+    (subst (λ (i : Inbound). has i.rows id ≡ true) (c.in_ok-say_farewell-in-Goes.ensures.stays.0 ∙ c.in_ok-serve-in-Goes.ensures.stays.0) (sym (c.in_ok-return_dropped-in-Goes.ensures.stays.opened id) ∙ kept))
 
 pub returns-in_ok-end-in-Fatal-clause-comes : goal.returns-in_ok-end-in-Fatal-clause-comes
 returns-in_ok-end-in-Fatal-clause-comes c setup served =
     let fatal =
-    block_ends setup c.args.rooms.now c.take_block.new.rooms c.args.out.now c.take_block.new.out (frame_of c.args.view) c.in_ok-code.field-0 c.in-Fatal.code c.in-Fatal.is (c.in_ok-code.ensures setup served.terms served.whole) in
+    block_ends setup c.args.rooms.now c.take_block.new.rooms c.args.out.now c.take_block.new.out (frame_of c.args.view) c.in_ok-code.field-0 c.in-Fatal.code c.in-Fatal.is (c.in_ok-code.ensures setup served.terms (streams_so setup c.args.service.passing c.is_streaming-at_once.result served.passing c.is_streaming-at_once.ensures)) in
     fatal_comes setup c.args.rooms.now c.take_block.new.rooms c.args.out.now c.take_block.new.out c.end.new.out (frame_of c.args.view) fatal.note (λ s. fatal.next) c.in-Fatal.code c.requires.settled.rest fatal.nothing_put fatal.upstreams fatal.rows fatal.fault fatal.fatal
     (λ run s kept d. c.in_ok-end-in-Fatal.ensures setup run s kept d)
 
-pub returns-in_ok-say_farewell-in-Goes-clause-comes : goal.returns-in_ok-say_farewell-in-Goes-clause-comes
-returns-in_ok-say_farewell-in-Goes-clause-comes c =
+pub returns-in_ok-return_dropped-in-Goes-clause-comes : goal.returns-in_ok-return_dropped-in-Goes-clause-comes
+returns-in_ok-return_dropped-in-Goes-clause-comes c =
     if_ok c.rest_behind.result
     (λ went follows setup served.
     let passed =
-    block_goes setup c.args.rooms.now c.take_block.new.rooms c.args.out.now c.take_block.new.out (frame_of c.args.view) c.in_ok-code.field-0 c.in-Goes.request c.in-Goes.farewell c.in-Goes.is (c.in_ok-code.ensures setup served.terms served.whole) in
-    comes_then setup c.args.rooms.now c.say_farewell.new.rooms square square square c.args.out.now c.say_farewell.new.out c.rest_behind.new.out (Came (record { frame = frame_of c.args.view; note = passed.note })) (OfFrame (frame_of c.args.view)) (now_of went c.rest_behind.new.rooms) refl
-    (block_brings setup c.args.rooms.now c.take_block.new.rooms c.serve.new.rooms c.say_farewell.new.rooms c.args.out.now c.take_block.new.out c.serve.new.out c.say_farewell.new.out (frame_of c.args.view) c.in-Goes.request c.in-Goes.farewell passed
-    (λ owed n. c.in_ok-serve-in-Goes.ensures.performs setup owed n served.whole served.response) (c.in_ok-say_farewell-in-Goes.ensures.performs setup)) (follows setup served.whole)) c.rest_behind.ensures.follows
+    block_goes setup c.args.rooms.now c.take_block.new.rooms c.args.out.now c.take_block.new.out (frame_of c.args.view) c.in_ok-code.field-0 c.in-Goes.due c.in-Goes.farewell c.in-Goes.dropped c.in-Goes.is (c.in_ok-code.ensures setup served.terms (streams_so setup c.args.service.passing c.is_streaming-at_once.result served.passing c.is_streaming-at_once.ensures)) in
+    let returned = c.in_ok-return_dropped-in-Goes.ensures.performs in
+    comes_then setup c.args.rooms.now c.return_dropped.new.rooms square (back_of returned.0) square c.args.out.now c.return_dropped.new.out c.rest_behind.new.out (Came (record { frame = frame_of c.args.view; note = passed.note })) (OfFrame (frame_of c.args.view)) (now_of went c.rest_behind.new.rooms) refl
+    (brings_then setup c.args.rooms.now c.say_farewell.new.rooms c.return_dropped.new.rooms square (back_of c.in-Goes.dropped) (back_of returned.0) c.args.out.now c.say_farewell.new.out c.return_dropped.new.out (Came (record { frame = frame_of c.args.view; note = passed.note }))
+    (block_brings setup c.args.rooms.now c.take_block.new.rooms c.serve.new.rooms c.say_farewell.new.rooms c.args.out.now c.take_block.new.out c.serve.new.out c.say_farewell.new.out (frame_of c.args.view) c.in-Goes.due c.in-Goes.farewell c.in-Goes.dropped passed
+    (λ owed n back. c.in_ok-serve-in-Goes.ensures.performs setup owed n back served.passing) (λ back. c.in_ok-say_farewell-in-Goes.ensures.performs setup back))
+    (returned.2 setup)) (follows returned.0 returned.1 setup)) c.rest_behind.ensures.follows

@@ -1,7 +1,9 @@
 use Rattle.std.proofs.Common.{◌≡◌, true, false, ap, subst, sym, ◌∙◌}
+use Rattle.steps.specs.Resting.{IsSettled}
 use Rattle.gateway.specs.Stands.{Standing}
 use Rattle.gateway.specs.Receiving.{Greets}
-use Rattle.gateway.proofs.Pieces.{greets_none}
+use Rattle.gateway.proofs.Pieces.{greets_none, greets_first}
+use Rattle.gateway.specs.declared.phase.Phase.TheVariants as phase
 use Rattle.gateway.proofs.gateway.Gateway.greet.Goals as goal
 use Rattle.gateway.proofs.gateway.Gateway.greet.Goals.{in-New, in_default}
 
@@ -11,3 +13,12 @@ returns-else-matches c = subst (λ o. Greets c.args.self.now c.args.self.now o) 
       | in-New w ↦ absurd (let both : true ≡ false = sym w.matches-is ∙ c.if-matches.false in cc)
       | in_default w ↦ λ is. w.in_default.not-New (ap (λ (g : Standing). g.phase) c.self.view_is ∙ is)
     ]) c.requires.settled)
+
+pub returns-in_ok-pay : goal.returns-in_ok-pay
+returns-in_ok-pay c =
+    let new : c.args.self.now.phase ≡ phase.New =
+    elim c.match-matches.branch [
+      | in-New w ↦ ap (λ (g : Standing). g.phase) (sym c.self.view_is) ∙ w.in-New.is
+      | in_default w ↦ absurd (let both : true ≡ false = sym c.if-matches.true ∙ w.matches-is in cc)
+    ] in
+    rw (← c.self.view_is) (greets_first _ c.pay.new.rooms c.args.out.now c.pay.new.out (ap (λ (g : Standing). g.phase) c.self.view_is ∙ new) (subst (λ (g : Standing). IsSettled g.kept) (sym c.self.view_is) c.requires.settled) c.requires.nothing c.in_ok-pay.ensures.performs c.in_ok-pay.ensures.puts c.in_ok-pay.ensures.counts)

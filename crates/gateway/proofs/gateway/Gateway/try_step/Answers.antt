@@ -4,7 +4,8 @@ use Rattle.outputs.specs.Views.{event_of}
 use Rattle.steps.specs.Admission.{admits as admits_kept}
 use Rattle.gateway.specs.declared.phase.Phase.TheVariants as phase
 use Rattle.gateway.specs.Stands.{Standing, StandsNext, is_open}
-use Rattle.gateway.proofs.Going.{serves_mid, mid_leads, stands_next, admitted_in, ended, on_ok_map}
+use Rattle.gateway.proofs.Admitting.{admitted_in}
+use Rattle.gateway.proofs.Going.{serves_mid, mid_leads, stands_next, ended, on_ok_map}
 use Rattle.gateway.proofs.gateway.Gateway.try_step.Goals.{in-Over, in_default, then-matches, else-matches}
 use Rattle.gateway.proofs.gateway.Gateway.try_step.Goals as goal
 
@@ -32,6 +33,6 @@ returns-clause-steps c =
       reverse c.happen.new.out,
       put,
       λ setup log run stands. subst (λ g. StandsNext setup g log run (event_of c.args.event.now) (reverse c.happen.new.out)) (sym closed)
-          (stands_next setup c.args.self.now c.greet.new.self c.greet.new.out log run stands c.in_ok-greet.ensures goes (event_of c.args.event.now) (admitted_in setup c.args.self.now log run (event_of c.args.event.now) stands c.requires.admitted)
+          (stands_next setup c.args.self.now c.greet.new.self c.greet.new.out log run stands c.in_ok-greet.ensures goes (event_of c.args.event.now) (admitted_in setup c.args.self.now log run stands (event_of c.args.event.now) c.requires.admitted)
           c.happen.new.self c.happen.new.out c.in_ok-went.ensures.terms c.in_ok-went.went c.in_ok-went.ensures.rests c.in_ok-went.ensures.happens),
     )) c.append_to.ensures.ok

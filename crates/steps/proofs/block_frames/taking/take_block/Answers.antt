@@ -14,14 +14,14 @@ use Rattle.steps.proofs.block_frames.taking.take_block.Goals as goal
 
 pub act-requires-clause-newest : goal.act-requires-clause-newest
 act-requires-clause-newest c =
-    newest c.requires.reached.0 c.requires.reached.2 (the_view c.rooms.inside) (subst IsAtRest (sym c.rooms.view_is) c.requires.rest) c.requires.reached.3.0 c.requires.reached.3.1
-    (subst (λ (v : View). Leads c.requires.reached.0 c.requires.reached.3.0 v square c.requires.reached.3.1) (sym c.rooms.view_is) c.requires.reached.3.2) (frame_of c.args.view) c.requires.kind c.judge_fragment.new.self c.args.out.now c.requires.of_stream c.in_ok-answer.answer
+    newest c.requires.reached.0 (the_view c.rooms.inside) (subst IsAtRest (sym c.rooms.view_is) c.requires.rest) c.requires.reached.3.0 c.requires.reached.3.1
+    (subst (λ (v : View). Leads c.requires.reached.0 c.requires.reached.3.0 v square c.requires.reached.3.1) (sym c.rooms.view_is) c.requires.reached.3.2) (frame_of c.args.view) c.requires.kind c.args.at_once c.judge_fragment.new.self c.args.out.now c.requires.of_stream c.in_ok-answer.answer
     (c.in_ok-answer.ensures c.requires.reached.0 no_outside c.requires.reached.1)
 
 pub act-requires-clause-may : goal.act-requires-clause-may
 act-requires-clause-may c =
-    may_act c.requires.reached.0 c.requires.reached.2 (the_view c.rooms.inside) (subst IsAtRest (sym c.rooms.view_is) c.requires.rest) c.requires.reached.3.0 c.requires.reached.3.1
-    (subst (λ (v : View). Leads c.requires.reached.0 c.requires.reached.3.0 v square c.requires.reached.3.1) (sym c.rooms.view_is) c.requires.reached.3.2) (frame_of c.args.view) c.requires.kind c.judge_fragment.new.self c.args.out.now c.requires.of_stream c.in_ok-answer.answer
+    may_act c.requires.reached.0 (the_view c.rooms.inside) (subst IsAtRest (sym c.rooms.view_is) c.requires.rest) c.requires.reached.3.0 c.requires.reached.3.1
+    (subst (λ (v : View). Leads c.requires.reached.0 c.requires.reached.3.0 v square c.requires.reached.3.1) (sym c.rooms.view_is) c.requires.reached.3.2) (frame_of c.args.view) c.requires.kind c.args.at_once c.judge_fragment.new.self c.args.out.now c.requires.of_stream c.in_ok-answer.answer
     (c.in_ok-answer.ensures c.requires.reached.0 no_outside c.requires.reached.1)
 
 pub returns : goal.returns
@@ -31,7 +31,7 @@ returns c = if_ok c.act.result c.act.ensures (λ taken acted setup for whole.
     ∙ ap (λ n. farewell_behind n c.streams-2.result.now) (c.count-before.ensures.is ∙ ap (λ (rows : List Row). length rows) c.streams.ensures.is)
     ∙ ap (λ (rows : List Row). farewell_behind (length c.rooms.inside.inbound.rows) rows) c.streams-2.ensures.is in
     subst (λ (v : View). IsBlockTaken setup v c.args.out.now (frame_of c.args.view) taken c.act.new.rooms c.act.new.out) c.rooms.view_is
-    (all_taken c.requires.reached.0 c.requires.reached.2 (the_view c.rooms.inside) (subst IsAtRest (sym c.rooms.view_is) c.requires.rest) c.requires.reached.3.0 c.requires.reached.3.1
-    (subst (λ (v : View). Leads c.requires.reached.0 c.requires.reached.3.0 v square c.requires.reached.3.1) (sym c.rooms.view_is) c.requires.reached.3.2) (frame_of c.args.view) c.requires.kind c.judge_fragment.new.self c.args.out.now c.requires.of_stream setup whole c.in_ok-answer.answer
+    (all_taken c.requires.reached.0 (the_view c.rooms.inside) (subst IsAtRest (sym c.rooms.view_is) c.requires.rest) c.requires.reached.3.0 c.requires.reached.3.1
+    (subst (λ (v : View). Leads c.requires.reached.0 c.requires.reached.3.0 v square c.requires.reached.3.1) (sym c.rooms.view_is) c.requires.reached.3.2) (frame_of c.args.view) c.requires.kind c.args.at_once c.judge_fragment.new.self c.args.out.now c.requires.of_stream setup whole c.in_ok-answer.answer
     (c.in_ok-answer.ensures setup no_outside for) taken c.act.new.rooms c.act.new.out
-    (subst (λ (l : Option ℕ). IsActed c.args.view.id c.in_ok-answer.answer l (record (the_view c.rooms.inside) { inbound = c.judge_fragment.new.self }) c.args.out.now taken c.act.new.rooms c.act.new.out) last acted)))
+    (subst (λ (l : Option ℕ). IsActed c.args.view.id c.args.at_once c.in_ok-answer.answer l (record (the_view c.rooms.inside) { inbound = c.judge_fragment.new.self }) c.args.out.now taken c.act.new.rooms c.act.new.out) last acted)))

@@ -12,7 +12,7 @@ use Rattle.steps.proofs.ending.closing.shut.Goals as goal
 pub returns : goal.returns
 returns c =
     on_ok c.close_all.result
-    (λ closes setup run s fresh leads.
-    is_shut setup run c.args.rooms.now s fresh leads c.requires.spent c.args.out.now c.close_all.new.out
+    (λ closes setup run s fresh back leads.
+    is_shut setup run c.args.rooms.now s fresh back leads c.requires.spent c.args.out.now c.close_all.new.out
     (subst (λ (v : View). c.close_all.new.out ≡ put_all c.args.out.now (Did CloseClient ∷ closed_all (reverse (lives v.upstreams.live)))) c.rooms.view_is closes))
     c.close_all.ensures

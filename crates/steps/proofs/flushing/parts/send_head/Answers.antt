@@ -25,7 +25,7 @@ returns-clause-sent c =
     let fields : List Field = c.in_ok-fields.fields.items in
     let block : List ℕ = c.encode.new.out.items in
     let table = c.encode.new.self.table in
-    let view : Inbound → offering.State → Encoding → ℕ → View = λ i o e n. record { inbound = i; offers = o; upstreams = here.upstreams; encoding = e; untaken = n } in
+    let view : Inbound → offering.State → Encoding → ℕ → View = λ i o e n. record { inbound = i; offers = o; upstreams = here.upstreams; marks = here.marks; encoding = e; untaken = n } in
     let long : c.len.result ≡ length block = search (rules, c.len.ensures, c.deref-2.ensures.len, c.deref-2.ensures.value) in
     let counted : c.octets_of_block.result ≡ length block + 9 * ((length block - 1) / 16384 + 1) = c.octets_of_block.ensures ∙ ap (λ n. n + 9 * ((n - 1) / 16384 + 1)) long in
     let size : here.untaken + c.octets_of_block.result ≡ here.untaken + octets_of_frames (block_frames c.args.id c.args.next.ends block) = ap (λ n. here.untaken + n) (counted ∙ sym (block_octets c.args.id c.args.next.ends block)) in

@@ -34,7 +34,7 @@ returns-clause-sent c =
     let goes : part_for c.most_octets-most.result c.args.id here.offers.kept ≡ Some (Octets octets c.in-Some-Octets.ends) = sym c.in-Some-Octets.ensures.is ∙ ap (λ p. Some (part_in p)) c.in-Some-Octets.field-0-is in
     let few : length octets ≤ c.most_octets-most.result = octets_few (windows_over here.inbound.rows here.inbound.first_size here.inbound.window) here.offers c.args.id c.most_octets-most.result octets c.in-Some-Octets.ends ready goes in
     let most : c.most_octets-most.result ≤ 16384 = c.most_octets-most.ensures.few in
-    let view : Inbound → offering.State → ℕ → View = λ i o n. record { inbound = i; offers = o; upstreams = here.upstreams; encoding = here.encoder; untaken = n } in
+    let view : Inbound → offering.State → ℕ → View = λ i o n. record { inbound = i; offers = o; upstreams = here.upstreams; marks = here.marks; encoding = here.encoder; untaken = n } in
     let inbound : Inbound = record here.inbound { window = here.inbound.window -ℤ pos (length octets); rows = with_kept c.args.id (data_sent (length octets) c.in-Some-Octets.ends (find here.inbound.rows c.args.id)) here.inbound.rows } in
     let size : here.untaken + (9 + length octets) ≡ here.untaken + length (spell (data_frame c.args.id c.in-Some-Octets.ends octets)) = omega arith in
     rw (← c.rooms.view_is) (record {

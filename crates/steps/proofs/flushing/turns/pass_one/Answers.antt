@@ -1,17 +1,21 @@
-use Rattle.std.proofs.Common.{◌<◌, sym, ◌∙◌, ap, subst, if◌then◌else◌}
+use Rattle.std.proofs.Common.{◌≡◌, ℕ, ◌<◌, ◌≤◌, true, sym, ◌∙◌, ap, subst, refl, if◌then◌else◌, arith}
 use Rattle.judgement.specs.Inbound.{Inbound}
 use Rattle.offering.specs.State as offering
 use Rattle.offers.specs.Asked.{windows_over}
 use Rattle.streams_kept.specs.Asked.{has}
-use Rattle.relay.specs.View.{View, square}
-use Rattle.relay.specs.Rest.{NoneCut}
+use Rattle.upstreams.specs.Kept.{State as Upstream}
+use Rattle.upstreams.specs.Connections.{lives}
+use Rattle.relay.specs.View.{View, square, waiting_for}
+use Rattle.relay.specs.Rest.{NoneCut, back_of}
 use Rattle.relay.specs.Bringing.{PerformsOwn}
 use Rattle.relay.proofs.Bringing.{own_then}
 use Rattle.steps.specs.flushing.Changes.{ended, put_at_end, IsPartSent}
-use Rattle.steps.proofs.flushing.Performing.{turn_active, turn_ready, part_performs, active_has}
+use Rattle.steps.proofs.flushing.Performing.{turn_active, turn_ready, part_performs, ends_then, active_has}
 use Rattle.steps.specs.Closings.{IsAbout}
-use Rattle.steps.proofs.Closings.{about_but}
-use Rattle.steps.proofs.flushing.After.{Stays, sent_stays, sent_about, sent_none_done}
+use Rattle.steps.proofs.Stays.{on_as}
+use Rattle.steps.proofs.Closings.{about_but, but_stays}
+use Rattle.steps.proofs.paying.Rows.{active_goes_on}
+use Rattle.steps.proofs.flushing.After.{Stays, sent_stays, sent_about, sent_waits, sent_none_done}
 use Rattle.steps.proofs.flushing.turns.pass_one.Goals as goal
 
 pub send_part-requires-clause-ready : goal.send_part-requires-clause-ready
@@ -22,7 +26,7 @@ send_part-requires-clause-ready c =
 pub send_part-requires-clause-live : goal.send_part-requires-clause-live
 send_part-requires-clause-live c =
     let moves = c.requires.reached in
-    turn_active moves.0 moves.1.0 moves.1.1 c.args.rooms.now c.args.id moves.1.2 c.requires.turn
+    turn_active moves.0 moves.3.0 moves.3.1 c.args.rooms.now (back_of moves.1) c.args.id moves.3.2 c.requires.turn
 
 pub send_part-requires-clause-small : goal.send_part-requires-clause-small
 send_part-requires-clause-small c = c.requires.numbered c.args.id (active_has c.args.rooms.now.inbound.rows c.args.id (send_part-requires-clause-live c))
@@ -30,56 +34,87 @@ send_part-requires-clause-small c = c.requires.numbered c.args.id (active_has c.
 pub end_stream-requires-clause-small : goal.end_stream-requires-clause-small
 end_stream-requires-clause-small c =
     let moves = c.requires.reached in
-    c.requires.numbered c.args.id (active_has c.args.rooms.now.inbound.rows c.args.id (turn_active moves.0 moves.1.0 moves.1.1 c.args.rooms.now c.args.id moves.1.2 c.requires.turn))
+    c.requires.numbered c.args.id (active_has c.args.rooms.now.inbound.rows c.args.id (turn_active moves.0 moves.3.0 moves.3.1 c.args.rooms.now (back_of moves.1) c.args.id moves.3.2 c.requires.turn))
+
+pub return_dropped-requires : goal.return_dropped-requires
+return_dropped-requires c =
+    let u = c.args.rooms.now in
+    let v = c.send_part.new.rooms in
+    let moves = c.requires.reached in
+    let live = turn_active moves.0 moves.3.0 moves.3.1 u (back_of moves.1) c.args.id moves.3.2 c.requires.turn in
+    let small = c.requires.numbered c.args.id (active_has u.inbound.rows c.args.id live) in
+    let none = moves.2 (active_goes_on u c.args.id live) in
+    let first = subst (λ n. Rattle.relay.specs.View.Leads moves.0 moves.3.0 u (back_of n) moves.3.1) none moves.3.2 in
+    let here =
+    ends_then u c.args.id c.requires.none_cut c.requires.turn small c.requires.few moves.0 c.args.out.now v c.send_part.new.out (subst (λ b. IsPartSent u c.args.out.now c.args.id b v c.send_part.new.out) c.if-ends.true c.in_ok-ends.ensures.sent) c.in_ok-dropped.dropped c.end_stream.new.rooms c.end_stream.new.out
+    (c.in_ok-dropped.ensures.dropped ∙ sent_waits u c.args.out.now c.args.id c.in_ok-ends.ends v c.send_part.new.out c.in_ok-ends.ensures.sent) c.in_ok-dropped.ensures.kept c.in_ok-dropped.ensures.puts moves.3.0 moves.3.1 first in
+    record { reached = (moves.0, (_, here.segment.state, here.segment.leads)) }
 
 pub close_unserved-requires : goal.close_unserved-requires
 close_unserved-requires c =
     let u = c.args.rooms.now in
     let v = c.send_part.new.rooms in
-    about_but c.args.id u c.end_stream.new.rooms
-    (subst (λ (w : View). IsAbout c.args.id u w) (sym c.in_ok-end_stream.ensures.kept) (sent_about u c.args.out.now c.args.id c.in_ok-ends.ends v c.send_part.new.out c.in_ok-ends.ensures.sent)) c.requires.none_done
+    let back = c.in_ok-return_dropped.ensures.stays in
+    but_stays c.args.id c.end_stream.new.rooms c.return_dropped.new.rooms back.served (ap (λ (x : Upstream). lives x.live) back.upstreams)
+    (about_but c.args.id u c.end_stream.new.rooms
+    (subst (λ (w : View). IsAbout c.args.id u w) (sym c.in_ok-dropped.ensures.kept) (sent_about u c.args.out.now c.args.id c.in_ok-ends.ends v c.send_part.new.out c.in_ok-ends.ensures.sent)) c.requires.none_done)
 
 pub returns-in_ok-close_unserved-clause-performs : goal.returns-in_ok-close_unserved-clause-performs
-returns-in_ok-close_unserved-clause-performs c setup whole =
+returns-in_ok-close_unserved-clause-performs c back is_back =
     let u = c.args.rooms.now in
     let v = c.send_part.new.rooms in
     let moves = c.requires.reached in
-    let small = c.requires.numbered c.args.id (active_has u.inbound.rows c.args.id (turn_active moves.0 moves.1.0 moves.1.1 u c.args.id moves.1.2 c.requires.turn)) in
-    let all : PerformsOwn setup u square c.args.out.now (if c.in_ok-ends.ends then ended c.args.id v else v) square (if c.in_ok-ends.ends then put_at_end c.args.id v c.send_part.new.out else c.send_part.new.out) =
-    part_performs u c.args.id c.requires.none_cut c.requires.turn small c.requires.few setup c.args.out.now c.in_ok-ends.ends v c.send_part.new.out c.in_ok-ends.ensures.sent in
-    let over : PerformsOwn setup u square c.args.out.now (ended c.args.id v) square (put_at_end c.args.id v c.send_part.new.out) =
-    subst (λ b. PerformsOwn setup u square c.args.out.now (if b then ended c.args.id v else v) square (if b then put_at_end c.args.id v c.send_part.new.out else c.send_part.new.out)) c.if-ends.true all in
-    own_then setup u c.end_stream.new.rooms c.close_unserved.new.rooms square square square c.args.out.now c.end_stream.new.out c.close_unserved.new.out
-    (subst (λ w. PerformsOwn setup u square c.args.out.now w square c.end_stream.new.out) (sym c.in_ok-end_stream.ensures.kept)
-    (subst (λ o. PerformsOwn setup u square c.args.out.now (ended c.args.id v) square o) (sym c.in_ok-end_stream.ensures.puts) over))
-    (c.in_ok-close_unserved.ensures.performs setup whole)
+    let live = turn_active moves.0 moves.3.0 moves.3.1 u (back_of moves.1) c.args.id moves.3.2 c.requires.turn in
+    let small = c.requires.numbered c.args.id (active_has u.inbound.rows c.args.id live) in
+    let none = is_back (active_goes_on u c.args.id live) in
+    let returned = c.in_ok-return_dropped.ensures.performs in (
+      returned.0,
+      (λ on. returned.1 (on_as c.return_dropped.new.rooms c.close_unserved.new.rooms c.in_ok-close_unserved.ensures.inbound on)),
+      λ setup.
+          subst (λ n. PerformsOwn setup u (back_of n) c.args.out.now c.close_unserved.new.rooms (back_of returned.0) c.close_unserved.new.out) (sym none)
+          (own_then setup u c.return_dropped.new.rooms c.close_unserved.new.rooms square (back_of returned.0) (back_of returned.0) c.args.out.now c.return_dropped.new.out c.close_unserved.new.out
+          (own_then setup u c.end_stream.new.rooms c.return_dropped.new.rooms square (back_of c.in_ok-dropped.dropped) (back_of returned.0) c.args.out.now c.end_stream.new.out c.return_dropped.new.out
+          (ends_then u c.args.id c.requires.none_cut c.requires.turn small c.requires.few setup c.args.out.now v c.send_part.new.out (subst (λ b. IsPartSent u c.args.out.now c.args.id b v c.send_part.new.out) c.if-ends.true c.in_ok-ends.ensures.sent) c.in_ok-dropped.dropped c.end_stream.new.rooms c.end_stream.new.out
+          (c.in_ok-dropped.ensures.dropped ∙ sent_waits u c.args.out.now c.args.id c.in_ok-ends.ends v c.send_part.new.out c.in_ok-ends.ensures.sent) c.in_ok-dropped.ensures.kept c.in_ok-dropped.ensures.puts)
+          (returned.2 setup))
+          (c.in_ok-close_unserved.ensures.performs setup returned.0)),
+    )
 
 pub returns-in_ok-close_unserved-clause-none_cut : goal.returns-in_ok-close_unserved-clause-none_cut
 returns-in_ok-close_unserved-clause-none_cut c =
     let v = c.send_part.new.rooms in
     let stays = subst (λ b. Stays c.args.rooms.now (if b then ended c.args.id v else v)) c.if-ends.true (sent_stays c.args.rooms.now c.args.out.now c.args.id c.in_ok-ends.ends v c.send_part.new.out c.in_ok-ends.ensures.sent) in
-    subst (λ (o : offering.State). NoneCut o) (sym (c.in_ok-close_unserved.ensures.offers ∙ ap (λ (w : View). w.offers) c.in_ok-end_stream.ensures.kept)) (stays.none_cut c.requires.none_cut)
+    subst (λ (o : offering.State). NoneCut o) (sym (c.in_ok-close_unserved.ensures.offers ∙ c.in_ok-return_dropped.ensures.stays.offers ∙ ap (λ (w : View). w.offers) c.in_ok-dropped.ensures.kept)) (stays.none_cut c.requires.none_cut)
 
 pub returns-in_ok-close_unserved-clause-numbered : goal.returns-in_ok-close_unserved-clause-numbered
 returns-in_ok-close_unserved-clause-numbered c id there =
     let v = c.send_part.new.rooms in
     let stays = subst (λ b. Stays c.args.rooms.now (if b then ended c.args.id v else v)) c.if-ends.true (sent_stays c.args.rooms.now c.args.out.now c.args.id c.in_ok-ends.ends v c.send_part.new.out c.in_ok-ends.ensures.sent) in
-    c.requires.numbered id (sym (stays.opened id) ∙ sym (ap (λ (i : Inbound). has i.rows id) c.in_ok-close_unserved.ensures.inbound ∙ ap (λ (w : View). has w.inbound.rows id) c.in_ok-end_stream.ensures.kept) ∙ there)
+    c.requires.numbered id (sym (stays.opened id) ∙ sym (ap (λ (i : Inbound). has i.rows id) c.in_ok-close_unserved.ensures.inbound ∙ c.in_ok-return_dropped.ensures.stays.opened id ∙ ap (λ (w : View). has w.inbound.rows id) c.in_ok-dropped.ensures.kept) ∙ there)
 
 pub returns-in_ok-close_unserved-clause-more : goal.returns-in_ok-close_unserved-clause-more
 returns-in_ok-close_unserved-clause-more c =
     let v = c.send_part.new.rooms in
     let stays = subst (λ b. Stays c.args.rooms.now (if b then ended c.args.id v else v)) c.if-ends.true (sent_stays c.args.rooms.now c.args.out.now c.args.id c.in_ok-ends.ends v c.send_part.new.out c.in_ok-ends.ensures.sent) in
-    subst (λ n. c.args.rooms.now.untaken < n) (sym (c.in_ok-close_unserved.ensures.untaken ∙ ap (λ (w : View). w.untaken) c.in_ok-end_stream.ensures.kept)) stays.more
+    let first : c.args.rooms.now.untaken < c.end_stream.new.rooms.untaken = subst (λ n. c.args.rooms.now.untaken < n) (sym (ap (λ (w : View). w.untaken) c.in_ok-dropped.ensures.kept)) stays.more in
+    let next : c.end_stream.new.rooms.untaken ≤ c.return_dropped.new.rooms.untaken = c.in_ok-return_dropped.ensures.stays.more in
+    let last = c.in_ok-close_unserved.ensures.untaken in
+    omega (arith, first, next, last)
 
 pub returns-else-ends-clause-performs : goal.returns-else-ends-clause-performs
-returns-else-ends-clause-performs c setup whole =
+returns-else-ends-clause-performs c back is_back =
     let u = c.args.rooms.now in
     let v = c.send_part.new.rooms in
     let moves = c.requires.reached in
-    let small = c.requires.numbered c.args.id (active_has u.inbound.rows c.args.id (turn_active moves.0 moves.1.0 moves.1.1 u c.args.id moves.1.2 c.requires.turn)) in
-    subst (λ b. PerformsOwn setup u square c.args.out.now (if b then ended c.args.id v else v) square (if b then put_at_end c.args.id v c.send_part.new.out else c.send_part.new.out)) c.if-ends.false
-    (part_performs u c.args.id c.requires.none_cut c.requires.turn small c.requires.few setup c.args.out.now c.in_ok-ends.ends v c.send_part.new.out c.in_ok-ends.ensures.sent)
+    let live = turn_active moves.0 moves.3.0 moves.3.1 u (back_of moves.1) c.args.id moves.3.2 c.requires.turn in
+    let small = c.requires.numbered c.args.id (active_has u.inbound.rows c.args.id live) in (
+      0,
+      (λ on. refl),
+      λ setup.
+          subst (λ n. PerformsOwn setup u (back_of n) c.args.out.now v square c.send_part.new.out) (sym (is_back (active_goes_on u c.args.id live)))
+          (subst (λ b. PerformsOwn setup u square c.args.out.now (if b then ended c.args.id v else v) (record square { shared = if b then waiting_for c.args.id u else 0 }) (if b then put_at_end c.args.id v c.send_part.new.out else c.send_part.new.out)) c.if-ends.false
+          (part_performs u c.args.id c.requires.none_cut c.requires.turn small c.requires.few setup c.args.out.now c.in_ok-ends.ends v c.send_part.new.out c.in_ok-ends.ensures.sent)),
+    )
 
 pub returns-else-ends-clause-none_cut : goal.returns-else-ends-clause-none_cut
 returns-else-ends-clause-none_cut c =
@@ -104,5 +139,5 @@ returns-else-ends-clause-none_done c =
     let u = c.args.rooms.now in
     let v = c.send_part.new.rooms in
     let moves = c.requires.reached in
-    sent_none_done u c.args.out.now c.args.id v c.send_part.new.out (turn_active moves.0 moves.1.0 moves.1.1 u c.args.id moves.1.2 c.requires.turn)
+    sent_none_done u c.args.out.now c.args.id v c.send_part.new.out (turn_active moves.0 moves.3.0 moves.3.1 u (back_of moves.1) c.args.id moves.3.2 c.requires.turn)
     (subst (λ b. IsPartSent u c.args.out.now c.args.id b v c.send_part.new.out) c.if-ends.false c.in_ok-ends.ensures.sent) c.requires.none_done

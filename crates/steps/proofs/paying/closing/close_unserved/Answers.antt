@@ -1,16 +1,16 @@
-use Rattle.std.proofs.Common.{◌≡◌, ℕ, ◌<◌, false, List, length, Option, Some, None, refl, sym, ◌∙◌, ap, subst}
+use Rattle.std.proofs.Common.{◌≡◌, ℕ, ◌<◌, false, List, length, map, Option, Some, None, refl, sym, ◌∙◌, ap, subst}
 use Rattle.std.specs.Prelude.{option_map}
 use Rattle.model.specs.Logs.{Output}
 use Rattle.model.specs.Logs.Output.{Does}
 use Rattle.model.specs.Logs.Act.{Close}
 use Rattle.model.specs.Tapes.{put}
-use Rattle.serving.specs.State.{find, without}
+use Rattle.serving.specs.State.{find, without, drop_from}
 use Rattle.judgement.specs.Inbound.{Inbound}
 use Rattle.streams_kept.specs.Sending.{is_served}
 use Rattle.upstreams.specs.Kept.{State}
 use Rattle.upstreams.specs.Connections.{Connection, number_of, stream_of}
-use Rattle.relay.specs.View.{View, square}
-use Rattle.relay.specs.Rest.{told_view}
+use Rattle.relay.specs.View.{View}
+use Rattle.relay.specs.Rest.{told_view, back_of}
 use Rattle.relay.specs.Bringing.{PerformsOwn}
 use Rattle.relay.proofs.Bringing.{own_none, own_then}
 use Rattle.relay.proofs.Lives.{IsDone}
@@ -20,13 +20,13 @@ use Rattle.steps.proofs.paying.Closes.{closes}
 use Rattle.steps.proofs.paying.closing.close_unserved.Goals as goal
 
 pub returns-then-is_served-clause-performs : goal.returns-then-is_served-clause-performs
-returns-then-is_served-clause-performs c setup whole = own_none setup c.args.rooms.now square c.args.out.now
+returns-then-is_served-clause-performs c setup back = own_none setup c.args.rooms.now (back_of back) c.args.out.now
 
 pub returns-then-is_served-clause-none_done : goal.returns-then-is_served-clause-none_done
 returns-then-is_served-clause-none_done c = none_served c.args.id c.args.rooms.now (ap (λ (v : View). (told_view v).served c.args.id) (sym c.rooms.view_is) ∙ sym c.is_served.ensures ∙ c.if-is_served.true) c.requires
 
 pub loop-k-init : goal.loop-k-init
-loop-k-init c = record { performs = λ setup whole. own_none setup c.args.rooms.now square c.args.out.now; none_but = c.requires; inbound = refl; offers = refl; encoding = refl; untaken = refl }
+loop-k-init c = record { performs = λ setup back. own_none setup c.args.rooms.now (back_of back) c.args.out.now; none_but = c.requires; inbound = refl; offers = refl; encoding = refl; untaken = refl }
 
 -- where a number is found, a connection of the stream is
 record IsNewest (id : ℕ) (cs : List Connection) (k : ℕ) : Type 0 where
@@ -62,18 +62,18 @@ loop-k-preserved c =
     let it = newest c.args.id c.loop-k.rooms.upstreams.live k (sym c.newest_of.ensures ∙ c.in-Some.is) in
     let off : (told_view c.loop-k.rooms).served c.args.id ≡ false =
     ap (λ (b : Inbound). is_served b.rows c.args.id) i.inbound ∙ ap (λ (v : View). (told_view v).served c.args.id) (sym c.rooms.view_is) ∙ sym c.is_served.ensures ∙ c.if-is_served.false in
-    let closed : View = record c.loop-k.rooms { upstreams = record c.loop-k.rooms.upstreams { live = without number_of k c.loop-k.rooms.upstreams.live } } in
+    let closed : View = record c.loop-k.rooms { upstreams = record c.loop-k.rooms.upstreams { held = map (drop_from k) c.loop-k.rooms.upstreams.held; live = without number_of k c.loop-k.rooms.upstreams.live } } in
     let out : c.close_up.new.self ≡ put c.loop-k.out (Does (Close k)) = c.in_ok-close_up.ensures in
-    let view_is : record { inbound = c.rooms-in-loop-k.inside.inbound; offers = c.rooms-in-loop-k.inside.offers; upstreams = c.close.new.self; encoding = c.rooms-in-loop-k.inside.encoder; untaken = c.rooms-in-loop-k.inside.untaken } ≡ closed =
-    ap (λ (u : State). record { inbound = c.rooms-in-loop-k.inside.inbound; offers = c.rooms-in-loop-k.inside.offers; upstreams = u; encoding = c.rooms-in-loop-k.inside.encoder; untaken = c.rooms-in-loop-k.inside.untaken }) c.close.ensures
-    ∙ ap (λ (v : View). record v { upstreams = record v.upstreams { live = without number_of k v.upstreams.live } }) c.rooms-in-loop-k.view_is in
+    let view_is : record { inbound = c.rooms-in-loop-k.inside.inbound; offers = c.rooms-in-loop-k.inside.offers; upstreams = c.close.new.self; marks = c.rooms-in-loop-k.inside.marks; encoding = c.rooms-in-loop-k.inside.encoder; untaken = c.rooms-in-loop-k.inside.untaken } ≡ closed =
+    ap (λ (u : State). record { inbound = c.rooms-in-loop-k.inside.inbound; offers = c.rooms-in-loop-k.inside.offers; upstreams = u; marks = c.rooms-in-loop-k.inside.marks; encoding = c.rooms-in-loop-k.inside.encoder; untaken = c.rooms-in-loop-k.inside.untaken }) c.close.ensures
+    ∙ ap (λ (v : View). record v { upstreams = record v.upstreams { held = map (drop_from k) v.upstreams.held; live = without number_of k v.upstreams.live } }) c.rooms-in-loop-k.view_is in
     record {
-      performs = λ setup whole.
-          subst (λ (v : View). PerformsOwn setup c.args.rooms.now square c.args.out.now v square c.close_up.new.self) (sym view_is)
-          (subst (λ (os : List Output). PerformsOwn setup c.args.rooms.now square c.args.out.now closed square os) (sym out)
-          (own_then setup c.args.rooms.now c.loop-k.rooms closed square square square c.args.out.now c.loop-k.out (put c.loop-k.out (Does (Close k)))
-          (i.performs setup whole)
-          (closes setup whole c.loop-k.rooms k
+      performs = λ setup back.
+          subst (λ (v : View). PerformsOwn setup c.args.rooms.now (back_of back) c.args.out.now v (back_of back) c.close_up.new.self) (sym view_is)
+          (subst (λ (os : List Output). PerformsOwn setup c.args.rooms.now (back_of back) c.args.out.now closed (back_of back) os) (sym out)
+          (own_then setup c.args.rooms.now c.loop-k.rooms closed (back_of back) (back_of back) (back_of back) c.args.out.now c.loop-k.out (put c.loop-k.out (Does (Close k)))
+          (i.performs setup back)
+          (closes setup c.loop-k.rooms back k
           (λ top below. subst (λ n. IsDone (told_view c.loop-k.rooms) c.loop-k.rooms.upstreams.live n) it.number (unserved_done (told_view c.loop-k.rooms) top c.args.id c.loop-k.rooms.upstreams.live it.connection off below it.found)) c.loop-k.out)));
       none_but = subst (NoneDoneBut c.args.id) (sym view_is) (closed_but c.args.id k c.loop-k.rooms i.none_but);
       inbound = ap (λ (v : View). v.inbound) c.rooms-in-loop-k.view_is ∙ i.inbound;

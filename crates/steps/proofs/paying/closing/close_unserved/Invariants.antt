@@ -1,7 +1,6 @@
-use Rattle.std.proofs.Common.{◌≡◌, length}
+use Rattle.std.proofs.Common.{◌≡◌, ℕ, length}
 use Rattle.model.specs.Setup.{Setup}
-use Rattle.model.specs.Setup.Passing.{Whole}
-use Rattle.relay.specs.View.{square}
+use Rattle.relay.specs.Rest.{back_of}
 use Rattle.relay.specs.Bringing.{PerformsOwn}
 use Rattle.steps.specs.Closings.{NoneDoneBut}
 use Rattle.steps.proofs.paying.closing.close_unserved.Given as goal
@@ -9,7 +8,7 @@ use Rattle.steps.proofs.paying.closing.close_unserved.Given as goal
 -- what was done so far performs, leaves none done with of another stream, and changes nothing but the connections
 abbrev pub invariant-loop-k : goal.invariant-loop-k
 invariant-loop-k l = record {
-  performs : (setup : Setup) → setup.passing ≡ Whole → PerformsOwn setup l.fn.rooms square l.fn.out l.rooms square l.out;
+  performs : (setup : Setup) (back : ℕ) → PerformsOwn setup l.fn.rooms (back_of back) l.fn.out l.rooms (back_of back) l.out;
   none_but : NoneDoneBut l.fn.id l.rooms;
   inbound : l.rooms.inbound ≡ l.fn.rooms.inbound;
   offers : l.rooms.offers ≡ l.fn.rooms.offers;

@@ -1,32 +1,85 @@
-use Rattle.std.proofs.Common.{◌≡◌, ℕ, ◌<◌, true, false, not, List, sym, ◌∙◌, ap, subst, arith}
+use Rattle.std.proofs.Common.{◌≡◌, ℕ, ◌+◌, ◌<◌, true, false, not, List, sym, ◌∙◌, ap, subst, arith}
 use Rattle.std.proofs.lemmas.Bool.{and_parts}
 use Rattle.model.specs.Frames.{spell}
 use Rattle.model.specs.Logs.{Output}
 use Rattle.model.specs.Logs.Output.{ToClient}
+use Rattle.model.specs.Setup.{Setup}
 use Rattle.model.specs.Tapes.{put}
 use Rattle.conduct.specs.Rows.{Row, find}
+use Rattle.marks_kept.specs.Sides.{change, waiting, has_untaken}
 use Rattle.outputs.specs.Sent.{window_update}
 use Rattle.streams_kept.specs.Asked.{has, is_active}
-use Rattle.streams_kept.specs.Sending.{is_served, AreReturnable}
+use Rattle.streams_kept.specs.Sending.{AreReturnable}
 use Rattle.relay.specs.View.{View, square}
-use Rattle.relay.specs.Rest.{GoesOn}
+use Rattle.relay.specs.Rest.{GoesOn, IsBack, back_of}
 use Rattle.relay.specs.Bringing.{PerformsOwn}
-use Rattle.steps.specs.paying.Returning.{goes_back_on, given_on_connection, given_on_stream}
-use Rattle.steps.proofs.paying.Rows.{served_stays}
-use Rattle.steps.proofs.paying.Settling.{fresh}
+use Rattle.relay.proofs.Bringing.{own_then}
+use Rattle.steps.specs.paying.Returning.{goes_back_on, given_on_connection, given_on_stream, IsReturned}
+use Rattle.steps.proofs.Results.{on_ok, on_both}
+use Rattle.steps.proofs.paying.Settling.{fresh, defers}
 use Rattle.steps.proofs.paying.Fitting.{fits_shared, fits_own}
-use Rattle.steps.proofs.paying.Settled.{none_back, back_on_connection, back_on_both, still_on, still_numbered}
+use Rattle.steps.proofs.paying.Returned.{returned_marks, returned_on_connection, returned_on_stream, returned_then}
+use Rattle.steps.proofs.paying.Settled.{none_fresh, back_on_connection, back_on_both}
 use Rattle.steps.proofs.paying.returning.settle.Goals as goal
 
-pub returns-then-octets-eq0-clause-performs : goal.returns-then-octets-eq0-clause-performs
-returns-then-octets-eq0-clause-performs c = λ setup whole. none_back setup c.args.rooms.now c.args.octets c.args.out.now c.if-octets-eq0.true
+-- where the connection goes on nothing is left to go back
+back_is : (setup : Setup) (old before new : View) (octets dropped : ℕ) (outputs : List Output) → PerformsOwn setup old (fresh octets dropped) outputs before (back_of dropped) outputs → (back : ℕ) → IsBack new back → (put_out : List Output) → PerformsOwn setup before (back_of dropped) outputs new (back_of back) put_out → GoesOn new
+    → PerformsOwn setup old (fresh octets dropped) outputs new square put_out
+back_is setup old before new octets dropped outputs first back is put_out then on =
+    own_then setup old before new (fresh octets dropped) (back_of dropped) square outputs outputs put_out first (subst (λ n. PerformsOwn setup before (back_of dropped) outputs new (back_of n) put_out) (is on) then)
 
+-- octets of the last frame wait
+waits_here : (old new : View) (stream octets dropped : ℕ) (outputs : List Output) → stream ≡ old.inbound.last → has_untaken stream old.marks ≡ true → new ≡ record old { marks = change stream (waiting octets) old.marks }
+    → (setup : Setup) → PerformsOwn setup old (fresh octets dropped) outputs new (back_of dropped) outputs
+waits_here old new stream octets dropped outputs last waits kept setup =
+    subst (λ (v : View). PerformsOwn setup old (fresh octets dropped) outputs v (back_of dropped) outputs) (sym (kept ∙ ap (λ n. record old { marks = change n (waiting octets) old.marks }) last))
+    (defers setup old octets dropped outputs (subst (λ n. has_untaken n old.marks ≡ true) last waits))
+
+pub return_dropped-requires : goal.return_dropped-requires
+return_dropped-requires c =
+    let r = c.requires.reached in
+    let here = none_fresh r.0 c.args.rooms.now c.args.octets c.args.dropped c.args.out.now c.if-octets-eq0.true r.1.0 r.1.1 r.1.2 in
+    record { reached = (r.0, (_, here.segment.state, here.segment.leads)) }
+
+pub returns-then-octets-eq0-clause-performs : goal.returns-then-octets-eq0-clause-performs
+returns-then-octets-eq0-clause-performs c =
+    on_both c.return_dropped.result
+    (λ performs stays setup.
+    back_is setup c.args.rooms.now c.args.rooms.now c.return_dropped.new.rooms c.args.octets c.args.dropped c.args.out.now (none_fresh setup c.args.rooms.now c.args.octets c.args.dropped c.args.out.now c.if-octets-eq0.true)
+    performs.0 performs.1 c.return_dropped.new.out (performs.2 setup) (stays.goes_on c.requires.goes_on)) c.return_dropped.ensures.performs c.return_dropped.ensures.stays
+
+-- they wait
+pub return_dropped-requires-then-has_untaken : goal.return_dropped-requires-then-has_untaken
+return_dropped-requires-then-has_untaken c =
+    let r = c.requires.reached in
+    let here = waits_here c.args.rooms.now c.wait.new.rooms c.args.stream c.args.octets c.args.dropped c.args.out.now c.requires.last (sym (c.has_untaken.ensures ∙ ap (λ (v : View). has_untaken c.args.stream v.marks) c.rooms.view_is) ∙ c.if-has_untaken.true) c.in_ok-wait.ensures r.0 r.1.0 r.1.1 r.1.2 in
+    record { reached = (r.0, (_, here.segment.state, here.segment.leads)) }
+
+pub returns-then-has_untaken-clause-performs : goal.returns-then-has_untaken-clause-performs
+returns-then-has_untaken-clause-performs c =
+    on_both c.return_dropped-then-has_untaken.result
+    (λ performs stays setup.
+    back_is setup c.args.rooms.now c.wait.new.rooms c.return_dropped-then-has_untaken.new.rooms c.args.octets c.args.dropped c.args.out.now
+    (waits_here c.args.rooms.now c.wait.new.rooms c.args.stream c.args.octets c.args.dropped c.args.out.now c.requires.last (sym (c.has_untaken.ensures ∙ ap (λ (v : View). has_untaken c.args.stream v.marks) c.rooms.view_is) ∙ c.if-has_untaken.true) c.in_ok-wait.ensures setup)
+    performs.0 performs.1 c.return_dropped-then-has_untaken.new.out (performs.2 setup) (stays.goes_on (subst GoesOn (sym c.in_ok-wait.ensures) c.requires.goes_on))) c.return_dropped-then-has_untaken.ensures.performs c.return_dropped-then-has_untaken.ensures.stays
+
+pub returns-then-has_untaken-clause-stays : goal.returns-then-has_untaken-clause-stays
+returns-then-has_untaken-clause-stays c =
+    on_ok c.return_dropped-then-has_untaken.result
+    (λ stays. returned_then c.args.rooms.now c.wait.new.rooms c.return_dropped-then-has_untaken.new.rooms (subst (λ (v : View). IsReturned c.args.rooms.now v) (sym c.in_ok-wait.ensures) (returned_marks c.args.rooms.now (change c.args.stream (waiting c.args.octets) c.args.rooms.now.marks))) stays) c.return_dropped-then-has_untaken.ensures.stays
+
+-- they go back
 pub give_back-requires : goal.give_back-requires
-give_back-requires c = let r = c.requires.reached in fits_shared r.0 r.2.0 c.args.rooms.now c.args.octets r.2.1 r.2.2
+give_back-requires c =
+    let r = c.requires.reached in
+    fits_shared r.0 r.1.0 c.args.rooms.now (fresh c.args.octets c.args.dropped) r.1.1 r.1.2 c.in_ok-all.all (omega (arith, c.in_ok-all.ensures.0, c.in-Some.ensures))
 
 -- the stream of the last frame is active and goes on
 goes : (rows : List Row) (id : ℕ) → goes_back_on rows id ≡ true → is_active rows id ≡ true
 goes rows id is = (and_parts (is_active rows id) (not (find rows id).ended_by_client) is).0
+
+pub give_back_on-requires-clause-live : goal.give_back_on-requires-clause-live
+give_back_on-requires-clause-live c = goes c.give_back.new.rooms.inbound.rows c.args.stream (sym c.goes_back_on.ensures ∙ c.if-goes_back_on.true)
 
 pub give_back_on-requires-clause-fits : goal.give_back_on-requires-clause-fits
 give_back_on-requires-clause-fits c =
@@ -36,59 +89,56 @@ give_back_on-requires-clause-fits c =
     let here : goes_back_on c.args.rooms.now.inbound.rows c.args.stream ≡ true = ap (λ (v : View). goes_back_on v.inbound.rows c.args.stream) (sym given) ∙ on in
     subst (λ (v : View). AreReturnable c.args.octets (find v.inbound.rows c.args.stream)) (sym given)
     (subst (λ n. AreReturnable c.args.octets (find c.args.rooms.now.inbound.rows n)) (sym c.requires.last)
-    (fits_own r.0 r.2.0 c.args.rooms.now c.args.octets r.2.1 r.2.2 (ap (is_active c.args.rooms.now.inbound.rows) (sym c.requires.last) ∙ goes c.args.rooms.now.inbound.rows c.args.stream here)))
+    (fits_own r.0 r.1.0 c.args.rooms.now (fresh c.args.octets c.args.dropped) r.1.1 r.1.2 (ap (is_active c.args.rooms.now.inbound.rows) (sym c.requires.last) ∙ goes c.args.rooms.now.inbound.rows c.args.stream here)))
+
+pub give_back_on-requires-clause-small : goal.give_back_on-requires-clause-small
+give_back_on-requires-clause-small c =
+    let given = c.in_ok-give_back.ensures.given in
+    let on : goes_back_on c.give_back.new.rooms.inbound.rows c.args.stream ≡ true = sym c.goes_back_on.ensures ∙ c.if-goes_back_on.true in
+    let here : goes_back_on c.args.rooms.now.inbound.rows c.args.stream ≡ true = ap (λ (v : View). goes_back_on v.inbound.rows c.args.stream) (sym given) ∙ on in
+    c.requires.numbered c.args.stream (and_parts (has c.args.rooms.now.inbound.rows c.args.stream) _ (goes c.args.rooms.now.inbound.rows c.args.stream here)).0
 
 pub returns-in_ok-give_back_on-clause-performs : goal.returns-in_ok-give_back_on-clause-performs
-returns-in_ok-give_back_on-clause-performs c = λ setup whole.
+returns-in_ok-give_back_on-clause-performs c = λ setup.
     let given = c.in_ok-give_back.ensures.given in
     let out_first = c.in_ok-give_back.ensures.put_out in
     let second = c.in_ok-give_back_on.ensures.given in
     let out_second = c.in_ok-give_back_on.ensures.put_out in
+    let all = c.in_ok-all.all in
     let on : goes_back_on c.give_back.new.rooms.inbound.rows c.args.stream ≡ true = sym c.goes_back_on.ensures ∙ c.if-goes_back_on.true in
     let here : goes_back_on c.args.rooms.now.inbound.rows c.args.stream ≡ true = ap (λ (v : View). goes_back_on v.inbound.rows c.args.stream) (sym given) ∙ on in
     let not_none = c.if-octets-eq0.false in let some : 0 < c.args.octets = omega (arith, not_none) in
     let has_row = and_parts (has c.args.rooms.now.inbound.rows c.args.stream) _ (goes c.args.rooms.now.inbound.rows c.args.stream here) in
-    let all = back_on_both setup whole c.args.rooms.now c.args.octets some c.requires.few c.requires.goes_on c.args.out.now c.args.stream c.requires.last here (c.requires.numbered c.args.stream has_row.0) in
-    let views : c.give_back_on.new.rooms ≡ given_on_stream (given_on_connection c.args.rooms.now c.args.octets) c.args.stream c.args.octets = second ∙ ap (λ (v : View). given_on_stream v c.args.stream c.args.octets) given in
-    let outs : c.give_back_on.new.out ≡ put (put c.args.out.now (ToClient (spell (window_update 0 c.args.octets)))) (ToClient (spell (window_update c.args.stream c.args.octets))) = out_second ∙ ap (λ (os : List Output). put os (ToClient (spell (window_update c.args.stream c.args.octets)))) out_first in
-    subst (λ (v : View). PerformsOwn setup c.args.rooms.now (fresh c.args.octets) c.args.out.now v square c.give_back_on.new.out) (sym views)
-    (subst (λ (os : List Output). PerformsOwn setup c.args.rooms.now (fresh c.args.octets) c.args.out.now (given_on_stream (given_on_connection c.args.rooms.now c.args.octets) c.args.stream c.args.octets) square os) (sym outs) all)
+    let sum : all ≡ c.args.octets + c.args.dropped = omega (arith, c.in_ok-all.ensures.0, c.in-Some.ensures) in
+    let none : has_untaken c.args.rooms.now.inbound.last c.args.rooms.now.marks ≡ false = subst (λ n. has_untaken n c.args.rooms.now.marks ≡ false) c.requires.last (sym (c.has_untaken.ensures ∙ ap (λ (v : View). has_untaken c.args.stream v.marks) c.rooms.view_is) ∙ c.if-has_untaken.false) in
+    let performs = back_on_both setup c.args.rooms.now c.args.octets c.args.dropped all some sum c.in_ok-all.ensures.1 c.requires.goes_on none c.args.out.now c.args.stream c.requires.last here (c.requires.numbered c.args.stream has_row.0) in
+    let views : c.give_back_on.new.rooms ≡ given_on_stream (given_on_connection c.args.rooms.now all) c.args.stream c.args.octets = second ∙ ap (λ (v : View). given_on_stream v c.args.stream c.args.octets) given in
+    let outs : c.give_back_on.new.out ≡ put (put c.args.out.now (ToClient (spell (window_update 0 all)))) (ToClient (spell (window_update c.args.stream c.args.octets))) = out_second ∙ ap (λ (os : List Output). put os (ToClient (spell (window_update c.args.stream c.args.octets)))) out_first in
+    subst (λ (v : View). PerformsOwn setup c.args.rooms.now (fresh c.args.octets c.args.dropped) c.args.out.now v square c.give_back_on.new.out) (sym views)
+    (subst (λ (os : List Output). PerformsOwn setup c.args.rooms.now (fresh c.args.octets c.args.dropped) c.args.out.now (given_on_stream (given_on_connection c.args.rooms.now all) c.args.stream c.args.octets) square os) (sym outs) performs)
 
-pub returns-in_ok-give_back_on-clause-goes_on : goal.returns-in_ok-give_back_on-clause-goes_on
-returns-in_ok-give_back_on-clause-goes_on c =
+pub returns-in_ok-give_back_on-clause-stays : goal.returns-in_ok-give_back_on-clause-stays
+returns-in_ok-give_back_on-clause-stays c =
     let given = c.in_ok-give_back.ensures.given in
     let second = c.in_ok-give_back_on.ensures.given in
     let on : goes_back_on c.give_back.new.rooms.inbound.rows c.args.stream ≡ true = sym c.goes_back_on.ensures ∙ c.if-goes_back_on.true in
-    subst GoesOn (sym second) (still_on c.give_back.new.rooms c.args.stream c.args.octets (goes c.give_back.new.rooms.inbound.rows c.args.stream on) (subst GoesOn (sym given) c.requires.goes_on))
-
-pub returns-in_ok-give_back_on-clause-numbered : goal.returns-in_ok-give_back_on-clause-numbered
-returns-in_ok-give_back_on-clause-numbered c =
-    let given = c.in_ok-give_back.ensures.given in
-    let second = c.in_ok-give_back_on.ensures.given in
-    let on : goes_back_on c.give_back.new.rooms.inbound.rows c.args.stream ≡ true = sym c.goes_back_on.ensures ∙ c.if-goes_back_on.true in
-    subst (λ (v : View). (id : ℕ) → has v.inbound.rows id ≡ true → id < 2147483648) (sym second)
-    (still_numbered c.give_back.new.rooms c.args.stream c.args.octets (goes c.give_back.new.rooms.inbound.rows c.args.stream on)
-    (subst (λ (v : View). (id : ℕ) → has v.inbound.rows id ≡ true → id < 2147483648) (sym given) c.requires.numbered))
+    returned_then c.args.rooms.now c.give_back.new.rooms c.give_back_on.new.rooms
+    (subst (λ (v : View). IsReturned c.args.rooms.now v) (sym given) (returned_on_connection c.args.rooms.now c.in_ok-all.all))
+    (subst (λ (v : View). IsReturned c.give_back.new.rooms v) (sym second) (returned_on_stream c.give_back.new.rooms c.args.stream c.args.octets (goes c.give_back.new.rooms.inbound.rows c.args.stream on)))
 
 pub returns-else-goes_back_on-clause-performs : goal.returns-else-goes_back_on-clause-performs
-returns-else-goes_back_on-clause-performs c = λ setup whole.
+returns-else-goes_back_on-clause-performs c = λ setup.
     let given = c.in_ok-give_back.ensures.given in
     let out_first = c.in_ok-give_back.ensures.put_out in
+    let all = c.in_ok-all.all in
     let over : goes_back_on c.give_back.new.rooms.inbound.rows c.args.stream ≡ false = sym c.goes_back_on.ensures ∙ c.if-goes_back_on.false in
     let here : goes_back_on c.args.rooms.now.inbound.rows c.args.rooms.now.inbound.last ≡ false = ap (goes_back_on c.args.rooms.now.inbound.rows) (sym c.requires.last) ∙ ap (λ (v : View). goes_back_on v.inbound.rows c.args.stream) (sym given) ∙ over in
     let not_none = c.if-octets-eq0.false in let some : 0 < c.args.octets = omega (arith, not_none) in
-    subst (λ (v : View). PerformsOwn setup c.args.rooms.now (fresh c.args.octets) c.args.out.now v square c.give_back.new.out) (sym given)
-    (subst (λ (os : List Output). PerformsOwn setup c.args.rooms.now (fresh c.args.octets) c.args.out.now (given_on_connection c.args.rooms.now c.args.octets) square os) (sym out_first)
-    (back_on_connection setup whole c.args.rooms.now c.args.octets some c.requires.few c.requires.goes_on c.args.out.now here))
+    let sum : all ≡ c.args.octets + c.args.dropped = omega (arith, c.in_ok-all.ensures.0, c.in-Some.ensures) in
+    let none : has_untaken c.args.rooms.now.inbound.last c.args.rooms.now.marks ≡ false = subst (λ n. has_untaken n c.args.rooms.now.marks ≡ false) c.requires.last (sym (c.has_untaken.ensures ∙ ap (λ (v : View). has_untaken c.args.stream v.marks) c.rooms.view_is) ∙ c.if-has_untaken.false) in
+    subst (λ (v : View). PerformsOwn setup c.args.rooms.now (fresh c.args.octets c.args.dropped) c.args.out.now v square c.give_back.new.out) (sym given)
+    (subst (λ (os : List Output). PerformsOwn setup c.args.rooms.now (fresh c.args.octets c.args.dropped) c.args.out.now (given_on_connection c.args.rooms.now all) square os) (sym out_first)
+    (back_on_connection setup c.args.rooms.now c.args.octets c.args.dropped all some sum c.in_ok-all.ensures.1 c.requires.goes_on none c.args.out.now here))
 
-pub returns-in_ok-give_back_on-clause-served : goal.returns-in_ok-give_back_on-clause-served
-returns-in_ok-give_back_on-clause-served c id =
-    let given = c.in_ok-give_back.ensures.given in
-    let second = c.in_ok-give_back_on.ensures.given in
-    let on : goes_back_on c.give_back.new.rooms.inbound.rows c.args.stream ≡ true = sym c.goes_back_on.ensures ∙ c.if-goes_back_on.true in
-    ap (λ (v : View). is_served v.inbound.rows id) second
-    ∙ served_stays c.give_back.new.rooms.inbound.rows c.args.stream c.args.octets (goes c.give_back.new.rooms.inbound.rows c.args.stream on) id
-    ∙ ap (λ (v : View). is_served v.inbound.rows id) given
-
-pub returns-else-goes_back_on-clause-served : goal.returns-else-goes_back_on-clause-served
-returns-else-goes_back_on-clause-served c id = ap (λ (v : View). is_served v.inbound.rows id) c.in_ok-give_back.ensures.given
+pub returns-else-goes_back_on-clause-stays : goal.returns-else-goes_back_on-clause-stays
+returns-else-goes_back_on-clause-stays c = subst (λ (v : View). IsReturned c.args.rooms.now v) (sym c.in_ok-give_back.ensures.given) (returned_on_connection c.args.rooms.now c.in_ok-all.all)

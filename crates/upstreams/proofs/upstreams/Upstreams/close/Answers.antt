@@ -1,11 +1,13 @@
 use Rattle.std.proofs.Common.{sym, subst}
 use Rattle.std.specs.Prelude.{suc, reverse}
+use Rattle.serving.specs.Held.{AreApart}
 use Rattle.upstreams.specs.Connections.{AreBelow}
+use Rattle.upstreams.proofs.Requests.{apart_dropped}
 use Rattle.upstreams.proofs.Openings.{below_without}
 use Rattle.upstreams.proofs.upstreams.Upstreams.close.Goals as goal
 
 pub invariant_of-self : goal.invariant_of-self
 invariant_of-self c = record {
-  apart = c.self.invariant.apart;
+  apart = subst AreApart (sym c.drop_from.ensures) (apart_dropped c.args.k (reverse c.self.inside.held.items) c.self.invariant.apart);
   below = subst (AreBelow (suc c.self.inside.count)) (sym c.remove.ensures) (below_without c.args.k (suc c.self.inside.count) (reverse c.self.inside.connections.items) c.self.invariant.below);
 }

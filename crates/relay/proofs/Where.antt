@@ -1,5 +1,5 @@
 -- What holds where moves led: of the offers, of what waits to go back, and of requests and connections.
-use Rattle.std.proofs.Common.{◌≡◌, List, refl, sym, ◌∙◌, ap, subst}
+use Rattle.std.proofs.Common.{◌≡◌, ℕ, List, refl, sym, ◌∙◌, ap, subst}
 use Rattle.model.specs.Setup.{Setup}
 use Rattle.model.specs.Tapes.{Entry}
 use Rattle.model.specs.Known.{Known}
@@ -9,10 +9,11 @@ use Rattle.conduct.proofs.Knowing.{known_so}
 use Rattle.offering.specs.Sight.{IsRightOf, sight_in}
 use Rattle.offering.proofs.Ruling.{Placed}
 use Rattle.offering.proofs.Allowing.{placed}
-use Rattle.receiving.specs.Policy.{Gates}
+use Rattle.receiving.specs.Policy.{Gates, AreAllowed}
 use Rattle.receiving.specs.Rule.{moves_of, state_with, state_behind, kept_behind}
 use Rattle.receiving.specs.State as windows
 use Rattle.receiving.proofs.Resting.{Receiving, receiving}
+use Rattle.receiving.proofs.Incoming.{live_among}
 use Rattle.receiving.proofs.Ruling.{all_allowed, state_same}
 use Rattle.serving.proofs.Standing as standing
 use Rattle.policy.specs.Moves.{Move}
@@ -60,10 +61,19 @@ module _ (setup : Setup) (run : List Move) (s : State) (stand : Stands setup run
       ∙ ap (λ (u : Summary). rooms_in u (state_of setup run)) (before_is setup run s stand)
       ∙ ap (λ (x : State). rooms_in (told_by s) x) stand.is
 
+  pub moved_here : windows.state_of setup.passing (moves_of (windows_of setup run)) ≡ rooms_in (told_by s) s
+  moved_here = sym (state_same own setup.passing (windows_of setup run) (windows_may setup run stand.allowed) (windows_right own run own_led.knows stand.allowed own_led.answered)) ∙ rooms_same
+
+  -- moves of windows that were allowed led to it
+  pub windows_allowed : AreAllowed setup.passing (moves_of (windows_of setup run))
+  windows_allowed = all_allowed own setup.passing (windows_of setup run) (windows_may setup run stand.allowed) (windows_right own run own_led.knows stand.allowed own_led.answered)
+
   pub windows_here : Receiving setup.passing (tape_of run) (rooms_in (told_by s) s)
   windows_here =
-      let may = windows_may setup run stand.allowed in
-      let right = windows_right own run own_led.knows stand.allowed own_led.answered in
-      subst (λ (x : windows.State). Receiving setup.passing (tape_of run) x) (sym (state_same own setup.passing (windows_of setup run) may right) ∙ rooms_same)
+      subst (λ (x : windows.State). Receiving setup.passing (tape_of run) x) moved_here
       (subst (λ (t : List Entry). Receiving setup.passing t (windows.state_of setup.passing (moves_of (windows_of setup run)))) (windows_tape setup run)
-      (receiving setup.passing (moves_of (windows_of setup run)) (all_allowed own setup.passing (windows_of setup run) may right)))
+      (receiving setup.passing (moves_of (windows_of setup run)) windows_allowed))
+
+  -- a stream is active by what is kept of windows just where it is by the book
+  pub live_here : (id : ℕ) → windows.is_live (rooms_in (told_by s) s) id ≡ (sight_in (told_by s)).active id
+  live_here id = live_among setup.passing (tape_of run) (rooms_in (told_by s) s) id windows_here.keeping ∙ sym (right_here.active id)

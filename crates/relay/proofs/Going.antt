@@ -1,0 +1,393 @@
+-- Behind each deed with which the connection goes on something is held of each stream whose items go on, or a connection is due for it.
+use Rattle.std.proofs.Common.{◌≡◌, ℕ, Bool, true, false, ◌||◌, ◌==◌, if◌then◌else◌, ◌⊎◌, List, [], ◌∷◌, ◌++◌, map, Option, Some, None, suc, refl, sym, ◌∙◌, ap, subst, inl, inr}
+use Rattle.std.specs.Prelude.{option_map}
+use Rattle.std.specs.List.{list_any}
+use Rattle.std.proofs.lemmas.Bool.{or_parts, eq-eqb}
+use Rattle.std.proofs.lemmas.Bool.Decides.{eqb_tells}
+use Rattle.model.specs.Messages.{Item, ends_with}
+use Rattle.model.specs.Messages.Item.{Block}
+use Rattle.model.specs.Malformed.{is_begun}
+use Rattle.model.specs.Setup.{Setup}
+use Rattle.model.specs.Logs.Event.{Client, ClientEnd, ClientTook, Up, UpEnd, UpFailed, UpTook}
+use Rattle.model.specs.Logs.Act.{Open, ToUp, Close, CloseClient}
+use Rattle.model.specs.Tapes.{Noted, Entry}
+use Rattle.model.specs.Tapes.Entry.{Came, Breached, Happened, Sent, Did}
+use Rattle.model.specs.Streams.{frame_items}
+use Rattle.model.specs.Courses.{interrupts}
+use Rattle.conduct.specs.Summary.{Stream as Kept, Brief, Summary}
+use Rattle.conduct.specs.Judging.{completed_in, fault_for}
+use Rattle.conduct.specs.Owing.{items_in, new_cause_in}
+use Rattle.conduct.specs.After.{kept_behind}
+use Rattle.conduct.specs.Rows.{Row, find, rows_after}
+use Rattle.conduct.specs.Book.{Book, summary_in}
+use Rattle.serving.specs.Told.{Told}
+use Rattle.serving.specs.State as serving
+use Rattle.serving.specs.Written.{octets_of}
+use Rattle.serving.specs.State.{Way, Held, id_of, held_of, held_with, held_at, held_opened, kept, drop_from, Due, is_whole, goes_now, with_way}
+use Rattle.serving.specs.State.Way.{Waiting, Going, Dropped}
+use Rattle.serving.specs.State.Due.{Nothing, ToOpen, ToSend}
+use Rattle.serving.specs.Rule as requests
+use Rattle.serving.proofs.Lists.{find_first, find_map, held_now, held_beside}
+use Rattle.serving.proofs.Framing.{held_kept}
+use Rattle.policy.specs.Moves.{Gain, Deed, entry_of, fails_in, request_of, gained}
+use Rattle.policy.specs.Moves.Deed.{Takes, Breaks, Notes, Hears, Fails, Sends, Goes, Acts}
+use Rattle.policy.specs.Rule.{added_in, Gains, GainsIf}
+use Rattle.relay.specs.Ways.{IsDuePart}
+use Rattle.relay.proofs.Courses.{GoOn, behind_rows, goes_on}
+
+-- ---- what is held
+
+-- The request isn't whole, on whatever way it is.
+abbrev pub IsPart : Way → Type 0
+IsPart (Waiting route text stage body) = is_whole stage ≡ false
+IsPart (Going k stage) = is_whole stage ≡ false
+IsPart Dropped = Unit {0}
+
+-- Something is held of a stream.
+abbrev pub IsHeld : ℕ → List Held → Type 0
+IsHeld id hs = (h : Held) × (held_of id hs ≡ Some h)
+
+-- Something is held of a stream, or a connection is due for it.
+abbrev pub IsAwaited : ℕ → serving.State → Type 0
+IsAwaited id r = IsHeld id r.held ⊎ IsDuePart r.due id
+
+-- A connection that is due for a whole request is due for a stream whose items don't go on.
+abbrev pub DueEnded : List Row → Due → Type 0
+DueEnded rows Nothing = Unit {0}
+DueEnded rows (ToOpen stream route text stage) = is_whole stage ≡ true → (find rows stream).brief.begun ≡ true → (find rows stream).brief.over ≡ false → ⊥
+DueEnded rows (ToSend k text) = Unit {0}
+
+-- Each stream whose items go on is held, or a connection is due for it, and it isn't replied to; nothing that is held is whole.
+pub record AllGoOn (rows : List Row) (r : serving.State) : Type 0 where
+  pub awaited : (id : ℕ) → (find rows id).brief.begun ≡ true → (find rows id).brief.over ≡ false → IsAwaited id r
+  pub no_cause : (id : ℕ) → (find rows id).brief.over ≡ false → (find rows id).brief.cause ≡ None
+  pub parts : (id : ℕ) (h : Held) → held_of id r.held ≡ Some h → IsPart h.way
+  pub due : DueEnded rows r.due
+
+-- those of streams that are served stay held
+stays_held : (told : Told) (id : ℕ) → told.served id ≡ true → (hs : List Held) (h : Held) → held_of id hs ≡ Some h → held_of id (kept told hs) ≡ Some h
+stays_held told id on [] h found = cc
+stays_held told id on (x ∷ hs) h found = elim (eqb_tells x.id id) [
+  | inl same ↦
+      ap (λ b. held_of id (if b then x ∷ kept told hs else kept told hs)) (ap told.served same.1 ∙ on)
+      ∙ ap (λ b. if b then Some x else held_of id (kept told hs)) same.0
+      ∙ sym (ap (λ b. if b then Some x else held_of id hs) same.0) ∙ found
+  | inr apart ↦ by (told.served x.id) (stays_held told id on hs h (sym (ap (λ b. if b then Some x else held_of id hs) apart.0) ∙ found)) apart.0
+]
+  where
+    by : (b : Bool) → held_of id (kept told hs) ≡ Some h → (x.id == id) ≡ false → held_of id (if b then x ∷ kept told hs else kept told hs) ≡ Some h
+    by false later apart = later
+    by true later apart = ap (λ b. if b then Some x else held_of id (kept told hs)) apart ∙ later
+
+-- what is held with a way
+held_so : (id : ℕ) (way : Way) (hs : List Held) → IsHeld id (held_with id (Some way) hs)
+held_so id way hs = by (held_of id hs) refl
+  where
+    by : (o : Option Held) → held_of id hs ≡ o → IsHeld id (held_at id way o hs)
+    by None none = (record { id = id; way = way }, find_first id_of id (record { id = id; way = way }) hs refl)
+    by (Some h) was = (with_way id way h, find_map id_of (with_way id way) (λ y. refl) id hs ∙ ap (option_map (with_way id way)) was)
+
+held_if : (id : ℕ) (b : Bool) (way : Way) (hs : List Held) → b ≡ false → IsHeld id (held_with id (if b then None else Some way) hs)
+held_if id b way hs none = subst (λ c. IsHeld id (held_with id (if c then None else Some way) hs)) (sym none) (held_so id way hs)
+
+same_held : (id : ℕ) (hs us : List Held) → held_of id us ≡ held_of id hs → IsHeld id hs → IsHeld id us
+same_held id hs us same h = (h.0, same ∙ h.1)
+
+part_if : (b : Bool) (way x : Way) → (if b then None else Some way) ≡ Some x → (b ≡ false → IsPart way) → IsPart x
+part_if true way x is so = cc
+part_if false way x is so = subst IsPart (let same : way ≡ x = cc in same) (so refl)
+
+or_none : (b : Bool) → (b || false) ≡ true → b ≡ true
+or_none true e = refl
+or_none false e = e
+
+or_false : (b : Bool) → (b || false) ≡ false → b ≡ false
+or_false true e = e
+or_false false e = refl
+
+none_due : (due : Due) → due ≡ Nothing → (id : ℕ) → IsDuePart due id → ⊥
+none_due due nothing id part = subst (λ (d : Due). IsDuePart d id) nothing part
+
+ended_sent : (rows : List Row) (k : ℕ) (written : List ℕ) → DueEnded rows (serving.to_send k written)
+ended_sent rows k [] = tt
+ended_sent rows k (octet ∷ octets) = tt
+
+-- ---- what a connection that is closed leaves
+
+still_part : (k : ℕ) (way : Way) → IsPart way → IsPart (serving.dropped k way)
+still_part k (Waiting route text stage body) part = part
+still_part k (Going j stage) part = by (j == k)
+  where
+    by : (b : Bool) → IsPart (if b then Dropped else Going j stage)
+    by true = tt
+    by false = part
+still_part k Dropped part = tt
+
+dropped_parts : (k id : ℕ) (hs : List Held) → ((h : Held) → held_of id hs ≡ Some h → IsPart h.way) → (h : Held) → held_of id (map (drop_from k) hs) ≡ Some h → IsPart h.way
+dropped_parts k id hs all h found = by (held_of id hs) refl (sym (find_map id_of (drop_from k) (λ y. refl) id hs) ∙ found)
+  where
+    by : (o : Option Held) → held_of id hs ≡ o → option_map (drop_from k) o ≡ Some h → IsPart h.way
+    by None none is = cc
+    by (Some x) was is = subst (λ (y : Held). IsPart y.way) (let same : drop_from k x ≡ h = cc in same) (still_part k x.way (all x was))
+
+dropped_held : (k id : ℕ) (hs : List Held) → IsHeld id hs → IsHeld id (map (drop_from k) hs)
+dropped_held k id hs h = (drop_from k h.0, find_map id_of (drop_from k) (λ y. refl) id hs ∙ ap (option_map (drop_from k)) h.1)
+
+-- ---- one deed
+
+module _ (setup : Setup) (book : Book) (r : serving.State) (before : AllGoOn book.rows r) (told : Told) (behind : Told) where
+  abbrev s : Summary
+  s = summary_in book
+
+  module _ (fails : Bool) (e : Entry) where
+    abbrev after : List Row
+    after = rows_after setup fails s e book.rows
+
+    -- a stream whose items go on behind the entry
+    back : (id : ℕ) → (find after id).brief.begun ≡ true → (find after id).brief.over ≡ false → GoOn setup fails s e id (find book.rows id) (find after id).brief
+    back id begun over = elim (behind_rows setup fails s e book.rows refl id) [
+      | inl same ↦ subst (λ (k : Kept). GoOn setup fails s e id (find book.rows id) k.brief) (sym same) (goes_on setup fails s e id (find book.rows id) (ap (λ (k : Kept). k.brief.over) (sym same) ∙ over))
+      | inr none ↦ absurd (let no : true ≡ false = sym begun ∙ ap (λ (b : Brief). b.begun) none.brief in cc)
+    ]
+
+    none_caused : (id : ℕ) → (find after id).brief.over ≡ false → (find after id).brief.cause ≡ None
+    none_caused id over = elim (behind_rows setup fails s e book.rows refl id) [
+      | inl same ↦ (
+          let go : GoOn setup fails s e id (find book.rows id) (kept_behind setup fails s e id (find book.rows id)).brief = goes_on setup fails s e id (find book.rows id) (ap (λ (k : Kept). k.brief.over) (sym same) ∙ over) in
+          ap (λ (k : Kept). k.brief.cause) same ∙ go.cause ∙ before.no_cause id go.not_over
+          )
+      | inr none ↦ ap (λ (b : Brief). b.cause) none.brief
+    ]
+
+    -- one that the entry brings nothing was awaited
+    was_awaited : (id : ℕ) → (find after id).brief.begun ≡ true → (find after id).brief.over ≡ false → items_in id s e ≡ [] → IsAwaited id r
+    was_awaited id begun over none =
+        let go = back id begun over in
+        before.awaited id (or_none (find book.rows id).brief.begun (ap (λ (xs : List Item). (find book.rows id).brief.begun || is_begun xs) (sym none) ∙ sym go.begun ∙ begun)) go.not_over
+
+    -- and was held, where no connection was due for it
+    was_held : (id : ℕ) → (IsDuePart r.due id → ⊥) → (find after id).brief.begun ≡ true → (find after id).brief.over ≡ false → items_in id s e ≡ [] → IsHeld id r.held
+    was_held id not_due begun over none = elim (was_awaited id begun over none) [ inl held ↦ held | inr part ↦ absurd (not_due part) ]
+
+    -- it is served, so it stays held
+    module _ (served : (id : ℕ) → (find after id).brief.begun ≡ true → (find after id).brief.cause ≡ None → behind.served id ≡ true) where
+      still_held : (id : ℕ) → (find after id).brief.begun ≡ true → (find after id).brief.over ≡ false → (hs : List Held) → IsHeld id hs → IsHeld id (kept behind hs)
+      still_held id begun over hs h = (h.0, stays_held behind id (served id begun (none_caused id over)) hs h.0 h.1)
+
+      -- an entry that brings nothing, with which nothing is held anew
+      kept_all : ((id : ℕ) → items_in id s e ≡ []) → r.due ≡ Nothing → (live : List serving.Live) (count : ℕ) → AllGoOn after (record { held = kept behind r.held; live = live; due = r.due; count = count })
+      kept_all none nothing live count = record {
+        awaited = λ id begun over. inl (still_held id begun over r.held (was_held id (none_due r.due nothing id) begun over (none id)));
+        no_cause = none_caused;
+        parts = λ id h found. before.parts id h (held_kept behind id r.held h found).0;
+        due = subst (DueEnded after) (sym nothing) tt;
+      }
+
+      kept_dropped : ((id : ℕ) → items_in id s e ≡ []) → r.due ≡ Nothing → (k : ℕ) (live : List serving.Live) (count : ℕ) → AllGoOn after (record { held = kept behind (map (drop_from k) r.held); live = live; due = r.due; count = count })
+      kept_dropped none nothing k live count = record {
+        awaited = λ id begun over. inl (still_held id begun over (map (drop_from k) r.held) (dropped_held k id r.held (was_held id (none_due r.due nothing id) begun over (none id))));
+        no_cause = none_caused;
+        parts = λ id h found. dropped_parts k id r.held (before.parts id) h (held_kept behind id (map (drop_from k) r.held) h found).0;
+        due = subst (DueEnded after) (sym nothing) tt;
+      }
+
+  -- ---- a frame of the client
+
+  module _ (noted : Noted) where
+    abbrev n : ℕ
+    n = noted.frame.id
+
+    abbrev then_rows : List Row
+    then_rows = rows_after setup false s (Came noted) book.rows
+
+    -- it brings only its own stream something
+    brings_others : (id : ℕ) → (noted.frame.id == id) ≡ false → items_in id s (Came noted) ≡ []
+    brings_others id apart = ap (λ b. if b then frame_items (completed_in s.block noted.frame) noted else []) apart
+
+    -- what it brings that is what it adds
+    adds_it : (k : Brief) → GoOn setup false s (Came noted) n (find book.rows n) k → added_in setup s noted ≡ items_in n s (Came noted)
+    adds_it k go =
+        ap (λ b. if b || interrupts n (Came noted) (fault_for (find book.rows n).brief s (Came noted)) (new_cause_in setup false n s (Came noted) (find book.rows n).brief (fault_for (find book.rows n).brief s (Came noted))) then [] else frame_items (completed_in s.block noted.frame) noted) go.not_over
+        ∙ ap (λ b. if b then [] else frame_items (completed_in s.block noted.frame) noted) go.uninterrupted
+        ∙ sym (ap (λ b. if b then frame_items (completed_in s.block noted.frame) noted else []) (eq-eqb n n refl))
+
+    -- it doesn't end the items where they go on
+    ends_not : (item : Item) → added_in setup s noted ≡ item ∷ [] → (find then_rows n).brief.begun ≡ true → (find then_rows n).brief.over ≡ false → ends_with item ≡ false
+    ends_not item adds begun over =
+        let go = back false (Came noted) n begun over in
+        or_false (ends_with item) (ap (λ (xs : List Item). list_any ends_with xs) (sym adds ∙ adds_it (find then_rows n).brief go) ∙ go.none_end)
+
+    -- what holds of its own stream and of all others holds of all
+    of_all : (P : ℕ → Type 0) → P n → ((id : ℕ) → (noted.frame.id == id) ≡ false → (noted.frame.id ≡ id → ⊥) → P id) → (id : ℕ) → P id
+    of_all P own others id = elim (eqb_tells n id) [ inl same ↦ subst P same.1 own | inr apart ↦ others id apart.0 apart.1 ]
+
+    -- nothing was due, so the others were held
+    module _ (nothing : r.due ≡ Nothing) where
+      other_held : (id : ℕ) → (noted.frame.id == id) ≡ false → (find then_rows id).brief.begun ≡ true → (find then_rows id).brief.over ≡ false → IsHeld id r.held
+      other_held id apart begun over = was_held false (Came noted) id (none_due r.due nothing id) begun over (brings_others id apart)
+
+      -- its stream is held by this way now, or isn't any more
+      module _ (b : Bool) (way : Way) (part : b ≡ false → IsPart way) where
+        abbrev now_held : List Held
+        now_held = held_with n (if b then None else Some way) r.held
+
+        with_own : (live : List serving.Live) (count : ℕ) (due : Due) → ((find then_rows n).brief.begun ≡ true → (find then_rows n).brief.over ≡ false → IsHeld n now_held ⊎ IsDuePart due n) → DueEnded then_rows due
+            → AllGoOn then_rows (record { held = now_held; live = live; due = due; count = count })
+        with_own live count due own ended = record {
+          awaited = of_all (λ id. (find then_rows id).brief.begun ≡ true → (find then_rows id).brief.over ≡ false → IsHeld id now_held ⊎ IsDuePart due id)
+              own
+              (λ id apart other begun over. inl (same_held id r.held now_held (held_beside n id (if b then None else Some way) r.held other) (other_held id apart begun over)));
+          no_cause = none_caused false (Came noted);
+          parts = of_all (λ id. (h : Held) → held_of id now_held ≡ Some h → IsPart h.way)
+              (λ h found. part_if b way h.way (held_now n (if b then None else Some way) r.held h found) part)
+              (λ id apart other h found. before.parts id h (sym (held_beside n id (if b then None else Some way) r.held other) ∙ found));
+          due = ended;
+        }
+
+    module _ (served : (id : ℕ) → (find then_rows id).brief.begun ≡ true → (find then_rows id).brief.cause ≡ None → behind.served id ≡ true) where
+      taken : (gain : Gain) → Gains setup s noted gain → requests.MayMove setup told behind r (gained noted gain) → AllGoOn then_rows (serving.after setup behind r (gained noted gain))
+      taken Gain.Nothing adds may = record {
+        awaited = of_all (λ id. (find then_rows id).brief.begun ≡ true → (find then_rows id).brief.over ≡ false → IsHeld id (kept behind r.held) ⊎ IsDuePart r.due id)
+            (λ begun over. inl (still_held false (Came noted) served n begun over r.held (was_held false (Came noted) n (none_due r.due may.nothing n) begun over (sym (adds_it (find then_rows n).brief (back false (Came noted) n begun over)) ∙ adds))))
+            (λ id apart other begun over. inl (still_held false (Came noted) served id begun over r.held (other_held may.nothing id apart begun over)));
+        no_cause = none_caused false (Came noted);
+        parts = λ id h found. before.parts id h (held_kept behind id r.held h found).0;
+        due = subst (DueEnded then_rows) (sym may.nothing) tt;
+      }
+      taken (Gain.Begins head ended route text stage) adds may =
+          with_own may.0.nothing (goes_now setup stage) way (λ waits. (or_parts (serving.is_streaming setup.passing) (is_whole stage) waits).1) r.live r.count _ (own (goes_now setup stage)) (ended_due (goes_now setup stage))
+        where
+          way : Way
+          way = Waiting route text stage []
+
+          not_ended : (find then_rows n).brief.begun ≡ true → (find then_rows n).brief.over ≡ false → is_whole stage ≡ false
+          not_ended begun over = may.1.whole ∙ ends_not (Block head ended) adds.adds.adds begun over
+
+          own : (b : Bool) → (find then_rows n).brief.begun ≡ true → (find then_rows n).brief.over ≡ false → IsHeld n (held_with n (if b then None else Some way) r.held) ⊎ IsDuePart (serving.to_open b n route text stage) n
+          own true begun over = inr (refl, not_ended begun over)
+          own false begun over = inl (held_so n way r.held)
+
+          ended_due : (b : Bool) → DueEnded then_rows (serving.to_open b n route text stage)
+          ended_due true = λ is begun over. let no : true ≡ false = sym is ∙ not_ended begun over in cc
+          ended_due false = tt
+      taken (Gain.Gathers item route text old body written stage) adds may =
+          with_own may.0.nothing (is_whole stage) way (λ part. part) r.live r.count _ (λ begun over. inl (held_if n (is_whole stage) way r.held (not_ended begun over))) (ended_due (is_whole stage))
+        where
+          way : Way
+          way = Waiting route text stage (body ++ octets_of item)
+
+          same_stage : (b : Bool) → b ≡ false → requests.IsGathered b old (body ++ octets_of item) written stage → stage ≡ old
+          same_stage false e g = g.1
+          same_stage true e g = cc
+
+          not_ended : (find then_rows n).brief.begun ≡ true → (find then_rows n).brief.over ≡ false → is_whole stage ≡ false
+          not_ended begun over = ap is_whole (same_stage (ends_with item) (ends_not item adds.adds begun over) may.1.gathered) ∙ before.parts n _ may.1.found
+
+          ended_due : (b : Bool) → DueEnded then_rows (serving.to_open b n route (text ++ written) stage)
+          ended_due true = λ is begun over. let no : true ≡ false = sym is ∙ not_ended begun over in cc
+          ended_due false = tt
+      taken (Gain.Passes item k old written stage) adds may =
+          with_own may.0.nothing (is_whole stage) (Going k stage) (λ part. part) r.live r.count _
+          (λ begun over. inl (held_if n (is_whole stage) (Going k stage) r.held (may.1.whole ∙ ends_not item adds.adds begun over)))
+          (ended_sent then_rows k written)
+      taken (Gain.Drops item) adds may = record {
+        awaited = of_all (λ id. (find then_rows id).brief.begun ≡ true → (find then_rows id).brief.over ≡ false → IsAwaited id r)
+            (λ begun over. inl (record { id = n; way = Dropped }, may.1.found))
+            (λ id apart other begun over. inl (other_held may.0.nothing id apart begun over));
+        no_cause = none_caused false (Came noted);
+        parts = before.parts;
+        due = subst (DueEnded then_rows) (sym may.0.nothing) tt;
+      }
+
+  -- ---- any other deed
+
+  -- an act or an event that leaves what is held
+  left_held : (fails : Bool) (e : Entry) → ((id : ℕ) → items_in id s e ≡ []) → ((id : ℕ) → IsDuePart r.due id → ⊥) → (live : List serving.Live) (count : ℕ) (due : Due) → DueEnded (rows_after setup fails s e book.rows) due
+      → AllGoOn (rows_after setup fails s e book.rows) (record { held = r.held; live = live; due = due; count = count })
+  left_held fails e none not_due live count due ended = record {
+    awaited = λ id begun over. inl (was_held fails e id (not_due id) begun over (none id));
+    no_cause = none_caused fails e;
+    parts = before.parts;
+    due = ended;
+  }
+
+  same_left : (e : Entry) → ((id : ℕ) → items_in id s e ≡ []) → r.due ≡ Nothing → AllGoOn (rows_after setup false s e book.rows) r
+  same_left e none nothing = left_held false e none (none_due r.due nothing) r.live r.count r.due (subst (DueEnded (rows_after setup false s e book.rows)) (sym nothing) tt)
+
+  -- a connection is opened: a request that isn't whole goes out on it
+  opened_one : (k route : ℕ) → requests.MayOpen r k route → AllGoOn (rows_after setup false s (Did (Open k route)) book.rows) (serving.after setup behind r (serving.Move.Acts (Open k route)))
+  opened_one k route may = subst (λ (due : Due). AllGoOn then_rows (record { held = held_opened due k r.held; live = serving.live_acted r.live due (Open k route); due = serving.due_opened due k; count = suc r.count })) (sym may.due) opened
+    where
+      then_rows : List Row
+      then_rows = rows_after setup false s (Did (Open k route)) book.rows
+
+      way : Way
+      way = Going k may.stage
+
+      now_held : List Held
+      now_held = held_with may.stream (if is_whole may.stage then None else Some way) r.held
+
+      ended : DueEnded book.rows (ToOpen may.stream route may.text may.stage)
+      ended = subst (DueEnded book.rows) may.due before.due
+
+      -- the stream for which it was due is held now, if its items go on
+      own : (id : ℕ) → may.stream ≡ id → (find then_rows id).brief.begun ≡ true → (find then_rows id).brief.over ≡ false → IsHeld id now_held
+      own id same begun over = by (is_whole may.stage) refl
+        where
+          by : (b : Bool) → is_whole may.stage ≡ b → IsHeld id (held_with may.stream (if b then None else Some way) r.held)
+          by true is =
+              let go = back false (Did (Open k route)) id begun over in
+              absurd (ended is (ap (λ n. (find book.rows n).brief.begun) same ∙ or_none (find book.rows id).brief.begun (sym go.begun ∙ begun)) (ap (λ n. (find book.rows n).brief.over) same ∙ go.not_over))
+          by false is = subst (λ n. IsHeld n (held_with may.stream (Some way) r.held)) same (held_so may.stream way r.held)
+
+      other : (id : ℕ) → (may.stream ≡ id → ⊥) → (find then_rows id).brief.begun ≡ true → (find then_rows id).brief.over ≡ false → IsHeld id now_held
+      other id apart begun over =
+          same_held id r.held now_held (held_beside may.stream id (if is_whole may.stage then None else Some way) r.held apart)
+          (was_held false (Did (Open k route)) id (λ part. apart (subst (λ (due : Due). IsDuePart due id) may.due part).0) begun over refl)
+
+      parts_now : (id : ℕ) (h : Held) → held_of id now_held ≡ Some h → IsPart h.way
+      parts_now id h found = elim (eqb_tells may.stream id) [
+        | inl same ↦ part_if (is_whole may.stage) way h.way (held_now may.stream (if is_whole may.stage then None else Some way) r.held h (ap (λ n. held_of n now_held) same.1 ∙ found)) (λ part. part)
+        | inr apart ↦ before.parts id h (sym (held_beside may.stream id (if is_whole may.stage then None else Some way) r.held apart.1) ∙ found)
+      ]
+
+      opened : AllGoOn then_rows (record { held = now_held; live = record { k = k; stream = may.stream; whole = false } ∷ r.live; due = ToSend k may.text; count = suc r.count })
+      opened = record {
+        awaited = λ id begun over. elim (eqb_tells may.stream id) [ inl same ↦ inl (own id same.1 begun over) | inr apart ↦ inl (other id apart.1 begun over) ];
+        no_cause = none_caused false (Did (Open k route));
+        parts = parts_now;
+        due = tt;
+      }
+
+  -- a connection is closed
+  closed_one : (k : ℕ) → r.due ≡ Nothing → AllGoOn (rows_after setup false s (Did (Close k)) book.rows) (serving.after setup behind r (serving.Move.Acts (Close k)))
+  closed_one k nothing = record {
+    awaited = λ id begun over. inl (dropped_held k id r.held (was_held false (Did (Close k)) id (none_due r.due nothing id) begun over refl));
+    no_cause = none_caused false (Did (Close k));
+    parts = λ id h found. dropped_parts k id r.held (before.parts id) h found;
+    due = subst (DueEnded (rows_after setup false s (Did (Close k)) book.rows)) (sym nothing) tt;
+  }
+
+  abbrev Served : Deed → Type 0
+  Served d = (id : ℕ) → (find (rows_after setup (fails_in d) s (entry_of d) book.rows) id).brief.begun ≡ true → (find (rows_after setup (fails_in d) s (entry_of d) book.rows) id).brief.cause ≡ None → behind.served id ≡ true
+
+  -- So it is behind any deed with which the connection goes on.
+  pub done : (d : Deed) → Served d → GainsIf setup s d → requests.MayMove setup told behind r (request_of d) → (d ≡ Acts CloseClient → ⊥)
+      → AllGoOn (rows_after setup (fails_in d) s (entry_of d) book.rows) (serving.after setup behind r (request_of d))
+  done (Takes noted next gain) served gains may open_yet = taken noted served gain gains may
+  done (Breaks breach) served gains may open_yet = same_left (Breached breach) (λ id. refl) may.nothing
+  done (Notes event) served gains may open_yet = same_left (Happened event) (λ id. refl) may.0.nothing
+  done (Hears event stream news whole) served gains may open_yet = kept_all false (Happened event) served (λ id. refl) may.0.nothing _ r.count
+  done (Fails (UpFailed k) stream whole) served gains may open_yet = kept_dropped true (Happened (UpFailed k)) served (λ id. refl) may.0.nothing k _ r.count
+  done (Fails (Client piece) stream whole) served gains may open_yet = kept_all true (Happened (Client piece)) served (λ id. refl) may.0.nothing _ r.count
+  done (Fails ClientEnd stream whole) served gains may open_yet = kept_all true (Happened ClientEnd) served (λ id. refl) may.0.nothing _ r.count
+  done (Fails (ClientTook count) stream whole) served gains may open_yet = kept_all true (Happened (ClientTook count)) served (λ id. refl) may.0.nothing _ r.count
+  done (Fails (Up k piece) stream whole) served gains may open_yet = kept_all true (Happened (Up k piece)) served (λ id. refl) may.0.nothing _ r.count
+  done (Fails (UpEnd k) stream whole) served gains may open_yet = kept_all true (Happened (UpEnd k)) served (λ id. refl) may.0.nothing _ r.count
+  done (Fails (UpTook k count) stream whole) served gains may open_yet = kept_all true (Happened (UpTook k count)) served (λ id. refl) may.0.nothing _ r.count
+  done (Sends noted next) served gains may open_yet = kept_all false (Sent noted) served (λ id. refl) may r.live r.count
+  done (Goes noted item part next) served gains may open_yet = kept_all false (Sent noted) served (λ id. refl) may r.live r.count
+  done (Acts (Open k route)) served gains may open_yet = opened_one k route may
+  done (Acts (ToUp k octets)) served gains may open_yet = left_held false (Did (ToUp k octets)) (λ id. refl) (λ id part. subst (λ (due : Due). IsDuePart due id) may part) r.live r.count Nothing tt
+  done (Acts (Close k)) served gains may open_yet = closed_one k may.nothing
+  done (Acts CloseClient) served gains may open_yet = absurd (open_yet refl)

@@ -1,0 +1,223 @@
+-- What is kept of DATA that waits stands for what the rule has, behind each move.
+use Rattle.std.proofs.Common.{◌≡◌, ◌≢◌, ℕ, ◌<◌, Bool, true, false, ◌==◌, ◌||◌, if◌then◌else◌, List, [], ◌∷◌, ◌++◌, length, Option, Some, None, refl, sym, ◌∙◌, ap, subst, inl, inr}
+use Rattle.std.specs.List.{list_any}
+use Rattle.std.proofs.lemmas.Bool.Decides.{eqb_tells}
+use Rattle.model.specs.Setup.{Setup, Passing}
+use Rattle.model.specs.Setup.Passing.{Whole, Streaming}
+use Rattle.model.specs.Logs.{Event}
+use Rattle.model.specs.Logs.Act.{Open, ToUp}
+use Rattle.model.specs.Tapes.{Noted}
+use Rattle.conduct.specs.Summary.{Summary}
+use Rattle.offering.specs.Sight.{sight_in}
+use Rattle.receiving.specs.State as windows
+use Rattle.receiving.specs.State.{Row, State as Rooms, is_live, blank, given, others, with_frame, with_sent, with_taken, with_given, with_act, settle_by}
+use Rattle.receiving.specs.Rule.{moves_of}
+use Rattle.marks_kept.specs.Sides.{Side, find, change, without, unless_over, opened, putting, taking, waiting}
+use Rattle.marks_kept.specs.Standing.{StandFor, NoneReached}
+use Rattle.marks_kept.proofs.Telling as telling
+use Rattle.marks_kept.proofs.Looking.{changed_own, changed_other, gone_own, gone_other, joined_own, joined_other, goes_own, goes_other}
+use Rattle.policy.specs.Moves.{Deed, Move, window_of}
+use Rattle.policy.specs.Moves.Move.{Does, Settles}
+use Rattle.policy.specs.State.{State, summary_at, windows_of}
+use Rattle.policy.specs.Rule.{rooms_in}
+use Rattle.policy.specs.Steps.{told_by, told_behind, next, MayGoOn, Stands}
+use Rattle.policy.proofs.Stepping.{before_is, one_more}
+use Rattle.relay.specs.View.{AreMarked, AreSo}
+use Rattle.relay.proofs.Where.{moved_here}
+
+-- ---- the rule's state behind a move
+
+module _ (setup : Setup) (run : List Move) (s : State) (stand : Stands setup run s) (so : AreSo setup run) where
+  -- behind a deed
+  pub rooms_next : (d : Deed) → MayGoOn setup s (Does d) → AreSo setup (Does d ∷ run)
+      → rooms_in (told_by (next setup s (Does d))) (next setup s (Does d)) ≡ windows.after setup.passing (rooms_in (told_by s) s) (window_of (sight_in (told_by s)) (sight_in (told_behind setup s d)) d)
+  rooms_next d may so_then =
+      let stand_then : Stands setup (Does d ∷ run) (next setup s (Does d)) = one_more setup run s (Does d) stand may in
+      sym (moved_here setup (Does d ∷ run) (next setup s (Does d)) stand_then so_then)
+      ∙ ap (λ (r : Rooms). windows.after setup.passing r (window_of (sight_in (summary_at setup run)) (sight_in (summary_at setup (Does d ∷ run))) d)) (moved_here setup run s stand so)
+      ∙ ap (λ (u : Summary). windows.after setup.passing (rooms_in (told_by s) s) (window_of (sight_in u) (sight_in (summary_at setup (Does d ∷ run))) d)) (before_is setup run s stand)
+      ∙ ap (λ (u : Summary). windows.after setup.passing (rooms_in (told_by s) s) (window_of (sight_in (told_by s)) (sight_in u) d)) (before_is setup (Does d ∷ run) (next setup s (Does d)) stand_then)
+
+  -- behind the end of the last frame's effect
+  pub rooms_settled : AreSo setup (Settles ∷ run) → rooms_in (told_by s) (next setup s Settles) ≡ windows.after setup.passing (rooms_in (told_by s) s) windows.Move.Settles
+  rooms_settled so_then =
+      let stand_then : Stands setup (Settles ∷ run) (next setup s Settles) = one_more setup run s Settles stand tt in
+      sym (moved_here setup (Settles ∷ run) (next setup s Settles) stand_then so_then)
+      ∙ ap (λ (r : Rooms). windows.after setup.passing r windows.Move.Settles) (moved_here setup run s stand so)
+
+-- ---- what is kept behind each change of it
+
+-- nothing is left of nothing
+none_over : (over : Bool) (id : ℕ) → unless_over over id [] ≡ []
+none_over true id = refl
+none_over false id = refl
+
+module _ (passing : Passing) (sides : List Side) (s : Rooms) (h : AreMarked passing sides s) where
+  -- where rows have the same connections
+  same_k : (row : ℕ → Row) → ((x : ℕ) → (row x).k ≡ (s.row x).k) → passing ≡ Streaming → (id : ℕ) → is_live s id ≡ true → find id sides ≡ None → (row id).k ≡ 0
+  same_k row same streaming id on none = same id ∙ h.all streaming id on none
+
+  k_changed : (f : Row → Row) → ((r : Row) → (f r).k ≡ r.k) → (id x : ℕ) → (windows.change id f s.row x).k ≡ (s.row x).k
+  k_changed f same id x = by (id == x)
+    where
+      by : (b : Bool) → (if b then f (s.row x) else s.row x).k ≡ (s.row x).k
+      by true = same (s.row x)
+      by false = refl
+
+  -- a stream is over
+  all_over : (id : ℕ) → passing ≡ Streaming → (x : ℕ) → list_any (λ other. other == x) (others id s.live) ≡ true → find x (without id sides) ≡ None → (s.row x).k ≡ 0
+  all_over id streaming x on none = elim (eqb_tells x id) [
+    | inl own ↦ absurd (let no : false ≡ true = sym (goes_own id s.live) ∙ ap (λ n. list_any (λ other. other == n) (others id s.live)) (sym own.1) ∙ on in cc)
+    | inr off ↦ h.all streaming x (sym (goes_other id x s.live off.1) ∙ on) (sym (gone_other id x sides off.1) ∙ none)
+  ]
+
+  -- of streams for which a connection was opened alone something is kept: of fewer, and where one of them changes
+  some_without : (id : ℕ) (x : ℕ) (side : Side) → find x (without id sides) ≡ Some side → 0 < side.k
+  some_without id x side found = elim (eqb_tells x id) [
+    | inl own ↦ (let no : ◌≡◌ {A = Option Side} None (Some side) = sym (gone_own id sides) ∙ ap (λ n. find n (without id sides)) (sym own.1) ∙ found in cc)
+    | inr off ↦ h.some x side (sym (gone_other id x sides off.1) ∙ found)
+  ]
+
+  some_unless : (over : Bool) (id : ℕ) (x : ℕ) (side : Side) → find x (unless_over over id sides) ≡ Some side → 0 < side.k
+  some_unless true id = some_without id
+  some_unless false id = h.some
+
+  some_changed : (f : Side → Side) → ((x : Side) → (f x).id ≡ x.id) → ((x : Side) → (f x).k ≡ x.k) → (id : ℕ) (own : Side) → find id sides ≡ Some own → (x : ℕ) (side : Side) → find x (change id f sides) ≡ Some side → 0 < side.k
+  some_changed f keeps_id keeps_k id own there x side found = elim (eqb_tells x id) [
+    | inl same ↦ (
+        let it : Some (f own) ≡ Some side = sym (changed_own id f keeps_id sides own there) ∙ ap (λ n. find n (change id f sides)) (sym same.1) ∙ found in
+        let this : f own ≡ side = cc in
+        subst (λ n. 0 < n) (sym (keeps_k own) ∙ ap (λ (y : Side). y.k) this) (h.some id own there)
+        )
+    | inr off ↦ h.some x side (sym (changed_other id f keeps_id x sides off.1) ∙ found)
+  ]
+
+  -- a frame of the client came
+  pub marked_came : (noted : Noted) (opens over : Bool) → (opens ≡ true → (over ≡ false) × (is_live s noted.frame.id ≡ false)) → AreMarked passing (unless_over over noted.frame.id sides) (with_frame s noted opens over)
+  marked_came noted opens over new = record {
+    stand = telling.came sides s h.stand noted opens over new;
+    none = λ whole. ap (unless_over over noted.frame.id) (h.none whole) ∙ none_over over noted.frame.id;
+    some = some_unless over noted.frame.id;
+    all = λ streaming. by opens over new streaming;
+  }
+    where
+      by : (opens over : Bool) → (opens ≡ true → (over ≡ false) × (is_live s noted.frame.id ≡ false)) → passing ≡ Streaming → (x : ℕ) → is_live (with_frame s noted opens over) x ≡ true → find x (unless_over over noted.frame.id sides) ≡ None → ((with_frame s noted opens over).row x).k ≡ 0
+      by false false new streaming x on none = h.all streaming x on none
+      by false true new streaming x on none = all_over noted.frame.id streaming x on none
+      by true false new streaming x on none = elim (eqb_tells noted.frame.id x) [
+        | inl own ↦ ap (λ b. (if b then blank else s.row x).k) own.0
+        | inr off ↦ ap (λ b. (if b then blank else s.row x).k) off.0 ∙ h.all streaming x (sym (ap (λ b. b || is_live s x) off.0) ∙ on) none
+      ]
+      by true true new streaming x on none = absurd (let no : true ≡ false = (new refl).0 in cc)
+
+  -- another frame was sent
+  pub marked_sent : (noted : Noted) (over : Bool) → AreMarked passing (unless_over over noted.frame.id sides) (with_sent s noted over)
+  marked_sent noted over = record {
+    stand = telling.sent sides s h.stand noted over;
+    none = λ whole. ap (unless_over over noted.frame.id) (h.none whole) ∙ none_over over noted.frame.id;
+    some = some_unless over noted.frame.id;
+    all = λ streaming. by over streaming;
+  }
+    where
+      by : (over : Bool) → passing ≡ Streaming → (x : ℕ) → is_live (with_sent s noted over) x ≡ true → find x (unless_over over noted.frame.id sides) ≡ None → (s.row x).k ≡ 0
+      by false streaming x on none = h.all streaming x on none
+      by true streaming x on none = all_over noted.frame.id streaming x on none
+
+  -- octets were given back
+  pub marked_given : (shared : Bool) (noted : Noted) → AreMarked passing sides (with_given shared s noted)
+  marked_given shared noted = record { stand = telling.gives sides s h.stand shared noted; none = h.none; some = h.some; all = λ streaming. by shared streaming }
+    where
+      by : (shared : Bool) → passing ≡ Streaming → (x : ℕ) → is_live (with_given shared s noted) x ≡ true → find x sides ≡ None → ((with_given shared s noted).row x).k ≡ 0
+      by true streaming x on none = h.all streaming x on none
+      by false streaming x on none = same_k (windows.change noted.frame.id windows.paid s.row) (k_changed windows.paid (λ r. refl) noted.frame.id) streaming x on none
+
+  -- the last frame's octets go back
+  pub marked_back : AreMarked passing sides (settle_by false s)
+  marked_back = record {
+    stand = telling.owes sides s h.stand s.stream s.count;
+    none = h.none;
+    some = h.some;
+    all = λ streaming x on none. same_k (windows.change s.stream (windows.owing s.count) s.row) (k_changed (windows.owing s.count) (λ r. refl) s.stream) streaming x on none;
+  }
+
+  -- whether something is found of a stream doesn't change as what is kept of one does
+  still_none : (f : Side → Side) → ((x : Side) → (f x).id ≡ x.id) → (id : ℕ) (side : Side) → find id sides ≡ Some side → (x : ℕ) → find x (change id f sides) ≡ None → find x sides ≡ None
+  still_none f keeps_id id side found x none = elim (eqb_tells x id) [
+    | inl own ↦ absurd (let no : ◌≡◌ {A = Option Side} (Some (f side)) None = sym (changed_own id f keeps_id sides side found) ∙ ap (λ n. find n (change id f sides)) (sym own.1) ∙ none in cc)
+    | inr off ↦ sym (changed_other id f keeps_id x sides off.1) ∙ none
+  ]
+
+  changed_none : (f : Side → Side) (id : ℕ) → passing ≡ Whole → change id f sides ≡ []
+  changed_none f id whole = ap (change id f) (h.none whole)
+
+  -- they wait
+  pub marked_waits : (side : Side) → find s.stream sides ≡ Some side → AreMarked passing (change s.stream (waiting s.count) sides) (settle_by true s)
+  marked_waits side found = record {
+    stand = telling.waits_own sides s h.stand s.stream side found s.count;
+    none = changed_none (waiting s.count) s.stream;
+    some = some_changed (waiting s.count) (λ x. refl) (λ x. refl) s.stream side found;
+    all = λ streaming x on none.
+        same_k (windows.change s.stream (windows.waits (s.out (s.row s.stream).k) s.count) s.row) (k_changed (windows.waits (s.out (s.row s.stream).k) s.count) (λ r. refl) s.stream) streaming x on
+        (still_none (waiting s.count) (λ y. refl) s.stream side found x none);
+  }
+
+  -- a connection was opened for the last frame's stream
+  pub marked_opened : (k route : ℕ) → 0 < k → passing ≡ Streaming → is_live s s.stream ≡ true → find s.stream sides ≡ None → s.out k ≡ 0 → s.took k ≡ 0 → AreMarked passing (sides ++ opened s.stream k ∷ []) (with_act s (Open k route))
+  marked_opened k route counted streaming on none no_out no_took = record {
+    stand = telling.opens_own sides s h.stand s.stream k on none no_out no_took;
+    none = λ whole. let no : Whole ≡ Streaming = sym whole ∙ streaming in cc;
+    some = λ x side found. elim (eqb_tells x s.stream) [
+      | inl own ↦ (
+          let it : Some (opened s.stream k) ≡ Some side = sym (joined_own (opened s.stream k) sides none) ∙ ap (λ n. find n (sides ++ opened s.stream k ∷ [])) (sym own.1) ∙ found in
+          let this : opened s.stream k ≡ side = cc in
+          subst (λ n. 0 < n) (ap (λ (y : Side). y.k) this) counted
+          )
+      | inr off ↦ h.some x side (sym (joined_other (opened s.stream k) x sides off.1) ∙ found)
+    ];
+    all = λ same x live absent. elim (eqb_tells s.stream x) [
+      | inl own ↦ absurd (let no : ◌≡◌ {A = Option Side} (Some (opened s.stream k)) None = sym (joined_own (opened s.stream k) sides none) ∙ ap (λ n. find n (sides ++ opened s.stream k ∷ [])) own.1 ∙ absent in cc)
+      | inr off ↦ ap (λ b. (if b then given k (s.row x) else s.row x).k) off.0 ∙ h.all same x live (sym (joined_other (opened s.stream k) x sides (λ is. off.1 (sym is))) ∙ absent)
+    ];
+  }
+
+  -- the same where nothing waits
+  pub marked_opened_beside : (k route : ℕ) → passing ≡ Whole → AreMarked passing sides (with_act s (Open k route))
+  marked_opened_beside k route whole = record {
+    stand = telling.opens_beside sides s h.stand s.stream k (ap (find s.stream) (h.none whole));
+    none = h.none;
+    some = h.some;
+    all = λ streaming. let no : Whole ≡ Streaming = sym whole ∙ streaming in cc;
+  }
+
+  -- octets were put out for a stream's connection
+  pub marked_put : (k id : ℕ) (octets : List ℕ) (side : Side) → find id sides ≡ Some side → side.k ≡ k → ((other : ℕ) → other ≢ id → is_live s other ≡ true → (s.row other).k ≢ k) → AreMarked passing (change id (putting (length octets)) sides) (with_act s (ToUp k octets))
+  marked_put k id octets side found its alone = record {
+    stand = telling.puts_own sides s h.stand id side found k its alone (length octets);
+    none = changed_none (putting (length octets)) id;
+    some = some_changed (putting (length octets)) (λ x. refl) (λ x. refl) id side found;
+    all = λ streaming x on none. h.all streaming x on (still_none (putting (length octets)) (λ y. refl) id side found x none);
+  }
+
+  pub marked_put_beside : (k : ℕ) (octets : List ℕ) → ((id : ℕ) (side : Side) → find id sides ≡ Some side → side.k ≢ k) → AreMarked passing sides (with_act s (ToUp k octets))
+  marked_put_beside k octets elsewhere = record { stand = telling.puts_beside sides s h.stand k elsewhere (length octets); none = h.none; some = h.some; all = h.all }
+
+  -- its side took octets
+  pub marked_took : (k count id : ℕ) (side : Side) → NoneReached s → find id sides ≡ Some side → side.k ≡ k → ((other : ℕ) → other ≢ id → is_live s other ≡ true → (s.row other).k ≢ k) → AreMarked passing (change id (taking count) sides) (with_taken s k count)
+  marked_took k count id side ahead found its alone = record {
+    stand = telling.takes_own sides s h.stand id side found k its alone ahead count;
+    none = changed_none (taking count) id;
+    some = some_changed (taking count) (λ x. refl) (λ x. refl) id side found;
+    all = λ streaming x on none. h.all streaming x on (still_none (taking count) (λ y. refl) id side found x none);
+  }
+
+  pub marked_took_beside : (k count : ℕ) → NoneReached s → ((id : ℕ) (side : Side) → find id sides ≡ Some side → side.k ≢ k) → AreMarked passing sides (with_taken s k count)
+  marked_took_beside k count ahead elsewhere = record { stand = telling.takes_beside sides s h.stand k elsewhere ahead count; none = h.none; some = h.some; all = h.all }
+
+  -- ---- whatever only ends the effect of what came before
+
+  pub marked_event : AreMarked passing sides (record s { settled = false })
+  marked_event = record { stand = h.stand; none = h.none; some = h.some; all = h.all }
+
+  -- nothing is kept of a stream of which nothing was
+  pub marked_without : (id : ℕ) → find id sides ≡ None → without id sides ≡ sides
+  marked_without id none = Rattle.marks_kept.proofs.Rising.without_none id sides none

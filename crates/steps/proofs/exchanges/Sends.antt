@@ -1,0 +1,198 @@
+-- Octets that are due on an open connection go out: this performs.
+use Rattle.std.proofs.Common.{◌≡◌, ℕ, ◌+◌, ◌<◌, ◌^◌, false, ◌==◌, List, [], ◌∷◌, map, length, Option, Some, None, refl, sym, ◌∙◌, ap, subst, if◌then◌else◌}
+use Rattle.std.specs.Prelude.{is_some, option_map, IfSome}
+use Rattle.std.specs.List.{list_any}
+use Rattle.model.specs.Frames.{Frame}
+use Rattle.model.specs.Logs.{Output}
+use Rattle.model.specs.Logs.Act.{ToUp}
+use Rattle.model.specs.Logs.Output.{Does as Puts}
+use Rattle.model.specs.Openings.{Opened}
+use Rattle.model.specs.Setup.{Setup}
+use Rattle.model.specs.Tapes.{put}
+use Rattle.conduct.specs.Book.{Book, Desk, desk_after}
+use Rattle.receiving.specs.State as receiving
+use Rattle.judgement.specs.Inbound.{book_of}
+use Rattle.judgement.proofs.SendingEvents.{puts_lead, did_desk}
+use Rattle.serving.specs.State as serving
+use Rattle.serving.specs.State.{Live, live_of, find}
+use Rattle.serving.specs.State.Due.{Nothing, ToSend}
+use Rattle.serving.specs.Rule.{is_done}
+use Rattle.serving.proofs.Lists.{found_key, find_map}
+use Rattle.serving.proofs.Standing.{IsDue}
+use Rattle.upstreams.specs.Kept as upstreams
+use Rattle.upstreams.specs.Connections.{Connection, number_of, lives, put_at, HasRoom}
+use Rattle.marks_kept.specs.Sides.{Side, change, putting}
+use Rattle.marks_kept.specs.Sides.{find as find_side}
+use Rattle.marks_kept.proofs.Rising.{change_none}
+use Rattle.policy.specs.Moves.{Deed, Move, conduct_of, told_in}
+use Rattle.policy.specs.Moves.Deed.{Acts}
+use Rattle.policy.specs.Moves.Move.{Does}
+use Rattle.policy.specs.State.{State, tape_of}
+use Rattle.policy.specs.Rule.{rooms_in}
+use Rattle.policy.specs.Steps.{told_by, told_behind, next, MayGoOn}
+use Rattle.policy.proofs.Going.{may_act}
+use Rattle.policy.proofs.Stepping.{one_more}
+use Rattle.relay.specs.View.{View, Pending, square, Keeps, AreMarked, AreSo, Leads}
+use Rattle.relay.specs.Bringing.{OwnSegment, PerformsOwn}
+use Rattle.relay.proofs.Connected.{alone, its_side, elsewhere}
+use Rattle.relay.proofs.Lives.{lives_same, kept_open}
+use Rattle.relay.proofs.Marking.{rooms_next, marked_put, marked_put_beside}
+use Rattle.relay.proofs.Staying.{so_stays, heard_stays, heard_of_changed, rows_kept}
+use Rattle.steps.specs.Closings.{told_but, NoneDoneBut}
+use Rattle.relay.proofs.Where.{own, stands_here}
+
+module _ (setup : Setup) (kept : View) (owed : List Frame) (fresh back k : ℕ) (text : List ℕ) where
+  -- what is pending before and behind it
+  abbrev pub due_before : Pending
+  due_before = record square { owed = owed; due = ToSend k text; fresh = fresh; shared = back }
+
+  abbrev pub due_behind : Pending
+  due_behind = record square { owed = owed; fresh = fresh; shared = back }
+
+  module _ (run : List Move) (s : State) (leads : Leads setup run kept due_before s) where
+    abbrev deed : Deed
+    deed = Acts (ToUp k text)
+
+    due_is : s.requests.due ≡ ToSend k text
+    due_is = ap (λ (r : serving.State). r.due) leads.keeps.requests
+
+    -- its connection is open
+    pub live_there : (l : Live) × (live_of k s.requests.live ≡ Some l)
+    live_there = subst (IsDue (own setup run s leads.stands leads.so) (tape_of run) s.requests) due_is (stands_here setup run s leads.stands leads.so).due
+
+    pub open_there : (c : Connection) × (find number_of k kept.upstreams.live ≡ Some c) × (c.live ≡ live_there.0)
+    open_there = kept_open k kept.upstreams.live live_there.0 (sym (ap (λ (r : serving.State). live_of k r.live) leads.keeps.requests) ∙ live_there.1)
+
+    abbrev connection : Connection
+    connection = open_there.0
+
+    abbrev stream : ℕ
+    stream = connection.live.stream
+
+    -- what is kept then
+    abbrev pub sent_view : View
+    sent_view = record kept { upstreams = record kept.upstreams { live = map (put_at k (length text)) kept.upstreams.live }; marks = change stream (putting (length text)) kept.marks }
+
+    desk : desk_after setup s.desk (conduct_of deed) ≡ s.desk
+    desk = did_desk setup false s.desk (ToUp k text) s.desk.book [] (puts_lead setup s.desk.book k text (rows_kept setup run s leads.stands))
+
+    may : MayGoOn setup s (Does deed)
+    may = (
+      ap (λ (d : Desk). d.book.ends) desk ∙ leads.stands.goes_on,
+      may_act setup (told_behind setup s deed) s (ToUp k text) (ap (λ (b : Book). b.closed) leads.keeps.book)
+          (record { due = due_is; window = record { opened = ap (λ (o : Option Live). is_some o) live_there.1; in_effect = λ streaming. leads.in_effect } }),
+    )
+
+    abbrev then_state : State
+    then_state = next setup s (Does deed)
+
+    so_then : AreSo setup (Does deed ∷ run)
+    so_then = so_stays setup run deed tt leads.so
+
+    requests_then : then_state.requests ≡ upstreams.with_due sent_view.upstreams Nothing
+    requests_then =
+        ap (λ (r : serving.State). serving.after setup (told_in (told_behind setup s deed)) r (serving.Move.Acts (ToUp k text))) leads.keeps.requests
+        ∙ ap (λ (ls : List Live). record { held = kept.upstreams.held; live = ls; due = Nothing; count = kept.upstreams.count }) (sym (lives_same (put_at k (length text)) (λ c. refl) kept.upstreams.live))
+
+    -- what is kept of DATA that waits
+    abbrev rooms : receiving.State
+    rooms = rooms_in (told_by s) s
+
+    marked_by : (o : Option Side) → find_side stream kept.marks ≡ o → AreMarked setup.passing (change stream (putting (length text)) kept.marks) (receiving.with_act rooms (ToUp k text))
+    marked_by (Some side) found =
+        marked_put setup.passing kept.marks rooms leads.marked k stream text side found (its_side setup run kept due_before s leads k connection open_there.1 side found).0
+        (alone setup run kept due_before s leads k connection open_there.1)
+    marked_by None none =
+        subst (λ (sides : List Side). AreMarked setup.passing sides (receiving.with_act rooms (ToUp k text))) (sym (change_none stream (putting (length text)) kept.marks none))
+        (marked_put_beside setup.passing kept.marks rooms leads.marked k text (elsewhere setup run kept due_before s leads k connection open_there.1 none))
+
+    marked_then : AreMarked setup.passing sent_view.marks (rooms_in (told_by then_state) then_state)
+    marked_then = subst (AreMarked setup.passing sent_view.marks) (sym (rooms_next setup run s leads.stands leads.so deed may so_then)) (marked_by (find_side stream kept.marks) refl)
+
+    -- its side counts what its connection does
+    pub side_room : (count : ℕ) → HasRoom count (find number_of k kept.upstreams.live) → IfSome (find_side stream kept.marks) (λ side. side.out + count < 2 ^ 64)
+    side_room count room = by (find_side stream kept.marks) refl
+      where
+        by : (o : Option Side) → find_side stream kept.marks ≡ o → IfSome o (λ side. side.out + count < 2 ^ 64)
+        by None none = tt
+        by (Some side) found = subst (λ n. n + count < 2 ^ 64) (sym (its_side setup run kept due_before s leads k connection open_there.1 side found).1) (subst (HasRoom count) open_there.1 room)
+
+    -- how much was put out for each connection, and how much of it was taken
+    counted_one : (j : ℕ) (x : Connection) → find number_of j kept.upstreams.live ≡ Some x → (then_state.windows.out j ≡ (put_at k (length text) x).out) × (then_state.windows.took j ≡ (put_at k (length text) x).took)
+    counted_one j x is =
+        let was = leads.keeps.counted j x is in (
+          ap (λ n. if n == k then s.windows.out j + length text else s.windows.out j) (sym (found_key number_of j kept.upstreams.live x is))
+              ∙ ap (λ n. if x.live.k == k then n + length text else n) was.0,
+          was.1,
+        )
+
+    counted_then : (j : ℕ) (c : Connection) → find number_of j sent_view.upstreams.live ≡ Some c → (then_state.windows.out j ≡ c.out) × (then_state.windows.took j ≡ c.took)
+    counted_then j c found = by (find number_of j kept.upstreams.live) refl (sym (find_map number_of (put_at k (length text)) (λ x. refl) j kept.upstreams.live) ∙ found)
+      where
+        by : (o : Option Connection) → find number_of j kept.upstreams.live ≡ o → option_map (put_at k (length text)) o ≡ Some c → (then_state.windows.out j ≡ c.out) × (then_state.windows.took j ≡ c.took)
+        by None is none = let clash : ◌≡◌ {A = Option Connection} None (Some c) = none in cc
+        by (Some x) is some =
+            let this : put_at k (length text) x ≡ c = cc in
+            subst (λ (y : Connection). (then_state.windows.out j ≡ y.out) × (then_state.windows.took j ≡ y.took)) this (counted_one j x is)
+
+    keeps : Keeps sent_view due_behind then_state
+    keeps = record {
+      book =
+          ap (λ (d : Desk). d.book) desk ∙ leads.keeps.book
+          ∙ ap (λ (os : List Opened). book_of (record { given = os; untaken = kept.untaken }) kept.inbound) (sym (ap (λ (d : Desk). d.book.given) desk));
+      owed = ap (λ (d : Desk). d.queue) desk ∙ leads.keeps.owed;
+      offers = leads.keeps.offers;
+      requests = requests_then;
+      decoding = leads.keeps.decoding;
+      encoding = leads.keeps.encoding;
+      read = leads.keeps.read;
+      credited = record { fresh = leads.keeps.credited.fresh; shared = leads.keeps.credited.shared; own = leads.keeps.credited.own };
+      counted = counted_then;
+    }
+
+    -- Octets that are due go out.
+    pub sent_performs : (outputs : List Output) → OwnSegment setup run s outputs sent_view due_behind (put outputs (Puts (ToUp k text)))
+    sent_performs outputs = record {
+      segment = record {
+        moves = Does deed ∷ [];
+        state = then_state;
+        by_rule = (s, refl, may, refl);
+        leads = record {
+          stands = one_more setup run s (Does deed) leads.stands may;
+          so = so_then;
+          heard = heard_of_changed setup (Does deed ∷ run) kept.upstreams.live (put_at k (length text)) (λ c. refl) (λ c. refl)
+              (heard_stays setup run s leads.stands leads.so kept.upstreams.live (ap (λ (r : serving.State). r.live) leads.keeps.requests) deed tt leads.heard);
+          keeps = keeps;
+          marked = marked_then;
+          in_effect = tt;
+        };
+        puts = refl;
+      };
+      are_own = tt;
+    }
+
+-- ---- in the words of the calls
+
+-- the stream of an open connection
+pub stream_is : (o : Option Connection) (stream : ℕ) (c : Connection) → IfSome o (λ x. stream ≡ x.live.stream) → o ≡ Some c → stream ≡ c.live.stream
+stream_is o stream c of is = subst (λ (x : Option Connection). IfSome x (λ y. stream ≡ y.live.stream)) is of
+
+module _ (kept : View) (k stream count : ℕ) (text : List ℕ) (behind : upstreams.State) (sides : List Side) (before after : List Output)
+    (of : IfSome (find number_of k kept.upstreams.live) (λ c. stream ≡ c.live.stream)) (is_count : count ≡ length text)
+    (put_is : behind ≡ record kept.upstreams { live = map (put_at k count) kept.upstreams.live }) (sides_are : sides ≡ change stream (putting count) kept.marks) (puts_out : after ≡ put before (Puts (ToUp k text))) where
+  -- The calls perform.
+  pub calls_send : (setup : Setup) (owed : List Frame) (fresh back : ℕ)
+      → PerformsOwn setup kept (record square { owed = owed; due = ToSend k text; fresh = fresh; shared = back }) before (record kept { upstreams = behind; marks = sides }) (record square { owed = owed; fresh = fresh; shared = back }) after
+  calls_send setup owed fresh back run s leads =
+      let there = open_there setup kept owed fresh back k text run s leads in
+      let own : stream ≡ there.0.live.stream = stream_is (find number_of k kept.upstreams.live) stream there.0 of there.1 in
+      subst (λ (u : upstreams.State). OwnSegment setup run s before (record kept { upstreams = u; marks = sides }) (record square { owed = owed; fresh = fresh; shared = back }) after)
+      (ap (λ n. let u : upstreams.State = record kept.upstreams { live = map (put_at k n) kept.upstreams.live } in u) (sym is_count) ∙ sym put_is)
+      (subst (λ (ms : List Side). OwnSegment setup run s before (record kept { upstreams = record kept.upstreams { live = map (put_at k (length text)) kept.upstreams.live }; marks = ms }) (record square { owed = owed; fresh = fresh; shared = back }) after)
+      (ap (λ n. change n (putting (length text)) kept.marks) (sym own) ∙ ap (λ n. change stream (putting n) kept.marks) (sym is_count) ∙ sym sides_are)
+      (subst (λ (o : List Output). OwnSegment setup run s before (sent_view setup kept owed fresh back k text run s leads) (record square { owed = owed; fresh = fresh; shared = back }) o) (sym puts_out)
+      (sent_performs setup kept owed fresh back k text run s leads before)))
+
+  -- No connection is done with that wasn't before.
+  pub sends_but : (id : ℕ) → NoneDoneBut id kept → NoneDoneBut id (record kept { upstreams = behind; marks = sides })
+  sends_but id none = ap (λ (ls : List Live). list_any (is_done (told_but id kept)) ls) (ap (λ (u : upstreams.State). lives u.live) put_is ∙ lives_same (put_at k count) (λ c. refl) kept.upstreams.live) ∙ none

@@ -19,15 +19,15 @@ pub(crate) fn route(alloc: Global, authority: &str, prefix: &str) -> Result<Rout
     })
 }
 
-/// The default configuration but for the routes and how blocks are written.
-pub(crate) fn config(routes: Vec<Route>, policy: Policy) -> Config
+/// The default configuration but for the routes, how blocks are written and how bodies are passed on.
+pub(crate) fn config(routes: Vec<Route>, policy: Policy, passing: Passing) -> Config
     requires { length routes.items ≤ 4294967295 }
     ensures { IsServable (setup_of result) }
 {
     Config {
         routes,
         policy,
-        passing: Passing::Whole,
+        passing,
         max_body: 1048576,
         max_response: 1048576,
     }
@@ -165,14 +165,17 @@ pub static INDEXING: [Row; 2] = [
 fn other_configurations(rt: HostRuntime) -> Result<(), Fail> {
     let alloc = rt.alloc();
     let routes = vec![in alloc; route(alloc, "a.example", "/")?]?;
-    assert_rows_run(&rt, alloc, &config(routes, Policy::Plain), &ONE_AUTHORITY)?;
+    let plain = config(routes, Policy::Plain, Passing::Whole);
+    assert_rows_run(&rt, alloc, &plain, &ONE_AUTHORITY)?;
     let routes = vec![in alloc;
         route(alloc, "h", "/a")?,
         route(alloc, "h", "/")?,
         route(alloc, "", "/b")?,
     ]?;
-    assert_rows_run(&rt, alloc, &config(routes, Policy::Plain), &THREE_ROUTES)?;
+    let plain = config(routes, Policy::Plain, Passing::Whole);
+    assert_rows_run(&rt, alloc, &plain, &THREE_ROUTES)?;
     let routes = vec![in alloc; route(alloc, "", "/")?]?;
-    assert_rows_run(&rt, alloc, &config(routes, Policy::Indexing), &INDEXING)?;
+    let indexing = config(routes, Policy::Indexing, Passing::Whole);
+    assert_rows_run(&rt, alloc, &indexing, &INDEXING)?;
     Ok(())
 }

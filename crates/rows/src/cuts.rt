@@ -7,9 +7,10 @@ use crate::configurations::{INDEXING, config, route};
 use crate::connections::{ENDED, GOES_ON};
 use crate::request_transcripts::{ANSWERED, MALFORMED, PASSED_ON};
 use crate::responses::{BROKEN, PASSED_BACK};
+use crate::streaming::{INDEXED_AS_IT_COMES, PASSED_AS_IT_COMES, UNTAKEN, streaming};
 use crate::transcripts::{Row, Transcript, assert_prints};
 use crate::windows::{IN_TURN, WAITING};
-use gateway::{Config, Event, Policy};
+use gateway::{Config, Event, Passing, Policy};
 use scripts::read_script;
 use std::alloc::{AllocError, Global};
 use std::test::*;
@@ -23,7 +24,7 @@ fn config_of(alloc: Global, policy: Policy) -> Result<Config, AllocError>
     ensures { IfOk result (λ config. IsServable (setup_of config)) }
 {
     let routes = vec![in alloc; route(alloc, "", "/")?]?;
-    Ok(config(routes, policy))
+    Ok(config(routes, policy, Passing::Whole))
 }
 
 /// The events of a row.

@@ -21,6 +21,8 @@ mod responses;
 #[cfg(test)]
 mod runs;
 #[cfg(test)]
+mod streaming;
+#[cfg(test)]
 mod transcripts;
 #[cfg(test)]
 mod windows;

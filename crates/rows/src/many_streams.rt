@@ -2,7 +2,7 @@
 
 use crate::configurations::{assert_runs, config};
 use crate::transcripts::{REQUEST, START, Transcript, assert_prints};
-use gateway::Policy;
+use gateway::{Passing, Policy};
 use std::alloc::{AllocError, Global};
 use std::test::*;
 
@@ -135,6 +135,6 @@ fn ten_thousand_streams(rt: HostRuntime) -> Result<(), Fail> {
 fn ten_thousand_answers(rt: HostRuntime) -> Result<(), Fail> {
     let alloc = rt.alloc();
     let transcript = ten_thousand_without_a_route(alloc)?;
-    let unrouted = config(Vec::new(alloc), Policy::Plain);
+    let unrouted = config(Vec::new(alloc), Policy::Plain, Passing::Whole);
     assert_runs(&rt, alloc, &unrouted, "no route", &transcript)
 }

@@ -66,8 +66,12 @@ impl Told {
 
     /// Whether the same was put out, and nothing was left out without a reason.
     pub(crate) fn is_same(&self, other: &Told) -> bool {
-        self.client.as_slice() == other.client.as_slice()
-            && self.upstreams.len() == other.upstreams.len()
+        self.client.as_slice() == other.client.as_slice() && self.is_same_upstream(other)
+    }
+
+    /// The same, but for what was put out for the client.
+    pub(crate) fn is_same_upstream(&self, other: &Told) -> bool {
+        self.upstreams.len() == other.upstreams.len()
             && are_same(&self.upstreams, &other.upstreams)
             && self.is_over == other.is_over
             && self.strays == 0

@@ -5,6 +5,7 @@ ghost use Rattle.gateway.specs.Setups.{setup_of, IsServable};
 use super::*;
 use crate::notation::push_octets;
 use crate::runs::drive;
+use frames::{Split, View, split};
 use std::process::Abort;
 
 /// Whose octets are cut.
@@ -79,6 +80,83 @@ fn assert_alike(rt: &impl Abort, alloc: Global, config: &Config, rows: &[Row]) -
     Ok(())
 }
 
+/// Adds a frame, but for where DATA is cut: behind DATA of the same stream its octets alone. Says of which stream it was DATA that goes on.
+fn push_joined(
+    view: View<'_>,
+    frame: &[u8],
+    last: Option<u32>,
+    text: &mut Vec<u8>,
+) -> Result<Option<u32>, AllocError> {
+    if view.kind != 0 {
+        text.extend_from_slice(frame)?;
+        return Ok(None);
+    }
+    if last != Some(view.id) {
+        text.extend_from_slice(b"DATA")?;
+        text.extend_from_slice(&view.id.to_be_bytes())?;
+    }
+    text.extend_from_slice(view.payload)?;
+    if view.flags == 0 {
+        return Ok(Some(view.id));
+    }
+    text.extend_from_slice(b"END_STREAM")?;
+    Ok(None)
+}
+
+/// Frames without where DATA is cut.
+fn joined(alloc: Global, frames: &[u8]) -> Result<Vec<u8>, AllocError> {
+    let mut text = Vec::new(alloc);
+    let mut last = None;
+    let mut rest = frames;
+    for _ in 0..frames.len() {
+        match split(rest) {
+            Split::Frame(view, used) => {
+                last = push_joined(view, rest.get(..used).unwrap_or(&[]), last, &mut text)?;
+                rest = rest.get(used..).unwrap_or(&[]);
+            }
+            _ => {
+                text.extend_from_slice(rest)?;
+                return Ok(text);
+            }
+        }
+    }
+    Ok(text)
+}
+
+/// The same is put out in all where the octets of upstreams come one by one, but for where DATA is cut.
+fn is_alike_joined(alloc: Global, config: &Config, row: &Row) -> Result<bool, Fail>
+    requires { IsServable (setup_of config.now) }
+{
+    let whole = drive(alloc, config, &events_of(alloc, row)?, &[])?;
+    let octets = in_octets(alloc, events_of(alloc, row)?, Side::Upstreams)?;
+    let cut = drive(alloc, config, &octets, &[])?;
+    let alike = joined(alloc, &whole.client)?.as_slice() == joined(alloc, &cut.client)?.as_slice();
+    Ok(alike && whole.strays == 0 && cut.is_same_upstream(&whole))
+}
+
+/// The same is put out in all where octets come one by one and bodies are passed on as they come.
+fn assert_alike_streaming(
+    rt: &impl Abort,
+    alloc: Global,
+    config: &Config,
+    rows: &[Row],
+) -> Result<(), Fail>
+    requires { IsServable (setup_of config.now) }
+{
+    for row in rows {
+        let name = row.name;
+        assert!(rt;
+            is_alike(alloc, config, row, Side::Client)?,
+            "at {name}, of the client"
+        );
+        assert!(rt;
+            is_alike_joined(alloc, config, row)?,
+            "at {name}, of upstreams"
+        );
+    }
+    Ok(())
+}
+
 /// What the octet at this place of the first request puts out: the gateway's settings come with the first, the acknowledgement
 /// with the last of the client's settings, and the request with the last of its own.
 fn put_out_at(place: usize) -> &'static str {
@@ -118,4 +196,26 @@ fn one_by_one(rt: HostRuntime) -> Result<(), Fail> {
     assert_alike(&rt, alloc, &plain, &WAITING)?;
     assert_alike(&rt, alloc, &plain, &IN_TURN)?;
     assert_alike(&rt, alloc, &config_of(alloc, Policy::Indexing)?, &INDEXING)
+}
+
+#[test]
+fn one_by_one_as_bodies_come(rt: HostRuntime) -> Result<(), Fail> {
+    let alloc = rt.alloc();
+    let plain = streaming(alloc, Policy::Plain)?;
+    assert_alike_streaming(&rt, alloc, &plain, &PASSED_AS_IT_COMES)?;
+    assert_alike_streaming(&rt, alloc, &plain, &WAITING)?;
+    let indexing = streaming(alloc, Policy::Indexing)?;
+    assert_alike_streaming(&rt, alloc, &indexing, &INDEXED_AS_IT_COMES)
+}
+
+#[test]
+fn untaken_one_by_one(rt: HostRuntime) -> Result<(), Fail> {
+    let alloc = rt.alloc();
+    assert_alike_streaming(&rt, alloc, &streaming(alloc, Policy::Plain)?, &UNTAKEN)
+}
+
+#[test]
+fn in_turn_one_by_one(rt: HostRuntime) -> Result<(), Fail> {
+    let alloc = rt.alloc();
+    assert_alike_streaming(&rt, alloc, &streaming(alloc, Policy::Plain)?, &IN_TURN)
 }

@@ -6,11 +6,11 @@ use crate::side::Side;
 use gateway::{Config, Output, Passing, Policy, Route};
 use mio::{Events, Poll, Token};
 use std::alloc::{AllocError, Global};
-use std::io;
 use std::io::{ErrorKind, Read, Write};
 use std::net::{Ipv4Addr, SocketAddr, TcpListener, TcpStream};
 use std::test::*;
 use std::time::Duration;
+use std::{io, mem};
 use worlds::{Ended, Next, ServeFault, World, WorldFault, serve};
 
 /// The preface, settings without entries, and a GET without a body on stream 1.
@@ -32,6 +32,19 @@ const FRAMES: &[u8] = b"\0\0\x05\x01\x04\0\0\0\x01\x88\x0f\x0d\x01\x32\0\0\x02\0
 
 /// The frames that go back where the upstream is down: the status 502.
 const BAD_GATEWAY: &[u8] = b"\0\0\x09\x01\x05\0\0\0\x01\x08\x03502\x0f\x0d\x01\x30";
+
+/// A response in chunks, in three pieces, and the frames that go back.
+const CHUNKS: [&[u8]; 3] = [
+    b"HTTP/1.1 200 OK\r\nTransfer-Encoding: chunked\r\n\r\n1",
+    b"0\r\n0123456789abcdef\r\n",
+    b"0\r\n\r\n",
+];
+
+const CHUNK_FRAMES: &[u8] =
+    b"\0\0\x01\x01\x04\0\0\0\x01\x88\0\0\x10\0\x01\0\0\0\x010123456789abcdef";
+
+/// The frames that go back where no route matches: the status 404.
+const NOT_FOUND: &[u8] = b"\0\0\x05\x01\x05\0\0\0\x01\x8d\x0f\x0d\x01\x30";
 
 /// The same request on streams 3 and 5.
 const MORE: &[u8] =
@@ -62,6 +75,9 @@ struct Peers {
     /// The upstream answers once so many connections wait, the last one first.
     answers: usize,
     waiting: Vec<TcpStream>,
+    /// What it answers with in place of the answer in one piece, one piece a turn; then it closes.
+    pieces: Vec<Vec<u8>>,
+    answering: Option<TcpStream>,
 }
 
 impl Peers {
@@ -79,6 +95,7 @@ impl Peers {
 
     /// The upstream answers once enough connections wait: the last one, and then the others in order.
     fn answer(&mut self) -> io::Result<()> {
+        self.go_on()?;
         for _ in 0..self.answers {
             self.accept()?;
         }
@@ -98,12 +115,30 @@ impl Peers {
         Ok(())
     }
 
-    /// The upstream reads a request, and answers it.
+    /// The upstream goes on with the next piece of an answer that it began, or closes behind the last.
+    fn go_on(&mut self) -> io::Result<()> {
+        let Some(mut socket) = self.answering.take() else {
+            return Ok(());
+        };
+        if self.pieces.is_empty() {
+            return Ok(());
+        }
+        let piece = self.pieces.remove(0);
+        socket.write_all(&piece)?;
+        self.answering = Some(socket);
+        Ok(())
+    }
+
+    /// The upstream reads a request, and answers it, or begins to.
     fn answer_at(&mut self, mut socket: TcpStream) -> io::Result<()> {
         let mut room = [0u8; 256];
         let count = socket.read(&mut room)?;
         self.asked.extend_from_slice(&room[..count])?;
-        socket.write_all(ANSWER)
+        if self.pieces.is_empty() {
+            return socket.write_all(ANSWER);
+        }
+        self.answering = Some(socket);
+        Ok(())
     }
 
     /// The client reads what is there, and leaves if that is enough.
@@ -150,12 +185,19 @@ impl World for Loopback<'_> {
     }
 }
 
-/// A configuration with one route for every request.
+/// A configuration with one route, for every request.
 fn one_route(alloc: Global) -> Result<Config, AllocError>
     ensures { IfOk result (λ config. IsServable (setup_of config)) }
 {
+    route_of(alloc, b"")
+}
+
+/// A configuration with one route, for requests of this authority.
+fn route_of(alloc: Global, authority: &[u8]) -> Result<Config, AllocError>
+    ensures { IfOk result (λ config. IsServable (setup_of config)) }
+{
     let route = Route {
-        authority: Vec::new(alloc),
+        authority: Vec::from_slice(alloc, authority)?,
         prefix: Vec::from_slice(alloc, b"/")?,
         upstream: String::new(alloc),
     };
@@ -204,6 +246,8 @@ fn a_request_goes_there_and_back(rt: HostRuntime) -> Result<(), Fail> {
             asked: Vec::new(rt.alloc()),
             answers: 1,
             waiting: Vec::new(rt.alloc()),
+            pieces: Vec::new(rt.alloc()),
+            answering: None,
         },
     };
     let ended = serve(rt.alloc(), &config, &mut world, 100);
@@ -237,12 +281,92 @@ fn an_upstream_that_is_down_is_no_fault_of_the_world(rt: HostRuntime) -> Result<
             asked: Vec::new(rt.alloc()),
             answers: 1,
             waiting: Vec::new(rt.alloc()),
+            pieces: Vec::new(rt.alloc()),
+            answering: None,
         },
     };
     let ended = serve(rt.alloc(), &config, &mut world, 100);
     assert_eq!(rt; ended, Ok(Ended::Closed));
     assert!(rt; world.peers.read.starts_with(GREETING));
     assert!(rt; world.peers.read.ends_with(BAD_GATEWAY));
+    Ok(())
+}
+
+/// Copies of these pieces.
+fn owned(alloc: Global, pieces: &[&[u8]]) -> Result<Vec<Vec<u8>>, AllocError> {
+    let mut copies = Vec::new(alloc);
+    for piece in pieces {
+        copies.push(Vec::from_slice(alloc, piece)?)?;
+    }
+    Ok(copies)
+}
+
+/// What a client reads that asks where the upstream answers in these pieces, up to the end of what is wanted.
+fn read_of<'a>(
+    rt: &'a HostRuntime,
+    addresses: &'a [SocketAddr],
+    config: &Config,
+    upstream: TcpListener,
+    pieces: Vec<Vec<u8>>,
+    wanted: &[u8],
+) -> Result<Vec<u8>, Fail>
+    requires { IsServable (setup_of config.now) }
+{
+    let (mut client, far) = pair(rt)?;
+    client.write_all(REQUEST)?;
+    let far = mio::net::TcpStream::from_std(far);
+    let mut world = Loopback {
+        world: SocketWorld::new(rt.alloc(), rt, addresses, far)?,
+        peers: Peers {
+            upstream,
+            client: Some(client),
+            enough: GREETING.len().saturating_add(wanted.len()),
+            read: Vec::new(rt.alloc()),
+            reads: 0,
+            asked: Vec::new(rt.alloc()),
+            answers: 1,
+            waiting: Vec::new(rt.alloc()),
+            pieces,
+            answering: None,
+        },
+    };
+    let _ = serve(rt.alloc(), config, &mut world, 100);
+    Ok(mem::replace(&mut world.peers.read, Vec::new(rt.alloc())))
+}
+
+#[test]
+fn chunks_go_back_once_they_are_whole(rt: HostRuntime) -> Result<(), Fail> {
+    let config = one_route(rt.alloc())?;
+    let upstream = quiet_listener(&rt)?;
+    let addresses = [upstream.local_addr()?];
+    let pieces = owned(rt.alloc(), &CHUNKS)?;
+    let read = read_of(&rt, &addresses, &config, upstream, pieces, CHUNK_FRAMES)?;
+    assert!(rt; read.starts_with(GREETING));
+    assert!(rt; read.ends_with(CHUNK_FRAMES));
+    Ok(())
+}
+
+#[test]
+fn an_upstream_that_ends_within_chunks_is_a_bad_gateway(rt: HostRuntime) -> Result<(), Fail> {
+    let config = one_route(rt.alloc())?;
+    let upstream = quiet_listener(&rt)?;
+    let addresses = [upstream.local_addr()?];
+    let pieces = owned(rt.alloc(), &CHUNKS[..2])?;
+    let read = read_of(&rt, &addresses, &config, upstream, pieces, BAD_GATEWAY)?;
+    assert!(rt; read.starts_with(GREETING));
+    assert!(rt; read.ends_with(BAD_GATEWAY));
+    Ok(())
+}
+
+#[test]
+fn a_request_without_a_route_is_not_found(rt: HostRuntime) -> Result<(), Fail> {
+    let config = route_of(rt.alloc(), b"a.example")?;
+    let upstream = quiet_listener(&rt)?;
+    let addresses = [upstream.local_addr()?];
+    let pieces = Vec::new(rt.alloc());
+    let read = read_of(&rt, &addresses, &config, upstream, pieces, NOT_FOUND)?;
+    assert!(rt; read.starts_with(GREETING));
+    assert!(rt; read.ends_with(NOT_FOUND));
     Ok(())
 }
 
@@ -280,6 +404,8 @@ fn responses_that_are_there_go_back_in_one_write(rt: HostRuntime) -> Result<(), 
             asked: Vec::new(rt.alloc()),
             answers: 3,
             waiting: Vec::new(rt.alloc()),
+            pieces: Vec::new(rt.alloc()),
+            answering: None,
         },
     };
     let ended = serve(rt.alloc(), &config, &mut world, 100);

@@ -16,7 +16,6 @@ use Rattle.conduct.proofs.Knowing.{known_so}
 use Rattle.offering.specs.Outbox.{Outbox}
 use Rattle.offering.specs.Outbox.Outbox.{Before, Behind, Over}
 use Rattle.offering.specs.Held.{body_waiting}
-use Rattle.offering.specs.State as offering
 use Rattle.receiving.specs.Held.{body_in}
 use Rattle.receiving.specs.Rooms.{HoldsBody, IsHeld, AreHeld}
 use Rattle.serving.specs.State as serving
@@ -40,7 +39,7 @@ use Rattle.steps.proofs.Admitting.{admitted_by_kept, admitted_by_tape, up_by_tap
 use Rattle.gateway.specs.declared.phase.Phase.{Phase}
 use Rattle.gateway.specs.declared.phase.Phase.TheVariants as phase
 use Rattle.gateway.specs.Rooms.{TellsRoom}
-use Rattle.gateway.specs.Stands.{Standing, Stands, MayCome, IsIn, IsOpen, pending_in, admits, room_of, is_open}
+use Rattle.gateway.specs.Stands.{Standing, Stands, MayCome, IsIn, pending_in, admits, room_of, is_open}
 
 -- ---- what takes room, where something may come in
 

@@ -1,23 +1,22 @@
 -- Each event that came fitted the room that its connection had, and so it is behind a step.
 use Rattle.std.proofs.Common.{◌≡◌, ℕ, ◌-◌, ◌≤◌, List, [], ◌∷◌, ◌++◌, length, refl, sym, ap, subst, inl, inr, arith}
 use Rattle.std.specs.Prelude.{◌⊎◌}
-use Rattle.model.specs.Logs.{Event, Act}
+use Rattle.model.specs.Logs.{Event}
 use Rattle.model.specs.Logs.Event.{Client, ClientEnd, ClientTook, Up, UpEnd, UpFailed, UpTook}
 use Rattle.model.specs.Setup.{Passing}
 use Rattle.model.specs.Setup.Passing.{Whole, Streaming}
-use Rattle.model.specs.Tapes.{Noted, Entry, listed, acts, sent, ActsFollow}
+use Rattle.model.specs.Tapes.{Noted, Entry, acts, sent, ActsFollow}
 use Rattle.model.specs.Tapes.Entry.{Came, Breached, Happened, Sent, Did}
 use Rattle.model.specs.Known.{Known}
 use Rattle.model.specs.Available.{heard}
-use Rattle.model.specs.Courses.{items}
 use Rattle.model.specs.Offers.{is_to_head}
-use Rattle.model.specs.Openings.{opens, given, exchange_on}
+use Rattle.model.specs.Openings.{opens, given}
 use Rattle.model.specs.Responses.{Seen}
 use Rattle.model.specs.Rooms.{IsRoom, FitsRoom}
 use Rattle.model.specs.WindowsOnTape.{is_on, data_octets}
 use Rattle.model.proofs.ItemLaws.{items_stay}
 use Rattle.offering.specs.Held.{FitRooms}
-use Rattle.steps.specs.Inputs.{Input, inputs_in, events_in}
+use Rattle.steps.specs.Inputs.{inputs_in, events_in}
 use Rattle.steps.specs.Inputs.Input.{OfFrame, OfBreach, OfEvent}
 
 -- ---- frames that are sent leave no less room

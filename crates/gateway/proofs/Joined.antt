@@ -1,5 +1,5 @@
 -- A piece of the client's octets that is taken in two parts, one behind the other, is taken whole.
-use Rattle.std.proofs.Common.{◌≡◌, Bool, true, false, if◌then◌else◌, ℕ, List, [], ◌∷◌, ◌++◌, map, reverse, refl, sym, ◌∙◌, ap, subst, inl, inr, ◌⊎◌, append_assoc, append-nil, length, length-append, ◌+◌, ◌≤◌, ◌<◌, arith, Option, Some, None}
+use Rattle.std.proofs.Common.{◌≡◌, Bool, true, false, if◌then◌else◌, ℕ, List, [], ◌∷◌, ◌++◌, map, reverse, refl, sym, ◌∙◌, ap, subst, inl, inr, ◌⊎◌, append_assoc, append-nil, length, length-append, ◌+◌, arith, Option, Some, None}
 use Rattle.std.proofs.lemmas.List.{reverse-append, map-append}
 use Rattle.model.specs.Frames.{Frame, Reading, preface, IsTooLong}
 use Rattle.model.specs.Logs.{Output}
@@ -19,7 +19,6 @@ use Rattle.gateway.specs.Reading.{Takes}
 use Rattle.gateway.specs.Stands.{Standing, Serves}
 use Rattle.gateway.specs.Receiving.{Receives, GoesOn, Keeps, KeepsTerms, is_begun}
 use Rattle.gateway.proofs.Told.{in_events}
-use Rattle.gateway.specs.declared.phase.Phase.{Phase}
 use Rattle.gateway.specs.declared.phase.Phase.TheVariants as phase
 
 -- ---- frames

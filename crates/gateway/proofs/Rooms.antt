@@ -1,4 +1,4 @@
--- The rooms that a gateway tells are those of its log.
+-- The rooms that a gateway tells are those of its log, and stay so where no connection is opened or closed and responses are passed on whole.
 use Rattle.std.proofs.Common.{◌≡◌, ℕ, ◌<◌, ◌==◌, ◌||◌, if◌then◌else◌, Bool, true, false, List, [], ◌∷◌, ◌++◌, map, reverse, Some, refl, sym, ap, ◌∙◌, subst, arith}
 use Rattle.std.specs.Prelude.{is_some, OnOk, Result, Ok, Err}
 use Rattle.std.specs.List.{list_any, AllByRecursion}
@@ -7,9 +7,16 @@ use Rattle.std.proofs.lemmas.List.Elements.{recursion_from_All}
 use Rattle.std.proofs.lemmas.List.Folds.{list_any-append}
 use Rattle.model.specs.Admission as admission
 use Rattle.model.specs.Known.{Known}
-use Rattle.model.specs.Logs.{Step, client_in}
+use Rattle.model.specs.Frames.{spell}
+use Rattle.model.specs.Logs.{Event, Output, Step, client_in}
+use Rattle.model.specs.Logs.Event.{Client, ClientEnd, ClientTook, Up, UpEnd, UpFailed, UpTook}
+use Rattle.model.specs.Logs.Output.{ToClient, Does}
+use Rattle.model.specs.Logs.Act.{Open, ToUp, Close, CloseClient}
 use Rattle.model.specs.Rooms.{IsRoom}
 use Rattle.model.specs.Setup.{Setup}
+use Rattle.model.specs.Setup.Passing.{Whole}
+use Rattle.model.specs.Tapes.{Entry, put, outputs, happened, listed}
+use Rattle.model.specs.Tapes.Entry.{Came, Breached, Happened, Sent, Did}
 use Rattle.conduct.specs.Rule.{known_of}
 use Rattle.conduct.proofs.Knowing.{known_so}
 use Rattle.offering.specs.State as offering
@@ -17,15 +24,18 @@ use Rattle.serving.specs.State as serving
 use Rattle.serving.specs.State.{find}
 use Rattle.serving.proofs.Lists.{found_key}
 use Rattle.upstreams.specs.Connections.{Connection, number_of, lives, AreBelow, AreRising}
+use Rattle.outputs.specs.Views.{output_of, outputs_of}
+use Rattle.outputs.specs.declared.events.Output.{Output as PutOut}
 use Rattle.policy.specs.Moves.{Move}
 use Rattle.policy.specs.State.{State, conducts, tape_of, turns_of}
 use Rattle.policy.proofs.EndingLives.{AreApart, all_apart}
 use Rattle.policy.proofs.Placing.{turns_may}
 use Rattle.holding.proofs.Lists.{all_found}
+use Rattle.relay.proofs.Performing.{tape_behind}
 use Rattle.steps.specs.Admission.{room_of}
 use Rattle.steps.proofs.Admitting.{up_by_tape}
-use Rattle.gateway.specs.Rooms.{IsBelow, Rise, is_among, numbers_in, AreRooms, room_in}
-use Rattle.gateway.specs.Stands.{Standing, Stands, IsOpen, is_open, pending_in}
+use Rattle.gateway.specs.Rooms.{IsBelow, Rise, is_among, numbers_in, AreRooms, room_in, turns, fails}
+use Rattle.gateway.specs.Stands.{Standing, Stands, StandsNext, IsOpen, is_open, pending_in}
 use Rattle.gateway.proofs.Admitting.{closed_up, open_room}
 use Rattle.gateway.proofs.Going.{open_in}
 
@@ -149,6 +159,110 @@ module _ (setup : Setup) (g : Standing) (log : List Step) (run : List Move) (sta
 -- once the client is closed there are none
 pub no_rooms_by_log : (setup : Setup) (g : Standing) (log : List Step) (run : List Move) → Stands setup g log run → is_open g.phase ≡ false → AreRooms (known_of setup (conducts run)) (tape_of run) []
 no_rooms_by_log setup g log run stands over = record { rise = tt; listed = λ k. closed_up setup g log run stands over k; each = tt }
+
+-- ---- where no connection is opened or closed
+
+-- what is put out behind others opens or closes one just where it does, or one of those
+turns_put : (outs : List Output) (o : Output) → list_any turns (put outs o) ≡ (turns o || list_any turns outs)
+turns_put [] (ToClient o) = refl
+turns_put (ToClient b ∷ outs) (ToClient o) = refl
+turns_put (Does (Open j r) ∷ outs) (ToClient o) = refl
+turns_put (Does (ToUp j b) ∷ outs) (ToClient o) = refl
+turns_put (Does (Close j) ∷ outs) (ToClient o) = refl
+turns_put (Does CloseClient ∷ outs) (ToClient o) = refl
+turns_put [] (Does (Open k s)) = refl
+turns_put (ToClient b ∷ outs) (Does (Open k s)) = refl
+turns_put (Does (Open j r) ∷ outs) (Does (Open k s)) = refl
+turns_put (Does (ToUp j b) ∷ outs) (Does (Open k s)) = refl
+turns_put (Does (Close j) ∷ outs) (Does (Open k s)) = refl
+turns_put (Does CloseClient ∷ outs) (Does (Open k s)) = refl
+turns_put [] (Does (ToUp k o)) = refl
+turns_put (ToClient b ∷ outs) (Does (ToUp k o)) = refl
+turns_put (Does (Open j r) ∷ outs) (Does (ToUp k o)) = refl
+turns_put (Does (ToUp j b) ∷ outs) (Does (ToUp k o)) = by (j == k)
+  where
+    by : (same : Bool) → list_any turns (if same then Does (ToUp j (b ++ o)) ∷ outs else Does (ToUp k o) ∷ Does (ToUp j b) ∷ outs) ≡ list_any turns outs
+    by true = refl
+    by false = refl
+turns_put (Does (Close j) ∷ outs) (Does (ToUp k o)) = refl
+turns_put (Does CloseClient ∷ outs) (Does (ToUp k o)) = refl
+turns_put [] (Does (Close k)) = refl
+turns_put (ToClient b ∷ outs) (Does (Close k)) = refl
+turns_put (Does (Open j r) ∷ outs) (Does (Close k)) = refl
+turns_put (Does (ToUp j b) ∷ outs) (Does (Close k)) = refl
+turns_put (Does (Close j) ∷ outs) (Does (Close k)) = refl
+turns_put (Does CloseClient ∷ outs) (Does (Close k)) = refl
+turns_put [] (Does CloseClient) = refl
+turns_put (ToClient b ∷ outs) (Does CloseClient) = refl
+turns_put (Does (Open j r) ∷ outs) (Does CloseClient) = refl
+turns_put (Does (ToUp j b) ∷ outs) (Does CloseClient) = refl
+turns_put (Does (Close j) ∷ outs) (Does CloseClient) = refl
+turns_put (Does CloseClient ∷ outs) (Does CloseClient) = refl
+
+any_turned : {X : Type 0} (p : X → Bool) (xs : List X) → list_any p (reverse xs) ≡ list_any p xs
+any_turned p [] = refl
+any_turned p (x ∷ xs) =
+    ap (list_any p) (reverse-append (x ∷ []) xs) ∙ list_any-append p (reverse xs) (x ∷ []) ∙ or_turned (list_any p (reverse xs)) (p x) ∙ ap (λ b. p x || b) (any_turned p xs)
+
+no_fault : (event : Event) → fails event ≡ false → list_any fails (listed event) ≡ false
+no_fault (Client piece) calm = refl
+no_fault ClientEnd calm = refl
+no_fault (ClientTook count) calm = refl
+no_fault (Up j piece) calm = refl
+no_fault (UpEnd j) calm = refl
+no_fault (UpFailed j) calm = absurd (let no : true ≡ false = calm in cc)
+no_fault (UpTook j count) calm = refl
+
+stays_open : (segment t : List Entry) → list_any turns (outputs segment) ≡ false → list_any fails (happened segment) ≡ false → (k : ℕ) → admission.is_open k (segment ++ t) ≡ admission.is_open k t
+stays_open [] t still calm k = refl
+stays_open (Came noted ∷ segment) t still calm k = stays_open segment t still calm k
+stays_open (Breached breach ∷ segment) t still calm k = stays_open segment t still calm k
+stays_open (Sent noted ∷ segment) t still calm k = stays_open segment t (sym (turns_put (outputs segment) (ToClient (spell noted.frame))) ∙ still) calm k
+stays_open (Did (Open j route) ∷ segment) t still calm k = absurd (let no : true ≡ false = sym (turns_put (outputs segment) (Does (Open j route))) ∙ still in cc)
+stays_open (Did (Close j) ∷ segment) t still calm k = absurd (let no : true ≡ false = sym (turns_put (outputs segment) (Does (Close j))) ∙ still in cc)
+stays_open (Did (ToUp j octets) ∷ segment) t still calm k = stays_open segment t (sym (turns_put (outputs segment) (Does (ToUp j octets))) ∙ still) calm k
+stays_open (Did CloseClient ∷ segment) t still calm k = stays_open segment t (sym (turns_put (outputs segment) (Does CloseClient)) ∙ still) calm k
+stays_open (Happened (Client piece) ∷ segment) t still calm k = stays_open segment t still calm k
+stays_open (Happened ClientEnd ∷ segment) t still calm k = stays_open segment t still calm k
+stays_open (Happened (ClientTook count) ∷ segment) t still calm k = stays_open segment t still calm k
+stays_open (Happened (Up j piece) ∷ segment) t still calm k = stays_open segment t still calm k
+stays_open (Happened (UpEnd j) ∷ segment) t still calm k = stays_open segment t still calm k
+stays_open (Happened (UpFailed j) ∷ segment) t still calm k = absurd (let no : true ≡ false = calm in cc)
+stays_open (Happened (UpTook j count) ∷ segment) t still calm k = stays_open segment t still calm k
+
+-- each of these rooms is still the one that is told
+same_rooms : (known known' : Known) (t t' : List Entry) → ((k : ℕ) → admission.is_open k t' ≡ admission.is_open k t) → (rooms : List (ℕ × ℕ))
+    → AllByRecursion (λ (one : ℕ × ℕ). IsRoom Whole known one.0 t one.1) rooms → AllByRecursion (λ (one : ℕ × ℕ). IsRoom Whole known' one.0 t' one.1) rooms
+same_rooms known known' t t' same [] all = tt
+same_rooms known known' t t' same (one ∷ rooms) all = (all.0 ∙ ap (λ b. if b then 65536 else 0) (sym (same one.0)), same_rooms known known' t t' same rooms all.1)
+
+-- Behind a step that opens and closes no connection the rooms are the same, where responses are passed on whole.
+pub rooms_stay : (setup : Setup) (new : Standing) (log : List Step) (run : List Move) (event : Event) (put_out : List Output) (next : StandsNext setup new log run event put_out) (rooms : List (ℕ × ℕ)) → setup.passing ≡ Whole
+    → list_any turns put_out ≡ false → fails event ≡ false → AreRooms (known_of setup (conducts run)) (tape_of run) rooms
+    → AreRooms (known_of setup (conducts (next.segment ++ run))) (tape_of (next.segment ++ run)) rooms
+rooms_stay setup new log run event put_out next rooms whole still calm before =
+    let quiet : list_any turns (outputs (tape_of next.segment)) ≡ false = sym (any_turned turns (outputs (tape_of next.segment))) ∙ sym (ap (list_any turns) next.step_is.put_out) ∙ still in
+    let unbroken : list_any fails (happened (tape_of next.segment)) ≡ false = ap (list_any fails) next.step_is.event ∙ no_fault event calm in
+    let same : (k : ℕ) → admission.is_open k (tape_of (next.segment ++ run)) ≡ admission.is_open k (tape_of run) = λ k.
+    ap (λ t. admission.is_open k t) (tape_behind next.segment run) ∙ stays_open (tape_of next.segment) (tape_of run) quiet unbroken k in
+    let known : Known = known_of setup (conducts run) in
+    let known' : Known = known_of setup (conducts (next.segment ++ run)) in
+    record {
+      rise = before.rise;
+      listed = λ k. before.listed k ∙ sym (same k);
+      each = subst (λ p. AllByRecursion (λ (one : ℕ × ℕ). IsRoom p known' one.0 (tape_of (next.segment ++ run)) one.1) rooms) (sym whole)
+          (same_rooms known known' (tape_of run) (tape_of (next.segment ++ run)) same rooms
+          (subst (λ p. AllByRecursion (λ (one : ℕ × ℕ). IsRoom p known one.0 (tape_of run) one.1) rooms) whole before.each));
+    }
+
+-- what is put out opens or closes none where no output does
+pub turns_seen : (out : List PutOut) → list_any turns (outputs_of out) ≡ list_any (λ output. turns (output_of output)) out
+turns_seen [] = refl
+turns_seen (o ∷ out) = ap (λ b. turns (output_of o) || b) (turns_seen out)
+
+pub either_false : (a b : Bool) → (a || b) ≡ false → (a ≡ false) × (b ≡ false)
+either_false false b h = (refl, h)
+either_false true b h = absurd (cc)
 
 -- what follows of an answer that isn't an error
 pub on_ok : {T E P Q : Type 0} (r : Result T E) → (P → Q) → OnOk r P → OnOk r Q

@@ -3,6 +3,10 @@ use Rattle.std.specs.Prelude.{◌≡◌, ℕ, ◌<◌, ◌==◌, Bool, true, fal
 use Rattle.std.specs.List.{list_any, AllByRecursion}
 use Rattle.model.specs.Admission as admission
 use Rattle.model.specs.Known.{Known}
+use Rattle.model.specs.Logs.{Event, Output}
+use Rattle.model.specs.Logs.Event.{Client, ClientEnd, ClientTook, Up, UpEnd, UpFailed, UpTook}
+use Rattle.model.specs.Logs.Output.{ToClient, Does}
+use Rattle.model.specs.Logs.Act.{Open, ToUp, Close, CloseClient}
 use Rattle.model.specs.Rooms.{IsRoom}
 use Rattle.model.specs.Tapes.{Entry}
 use Rattle.offering.specs.State as offering
@@ -44,3 +48,23 @@ room_in offers c = (number_of c, steps.room_of offers (Some c))
 
 abbrev pub rooms_in : Standing → List (ℕ × ℕ)
 rooms_in g = if is_open g.phase then map (room_in g.kept.offers) (reverse g.kept.upstreams.live) else []
+
+-- ---- what changes which are open
+
+-- whether an output opens a connection, or closes one
+abbrev pub turns : Output → Bool
+turns (Does (Open k route)) = true
+turns (Does (Close k)) = true
+turns (Does (ToUp k octets)) = false
+turns (Does CloseClient) = false
+turns (ToClient octets) = false
+
+-- whether a connection fails by an event
+abbrev pub fails : Event → Bool
+fails (UpFailed k) = true
+fails (Client piece) = false
+fails ClientEnd = false
+fails (ClientTook count) = false
+fails (Up k piece) = false
+fails (UpEnd k) = false
+fails (UpTook k count) = false

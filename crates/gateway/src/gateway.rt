@@ -1,13 +1,16 @@
 //! The gateway: events in, outputs out.
 
-ghost use Rattle.std.specs.Prelude.{◌≡◌, ◌≤◌, ◌++◌, [], List, ◌∷◌, map, Some, true, false, length, OnOk, OnErr, IfOk, IsErrOf, ◌↔◌};
+ghost use Rattle.std.specs.Prelude.{◌≡◌, ◌≤◌, ◌++◌, ◌||◌, [], List, ◌∷◌, map, Some, true, false, length, OnOk, OnErr, IfOk, IsErrOf, ◌↔◌};
+ghost use Rattle.std.specs.List.{list_any};
 ghost use Rattle.model.specs.Logs.{Step, Output as Put};
 ghost use Rattle.model.specs.Logs.Event.{Client};
 ghost use Rattle.model.specs.Tapes.{listed};
 ghost use Rattle.model.specs.Setup.{Setup};
+ghost use Rattle.model.specs.Setup.Passing.{Whole};
 ghost use Rattle.model.specs.Rooms.{IsAdmitted};
 ghost use Rattle.conduct.specs.Rule.{known_of};
-ghost use Rattle.outputs.specs.Views.{event_of, outputs_of};
+ghost use Rattle.answers.specs.Waiting.{passing_in};
+ghost use Rattle.outputs.specs.Views.{event_of, output_of, outputs_of};
 ghost use Rattle.serving.specs.State.{find};
 ghost use Rattle.upstreams.specs.Connections.{number_of};
 ghost use Rattle.steps.specs.Admission.{is_up, may_take, room_of as room_for, room_on, admits as admits_kept};
@@ -18,7 +21,7 @@ ghost use Rattle.relay.specs.Rest.{Reached};
 ghost use Rattle.steps.specs.Resting.{IsSettled, IsServed};
 ghost use Rattle.holding.specs.Held.{IsSmall};
 ghost use Rattle.gateway.specs.Held.{IsHeldWithin};
-ghost use Rattle.gateway.specs.Rooms.{TellsRoom, AreRooms, room_in, rooms_in};
+ghost use Rattle.gateway.specs.Rooms.{TellsRoom, AreRooms, room_in, rooms_in, turns, fails};
 ghost use Rattle.gateway.specs.Setups.{setup_of, IsServable};
 ghost use Rattle.gateway.specs.Stands.{Serves, Stands, StandsNext, pending_in, admits, room_of, is_dead, is_open};
 ghost use Rattle.gateway.specs.Receiving.{Receives, ReadsOn, Happens, Greets, KeepsTerms, IsSettledIf, is_begun};
@@ -83,6 +86,35 @@ fn list_open(
         rooms.push((connection.number(), room_of(offers, connection)))?;
     }
     Ok(())
+}
+
+/// Whether the connection to an upstream fails by an event.
+fn is_failure(event: &Event) -> bool
+    ensures { result ≡ fails (event_of event.now) }
+{
+    match event {
+        Event::UpFailed(_) => true,
+        Event::Client(_)
+        | Event::ClientEnd
+        | Event::ClientTook(_)
+        | Event::Up(_, _)
+        | Event::UpEnd(_)
+        | Event::UpTook(_, _) => false,
+    }
+}
+
+/// Whether outputs open a connection to an upstream, or close one.
+fn turn_connections(outputs: &[Output]) -> bool
+    ensures { result ≡ list_any (λ output. turns (output_of output)) outputs.now }
+{
+    outputs.iter().any(|output| matches!(output, Output::Open(_, _) | Output::Close(_)))
+}
+
+/// Whether a step opens or closes connections to upstreams.
+fn changes_connections(event: &Event, outputs: &[Output]) -> bool
+    ensures { result ≡ (fails (event_of event.now) || list_any (λ output. turns (output_of output)) outputs.now) }
+{
+    is_failure(event) || turn_connections(outputs)
 }
 
 /// Rooms in which nothing is kept.
@@ -154,6 +186,13 @@ impl Gateway {
             Phase::New | Phase::Preface | Phase::Frames => true,
             Phase::Closed | Phase::Dead => false,
         }
+    }
+
+    /// Whether responses are passed on whole.
+    fn passes_whole(&self) -> bool
+        ensures { result ≡ true → passing_in self.now.passing ≡ Whole }
+    {
+        matches!(self.passing, Passing::Whole(_))
     }
 
     /// Whether the connection to an upstream is open.
@@ -237,6 +276,25 @@ impl Gateway {
             self.rooms.upstreams.connections(),
             rooms,
         )
+    }
+
+    /// Brings the rooms of the open connections, as `list_rooms` told them before a step, to what it tells behind it: `outputs` is all that the step put out
+    /// for its event. Where responses are passed on whole they are listed anew only if that opened or closed a connection. An `Err` says that memory for
+    /// the list was refused.
+    pub fn update_rooms(
+        &self,
+        event: &Event,
+        outputs: &[Output],
+        rooms: &mut Vec<(u32, usize)>,
+    ) -> Result<(), AllocError>
+        ensures { OnOk result ((setup : Setup) (log : List Step) (run : List Move) (next : StandsNext setup self.now log run (event_of event.now) (outputs_of outputs.now))
+            → AreRooms (known_of setup (conducts run)) (tape_of run) rooms.old.items
+            → AreRooms (known_of setup (conducts (next.segment ++ run))) (tape_of (next.segment ++ run)) rooms.new.items) }
+    {
+        if self.passes_whole() && !changes_connections(event, outputs) {
+            return Ok(());
+        }
+        self.list_rooms(rooms)
     }
 
     /// Takes an event that may come, and puts out at the end of `out` all that it causes. A refused step puts out nothing,

@@ -79,6 +79,29 @@ fn open_connections_are_listed(rt: HostRuntime) -> Result<(), Fail> {
 }
 
 #[test]
+fn rooms_are_brought_up_to_date(rt: HostRuntime) -> Result<(), Fail> {
+    let alloc = rt.alloc();
+    let config = config(alloc, b"", Passing::Whole)?;
+    let mut gateway = Gateway::new(alloc, &config)?;
+    let mut rooms = Vec::new(alloc);
+    let request = Event::Client(Vec::from_slice(alloc, &FIRST_REQUEST)?);
+    let mut out = Vec::new(alloc);
+    if !gateway.admits(&request) || gateway.step(&request, &mut out).is_err() {
+        return Err("the request was refused".into());
+    }
+    gateway.update_rooms(&request, &out, &mut rooms)?;
+    assert_eq!(rt; rooms.as_slice(), [(1, 65536)].as_slice());
+    let failure = Event::UpFailed(1);
+    let mut more = Vec::new(alloc);
+    if !gateway.admits(&failure) || gateway.step(&failure, &mut more).is_err() {
+        return Err("the failure was refused".into());
+    }
+    gateway.update_rooms(&failure, &more, &mut rooms)?;
+    assert!(rt; rooms.is_empty());
+    Ok(())
+}
+
+#[test]
 fn a_run_answers_each_event(rt: HostRuntime) -> Result<(), Fail> {
     let alloc = rt.alloc();
     let config = config(alloc, b"", Passing::Whole)?;

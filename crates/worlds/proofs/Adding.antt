@@ -1,6 +1,6 @@
 -- What serving a world adds to its log.
 use Rattle.std.specs.Prelude.{IsErrOf, is_ok, OnOk}
-use Rattle.std.proofs.Common.{◌≡◌, ◌+◌, length, length-append, Ok, Err, Result, ◌||◌, Bool, true, false, Option, Some, List, [], ◌∷◌, ◌++◌, ℕ, take, drop, reverse, refl, ap, sym, ◌∙◌, subst, append_assoc, append-nil}
+use Rattle.std.proofs.Common.{◌≡◌, length, length-append, Ok, Err, Result, ◌||◌, Bool, true, false, Option, Some, List, [], ◌∷◌, ◌++◌, ℕ, take, drop, reverse, refl, ap, sym, ◌∙◌, subst, append_assoc, append-nil}
 use Rattle.std.specs.List.{list_any}
 use Rattle.std.proofs.lemmas.List.{reverse-append, take-append-drop, map-append}
 use Rattle.model.specs.Rooms.{IsAdmitted}

@@ -9,6 +9,7 @@ ghost use Rattle.policy.specs.Moves.{Move};
 ghost use Rattle.policy.specs.State.{conducts, tape_of};
 ghost use Rattle.gateway.specs.Setups.{setup_of, IsServable};
 ghost use Rattle.gateway.specs.Stands.{Stands};
+ghost use Rattle.gateway.specs.Rooms.{AreRooms};
 ghost use Rattle.worlds.specs.Worlds.{Handed, AddsRun, AddsFront, AddsFrontTo, AddsRefused, AddsRefusedTo, AreAllHanded, Hands, HandsTo, SaysEnd, ends, with_outputs, came, closes, has_closed, Serves, StandsSomewhere};
 ghost use Rattle.model.specs.Rooms.{IsAdmitted};
 ghost use Rattle.conduct.specs.Rule.{known_of};
@@ -59,8 +60,8 @@ fn apply_all<W: World>(world: &mut W, outputs: &[Output]) -> Result<(), WorldFau
     Ok(())
 }
 
-/// Takes an event of the world, and applies what is put out for it. The answer is whether the client was closed. The rooms are those
-/// behind it then.
+/// Takes an event of the world, and applies what is put out for it. The answer is whether the client was closed. The rooms, which were those
+/// before it, are those behind it then.
 fn take_event<W: World>(
     alloc: Global,
     gateway: &mut Gateway,
@@ -75,7 +76,7 @@ fn take_event<W: World>(
     ensures stands { OnOk result ((setup : Setup) → StandsSomewhere setup gateway.old → StandsSomewhere setup gateway.new) }
     ensures world { IsErrOf result ServeFault.World → W.failures world.old < W.failures world.new }
     ensures log { IfOk result (λ closed. (setup : Setup) (before added : List Step) (run : List Move) (old : Option (List Handed)) → W.log world.old ≡ Some (before ++ added ++ came event.now ∷ [])
-        → Stands setup gateway.old (reverse added) run → has_closed added ≡ false → AreAllHanded setup (length before) added old (W.handed world.old)
+        → Stands setup gateway.old (reverse added) run → has_closed added ≡ false → AreRooms (known_of setup (conducts run)) (tape_of run) rooms.old.items → AreAllHanded setup (length before) added old (W.handed world.old)
         → Serves setup closed (W.log world.new) gateway.new rooms.new.items old (W.handed world.new) before) }
     ensures front { IsErrOf result ServeFault.World → (setup : Setup) (before added : List Step) (run : List Move) → W.log world.old ≡ Some (before ++ added ++ came event.now ∷ [])
         → Stands setup gateway.old (reverse added) run → AddsFrontTo setup before (W.log world.new) }
@@ -91,7 +92,7 @@ fn take_event<W: World>(
     if gateway.step(event, &mut outputs).is_err() {
         return Err(ServeFault::Memory);
     }
-    if gateway.list_rooms(rooms).is_err() {
+    if gateway.update_rooms(event, &outputs, rooms).is_err() {
         return Err(ServeFault::Memory);
     }
     match apply_all(world, &outputs) {
@@ -150,8 +151,8 @@ fn closes_client(outputs: &[Output]) -> bool
 ///
 /// Of what that adds to a log that the world tells holds what `gateway::run` promises. `Closed` is answered just where the client was
 /// closed, `Turns` only after all turns, and `Over` only where the world said so; `World` only where a call of the world failed, and then
-/// what was added is a front of such a log, without the output that failed; `NotAdmitted` only where an event came that may not. So far
-/// bodies are passed on whole; the maxima are at most 1,073,741,824, and there are at most 4,294,967,295 routes.
+/// what was added is a front of such a log, without the output that failed; `NotAdmitted` only where an event came that may not. The
+/// maxima are at most 1,073,741,824, and there are at most 4,294,967,295 routes.
 pub fn serve<W: World>(
     alloc: Global,
     config: &Config,

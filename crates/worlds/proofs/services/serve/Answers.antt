@@ -1,7 +1,7 @@
 use Rattle.std.proofs.Common.{[], refl, ◌∙◌, arith}
 use Rattle.gateway.specs.Setups.{setup_of}
 use Rattle.worlds.specs.declared.services.Ended.TheVariants.{Turns}
-use Rattle.worlds.proofs.Adding.{serves_none, serves_run, same_fault, hands_none, hands_of}
+use Rattle.worlds.proofs.Adding.{serves_none, serves_run, same_fault, hands_of}
 use Rattle.worlds.proofs.services.serve.Goals as goal
 
 pub returns-in-Ok-Some-clause-run : goal.returns-in-Ok-Some-clause-run

@@ -20,13 +20,13 @@ pub returns-in-Ok-true-clause-log : goal.returns-in-Ok-true-clause-log
 returns-in-Ok-true-clause-log g c = λ setup before old s.
     let came_in = (rw c.in-Ok-Happened.field-0-is at c.in-Ok-Happened.ensures.log) (before ++ s.added) s.is in
     let hands = hands_one setup _ _ c.args.gateway.now c.args.rooms.now.items old _ _ before (rw c.deref.ensures.value at c.in-Ok-Happened.ensures.handed) s in
-    (rw c.in-Ok-true.field-0-test at c.in-Ok-true.ensures.log) setup before s.added s.run old came_in s.stands s.has_closed_is hands
+    (rw c.in-Ok-true.field-0-test at c.in-Ok-true.ensures.log) setup before s.added s.run old came_in s.stands s.has_closed_is s.rooms_are hands
 
 pub returns-in-Ok-false-clause-log : goal.returns-in-Ok-false-clause-log
 returns-in-Ok-false-clause-log g c = λ setup before old s.
     let came_in = (rw c.in-Ok-Happened.field-0-is at c.in-Ok-Happened.ensures.log) (before ++ s.added) s.is in
     let hands = hands_one setup _ _ c.args.gateway.now c.args.rooms.now.items old _ _ before (rw c.deref.ensures.value at c.in-Ok-Happened.ensures.handed) s in
-    (rw c.in-Ok-false.field-0-test at c.in-Ok-false.ensures.log) setup before s.added s.run old came_in s.stands s.has_closed_is hands
+    (rw c.in-Ok-false.field-0-test at c.in-Ok-false.ensures.log) setup before s.added s.run old came_in s.stands s.has_closed_is s.rooms_are hands
 
 pub returns-clause-front : goal.returns-clause-front
 returns-clause-front g c = λ e setup before old s.

@@ -1,5 +1,4 @@
-use Rattle.std.proofs.Common.{rules, ◌≡◌, [], ◌++◌, true, List, ℕ, ap, sym, ◌∙◌, subst, append_assoc, take, drop}
-use Rattle.std.proofs.lemmas.List.{take-append-drop}
+use Rattle.std.proofs.Common.{rules, ◌≡◌, [], ◌++◌, true, List, ℕ, ap, ◌∙◌, subst, append_assoc}
 use Rattle.steps.specs.declared.resting.Went.{Went}
 use Rattle.steps.specs.declared.resting.Went.TheVariants.{On, Over}
 use Rattle.steps.proofs.Results.{if_ok}

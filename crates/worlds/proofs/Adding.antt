@@ -18,7 +18,7 @@ use Rattle.gateway.proofs.Running.{promised_at}
 use Rattle.outputs.specs.declared.events.Event.{Event}
 use Rattle.outputs.specs.declared.events.Output.{Output}
 use Rattle.worlds.specs.declared.services.Ended.{Ended}
-use Rattle.worlds.specs.Worlds.{Handed, Serves, StandsSomewhere, AddsFrontTo, AddsHanded, IsHanded, AreHanded, AreAllHanded, HandsTo, MayNotCome, came, with_outputs, closes, has_closed, is_closed}
+use Rattle.worlds.specs.Worlds.{Handed, Serves, StandsSomewhere, AddsFrontTo, AddsUnansweredTo, AddsHanded, IsHanded, AreHanded, AreAllHanded, HandsTo, MayNotCome, came, with_outputs, closes, has_closed, is_closed}
 use Rattle.worlds.specs.Worlds.IsFrontOf.{Whole, Lacks}
 
 -- ---- whether the client is closed
@@ -155,6 +155,11 @@ pub may_not_come : (setup : Setup) (closed : Bool) (log : Option (List Step)) (g
     → (IsAdmitted (known_of setup (conducts s.run)) (tape_of s.run) (event_of event) → ⊥) → MayNotCome setup s.added (event_of event)
 may_not_come setup closed log g rooms old handed before event s refused =
     let promised = promised_at setup g s.added s.run s.stands in record { promise = promised.0; refused = λ may. refused (subst (λ t. IsAdmitted (known_of setup (conducts s.run)) t (event_of event)) promised.1 (subst (λ k. IsAdmitted k promised.0.tape (event_of event)) promised.2 may)) }
+
+-- Nothing is put out for the event that came last.
+pub unanswered : (setup : Setup) (closed : Bool) (log came_log log' : Option (List Step)) (g : Standing) (rooms : List (ℕ × ℕ)) (old handed : Option (List Handed)) (before : List Step) (event : Event) → log' ≡ came_log
+    → (s : Serves setup closed log g rooms old handed before) → came_log ≡ Some (before ++ s.added ++ came event ∷ []) → AddsUnansweredTo setup before log'
+unanswered setup closed log came_log log' g rooms old handed before event same s is = (s.added, event, same ∙ is, (promised_at setup g s.added s.run s.stands).0)
 
 -- ---- a call of `next`
 

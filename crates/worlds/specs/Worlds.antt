@@ -1,5 +1,5 @@
 -- What a world tells, and what serving it adds to that.
-use Rattle.std.specs.Prelude.{◌≡◌, ℕ, ◌+◌, Bool, true, false, Option, Some, None, List, [], ◌∷◌, ◌++◌, length, reverse, ⊤}
+use Rattle.std.specs.Prelude.{◌≡◌, ℕ, ◌+◌, Bool, true, false, Option, Some, None, List, [], ◌∷◌, ◌++◌, ◌⊎◌, length, reverse, ⊤}
 use Rattle.model.specs.Logs as logs
 use Rattle.model.specs.Logs.{Step}
 use Rattle.model.specs.Setup.{Setup}
@@ -107,6 +107,14 @@ AddsRefusedTo setup before new = (added : List Step) × (event : Event) × (new 
 
 abbrev pub AddsRefused : Setup → Option (List Step) → Option (List Step) → Type 0
 AddsRefused setup old new = (before : List Step) → old ≡ Some before → AddsRefusedTo setup before new
+
+-- What is promised holds of all that was added to this log but the event that came last, for which nothing is put out.
+abbrev pub AddsUnansweredTo : Setup → List Step → Option (List Step) → Type 0
+AddsUnansweredTo setup before new = (added : List Step) × (event : Event) × (new ≡ Some (before ++ added ++ came event ∷ [])) × Promise setup added
+
+-- Nothing was added, or that.
+abbrev pub AddsUnanswered : Setup → Option (List Step) → Option (List Step) → Type 0
+AddsUnanswered setup old new = (before : List Step) → old ≡ Some before → (new ≡ Some before) ⊎ AddsUnansweredTo setup before new
 
 -- ---- what was handed
 

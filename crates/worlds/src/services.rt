@@ -1,6 +1,6 @@
 //! A gateway before a world.
 
-ghost use Rattle.std.specs.Prelude.{◌≡◌, ◌+◌, ◌<◌, ◌^◌, ◌∷◌, ◌++◌, [], List, Option, Some, length, reverse, true, false, IsOkAnd, IsErrOf, OnOk, OnErr, IfOk, IfErr};
+ghost use Rattle.std.specs.Prelude.{◌≡◌, ◌+◌, ◌<◌, ◌≤◌, ◌^◌, ◌∷◌, ◌++◌, [], List, Option, Some, length, reverse, true, false, IsOkAnd, IsErrOf, OnOk, OnErr, IfOk, IfErr};
 ghost use Rattle.model.specs.Logs.{Step, Output as Put};
 ghost use Rattle.std.specs.List.{list_any};
 ghost use Rattle.model.specs.Setup.{Setup};
@@ -10,7 +10,7 @@ ghost use Rattle.policy.specs.State.{conducts, tape_of};
 ghost use Rattle.gateway.specs.Setups.{setup_of, IsServable};
 ghost use Rattle.gateway.specs.Stands.{Stands};
 ghost use Rattle.gateway.specs.Rooms.{AreRooms};
-ghost use Rattle.worlds.specs.Worlds.{Handed, AddsRun, AddsFront, AddsFrontTo, AddsRefused, AddsRefusedTo, AreAllHanded, Hands, HandsTo, SaysEnd, ends, with_outputs, came, closes, has_closed, Serves, StandsSomewhere};
+ghost use Rattle.worlds.specs.Worlds.{Handed, AddsRun, AddsFront, AddsFrontTo, AddsRefused, AddsRefusedTo, AddsUnanswered, AddsUnansweredTo, AreAllHanded, Hands, HandsTo, SaysEnd, ends, with_outputs, came, closes, has_closed, Serves, StandsSomewhere};
 ghost use Rattle.model.specs.Rooms.{IsAdmitted};
 ghost use Rattle.conduct.specs.Rule.{known_of};
 
@@ -82,6 +82,7 @@ fn take_event<W: World>(
         → Stands setup gateway.old (reverse added) run → AddsFrontTo setup before (W.log world.new) }
     ensures refused { IsErrOf result ServeFault.NotAdmitted → (W.log world.new ≡ W.log world.old)
         × ((setup : Setup) (log : List Step) (run : List Move) → Stands setup gateway.old log run → IsAdmitted (known_of setup (conducts run)) (tape_of run) (event_of event.now) → ⊥) }
+    ensures memory { IsErrOf result ServeFault.Memory → (W.log world.new ≡ W.log world.old) × (W.failures world.new ≡ W.failures world.old) }
     ensures adds { OnErr result ((before : List Step) → W.log world.old ≡ Some (before ++ came event.now ∷ []) → (outputs : List Put) × (W.log world.new ≡ Some (before ++ with_outputs (came event.now) outputs ∷ []))) }
     ensures handed { W.handed world.new ≡ W.handed world.old }
 {
@@ -122,6 +123,9 @@ fn take_turn<W: World>(
         → AddsFrontTo setup before (W.log world.new) }
     ensures refused { IsErrOf result ServeFault.NotAdmitted → (setup : Setup) (before : List Step) (old : Option (List Handed)) → Serves setup false (W.log world.old) gateway.old rooms.old.items old (W.handed world.old) before
         → AddsRefusedTo setup before (W.log world.new) }
+    ensures memory { IsErrOf result ServeFault.Memory → (W.failures world.new ≡ W.failures world.old)
+        × ((setup : Setup) (before : List Step) (old : Option (List Handed)) → Serves setup false (W.log world.old) gateway.old rooms.old.items old (W.handed world.old) before
+        → AddsUnansweredTo setup before (W.log world.new)) }
     ensures hands { OnErr result ((setup : Setup) (before : List Step) (old : Option (List Handed)) → Serves setup false (W.log world.old) gateway.old rooms.old.items old (W.handed world.old) before
         → HandsTo setup before old (W.log world.new) (W.handed world.new)) }
 {
@@ -151,8 +155,8 @@ fn closes_client(outputs: &[Output]) -> bool
 ///
 /// Of what that adds to a log that the world tells holds what `gateway::run` promises. `Closed` is answered just where the client was
 /// closed, `Turns` only after all turns, and `Over` only where the world said so; `World` only where a call of the world failed, and then
-/// what was added is a front of such a log, without the output that failed; `NotAdmitted` only where an event came that may not. The
-/// maxima are at most 1,073,741,824, and there are at most 4,294,967,295 routes.
+/// what was added is a front of such a log, without the output that failed; `NotAdmitted` only where an event came that may not; `Memory` puts out
+/// nothing for the event that came last, and all that was added before it is such a log. The maxima are at most 1,073,741,824, and there are at most 4,294,967,295 routes.
 pub fn serve<W: World>(
     alloc: Global,
     config: &Config,
@@ -166,6 +170,9 @@ pub fn serve<W: World>(
     ensures world { IsErrOf result ServeFault.World → W.failures world.old < W.failures world.new }
     ensures front { IsErrOf result ServeFault.World → AddsFront (setup_of config.now) (W.log world.old) (W.log world.new) }
     ensures refused { IsErrOf result ServeFault.NotAdmitted → AddsRefused (setup_of config.now) (W.log world.old) (W.log world.new) }
+    ensures memory { IsErrOf result ServeFault.Memory → (W.failures world.new ≡ W.failures world.old) × AddsUnanswered (setup_of config.now) (W.log world.old) (W.log world.new) }
+    ensures failures { OnOk result (W.failures world.new ≡ W.failures world.old) }
+    ensures calls { OnOk result (W.calls world.new ≤ W.calls world.old + turns) }
     // What `next` was handed is right, whatever the answer is.
     ensures hands { Hands (setup_of config.now) (W.log world.old) (W.handed world.old) (W.log world.new) (W.handed world.new) }
     ensures turns { IsOkAnd result (λ ended. ended ≡ Ended.Turns) → W.calls world.new ≡ W.calls world.old + turns }

@@ -1,4 +1,4 @@
-use Rattle.std.proofs.Common.{[], refl, ◌∙◌, arith}
+use Rattle.std.proofs.Common.{[], refl, ◌∙◌, arith, inr}
 use Rattle.gateway.specs.Setups.{setup_of}
 use Rattle.worlds.specs.declared.services.Ended.TheVariants.{Turns}
 use Rattle.worlds.proofs.Adding.{serves_none, serves_run, same_fault, hands_of}
@@ -44,3 +44,8 @@ returns-clause-run g c = λ before e. serves_run _ _ Turns _ c.loop-turn.gateway
 
 pub returns-clause-hands : goal.returns-clause-hands
 returns-clause-hands g c = λ before e. hands_of _ _ _ c.loop-turn.gateway c.loop-turn.rooms.items _ _ before (c.loop-turn.invariant.log before e)
+
+pub returns-in-Err-clause-memory : goal.returns-in-Err-clause-memory
+returns-in-Err-clause-memory g c = λ e.
+    let left = c.in-Err.ensures.memory (same_fault _ _ e) in
+    (left.0 ∙ c.loop-turn.invariant.failures, λ before h. inr (left.1 (setup_of c.args.config.now) before _ (c.loop-turn.invariant.log before h)))

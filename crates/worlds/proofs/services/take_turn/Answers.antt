@@ -1,5 +1,5 @@
 use Rattle.std.proofs.Common.{◌++◌, ◌∙◌, reverse}
-use Rattle.worlds.proofs.Adding.{front_whole, may_not_come, same_fault, serves_same, hands_one, hands_still, hands_step}
+use Rattle.worlds.proofs.Adding.{front_whole, may_not_come, same_fault, unanswered, serves_same, hands_one, hands_still, hands_step}
 use Rattle.worlds.proofs.services.take_turn.Goals as goal
 
 pub returns-in-Err-clause-front : goal.returns-in-Err-clause-front
@@ -49,3 +49,10 @@ returns-clause-hands g c = λ setup before old s.
     let hands = hands_one setup _ _ c.args.gateway.now c.args.rooms.now.items old _ _ before (rw c.deref.ensures.value at c.in-Ok-Happened.ensures.handed) s in
     let adds = c.in-Err-take_event.ensures.adds (before ++ s.added) came_in in
     hands_step setup before s.added _ old _ _ _ adds.1 c.take_event.ensures.handed hands
+
+pub returns-clause-memory : goal.returns-clause-memory
+returns-clause-memory g c = λ e.
+    let left = c.in-Err-take_event.ensures.memory (same_fault _ _ e) in (
+      left.1 ∙ c.in-Ok-Happened.ensures.failures,
+      λ setup before old s. unanswered setup _ _ _ _ c.args.gateway.now c.args.rooms.now.items old _ before _ left.0 s ((rw c.in-Ok-Happened.field-0-is at c.in-Ok-Happened.ensures.log) (before ++ s.added) s.is),
+    )

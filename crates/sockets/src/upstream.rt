@@ -72,10 +72,11 @@ impl Upstream {
         }
     }
 
-    /// Whether something may be read of it, for which there is so much room. That it failed needs none.
+    /// Whether something may be read of it, for which there is so much room: with none it isn't told either that it failed, since octets may still
+    /// be there before that.
     pub fn is_ready(&self, room: usize) -> bool {
         match &self.side {
-            Some(side) => side.is_readable() && (room > 0 || self.broken),
+            Some(side) => side.is_readable() && room > 0,
             None => true,
         }
     }

@@ -1,7 +1,8 @@
 //! Gateways to which a growth of memory is refused: `refusals FILE`.
 //!
-//! The file has a number, and scripts of `h2replay`, each behind an empty line. Each goes through two gateways at once, under either policy, and both put out
-//! the same at each event, until a growth is refused to one of them: that step says so and puts out nothing, and its gateway is closed from then on.
+//! The file has a line with a number and with how bodies are passed on, `whole` or `streaming`, and scripts of `h2replay`, each behind an empty line. Each goes
+//! through two gateways at once, under either policy, and both put out the same at each event, until a growth is refused to one of them: that step says so
+//! and puts out nothing, and its gateway is closed from then on.
 //!
 //! As many growths as the number says are made first. `.ci/refusals` has one growth refused, always that of the same number, and reaches each
 //! growth of a gateway by how many are made before it.
@@ -41,12 +42,24 @@ fn outcome(rt: &HostRuntime) -> io::Result<Met> {
         return Ok(Met::Difference);
     };
     let text = fs::read_to_string(rt, file)?;
-    let number = text.split("\n\n").next().unwrap_or("");
-    let Ok(count) = number.parse::<u32>() else {
+    let mut words = text.split("\n\n").next().unwrap_or("").split(' ');
+    let Ok(count) = words.next().unwrap_or("").parse::<u32>() else {
+        return Ok(Met::Difference);
+    };
+    let Some(passing) = passing_of(words.next().unwrap_or("")) else {
         return Ok(Met::Difference);
     };
     grow(rt.alloc(), count)?;
-    Ok(go_through(rt.alloc(), &text)?)
+    Ok(go_through(rt.alloc(), &text, passing)?)
+}
+
+/// How bodies are passed on, by its word.
+fn passing_of(word: &str) -> Option<Passing> {
+    match word {
+        "whole" => Some(Passing::Whole),
+        "streaming" => Some(Passing::Streaming),
+        _ => None,
+    }
 }
 
 /// Makes so many growths, one after another, and keeps nothing.
@@ -58,9 +71,9 @@ fn grow(alloc: Global, count: u32) -> Result<(), AllocError> {
 }
 
 /// What is met in the scripts of a file, up to the first in which it is something.
-fn go_through(alloc: Global, text: &str) -> Result<Met, AllocError> {
+fn go_through(alloc: Global, text: &str, passing: Passing) -> Result<Met, AllocError> {
     for script in text.split("\n\n").skip(1) {
-        let met = met_in(alloc, script)?;
+        let met = met_in(alloc, script, passing)?;
         if met != Met::Nothing {
             return Ok(met);
         }
@@ -69,21 +82,21 @@ fn go_through(alloc: Global, text: &str) -> Result<Met, AllocError> {
 }
 
 /// What is met in a script, under one policy and then under the other.
-fn met_in(alloc: Global, script: &str) -> Result<Met, AllocError> {
+fn met_in(alloc: Global, script: &str, passing: Passing) -> Result<Met, AllocError> {
     let events = match read_script(alloc, script) {
         Ok(events) => events,
         Err(ScriptFault::Memory) => return Err(AllocError),
         Err(ScriptFault::NotALine(_)) => return Ok(Met::Difference),
     };
-    let met = met_by(alloc, &config(alloc, Policy::Plain)?, &events);
+    let met = met_by(alloc, &config(alloc, Policy::Plain, passing)?, &events);
     if met != Met::Nothing {
         return Ok(met);
     }
-    Ok(met_by(alloc, &config(alloc, Policy::Indexing)?, &events))
+    Ok(met_by(alloc, &config(alloc, Policy::Indexing, passing)?, &events))
 }
 
-/// The default configuration, but for how blocks are written: all requests go to one upstream.
-fn config(alloc: Global, policy: Policy) -> Result<Config, AllocError>
+/// The default configuration, but for how blocks are written and bodies passed on: all requests go to one upstream.
+fn config(alloc: Global, policy: Policy, passing: Passing) -> Result<Config, AllocError>
     ensures { IfOk result (λ config. IsServable (setup_of config)) }
 {
     let route = Route {
@@ -94,7 +107,7 @@ fn config(alloc: Global, policy: Policy) -> Result<Config, AllocError>
     Ok(Config {
         routes: vec![in alloc; route]?,
         policy,
-        passing: Passing::Whole,
+        passing,
         max_body: 1048576,
         max_response: 1048576,
     })

@@ -91,13 +91,6 @@ fn rooms_are_brought_up_to_date(rt: HostRuntime) -> Result<(), Fail> {
     }
     gateway.update_rooms(&request, &out, &mut rooms)?;
     assert_eq!(rt; rooms.as_slice(), [(1, 65536)].as_slice());
-    let failure = Event::UpFailed(1);
-    let mut more = Vec::new(alloc);
-    if !gateway.admits(&failure) || gateway.step(&failure, &mut more).is_err() {
-        return Err("the failure was refused".into());
-    }
-    gateway.update_rooms(&failure, &more, &mut rooms)?;
-    assert!(rt; rooms.is_empty());
     Ok(())
 }
 

@@ -64,17 +64,17 @@ pub enum Fault {
 }
 
 /// How many octets of an open connection may come in one event: where its response is passed on as it comes, those of the body that
-/// wait for its stream take room.
-fn room_of(offers: &Offers, connection: &upstreams::Connection) -> usize
+/// wait for its stream take room. Its stream is looked for at `guess` first, which then is the place behind it.
+fn room_of(offers: &Offers, connection: &upstreams::Connection, guess: &mut usize) -> usize
     ensures { result ≡ room_for offers.now (Some connection.now) }
 {
     match connection.passing() {
         Passing::Whole(_) => ROOM,
-        Passing::Streaming => ROOM.saturating_sub(offers.held(connection.stream())),
+        Passing::Streaming => ROOM.saturating_sub(offers.held(connection.stream(), guess)),
     }
 }
 
-/// Lists connections behind others, each with its room.
+/// Lists connections behind others, each with its room: most are in the order of their streams.
 fn list_open(
     offers: &Offers,
     connections: &[upstreams::Connection],
@@ -82,8 +82,10 @@ fn list_open(
 ) -> Result<(), AllocError>
     ensures { OnOk result (rooms.new.items ≡ rooms.old.items ++ map (room_in offers.now) connections.now) }
 {
+    let mut guess = 0;
     for connection in connections {
-        rooms.push((connection.number(), room_of(offers, connection)))?;
+        let room = room_of(offers, connection, &mut guess);
+        rooms.push((connection.number(), room))?;
     }
     Ok(())
 }
@@ -255,7 +257,10 @@ impl Gateway {
         ensures { result ≡ room_on self.now.kept k }
     {
         match self.rooms.upstreams.find(k) {
-            Some(connection) => room_of(&self.rooms.offers, connection),
+            Some(connection) => {
+                let mut guess = 0;
+                room_of(&self.rooms.offers, connection, &mut guess)
+            }
             None => 0,
         }
     }

@@ -10,7 +10,7 @@ ghost use Rattle.offers.specs.Changes.{IsHeardFor, IsEndedFor, IsHeadGone, AreOc
 
 use crate::kept::Kept;
 use crate::offered::Offered;
-use crate::places::{place_of, remove_at};
+use crate::places::{place_near, place_of, remove_at};
 use crate::turns::next_of;
 use answers::{Answer, Ended, Heard};
 use causes::Cause;
@@ -188,12 +188,18 @@ impl Offers {
             None => false,
         }
     }
-    /// How many octets of a stream's body are on offer and weren't sent; none where it isn't active.
-    pub fn held(&self, id: u32) -> usize
+
+    /// How many octets of a stream's body are on offer and weren't sent; none where it isn't active. It is looked for at `guess` first, which
+    /// then is the place behind it: so streams that are asked for in the order of their ids are found at once. Whatever `guess` is, the
+    /// result is the same.
+    pub fn held(&self, id: u32, guess: &mut usize) -> usize
         ensures { result ≡ held_for id self.now.kept }
     {
-        match place_of(&self.kept, id) {
-            Some(place) => self.kept[place].held(),
+        match place_near(&self.kept, id, *guess) {
+            Some(place) => {
+                *guess = place + 1;
+                self.kept[place].held()
+            }
             None => 0,
         }
     }

@@ -15,6 +15,18 @@ pub fn place_of(kept: &[Kept], id: u32) -> Option<usize>
     kept.binary_search_by_key(&id, |stream| stream.id()).ok()
 }
 
+/// The same, where it is likely at `guess`: that place is looked at first.
+pub fn place_near(kept: &[Kept], id: u32, guess: usize) -> Option<usize>
+    requires { AreRising kept.now }
+    ensures found { IfSome result (IsAt kept.now id) }
+    ensures absent { IfNone result (find id kept.now ≡ None) }
+{
+    if guess < kept.len() && kept[guess].id() == id {
+        return Some(guess);
+    }
+    place_of(kept, id)
+}
+
 /// How many streams have an id that isn't above this one.
 pub fn count_upto(kept: &[Kept], last: u32) -> usize
     requires { AreRising kept.now }

@@ -1,5 +1,5 @@
 -- The code's values as the rule of what is on offer has them.
-use Rattle.std.specs.Prelude.{◌≡◌, ◌≤◌, Bool, true, false, drop, length}
+use Rattle.std.specs.Prelude.{◌≡◌, ◌≤◌, ◌-◌, Bool, true, false, drop, length}
 use Rattle.model.specs.ResponseHeads.{Head}
 use Rattle.offering.specs.Outbox.{Outbox, News}
 use Rattle.offering.specs.Outbox as rule
@@ -14,9 +14,9 @@ outbox_in (place.Before interims head body whole) = rule.Outbox.Before interims.
 outbox_in (place.Behind body sent whole) = rule.Outbox.Behind (drop sent body.items) whole
 outbox_in place.Over = rule.Outbox.Over
 
--- No more octets were sent than there are.
+-- No more octets were sent than there are, and, as long as more may come, not more than weren't.
 abbrev pub IsKept : Place → Type 0
-IsKept (place.Behind body sent whole) = sent ≤ length body.items
+IsKept (place.Behind body sent whole) = (sent ≤ length body.items) × (whole ≡ false → sent ≤ length body.items - sent)
 IsKept _ = Unit {0}
 
 -- the next part

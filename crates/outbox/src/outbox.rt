@@ -1,6 +1,6 @@
 //! The outbox of a stream.
 
-ghost use Rattle.std.specs.Prelude.{◌≡◌, ◌<◌, ◌≤◌, ◌&&◌, [], ◌∷◌, ◌++◌, true, false, None, Some, option_map, length, drop, MatchOption, IfNone, OnOk, OnErr};
+ghost use Rattle.std.specs.Prelude.{◌≡◌, ◌<◌, ◌≤◌, ◌-◌, ◌&&◌, [], ◌∷◌, ◌++◌, true, false, None, Some, option_map, length, drop, MatchOption, IfNone, OnOk, OnErr};
 ghost use Rattle.model.specs.Octets.{is_empty};
 ghost use Rattle.model.specs.ResponseHeads.{Head};
 ghost use Rattle.offering.specs.Outbox.{silent, grown, can_go, part_of, left, rest_of};
@@ -65,23 +65,42 @@ fn drop_front(body: &mut Vec<u8>, count: usize)
     body.truncate(body.len() - count);
 }
 
-/// The same behind those that were sent, which go once they are half of all: so at most twice as many stand there as wait.
+/// Octets that were sent go, if they are more than those behind them.
+fn cut_sent(body: &mut Vec<u8>, sent: &mut usize)
+    requires { sent.old ≤ length body.old.items }
+    ensures same { drop sent.new body.new.items ≡ drop sent.old body.old.items }
+    ensures fewer { sent.new ≤ length body.new.items - sent.new }
+    ensures kept { sent.new ≤ length body.new.items }
+{
+    if *sent > body.len() - *sent {
+        drop_front(body, *sent);
+        *sent = 0;
+    }
+}
+
+/// They do so as long as more may come: what is whole isn't moved any more.
+fn cut_unless_whole(body: &mut Vec<u8>, sent: &mut usize, whole: bool)
+    requires { sent.old ≤ length body.old.items }
+    ensures same { drop sent.new body.new.items ≡ drop sent.old body.old.items }
+    ensures fewer { whole ≡ false → sent.new ≤ length body.new.items - sent.new }
+    ensures kept { sent.new ≤ length body.new.items }
+{
+    if !whole {
+        cut_sent(body, sent);
+    }
+}
+
+/// The parts of a body behind one another, where some octets of the first were sent. An `Err` says that memory was refused; then nothing
+/// waits that didn't before.
 fn append_behind(body: &mut Vec<u8>, sent: &mut usize, more: Vec<u8>) -> Result<(), AllocError>
     requires { sent.old ≤ length body.old.items }
     ensures ok { OnOk result (drop sent.new body.new.items ≡ drop sent.old body.old.items ++ more.items) }
     ensures err { OnErr result (drop sent.new body.new.items ≡ drop sent.old body.old.items) }
+    ensures fewer { sent.new ≤ length body.new.items - sent.new }
     ensures kept { sent.new ≤ length body.new.items }
 {
-    if *sent == body.len() {
-        *body = more;
-        *sent = 0;
-        return Ok(());
-    }
-    if *sent >= body.len() - *sent {
-        drop_front(body, *sent);
-        *sent = 0;
-    }
-    body.extend_from_slice(&more)
+    cut_sent(body, sent);
+    append(body, more)
 }
 
 /// What is left behind a final head.
@@ -231,18 +250,21 @@ impl Outbox {
         }
     }
 
-    /// The octets that `next` answers for `most` were sent.
+    /// The octets that `next` answers for `most` were sent. Where a head is next, nothing changes.
     pub fn drop_octets(&mut self, most: usize)
-        ensures { (part : rule.Part) → part_of most self.old ≡ Some part → AreOctets part → self.new ≡ left self.old part }
+        ensures octets { (part : rule.Part) → part_of most self.old ≡ Some part → AreOctets part → self.new ≡ left self.old part }
+        ensures before { is_begun self.old ≡ false → self.new ≡ self.old }
     {
         if let Place::Behind(body, sent, whole) = &mut self.place {
             let rest = body.len() - *sent;
             if most < rest {
                 *sent += most;
+                cut_unless_whole(body, sent, *whole);
             } else if *whole {
                 self.place = Place::Over;
             } else {
-                *sent = body.len();
+                body.clear();
+                *sent = 0;
             }
         }
     }

@@ -1,5 +1,5 @@
 -- What is told of octets, and what goes on offer of it.
-use Rattle.std.proofs.Common.{◌≡◌, ℕ, ◌<◌, ◌≤◌, Bool, true, false, if◌then◌else◌, List, [], ◌++◌, length, Option, Some, None, refl, sym, ◌∙◌, ap, subst, append-nil}
+use Rattle.std.proofs.Common.{◌≡◌, ℕ, ◌<◌, ◌≤◌, true, false, if◌then◌else◌, List, [], ◌++◌, length, Option, Some, None, refl, sym, ◌∙◌, ap, subst, append-nil}
 use Rattle.model.specs.ResponseHeads.{Head, longest_section}
 use Rattle.model.specs.Setup.Passing.{Whole, Streaming}
 use Rattle.offering.specs.Outbox.{Outbox, News, first_head, grown}

@@ -1,12 +1,12 @@
 //! The answer of an upstream.
 
-ghost use Rattle.std.specs.Prelude.{◌≡◌, ◌+◌, ◌<◌, ◌≤◌, [], ◌++◌, ◌∷◌, true, false, None, Some, length, OnOk, OnErr, IfOk};
+ghost use Rattle.std.specs.Prelude.{◌≡◌, ◌+◌, ◌<◌, ◌≤◌, [], ◌++◌, ◌∷◌, true, false, None, Some, length, OnOk, IfOk};
 ghost use Rattle.offering.specs.Outbox.{grown};
 ghost use Rattle.h1_reader.specs.Standing.{is_end, is_done, Stands};
 ghost use Rattle.h1_reader.specs.Parts.Part.{Final, Body};
 ghost use Rattle.h1_reader.specs.Views.{part_of, parts_of};
 ghost use Rattle.h1_reader.specs.declared.reader.Place.TheVariants as place;
-ghost use Rattle.read_answers.specs.Telling.{interims_of, head_of, body_of};
+ghost use Rattle.read_answers.specs.Telling.{head_of, body_of};
 ghost use Rattle.answers.specs.Waiting.{passing_in, waiting, news_at_once, IsPast, IsWithin};
 ghost use Rattle.answers.specs.Hearing.{IsHeard, IsEnded};
 

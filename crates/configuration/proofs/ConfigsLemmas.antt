@@ -1,17 +1,16 @@
 -- What a table configures, once its keys are read.
-use Rattle.std.proofs.Common.{◌≡◌, ℕ, Bool, true, false, ◌&&◌, List, map, Option, Some, None, inl, inr, refl, sym, ◌∙◌, codes}
+use Rattle.std.proofs.Common.{◌≡◌, ℕ, Bool, true, false, ◌&&◌, List, map, Option, None, inl, inr, refl, sym, ◌∙◌, codes}
 use Rattle.std.specs.List.{list_all}
 use Rattle.toml.specs.Data.{Members, table, as_table}
 use Rattle.toml.specs.View.{view}
 use Rattle.toml.specs.declared.value.Value.{Value}
 use Rattle.gateway.specs.declared.config.Policy.{Policy}
 use Rattle.gateway.specs.declared.config.Passing.{Passing}
-use Rattle.gateway.specs.declared.config.Config.{Config}
 use Rattle.gateway.specs.declared.config.Route.{Route}
 use Rattle.configuration.specs.declared.faults.ConfigFault.{ConfigFault}
 use Rattle.configuration.specs.declared.faults.ConfigFault.TheVariants.{NotToml, Bad, UnknownKey, Memory}
 use Rattle.configuration.specs.Keys.{text_at, number_at, array_at, IsPolicy, IsPassing, IsMost, AreTables}
-use Rattle.configuration.specs.Configs.{table_keys, route_names, has_only, has_known, AreRoutes, AreRight, HasUnknownKey, IsNoConfig, IsConfig, Configures, ConfiguresNothing, table_names}
+use Rattle.configuration.specs.Configs.{table_keys, route_names, has_only, has_known, AreRoutes, AreRight, HasUnknownKey, IsNoConfig, ConfiguresNothing, table_names}
 use Rattle.configuration.specs.Steps.{AreNoRoutes, is_only}
 use Rattle.configuration.proofs.RoutesLemmas.{routes_are_right, known_routes}
 

@@ -1,6 +1,6 @@
 //! What stands at the keys of a table.
 
-ghost use Rattle.std.specs.Prelude.{◌≡◌, List, map, MatchOption, is_some, option_map, option_copied, codes, string_bytes};
+ghost use Rattle.std.specs.Prelude.{◌≡◌, List, map, MatchOption, is_some, option_map, option_copied, codes};
 ghost use Rattle.std.specs.List.{list_all};
 ghost use Rattle.toml.specs.Data.{Members, get_member, as_table, table as as_data};
 ghost use Rattle.toml.specs.View.{view, table_view};

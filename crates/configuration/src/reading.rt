@@ -22,8 +22,8 @@ use toml::{Table, Value};
 ///
 /// - `policy`, how header blocks are written: `"plain"`, the default, or `"indexing"`.
 /// - `passing`, how bodies are passed on: `"whole"`, the default, or `"streaming"`, as they come.
-/// - `max_body` and `max_response`, the most octets of a request's and a response's body: 0 to 1,073,741,824, and 1,048,576
-///   by default.
+/// - `max_body` and `max_response`, the most octets of a request's body, and of a response's where bodies are passed on whole: 0 to
+///   1,073,741,824, and 1,048,576 by default.
 /// - `route`, an array of at most 4,294,967,295 tables, none by default, each with
 ///   - `authority`, that of the requests: a text, empty by default, which is any authority;
 ///   - `prefix`, what their paths begin with: a text that begins with `/`;

@@ -17,12 +17,13 @@ use Rattle.policy.specs.Moves.{Move}
 use Rattle.policy.specs.State.{conducts}
 use Rattle.policy.specs.Rule.{RestsBehind}
 use Rattle.relay.specs.View.{View}
-use Rattle.holding.specs.Held.{IsSmall}
+use Rattle.holding.specs.Held.{IsSmall, held_in}
 use Rattle.holding.proofs.Holding.{little_kept}
 use Rattle.gateway.specs.declared.phase.Phase.{Phase}
 use Rattle.gateway.specs.declared.phase.Phase.TheVariants as phase
-use Rattle.gateway.specs.Stands.{Standing, Serves, Stands, StandsNext, IsOpen, IsReadIn, is_open}
+use Rattle.gateway.specs.Stands.{Standing, Stands, IsOpen, IsReadIn, is_open, is_dead}
 use Rattle.gateway.specs.Held.{IsHeldWithin}
+use Rattle.gateway.specs.Held.{held_in as held}
 
 -- ---- rooms in which nothing is kept
 
@@ -31,6 +32,12 @@ unfolding total_size
 none_small setup kept book offers upstreams table encoding =
     let block = ap (λ (b : Book). b.block) book in
     rw (offers, upstreams, table, encoding, block) (record { beside = omega arith; few_boxes = omega arith; few_requests = omega arith; few_connections = omega arith; each = λ stream. omega arith; all = omega arith })
+
+pub none_held : (setup : Setup) (kept : View) → book_of (record { given = []; untaken = 0 }) kept.inbound ≡ (first_desk setup).book → kept.offers ≡ offering.start → kept.upstreams ≡ nothing → kept.inbound.table ≡ first_table → kept.encoding ≡ first_encoding false → held_in kept ≡ 0
+unfolding total_size
+none_held setup kept book offers upstreams table encoding =
+    let block = ap (λ (b : Book). b.block) book in
+    rw (offers, upstreams, table, encoding, block) (omega arith)
 
 -- ---- the octets that aren't a whole frame
 
@@ -116,6 +123,17 @@ over_stands setup g h log run closed is stands =
       is_in = subst (λ p. Rattle.gateway.specs.Stands.IsIn p setup [] h.kept (client_in log) run) (sym closed) (subst (λ p. Rattle.gateway.specs.Stands.IsIn p setup g.partial g.kept (client_in log) run) closed stands.is_in);
     })
 
+-- of one that is closed, and that memory wasn't refused to, the phase is told
+pub over_is_closed : (p : Phase) → is_open p ≡ false → is_dead p ≡ false → p ≡ phase.Closed
+over_is_closed phase.New over alive = absurd (let no : true ≡ false = over in cc)
+over_is_closed phase.Preface over alive = absurd (let no : true ≡ false = over in cc)
+over_is_closed phase.Frames over alive = absurd (let no : true ≡ false = over in cc)
+over_is_closed phase.Closed over alive = refl
+over_is_closed phase.Dead over alive = absurd (let no : true ≡ false = alive in cc)
+
 -- where all was let go of
+pub none_in : (h : Standing) → h.partial ≡ [] → held_in h.kept ≡ 0 → held h ≡ 0
+none_in h is none = let no_partial : length h.partial ≡ 0 = ap length is in omega (arith, no_partial, none)
+
 pub empty_within : (setup : Setup) (h : Standing) → h.partial ≡ [] → IsSmall setup h.kept → IsHeldWithin setup h
 empty_within setup h is small = let none : length h.partial ≡ 0 = ap length is in within setup h (omega (arith, none)) small

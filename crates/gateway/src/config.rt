@@ -50,7 +50,7 @@ pub struct Config {
     pub passing: Passing,
     /// The most octets of a request's body, at most 1,073,741,824.
     pub max_body: u64,
-    /// The most octets of a response's body, at most 1,073,741,824.
+    /// The most octets of the body of a response that is passed on whole, at most 1,073,741,824.
     pub max_response: u64,
 }
 

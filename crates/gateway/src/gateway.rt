@@ -1,6 +1,6 @@
 //! The gateway: events in, outputs out.
 
-ghost use Rattle.std.specs.Prelude.{◌≡◌, ◌≤◌, ◌++◌, ◌||◌, [], List, ◌∷◌, map, Some, true, false, length, OnOk, OnErr, IfOk, IsErrOf, ◌↔◌};
+ghost use Rattle.std.specs.Prelude.{◌≡◌, ◌++◌, ◌||◌, [], List, ◌∷◌, map, Some, true, false, OnOk, OnErr, IfOk, IsErrOf, ◌↔◌};
 ghost use Rattle.std.specs.List.{list_any};
 ghost use Rattle.model.specs.Logs.{Step, Output as Put};
 ghost use Rattle.model.specs.Logs.Event.{Client};
@@ -18,12 +18,12 @@ ghost use Rattle.policy.specs.Moves.{Move};
 ghost use Rattle.policy.specs.State.{conducts, tape_of};
 ghost use Rattle.relay.specs.View.{square};
 ghost use Rattle.relay.specs.Rest.{Reached};
-ghost use Rattle.steps.specs.Resting.{IsSettled, IsServed};
-ghost use Rattle.holding.specs.Held.{IsSmall};
-ghost use Rattle.gateway.specs.Held.{IsHeldWithin};
+ghost use Rattle.steps.specs.Resting.{IsSettled};
+ghost use Rattle.holding.specs.Held.{IsSmall, held_in as held_in_rooms};
+ghost use Rattle.gateway.specs.Held.{IsHeldWithin, held_in};
 ghost use Rattle.gateway.specs.Rooms.{TellsRoom, AreRooms, room_in, rooms_in, turns, fails};
 ghost use Rattle.gateway.specs.Setups.{setup_of, IsServable};
-ghost use Rattle.gateway.specs.Stands.{Serves, Stands, StandsNext, pending_in, admits, room_of, is_dead, is_open};
+ghost use Rattle.gateway.specs.Stands.{Serves, Stands, StandsNext, admits, room_of, is_dead, is_open};
 ghost use Rattle.gateway.specs.Receiving.{Receives, ReadsOn, Happens, Greets, KeepsTerms, IsSettledIf, is_begun};
 
 use crate::config::Config;
@@ -121,7 +121,8 @@ fn changes_connections(event: &Event, outputs: &[Output]) -> bool
 
 /// Rooms in which nothing is kept.
 fn no_rooms(alloc: Global) -> Rooms
-    ensures { (setup : Setup) → IsSmall setup result }
+    ensures small { (setup : Setup) → IsSmall setup result }
+    ensures nothing { held_in_rooms result ≡ 0 }
 {
     Rooms {
         inbound: Connection::new(alloc),
@@ -316,6 +317,8 @@ impl Gateway {
         ensures closed { IsErrOf result Fault.Closed ↔ (is_dead self.old.phase ≡ true) }
         // What it holds of octets behind a step, answered or refused, stays below its bound, and what it holds for each stream below a part of that.
         ensures held { (setup : Setup) (log : List Step) (run : List Move) → Stands setup self.old log run → IsHeldWithin setup self.new }
+        // Once it is closed, or memory was refused, it holds none.
+        ensures lets_go { is_dead self.old.phase ≡ false → is_open self.new.phase ≡ false → held_in self.new ≡ 0 }
         ensures stays { is_dead self.old.phase ≡ true → self.new ≡ self.old }
     {
         if matches!(self.phase, Phase::Dead) {
@@ -338,6 +341,7 @@ impl Gateway {
     fn let_go(&mut self)
         ensures stays { self.new ≡ record self.old { partial = []; kept = self.new.kept } }
         ensures small { (setup : Setup) → IsSmall setup self.new.kept }
+        ensures nothing { held_in_rooms self.new.kept ≡ 0 }
     {
         self.partial = Vec::new(self.alloc);
         self.rooms = no_rooms(self.alloc);
@@ -348,6 +352,7 @@ impl Gateway {
         ensures phase { self.new.phase ≡ self.old.phase }
         ensures stands { (setup : Setup) (log : List Step) (run : List Move) → Stands setup self.old log run → Stands setup self.new log run }
         ensures held { (setup : Setup) (step : Step) (log : List Step) (run : List Move) → Stands setup self.old (step ∷ log) run → IsHeldWithin setup self.new }
+        ensures nothing { is_open self.old.phase ≡ false → is_dead self.old.phase ≡ false → held_in self.new ≡ 0 }
     {
         if matches!(self.phase, Phase::Closed) {
             self.let_go();

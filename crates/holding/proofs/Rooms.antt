@@ -34,7 +34,7 @@ use Rattle.receiving.specs.Rooms.{HoldsBody}
 use Rattle.receiving.proofs.Holding.{holds_body}
 use Rattle.serving.specs.Rule.{is_done}
 use Rattle.serving.specs.State as serving
-use Rattle.serving.specs.State.{Live, find, live_of}
+use Rattle.serving.specs.State.{find, live_of}
 use Rattle.serving.specs.Told.{IsTold}
 use Rattle.serving.proofs.Clauses.{all_stand}
 use Rattle.serving.proofs.Standing.{Stands}

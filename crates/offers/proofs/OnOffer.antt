@@ -1,6 +1,6 @@
 -- What is told of the streams with something on offer, and that they alone can have the next turn.
-use Rattle.std.proofs.Common.{◌≡◌, ℕ, zero, suc, ◌+◌, ◌<◌, ◌^◌, ◌==◌, ◌&&◌, not, cond, if◌then◌else◌, Bool, true, false, List, [], ◌∷◌, ◌++◌, length, get_or, take, drop, set, map, filter, refl, sym, ap, ◌∙◌, subst, inl, inr, arith}
-use Rattle.std.specs.Prelude.{Option, Some, None, remove}
+use Rattle.std.proofs.Common.{◌≡◌, ℕ, ◌+◌, ◌<◌, ◌^◌, ◌&&◌, not, cond, if◌then◌else◌, Bool, true, false, List, [], ◌∷◌, ◌++◌, length, get_or, take, drop, set, map, filter, refl, sym, ap, ◌∙◌, subst, inl, inr, arith}
+use Rattle.std.specs.Prelude.{Some, None, remove}
 use Rattle.std.specs.List.{count_by, AllByRecursion}
 use Rattle.std.proofs.lemmas.Bool.{cases_lt, cases_eq}
 use Rattle.std.proofs.lemmas.List.{length-set, length-append, length-take, length-drop, take-append-drop, get_or_default, get_or-take, get_or-drop, get_or-set_same, get_or-set_other, get_or_append_left, get_or_push, append-nil}
@@ -9,9 +9,9 @@ use Rattle.std.proofs.lemmas.List.Elements.{recursion_from_All, All-from_recursi
 use Rattle.std.proofs.lemmas.List.Sums.{sum_by-set, sum_by-remove, sum_by_push, get_or-le-sum_by, count_by-le-length}
 use Rattle.offering.specs.Outbox.{Outbox, can_go}
 use Rattle.offering.specs.Outbox.Outbox.{Before, Behind, Over}
-use Rattle.offering.specs.State.{Kept, State, Windows, blank, find, is_ready, is_ready_if, can_turn, are_open, ready}
+use Rattle.offering.specs.State.{Kept, Windows, blank, find, is_ready, is_ready_if, are_open, ready}
 use Rattle.offers.specs.declared.offered.Offered.{Offered}
-use Rattle.offers.specs.Places.{at, AreRising, IsAt, IsSplit, IsSplitBelow, is_offered, IsAmong, AreTold, IsToldBehind, AreAllOffered}
+use Rattle.offers.specs.Places.{at, AreRising, IsSplit, IsSplitBelow, is_offered, IsAmong, AreTold, IsToldBehind, AreAllOffered}
 use Rattle.offers.proofs.Rising.{find_at}
 use Rattle.offers.proofs.Readying.{rising_upto, rising_from}
 

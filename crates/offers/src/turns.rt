@@ -1,10 +1,10 @@
 //! Whose turn is next.
 
-ghost use Rattle.std.specs.Prelude.{◌≡◌, option_map};
+ghost use Rattle.std.specs.Prelude.{◌≡◌};
 ghost use Rattle.conduct.specs.Judging.{window_in};
 ghost use Rattle.conduct.specs.Rows.{find as kept_of};
 ghost use Rattle.model.specs.Turns.{IsNextTurn};
-ghost use Rattle.offering.specs.State.{Kept as Stream, are_open, is_ready, ready};
+ghost use Rattle.offering.specs.State.{are_open, is_ready, ready};
 ghost use Rattle.offers.specs.Places.{AreRising};
 ghost use Rattle.offers.specs.Asked.{windows_over, first_ready};
 

@@ -1,7 +1,7 @@
 -- The code's values as the rule of what is on offer has them.
 use Rattle.std.specs.Prelude.{◌≡◌, ◌≤◌, ◌-◌, Bool, true, false, drop, length}
 use Rattle.model.specs.ResponseHeads.{Head}
-use Rattle.offering.specs.Outbox.{Outbox, News}
+use Rattle.offering.specs.Outbox.{Outbox}
 use Rattle.offering.specs.Outbox as rule
 use Rattle.outbox.specs.declared.outbox.Place.{Place}
 use Rattle.outbox.specs.declared.outbox.Place.TheVariants as place

@@ -1,5 +1,5 @@
 -- What frames gain, by the answers of the judgement.
-use Rattle.std.proofs.Common.{◌≡◌, ℕ, ◌<◌, ◌≤◌, ◌%◌, ◌⊎◌, Bool, true, false, not, ◌&&◌, ◌||◌, ◌==◌, nat_lt, if◌then◌else◌, List, [], ◌∷◌, ◌++◌, length, Option, Some, None, refl, sym, ◌∙◌, ap, subst, inl, inr, arith}
+use Rattle.std.proofs.Common.{◌≡◌, ℕ, ◌<◌, ◌≤◌, ◌%◌, Bool, true, false, not, ◌&&◌, ◌||◌, ◌==◌, nat_lt, if◌then◌else◌, List, [], ◌∷◌, ◌++◌, length, Option, Some, None, refl, sym, ◌∙◌, ap, inl, inr, arith}
 use Rattle.std.proofs.lemmas.Bool.{eq-eqb, eqb-true, eqb-false, and_parts, ltb-true, lt-ltb}
 use Rattle.std.specs.Prelude.{is_some}
 use Rattle.std.specs.List.{list_any, list_all}
@@ -30,8 +30,7 @@ use Rattle.conduct.specs.Rows.{Row, ids_of, find}
 use Rattle.conduct.specs.Quiet.{noted_of}
 use Rattle.conduct.specs.Book.{Book, summary_in}
 use Rattle.conduct.proofs.Rows.{find_none}
-use Rattle.conduct.proofs.Wanted.{bears}
-use Rattle.policy.specs.Rule.{added_in, Adds, AddsHead}
+use Rattle.policy.specs.Rule.{added_in, Adds}
 use Rattle.causes.specs.Views.{cause_of}
 use Rattle.judgement.specs.Judgement.{IsPlain, IsTaken}
 use Rattle.judgement.specs.Blocks.{SaysOf}

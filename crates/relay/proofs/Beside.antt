@@ -1,8 +1,7 @@
 -- An entry about a stream leaves what is told of all others, and so what is on offer for them and what is held of their requests.
-use Rattle.std.proofs.Common.{◌≡◌, ℕ, Bool, true, false, not, ◌&&◌, ◌||◌, ◌==◌, if◌then◌else◌, List, [], ◌∷◌, ◌++◌, map, filter, Option, Some, None, refl, sym, ◌∙◌, ap, subst, inl, inr}
-use Rattle.std.proofs.lemmas.Bool.{eqb-true, eq-eqb, cases_Bool}
-use Rattle.std.proofs.lemmas.Bool.Decides.{eqb_tells}
-use Rattle.std.specs.Prelude.{is_none, is_some}
+use Rattle.std.proofs.Common.{◌≡◌, ℕ, Bool, true, false, not, ◌&&◌, ◌||◌, ◌==◌, if◌then◌else◌, List, [], ◌∷◌, map, Option, Some, None, refl, sym, ◌∙◌, ap}
+use Rattle.std.proofs.lemmas.Bool.{eqb-true}
+use Rattle.std.specs.Prelude.{is_none}
 use Rattle.std.specs.List.{list_any}
 use Rattle.model.specs.Setup.{Setup}
 use Rattle.model.specs.Tapes.{Noted, Entry}
@@ -15,7 +14,7 @@ use Rattle.model.specs.ErrorClause.{is_fatal}
 use Rattle.conduct.specs.Summary.{Stream as Kept, Brief, Summary}
 use Rattle.conduct.specs.Judging.{is_over_in, is_active_in, completed_in, rows_in, fault_for}
 use Rattle.conduct.specs.Owing.{fault_in}
-use Rattle.conduct.specs.Rows.{Row, ids_of, find, kept_in, row_behind, row_opened, rows_after}
+use Rattle.conduct.specs.Rows.{Row, ids_of, find, kept_in, row_behind, row_opened}
 use Rattle.conduct.specs.Book.{Book, summary_in, book_after}
 use Rattle.conduct.specs.Tidy.{IsRow, AreKept}
 use Rattle.conduct.proofs.Elsewhere.{row_stays}

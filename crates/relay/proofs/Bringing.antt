@@ -1,5 +1,5 @@
 -- Parts of a step with which nothing comes in, one behind another, and behind one with which something does.
-use Rattle.std.proofs.Common.{◌≡◌, List, [], ◌∷◌, ◌++◌, refl, sym, ◌∙◌, ap, subst, append_assoc}
+use Rattle.std.proofs.Common.{List, [], ◌∷◌, ◌++◌, refl, sym, ◌∙◌, ap, subst, append_assoc}
 use Rattle.model.specs.Logs.{Output}
 use Rattle.model.specs.Setup.{Setup}
 use Rattle.model.specs.Tapes.{Entry}
@@ -9,7 +9,7 @@ use Rattle.policy.specs.State.{State, tape_of}
 use Rattle.policy.proofs.Stepping.{leads_then}
 use Rattle.relay.specs.View.{View, Pending, Leads}
 use Rattle.relay.specs.Performing.{put_all, Segment, Performs}
-use Rattle.relay.specs.Bringing.{AreOwn, OwnSegment, Course, PerformsOwn, Brings}
+use Rattle.relay.specs.Bringing.{AreOwn, PerformsOwn, Brings}
 use Rattle.relay.proofs.Performing.{tape_behind, put_behind}
 
 -- what is the gateway's own, behind what is

@@ -1,15 +1,13 @@
 -- A frame of the client is taken that is no error of the connection: where that leads, by what is kept.
-use Rattle.std.proofs.Common.{◌≡◌, ℕ, ◌+◌, Bool, true, false, not, ◌&&◌, ◌||◌, ◌==◌, List, [], ◌∷◌, ◌++◌, map, Option, Some, None, refl, sym, ◌∙◌, ap, subst, inl, inr, if◌then◌else◌, arith}
-use Rattle.std.proofs.lemmas.Bool.{and_parts, and_from, or_parts, eqb-true, eq-eqb, cases_Bool}
-use Rattle.std.proofs.lemmas.Bool.Decides.{eqb_tells}
-use Rattle.std.specs.List.{list_any}
+use Rattle.std.proofs.Common.{◌≡◌, ℕ, ◌+◌, Bool, true, false, not, ◌&&◌, ◌||◌, ◌==◌, List, [], ◌∷◌, map, Some, refl, sym, ◌∙◌, ap, subst, if◌then◌else◌, arith}
+use Rattle.std.proofs.lemmas.Bool.{and_parts, and_from, or_parts, eqb-true}
 use Rattle.model.specs.Frames.{Frame}
 use Rattle.model.specs.Logs.{Output}
 use Rattle.model.specs.Setup.{Setup}
 use Rattle.model.specs.Tables.{Table}
-use Rattle.model.specs.Tapes.{Note, Noted, Entry}
+use Rattle.model.specs.Tapes.{Noted, Entry}
 use Rattle.model.specs.Tapes.Entry.{Came}
-use Rattle.model.specs.Decoding.{Partial, is_read}
+use Rattle.model.specs.Decoding.{is_read}
 use Rattle.model.specs.Lifetimes.{opens_by}
 use Rattle.model.specs.ErrorClause.{is_fatal}
 use Rattle.model.specs.WindowsOnTape.{is_any, data_length}
@@ -18,8 +16,7 @@ use Rattle.conduct.specs.Summary.{Stream as Kept, Summary}
 use Rattle.conduct.specs.Judging.{is_over_in, completed_in, fault_for}
 use Rattle.conduct.specs.Owing.{fault_in, owes_in}
 use Rattle.conduct.specs.After.{kept_behind, ended_by_client_after}
-use Rattle.conduct.specs.Rows.{Row, ids_of, slot_of, kept_in, row_behind, rows_after, find}
-use Rattle.conduct.specs.Rows.Slot.{Live, Over}
+use Rattle.conduct.specs.Rows.{Row, ids_of, slot_of, kept_in, row_behind, find}
 use Rattle.conduct.specs.Rows as rows
 use Rattle.conduct.specs.Book.{Book, summary_in, book_after}
 use Rattle.conduct.specs.Tidy.{AreKept}
@@ -50,11 +47,11 @@ use Rattle.policy.specs.State.{State}
 use Rattle.policy.specs.Rule.{rooms_in}
 use Rattle.policy.specs.Coming.{IsReady}
 use Rattle.policy.specs.Steps as policy
-use Rattle.policy.specs.Steps.{Stands, told_by, told_behind, next, MayGoOn}
+use Rattle.policy.specs.Steps.{Stands, told_by, next, MayGoOn}
 use Rattle.policy.proofs.Stepping.{one_more}
 use Rattle.relay.specs.Others.{SameOf}
 use Rattle.relay.specs.Taking.{IsFrameTaken}
-use Rattle.relay.specs.View.{View, Pending, square, GoBack, IsCredited, Keeps, AreMarked, AreSo, AreHeard, IsInEffect, Leads}
+use Rattle.relay.specs.View.{View, Pending, square, GoBack, AreMarked, AreSo, AreHeard, IsInEffect, Leads}
 use Rattle.relay.specs.Bringing.{Course}
 use Rattle.relay.proofs.Beside.{others_stay, served_stays}
 use Rattle.relay.proofs.Kept.{held_behind, AreServed}

@@ -3,7 +3,6 @@ use Rattle.std.proofs.Common.{◌≡◌, ◌≢◌, ℕ, zero, suc, ◌<◌, tru
 use Rattle.std.proofs.lemmas.Bool.Decides.{eqb_tells}
 use Rattle.model.specs.Setup.{Setup}
 use Rattle.model.specs.Tapes.{Entry}
-use Rattle.model.specs.Known.{Known}
 use Rattle.model.specs.Openings.{Opened, opens, connection_of, AreNumbered, AreApart}
 use Rattle.model.specs.Available.{IsIn}
 use Rattle.model.proofs.DeliveryReadings.{one_number, one_connection}

@@ -1,15 +1,14 @@
 -- What a frame adds to its stream's request, by the frame's fault, by what it is answered with, and by how far the request is.
-use Rattle.std.proofs.Common.{◌≡◌, ℕ, ◌≤◌, ◌⊎◌, Bool, true, false, not, ◌&&◌, ◌||◌, ◌==◌, nat_lt, if◌then◌else◌, List, [], ◌∷◌, length, Option, Some, None, refl, sym, ◌∙◌, ap, subst, inl, inr}
-use Rattle.std.proofs.lemmas.Bool.{eq-eqb, or_right}
-use Rattle.std.specs.Prelude.{is_some}
+use Rattle.std.proofs.Common.{◌≡◌, ℕ, ◌≤◌, ◌⊎◌, Bool, true, false, ◌&&◌, ◌||◌, ◌==◌, if◌then◌else◌, List, [], length, Option, Some, None, refl, sym, ◌∙◌, ap, inl, inr}
+use Rattle.std.proofs.lemmas.Bool.{or_right}
 use Rattle.model.specs.Messages.{Item}
-use Rattle.model.specs.Frames.{Frame, data_kind, headers_kind, rst_stream_kind, protocol_error, stream_closed}
+use Rattle.model.specs.Frames.{data_kind, headers_kind, rst_stream_kind, protocol_error, stream_closed}
 use Rattle.model.specs.Setup.{Setup}
 use Rattle.model.specs.Tapes.{Noted}
 use Rattle.model.specs.Tapes.Entry.{Came}
 use Rattle.model.specs.Decoding.{Partial}
-use Rattle.model.specs.StreamStates.{StreamState, Standing, Verdict, opened_verdict, verdict, is_content, most_streams, standing}
-use Rattle.model.specs.StreamStates.StreamState.{Open, HalfClosedRemote, HalfClosedLocal, Closed, ResetByUs, ResetByPeer}
+use Rattle.model.specs.StreamStates.{StreamState, Standing, Verdict, opened_verdict, verdict, is_content, most_streams}
+use Rattle.model.specs.StreamStates.StreamState.{ResetByUs, ResetByPeer}
 use Rattle.model.specs.StreamStates.Standing.{WholeConnection, Opened, Idle, ServerIdle, Skipped, Beyond}
 use Rattle.model.specs.Lifetimes.{state_by_ends, may_open}
 use Rattle.model.specs.Errors.{Fault, first_of, or_else}
@@ -19,8 +18,8 @@ use Rattle.model.specs.ErrorTable.{fault_of, judged, grants}
 use Rattle.model.specs.Streams.{frame_items}
 use Rattle.model.specs.Causes.{Cause}
 use Rattle.model.specs.Courses.{interrupts}
-use Rattle.conduct.specs.Summary.{Stream as Kept, Summary}
-use Rattle.conduct.specs.Judging.{state_in, completed_in, rows_in, malformed_in, misplaced_in, fault_for, fault_by_standing_in, fault_on_in, standing_in, active_in}
+use Rattle.conduct.specs.Summary.{Summary}
+use Rattle.conduct.specs.Judging.{completed_in, rows_in, malformed_in, misplaced_in, fault_by_standing_in, fault_on_in, standing_in, active_in}
 use Rattle.conduct.specs.Owing.{fault_in, new_cause_in}
 use Rattle.conduct.proofs.Wanted.{bears, Tells, standing_tells}
 use Rattle.conduct.proofs.Seen.{none_at}

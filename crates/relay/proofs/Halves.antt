@@ -1,11 +1,10 @@
 -- Where nothing is owed, the gateway hasn't ended a stream that is active: a response that ends before its request calls for a reset.
-use Rattle.std.proofs.Common.{◌≡◌, ℕ, Bool, true, false, not, ◌&&◌, ◌||◌, ◌==◌, if◌then◌else◌, List, [], ◌∷◌, ◌++◌, Option, None, refl, sym, ◌∙◌, ap, subst, inl, inr}
+use Rattle.std.proofs.Common.{◌≡◌, ℕ, Bool, true, false, not, ◌&&◌, ◌||◌, ◌==◌, if◌then◌else◌, List, [], ◌∷◌, ◌++◌, Option, refl, sym, ◌∙◌, ap, subst, inl, inr}
 use Rattle.std.specs.List.{list_any}
-use Rattle.std.proofs.lemmas.Bool.{or_parts, and_parts, or_left, or_right, eqb-true, cases_Bool}
+use Rattle.std.proofs.lemmas.Bool.{or_parts, and_parts, or_left, or_right, eqb-true}
 use Rattle.std.proofs.lemmas.List.Folds.{list_any-append}
 use Rattle.model.specs.Frames.{Frame, data_kind, headers_kind, window_update_kind, continuation_kind, ends_stream, no_error}
 use Rattle.model.specs.Setup.{Setup}
-use Rattle.model.specs.Logs.Act.{Open, ToUp, Close, CloseClient}
 use Rattle.model.specs.Tapes.{Noted, Entry}
 use Rattle.model.specs.Tapes.Entry.{Came, Breached, Happened, Sent, Did}
 use Rattle.model.specs.Decoding.{Partial}
@@ -15,17 +14,17 @@ use Rattle.conduct.specs.Summary.{Stream as Kept, Summary}
 use Rattle.conduct.specs.Judging.{is_over_in, completed_in, fault_for}
 use Rattle.conduct.specs.Owing.{fault_in, owed_first_in, resets_in, reset_behind_in, owes_in}
 use Rattle.conduct.specs.After.{resets_it, kept_behind}
-use Rattle.conduct.specs.Rows.{Row, find}
+use Rattle.conduct.specs.Rows.{find}
 use Rattle.conduct.specs.Rule.{Move}
 use Rattle.conduct.specs.Turn.{rest_of, IsDue}
-use Rattle.conduct.specs.Book.{Book, Desk, as_point, desk_of, desk_after, summary_in, MayMove, AllMoved}
+use Rattle.conduct.specs.Book.{Desk, desk_of, desk_after, summary_in, MayMove, AllMoved}
 use Rattle.conduct.proofs.Rows.{over_stays}
 use Rattle.conduct.proofs.Turns.{completes_none}
 use Rattle.policy.specs.Moves.{Move as Does}
 use Rattle.policy.specs.State.{State, conducts}
 use Rattle.policy.specs.Steps.{Stands}
 use Rattle.policy.proofs.Telling.{all_moved}
-use Rattle.relay.proofs.Waits.{IsGone, behind_rows}
+use Rattle.relay.proofs.Waits.{behind_rows}
 
 -- Of each active stream that the gateway ended a reset is owed.
 abbrev AreOwed : Desk → Type 0

@@ -1,5 +1,5 @@
 -- Where no final head is out, the gateway's reply takes the place of what is on offer, and no reset is owed.
-use Rattle.std.proofs.Common.{◌≡◌, ℕ, Bool, true, false, List, [], ◌∷◌, Option, Some, None, refl, sym, ◌∙◌, ap, subst, inl, inr}
+use Rattle.std.proofs.Common.{◌≡◌, ℕ, true, false, List, [], ◌∷◌, Some, None, refl, sym, ◌∙◌, ap, subst, inl, inr}
 use Rattle.std.specs.Prelude.{is_some}
 use Rattle.model.specs.Messages.{Field, Item}
 use Rattle.model.specs.Http2.{HasHead}

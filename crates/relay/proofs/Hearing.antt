@@ -1,5 +1,5 @@
 -- What an answer makes of an upstream's octets, and of the end of its connection, is so: the news, whether the response is whole, whether it failed.
-use Rattle.std.proofs.Common.{◌≡◌, ℕ, ◌<◌, ◌≤◌, ◌⊎◌, Bool, true, false, ◌||◌, ◌==◌, if◌then◌else◌, List, [], ◌∷◌, ◌++◌, append-nil, length, Option, Some, None, refl, sym, ◌∙◌, ap, subst, inl, inr}
+use Rattle.std.proofs.Common.{◌≡◌, ℕ, ◌<◌, ◌≤◌, ◌⊎◌, Bool, true, false, ◌||◌, if◌then◌else◌, List, [], ◌∷◌, ◌++◌, append-nil, length, Some, refl, sym, ◌∙◌, ap, subst, inl, inr}
 use Rattle.std.proofs.lemmas.Bool.{eq-eqb}
 use Rattle.std.proofs.lemmas.List.Folds.{list_any-append}
 use Rattle.model.specs.Messages.{Item}
@@ -10,13 +10,13 @@ use Rattle.model.specs.Setup.{Passing}
 use Rattle.model.specs.Setup.Passing.{Whole}
 use Rattle.model.specs.Tapes.{Entry}
 use Rattle.model.specs.Tapes.Entry.{Happened}
-use Rattle.model.specs.Openings.{Opened, opens, given, exchange_on, AreNumbered, AreApart}
+use Rattle.model.specs.Openings.{Opened, opens, given, AreNumbered, AreApart}
 use Rattle.model.specs.Available.{heard, has_ended, IsIn}
 use Rattle.model.specs.Known.{Known}
 use Rattle.model.specs.Courses.{course, carried, items, interrupts, new_cause}
 use Rattle.model.specs.ErrorTable.{fault_with}
 use Rattle.model.specs.Responses.{IsComplete}
-use Rattle.model.specs.Failures.{is_asked_for_head, IsJudged}
+use Rattle.model.specs.Failures.{IsJudged}
 use Rattle.model.specs.Offers.{is_to_head, IsGiven}
 use Rattle.model.proofs.DeliveryReadings.{one_connection, one_number}
 use Rattle.model.proofs.GivenLaws.{given_is}
@@ -24,11 +24,9 @@ use Rattle.h1_reader.specs.Parts.{Part}
 use Rattle.h1_reader.specs.Standing.{Stands, Hears, Breaks, IsEnd, is_end, is_done}
 use Rattle.h1_reader.specs.declared.reader.Ended.TheVariants.{Complete, Short}
 use Rattle.h1_reader.proofs.Telling.{done, not_done}
-use Rattle.offering.specs.Outbox.{News}
 use Rattle.offering.specs.Shown.{Tells}
 use Rattle.offering.specs.Rule as offers
 use Rattle.offering.specs.State.Move.{Hears as Brings}
-use Rattle.serving.specs.Meaning.{Verdict}
 use Rattle.read_answers.specs.Telling.{body_of, news_of, news_at_end}
 use Rattle.read_answers.proofs.Reading.{hears_news}
 use Rattle.read_answers.proofs.Ending.{ends_news}
@@ -38,7 +36,7 @@ use Rattle.answers.specs.Hearing.{IsTooLong}
 use Rattle.answers.specs.declared.answer.Passing.{Passing as Way}
 use Rattle.answers.specs.declared.answer.Passing.TheVariants as way
 use Rattle.policy.specs.Answered.{IsWholeBy}
-use Rattle.relay.specs.Hearing.{IsSetUp, IsHeard}
+use Rattle.relay.specs.Hearing.{IsHeard}
 
 -- an event leaves the items of a stream
 same_or_more : (b : Bool) (xs : List Item) → (if b then xs else xs ++ []) ≡ xs

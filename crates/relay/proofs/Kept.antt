@@ -1,10 +1,8 @@
 -- What is held of requests and what is on offer, behind an entry about one stream.
-use Rattle.std.proofs.Common.{◌≡◌, ℕ, Bool, true, false, not, ◌&&◌, ◌==◌, if◌then◌else◌, List, [], ◌∷◌, ◌++◌, map, filter, Option, Some, None, refl, sym, ◌∙◌, ap, inl, inr}
+use Rattle.std.proofs.Common.{◌≡◌, ℕ, Bool, true, false, ◌==◌, if◌then◌else◌, List, [], ◌∷◌, refl, sym, ◌∙◌, ap, inl, inr}
 use Rattle.std.proofs.lemmas.Bool.{eq-eqb}
 use Rattle.std.proofs.lemmas.Bool.Decides.{eqb_tells}
-use Rattle.model.specs.Causes.{Cause}
-use Rattle.offering.specs.State.{Kept, change, without as without_box, unless_over, answered_if, with_new, blank}
-use Rattle.offering.proofs.Keeping.{answered_if_id}
+use Rattle.offering.specs.State.{Kept, change, without as without_box}
 use Rattle.serving.specs.Told.{Told}
 use Rattle.serving.specs.State.{Held, id_of, without, kept}
 

@@ -4,21 +4,19 @@ use Rattle.std.specs.List.{list_any}
 use Rattle.std.proofs.lemmas.Bool.Decides.{eqb_tells}
 use Rattle.model.specs.Setup.{Setup, Passing}
 use Rattle.model.specs.Setup.Passing.{Whole, Streaming}
-use Rattle.model.specs.Logs.{Event}
 use Rattle.model.specs.Logs.Act.{Open, ToUp}
 use Rattle.model.specs.Tapes.{Noted}
 use Rattle.conduct.specs.Summary.{Summary}
 use Rattle.offering.specs.Sight.{sight_in}
 use Rattle.receiving.specs.State as windows
 use Rattle.receiving.specs.State.{Row, State as Rooms, is_live, blank, given, others, with_frame, with_sent, with_taken, with_given, with_act, settle_by}
-use Rattle.receiving.specs.Rule.{moves_of}
 use Rattle.marks_kept.specs.Sides.{Side, find, change, without, unless_over, opened, putting, taking, waiting}
-use Rattle.marks_kept.specs.Standing.{StandFor, NoneReached}
+use Rattle.marks_kept.specs.Standing.{NoneReached}
 use Rattle.marks_kept.proofs.Telling as telling
 use Rattle.marks_kept.proofs.Looking.{changed_own, changed_other, gone_own, gone_other, joined_own, joined_other, goes_own, goes_other}
 use Rattle.policy.specs.Moves.{Deed, Move, window_of}
 use Rattle.policy.specs.Moves.Move.{Does, Settles}
-use Rattle.policy.specs.State.{State, summary_at, windows_of}
+use Rattle.policy.specs.State.{State, summary_at}
 use Rattle.policy.specs.Rule.{rooms_in}
 use Rattle.policy.specs.Steps.{told_by, told_behind, next, MayGoOn, Stands}
 use Rattle.policy.proofs.Stepping.{before_is, one_more}

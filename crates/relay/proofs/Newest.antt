@@ -1,10 +1,9 @@
 -- Where requests are passed on as they come, a connection that is due is due for the newest stream: a stream that was opened has begun, or its
 -- items are over.
-use Rattle.std.proofs.Common.{◌≡◌, ℕ, ◌<◌, Bool, true, false, not, ◌&&◌, ◌||◌, ◌==◌, if◌then◌else◌, List, [], ◌∷◌, map, Option, Some, None, refl, sym, ◌∙◌, ap, subst, inl, inr}
-use Rattle.std.specs.Prelude.{is_none, nat_lt}
+use Rattle.std.proofs.Common.{◌≡◌, ℕ, ◌<◌, Bool, true, false, not, ◌&&◌, ◌||◌, ◌==◌, if◌then◌else◌, List, [], ◌∷◌, map, Option, Some, None, refl, sym, ◌∙◌, ap, subst}
+use Rattle.std.specs.Prelude.{nat_lt}
 use Rattle.std.specs.List.{list_any, list_all}
 use Rattle.std.proofs.lemmas.Bool.{and_parts, ltb-true, eqb-true, eq-eqb, ne_eqb}
-use Rattle.model.specs.Frames.{Frame}
 use Rattle.model.specs.Logs.Event.{Client, ClientEnd, ClientTook, Up, UpEnd, UpFailed, UpTook}
 use Rattle.model.specs.Logs.Act.{Open, ToUp, Close, CloseClient}
 use Rattle.model.specs.Messages.{Item}
@@ -12,7 +11,6 @@ use Rattle.model.specs.Messages.Item.{Block}
 use Rattle.model.specs.Tables.{Table}
 use Rattle.model.specs.Setup.{Setup}
 use Rattle.model.specs.Setup.Passing.{Whole as WholePassing, Streaming}
-use Rattle.model.specs.StreamStates.{most_streams}
 use Rattle.model.specs.Malformed.{is_begun}
 use Rattle.model.specs.Streams.{frame_items}
 use Rattle.model.specs.Tapes.{Note, Noted, Entry}
@@ -38,11 +36,11 @@ use Rattle.serving.specs.State.Due.{Nothing, ToOpen, ToSend}
 use Rattle.serving.specs.Rule as requests
 use Rattle.serving.proofs.Standing.{IsWaiting}
 use Rattle.streams_kept.specs.Asked.{has}
-use Rattle.policy.specs.Moves.{Gain, Deed, Move, conduct_of, request_of, told_in}
+use Rattle.policy.specs.Moves.{Gain, Deed, Move, told_in}
 use Rattle.policy.specs.Moves.Deed.{Takes, Breaks, Notes, Hears, Fails, Sends, Goes, Acts}
 use Rattle.policy.specs.Moves.Move.{Does, Settles}
 use Rattle.policy.specs.State.{State, conducts, tape_of, summary_at, turns_of, state_of}
-use Rattle.policy.specs.Rule.{AllAllowed, AddsHead, GainsIf, added_in}
+use Rattle.policy.specs.Rule.{AllAllowed, AddsHead}
 use Rattle.policy.specs.Answered.{AreAnswered}
 use Rattle.policy.specs.Steps.{Stands}
 use Rattle.policy.proofs.Stepping.{before_is}

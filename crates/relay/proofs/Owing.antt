@@ -1,21 +1,18 @@
 -- What frames of the client call for, by the answers of the judgement.
-use Rattle.std.proofs.Common.{◌≡◌, ℕ, ◌<◌, ◌≤◌, Bool, true, false, not, ◌&&◌, ◌||◌, ◌==◌, nat_lt, if◌then◌else◌, List, [], ◌∷◌, ◌++◌, append-nil, length, Option, Some, None, refl, sym, ◌∙◌, ap, arith}
-use Rattle.std.proofs.lemmas.Bool.{eqb-true, ltb-true, eq-eqb}
+use Rattle.std.proofs.Common.{◌≡◌, ℕ, ◌<◌, Bool, true, false, ◌&&◌, ◌==◌, nat_lt, if◌then◌else◌, List, [], ◌∷◌, ◌++◌, append-nil, length, Option, Some, None, refl, ◌∙◌, ap, arith}
+use Rattle.std.proofs.lemmas.Bool.{eqb-true, ltb-true}
 use Rattle.std.specs.Prelude.{is_some}
-use Rattle.model.specs.Frames.{Frame, data_kind, settings_kind, ping_kind, rst_stream_kind, window_update_kind, is_ack, settings_ack, goaway, no_error}
+use Rattle.model.specs.Frames.{Frame, goaway, no_error}
 use Rattle.model.specs.Setup.{Setup}
-use Rattle.model.specs.Tapes.{Note, Noted}
-use Rattle.model.specs.Tapes.Note.{Fields}
+use Rattle.model.specs.Tapes.{Noted}
 use Rattle.model.specs.Tapes.Entry.{Came}
-use Rattle.model.specs.Decoding.{Partial}
 use Rattle.model.specs.StreamStates.{most_streams}
 use Rattle.model.specs.Lifetimes.{opens_by}
-use Rattle.model.specs.WindowsOnTape.{has_settings}
 use Rattle.model.specs.Errors.{Fault}
 use Rattle.model.specs.Errors.Fault.{Connection, Stream, Discarded}
 use Rattle.model.specs.Causes.{Cause}
 use Rattle.model.specs.Courses.{first_of_both}
-use Rattle.model.specs.ErrorClause.{is_fatal, acks, ping_ack, reset_for, rst_stream}
+use Rattle.model.specs.ErrorClause.{is_fatal, acks, reset_for, rst_stream}
 use Rattle.conduct.specs.Summary.{Summary, Brief}
 use Rattle.conduct.specs.Judging.{completed_in}
 use Rattle.conduct.specs.Owing.{fault_in, owed_first_in, last_farewell_in, opened_after, highest_in, resets_in, owes_in, cause_in}

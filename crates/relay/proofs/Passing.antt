@@ -1,5 +1,5 @@
 -- Frames of responses may go out, and the connection goes on.
-use Rattle.std.proofs.Common.{◌≡◌, ◌==◌, Bool, true, false, not, refl, sym, ap, subst, inr}
+use Rattle.std.proofs.Common.{◌≡◌, ◌==◌, Bool, true, false, not, refl, sym, subst, inr}
 use Rattle.model.specs.Messages.{Item}
 use Rattle.model.specs.Frames.{window_update_kind}
 use Rattle.model.specs.Setup.{Setup}
@@ -15,7 +15,7 @@ use Rattle.policy.specs.Moves.Move.{Does}
 use Rattle.policy.specs.State.{State, gates_in}
 use Rattle.policy.specs.Rule.{rooms_in, MayDo}
 use Rattle.policy.specs.Steps.{told_by, told_behind, MayGoOn}
-use Rattle.relay.specs.Passing.{MayPass, PartGoes, FragmentGoes}
+use Rattle.relay.specs.Passing.{PartGoes, FragmentGoes}
 
 twice_not : (b : Bool) → b ≡ not (not b)
 twice_not true = refl

@@ -5,10 +5,10 @@ use Rattle.model.specs.Setup.{Setup}
 use Rattle.model.specs.Tapes.{Entry, put_entry}
 use Rattle.policy.specs.Moves.{Move, entry_of}
 use Rattle.policy.specs.Moves.Move.{Does, Settles}
-use Rattle.policy.specs.State.{State, tape_of}
+use Rattle.policy.specs.State.{tape_of}
 use Rattle.policy.proofs.Stepping.{leads_then}
 use Rattle.relay.specs.View.{View, Pending, Leads}
-use Rattle.relay.specs.Performing.{put_all, Segment, Performs}
+use Rattle.relay.specs.Performing.{put_all, Performs}
 
 -- the tape of moves behind others
 pub tape_behind : (later earlier : List Move) → tape_of (later ++ earlier) ≡ tape_of later ++ tape_of earlier

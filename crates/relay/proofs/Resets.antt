@@ -1,5 +1,5 @@
 -- A reset that is owed next is sent, and its stream is over with it.
-use Rattle.std.proofs.Common.{◌≡◌, ℕ, ◌+◌, Bool, true, false, not, ◌&&◌, ◌||◌, ◌==◌, List, [], ◌∷◌, ◌++◌, append-nil, length, map, Option, Some, None, refl, sym, ◌∙◌, ap, subst, inl, inr, if◌then◌else◌, arith}
+use Rattle.std.proofs.Common.{◌≡◌, ℕ, ◌+◌, Bool, true, false, not, ◌&&◌, ◌||◌, ◌==◌, List, [], ◌∷◌, ◌++◌, append-nil, length, Option, Some, None, refl, sym, ◌∙◌, ap, subst, if◌then◌else◌}
 use Rattle.std.proofs.lemmas.Bool.{and_parts, eqb-true}
 use Rattle.std.specs.Prelude.{is_none}
 use Rattle.std.specs.List.{list_any}
@@ -26,14 +26,13 @@ use Rattle.serving.specs.Told.{Told}
 use Rattle.serving.specs.State as serving
 use Rattle.serving.specs.State.{Held, id_of, without}
 use Rattle.serving.specs.State.Due.{Nothing}
-use Rattle.streams_kept.specs.Asked.{has, is_active, with_slot, changed}
+use Rattle.streams_kept.specs.Asked.{has, is_active, changed}
 use Rattle.streams_kept.proofs.Changes.{same_ids}
-use Rattle.judgement.specs.Inbound.{Inbound, Outside, book_of}
+use Rattle.judgement.specs.Inbound.{Outside, book_of}
 use Rattle.judgement.specs.Sending.{behind_reset}
 use Rattle.judgement.proofs.SendingBooks.{reset_leads}
 use Rattle.judgement.proofs.SendingEvents.{sent_desk}
 use Rattle.upstreams.specs.Kept as upstreams
-use Rattle.upstreams.specs.Connections.{lives}
 use Rattle.marks_kept.specs.Sides.{Side}
 use Rattle.marks_kept.specs.Sides as marks
 use Rattle.marks_kept.specs.Standing.{dropped_of}
@@ -48,8 +47,8 @@ use Rattle.policy.specs.Steps.{told_by, told_behind, next, MayGoOn}
 use Rattle.policy.proofs.Going.{may_pay}
 use Rattle.policy.proofs.Stepping.{one_more}
 use Rattle.relay.specs.View.{View, Pending, GoBack, AreMarked, waiting_for, Leads}
-use Rattle.relay.specs.Bringing.{OwnSegment, PerformsOwn}
-use Rattle.relay.proofs.Kept.{AreServed, held_behind}
+use Rattle.relay.specs.Bringing.{OwnSegment}
+use Rattle.relay.proofs.Kept.{held_behind}
 use Rattle.relay.proofs.Where.{live_here}
 use Rattle.relay.proofs.Marking.{rooms_next, marked_sent}
 use Rattle.relay.proofs.Staying.{so_stays, heard_stays, rows_kept, all_held_served}

@@ -4,7 +4,6 @@ use Rattle.std.specs.Prelude.{is_none}
 use Rattle.model.specs.Messages.{Item}
 use Rattle.model.specs.Causes.{Cause}
 use Rattle.model.specs.Logs.{Event}
-use Rattle.model.specs.Setup.{Setup}
 use Rattle.model.specs.Tapes.{Entry}
 use Rattle.model.specs.Openings.{Opened, opens, last_stream, IsGivenNone}
 use Rattle.model.specs.Available.{IsIn}
@@ -12,10 +11,10 @@ use Rattle.model.specs.Known.{Known}
 use Rattle.model.specs.Lifetimes.{active, is_active}
 use Rattle.model.specs.Courses.{items, upstream_of}
 use Rattle.model.specs.Malformed.{is_begun}
-use Rattle.conduct.specs.Summary.{Stream as Conducted, Summary, summary_of, stream_of}
+use Rattle.conduct.specs.Summary.{Stream as Conducted, Summary}
 use Rattle.conduct.specs.Judging.{active_in}
 use Rattle.conduct.specs.Rows.{find}
-use Rattle.conduct.specs.Book.{desk_of, summary_in}
+use Rattle.conduct.specs.Book.{desk_of}
 use Rattle.conduct.specs.Told as conduct
 use Rattle.conduct.proofs.Telling.{book_told, live_told}
 use Rattle.offering.specs.Sight.{IsRightOf, sight_in}
@@ -35,7 +34,7 @@ use Rattle.policy.specs.Steps.{told_by}
 use Rattle.policy.proofs.Tapes.{offers_tape, requests_tape}
 use Rattle.policy.proofs.Telling as telling
 use Rattle.policy.proofs.Telling.{all_moved, sight_right}
-use Rattle.policy.proofs.Placing.{offers_may, offers_right, offers_told, turns_may, turns_so, turns_told}
+use Rattle.policy.proofs.Placing.{offers_may, offers_right, offers_told, turns_may, turns_so}
 use Rattle.policy.proofs.Stepping.{before_is}
 use Rattle.relay.specs.Led.{IsLed}
 

@@ -1,5 +1,5 @@
 -- What stays behind a move, where moves led: what is said of upstreams' answers, answers that stand for what was heard, rows, and what is held.
-use Rattle.std.proofs.Common.{◌≡◌, ℕ, Bool, true, false, ◌&&◌, ◌==◌, List, [], ◌∷◌, map, Option, Some, None, refl, sym, ◌∙◌, ap, subst, inl, inr, if◌then◌else◌}
+use Rattle.std.proofs.Common.{◌≡◌, ℕ, Bool, true, false, ◌==◌, List, [], ◌∷◌, map, Option, Some, None, refl, sym, ◌∙◌, ap, subst, inl, inr, if◌then◌else◌}
 use Rattle.std.specs.Prelude.{option_map}
 use Rattle.std.proofs.lemmas.Bool.{eq-eqb, cases_eq}
 use Rattle.std.proofs.lemmas.Bool.Decides.{eqb_tells}
@@ -8,7 +8,7 @@ use Rattle.model.specs.Logs.Act.{ToUp, Close}
 use Rattle.model.specs.Setup.{Setup}
 use Rattle.model.specs.Tapes.{Entry}
 use Rattle.model.specs.Openings.{Opened, opens, given}
-use Rattle.model.specs.Available.{heard, IsIn}
+use Rattle.model.specs.Available.{heard}
 use Rattle.model.specs.Known.{Known}
 use Rattle.model.specs.Causes.{Cause}
 use Rattle.model.specs.Courses.{course, items, first_of_both}
@@ -17,7 +17,6 @@ use Rattle.model.proofs.ItemLaws.{head_stays}
 use Rattle.model.proofs.GivenLaws.{given_is}
 use Rattle.conduct.specs.Summary.{Summary}
 use Rattle.conduct.specs.Rule.{AreKnown, known_of}
-use Rattle.conduct.specs.Book.{desk_of}
 use Rattle.conduct.specs.Tidy.{AreKept}
 use Rattle.conduct.proofs.Knowing.{known_so}
 use Rattle.conduct.proofs.Tidy.{desk_kept}
@@ -25,15 +24,15 @@ use Rattle.serving.specs.Told.{Told, is_served}
 use Rattle.serving.specs.State as serving
 use Rattle.serving.specs.State.{Held, Live, held_of, k_of, live_of, find, without}
 use Rattle.serving.specs.Held.{AreApart}
-use Rattle.serving.proofs.Lists.{found_key, find_gone, find_other, find_map}
+use Rattle.serving.proofs.Lists.{find_gone, find_other, find_map}
 use Rattle.serving.proofs.Standing as standing
 use Rattle.serving.proofs.Served.{held_served, held_apart}
 use Rattle.upstreams.specs.Connections.{Connection, number_of, lives}
 use Rattle.policy.specs.Moves.{Deed, Move, entry_of, told_in}
-use Rattle.policy.specs.Moves.Deed.{Takes, Breaks, Notes, Hears, Fails, Sends, Goes, Acts}
+use Rattle.policy.specs.Moves.Deed.{Takes, Breaks, Notes, Sends, Goes, Acts}
 use Rattle.policy.specs.Moves.Move.{Does, Settles}
 use Rattle.policy.specs.State.{State, conducts, tape_of, turns_of}
-use Rattle.policy.specs.Answered.{IsAnswered, AreAnswered}
+use Rattle.policy.specs.Answered.{IsAnswered}
 use Rattle.policy.specs.Steps.{Stands, told_by}
 use Rattle.policy.proofs.Tapes.{requests_tape}
 use Rattle.policy.proofs.Telling.{all_moved, told_right}

@@ -1,5 +1,5 @@
 -- A frame of the client that is no error of the connection may come where the gateway rests, and the connection goes on.
-use Rattle.std.proofs.Common.{◌≡◌, Bool, true, false, ◌&&◌, Option, Some, None, refl, sym, ◌∙◌, ap, subst}
+use Rattle.std.proofs.Common.{◌≡◌, Bool, true, false, Option, Some, None, refl, sym, ◌∙◌}
 use Rattle.std.specs.Prelude.{is_some}
 use Rattle.model.specs.Setup.{Setup}
 use Rattle.model.specs.Tables.{Table}
@@ -7,10 +7,8 @@ use Rattle.model.specs.Tapes.{Note, Noted}
 use Rattle.model.specs.Tapes.Note.{NoBlock, Fields, Undecodable, Unread}
 use Rattle.model.specs.Tapes.Entry.{Came}
 use Rattle.model.specs.Decoding.{Partial, is_read}
-use Rattle.model.specs.ErrorClause.{is_fatal}
 use Rattle.model.specs.Errors.{first_of}
 use Rattle.conduct.specs.Judging.{completed_in, rows_before_block_in}
-use Rattle.conduct.specs.Owing.{fault_in}
 use Rattle.conduct.specs.Book.{IsFit, is_told}
 use Rattle.conduct.proofs.Calm.{fatal_before_block}
 use Rattle.tables.specs.Rule.{IsNoted}

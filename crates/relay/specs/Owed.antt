@@ -1,6 +1,6 @@
 -- What a frame of the client calls for, by the answer that the judgement gave.
-use Rattle.std.specs.Prelude.{ℕ, Bool, ◌&&◌, ◌==◌, nat_lt, if◌then◌else◌, List, [], ◌∷◌, ◌++◌, length, Option, Some, None}
-use Rattle.model.specs.Frames.{Frame, settings_ack, goaway, no_error}
+use Rattle.std.specs.Prelude.{ℕ, Bool, if◌then◌else◌, List, [], ◌∷◌, Some, None}
+use Rattle.model.specs.Frames.{Frame, settings_ack}
 use Rattle.model.specs.Errors.{Fault}
 use Rattle.model.specs.Errors.Fault.{Stream}
 use Rattle.model.specs.Causes.{Cause}

@@ -1,8 +1,7 @@
 -- What is left to show where a frame of a response goes out.
-use Rattle.std.specs.Prelude.{◌≡◌, ◌==◌, true, false, List, [], ◌∷◌, None}
+use Rattle.std.specs.Prelude.{◌≡◌, ◌==◌, true, false, [], ◌∷◌, None}
 use Rattle.model.specs.Messages.{Item}
 use Rattle.model.specs.Frames.{data_kind, window_update_kind}
-use Rattle.model.specs.Setup.{Setup}
 use Rattle.model.specs.Streams.{frame_items}
 use Rattle.model.specs.Tables.{Table}
 use Rattle.model.specs.Tapes.{Noted}

@@ -1,9 +1,8 @@
 -- Where a gateway rests by what is kept, so that something may come in.
-use Rattle.std.specs.Prelude.{◌≡◌, ℕ, ◌<◌, Bool, true, false, List, [], Some, None}
+use Rattle.std.specs.Prelude.{◌≡◌, ℕ, ◌<◌, false, List, [], Some}
 use Rattle.std.specs.List.{list_any}
 use Rattle.model.specs.Setup.{Setup}
 use Rattle.model.specs.Admission.{high_water}
-use Rattle.conduct.specs.Owing.{must_end_in}
 use Rattle.offering.specs.State as offering
 use Rattle.serving.specs.Told.{Told}
 use Rattle.serving.specs.Rule.{is_done}

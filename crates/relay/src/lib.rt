@@ -1,7 +1,7 @@
 //! The rooms of the whole gateway together, and the rule that they follow: what each part of a step has to show, so that what the rooms'
 //! contracts say leads to moves of `policy`.
 //!
-//! What the rooms (`judgement`, `offers`, `upstreams`, an encoder) keep is seen together as a `View`; `Leads` says how
+//! What the rooms (`judgement`, `offers`, `upstreams`, `marks_kept`, an encoder) keep is seen together as a `View`; `Leads` says how
 //! that stands to the rule's state, behind moves and with what is pending in the midst of a step: frames that are owed, a connection or a text that is
 //! due, octets that are to go back. A part of a step *performs* (`Performs`): wherever moves led to what was kept, moves by the rule lead on to
 //! what is kept now, and put out what was put out. Parts behind one another perform together ([`parts_follow`]).
@@ -9,7 +9,7 @@
 
 mod rooms;
 
-ghost use Rattle.std.specs.Prelude.{◌≡◌, ◌≤◌, ◌==◌, ℕ, Bool, true, false, List, [], ◌++◌, length, map, reverse, Some, None};
+ghost use Rattle.std.specs.Prelude.{◌≡◌, ◌≤◌, ◌==◌, ℕ, false, List, [], ◌++◌, length, map, reverse, Some, None};
 ghost use Rattle.model.specs.Messages.{Field, Item};
 ghost use Rattle.model.specs.Frames.{Frame};
 ghost use Rattle.model.specs.Logs.{Output};
@@ -32,7 +32,6 @@ ghost use Rattle.conduct.specs.Tidy.{AreKept};
 ghost use Rattle.offering.specs.Outbox.{Part};
 ghost use Rattle.offering.specs.Rule.{OpensNext};
 ghost use Rattle.offering.specs.Sight.{sight_in};
-ghost use Rattle.offering.specs.State.{Kept};
 ghost use Rattle.serving.specs.Rule.{MayOpen};
 ghost use Rattle.judgement.specs.Judgement.{IsPlain, IsTaken};
 ghost use Rattle.judgement.specs.Blocks.{SaysOf};

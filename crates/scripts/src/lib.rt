@@ -1,4 +1,4 @@
-//! The programs' library: scripts are read, run and answered.
+//! The library of `h2replay`: scripts are read, run and answered.
 #![tactic(auto)]
 
 mod laws;

@@ -1,6 +1,6 @@
 //! Outputs as lines of text.
 
-ghost use Rattle.std.specs.Prelude.{◌≡◌, ◌++◌, map, string_bytes, IfOk, OnOk, codes, decimal};
+ghost use Rattle.std.specs.Prelude.{◌≡◌, ◌++◌, map, string_bytes, IfOk, OnOk};
 ghost use Rattle.hex.specs.Hex.{encode_lower};
 ghost use Rattle.gateway.specs.Views.{output_of, outputs_of};
 ghost use Rattle.scripts.specs.Printing.{line_of, lines_of_step, text_of};

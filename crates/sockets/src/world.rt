@@ -1,6 +1,6 @@
 //! The world of sockets.
 
-ghost use Rattle.std.specs.Prelude.{◌≡◌, ◌+◌, ◌<◌, ◌^◌, ◌++◌, ◌∷◌, [], List, None, Option, Some, Bool, false, true, is_ok, length, IfSome, IfOk, OnOk, OnErr, if◌then◌else◌};
+ghost use Rattle.std.specs.Prelude.{◌≡◌, ◌+◌, ◌<◌, [], None, Option, Some, false, true, length, IfSome, IfOk, if◌then◌else◌};
 
 use crate::rooms::room_of;
 use crate::side::Side;

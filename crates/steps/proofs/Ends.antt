@@ -1,11 +1,11 @@
 -- What comes in ends the connection, and so does what follows it: the connection is shut.
-use Rattle.std.proofs.Common.{◌≡◌, ℕ, Bool, true, false, List, [], ◌∷◌, ◌++◌, Option, Some, None, refl, sym, ◌∙◌, ap, subst, append_assoc}
+use Rattle.std.proofs.Common.{◌≡◌, ℕ, true, false, List, [], ◌∷◌, ◌++◌, None, refl, sym, ◌∙◌, ap, subst, append_assoc}
 use Rattle.model.specs.Frames.{Frame}
 use Rattle.model.specs.Logs.{Output}
 use Rattle.model.specs.Logs.Act.{Close, CloseClient}
 use Rattle.model.specs.Setup.{Setup}
 use Rattle.model.specs.Tables.{Table}
-use Rattle.model.specs.Tapes.{Entry, is_closed, CanBeSpelled, ActsFollow}
+use Rattle.model.specs.Tapes.{Entry, is_closed}
 use Rattle.model.specs.Tapes.Entry.{Sent, Did}
 use Rattle.conduct.specs.Quiet.{noted_of}
 use Rattle.serving.specs.State.{Live}
@@ -16,16 +16,15 @@ use Rattle.policy.specs.State.{State, tape_of}
 use Rattle.policy.specs.Rule.{AllAllowed, RestsBehind}
 use Rattle.policy.specs.Ending.{farewell_by, farewell_of, sent_all, frames_sent, closes_of, closed_all, by_number, ending_of, ending_on_tape, Ends}
 use Rattle.relay.specs.View.{View, Pending, AreSo, Leads, square}
-use Rattle.relay.specs.Rest.{IsAtRest, told_view}
+use Rattle.relay.specs.Rest.{IsAtRest}
 use Rattle.relay.specs.Performing.{put_all}
-use Rattle.relay.specs.Bringing.{AreOwn}
 use Rattle.relay.proofs.Performing.{tape_behind}
 use Rattle.steps.specs.ending.Closing.{IsShut, IsEnded}
 use Rattle.steps.specs.ending.Reasons.{IsBy}
 use Rattle.steps.specs.declared.ending.reason.Ending.{Ending}
 use Rattle.steps.proofs.ending.Ends.{is_ended}
-use Rattle.steps.specs.Inputs.{Input, inputs_in}
-use Rattle.steps.specs.Comings.{IsOver, StandsAt, FollowsFrom, Comes, ComesFrom}
+use Rattle.steps.specs.Inputs.{Input}
+use Rattle.steps.specs.Comings.{FollowsFrom, ComesFrom}
 use Rattle.steps.proofs.Following.{IsInput, inputs_so, spelled_so, follow_so}
 
 -- ---- the moves of an end on the tape

@@ -1,19 +1,19 @@
 -- Parts of a step, one behind another, to where the connection stands in the end.
-use Rattle.std.proofs.Common.{◌≡◌, ℕ, ◌==◌, if◌then◌else◌, Bool, true, false, List, [], ◌∷◌, ◌++◌, append-nil, Option, Some, None, refl, sym, ◌∙◌, ap, subst, append_assoc}
+use Rattle.std.proofs.Common.{◌≡◌, ℕ, ◌==◌, if◌then◌else◌, Bool, true, false, List, [], ◌∷◌, ◌++◌, append-nil, Option, Some, refl, sym, ◌∙◌, ap, subst, append_assoc}
 use Rattle.model.specs.Frames.{spell}
-use Rattle.model.specs.Logs.{Event, Act, Output}
+use Rattle.model.specs.Logs.{Act, Output}
 use Rattle.model.specs.Setup.{Setup}
 use Rattle.model.specs.Tapes.{Entry, acts, happened, put, CanBeSpelled, ActsFollow}
 use Rattle.model.specs.Tapes.Entry.{Came, Breached, Happened, Sent, Did}
 use Rattle.policy.specs.Moves.{Move}
-use Rattle.policy.specs.State.{State, tape_of}
-use Rattle.relay.specs.View.{View, Pending, Leads}
+use Rattle.policy.specs.State.{tape_of}
+use Rattle.relay.specs.View.{View, Pending}
 use Rattle.relay.specs.Performing.{put_all}
 use Rattle.relay.specs.Bringing.{AreOwn, PerformsOwn, Brings}
 use Rattle.relay.proofs.Performing.{tape_behind, put_behind}
 use Rattle.relay.proofs.Bringing.{own_behind}
 use Rattle.steps.specs.Inputs.{Input, inputs_in, events_in}
-use Rattle.steps.specs.Comings.{StandsAt, Follows, FollowsFrom, Comes, ComesFrom, OnlyToClient}
+use Rattle.steps.specs.Comings.{StandsAt, FollowsFrom, ComesFrom, OnlyToClient}
 
 -- ---- what entries of the gateway's own are
 

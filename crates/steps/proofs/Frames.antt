@@ -1,5 +1,5 @@
 -- A frame of the client comes in, and what it calls for follows; or it is an error of the connection, which ends.
-use Rattle.std.proofs.Common.{◌≡◌, ℕ, ◌<◌, ◌⊎◌, ◌==◌, true, List, [], ◌∷◌, Option, Some, None, inl, inr, refl, sym, ◌∙◌, ap, subst}
+use Rattle.std.proofs.Common.{◌≡◌, ℕ, ◌<◌, ◌⊎◌, ◌==◌, true, List, [], ◌∷◌, Option, Some, None, inl, inr, refl, sym, subst}
 use Rattle.std.specs.List.{list_any}
 use Rattle.model.specs.Errors.Fault.{Connection}
 use Rattle.model.specs.Frames.{Frame}

@@ -1,5 +1,5 @@
 -- What calls that may be refused memory promise.
-use Rattle.std.proofs.Common.{◌≡◌, Ok, Err, Result}
+use Rattle.std.proofs.Common.{Ok, Err, Result}
 use Rattle.std.specs.Prelude.{OnOk, IfOk}
 
 pub on_ok : {T : Type 0} {E : Type 0} {A : Type 0} {B : Type 0} (r : Result T E) → (A → B) → OnOk r A → OnOk r B

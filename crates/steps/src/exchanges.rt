@@ -1,5 +1,5 @@
-//! Exchanges with upstreams, as parts of a step: a connection is opened for a whole request, an upstream is heard, and its connection ends or
-//! fails.
+//! Exchanges with upstreams, as parts of a step: a connection is opened for a request that is due, more is sent of one that goes out as it comes,
+//! an upstream is heard, and its connection ends or fails.
 
 mod failing;
 mod hearing;

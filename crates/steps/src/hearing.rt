@@ -1,6 +1,6 @@
 //! Events of upstreams, and what the sides took.
 
-ghost use Rattle.std.specs.Prelude.{◌≡◌, ◌≤◌, [], ◌∷◌, length, true, Some, IfOk};
+ghost use Rattle.std.specs.Prelude.{◌≡◌, [], ◌∷◌, true, IfOk};
 ghost use Rattle.model.specs.Setup.{Setup};
 ghost use Rattle.model.specs.Logs.Event.{ClientTook, Up, UpEnd, UpFailed, UpTook};
 ghost use Rattle.relay.specs.View.{square};

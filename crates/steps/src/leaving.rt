@@ -1,9 +1,8 @@
 //! The end of a connection to a client with what came in.
 
-ghost use Rattle.std.specs.Prelude.{◌≡◌, List, [], ◌∷◌, None, OnOk};
+ghost use Rattle.std.specs.Prelude.{[], ◌∷◌, None, OnOk};
 ghost use Rattle.model.specs.Setup.{Setup};
 ghost use Rattle.model.specs.Logs.Event.{ClientEnd};
-ghost use Rattle.model.specs.Tapes.{Breach as Break};
 ghost use Rattle.relay.specs.View.{square};
 ghost use Rattle.relay.specs.Rest.{IsAtRest};
 ghost use Rattle.steps.specs.Comings.{ComesFrom};

@@ -1,7 +1,7 @@
 //! A frame of the client, taken whole.
 
 ghost use Rattle.std.specs.Prelude.{◌≡◌, ◌≤◌, ◌<◌, ◌==◌, ◌||◌, ℕ, List, [], ◌∷◌, length, true, false, if◌then◌else◌, IfOk, OnOk};
-ghost use Rattle.model.specs.Frames.{Frame, data_kind};
+ghost use Rattle.model.specs.Frames.{Frame};
 ghost use Rattle.model.specs.Setup.{Setup};
 ghost use Rattle.model.specs.WindowsOnTape.{is_any, data_length};
 ghost use Rattle.frames.specs.Views.{frame_of};
@@ -210,7 +210,7 @@ pub(crate) fn say_farewell(
     }
 }
 
-/// Takes a frame of the client, whole: what it calls for, the request that it completes, octets that go back, and responses that can go on. An
+/// Takes a frame of the client, whole: what it calls for, what is due of its request, octets that go back, and responses that can go on. An
 /// `Err` says that memory was refused; then what is kept and the outputs are of no use any more.
 pub fn take_frame(
     alloc: Global,

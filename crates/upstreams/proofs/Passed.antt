@@ -1,6 +1,5 @@
 -- What goes on of a request that goes out, as the rule of requests has it.
-use Rattle.std.proofs.Common.{◌≡◌, ℕ, Bool, true, false, List, Some, None, refl, sym, ap, ◌∙◌}
-use Rattle.std.specs.Prelude.{Option}
+use Rattle.std.proofs.Common.{◌≡◌, ℕ, true, false, List, Some, None, refl, sym, ap}
 use Rattle.requests.specs.Going.{GoesOn}
 use Rattle.h1_writer.specs.Sending.{Stage}
 use Rattle.h1_writer.specs.Sending.Stage.{Whole, Counting, Holding, Chunking}

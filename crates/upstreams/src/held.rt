@@ -1,6 +1,6 @@
 //! What is held of requests that aren't whole.
 
-ghost use Rattle.std.specs.Prelude.{◌≡◌, ◌==◌, ◌≤◌, true, false, length, map, reverse, Some, None, MatchBool, MatchOption, IfSome, IfNone, OnOk, OnErr, IfOk};
+ghost use Rattle.std.specs.Prelude.{◌≡◌, ◌==◌, true, false, map, reverse, Some, None, MatchBool, IfSome, IfNone, OnOk, OnErr, IfOk};
 ghost use Rattle.serving.specs.Held.{AreApart};
 ghost use Rattle.serving.specs.State.{id_of, held_of, held_with, without, to_send, dropped, drop_from, unless_whole};
 ghost use Rattle.serving.specs.State.Way.{Going as GoingOn, Dropped};

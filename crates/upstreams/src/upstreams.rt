@@ -1,6 +1,6 @@
 //! Requests that aren't whole, and open connections.
 
-ghost use Rattle.std.specs.Prelude.{◌≡◌, ◌+◌, ◌<◌, ◌≤◌, ◌^◌, ◌∷◌, [], suc, map, reverse, true, Some, None, MatchBool, MatchOption, IfSome, OnOk, OnErr, IfOk};
+ghost use Rattle.std.specs.Prelude.{◌≡◌, ◌+◌, ◌<◌, ◌≤◌, [], suc, map, reverse, true, Some, None, MatchBool, MatchOption, IfSome, OnOk, OnErr, IfOk};
 ghost use Rattle.model.specs.Http2.{HasLength};
 ghost use Rattle.model.specs.StreamStates.{most_streams};
 ghost use Rattle.h1_reader.specs.Standing.{Stands};

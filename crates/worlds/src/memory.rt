@@ -2,7 +2,7 @@
 
 ghost use Rattle.std.specs.Prelude.{◌≡◌, ◌+◌, ◌<◌, ◌^◌, ◌∷◌, ◌++◌, [], List, Some, true, false, map, is_ok, IfOk, OnOk, OnErr, if◌then◌else◌};
 ghost use Rattle.model.specs.Logs.{Step};
-ghost use Rattle.outputs.specs.Views.{event_of, output_of, outputs_of};
+ghost use Rattle.outputs.specs.Views.{event_of, output_of};
 ghost use Rattle.worlds.specs.Memory.{steps_of, log_in, handed_in, left_in, Gives, is_due, one_fewer};
 ghost use Rattle.worlds.specs.Worlds.{AddsEvent, AddsHanded, SaysOver, with_outputs};
 

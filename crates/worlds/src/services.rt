@@ -1,6 +1,6 @@
 //! A gateway before a world.
 
-ghost use Rattle.std.specs.Prelude.{◌≡◌, ◌+◌, ◌<◌, ◌≤◌, ◌^◌, ◌∷◌, ◌++◌, [], List, Option, Some, length, reverse, true, false, IsOkAnd, IsErrOf, OnOk, OnErr, IfOk, IfErr};
+ghost use Rattle.std.specs.Prelude.{◌≡◌, ◌+◌, ◌<◌, ◌≤◌, ◌^◌, ◌∷◌, ◌++◌, [], List, Option, Some, length, reverse, true, false, IsOkAnd, IsErrOf, OnOk, OnErr, IfOk};
 ghost use Rattle.model.specs.Logs.{Step, Output as Put};
 ghost use Rattle.std.specs.List.{list_any};
 ghost use Rattle.model.specs.Setup.{Setup};

@@ -1,6 +1,6 @@
 //! Worlds: where events come from, and where outputs go.
 
-ghost use Rattle.std.specs.Prelude.{◌≡◌, ◌+◌, ◌<◌, ◌^◌, ◌∷◌, ◌++◌, [], ℕ, Bool, true, List, Option, Some, is_ok, IfOk, OnOk, OnErr, if◌then◌else◌};
+ghost use Rattle.std.specs.Prelude.{◌≡◌, ◌+◌, ◌<◌, ◌^◌, ◌∷◌, ◌++◌, [], ℕ, Bool, List, Option, Some, is_ok, IfOk, OnOk, OnErr, if◌then◌else◌};
 ghost use Rattle.model.specs.Logs.{Step};
 ghost use Rattle.outputs.specs.Views.{output_of};
 ghost use Rattle.worlds.specs.Worlds.{Handed, AddsEvent, AddsHanded, SaysOver, with_outputs};

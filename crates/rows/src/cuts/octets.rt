@@ -134,7 +134,7 @@ fn is_alike_joined(alloc: Global, config: &Config, row: &Row) -> Result<bool, Fa
     Ok(alike && whole.strays == 0 && cut.is_same_upstream(&whole))
 }
 
-/// The same is put out in all where octets come one by one and bodies are passed on as they come.
+/// The same is put out in all, but for where DATA is cut, where octets come one by one and bodies are passed on as they come.
 fn assert_alike_streaming(
     rt: &impl Abort,
     alloc: Global,

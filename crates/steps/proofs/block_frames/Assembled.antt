@@ -1,14 +1,12 @@
 -- All that comes of a frame with a fragment, by the judgement's answer.
-use Rattle.std.proofs.Common.{◌≡◌, ℕ, ◌<◌, ◌≤◌, ◌+◌, Bool, true, false, not, ◌&&◌, ◌||◌, ◌==◌, if◌then◌else◌, List, [], ◌∷◌, ◌++◌, append-nil, length, Option, Some, None, refl, sym, ◌∙◌, ap, subst}
-use Rattle.std.specs.Prelude.{is_none, is_some}
-use Rattle.model.specs.Messages.{Field}
+use Rattle.std.proofs.Common.{◌≡◌, ℕ, ◌<◌, ◌≤◌, Bool, true, false, ◌||◌, ◌==◌, if◌then◌else◌, List, [], append-nil, length, Option, Some, None, refl, sym, ◌∙◌, ap}
+use Rattle.std.specs.Prelude.{is_some}
 use Rattle.model.specs.Frames.{Frame, data_kind}
 use Rattle.model.specs.Logs.{Output}
 use Rattle.model.specs.Setup.{Setup}
 use Rattle.model.specs.Tables.{Table}
 use Rattle.model.specs.StreamStates.{most_streams}
-use Rattle.model.specs.Tapes.{Note, Noted}
-use Rattle.model.specs.Tapes.Note.{Fields}
+use Rattle.model.specs.Tapes.{Noted}
 use Rattle.model.specs.Tapes.Entry.{Came}
 use Rattle.model.specs.Causes.{Cause}
 use Rattle.model.specs.Courses.{first_of_both}
@@ -18,11 +16,10 @@ use Rattle.model.specs.ErrorClause.{is_fatal, rst_stream}
 use Rattle.model.specs.Lifetimes.{opens_by}
 use Rattle.conduct.specs.Summary.{Summary}
 use Rattle.conduct.specs.Judging.{completed_in}
-use Rattle.conduct.specs.Owing.{fault_in, owes_in}
 use Rattle.conduct.specs.Quiet.{noted_of, sending}
-use Rattle.conduct.specs.Rows.{Row, ids_of, find}
+use Rattle.conduct.specs.Rows.{ids_of, find}
 use Rattle.conduct.specs.Rows.Slot.{Over}
-use Rattle.conduct.specs.Book.{Book, summary_in, book_after}
+use Rattle.conduct.specs.Book.{Book, book_after}
 use Rattle.conduct.specs.Tidy.{AreKept}
 use Rattle.conduct.proofs.Tidy.{kept_behind_entry}
 use Rattle.tables.specs.State as tables
@@ -38,9 +35,8 @@ use Rattle.relay.specs.View.{View}
 use Rattle.relay.specs.Rest.{IsAtRest}
 use Rattle.relay.proofs.Answered.{part_gain, part_owes, whole_gain, whole_owes, block_owes_at_fault, block_failed, caused_by, not_data}
 use Rattle.relay.proofs.Owing.{idle_no_cause, not_caused, no_farewell, no_more}
-use Rattle.relay.proofs.Gaining.{caused}
 use Rattle.relay.proofs.Coming.{no_outside, inbound_in, inbound_behind}
-use Rattle.steps.specs.block_frames.Following.{farewell_behind, farewell_frames}
+use Rattle.steps.specs.block_frames.Following.{farewell_behind}
 use Rattle.steps.specs.block_frames.Acting.{IsActed}
 use Rattle.steps.specs.block_frames.Taken.{IsBlockTaken}
 use Rattle.steps.specs.declared.block_frames.taking.BlockTaken.{BlockTaken}

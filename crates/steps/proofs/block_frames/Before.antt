@@ -1,21 +1,20 @@
 -- What holds before a frame with a fragment of a header block is taken, and of what the judgement left.
-use Rattle.std.proofs.Common.{◌≡◌, ℕ, ◌≤◌, ◌%◌, Bool, true, false, not, ◌&&◌, ◌||◌, ◌==◌, nat_lt, if◌then◌else◌, List, [], ◌∷◌, ◌++◌, append-nil, map, length, Option, Some, None, refl, sym, ◌∙◌, ap, subst, inl, inr}
-use Rattle.std.specs.Prelude.{is_none, is_some, reverse}
-use Rattle.std.specs.List.{list_any, list_all}
+use Rattle.std.proofs.Common.{◌≡◌, ℕ, ◌≤◌, ◌%◌, Bool, true, false, not, ◌&&◌, ◌==◌, nat_lt, if◌then◌else◌, List, [], ◌∷◌, map, length, Option, Some, None, refl, sym, ◌∙◌, ap, subst, inl, inr}
+use Rattle.std.specs.Prelude.{is_none, reverse}
+use Rattle.std.specs.List.{list_all}
 use Rattle.std.proofs.lemmas.Bool.{and_parts}
-use Rattle.model.specs.Frames.{Frame, data_kind, headers_kind, continuation_kind, settings_kind, rst_stream_kind, is_ack, goaway, no_error}
+use Rattle.model.specs.Frames.{Frame, settings_kind, is_ack, goaway, no_error}
 use Rattle.model.specs.Setup.{Setup}
 use Rattle.model.specs.StreamStates.{most_streams}
 use Rattle.model.specs.Tables.{Table}
-use Rattle.model.specs.Tapes.{Note, Noted, Entry}
+use Rattle.model.specs.Tapes.{Noted, Entry}
 use Rattle.model.specs.Tapes.Entry.{Came}
 use Rattle.model.specs.Logs.{Output}
 use Rattle.model.specs.Decoding.{Partial, is_read}
-use Rattle.model.specs.Errors.{Fault}
 use Rattle.model.specs.ErrorClause.{is_fatal}
 use Rattle.model.specs.Lifetimes.{may_open}
 use Rattle.model.specs.WindowsOnTape.{is_any, data_length, has_settings}
-use Rattle.conduct.specs.Summary.{Summary, summary_of}
+use Rattle.conduct.specs.Summary.{Summary}
 use Rattle.model.specs.SettingValues.{settings_in, settings_fault, initial_window_after}
 use Rattle.conduct.specs.Judging.{is_over_in, completed_in, active_in, shifts_past_in}
 use Rattle.conduct.specs.After.{is_sound, are_taken_in}
@@ -31,27 +30,24 @@ use Rattle.offering.specs.State.{Kept}
 use Rattle.offers.specs.Asked.{is_kept, is_above_all}
 use Rattle.serving.specs.State.{Due}
 use Rattle.tables.specs.State as tables
-use Rattle.tables.specs.State.{limits_and, named_by}
+use Rattle.tables.specs.State.{named_by}
 use Rattle.tables.specs.Rule.{IsNoted}
 use Rattle.tables.specs.Verdicts.{verdict_in}
-use Rattle.header_blocks.specs.Encoding.{Encoding}
-use Rattle.streams_kept.specs.Asked.{has, is_active}
-use Rattle.judgement.specs.Inbound.{Inbound, Outside, book_of, told_of}
-use Rattle.judgement.specs.Fragments.{IsOfBlock, IsFragmentJudged, noted_behind}
-use Rattle.judgement.specs.declared.answers.BlockJudged.{BlockJudged}
+use Rattle.streams_kept.specs.Asked.{is_active}
+use Rattle.judgement.specs.Inbound.{Inbound, book_of, told_of}
+use Rattle.judgement.specs.Fragments.{IsOfBlock, noted_behind}
 use Rattle.upstreams.specs.Kept as upstreams
 use Rattle.policy.specs.Moves.{Gain, Move}
 use Rattle.policy.specs.Moves.Deed.{Takes}
 use Rattle.policy.specs.Moves.Move.{Does}
 use Rattle.policy.specs.State.{State, conducts, tape_of}
 use Rattle.policy.specs.Coming.{IsReady, IsGained}
-use Rattle.policy.specs.Steps.{told_by, told_behind}
+use Rattle.policy.specs.Steps.{told_behind}
 use Rattle.relay.specs.Taking.{IsFrameTaken}
 use Rattle.relay.specs.View.{View, Pending, square, Leads, waiting_for}
 use Rattle.relay.specs.Rest.{IsAtRest}
 use Rattle.relay.specs.Bringing.{Course}
 use Rattle.relay.specs.Led.{IsLed}
-use Rattle.relay.proofs.Answered.{not_data}
 use Rattle.relay.proofs.Coming.{no_outside, inbound_in, inbound_behind, change_between, offers_with, encoding_with, told_of_rows}
 use Rattle.relay.proofs.Coming as coming
 use Rattle.relay.proofs.Halves.{not_half_closed}

@@ -1,9 +1,8 @@
 -- What a frame with a fragment of a header block brings, by what it gains and by what it calls for.
-use Rattle.std.proofs.Common.{◌≡◌, ℕ, ◌<◌, ◌≤◌, ◌+◌, Bool, true, false, not, ◌&&◌, ◌||◌, ◌==◌, if◌then◌else◌, List, [], ◌∷◌, ◌++◌, length, Option, Some, None, refl, sym, ◌∙◌, ap, subst, inl, inr, arith}
-use Rattle.std.specs.Prelude.{is_none, is_some}
+use Rattle.std.proofs.Common.{◌≡◌, ℕ, ◌<◌, ◌+◌, Bool, true, false, not, ◌&&◌, ◌||◌, ◌==◌, if◌then◌else◌, List, [], ◌∷◌, ◌++◌, length, Option, Some, None, refl, sym, ◌∙◌, ap, subst, arith}
+use Rattle.std.specs.Prelude.{is_some}
 use Rattle.std.specs.List.{list_any}
 use Rattle.std.proofs.lemmas.Bool.{eq-eqb}
-use Rattle.model.specs.Messages.{Item}
 use Rattle.model.specs.Frames.{Frame, Fits, goaway, no_error, spell}
 use Rattle.model.specs.Logs.{Output}
 use Rattle.model.specs.Logs.Output.{ToClient}
@@ -14,15 +13,15 @@ use Rattle.model.specs.Tapes.Note.{NoBlock, Fields, Undecodable, Unread}
 use Rattle.model.specs.Tapes.Entry.{Came}
 use Rattle.model.specs.Causes.{Cause}
 use Rattle.model.specs.Decoding.{Partial, is_read}
-use Rattle.model.specs.Errors.{Fault, first_of}
+use Rattle.model.specs.Errors.{Fault}
 use Rattle.model.specs.ErrorClause.{is_fatal, rst_stream}
 use Rattle.model.specs.Lifetimes.{may_open, opens_by}
 use Rattle.model.proofs.OpenedLaws.{not_opened}
-use Rattle.conduct.specs.Judging.{completed_in, rows_before_block_in}
+use Rattle.conduct.specs.Judging.{completed_in}
 use Rattle.conduct.specs.Owing.{fault_in, owes_in}
 use Rattle.conduct.specs.Rows.{Row, ids_of, find}
 use Rattle.conduct.specs.Rows.Slot.{Over}
-use Rattle.conduct.specs.Book.{Book, summary_in, book_after, is_told}
+use Rattle.conduct.specs.Book.{Book, summary_in, is_told}
 use Rattle.conduct.proofs.Calm.{fatal_before_block, idle_frame_is}
 use Rattle.conduct.proofs.Rows.{ids_changed}
 use Rattle.offering.specs.State as offering
@@ -32,9 +31,9 @@ use Rattle.serving.specs.State.{Held, Due, id_of}
 use Rattle.serving.specs.State.Due.{Nothing}
 use Rattle.tables.specs.Rule.{IsNoted}
 use Rattle.tables.specs.Verdicts.{verdict_in}
-use Rattle.streams_kept.specs.Asked.{has, is_active, changed}
+use Rattle.streams_kept.specs.Asked.{is_active, changed}
 use Rattle.streams_kept.specs.Sending.{is_served}
-use Rattle.judgement.specs.Inbound.{Inbound, book_of, told_of}
+use Rattle.judgement.specs.Inbound.{Inbound, told_of}
 use Rattle.judgement.specs.Fragments.{IsOfBlock}
 use Rattle.upstreams.specs.Kept as upstreams
 use Rattle.upstreams.specs.Kept.{with_due}
@@ -44,7 +43,7 @@ use Rattle.policy.specs.Moves.Deed.{Takes}
 use Rattle.policy.specs.State.{State}
 use Rattle.policy.specs.Rule.{added_in}
 use Rattle.policy.specs.Coming.{IsGained}
-use Rattle.policy.specs.Steps.{told_by, told_behind}
+use Rattle.policy.specs.Steps.{told_behind}
 use Rattle.receiving.specs.Marks.{total}
 use Rattle.marks_kept.specs.Sides.{Side, queue_if, queue_of}
 use Rattle.marks_kept.specs.Sides.{without as without_side}
@@ -52,16 +51,16 @@ use Rattle.marks_kept.proofs.Looking.{gone_own}
 use Rattle.marks_kept.proofs.Rising.{without_none}
 use Rattle.relay.specs.View.{View, square, waiting_for, Leads}
 use Rattle.relay.specs.Rest.{IsAtRest}
-use Rattle.relay.specs.Bringing.{Course, Brings, PerformsOwn}
+use Rattle.relay.specs.Bringing.{Brings, PerformsOwn}
 use Rattle.relay.proofs.Bringing.{own_none, own_then, brings_then}
-use Rattle.relay.proofs.Coming.{no_outside, inbound_behind, change_between, offers_with, told_of_rows}
+use Rattle.relay.proofs.Coming.{no_outside, inbound_behind, change_between, offers_with}
 use Rattle.relay.proofs.Coming as coming
 use Rattle.relay.proofs.Resets.{reset_view, reset_paid}
 use Rattle.steps.proofs.paying.Paying.{pays_control}
 use Rattle.steps.specs.declared.paying.control.Control.TheVariants as control
 use Rattle.steps.specs.block_frames.Following.{offers_if, held_if, marks_if, dropped_if, dropped_by, followed, forgotten, farewell_frames, with_farewell, put_farewell}
 use Rattle.steps.proofs.block_frames.Lists.{offers_followed, offers_replied, offers_gone, held_by, held_gone}
-use Rattle.steps.proofs.block_frames.Before.{ready, kept_rows, box_there, is_taken, leads_there}
+use Rattle.steps.proofs.block_frames.Before.{ready, box_there, is_taken, leads_there}
 
 -- the farewell is paid, if it is owed
 pub pays_farewell : (setup : Setup) (kept : View) (back : ℕ) (last : Option ℕ) (rest : List Frame) (outputs : List Output)

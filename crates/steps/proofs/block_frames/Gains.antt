@@ -1,12 +1,11 @@
 -- A request begins, or ends with trailers: what that brings.
-use Rattle.std.proofs.Common.{◌≡◌, ℕ, ◌<◌, ◌≤◌, ◌+◌, Bool, true, false, not, ◌&&◌, ◌||◌, ◌==◌, if◌then◌else◌, List, [], ◌∷◌, ◌++◌, append-nil, length, Option, Some, None, refl, sym, ◌∙◌, ap, subst, inl, inr, arith}
+use Rattle.std.proofs.Common.{◌≡◌, ℕ, ◌+◌, Bool, true, false, not, ◌&&◌, ◌||◌, ◌==◌, if◌then◌else◌, List, [], ◌∷◌, ◌++◌, Option, Some, None, refl, sym, ◌∙◌, ap, subst, arith}
 use Rattle.std.specs.Prelude.{is_none, is_some}
 use Rattle.std.proofs.lemmas.Bool.{or_parts, eqb-false}
-use Rattle.model.specs.Messages.{Field, Item, ends_with}
+use Rattle.model.specs.Messages.{Field, Item}
 use Rattle.model.specs.Messages.Item.{Block}
-use Rattle.model.specs.Frames.{Frame, rst_stream_kind}
+use Rattle.model.specs.Frames.{Frame}
 use Rattle.model.specs.Logs.{Output}
-use Rattle.model.specs.Http2.{authority_of, path_of}
 use Rattle.model.specs.Malformed.{is_malformed_block, are_trailers, has_length}
 use Rattle.model.specs.Setup.{Setup}
 use Rattle.model.specs.Tables.{Table}
@@ -15,7 +14,7 @@ use Rattle.model.specs.Tapes.Note.{Fields}
 use Rattle.model.specs.Tapes.Entry.{Came}
 use Rattle.model.specs.Causes.{Cause, are_large, cause_if}
 use Rattle.model.specs.Causes.Cause.{LargeFields}
-use Rattle.model.specs.Courses.{cause_of_block, first_of_both}
+use Rattle.model.specs.Courses.{cause_of_block}
 use Rattle.model.specs.Decoding.{Partial, is_read}
 use Rattle.model.specs.Errors.{Fault, first_of, or_else}
 use Rattle.model.specs.Errors.Fault.{Stream}
@@ -24,12 +23,11 @@ use Rattle.model.specs.FrameErrors.{fault_if}
 use Rattle.model.specs.ErrorTable.{is_malformed}
 use Rattle.h1_writer.specs.Sending.{Stage}
 use Rattle.h1_writer.specs.Sending.Stage.{Whole}
-use Rattle.request_rules.specs.Heads.{parts_of}
 use Rattle.causes.specs.Openings.{GoesOn}
 use Rattle.conduct.specs.Summary.{Stream as Kept, Brief, Summary, carried_in}
 use Rattle.conduct.specs.Judging.{completed_in, rows_in, malformed_in}
-use Rattle.conduct.specs.Owing.{fault_in, owes_in, must_end_in}
-use Rattle.conduct.specs.Rows.{Row, find}
+use Rattle.conduct.specs.Owing.{fault_in, owes_in}
+use Rattle.conduct.specs.Rows.{find}
 use Rattle.conduct.specs.Book.{Book, summary_in, book_after}
 use Rattle.offering.specs.State as offering
 use Rattle.offering.specs.Rule.{found_by}

@@ -1,30 +1,25 @@
 -- What has to be so before the answer is acted on, and what comes of it, by where moves led.
-use Rattle.std.proofs.Common.{◌≡◌, ℕ, ◌<◌, ◌≤◌, ◌⊎◌, Bool, true, false, if◌then◌else◌, List, [], ◌∷◌, length, Option, Some, None, refl, sym, ◌∙◌, ap, subst, inl, inr}
+use Rattle.std.proofs.Common.{◌≡◌, ℕ, ◌<◌, ◌≤◌, ◌⊎◌, Bool, true, false, if◌then◌else◌, List, [], length, Some, None, refl, sym, ◌∙◌, ap, subst, inl, inr}
 use Rattle.model.specs.Messages.{Field}
 use Rattle.model.specs.Frames.{Frame}
-use Rattle.model.specs.Http2.{HasLength}
 use Rattle.model.specs.Logs.{Output}
 use Rattle.model.specs.Setup.{Setup}
 use Rattle.model.specs.StreamStates.{most_streams}
-use Rattle.model.specs.Tapes.{Noted}
 use Rattle.model.specs.Tapes.Note.{Fields}
 use Rattle.model.specs.Tapes.Entry.{Came}
 use Rattle.model.specs.Causes.{Cause, reset_code, cause_if, are_large, cause_of_head}
 use Rattle.model.specs.Causes.Cause.{LargeFields}
 use Rattle.model.specs.Courses.{cause_of_block}
-use Rattle.model.specs.Decoding.{Partial}
 use Rattle.model.specs.ErrorClause.{is_fatal}
 use Rattle.causes.specs.Views.{cause_of}
 use Rattle.causes.specs.declared.cause.Cause.{Cause as Why}
-use Rattle.conduct.specs.Judging.{is_over_in, completed_in}
+use Rattle.conduct.specs.Judging.{is_over_in}
 use Rattle.conduct.specs.Rows.{Row, ids_of, find}
-use Rattle.conduct.specs.Rows.Slot.{Over}
-use Rattle.conduct.specs.Book.{Book, book_after}
+use Rattle.conduct.specs.Book.{Book}
 use Rattle.conduct.specs.Tidy.{AreKept}
 use Rattle.offering.specs.State as offering
-use Rattle.request_rules.specs.Heads.{HeadParts}
 use Rattle.streams_kept.specs.Asked.{is_active}
-use Rattle.judgement.specs.Inbound.{Inbound, book_of, told_of}
+use Rattle.judgement.specs.Inbound.{Inbound, told_of}
 use Rattle.judgement.specs.Fragments.{IsOfBlock, IsFragmentJudged}
 use Rattle.judgement.specs.declared.answers.Fault.TheVariants as fault
 use Rattle.judgement.specs.declared.answers.BlockJudged.{BlockJudged}

@@ -1,12 +1,11 @@
 -- What comes of a frame with a fragment, by the judgement's answer and what was done.
 use Rattle.std.proofs.Common.{◌≡◌, ℕ, ◌<◌, ◌≤◌, ◌+◌, ◌⊎◌, Bool, true, false, ◌||◌, ◌==◌, if◌then◌else◌, List, [], ◌∷◌, ◌++◌, length, Option, Some, None, refl, sym, ◌∙◌, ap, subst, inl, inr}
-use Rattle.model.specs.Frames.{Frame, rst_stream_kind, data_kind}
+use Rattle.model.specs.Frames.{Frame}
 use Rattle.model.specs.Logs.{Output}
 use Rattle.model.specs.Setup.{Setup}
 use Rattle.model.specs.Tables.{Table}
 use Rattle.model.specs.StreamStates.{most_streams}
-use Rattle.model.specs.Tapes.{Note, Noted}
-use Rattle.model.specs.Tapes.Note.{Fields}
+use Rattle.model.specs.Tapes.{Noted}
 use Rattle.model.specs.Tapes.Entry.{Came}
 use Rattle.model.specs.Causes.{Cause}
 use Rattle.model.specs.Courses.{first_of_both}

@@ -1,9 +1,9 @@
 -- The stream of a frame that completes a header block, before it and behind it.
-use Rattle.std.proofs.Common.{◌≡◌, ℕ, ◌<◌, ◌≤◌, ◌⊎◌, Bool, true, false, not, ◌&&◌, ◌||◌, ◌==◌, nat_lt, if◌then◌else◌, List, [], ◌∷◌, map, filter, length, Option, Some, None, refl, sym, ◌∙◌, ap, subst, inl, inr, arith}
-use Rattle.std.specs.List.{list_any, list_all}
+use Rattle.std.proofs.Common.{◌≡◌, ℕ, ◌≤◌, ◌⊎◌, Bool, true, false, not, ◌&&◌, ◌||◌, ◌==◌, if◌then◌else◌, List, [], ◌∷◌, map, filter, length, Option, Some, None, refl, sym, ◌∙◌, ap, inl, inr, arith}
+use Rattle.std.specs.List.{list_any}
 use Rattle.std.proofs.lemmas.Bool.{or_parts, and_parts, and_from, eq-eqb, eqb-true, ne_eqb}
 use Rattle.model.specs.Messages.{Field}
-use Rattle.model.specs.Frames.{Frame, headers_kind, rst_stream_kind}
+use Rattle.model.specs.Frames.{headers_kind, rst_stream_kind}
 use Rattle.model.specs.Setup.{Setup}
 use Rattle.model.specs.Tapes.{Note, Noted}
 use Rattle.model.specs.Tapes.Note.{Fields}
@@ -12,7 +12,7 @@ use Rattle.model.specs.Decoding.{Partial}
 use Rattle.model.specs.StreamStates.{Standing, most_streams, verdict}
 use Rattle.model.specs.StreamStates.Standing.{WholeConnection, Opened, Idle, ServerIdle, Skipped, Beyond}
 use Rattle.model.specs.ErrorTable.{fault_of, judged}
-use Rattle.model.specs.Lifetimes.{opens_by, may_open, ends_by}
+use Rattle.model.specs.Lifetimes.{opens_by, may_open}
 use Rattle.model.proofs.OpenedLaws.{not_opened}
 use Rattle.conduct.specs.Summary.{Stream as Kept, Summary}
 use Rattle.conduct.specs.Judging.{is_over_in, completed_in, active_in, standing_in, fault_on_in, fault_for}

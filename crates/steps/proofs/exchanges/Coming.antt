@@ -26,7 +26,7 @@ use Rattle.receiving.specs.State as receiving
 use Rattle.serving.specs.State as serving
 use Rattle.serving.specs.State.{Live, live_of, find}
 use Rattle.serving.specs.Rule as requests
-use Rattle.serving.specs.Rule.{is_done, IsKept}
+use Rattle.serving.specs.Rule.{is_done}
 use Rattle.serving.proofs.Clauses.{none_done}
 use Rattle.serving.proofs.Fitting.{not_not}
 use Rattle.serving.proofs.Reasons.{heard_same}

@@ -30,7 +30,7 @@ use Rattle.conduct.proofs.Telling.{book_told, live_told}
 use Rattle.offering.specs.Outbox.{Outbox, offered_by}
 use Rattle.offering.specs.Outbox.Outbox.{Before, Behind, Over}
 use Rattle.offering.specs.State as offering
-use Rattle.offering.specs.State.{Kept, answered, answered_box, change}
+use Rattle.offering.specs.State.{Kept, answered, answered_box}
 use Rattle.offering.proofs.Keeping.{answered_id, find_changed}
 use Rattle.offering.proofs.Offering.{IsKeptIf, IsHeld}
 use Rattle.offering.proofs.Standing as offered

@@ -1,5 +1,5 @@
 -- The state as it is kept, in one form, and moves from one such state to the next.
-use Rattle.std.proofs.Common.{◌≡◌, ℕ, ◌+◌, Bool, true, false, not, ◌&&◌, ◌==◌, List, [], ◌∷◌, ◌++◌, Option, Some, None, refl, sym, ◌∙◌, ap, subst, if◌then◌else◌, add-zero}
+use Rattle.std.proofs.Common.{◌≡◌, ℕ, ◌+◌, Bool, true, false, not, ◌==◌, List, [], ◌∷◌, ◌++◌, Option, Some, None, refl, sym, ◌∙◌, ap, subst, if◌then◌else◌, add-zero}
 use Rattle.std.proofs.lemmas.Bool.{and_parts}
 use Rattle.model.specs.Messages.{Item}
 use Rattle.model.specs.Frames.{Frame, rst_stream_kind, window_update_kind}

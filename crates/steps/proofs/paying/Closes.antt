@@ -10,7 +10,7 @@ use Rattle.conduct.specs.Book.{Book, Desk, desk_after, summary_in}
 use Rattle.judgement.specs.Inbound.{book_of}
 use Rattle.judgement.proofs.SendingEvents.{closes_lead, did_desk}
 use Rattle.serving.specs.State as serving
-use Rattle.serving.specs.State.{Live, k_of, live_of, find, without, drop_from}
+use Rattle.serving.specs.State.{Live, k_of, live_of, without, drop_from}
 use Rattle.serving.specs.Rule.{is_done, MayClose}
 use Rattle.upstreams.specs.Kept as upstreams
 use Rattle.upstreams.specs.Connections.{number_of, lives, AreBelow}

@@ -10,7 +10,7 @@ use Rattle.conduct.specs.Rows.{find}
 use Rattle.conduct.specs.Judging.{is_over_in}
 use Rattle.outputs.specs.Sent.{window_update}
 use Rattle.streams_kept.specs.Asked.{has, is_active}
-use Rattle.relay.specs.View.{View, square, GoBack, Keeps}
+use Rattle.relay.specs.View.{View, square, Keeps}
 use Rattle.relay.specs.Rest.{GoesOn}
 use Rattle.relay.specs.Bringing.{PerformsOwn}
 use Rattle.relay.proofs.Bringing.{own_then}

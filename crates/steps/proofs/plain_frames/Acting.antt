@@ -42,7 +42,6 @@ use Rattle.judgement.specs.declared.answers.Judged.{Judged}
 use Rattle.judgement.specs.declared.answers.Judged.TheVariants as judged
 use Rattle.judgement.specs.Sending.{behind_reset}
 use Rattle.judgement.proofs.SendingBooks.{reset_leads}
-use Rattle.upstreams.specs.Requests.{due_by}
 use Rattle.policy.specs.Moves.{Move}
 use Rattle.policy.specs.State.{State}
 use Rattle.policy.specs.Steps.{told_by}

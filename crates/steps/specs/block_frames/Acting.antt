@@ -1,5 +1,5 @@
 -- What is done by the judgement's answer to a frame with a fragment of a header block, from what is kept behind the judgement.
-use Rattle.std.specs.Prelude.{◌≡◌, ◌+◌, ℕ, Bool, true, false, List, [], length, Option, Some, None}
+use Rattle.std.specs.Prelude.{◌≡◌, ◌+◌, ℕ, Bool, true, List, [], length, Option, Some, None}
 use Rattle.model.specs.Frames.{spell}
 use Rattle.model.specs.Http2.{HasLength}
 use Rattle.model.specs.Logs.{Output}
@@ -12,7 +12,7 @@ use Rattle.conduct.specs.Rows.{find}
 use Rattle.conduct.specs.Rows.Slot.{Over}
 use Rattle.offering.specs.State.{change, answered}
 use Rattle.request_rules.specs.Heads.{HeadParts}
-use Rattle.serving.specs.State.{Due, id_of, held_of, without}
+use Rattle.serving.specs.State.{Due, held_of}
 use Rattle.serving.specs.State.Due.{Nothing}
 use Rattle.streams_kept.specs.Asked.{is_active, changed}
 use Rattle.judgement.specs.declared.answers.Fault.TheVariants as fault
@@ -22,7 +22,7 @@ use Rattle.upstreams.specs.Kept as upstreams
 use Rattle.upstreams.specs.Kept.{Begins}
 use Rattle.upstreams.specs.Requests.{due_by, MayTakeOf, Takes}
 use Rattle.relay.specs.View.{View, waiting_for}
-use Rattle.steps.specs.block_frames.Following.{followed, forgotten, dropped_by, IsNewest, with_farewell, put_farewell}
+use Rattle.steps.specs.block_frames.Following.{followed, forgotten, dropped_by, with_farewell, put_farewell}
 use Rattle.steps.specs.declared.block_frames.taking.BlockTaken.{BlockTaken}
 use Rattle.steps.specs.declared.block_frames.taking.BlockTaken.TheVariants as taken
 

@@ -5,7 +5,6 @@ use Rattle.model.specs.StreamStates.{most_streams}
 use Rattle.model.specs.Logs.{Output}
 use Rattle.model.specs.Logs.Output.{ToClient}
 use Rattle.model.specs.Tapes.{put}
-use Rattle.model.specs.ErrorClause.{rst_stream}
 use Rattle.conduct.specs.Owing.{highest_in}
 use Rattle.conduct.specs.Rows.{Row, ids_of}
 use Rattle.offering.specs.State as offering

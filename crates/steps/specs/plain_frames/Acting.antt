@@ -1,5 +1,5 @@
 -- What is done by the judgement's answer, from what is kept behind the judgement.
-use Rattle.std.specs.Prelude.{◌≡◌, ◌≤◌, ◌+◌, ℕ, Bool, true, false, not, ◌&&◌, List, ◌∷◌, length, Some, None}
+use Rattle.std.specs.Prelude.{◌≡◌, ◌≤◌, ◌+◌, ℕ, Bool, true, false, not, ◌&&◌, List, ◌∷◌, length}
 use Rattle.model.specs.Frames.{Frame, spell, settings_ack, enhance_your_calm}
 use Rattle.model.specs.Logs.{Output}
 use Rattle.model.specs.Logs.Output.{ToClient}

@@ -1,4 +1,4 @@
-//! The connection that is due is opened.
+//! The connection that is due is opened, or what is due is sent on one that is open.
 
 ghost use Rattle.std.specs.Prelude.{◌≡◌, ℕ, List, codes, OnOk};
 ghost use Rattle.model.specs.Frames.{Frame};
@@ -6,7 +6,6 @@ ghost use Rattle.model.specs.Causes.{is_front_of};
 ghost use Rattle.model.specs.Setup.{Setup};
 ghost use Rattle.serving.specs.State.Due.{ToSend};
 ghost use Rattle.answers.specs.Waiting.{passing_in};
-ghost use Rattle.marks_kept.specs.Sides.{change, putting};
 ghost use Rattle.upstreams.specs.Requests.{due_for};
 ghost use Rattle.relay.specs.View.{square};
 ghost use Rattle.relay.specs.Rest.{Reached};

@@ -1,6 +1,6 @@
 //! The next part of a stream's response goes out, and what is left of it is kept.
 
-ghost use Rattle.std.specs.Prelude.{◌≡◌, ◌+◌, ◌*◌, ◌-◌, ◌/◌, ◌<◌, ◌≤◌, ◌^◌, true, false, not, ◌≤ℤ◌, pos, IfOk, OnOk, MatchOption};
+ghost use Rattle.std.specs.Prelude.{◌≡◌, ◌+◌, ◌*◌, ◌-◌, ◌/◌, ◌<◌, ◌≤◌, ◌^◌, true, false, ◌≤ℤ◌, pos, IfOk, OnOk, MatchOption};
 ghost use Rattle.model.specs.Admission.{high_water};
 ghost use Rattle.conduct.specs.Judging.{window_in};
 ghost use Rattle.conduct.specs.Rows.{find};

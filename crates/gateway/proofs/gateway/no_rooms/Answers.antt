@@ -1,5 +1,15 @@
-use Rattle.gateway.proofs.Sizes.{none_small}
+use Rattle.std.proofs.Common.{[]}
+use Rattle.model.specs.Setup.{Setup}
+use Rattle.model.specs.Setup.Policy.{Plain}
+use Rattle.model.specs.Setup.Passing.{Whole}
+use Rattle.gateway.proofs.Sizes.{none_small, none_held}
 use Rattle.gateway.proofs.gateway.no_rooms.Goals as goal
 
-pub returns : goal.returns
-returns c setup = none_small setup _ (c.new.ensures.book setup) c.new-2.ensures c.new-3.ensures c.new.ensures.table c.new-5.ensures
+pub returns-clause-small : goal.returns-clause-small
+returns-clause-small c setup = none_small setup _ (c.new.ensures.book setup) c.new-2.ensures c.new-3.ensures c.new.ensures.table c.new-5.ensures
+
+-- by any setup
+pub returns-clause-nothing : goal.returns-clause-nothing
+returns-clause-nothing c =
+    let some : Setup = record { routes = []; policy = Plain; passing = Whole; max_body = 0; max_response = 0 } in
+    none_held some _ (c.new.ensures.book some) c.new-2.ensures c.new-3.ensures c.new.ensures.table c.new-5.ensures

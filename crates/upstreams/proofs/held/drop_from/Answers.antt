@@ -1,4 +1,4 @@
-use Rattle.std.proofs.Common.{rules, ◌≡◌, ◌<◌, ◌≤◌, add-one, length, sym, ap, ◌∙◌}
+use Rattle.std.proofs.Common.{rules, ◌≡◌, ◌<◌, ◌≤◌, add-one, length}
 use Rattle.upstreams.proofs.Requests.{dropped_next, dropped_out}
 use Rattle.upstreams.proofs.held.drop_from.Goals as goal
 

@@ -4,9 +4,8 @@ use Rattle.std.proofs.lemmas.List.{get_or_read}
 use Rattle.std.proofs.lemmas.Result.{IfOk-weaker}
 use Rattle.serving.specs.Held.{AreApart}
 use Rattle.serving.specs.State.{Held, held_of}
-use Rattle.serving.specs.State.Way.{Dropped}
 use Rattle.serving.proofs.Served.{apart_with, apart_without}
-use Rattle.upstreams.specs.Requests.{no_held, due_by, IsHeldAt, MayTake, MayTakeOf, GoesBy, Takes}
+use Rattle.upstreams.specs.Requests.{no_held, due_by, IsHeldAt, MayTake, MayTakeOf, GoesBy}
 use Rattle.upstreams.proofs.Requests.{none_there, stays_there, goes_there, ends_there, may_there, held_on, taken_out}
 use Rattle.upstreams.proofs.held.take_body.Goals as goal
 

@@ -1,6 +1,5 @@
-use Rattle.std.proofs.Common.{rules, ◌≡◌, ◌≤◌, Bool, true, false, List, [], ◌++◌, length, refl, sym, ap, ◌∙◌, subst, inl, inr}
+use Rattle.std.proofs.Common.{rules, ◌≡◌, ◌≤◌, true, false, [], ◌++◌, length, refl, ap, subst, inl, inr}
 use Rattle.offering.specs.Outbox.{grown}
-use Rattle.h1_reader.specs.Parts.{Part}
 use Rattle.h1_reader.specs.Views.{parts_of}
 use Rattle.h1_reader.specs.declared.fault.ResponseFault.TheVariants.{Memory}
 use Rattle.h1_reader.specs.Standing.{Hears, Breaks, is_done}

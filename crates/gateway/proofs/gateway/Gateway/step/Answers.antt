@@ -1,7 +1,8 @@
-use Rattle.std.proofs.Common.{◌∷◌, ◌++◌, ap}
+use Rattle.std.proofs.Common.{◌∷◌, ◌++◌, ap, sym, ◌∙◌}
 use Rattle.outputs.specs.Views.{event_of}
 use Rattle.gateway.specs.Stands.{Standing}
-use Rattle.gateway.proofs.Sizes.{empty_within}
+use Rattle.gateway.specs.Stands.{is_open}
+use Rattle.gateway.proofs.Sizes.{empty_within, none_in}
 use Rattle.gateway.proofs.gateway.Gateway.step.Goals as goal
 
 pub returns-in-Ok-clause-stands : goal.returns-in-Ok-clause-stands
@@ -22,3 +23,9 @@ returns-in-Ok-clause-held c = λ setup log run stands.
 
 pub returns-in-Err-clause-held : goal.returns-in-Err-clause-held
 returns-in-Err-clause-held c = λ setup log run stands. empty_within setup c.let_go.new.self (ap (λ (g : Standing). g.partial) c.let_go.ensures.stays) (c.let_go.ensures.small setup)
+
+pub returns-in-Ok-clause-lets_go : goal.returns-in-Ok-clause-lets_go
+returns-in-Ok-clause-lets_go c = λ was over. c.let_go_if_over.ensures.nothing (sym (ap is_open c.let_go_if_over.ensures.phase) ∙ over) c.in-Ok.ensures.alive
+
+pub returns-in-Err-clause-lets_go : goal.returns-in-Err-clause-lets_go
+returns-in-Err-clause-lets_go c = λ was over. none_in c.let_go.new.self (ap (λ (g : Standing). g.partial) c.let_go.ensures.stays) c.let_go.ensures.nothing

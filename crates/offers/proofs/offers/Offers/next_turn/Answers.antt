@@ -1,8 +1,8 @@
-use Rattle.std.proofs.Common.{subst, List, ℕ, ℤ, w64, ◌≡◌}
+use Rattle.std.proofs.Common.{subst, List, ℕ, ℤ, w64}
 use Rattle.std.proofs.lemmas.Int.{to_z-of_z}
 use Rattle.model.specs.Turns.{IsNextTurn}
 use Rattle.offering.specs.State.{Kept, State, Windows, ready}
-use Rattle.offers.specs.Places.{AreRising, AreAllOffered}
+use Rattle.offers.specs.Places.{AreAllOffered}
 use Rattle.offers.specs.Asked.{windows_over}
 use Rattle.offers.proofs.OnOffer.{ready_same, rising_some}
 use Rattle.offers.proofs.offers.Offers.next_turn.Goals as goal

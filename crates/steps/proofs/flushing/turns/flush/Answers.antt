@@ -1,10 +1,5 @@
-use Rattle.std.proofs.Common.{subst}
-use Rattle.relay.specs.View.{square}
 use Rattle.relay.specs.Rest.{back_of}
-use Rattle.relay.specs.Bringing.{PerformsOwn}
 use Rattle.relay.proofs.Bringing.{own_none, own_then}
-use Rattle.steps.proofs.flushing.Performing.{turn_active}
-use Rattle.steps.proofs.paying.Rows.{active_goes_on}
 use Rattle.steps.proofs.flushing.turns.flush.Goals as goal
 
 pub loop-rooms-init : goal.loop-rooms-init

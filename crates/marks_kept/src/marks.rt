@@ -1,6 +1,6 @@
 //! What is kept of the DATA of all active streams.
 
-ghost use Rattle.std.specs.Prelude.{◌≡◌, ◌+◌, ◌<◌, ◌≤◌, ◌^◌, [], ◌∷◌, ◌++◌, length, true, IfSome, OnOk, OnErr};
+ghost use Rattle.std.specs.Prelude.{◌≡◌, ◌+◌, ◌<◌, ◌≤◌, ◌^◌, ℕ, [], ◌∷◌, ◌++◌, length, true, IfSome, OnOk, OnErr};
 ghost use Rattle.receiving.specs.Marks.{total, released};
 ghost use Rattle.marks_kept.specs.Sides.{find, change, without, is_above_all, opened, putting, taking, waiting, number_of, queue_of, took_of, has_untaken};
 
@@ -71,6 +71,13 @@ impl Marks {
             Some(place) => self.sides[place].total(),
             None => 0,
         }
+    }
+
+    /// A law of what is kept, which takes no step: no stream has more marks than octets that wait, since behind each mark some do.
+    pub fn are_few(&self)
+        ensures { (id : ℕ) → length (queue_of id self.now) ≤ total (queue_of id self.now) }
+    {
+        let _ = &self.sides;
     }
 
     /// Whether not all octets that were put out for a stream's connection are taken: then its DATA waits.

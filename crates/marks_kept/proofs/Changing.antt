@@ -3,8 +3,10 @@ use Rattle.std.proofs.Common.{◌≡◌, ℕ, List, set, get_or, Some, refl, sym
 use Rattle.std.specs.Prelude.{Result, Ok, Err, OnOk}
 use Rattle.std.proofs.lemmas.List.{get_or_default}
 use Rattle.marks_kept.specs.Sides.{Side, opened, find, change}
-use Rattle.marks_kept.specs.Places.{at, AreRising, IsAt}
+use Rattle.receiving_queue.specs.Counts.{AreSome}
+use Rattle.marks_kept.specs.Places.{at, AreRising, AllAreSome, IsAt}
 use Rattle.marks_kept.proofs.Rising.{find_at, change_at, rising_changed}
+use Rattle.marks_kept.proofs.Counted.{some_at}
 
 -- what follows of a success follows where there is one
 pub on_ok : {X E : Type 0} (P Q : Type 0) (r : Result X E) → OnOk r P → (P → Q) → OnOk r Q
@@ -18,6 +20,10 @@ module _ (sides : List Side) (id place : ℕ) (rising : AreRising sides) (is : I
 
   pub found : find id sides ≡ Some side
   found = find_at id sides place rising is ∙ ap Some stands
+
+  -- behind its marks wait some octets
+  pub some_read : AllAreSome sides → AreSome side.queue
+  some_read all = subst (λ (s : Side). AreSome s.queue) stands (some_at sides place all)
 
   -- another in its place is it, changed
   pub changed_to : (f : Side → Side) (new : Side) → new ≡ f side → set sides place new ≡ change id f sides

@@ -1,6 +1,7 @@
 -- Streams that are kept, in the order of their ids.
 use Rattle.std.specs.Prelude.{◌≡◌, ℕ, ◌<◌, Bool, true, nat_lt, List, [], ◌∷◌, length, slice_index_or}
 use Rattle.std.specs.List.{list_all}
+use Rattle.receiving_queue.specs.Counts.{AreSome}
 use Rattle.marks_kept.specs.Sides.{Side, opened}
 
 -- the stream at a place
@@ -20,3 +21,8 @@ AreRising (side ∷ sides) = (is_below_all side.id sides ≡ true) × AreRising 
 pub record IsAt (sides : List Side) (id place : ℕ) : Type 0 where
   pub within : place < length sides
   pub has_id : (at sides place).id ≡ id
+
+-- Behind each mark of each stream wait some octets.
+abbrev pub AllAreSome : List Side → Type 0
+AllAreSome [] = Unit {0}
+AllAreSome (side ∷ sides) = AreSome side.queue × AllAreSome sides

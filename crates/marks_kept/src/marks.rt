@@ -1,6 +1,6 @@
 //! What is kept of the DATA of all active streams.
 
-ghost use Rattle.std.specs.Prelude.{◌≡◌, ◌+◌, ◌<◌, ◌≤◌, ◌^◌, [], ◌∷◌, ◌++◌, true, IfSome, OnOk, OnErr};
+ghost use Rattle.std.specs.Prelude.{◌≡◌, ◌+◌, ◌<◌, ◌≤◌, ◌^◌, ℕ, [], ◌∷◌, ◌++◌, length, true, IfSome, OnOk, OnErr};
 ghost use Rattle.receiving.specs.Marks.{total, released};
 ghost use Rattle.marks_kept.specs.Sides.{find, change, without, is_above_all, opened, putting, taking, waiting, number_of, queue_of, took_of, has_untaken};
 
@@ -11,7 +11,7 @@ use std::marker::Model;
 
 /// The octets of active streams' DATA that wait until their upstreams' sides took what was put out for them, where bodies are passed on as
 /// they come. A clause sees the streams for which a connection was opened, in the order of their ids, each with the numbers of its connection,
-/// also once that is closed: what was taken of it counts as it stood then.
+/// also once that is closed: what was taken of it counts as it stood then. Behind each mark of a stream wait some octets.
 #[derive(Drop)]
 pub struct Marks {
     alloc: Global,
@@ -21,13 +21,13 @@ pub struct Marks {
 impl Model for Marks {
     ghost use Rattle.std.specs.Prelude.{List};
     ghost use Rattle.marks_kept.specs.Sides.{Side as SideOfStream};
-    ghost use Rattle.marks_kept.specs.Places.{AreRising};
+    ghost use Rattle.marks_kept.specs.Places.{AreRising, AllAreSome};
 
     ghost Value = { List SideOfStream };
 
     ghost view = { λ marks. marks.sides.items };
 
-    ghost invariant = { λ marks. AreRising marks.sides.items };
+    ghost invariant = { λ marks. AreRising marks.sides.items × AllAreSome marks.sides.items };
 }
 
 impl Marks {
@@ -62,14 +62,22 @@ impl Marks {
         }
     }
 
-    /// How many octets of a stream's DATA wait.
+    /// How many octets of a stream's DATA wait. It has no more marks than these.
     pub fn total(&self, id: u32) -> u64
-        ensures { result ≡ total (queue_of id self.now) }
+        ensures all { result ≡ total (queue_of id self.now) }
+        ensures few { length (queue_of id self.now) ≤ result }
     {
         match place_of(&self.sides, id) {
             Some(place) => self.sides[place].total(),
             None => 0,
         }
+    }
+
+    /// A law of what is kept, which takes no step: no stream has more marks than octets that wait, since behind each mark some do.
+    pub fn are_few(&self)
+        ensures { (id : ℕ) → length (queue_of id self.now) ≤ total (queue_of id self.now) }
+    {
+        let _ = &self.sides;
     }
 
     /// Whether not all octets that were put out for a stream's connection are taken: then its DATA waits.
@@ -105,10 +113,11 @@ impl Marks {
         }
     }
 
-    /// So many octets of a stream's DATA wait until all is taken that was put out for its connection. One that isn't kept changes nothing. An
-    /// `Err` says that memory was refused; it changes nothing.
+    /// So many octets of a stream's DATA, of which there are some, wait until all is taken that was put out for its connection. One that isn't kept
+    /// changes nothing. An `Err` says that memory was refused; it changes nothing.
     pub fn wait(&mut self, id: u32, count: u64) -> Result<(), AllocError>
-        requires { total (queue_of id self.old) + count < 2 ^ 64 }
+        requires some { 0 < count }
+        requires fits { total (queue_of id self.old) + count < 2 ^ 64 }
         ensures added { OnOk result (self.new ≡ change id (waiting count) self.old) }
         ensures unchanged { OnErr result (self.new ≡ self.old) }
     {

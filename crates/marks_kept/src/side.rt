@@ -1,6 +1,6 @@
 //! What is kept of an active stream.
 
-ghost use Rattle.std.specs.Prelude.{◌≡◌, ◌+◌, ◌<◌, ◌≤◌, ◌^◌, nat_lt, OnOk, OnErr};
+ghost use Rattle.std.specs.Prelude.{◌≡◌, ◌+◌, ◌<◌, ◌≤◌, ◌^◌, length, nat_lt, OnOk, OnErr};
 ghost use Rattle.receiving.specs.Marks.{total, released};
 ghost use Rattle.marks_kept.specs.Sides.{opened, putting, taking, waiting};
 
@@ -60,9 +60,10 @@ impl Side {
         *number
     }
 
-    /// How many octets of its DATA wait.
+    /// How many octets of its DATA wait. It has no more marks than these.
     pub fn total(&self) -> u64
-        ensures { result ≡ total self.now.queue }
+        ensures all { result ≡ total self.now.queue }
+        ensures few { length self.now.queue ≤ result }
     {
         self.queue.total()
     }
@@ -92,9 +93,11 @@ impl Side {
         self.queue.reach(self.taken)
     }
 
-    /// So many octets of DATA wait until all is taken that was put out. An `Err` says that memory was refused; it changes nothing.
+    /// So many octets of DATA, of which there are some, wait until all is taken that was put out. An `Err` says that memory was refused; it
+    /// changes nothing.
     pub fn wait(&mut self, count: u64) -> Result<(), AllocError>
-        requires { total self.now.queue + count < 2 ^ 64 }
+        requires some { 0 < count }
+        requires fits { total self.now.queue + count < 2 ^ 64 }
         ensures added { OnOk result (self.new ≡ waiting count self.old) }
         ensures unchanged { OnErr result (self.new ≡ self.old) }
         ensures id { self.new.id ≡ self.old.id }

@@ -1,7 +1,7 @@
 //! The octets of a stream's DATA that wait for its upstream's side, in a queue.
 #![tactic(auto)]
 
-ghost use Rattle.std.specs.Prelude.{◌≡◌, ◌+◌, ◌<◌, ◌^◌, [], length, MatchOption, OnOk, OnErr};
+ghost use Rattle.std.specs.Prelude.{◌≡◌, ◌+◌, ◌<◌, ◌≤◌, ◌^◌, [], length, MatchOption, OnOk, OnErr};
 ghost use Rattle.receiving.specs.Marks.{total, pop, released, push};
 ghost use Rattle.receiving_queue.specs.Waiting.{marks_of};
 
@@ -18,8 +18,8 @@ struct Mark {
     count: u64,
 }
 
-/// The octets of a stream's DATA that wait for its upstream's side. A clause sees their marks, the oldest first; all octets together
-/// are fewer than 2^64.
+/// The octets of a stream's DATA that wait for its upstream's side. A clause sees their marks, the oldest first; behind each wait some octets, and
+/// all octets together are fewer than 2^64.
 #[derive(Drop)]
 pub struct Waiting {
     marks: VecDeque<Mark>,
@@ -30,12 +30,13 @@ impl Model for Waiting {
     ghost use Rattle.std.specs.Prelude.{◌≡◌, List, ◌<◌, ◌^◌};
     ghost use Rattle.receiving.specs.Marks.{Mark as MarkOfOctets, total};
     ghost use Rattle.receiving_queue.specs.Waiting.{marks_of};
+    ghost use Rattle.receiving_queue.specs.Counts.{AreSome};
 
     ghost Value = { List MarkOfOctets };
 
     ghost view = { λ waiting. marks_of waiting.marks.items };
 
-    ghost invariant = { λ waiting. (total (marks_of waiting.marks.items) ≡ waiting.octets) × (waiting.octets < 2 ^ 64) };
+    ghost invariant = { λ waiting. (total (marks_of waiting.marks.items) ≡ waiting.octets) × (waiting.octets < 2 ^ 64) × AreSome (marks_of waiting.marks.items) };
 }
 
 impl Waiting {
@@ -49,10 +50,11 @@ impl Waiting {
         }
     }
 
-    /// So many octets more wait until so many are taken. An `Err` says that memory was refused; it changes nothing.
+    /// So many octets more, of which there are some, wait until so many are taken. An `Err` says that memory was refused; it changes nothing.
     #[tactic(auto, using(crate::proofs::Marked::marks_behind, crate::proofs::Marked::total_behind))]
     pub fn wait(&mut self, mark: u64, count: u64) -> Result<(), AllocError>
-        requires { total self.now + count < 2 ^ 64 }
+        requires some { 0 < count }
+        requires fits { total self.now + count < 2 ^ 64 }
         ensures added { OnOk result (self.new ≡ push self.old mark count) }
         ensures unchanged { OnErr result (self.new ≡ self.old) }
     {
@@ -72,9 +74,10 @@ impl Waiting {
         count
     }
 
-    /// How many octets wait.
+    /// How many octets wait. There are no more marks than these.
     pub fn total(&self) -> u64
-        ensures { result ≡ total self.now }
+        ensures all { result ≡ total self.now }
+        ensures few { length self.now ≤ result }
     {
         let Waiting { octets, .. } = self;
         *octets

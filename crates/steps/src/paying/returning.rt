@@ -95,9 +95,10 @@ pub fn return_dropped(rooms: &mut Rooms, dropped: u64, out: &mut Outputs) -> Res
     give_back(rooms, octets, out)
 }
 
-/// So many octets of the last frame wait until its stream's upstream has taken all that was put out for it. An `Err` says that memory was
-/// refused, or that these would be more than 2^64 - 1, which never wait.
+/// So many octets of the last frame, of which there are some, wait until its stream's upstream has taken all that was put out for it. An `Err` says
+/// that memory was refused, or that these would be more than 2^64 - 1, which never wait.
 fn wait(rooms: &mut Rooms, stream: u32, octets: u32) -> Result<(), AllocError>
+    requires { 0 < octets }
     ensures { OnOk result (rooms.new ≡ record rooms.old { marks = change stream (waiting octets) rooms.old.marks }) }
 {
     let count = u64::from(octets);

@@ -9,5 +9,5 @@ returns-in-Some c =
     let sides = c.self.inside.sides.items in
     let is : IsAt sides c.args.id c.in-Some.place = rw (← c.deref.ensures.value) c.in-Some.ensures.found in
     c.has_untaken.ensures
-    ∙ sym (ap has_untaken_if (found sides c.args.id c.in-Some.place c.self.invariant is c.index.result.now c.index.ensures))
+    ∙ sym (ap has_untaken_if (found sides c.args.id c.in-Some.place c.self.invariant.0 is c.index.result.now c.index.ensures))
     ∙ ap (has_untaken c.args.id) c.self.view_is

@@ -10,5 +10,5 @@ returns-in-Some c =
     let sides = c.self.inside.sides.items in
     let is : IsAt sides c.args.id c.in-Some.place = rw (← c.deref.ensures.value) c.in-Some.ensures.found in
     ap Some c.number.ensures
-    ∙ sym (ap (option_map (λ (side : Side). side.k)) (found sides c.args.id c.in-Some.place c.self.invariant is c.index.result.now c.index.ensures))
+    ∙ sym (ap (option_map (λ (side : Side). side.k)) (found sides c.args.id c.in-Some.place c.self.invariant.0 is c.index.result.now c.index.ensures))
     ∙ ap (number_of c.args.id) c.self.view_is

@@ -1,7 +1,8 @@
 use Rattle.std.proofs.Common.{◌≡◌, sym, ap, ◌∙◌, subst, true, [], ◌∷◌, ◌++◌}
 use Rattle.marks_kept.specs.Sides.{Side, is_above_all, opened}
-use Rattle.marks_kept.specs.Places.{AreRising}
+use Rattle.marks_kept.specs.Places.{AreRising, AllAreSome}
 use Rattle.marks_kept.proofs.Rising.{rising_more}
+use Rattle.marks_kept.proofs.Counted.{some_joined}
 use Rattle.marks_kept.proofs.marks.Marks.open.Goals as goal
 
 pub invariant_of-self-2 : goal.invariant_of-self-2
@@ -9,4 +10,4 @@ invariant_of-self-2 c =
     let sides = c.self.inside.sides.items in
     let above : is_above_all c.args.id sides ≡ true = ap (is_above_all c.args.id) c.self.view_is ∙ c.requires in
     let pushed : c.push.new.self.items ≡ sides ++ opened c.args.id c.args.number ∷ [] = c.in_ok-push.ensures.items ∙ ap (λ (side : Side). sides ++ side ∷ []) c.opened.ensures in
-    subst AreRising (sym pushed) (rising_more c.args.id c.args.number sides above c.self.invariant)
+    (subst AreRising (sym pushed) (rising_more c.args.id c.args.number sides above c.self.invariant.0), subst AllAreSome (sym pushed) (some_joined c.args.id c.args.number sides c.self.invariant.1))

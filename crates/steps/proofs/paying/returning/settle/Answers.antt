@@ -49,6 +49,9 @@ returns-then-octets-eq0-clause-performs c =
     performs.0 performs.1 c.return_dropped.new.out (performs.2 setup) (stays.goes_on c.requires.goes_on)) c.return_dropped.ensures.performs c.return_dropped.ensures.stays
 
 -- they wait
+pub wait-requires : goal.wait-requires
+wait-requires c = let not_none = c.if-octets-eq0.false in omega (arith, not_none)
+
 pub return_dropped-requires-then-has_untaken : goal.return_dropped-requires-then-has_untaken
 return_dropped-requires-then-has_untaken c =
     let r = c.requires.reached in

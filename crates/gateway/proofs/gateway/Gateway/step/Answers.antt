@@ -21,4 +21,4 @@ returns-in-Ok-clause-held c = λ setup log run stands.
     c.let_go_if_over.ensures.held setup (record { event = event_of c.args.event.now; outputs = steps.0 }) log (next.segment ++ run) next.stands
 
 pub returns-in-Err-clause-held : goal.returns-in-Err-clause-held
-returns-in-Err-clause-held c = λ setup log run stands. empty_within setup c.let_go.new.self (ap (λ (g : Standing). g.partial) c.let_go.ensures.stays) (c.let_go.ensures.small setup)
+returns-in-Err-clause-held c = λ setup log run stands. empty_within setup c.let_go.new.self (ap (λ (g : Standing). g.partial) c.let_go.ensures.stays) (c.let_go.ensures.small setup) c.let_go.ensures.no_marks

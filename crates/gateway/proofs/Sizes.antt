@@ -12,11 +12,14 @@ use Rattle.offering.specs.State as offering
 use Rattle.upstreams.specs.Kept.{nothing}
 use Rattle.header_blocks.specs.Encoding.{first_encoding}
 use Rattle.model.specs.Tables.{first_table, total_size}
+use Rattle.model.specs.Windows.{first_window}
 use Rattle.judgement.specs.Inbound.{book_of}
+use Rattle.receiving.specs.Marks.{total}
+use Rattle.marks_kept.specs.Sides.{Side, queue_of}
 use Rattle.policy.specs.Moves.{Move}
 use Rattle.policy.specs.State.{conducts}
 use Rattle.policy.specs.Rule.{RestsBehind}
-use Rattle.relay.specs.View.{View}
+use Rattle.relay.specs.View.{View, waiting_for}
 use Rattle.holding.specs.Held.{IsSmall, held_in}
 use Rattle.holding.proofs.Holding.{little_kept}
 use Rattle.gateway.specs.declared.phase.Phase.{Phase}
@@ -27,11 +30,16 @@ use Rattle.gateway.specs.Held.{held_in as held}
 
 -- ---- rooms in which nothing is kept
 
-pub none_small : (setup : Setup) (kept : View) → book_of (record { given = []; untaken = 0 }) kept.inbound ≡ (first_desk setup).book → kept.offers ≡ offering.start → kept.upstreams ≡ nothing → kept.inbound.table ≡ first_table → kept.encoding ≡ first_encoding false → IsSmall setup kept
+nothing_waits : (kept : View) → kept.marks ≡ [] → (stream : ℕ) → waiting_for stream kept ≤ first_window
+nothing_waits kept none stream =
+    let nothing : waiting_for stream kept ≡ 0 = ap (λ (sides : List Side). total (queue_of stream sides)) none in
+    omega (arith, nothing)
+
+pub none_small : (setup : Setup) (kept : View) → book_of (record { given = []; untaken = 0 }) kept.inbound ≡ (first_desk setup).book → kept.offers ≡ offering.start → kept.upstreams ≡ nothing → kept.marks ≡ [] → kept.inbound.table ≡ first_table → kept.encoding ≡ first_encoding false → IsSmall setup kept
 unfolding total_size
-none_small setup kept book offers upstreams table encoding =
+none_small setup kept book offers upstreams marks table encoding =
     let block = ap (λ (b : Book). b.block) book in
-    rw (offers, upstreams, table, encoding, block) (record { beside = omega arith; few_boxes = omega arith; few_requests = omega arith; few_connections = omega arith; each = λ stream. omega arith; all = omega arith })
+    rw (offers, upstreams, table, encoding, block) (record { beside = omega arith; few_boxes = omega arith; few_requests = omega arith; few_connections = omega arith; each = λ stream. omega arith; all = omega arith; few_waiting = nothing_waits kept marks })
 
 pub none_held : (setup : Setup) (kept : View) → book_of (record { given = []; untaken = 0 }) kept.inbound ≡ (first_desk setup).book → kept.offers ≡ offering.start → kept.upstreams ≡ nothing → kept.inbound.table ≡ first_table → kept.encoding ≡ first_encoding false → held_in kept ≡ 0
 unfolding total_size
@@ -54,14 +62,19 @@ partial_short phase.Frames partial text t on b = let short = b.rest.short in ome
 partial_short phase.Closed partial text t on b = absurd (let no : false ≡ true = on in cc)
 partial_short phase.Dead partial text t on b = absurd (let no : false ≡ true = on in cc)
 
-pub within : (setup : Setup) (g : Standing) → length g.partial ≤ 16392 → IsSmall setup g.kept → IsHeldWithin setup g
-within setup g short small = record {
+-- No stream has more marks than octets that wait.
+abbrev pub HasFewMarks : View → Type 0
+HasFewMarks kept = (stream : ℕ) → length (queue_of stream kept.marks) ≤ waiting_for stream kept
+
+pub within : (setup : Setup) (g : Standing) → length g.partial ≤ 16392 → IsSmall setup g.kept → HasFewMarks g.kept → IsHeldWithin setup g
+within setup g short small few = record {
   beside = (let beside = small.beside in omega (arith, short, beside));
   few_responses = small.few_boxes;
   few_requests = small.few_requests;
   few_connections = small.few_connections;
   each = small.each;
   all = (let all = small.all in omega (arith, short, all));
+  few_marks = λ stream. (let marks = few stream in let octets = small.few_waiting stream in omega (arith, marks, octets));
 }
 
 -- ---- where it stands behind a step
@@ -98,12 +111,12 @@ module _ (setup : Setup) (g : Standing) (step : Step) (log : List Step) (run : L
   open_short phase.Closed is on = absurd (let no : false ≡ true = on in cc)
   open_short phase.Dead is on = absurd (let no : false ≡ true = on in cc)
 
-  pub open_within : is_open g.phase ≡ true → IsHeldWithin setup g
-  open_within on = within setup g (open_short g.phase refl on) (open_small g.phase refl on)
+  pub open_within : is_open g.phase ≡ true → HasFewMarks g.kept → IsHeldWithin setup g
+  open_within on few = within setup g (open_short g.phase refl on) (open_small g.phase refl on) few
 
   -- where it isn't closed
-  pub not_closed_within : (g.phase ≡ phase.Closed → ⊥) → IsHeldWithin setup g
-  not_closed_within goes_on = open_within (by g.phase refl)
+  pub not_closed_within : (g.phase ≡ phase.Closed → ⊥) → HasFewMarks g.kept → IsHeldWithin setup g
+  not_closed_within goes_on few = open_within (by g.phase refl) few
     where
       by : (p : Phase) → g.phase ≡ p → is_open p ≡ true
       by phase.New is = refl
@@ -135,5 +148,7 @@ over_is_closed phase.Dead over alive = absurd (let no : true ≡ false = alive i
 pub none_in : (h : Standing) → h.partial ≡ [] → held_in h.kept ≡ 0 → held h ≡ 0
 none_in h is none = let no_partial : length h.partial ≡ 0 = ap length is in omega (arith, no_partial, none)
 
-pub empty_within : (setup : Setup) (h : Standing) → h.partial ≡ [] → IsSmall setup h.kept → IsHeldWithin setup h
-empty_within setup h is small = let none : length h.partial ≡ 0 = ap length is in within setup h (omega (arith, none)) small
+pub empty_within : (setup : Setup) (h : Standing) → h.partial ≡ [] → IsSmall setup h.kept → h.kept.marks ≡ [] → IsHeldWithin setup h
+empty_within setup h is small no_marks =
+    let none : length h.partial ≡ 0 = ap length is in
+    within setup h (omega (arith, none)) small (λ stream. (let nothing : length (queue_of stream h.kept.marks) ≡ 0 = ap (λ (sides : List Side). length (queue_of stream sides)) no_marks in omega (arith, nothing)))

@@ -1,6 +1,6 @@
 //! The gateway: events in, outputs out.
 
-ghost use Rattle.std.specs.Prelude.{◌≡◌, ◌++◌, ◌||◌, [], List, ◌∷◌, map, Some, true, false, OnOk, OnErr, IfOk, IsErrOf, ◌↔◌};
+ghost use Rattle.std.specs.Prelude.{◌≡◌, ◌≤◌, ◌++◌, ◌||◌, ℕ, [], List, ◌∷◌, map, Some, true, false, length, OnOk, OnErr, IfOk, IsErrOf, ◌↔◌};
 ghost use Rattle.std.specs.List.{list_any};
 ghost use Rattle.model.specs.Logs.{Step, Output as Put};
 ghost use Rattle.model.specs.Logs.Event.{Client};
@@ -16,7 +16,8 @@ ghost use Rattle.upstreams.specs.Connections.{number_of};
 ghost use Rattle.steps.specs.Admission.{is_up, may_take, room_of as room_for, room_on, admits as admits_kept};
 ghost use Rattle.policy.specs.Moves.{Move};
 ghost use Rattle.policy.specs.State.{conducts, tape_of};
-ghost use Rattle.relay.specs.View.{square};
+ghost use Rattle.marks_kept.specs.Sides.{queue_of};
+ghost use Rattle.relay.specs.View.{square, waiting_for};
 ghost use Rattle.relay.specs.Rest.{Reached};
 ghost use Rattle.steps.specs.Resting.{IsSettled};
 ghost use Rattle.holding.specs.Held.{IsSmall, held_in as held_in_rooms};
@@ -123,6 +124,7 @@ fn changes_connections(event: &Event, outputs: &[Output]) -> bool
 fn no_rooms(alloc: Global) -> Rooms
     ensures small { (setup : Setup) → IsSmall setup result }
     ensures nothing { held_in_rooms result ≡ 0 }
+    ensures no_marks { result.marks ≡ [] }
 {
     Rooms {
         inbound: Connection::new(alloc),
@@ -315,7 +317,8 @@ impl Gateway {
         ensures alive { OnOk result (is_dead self.new.phase ≡ false) }
         ensures dead { OnErr result (is_dead self.new.phase ≡ true) }
         ensures closed { IsErrOf result Fault.Closed ↔ (is_dead self.old.phase ≡ true) }
-        // What it holds of octets behind a step, answered or refused, stays below its bound, and what it holds for each stream below a part of that.
+        // What it holds of octets behind a step, answered or refused, stays below its bound, and what it holds for each stream below a part of that; and of no
+        // stream it has more marks of DATA that waits than the connection's first receiving window has octets.
         ensures held { (setup : Setup) (log : List Step) (run : List Move) → Stands setup self.old log run → IsHeldWithin setup self.new }
         // Once it is closed, or memory was refused, it holds none.
         ensures lets_go { is_dead self.old.phase ≡ false → is_open self.new.phase ≡ false → held_in self.new ≡ 0 }
@@ -342,9 +345,17 @@ impl Gateway {
         ensures stays { self.new ≡ record self.old { partial = []; kept = self.new.kept } }
         ensures small { (setup : Setup) → IsSmall setup self.new.kept }
         ensures nothing { held_in_rooms self.new.kept ≡ 0 }
+        ensures no_marks { self.new.kept.marks ≡ [] }
     {
         self.partial = Vec::new(self.alloc);
         self.rooms = no_rooms(self.alloc);
+    }
+
+    /// A law of what is kept, which takes no step: no stream has more marks than octets of its DATA that wait.
+    fn has_few_marks(&self)
+        ensures { (stream : ℕ) → length (queue_of stream self.now.kept.marks) ≤ waiting_for stream self.now.kept }
+    {
+        self.rooms.marks.are_few();
     }
 
     /// Lets go of all that is kept where the client is closed.
@@ -356,6 +367,8 @@ impl Gateway {
     {
         if matches!(self.phase, Phase::Closed) {
             self.let_go();
+        } else {
+            self.has_few_marks();
         }
     }
 

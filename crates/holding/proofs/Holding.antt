@@ -61,6 +61,7 @@ use Rattle.relay.specs.View.{View, square, Leads}
 use Rattle.relay.proofs.Lives.{lives_found}
 use Rattle.holding.specs.Held.{octets_of, answers_for, answers_in, IsSmall, held_for, held_beside, held_in, most_beside, most_streams, most_for_stream, most_in_all}
 use Rattle.holding.proofs.Lists.{ids_of, offer_none, offer_found, box_at, all_found, by_number, found_own, found_behind, HaveOne, answers_none, answers_found, sums_most, sums_both, offers_by_stream, answers_by_stream}
+use Rattle.holding.proofs.Waiting.{each_waits}
 use Rattle.holding.proofs.Answering.{Answering, answering, none_waits, answer_small, answer_streamed}
 
 module _ (known : Known) (run : List Move) (k : IsKnown known run) (rests : RestsBehind known.setup run) where
@@ -364,4 +365,4 @@ module _ (setup : Setup) (run : List Move) (kept : View) (s : State) (led : Lead
         omega (arith, little, both, most, request, offer, held)
 
     pub little_kept : IsSmall setup kept
-    little_kept = record { beside = beside; few_boxes = boxes_few; few_requests = requests_few; few_connections = connections_few; each = each; all = all }
+    little_kept = record { beside = beside; few_boxes = boxes_few; few_requests = requests_few; few_connections = connections_few; each = each; all = all; few_waiting = each_waits setup run kept square s led }

@@ -1,4 +1,6 @@
 pub mod Lists
 pub mod Answering
+pub mod Left
+pub mod Waiting
 pub mod Holding
 pub mod Rooms

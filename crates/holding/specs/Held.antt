@@ -3,13 +3,14 @@ use Rattle.std.specs.Prelude.{ℕ, ◌+◌, ◌*◌, ◌≤◌, ◌==◌, if◌t
 use Rattle.model.specs.ResponseHeads.{Head}
 use Rattle.model.specs.Setup.{Setup}
 use Rattle.model.specs.Tables.{total_size}
+use Rattle.model.specs.Windows.{first_window}
 use Rattle.conduct.specs.Held.{octets_begun}
 use Rattle.offering.specs.Held as offers
 use Rattle.serving.specs.Held as requests
 use Rattle.answers.specs.Waiting.{Answer}
 use Rattle.upstreams.specs.Connections.{Connection, stream_of}
 use Rattle.policy.specs.Held.{on_offer_for}
-use Rattle.relay.specs.View.{View}
+use Rattle.relay.specs.View.{View, waiting_for}
 
 -- ---- answers that are being read
 
@@ -64,7 +65,7 @@ most_for_stream setup = setup.max_body + setup.max_response + 400000
 abbrev pub most_in_all : Setup → ℕ
 most_in_all setup = most_beside + most_streams * most_for_stream setup
 
--- Little is kept.
+-- Little is kept; and of no stream's DATA more octets wait for its upstream's side than the connection's first receiving window has.
 pub record IsSmall (setup : Setup) (kept : View) : Type 0 where
   pub beside : held_beside kept ≤ most_beside
   pub few_boxes : length kept.offers.kept ≤ most_streams
@@ -72,3 +73,4 @@ pub record IsSmall (setup : Setup) (kept : View) : Type 0 where
   pub few_connections : length kept.upstreams.live ≤ most_streams
   pub each : (stream : ℕ) → held_for stream kept ≤ most_for_stream setup
   pub all : held_in kept ≤ most_in_all setup
+  pub few_waiting : (stream : ℕ) → waiting_for stream kept ≤ first_window

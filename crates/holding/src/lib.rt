@@ -18,7 +18,9 @@ ghost use Rattle.holding.specs.Held.{IsSmall};
 /// - for each stream at most `max_body + max_response + 400000` octets are kept: what is on offer for it, what is held of its request,
 ///   and the answers that are being read for it, each with what its reader holds unread and the head and the body that wait for its end;
 /// - beside that at most 150,000: the client's header block that isn't complete, and both header tables;
-/// - so in all at most 150,000 and 100 times as much as for a stream.
+/// - so in all at most 150,000 and 100 times as much as for a stream;
+/// - of each stream's DATA at most 65,535 octets wait for its upstream's side, since the client may send no more before some go back, and where it
+///   does the connection is to end (RFC 9113, section 6.9.1).
 ///
 /// Where bodies are passed on whole no stream holds two bodies of a response: a connection that is open at rest isn't done with, so its
 /// response isn't whole, and the outbox of its stream has interim heads alone.

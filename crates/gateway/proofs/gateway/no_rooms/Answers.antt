@@ -6,7 +6,7 @@ use Rattle.gateway.proofs.Sizes.{none_small, none_held}
 use Rattle.gateway.proofs.gateway.no_rooms.Goals as goal
 
 pub returns-clause-small : goal.returns-clause-small
-returns-clause-small c setup = none_small setup _ (c.new.ensures.book setup) c.new-2.ensures c.new-3.ensures c.new.ensures.table c.new-5.ensures
+returns-clause-small c setup = none_small setup _ (c.new.ensures.book setup) c.new-2.ensures c.new-3.ensures c.new-4.ensures c.new.ensures.table c.new-5.ensures
 
 -- by any setup
 pub returns-clause-nothing : goal.returns-clause-nothing

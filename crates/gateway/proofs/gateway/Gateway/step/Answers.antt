@@ -22,7 +22,7 @@ returns-in-Ok-clause-held c = λ setup log run stands.
     c.let_go_if_over.ensures.held setup (record { event = event_of c.args.event.now; outputs = steps.0 }) log (next.segment ++ run) next.stands
 
 pub returns-in-Err-clause-held : goal.returns-in-Err-clause-held
-returns-in-Err-clause-held c = λ setup log run stands. empty_within setup c.let_go.new.self (ap (λ (g : Standing). g.partial) c.let_go.ensures.stays) (c.let_go.ensures.small setup)
+returns-in-Err-clause-held c = λ setup log run stands. empty_within setup c.let_go.new.self (ap (λ (g : Standing). g.partial) c.let_go.ensures.stays) (c.let_go.ensures.small setup) c.let_go.ensures.no_marks
 
 pub returns-in-Ok-clause-lets_go : goal.returns-in-Ok-clause-lets_go
 returns-in-Ok-clause-lets_go c = λ was over. c.let_go_if_over.ensures.nothing (sym (ap is_open c.let_go_if_over.ensures.phase) ∙ over) c.in-Ok.ensures.alive

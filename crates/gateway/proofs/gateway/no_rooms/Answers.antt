@@ -2,6 +2,7 @@ use Rattle.std.proofs.Common.{[]}
 use Rattle.model.specs.Setup.{Setup}
 use Rattle.model.specs.Setup.Policy.{Plain}
 use Rattle.model.specs.Setup.Passing.{Whole}
+use Rattle.relay.specs.View.{View}
 use Rattle.gateway.proofs.Sizes.{none_small, none_held}
 use Rattle.gateway.proofs.gateway.no_rooms.Goals as goal
 
@@ -12,4 +13,5 @@ returns-clause-small c setup = none_small setup _ (c.new.ensures.book setup) c.n
 pub returns-clause-nothing : goal.returns-clause-nothing
 returns-clause-nothing c =
     let some : Setup = record { routes = []; policy = Plain; passing = Whole; max_body = 0; max_response = 0 } in
-    none_held some _ (c.new.ensures.book some) c.new-2.ensures c.new-3.ensures c.new.ensures.table c.new-5.ensures
+    let rooms : View = record { inbound = c.new.result; offers = c.new-2.result; upstreams = c.new-3.result; marks = c.new-4.result; encoding = c.new-5.result; untaken = 0 } in
+    none_held some rooms (c.new.ensures.book some) c.new-2.ensures c.new-3.ensures c.new.ensures.table c.new-5.ensures

@@ -3,6 +3,8 @@ use Rattle.std.specs.Prelude.{ℕ}
 use Rattle.clap.specs.Words.{kind_of}
 use Rattle.clap.specs.declared.error.kind.ErrorKind.{ErrorKind}
 use Rattle.clap.specs.declared.error.kind.ErrorKind.TheVariants.{DisplayHelp}
+use Rattle.command_line.specs.declared.words.WordsFault.{WordsFault}
+use Rattle.command_line.specs.declared.words.WordsFault.TheVariants as words
 use Rattle.configuration.specs.declared.faults.ConfigFault.TheVariants as fault
 use Rattle.h2gw.specs.declared.stops.Stop.{Stop}
 use Rattle.h2gw.specs.declared.stops.Stop.TheVariants.{Words, Missing, NotANumber, NotUtf8, BadAddress, NoConfig, Config, Bind, Accept, Print, Memory}
@@ -27,3 +29,11 @@ status_of Bind = 2
 status_of Accept = 2
 status_of Print = 2
 status_of Memory = 3
+
+-- why the program stops where its command line isn't taken
+abbrev pub stop_of : WordsFault → Stop
+stop_of (words.Clap error) = Words error
+stop_of (words.Missing word) = Missing word
+stop_of (words.NotANumber word) = NotANumber word
+stop_of words.NotUtf8 = NotUtf8
+stop_of words.Memory = Memory

@@ -1,8 +1,10 @@
 //! What the program is set up with.
 
-ghost use Rattle.std.specs.Prelude.{IfOk};
+ghost use Rattle.std.specs.Prelude.{◌≡◌, ◌≢◌, IfOk, IfErr, string_bytes};
+ghost use Rattle.std.specs.Net.Grammar.{IsSocketText};
 ghost use Rattle.gateway.specs.Setups.{setup_of, IsServable};
 ghost use Rattle.h2gw.specs.Addresses.{AreAddresses};
+ghost use Rattle.h2gw.specs.Stops.{status_of};
 
 use crate::stops::Stop;
 use command_line::{GatewayWords, read_arguments, read_gateway_words};
@@ -32,8 +34,20 @@ pub struct Setting {
 pub fn read_setting(rt: &HostRuntime) -> Result<Setting, Stop>
     ensures servable { IfOk result (λ setting. IsServable (setup_of setting.config)) }
     ensures addresses { IfOk result (λ setting. AreAddresses setting.config.routes.items setting.addresses.items) }
+    ensures stops { IfErr result (λ stop. status_of stop ≢ 2) }
 {
     let words = read_command_line(rt)?;
+    read_setting_of(rt, &words)
+}
+
+/// Reads the configuration that the words name: all else is as they say.
+fn read_setting_of(rt: &HostRuntime, words: &GatewayWords) -> Result<Setting, Stop>
+    ensures servable { IfOk result (λ setting. IsServable (setup_of setting.config)) }
+    ensures addresses { IfOk result (λ setting. AreAddresses setting.config.routes.items setting.addresses.items) }
+    ensures listen { IfOk result (λ setting. IsSocketText (string_bytes words.now.listen) setting.listen) }
+    ensures counts { IfOk result (λ setting. (setting.connections ≡ words.now.connections) × (setting.turns ≡ words.now.turns)) }
+    ensures stops { IfErr result (λ stop. status_of stop ≢ 2) }
+{
     let Ok(listen) = words.listen.parse::<SocketAddr>() else {
         return Err(Stop::BadAddress);
     };
@@ -57,7 +71,9 @@ pub fn read_setting(rt: &HostRuntime) -> Result<Setting, Stop>
 }
 
 /// Reads the command line.
-fn read_command_line(rt: &HostRuntime) -> Result<GatewayWords, Stop> {
+fn read_command_line(rt: &HostRuntime) -> Result<GatewayWords, Stop>
+    ensures { IfErr result (λ stop. status_of stop ≢ 2) }
+{
     let arguments = read_arguments(rt)?;
     let mut words = Vec::new(rt.alloc());
     for argument in &arguments {
@@ -73,7 +89,8 @@ fn read_command_line(rt: &HostRuntime) -> Result<GatewayWords, Stop> {
 
 /// The addresses of routes' upstreams.
 fn addresses_of(alloc: Global, routes: &[Route]) -> Result<Vec<SocketAddr>, Stop>
-    ensures { IfOk result (λ addresses. AreAddresses routes.now addresses.items) }
+    ensures addresses { IfOk result (λ addresses. AreAddresses routes.now addresses.items) }
+    ensures stops { IfErr result (λ stop. status_of stop ≢ 2) }
 {
     let mut addresses = Vec::new(alloc);
     for route in routes {

@@ -1,11 +1,12 @@
 //! Why the program stops.
 
-ghost use Rattle.std.specs.Prelude.{◌≡◌, ◌⊎◌, max};
+ghost use Rattle.std.specs.Prelude.{◌≡◌, ◌⊎◌, if◌then◌else◌, is_ok, max};
 ghost use Rattle.h2gw.specs.Stops.{status_of};
 
 use command_line::{Word, WordsFault};
 use configuration::ConfigFault;
 use std::alloc::AllocError;
+use std::io;
 
 /// Why the program stops before all connections were served.
 #[derive(Debug, Drop)]
@@ -55,12 +56,22 @@ impl Stop {
 }
 
 impl From<AllocError> for Stop {
+    ghost use Rattle.std.specs.Prelude.{◌≡◌};
+    ghost use Rattle.h2gw.specs.declared.stops.Stop.TheVariants.{Memory};
+
+    ghost from_gives = { λ _ stop. stop ≡ Memory };
+
     fn from(_error: AllocError) -> Stop {
         Stop::Memory
     }
 }
 
 impl From<WordsFault> for Stop {
+    ghost use Rattle.std.specs.Prelude.{◌≡◌};
+    ghost use Rattle.h2gw.specs.Stops.{stop_of};
+
+    ghost from_gives = { λ fault stop. stop ≡ stop_of fault };
+
     fn from(fault: WordsFault) -> Stop {
         match fault {
             WordsFault::Clap(error) => Stop::Words(error),
@@ -90,6 +101,13 @@ pub fn report(rt: &HostRuntime, stop: &Stop) -> u8
         Stop::Print => Ok(()),
         Stop::Memory => rt.eprintln("no memory"),
     };
+    status_said(stop, printed)
+}
+
+/// The exit status, where it was tried to say why the program stops.
+fn status_said(stop: &Stop, printed: io::Result<()>) -> u8
+    ensures { result ≡ if is_ok printed then status_of stop.now else max (status_of stop.now) 2 }
+{
     match printed {
         Ok(()) => stop.status(),
         Err(_) => stop.status().max(2),

@@ -1,6 +1,6 @@
 //! What is to be replayed.
 
-ghost use Rattle.std.specs.Prelude.{IfOk, IfSome, string_bytes};
+ghost use Rattle.std.specs.Prelude.{◌≡◌, IfOk, IfSome, is_some, string_bytes};
 ghost use Rattle.h2replay.specs.Settings.{SaysConfig};
 
 use crate::stops::Stop;
@@ -24,6 +24,14 @@ pub fn read_setting(rt: &HostRuntime) -> Result<Setting, Stop>
     ensures { IfOk result (λ setting. IfSome setting.config (λ text. SaysConfig (string_bytes text))) }
 {
     let words = read_command_line(rt)?;
+    read_files(rt, &words)
+}
+
+/// Reads the files that the words name: a configuration is read where, and only where, one is named.
+fn read_files(rt: &HostRuntime, words: &ReplayWords) -> Result<Setting, Stop>
+    ensures says { IfOk result (λ setting. IfSome setting.config (λ text. SaysConfig (string_bytes text))) }
+    ensures named { IfOk result (λ setting. is_some setting.config ≡ is_some words.now.config) }
+{
     let config = match &words.config {
         Some(path) => Some(read_config_text(rt, path)?),
         None => None,

@@ -1,11 +1,12 @@
 //! Why the program stops.
 
-ghost use Rattle.std.specs.Prelude.{◌≡◌, ◌⊎◌};
+ghost use Rattle.std.specs.Prelude.{◌≡◌, ◌⊎◌, if◌then◌else◌, is_ok};
 ghost use Rattle.h2replay.specs.Stops.{status_of};
 
 use clap::error::ErrorKind;
 use command_line::WordsFault;
 use configuration::ConfigFault;
+use std::io;
 
 /// Why the program stops before a script is replayed.
 #[derive(Debug, Drop)]
@@ -39,6 +40,11 @@ impl Stop {
 }
 
 impl From<WordsFault> for Stop {
+    ghost use Rattle.std.specs.Prelude.{◌≡◌};
+    ghost use Rattle.h2replay.specs.declared.stops.Stop.TheVariants.{Words};
+
+    ghost from_gives = { λ fault stop. stop ≡ Words fault };
+
     fn from(fault: WordsFault) -> Stop {
         Stop::Words(fault)
     }
@@ -62,6 +68,13 @@ pub fn report(rt: &HostRuntime, stop: &Stop) -> u8
         Stop::NoScript => rt.eprintln("script: cannot read"),
         Stop::Words(WordsFault::Memory) | Stop::Memory => Ok(()),
     };
+    status_said(stop, printed)
+}
+
+/// The exit status, where it was tried to say why the program stops.
+fn status_said(stop: &Stop, printed: io::Result<()>) -> u8
+    ensures { result ≡ if is_ok printed then status_of stop.now else 2 }
+{
     match printed {
         Ok(()) => stop.status(),
         Err(_) => 2,

@@ -50,6 +50,7 @@ is_handed_more setup n added more h i = record {
   front = i.front;
   rest = i.rest ++ more;
   parts = ap (λ l. l ++ more) i.parts ∙ append_assoc i.front i.rest more;
+  goes_on = i.goes_on;
   steps = i.steps;
   promise = i.promise;
   rooms = i.rooms;
@@ -164,9 +165,9 @@ unanswered setup closed log came_log log' g rooms old handed before event same s
 -- ---- a call of `next`
 
 -- What it was handed is right, and so is what was handed before.
-pub hands_one : (setup : Setup) (closed : Bool) (log : Option (List Step)) (g : Standing) (rooms : List (ℕ × ℕ)) (old handed handed' : Option (List Handed)) (before : List Step) → AddsHanded log handed rooms handed'
-    → (s : Serves setup closed log g rooms old handed before) → AreAllHanded setup (length before) s.added old handed'
-hands_one setup closed log g rooms old handed handed' before adds s = λ earlier e.
+pub hands_one : (setup : Setup) (log : Option (List Step)) (g : Standing) (rooms : List (ℕ × ℕ)) (old handed handed' : Option (List Handed)) (before : List Step) → AddsHanded log handed rooms handed'
+    → (s : Serves setup false log g rooms old handed before) → AreAllHanded setup (length before) s.added old handed'
+hands_one setup log g rooms old handed handed' before adds s = λ earlier e.
     let a = s.hands earlier e in
     let p = promised_at setup g s.added s.run s.stands in
     let one : Handed = record { steps = length (before ++ s.added); rooms = rooms } in
@@ -174,6 +175,7 @@ hands_one setup closed log g rooms old handed handed' before adds s = λ earlier
       front = s.added;
       rest = [];
       parts = sym (append-nil s.added);
+      goes_on = s.has_closed_is;
       steps = length-append before s.added;
       promise = p.0;
       rooms = subst (λ k. AreRooms k p.0.tape rooms) (sym p.2) (subst (λ t. AreRooms (known_of setup (conducts s.run)) t rooms) (sym p.1) s.rooms_are);
@@ -184,16 +186,16 @@ hands_one setup closed log g rooms old handed handed' before adds s = λ earlier
     )
 
 -- Nothing came.
-pub serves_same : (setup : Setup) (closed : Bool) (log log' : Option (List Step)) (g : Standing) (rooms : List (ℕ × ℕ)) (old handed handed' : Option (List Handed)) (before : List Step) → log' ≡ log → AddsHanded log handed rooms handed'
-    → Serves setup closed log g rooms old handed before → Serves setup closed log' g rooms old handed' before
-serves_same setup closed log log' g rooms old handed handed' before e adds s = record {
+pub serves_same : (setup : Setup) (log log' : Option (List Step)) (g : Standing) (rooms : List (ℕ × ℕ)) (old handed handed' : Option (List Handed)) (before : List Step) → log' ≡ log → AddsHanded log handed rooms handed'
+    → Serves setup false log g rooms old handed before → Serves setup false log' g rooms old handed' before
+serves_same setup log log' g rooms old handed handed' before e adds s = record {
   added = s.added;
   run = s.run;
   is = e ∙ s.is;
   stands = s.stands;
   has_closed_is = s.has_closed_is;
   rooms_are = s.rooms_are;
-  hands = hands_one setup closed log g rooms old handed handed' before adds s;
+  hands = hands_one setup log g rooms old handed handed' before adds s;
 }
 
 -- What was handed is right where nothing is added any more,

@@ -118,12 +118,13 @@ AddsUnanswered setup old new = (before : List Step) → old ≡ Some before → 
 
 -- ---- what was handed
 
--- It was handed behind a front of what was added to a log of so many steps. What is promised holds of that front, and the connections that are open
--- behind it are what was handed, by rising number, each with how many octets of it may come in one event.
+-- It was handed behind a front of what was added to a log of so many steps, in which the client isn't closed. What is promised holds of that front, and
+-- the connections that are open behind it are what was handed, by rising number, each with how many octets of it may come in one event.
 pub record IsHanded (setup : Setup) (before : ℕ) (added : List Step) (handed : Handed) : Type 0 where
   pub front : List Step
   pub rest : List Step
   pub parts : added ≡ front ++ rest
+  pub goes_on : has_closed front ≡ false
   pub steps : handed.steps ≡ before + length front
   pub promise : Promise setup front
   pub rooms : AreRooms promise.known promise.tape handed.rooms

@@ -173,7 +173,7 @@ pub fn serve<W: World>(
     ensures memory { IsErrOf result ServeFault.Memory → (W.failures world.new ≡ W.failures world.old) × AddsUnanswered (setup_of config.now) (W.log world.old) (W.log world.new) }
     ensures failures { OnOk result (W.failures world.new ≡ W.failures world.old) }
     ensures calls { OnOk result (W.calls world.new ≤ W.calls world.old + turns) }
-    // What `next` was handed is right, whatever the answer is.
+    // `next` isn't called once the client is closed, and what it was handed is right, whatever the answer is.
     ensures hands { Hands (setup_of config.now) (W.log world.old) (W.handed world.old) (W.log world.new) (W.handed world.new) }
     ensures turns { IsOkAnd result (λ ended. ended ≡ Ended.Turns) → W.calls world.new ≡ W.calls world.old + turns }
     ensures over { IsOkAnd result (λ ended. ended ≡ Ended.Over) → W.over world.new ≡ true }

@@ -10,22 +10,22 @@ returns-in-Err-clause-hands g c = λ setup before old s. hands_still setup _ _ _
 
 pub returns-in-Ok-Nothing-clause-log : goal.returns-in-Ok-Nothing-clause-log
 returns-in-Ok-Nothing-clause-log g c = λ setup before old s.
-    serves_same setup _ _ _ c.args.gateway.now c.args.rooms.now.items old _ _ before (rw c.in-Ok-Nothing.field-0-is at c.in-Ok-Nothing.ensures.log) (rw c.deref.ensures.value at c.in-Ok-Nothing.ensures.handed) s
+    serves_same setup _ _ c.args.gateway.now c.args.rooms.now.items old _ _ before (rw c.in-Ok-Nothing.field-0-is at c.in-Ok-Nothing.ensures.log) (rw c.deref.ensures.value at c.in-Ok-Nothing.ensures.handed) s
 
 pub returns-in-Ok-Over-clause-log : goal.returns-in-Ok-Over-clause-log
 returns-in-Ok-Over-clause-log g c = λ setup before old s.
-    serves_same setup _ _ _ c.args.gateway.now c.args.rooms.now.items old _ _ before (rw c.in-Ok-Over.field-0-is at c.in-Ok-Over.ensures.log) (rw c.deref.ensures.value at c.in-Ok-Over.ensures.handed) s
+    serves_same setup _ _ c.args.gateway.now c.args.rooms.now.items old _ _ before (rw c.in-Ok-Over.field-0-is at c.in-Ok-Over.ensures.log) (rw c.deref.ensures.value at c.in-Ok-Over.ensures.handed) s
 
 pub returns-in-Ok-true-clause-log : goal.returns-in-Ok-true-clause-log
 returns-in-Ok-true-clause-log g c = λ setup before old s.
     let came_in = (rw c.in-Ok-Happened.field-0-is at c.in-Ok-Happened.ensures.log) (before ++ s.added) s.is in
-    let hands = hands_one setup _ _ c.args.gateway.now c.args.rooms.now.items old _ _ before (rw c.deref.ensures.value at c.in-Ok-Happened.ensures.handed) s in
+    let hands = hands_one setup _ c.args.gateway.now c.args.rooms.now.items old _ _ before (rw c.deref.ensures.value at c.in-Ok-Happened.ensures.handed) s in
     (rw c.in-Ok-true.field-0-test at c.in-Ok-true.ensures.log) setup before s.added s.run old came_in s.stands s.has_closed_is s.rooms_are hands
 
 pub returns-in-Ok-false-clause-log : goal.returns-in-Ok-false-clause-log
 returns-in-Ok-false-clause-log g c = λ setup before old s.
     let came_in = (rw c.in-Ok-Happened.field-0-is at c.in-Ok-Happened.ensures.log) (before ++ s.added) s.is in
-    let hands = hands_one setup _ _ c.args.gateway.now c.args.rooms.now.items old _ _ before (rw c.deref.ensures.value at c.in-Ok-Happened.ensures.handed) s in
+    let hands = hands_one setup _ c.args.gateway.now c.args.rooms.now.items old _ _ before (rw c.deref.ensures.value at c.in-Ok-Happened.ensures.handed) s in
     (rw c.in-Ok-false.field-0-test at c.in-Ok-false.ensures.log) setup before s.added s.run old came_in s.stands s.has_closed_is s.rooms_are hands
 
 pub returns-clause-front : goal.returns-clause-front
@@ -46,7 +46,7 @@ returns-clause-refused g c = λ e setup before old s.
 pub returns-clause-hands : goal.returns-clause-hands
 returns-clause-hands g c = λ setup before old s.
     let came_in = (rw c.in-Ok-Happened.field-0-is at c.in-Ok-Happened.ensures.log) (before ++ s.added) s.is in
-    let hands = hands_one setup _ _ c.args.gateway.now c.args.rooms.now.items old _ _ before (rw c.deref.ensures.value at c.in-Ok-Happened.ensures.handed) s in
+    let hands = hands_one setup _ c.args.gateway.now c.args.rooms.now.items old _ _ before (rw c.deref.ensures.value at c.in-Ok-Happened.ensures.handed) s in
     let adds = c.in-Err-take_event.ensures.adds (before ++ s.added) came_in in
     hands_step setup before s.added _ old _ _ _ adds.1 c.take_event.ensures.handed hands
 

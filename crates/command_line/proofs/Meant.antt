@@ -10,7 +10,7 @@ use Rattle.command_line.specs.declared.words.WordsFault.TheVariants.{Clap, Missi
 use Rattle.command_line.specs.declared.words.Word.TheVariants as value
 use Rattle.command_line.specs.declared.gateways.GatewayWords.{GatewayWords}
 use Rattle.command_line.specs.declared.replays.ReplayWords.{ReplayWords}
-use Rattle.command_line.specs.Values.{name_of, IsCount, IsNoCount}
+use Rattle.command_line.specs.Values.{name_of, IsCount}
 use Rattle.command_line.specs.Gateways as gateways
 use Rattle.command_line.specs.Gateways.{gateway_app}
 use Rattle.command_line.specs.Replays as replays
@@ -28,6 +28,10 @@ faultless f a b ws p = subst (λ x. fault_of x ws ≡ []) p.same p.taken
 found_at : (f : Found) (a b : App) (ws : List Text) (id : Text) → Parses f a b ws → first_value f id ≡ first_of id (matches_of b ws)
 found_at f a b ws id p = first_value-rows f id ∙ (ap (first_of id) p.rows ∙ ap (λ x. first_of id (matches_of x ws)) p.same)
 
+-- Under each name the parse found what the words have there.
+gateway_found : (f : Found) (a : App) (ws : List Text) → Parses f a gateway_app ws → gateways.found_by f ≡ gateways.found_in ws
+gateway_found f a ws p = λ i w. found_at f a gateway_app ws (name_of w) p i
+
 -- Values that were found are what the words mean.
 pub gateway_means : (f : Found) (a : App) (ws : List Text) (v : GatewayWords) → Parses f a gateway_app ws → gateways.HasValues f v → gateways.Means ws v
 unfolding gateways.Means
@@ -44,8 +48,8 @@ gateway_means f a ws v p has = (
 pub gateway_refuses : (f : Found) (a : App) (ws : List Text) (r : WordsFault) → Parses f a gateway_app ws → gateways.LacksValues f r → gateways.Refuses ws r
 unfolding gateways.Refuses
 gateway_refuses f a ws (Clap e) p lacks = absurd lacks
-gateway_refuses f a ws (Missing w) p lacks = (faultless f a gateway_app ws p, sym (found_at f a gateway_app ws (name_of w) p) ∙ lacks)
-gateway_refuses f a ws (NotANumber w) p lacks = (faultless f a gateway_app ws p, subst (λ o. IsNoCount o w (NotANumber w)) (found_at f a gateway_app ws (name_of w) p) lacks)
+gateway_refuses f a ws (Missing w) p lacks = (faultless f a gateway_app ws p, subst (λ find. gateways.AreNoValues find (Missing w)) (gateway_found f a ws p) lacks)
+gateway_refuses f a ws (NotANumber w) p lacks = (faultless f a gateway_app ws p, subst (λ find. gateways.AreNoValues find (NotANumber w)) (gateway_found f a ws p) lacks)
 gateway_refuses f a ws NotUtf8 p lacks = absurd lacks
 gateway_refuses f a ws Memory p lacks = tt
 

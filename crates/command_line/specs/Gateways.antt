@@ -1,5 +1,5 @@
 -- The command line `h2gw --config FILE --listen ADDR --connections N --turns N`, by `clap`'s meaning of a simple command.
-use Rattle.std.specs.Prelude.{◌≡◌, List, [], Option, Some, None, string_bytes, codes, ⊤}
+use Rattle.std.specs.Prelude.{◌≡◌, ℕ, List, [], Option, Some, None, IsSome, string_bytes, codes, ⊤}
 use Rattle.clap.specs.Words.{App, Text, new_app, with_rule, matches_of, first_of, fault_of, kind_of, IsAmong, first_value}
 use Rattle.clap.specs.declared.parser.matches.Found.{Found}
 use Rattle.command_line.specs.declared.words.Word.{Word}
@@ -20,11 +20,25 @@ pub record AreValues (find : Word → Option Text) (values : GatewayWords) : Typ
   pub connections : IsCount (find value.Connections) values.connections
   pub turns : IsCount (find value.Turns) values.turns
 
--- Why they are none, unless memory ran out: one is missing, or no number.
+-- Each value before this one, in the order `config`, `listen`, `connections`, `turns`, is there, and a number where it has to be. There is no script.
+abbrev pub IsReached : (Word → Option Text) → Word → Type 0
+IsReached find value.Config = ⊤
+IsReached find value.Listen = IsSome (find value.Config)
+IsReached find value.Connections = IsSome (find value.Config) × IsSome (find value.Listen)
+IsReached find value.Turns = IsSome (find value.Config) × IsSome (find value.Listen) × (count : ℕ) × IsCount (find value.Connections) count
+IsReached find value.Script = ⊥
+
+-- A value was found that has to be a number, and is none.
+abbrev pub IsNoNumber : Word → Option Text → Type 0
+IsNoNumber value.Connections found = IsNoCount found value.Connections (NotANumber value.Connections)
+IsNoNumber value.Turns found = IsNoCount found value.Turns (NotANumber value.Turns)
+IsNoNumber word found = ⊥
+
+-- Why they are none, unless memory ran out: the first that is missing, or no number.
 abbrev pub AreNoValues : (Word → Option Text) → WordsFault → Type 0
 AreNoValues find (Clap error) = ⊥
-AreNoValues find (Missing word) = find word ≡ None
-AreNoValues find (NotANumber word) = IsNoCount (find word) word (NotANumber word)
+AreNoValues find (Missing word) = IsReached find word × (find word ≡ None)
+AreNoValues find (NotANumber word) = IsReached find word × IsNoNumber word (find word)
 AreNoValues find NotUtf8 = ⊥
 AreNoValues find Memory = ⊤
 

@@ -32,8 +32,8 @@ pub struct GatewayWords {
 }
 
 /// Reads the gateway's command line, from the program's name on: `--config FILE --listen ADDR --connections N --turns N`, in
-/// any order, each once and none left out. `--help` and what isn't such a line is a fault, the first value that is missing or no
-/// number another.
+/// any order, each once and none left out. `--help` and what isn't such a line is a fault, and so is the first value, in the order
+/// above, that is missing or no number.
 pub fn read_gateway_words<'a>(
     alloc: Global,
     words: &'a [&'a str],

@@ -1,8 +1,8 @@
 -- What a write leaves of the octets that were put out.
-use Rattle.std.proofs.Common.{◌≡◌, ◌≤◌, ◌<◌, ◌+◌, ◌-◌, ◌^◌, ℕ, List, [], ◌∷◌, ◌++◌, length, min, take, drop, Option, Some, None, refl, sym, ap, ◌∙◌, append_assoc, append-nil, length-append, arith}
+use Rattle.std.proofs.Common.{◌≡◌, ◌≤◌, ◌<◌, ◌+◌, ◌-◌, ◌^◌, ℕ, List, [], ◌∷◌, ◌++◌, length, min, take, drop, Option, Some, None, refl, sym, ap, ◌∙◌, append_assoc, append-nil, length-append, take-append-drop, arith}
 use Rattle.std.proofs.lemmas.Grind.{common_steps}
 use Rattle.std.specs.Io.KnownBytes.{Appends}
-use Rattle.transfers.specs.Transfers.{Way, Passes}
+use Rattle.transfers.specs.Transfers.{Way, Passes, Loses}
 
 -- The front that was written, what waited, and the rest are what waited and all octets, if nothing was written past what waited.
 in_order : (waiting octets : List ℕ) (n : ℕ) → (0 < length waiting → n ≡ 0) → take n octets ++ (waiting ++ drop n octets) ≡ waiting ++ octets
@@ -19,6 +19,23 @@ put_out had has old new octets n within behind appends waiting untold =
       written = take n octets;
       in_order = ap (λ ws. take n octets ++ ws) waiting ∙ in_order old.waiting octets n behind;
       are_written = appends;
+      counted = untold ∙ ap (λ m. min (old.untold + m) (2 ^ 64 - 1)) (sym count);
+    }
+
+-- Octets were put out, of which n were written at once and the rest is lost.
+pub lost_rest : (had has : Option (List ℕ)) (old new : Way) (octets : List ℕ) (n : ℕ) → n ≤ length octets → (0 < length old.waiting → n ≡ 0)
+    → Appends had has (take n octets) → 0 < length (drop n octets) → new.waiting ≡ old.waiting → new.untold ≡ min (old.untold + n) (2 ^ 64 - 1)
+    → Loses had has old octets new
+lost_rest had has old new octets n within behind appends some waiting untold =
+    let count : length (take n octets) ≡ n = grind (arith, common_steps) in
+    record {
+      written = take n octets;
+      lost = drop n octets;
+      parted = take-append-drop n octets;
+      some = some;
+      are_written = appends;
+      behind = λ h. ap (λ m. take m octets) (behind h);
+      waits = waiting;
       counted = untold ∙ ap (λ m. min (old.untold + m) (2 ^ 64 - 1)) (sym count);
     }
 

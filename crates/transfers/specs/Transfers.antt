@@ -1,6 +1,9 @@
 -- Octets that pass between a gateway and a socket.
-use Rattle.std.specs.Prelude.{◌≡◌, ◌≤◌, ◌<◌, ◌+◌, ◌-◌, ◌^◌, ℕ, List, [], ◌++◌, nat_lt, if◌then◌else◌, length, min, Option, Result, Ok, Err, ⊤}
+use Rattle.std.specs.Prelude.{◌≡◌, ◌≤◌, ◌<◌, ◌+◌, ◌-◌, ◌^◌, ℕ, List, [], ◌++◌, ◌⊎◌, nat_lt, if◌then◌else◌, length, min, Option, Result, Ok, Err, ⊤}
 use Rattle.std.specs.Io.KnownBytes.{Appends, Consumes, Keeps, IsAtEnd}
+use Rattle.std.specs.IoError.{error_kind}
+use Rattle.std.specs.declared.io.ErrorKind.{ErrorKind}
+use Rattle.std.specs.declared.io.ErrorKind.TheVariants.{WouldBlock, Interrupted}
 use Rattle.transfers.specs.declared.outgoing.PutFault.{PutFault}
 use Rattle.transfers.specs.declared.outgoing.PutFault.TheVariants.{Socket, Memory}
 use Rattle.transfers.specs.declared.incoming.Got.{Got}
@@ -30,11 +33,39 @@ pub record Passes (had has : Option (List ℕ)) (old : Way) (octets : List ℕ) 
   pub are_written : Appends had has written
   pub counted : new.untold ≡ min (old.untold + length written) (2 ^ 64 - 1)
 
+-- Octets were put out, and memory was refused for those that a socket didn't take: a front of them was written, no other octets
+-- were, and the rest, one at least, is lost. What waited before waits still, and where something did nothing was written.
+pub record Loses (had has : Option (List ℕ)) (old : Way) (octets : List ℕ) (new : Way) : Type 0 where
+  pub written : List ℕ
+  pub lost : List ℕ
+  pub parted : written ++ lost ≡ octets
+  pub some : 0 < length lost
+  pub are_written : Appends had has written
+  pub behind : 0 < length old.waiting → written ≡ []
+  pub waits : new.waiting ≡ old.waiting
+  pub counted : new.untold ≡ min (old.untold + length written) (2 ^ 64 - 1)
+
 -- the answer that the socket failed
 abbrev pub IsSocketFault : {A : Type 0} → Result A PutFault → Type 0
 IsSocketFault (Err (Socket error)) = ⊤
 IsSocketFault (Err Memory) = ⊥
 IsSocketFault (Ok a) = ⊥
+
+-- the answer that memory was refused
+abbrev pub IsMemoryFault : {A : Type 0} → Result A PutFault → Type 0
+IsMemoryFault (Err (Socket error)) = ⊥
+IsMemoryFault (Err Memory) = ⊤
+IsMemoryFault (Ok a) = ⊥
+
+-- a call only came too early, so that it is to be made again
+abbrev pub IsEarly : ErrorKind → Type 0
+IsEarly kind = (kind ≡ WouldBlock) ⊎ (kind ≡ Interrupted)
+
+-- the answer that the socket failed, where the call only came too early
+abbrev pub IsEarlyFault : {A : Type 0} → Result A PutFault → Type 0
+IsEarlyFault (Err (Socket error)) = IsEarly (error_kind error)
+IsEarlyFault (Err Memory) = ⊥
+IsEarlyFault (Ok a) = ⊥
 
 -- What a read with so much room gave of the octets that the socket still had: some of the first, its end, or nothing.
 abbrev pub Gives : Option (List ℕ) → Option (List ℕ) → ℕ → Got → Type 0

@@ -1,8 +1,9 @@
 //! Octets on their way out to a socket.
 
-ghost use Rattle.std.specs.Prelude.{◌≡◌, ◌+◌, ◌-◌, ◌*◌, ◌<◌, ◌≤◌, ◌^◌, ◌↔◌, ◌⊎◌, ◌++◌, [], min, length, take, drop, IsTrue, IfOk, OnOk, OnErr, vec_len};
+ghost use Rattle.std.specs.Prelude.{◌≡◌, ◌+◌, ◌-◌, ◌*◌, ◌<◌, ◌≤◌, ◌^◌, ◌↔◌, ◌⊎◌, ◌++◌, [], min, length, take, drop, IsTrue, IfOk, OnOk, OnErr, IfErr, vec_len};
 ghost use Rattle.std.specs.Io.KnownBytes.{Appends, Keeps};
-ghost use Rattle.transfers.specs.Transfers.{Passes, IsSocketFault, nothing_put, told, told_count};
+ghost use Rattle.std.specs.IoError.{error_kind};
+ghost use Rattle.transfers.specs.Transfers.{IsEarly, IsEarlyFault, IsMemoryFault, IsSocketFault, Loses, Passes, nothing_put, told, told_count};
 
 use std::alloc::{AllocError, Global};
 use std::io;
@@ -12,9 +13,10 @@ use std::marker::Model;
 /// Why octets can't be put out.
 #[derive(Debug, Drop)]
 pub enum PutFault {
-    /// The socket failed. Nothing was written, and nothing changed.
+    /// The socket failed, and not since it would wait. Nothing was written, and nothing changed.
     Socket(io::Error),
-    /// No memory was left for what the socket didn't take. The connection has to be ended.
+    /// No memory was left for what the socket didn't take: that is lost, and what waited before waits still. The connection has to be
+    /// ended.
     Memory,
 }
 
@@ -92,6 +94,9 @@ impl Outgoing {
     pub fn put<W: Write>(&mut self, socket: &mut W, octets: &[u8]) -> Result<(), PutFault>
         ensures passes { OnOk result (Passes (W.contents socket.old) (W.contents socket.new) self.old octets.now self.new) }
         ensures failed { IsSocketFault result → Keeps (W.contents socket.old) (W.contents socket.new) × (self.new ≡ self.old) }
+        ensures asked { IsSocketFault result → self.old.waiting ≡ [] }
+        ensures never_early { ¬ IsEarlyFault result }
+        ensures refused { IsMemoryFault result → Loses (W.contents socket.old) (W.contents socket.new) self.old octets.now self.new }
     {
         let taken = match self.write_first(socket, octets) {
             Ok(taken) => taken,
@@ -106,6 +111,7 @@ impl Outgoing {
     pub fn gather(&mut self, octets: &[u8]) -> Result<(), AllocError>
         ensures gathered { OnOk result (self.new ≡ record self.old { waiting = self.old.waiting ++ octets.now }) }
         ensures refused { OnErr result (self.new ≡ self.old) }
+        ensures needed { OnErr result (0 < length octets.now) }
     {
         if self.start >= self.octets.len() - self.start {
             cut_front(&mut self.octets, self.start);
@@ -119,6 +125,7 @@ impl Outgoing {
         ensures count { IfOk result (λ taken. length self.new.waiting + taken ≡ length self.old.waiting) }
         ensures passes { OnOk result (Passes (W.contents socket.old) (W.contents socket.new) self.old [] self.new) }
         ensures failed { OnErr result (Keeps (W.contents socket.old) (W.contents socket.new) × (self.new ≡ self.old)) }
+        ensures never_early { IfErr result (λ error. ¬ IsEarly (error_kind error)) }
     {
         let taken = write_some(socket, &self.octets[self.start..])?;
         self.start += taken;
@@ -126,9 +133,10 @@ impl Outgoing {
         Ok(taken)
     }
 
-    /// Writes what waits until a write takes nothing, or nothing waits.
+    /// Writes what waits until a write takes nothing, or nothing waits. Where the socket fails, what wasn't written still waits.
     pub fn flush_all<W: Write>(&mut self, socket: &mut W) -> io::Result<()>
-        ensures passes { OnOk result (Passes (W.contents socket.old) (W.contents socket.new) self.old [] self.new) }
+        ensures passes { Passes (W.contents socket.old) (W.contents socket.new) self.old [] self.new }
+        ensures never_early { IfErr result (λ error. ¬ IsEarly (error_kind error)) }
     {
         let _ = &self.untold;
         while self.waiting() > 0 {
@@ -145,6 +153,8 @@ impl Outgoing {
         ensures behind { IfOk result (λ taken. 0 < length self.now.waiting → taken ≡ 0) }
         ensures written { IfOk result (λ taken. Appends (W.contents socket.old) (W.contents socket.new) (take taken octets.now)) }
         ensures failed { OnErr result (Keeps (W.contents socket.old) (W.contents socket.new)) }
+        ensures asked { OnErr result (self.now.waiting ≡ []) }
+        ensures never_early { IfErr result (λ error. ¬ IsEarly (error_kind error)) }
     {
         if self.waiting() > 0 {
             return Ok(0);
@@ -166,6 +176,7 @@ fn write_some<W: Write>(socket: &mut W, octets: &[u8]) -> io::Result<usize>
     ensures within { IfOk result (λ taken. taken ≤ length octets.now) }
     ensures written { IfOk result (λ taken. Appends (W.contents socket.old) (W.contents socket.new) (take taken octets.now)) }
     ensures failed { OnErr result (Keeps (W.contents socket.old) (W.contents socket.new)) }
+    ensures never_early { IfErr result (λ error. ¬ IsEarly (error_kind error)) }
 {
     match socket.write(octets) {
         Ok(taken) => Ok(taken),
@@ -176,7 +187,7 @@ fn write_some<W: Write>(socket: &mut W, octets: &[u8]) -> io::Result<usize>
 
 /// Whether a call only came too early, so that it is to be made again.
 pub fn is_early(kind: ErrorKind) -> bool
-    ensures { IsTrue result ↔ ((kind ≡ ErrorKind.WouldBlock) ⊎ (kind ≡ ErrorKind.Interrupted)) }
+    ensures { IsTrue result ↔ IsEarly kind }
 {
     matches!(kind, ErrorKind::WouldBlock | ErrorKind::Interrupted)
 }

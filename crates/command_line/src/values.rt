@@ -1,6 +1,6 @@
 //! The values that a parse found.
 
-ghost use Rattle.std.specs.Prelude.{false, ◌≡◌, ◌≢◌, ◌⊎◌, IfOk, IfErr, Some, None, option_map};
+ghost use Rattle.std.specs.Prelude.{false, ◌≡◌, ◌≢◌, ◌⊎◌, IfOk, IfErr, Some, None};
 ghost use Rattle.clap.specs.Words.{found_of, first_value, kind_of, rule_of};
 ghost use Rattle.command_line.specs.Values.{name_of, option_rule, value_rule, IsCount, IsNoText, IsNoCount};
 

@@ -1,7 +1,6 @@
 //! Octets that come from a socket.
 
 ghost use Rattle.std.specs.Prelude.{IfOk, length};
-ghost use Rattle.std.specs.Io.KnownBytes.{Keeps};
 ghost use Rattle.transfers.specs.Transfers.{Gives};
 
 use crate::outgoing::is_early;

@@ -2,7 +2,5 @@
 #![tactic(auto)]
 
 mod answer;
-#[cfg(test)]
-mod tests;
 
 pub use crate::answer::{Answer, Ended, Heard, Passing};

@@ -9,6 +9,8 @@ mod flags_tests;
 #[cfg(test)]
 mod frames_tests;
 #[cfg(test)]
+mod marks_tests;
+#[cfg(test)]
 mod payloads_tests;
 #[cfg(test)]
 mod settings_tests;

@@ -1,13 +1,21 @@
 -- What octets begin with, in words of the code.
-use Rattle.std.specs.Prelude.{◌≡◌, ℕ, ◌+◌, ◌<◌, ◌≤◌, List, length, take, slice_range}
+use Rattle.std.specs.Prelude.{◌≡◌, ℕ, ◌+◌, ◌<◌, ◌≤◌, List, ◌++◌, length, take, slice_range}
 use Rattle.model.specs.Frames.{Frame, Spells, BeginsNoFrame, IsTooLong, length_field}
 use Rattle.frames.specs.declared.views.View.{View}
 use Rattle.frames.specs.declared.views.Split.{Split}
 use Rattle.frames.specs.declared.views.Split.TheVariants.{Frame as Whole, More, TooLong}
 
+-- a view's frame with another payload
+abbrev pub with_payload : View → List ℕ → Frame
+with_payload view payload = record { kind = view.kind; flags = view.flags; id = view.id; payload = payload }
+
 -- a view without where it lies in memory
 abbrev pub frame_of : View → Frame
-frame_of view = record { kind = view.kind; flags = view.flags; id = view.id; payload = view.payload.now }
+frame_of view = with_payload view view.payload.now
+
+-- a view's frame with octets behind its payload
+abbrev pub joined : View → List ℕ → Frame
+joined view more = with_payload view (view.payload.now ++ more)
 
 -- The first `used` octets spell the frame, and its payload is those of them behind the nine of the header.
 pub record IsAtFront (octets : List ℕ) (view : View) (used : ℕ) : Type 0 where

@@ -2,9 +2,9 @@
 //! told, and one is written behind others.
 #![tactic(auto)]
 
-ghost use Rattle.std.specs.Prelude.{◌≡◌, ◌+◌, ◌<◌, ◌++◌, length, vec_len, vec_capacity, OnOk, OnErr};
+ghost use Rattle.std.specs.Prelude.{◌≡◌, ℕ, ◌+◌, ◌<◌, ◌≤◌, List, ◌++◌, length, vec_len, vec_capacity, OnOk, OnErr};
 ghost use Rattle.model.specs.Frames.{spell, Fits};
-ghost use Rattle.frames.specs.Views.{frame_of, IsSplit};
+ghost use Rattle.frames.specs.Views.{frame_of, with_payload, joined, IsSplit};
 
 mod flags;
 mod kinds;
@@ -67,22 +67,36 @@ pub fn write(view: &View<'_>, out: &mut Vec<u8>) -> Result<(), AllocError>
     // It fails only where the vector had to grow.
     ensures full { OnErr result (vec_capacity out.old < vec_len out.old + (9 + length view.now.payload.now)) }
 {
-    let header = header_of(view);
-    out.reserve(HEADER + view.payload.len())?;
-    out.extend_from_slice(&header)?;
-    out.extend_from_slice(view.payload)
+    write_joined(view, &[], out)
 }
 
-/// The octets before the payload.
-fn header_of(view: &View<'_>) -> [u8; 9]
-    requires { Fits (frame_of view.now) }
-    ensures { result ++ view.now.payload.now ≡ spell (frame_of view.now) }
+/// Writes a frame whose payload lies in two parts, that of `view` and `more` behind it, at the end of `out`.
+///
+/// Its conditions and its error are those of `write`, where the payload is both parts.
+pub fn write_joined(view: &View<'_>, more: &[u8], out: &mut Vec<u8>) -> Result<(), AllocError>
+    requires { Fits (joined view.now more.now) }
+    ensures ok { OnOk result (out.new.items ≡ out.old.items ++ spell (joined view.now more.now)) }
+    ensures err { OnErr result (out.new.items ≡ out.old.items) }
+    ensures full { OnErr result (vec_capacity out.old < vec_len out.old + (9 + (length view.now.payload.now + length more.now))) }
 {
-    let length = view.payload.len();
+    let count = view.payload.len() + more.len();
+    let header = header_of(view, count);
+    out.reserve(HEADER + count)?;
+    out.extend_from_slice(&header)?;
+    out.extend_from_slice(view.payload)?;
+    out.extend_from_slice(more)
+}
+
+/// The octets before a payload of so many octets.
+fn header_of(view: &View<'_>, count: usize) -> [u8; 9]
+    requires count { count ≤ 16384 }
+    requires stream { view.now.id < 2147483648 }
+    ensures { (payload : List ℕ) → length payload ≡ count → result ++ payload ≡ spell (with_payload view.now payload) }
+{
     [
-        (length / 65536) as u8,
-        (length / 256 % 256) as u8,
-        (length % 256) as u8,
+        (count / 65536) as u8,
+        (count / 256 % 256) as u8,
+        (count % 256) as u8,
         view.kind,
         view.flags,
         (view.id / 16777216) as u8,

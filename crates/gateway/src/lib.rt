@@ -27,6 +27,3 @@ pub use runs::{RunFault, run};
 pub fn logs_are_promised()
     ensures { (setup : Setup) (g : Standing) (log : List Step) (run : List Move) → Stands setup g log run → Promise setup (reverse log) }
 {}
-
-#[cfg(test)]
-mod tests;

@@ -5,6 +5,8 @@
 #![tactic(auto)]
 
 #[cfg(test)]
+mod coder_tests;
+#[cfg(test)]
 mod decoder_tests;
 #[cfg(test)]
 mod encoder_tests;

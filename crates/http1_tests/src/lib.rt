@@ -14,3 +14,5 @@ mod h1_writer_tests;
 mod lines;
 #[cfg(test)]
 mod request_rules_tests;
+#[cfg(test)]
+mod requests_tests;

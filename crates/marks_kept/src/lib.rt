@@ -6,7 +6,5 @@ pub mod laws;
 mod marks;
 mod places;
 mod side;
-#[cfg(test)]
-mod tests;
 
 pub use crate::marks::Marks;

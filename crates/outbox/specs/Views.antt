@@ -1,8 +1,9 @@
 -- The code's values as the rule of what is on offer has them.
-use Rattle.std.specs.Prelude.{◌≡◌, ◌≤◌, ◌-◌, Bool, true, false, drop, length}
+use Rattle.std.specs.Prelude.{◌≡◌, ◌≤◌, Bool, true, false, ◌++◌, length}
 use Rattle.model.specs.ResponseHeads.{Head}
 use Rattle.offering.specs.Outbox.{Outbox}
 use Rattle.offering.specs.Outbox as rule
+use Rattle.outbox.specs.Waiting.{Waiting}
 use Rattle.outbox.specs.declared.outbox.Place.{Place}
 use Rattle.outbox.specs.declared.outbox.Place.TheVariants as place
 use Rattle.outbox.specs.declared.part.Part.{Part}
@@ -10,20 +11,25 @@ use Rattle.outbox.specs.declared.part.Part.TheVariants as part
 
 -- an outbox: the octets of the body behind those that were sent
 abbrev pub outbox_in : Place → Outbox
-outbox_in (place.Before interims head body whole) = rule.Outbox.Before interims.items head body.items whole
-outbox_in (place.Behind body sent whole) = rule.Outbox.Behind (drop sent body.items) whole
+outbox_in (place.Before interims head body whole) = rule.Outbox.Before interims.items head body.octets whole
+outbox_in (place.Behind body whole) = rule.Outbox.Behind body.octets whole
 outbox_in place.Over = rule.Outbox.Over
 
--- No more octets were sent than there are, and, as long as more may come, not more than weren't.
+-- Of octets that wait, no more stand before them that were sent.
+abbrev pub IsShort : Waiting → Type 0
+IsShort waiting = waiting.sent ≤ length waiting.octets
+
+-- That is so as long as more may come.
 abbrev pub IsKept : Place → Type 0
-IsKept (place.Behind body sent whole) = (sent ≤ length body.items) × (whole ≡ false → sent ≤ length body.items - sent)
-IsKept _ = Unit {0}
+IsKept (place.Before interims head body whole) = IsShort body
+IsKept (place.Behind body whole) = whole ≡ false → IsShort body
+IsKept place.Over = Unit {0}
 
 -- the next part
 abbrev pub part_in : Part → rule.Part
 part_in (part.Early head) = rule.Part.Early head.now
 part_in (part.Final head ends) = rule.Part.Final head.now ends
-part_in (part.Octets octets ends) = rule.Part.Octets octets.now ends
+part_in (part.Octets front back ends) = rule.Part.Octets (front.now ++ back.now) ends
 
 -- The part is this head.
 abbrev pub IsHead : Head → rule.Part → Type 0

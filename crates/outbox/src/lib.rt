@@ -1,10 +1,9 @@
 //! What is on offer for a stream and wasn't sent yet, in code: heads, octets of a body, and the end.
 #![tactic(auto)]
 
+mod octets;
 mod outbox;
 mod part;
-#[cfg(test)]
-mod tests;
 
 pub use crate::outbox::Outbox;
 pub use crate::part::Part;

@@ -5,8 +5,9 @@ ghost use Rattle.model.specs.Octets.{is_empty};
 ghost use Rattle.offering.specs.Outbox.{silent, grown, can_go, part_of, left, rest_of};
 ghost use Rattle.offering.specs.Outbox as rule;
 ghost use Rattle.offering.specs.Held.{body_waiting};
-ghost use Rattle.outbox.specs.Views.{outbox_in, part_in, is_begun, IsKept, IsHead, AreOctets};
+ghost use Rattle.outbox.specs.Views.{outbox_in, part_in, is_begun, IsKept, IsShort, IsHead, AreOctets};
 
+use crate::octets::Octets;
 use crate::part::Part;
 use h1_reader::ResponseHead;
 use std::alloc::{AllocError, Global};
@@ -18,9 +19,9 @@ use std::mem;
 #[derive(Drop)]
 enum Place {
     /// No final head was sent: interim heads, the final head if it is on offer, octets behind it, and whether it is whole with them.
-    Before(VecDeque<ResponseHead>, Option<ResponseHead>, Vec<u8>, bool),
-    /// The final head was sent: octets behind it, how many of them were sent, and whether the response is whole with them.
-    Behind(Vec<u8>, usize, bool),
+    Before(VecDeque<ResponseHead>, Option<ResponseHead>, Octets, bool),
+    /// The final head was sent: octets behind it, and whether the response is whole with them.
+    Behind(Octets, bool),
     /// All was sent, with the end.
     Over,
 }
@@ -43,74 +44,16 @@ impl Model for Outbox {
     ghost invariant = { λ outbox. IsKept outbox.place };
 }
 
-/// The parts of a body behind one another, of which the first is empty in most cases.
-fn append(body: &mut Vec<u8>, more: Vec<u8>) -> Result<(), AllocError>
-    ensures ok { OnOk result (body.new.items ≡ body.old.items ++ more.items) }
-    ensures err { OnErr result (body.new.items ≡ body.old.items) }
-{
-    if body.is_empty() {
-        *body = more;
-        return Ok(());
-    }
-    body.extend_from_slice(&more)
-}
-
-/// So many octets in front go.
-fn drop_front(body: &mut Vec<u8>, count: usize)
-    requires { count ≤ length body.old.items }
-    ensures { body.new.items ≡ drop count body.old.items }
-{
-    body.rotate_left(count);
-    body.truncate(body.len() - count);
-}
-
-/// Octets that were sent go, if they are more than those behind them.
-fn cut_sent(body: &mut Vec<u8>, sent: &mut usize)
-    requires { sent.old ≤ length body.old.items }
-    ensures same { drop sent.new body.new.items ≡ drop sent.old body.old.items }
-    ensures fewer { sent.new ≤ length body.new.items - sent.new }
-    ensures kept { sent.new ≤ length body.new.items }
-{
-    if *sent > body.len() - *sent {
-        drop_front(body, *sent);
-        *sent = 0;
-    }
-}
-
-/// They do so as long as more may come: what is whole isn't moved any more.
-fn cut_unless_whole(body: &mut Vec<u8>, sent: &mut usize, whole: bool)
-    requires { sent.old ≤ length body.old.items }
-    ensures same { drop sent.new body.new.items ≡ drop sent.old body.old.items }
-    ensures fewer { whole ≡ false → sent.new ≤ length body.new.items - sent.new }
-    ensures kept { sent.new ≤ length body.new.items }
-{
-    if !whole {
-        cut_sent(body, sent);
-    }
-}
-
-/// The parts of a body behind one another, where some octets of the first were sent. An `Err` says that memory was refused; then nothing
-/// waits that didn't before.
-fn append_behind(body: &mut Vec<u8>, sent: &mut usize, more: Vec<u8>) -> Result<(), AllocError>
-    requires { sent.old ≤ length body.old.items }
-    ensures ok { OnOk result (drop sent.new body.new.items ≡ drop sent.old body.old.items ++ more.items) }
-    ensures err { OnErr result (drop sent.new body.new.items ≡ drop sent.old body.old.items) }
-    ensures fewer { sent.new ≤ length body.new.items - sent.new }
-    ensures kept { sent.new ≤ length body.new.items }
-{
-    cut_sent(body, sent);
-    append(body, more)
-}
-
 /// What is left behind a final head.
-fn behind(body: Vec<u8>, whole: bool) -> Place
-    ensures is { outbox_in result ≡ rest_of body.items whole (whole && is_empty body.items) }
+fn behind(body: Octets, whole: bool) -> Place
+    requires { IsShort body }
+    ensures is { outbox_in result ≡ rest_of body.octets whole (whole && is_empty body.octets) }
     ensures kept { IsKept result }
 {
     if whole && body.is_empty() {
         Place::Over
     } else {
-        Place::Behind(body, 0, whole)
+        Place::Behind(body, whole)
     }
 }
 
@@ -120,7 +63,7 @@ impl Outbox {
         ensures { result ≡ silent }
     {
         Outbox {
-            place: Place::Before(VecDeque::new(alloc), None, Vec::new(alloc), false),
+            place: Place::Before(VecDeque::new(alloc), None, Octets::new(alloc), false),
         }
     }
 
@@ -149,14 +92,14 @@ impl Outbox {
     {
         match &mut self.place {
             Place::Before(_, first, octets, whole) => {
-                append(octets, body)?;
+                octets.add(body)?;
                 if first.is_none() {
                     *first = head;
                 }
                 *whole = *whole || ends;
             }
-            Place::Behind(octets, sent, whole) => {
-                append_behind(octets, sent, body)?;
+            Place::Behind(waiting, whole) => {
+                waiting.add(body)?;
                 *whole = *whole || ends;
             }
             Place::Over => {}
@@ -168,7 +111,7 @@ impl Outbox {
     pub fn reply(&mut self, alloc: Global, head: ResponseHead)
         ensures { self.new ≡ rule.Outbox.Before [] (Some head) [] true }
     {
-        self.place = Place::Before(VecDeque::new(alloc), Some(head), Vec::new(alloc), true);
+        self.place = Place::Before(VecDeque::new(alloc), Some(head), Octets::new(alloc), true);
     }
 
     /// Whether the final head of a response was sent.
@@ -185,11 +128,11 @@ impl Outbox {
     {
         match &self.place {
             Place::Before(interims, head, _, _) => !interims.is_empty() || head.is_some(),
-            Place::Behind(body, sent, whole) => {
-                if *sent < body.len() {
-                    windows_open
-                } else {
+            Place::Behind(body, whole) => {
+                if body.is_empty() {
                     *whole
+                } else {
+                    windows_open
                 }
             }
             Place::Over => false,
@@ -208,7 +151,7 @@ impl Outbox {
                     .as_ref()
                     .map(|head| Part::Final(head, *whole && body.is_empty())),
             },
-            Place::Behind(body, sent, whole) => octets_at(&body[*sent..], most, *whole),
+            Place::Behind(body, whole) => part_at(body, most, *whole),
             Place::Over => None,
         }
     }
@@ -219,7 +162,7 @@ impl Outbox {
     {
         match &self.place {
             Place::Before(_, _, body, _) => body.len(),
-            Place::Behind(body, sent, _) => body.len() - *sent,
+            Place::Behind(body, _) => body.len(),
             Place::Over => 0,
         }
     }
@@ -254,35 +197,28 @@ impl Outbox {
         ensures octets { (part : rule.Part) → part_of most self.old ≡ Some part → AreOctets part → self.new ≡ left self.old part }
         ensures before { is_begun self.old ≡ false → self.new ≡ self.old }
     {
-        if let Place::Behind(body, sent, whole) = &mut self.place {
-            let rest = body.len() - *sent;
-            if most < rest {
-                *sent += most;
-                cut_unless_whole(body, sent, *whole);
+        if let Place::Behind(body, whole) = &mut self.place {
+            if most < body.len() {
+                body.pass(most, *whole);
             } else if *whole {
                 self.place = Place::Over;
             } else {
                 body.clear();
-                *sent = 0;
             }
         }
     }
 }
 
 /// So many octets of a body at most, or its end.
-fn octets_at(body: &[u8], most: usize, whole: bool) -> Option<Part<'_>>
-    ensures { option_map part_in result ≡ part_of most (rule.Outbox.Behind body.now whole) }
+fn part_at(body: &Octets, most: usize, whole: bool) -> Option<Part<'_>>
+    ensures { option_map part_in result ≡ part_of most (rule.Outbox.Behind body.now.octets whole) }
 {
-    if body.is_empty() {
-        return if whole {
-            Some(Part::Octets(body, true))
-        } else {
-            None
-        };
+    let (front, back) = body.front(most);
+    if most < body.len() {
+        return Some(Part::Octets(front, back, false));
     }
-    if body.len() <= most {
-        Some(Part::Octets(body, whole))
-    } else {
-        Some(Part::Octets(&body[..most], false))
+    if body.is_empty() && !whole {
+        return None;
     }
+    Some(Part::Octets(front, back, whole))
 }

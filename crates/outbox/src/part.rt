@@ -10,6 +10,6 @@ pub enum Part<'a> {
     Early(&'a ResponseHead),
     /// The final head.
     Final(&'a ResponseHead, bool),
-    /// Octets of the body; none of them only where the response ends so.
-    Octets(&'a [u8], bool),
+    /// Octets of the body, as they lie: the second part is behind the first. There are none of them only where the response ends so.
+    Octets(&'a [u8], &'a [u8], bool),
 }

@@ -5,7 +5,7 @@ ghost use Rattle.model.specs.Frames.{spell, Fits};
 ghost use Rattle.model.specs.Logs.Act.{Open as DoesOpen, ToUp as DoesUp, Close as DoesClose, CloseClient as DoesEnd};
 ghost use Rattle.model.specs.Logs.Output.{ToClient, Does};
 ghost use Rattle.model.specs.Tapes.{put};
-ghost use Rattle.frames.specs.Views.{frame_of};
+ghost use Rattle.frames.specs.Views.{frame_of, joined};
 ghost use Rattle.outputs.specs.Views.{outputs_of};
 
 use crate::events::Output;
@@ -17,12 +17,12 @@ use std::marker::Model;
 /// Room for so many octets is made where a frame of the longest payload finds none: more such frames follow it most often.
 const FOLLOWING: usize = 4 * (HEADER + LONGEST);
 
-/// Makes room for a frame, if its payload is the longest. An `Err` says that memory was refused.
-fn make_room(octets: &mut Vec<u8>, payload: &[u8]) -> Result<(), AllocError>
+/// Makes room for a frame, if its payload of so many octets is the longest. An `Err` says that memory was refused.
+fn make_room(octets: &mut Vec<u8>, payload: usize) -> Result<(), AllocError>
     ensures { octets.new.items ≡ octets.old.items }
 {
     let has_room = octets.capacity() - octets.len() >= HEADER + LONGEST;
-    if payload.len() < LONGEST || has_room {
+    if payload < LONGEST || has_room {
         return Ok(());
     }
     octets.reserve(FOLLOWING)
@@ -77,9 +77,17 @@ impl Outputs {
         requires { Fits (frame_of view.now) }
         ensures { OnOk result (self.new ≡ put self.old (ToClient (spell (frame_of view.now)))) }
     {
+        self.send_joined(view, &[])
+    }
+
+    /// Puts a frame out to the client whose payload lies in two parts, that of `view` and `more` behind it.
+    pub fn send_joined(&mut self, view: &View<'_>, more: &[u8]) -> Result<(), AllocError>
+        requires { Fits (joined view.now more.now) }
+        ensures { OnOk result (self.new ≡ put self.old (ToClient (spell (joined view.now more.now)))) }
+    {
         let mut octets = self.take_octets()?;
-        make_room(&mut octets, view.payload)?;
-        frames::write(view, &mut octets)?;
+        make_room(&mut octets, view.payload.len() + more.len())?;
+        frames::write_joined(view, more, &mut octets)?;
         self.items.push(Output::Client(octets))?;
         Ok(())
     }

@@ -1,6 +1,6 @@
 //! Frames of responses: header blocks and octets of bodies.
 
-ghost use Rattle.std.specs.Prelude.{◌≡◌, ◌+◌, ◌<◌, ◌≤◌, length, OnOk, if◌then◌else◌};
+ghost use Rattle.std.specs.Prelude.{◌≡◌, ◌+◌, ◌<◌, ◌≤◌, ◌++◌, length, OnOk, if◌then◌else◌};
 ghost use Rattle.model.specs.Frames.{spell};
 ghost use Rattle.model.specs.Logs.Output.{ToClient};
 ghost use Rattle.model.specs.Tapes.{put};
@@ -47,19 +47,25 @@ fn put_block(out: &mut Outputs, stream: u32, flags: u8, block: &[u8]) -> Result<
 
 /// Frames of responses (RFC 9113, sections 6.1, 6.2 and 6.10). An `Err` says that memory was refused.
 impl Outputs {
-    /// Puts octets of a body out, at most 16,384 and without padding, which end the stream or don't (RFC 9113, section 6.1).
-    pub fn send_data(&mut self, stream: u32, octets: &[u8], ends: bool) -> Result<(), AllocError>
+    /// Puts octets of a body out, at most 16,384 in two parts and without padding, which end the stream or don't (RFC 9113, section 6.1).
+    pub fn send_data(
+        &mut self,
+        stream: u32,
+        front: &[u8],
+        back: &[u8],
+        ends: bool,
+    ) -> Result<(), AllocError>
         requires stream { stream < 2147483648 }
-        requires octets { length octets.now ≤ 16384 }
-        ensures { OnOk result (self.new ≡ put self.old (ToClient (spell (data_frame stream ends octets.now)))) }
+        requires octets { length (front.now ++ back.now) ≤ 16384 }
+        ensures { OnOk result (self.new ≡ put self.old (ToClient (spell (data_frame stream ends (front.now ++ back.now))))) }
     {
         let view = View {
             kind: DATA,
             flags: end_flag(ends),
             id: stream,
-            payload: octets,
+            payload: front,
         };
-        self.send(&view)
+        self.send_joined(&view, back)
     }
 
     /// Puts a whole header block out, which ends the stream or doesn't: HEADERS, and CONTINUATION for what it has no room for (RFC 9113,

@@ -2,8 +2,6 @@
 #![tactic(auto)]
 
 mod going;
-#[cfg(test)]
-mod tests;
 mod waiting;
 
 pub use crate::going::Going;

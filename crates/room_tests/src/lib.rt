@@ -5,7 +5,11 @@
 #![tactic(auto)]
 
 #[cfg(test)]
+mod answers_tests;
+#[cfg(test)]
 mod offers_tests;
+#[cfg(test)]
+mod outbox_tests;
 #[cfg(test)]
 mod outputs_tests;
 #[cfg(test)]

@@ -30,7 +30,7 @@ fn upcoming(offers: &Offers, id: u32, most: usize) -> Next {
         None => Next::Nothing,
         Some(Part::Early(head)) => Next::Early(head.status()),
         Some(Part::Final(head, ends)) => Next::Final(head.status(), ends),
-        Some(Part::Octets(octets, ends)) => Next::Octets(octets.len(), ends),
+        Some(Part::Octets(front, back, ends)) => Next::Octets(front.len() + back.len(), ends),
     }
 }
 
@@ -38,8 +38,8 @@ fn upcoming(offers: &Offers, id: u32, most: usize) -> Next {
 fn send(offers: &mut Offers, id: u32, most: usize) -> Next {
     match offers.part(id, most) {
         None => Next::Nothing,
-        Some(Part::Octets(octets, ends)) => {
-            let count = octets.len();
+        Some(Part::Octets(front, back, ends)) => {
+            let count = front.len() + back.len();
             offers.take_octets(id, most);
             Next::Octets(count, ends)
         }

@@ -120,8 +120,8 @@ fn octets_are_given_back(rt: HostRuntime) -> Result<(), Fail> {
 #[test]
 fn octets_of_a_body_are_sent(rt: HostRuntime) -> Result<(), Fail> {
     let mut outputs = Outputs::new(rt.alloc());
-    outputs.send_data(5, b"hi", false)?;
-    outputs.send_data(5, b"", true)?;
+    outputs.send_data(5, b"h", b"i", false)?;
+    outputs.send_data(5, b"", b"", true)?;
     let octets = octets_of(rt.alloc(), outputs)?;
     assert!(rt; octets.as_slice() == b"\0\0\x02\0\0\0\0\0\x05hi\0\0\0\0\x01\0\0\0\x05".as_slice());
     Ok(())

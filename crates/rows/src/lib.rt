@@ -5,6 +5,8 @@
 #![tactic(auto)]
 
 #[cfg(test)]
+mod calls;
+#[cfg(test)]
 mod configurations;
 #[cfg(test)]
 mod connections;
@@ -20,6 +22,8 @@ mod request_transcripts;
 mod responses;
 #[cfg(test)]
 mod runs;
+#[cfg(test)]
+mod serving;
 #[cfg(test)]
 mod streaming;
 #[cfg(test)]

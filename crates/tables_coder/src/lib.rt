@@ -11,9 +11,6 @@ ghost use Rattle.tables.specs.Answers.{IsReadAs, IsUnreadAs, IsWrittenAs};
 use header_blocks::{DecodeFault, Decoded, Decoder, Encoder, Field};
 use std::alloc::{AllocError, Global};
 
-#[cfg(test)]
-mod tests;
-
 /// The fields of a block, or that they are larger than `cap` octets (RFC 7541, section 4.1), read over the decoder's table, which is
 /// then the one that the block leaves. A fault says that the octets are no block, or that memory was refused; the decoder keeps it.
 /// Only a decoder without a fault reads.

@@ -8,6 +8,3 @@ mod world;
 pub use memory::MemoryWorld;
 pub use services::{Ended, ServeFault, serve};
 pub use world::{Next, World, WorldFault};
-
-#[cfg(test)]
-mod tests;

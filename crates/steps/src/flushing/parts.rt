@@ -125,11 +125,11 @@ fn send_octets(rooms: &mut Rooms, id: u32, out: &mut Outputs) -> Result<bool, Al
     ensures room { OnOk result (rooms.new.untaken + 13 < 2 ^ 64) }
 {
     let most = most_octets(&rooms.inbound, id);
-    let Some(Part::Octets(octets, ends)) = rooms.offers.part(id, most) else {
+    let Some(Part::Octets(front, back, ends)) = rooms.offers.part(id, most) else {
         unreachable!();
     };
-    let count = octets.len();
-    out.send_data(id, octets, ends)?;
+    let count = front.len() + back.len();
+    out.send_data(id, front, back, ends)?;
     rooms.offers.take_octets(id, most);
     rooms.untaken += HEADER + count as u64;
     rooms.inbound.sent_data(id, count as u32, ends);

@@ -1,4 +1,4 @@
-use Rattle.std.proofs.Common.{◌≡◌, ℕ, ◌+◌, ◌≤◌, true, length, Some, pos, sym, ◌∙◌, ap, subst, arith}
+use Rattle.std.proofs.Common.{◌≡◌, ℕ, ◌+◌, ◌≤◌, true, ◌++◌, length, Some, pos, sym, ◌∙◌, ap, subst, arith}
 use Rattle.std.specs.Prelude.{◌-ℤ◌}
 use Rattle.model.specs.Frames.{spell}
 use Rattle.conduct.specs.Rows.{find}
@@ -22,12 +22,12 @@ sent_data-requires-clause-within c =
     let here = c.rooms.inside in
     let ready = subst (λ (u : View). can_turn (windows_over u.inbound.rows u.inbound.first_size u.inbound.window) u.offers c.args.id ≡ true) (sym c.rooms.view_is) c.requires.ready in
     let live = subst (λ (u : View). is_active u.inbound.rows c.args.id ≡ true) (sym c.rooms.view_is) c.requires.live in
-    octets_within here.inbound here.offers c.args.id c.most_octets-most.result c.in-Some-Octets.octets.now c.in-Some-Octets.ends ready (sym c.in-Some-Octets.ensures.is ∙ ap (λ p. Some (part_in p)) c.in-Some-Octets.field-0-is) c.most_octets-most.ensures.shared (λ on. c.most_octets-most.ensures.own on live)
+    octets_within here.inbound here.offers c.args.id c.most_octets-most.result (c.in-Some-Octets.front.now ++ c.in-Some-Octets.back.now) c.in-Some-Octets.ends ready (sym c.in-Some-Octets.ensures.is ∙ ap (λ p. Some (part_in p)) c.in-Some-Octets.field-0-is) c.most_octets-most.ensures.shared (λ on. c.most_octets-most.ensures.own on live)
 
 pub returns-clause-sent : goal.returns-clause-sent
 returns-clause-sent c =
     let here = c.rooms.inside in
-    let octets = c.in-Some-Octets.octets.now in
+    let octets = c.in-Some-Octets.front.now ++ c.in-Some-Octets.back.now in
     let gone = c.take_octets.ensures in
     let ready = subst (λ (u : View). can_turn (windows_over u.inbound.rows u.inbound.first_size u.inbound.window) u.offers c.args.id ≡ true) (sym c.rooms.view_is) c.requires.ready in
     let live = subst (λ (u : View). is_active u.inbound.rows c.args.id ≡ true) (sym c.rooms.view_is) c.requires.live in

@@ -1,5 +1,5 @@
 use Rattle.std.proofs.Common.{length}
-use Rattle.outbox.proofs.tests.filled.Given as goal
+use Rattle.room_tests.proofs.outbox_tests.filled.Given as goal
 
 abbrev pub decreases-loop-piece : goal.decreases-loop-piece
 decreases-loop-piece l = length l.pieces.items

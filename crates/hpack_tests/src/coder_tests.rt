@@ -1,11 +1,13 @@
+//! Blocks by the rule of header tables, with ample memory.
+
 ghost use Rattle.std.specs.Prelude.{IfOk};
 ghost use Rattle.std.specs.List.{All};
 ghost use Rattle.header_blocks.specs.Chosen.{HasShortStrings};
 
-use super::*;
-use header_blocks::Policy;
+use header_blocks::{Decoded, Decoder, Encoder, Field, Policy};
 use std::alloc::Global;
 use std::test::*;
+use tables_coder::{note_limits, read_block, write_block};
 
 /// The octets `828684410f7777772e6578616d706c652e636f6d` of RFC 7541, appendix C.3.1.
 const REQUEST: [u8; 20] = [

@@ -4,7 +4,7 @@ use Rattle.model.specs.Http2.{HasLength}
 use Rattle.h1_writer.specs.Sending.{Stage, Sending, HasRoom, piece_of}
 use Rattle.requests.specs.Going.{GoesOn}
 use Rattle.requests.proofs.Passing.{goes_further}
-use Rattle.requests.proofs.tests.the_last_octet_is_held_back_until_the_end.Goals as goal
+use Rattle.http1_tests.proofs.requests_tests.the_last_octet_is_held_back_until_the_end.Goals as goal
 
 pub pass-requires-2 : goal.pass-requires-2
 pass-requires-2 g c =

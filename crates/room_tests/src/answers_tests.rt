@@ -1,4 +1,6 @@
-use super::*;
+//! Answers of upstreams, with ample memory.
+
+use answers::{Answer, Ended, Heard, Passing};
 use outbox::{Outbox, Part};
 use std::test::*;
 
@@ -24,7 +26,7 @@ fn upcoming(outbox: &Outbox) -> Next {
         None => Next::Nothing,
         Some(Part::Early(head)) => Next::Early(head.status()),
         Some(Part::Final(head, ends)) => Next::Final(head.status(), ends),
-        Some(Part::Octets(octets, ends)) => Next::Octets(octets.len(), ends),
+        Some(Part::Octets(front, back, ends)) => Next::Octets(front.len() + back.len(), ends),
     }
 }
 

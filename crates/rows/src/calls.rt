@@ -1,7 +1,9 @@
+//! Calls of the gateway, one by one.
+
 ghost use Rattle.std.specs.Prelude.{IfOk};
 ghost use Rattle.gateway.specs.Setups.{setup_of, IsServable};
 
-use super::*;
+use gateway::{Config, Event, Gateway, Output, Passing, Policy, Route, RunFault, run};
 use std::alloc::{AllocError, Global};
 use std::string::String;
 use std::test::*;

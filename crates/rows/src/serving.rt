@@ -1,13 +1,15 @@
+//! Serving over a world in memory.
+
 ghost use Rattle.std.specs.Prelude.{◌≡◌, IfOk};
 ghost use Rattle.gateway.specs.Setups.{setup_of, IsServable};
 
-use super::*;
 use gateway::{Config, Event, Output, Passing, Policy, Route};
 use std::alloc::{AllocError, Global};
 use std::io;
 use std::io::Write;
 use std::process::Abort;
 use std::test::*;
+use worlds::{Ended, MemoryWorld, Next, ServeFault, World, WorldFault, serve};
 
 /// The preface, settings without entries, and a GET without a body on stream 1.
 const REQUEST: &[u8] =

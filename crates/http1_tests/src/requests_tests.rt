@@ -1,6 +1,8 @@
-use super::*;
+//! Requests that wait for their ends or go out as they come, with ample memory.
+
 use hpack_table::Field;
 use request_rules::{RequestHead, check_head};
+use requests::{Begun, begin};
 use std::alloc::{AllocError, Global};
 use std::process::Abort;
 use std::test::*;

@@ -1,5 +1,7 @@
-use super::*;
+//! What is on offer for a stream, with ample memory.
+
 use h1_reader::{Piece, Reader};
+use outbox::{Outbox, Part};
 use std::alloc::Global;
 use std::test::*;
 
@@ -7,10 +9,10 @@ use std::test::*;
 const RESPONSE: &[u8] =
     b"HTTP/1.1 103 Early Hints\r\n\r\nHTTP/1.1 200 OK\r\ncontent-length: 5\r\n\r\nhello";
 
-/// The octets of a part, and whether the response ends with them.
-fn octets_of<'a>(part: Option<Part<'a>>) -> Option<(&'a [u8], bool)> {
+/// The octets of a part as they lie, and whether the response ends with them.
+fn octets_of<'a>(part: Option<Part<'a>>) -> Option<(&'a [u8], &'a [u8], bool)> {
     match part {
-        Some(Part::Octets(octets, ends)) => Some((octets, ends)),
+        Some(Part::Octets(front, back, ends)) => Some((front, back, ends)),
         _ => None,
     }
 }
@@ -59,11 +61,11 @@ fn parts_go_in_their_order(rt: HostRuntime) -> Result<(), Fail> {
     assert!(rt; outbox.take_head().is_some());
     assert!(rt; outbox.is_begun());
     assert!(rt; outbox.take_head().is_none());
-    assert!(rt; octets_of(outbox.next(3)) == Some((b"hel".as_slice(), false)));
+    assert!(rt; octets_of(outbox.next(3)) == Some((b"hel".as_slice(), b"".as_slice(), false)));
     outbox.drop_octets(3);
     assert!(rt; outbox.can_go(true));
     assert!(rt; !outbox.can_go(false));
-    assert!(rt; octets_of(outbox.next(3)) == Some((b"lo".as_slice(), true)));
+    assert!(rt; octets_of(outbox.next(3)) == Some((b"lo".as_slice(), b"".as_slice(), true)));
     outbox.drop_octets(3);
     assert!(rt; outbox.next(3).is_none());
     assert!(rt; !outbox.can_go(true));
@@ -95,7 +97,7 @@ fn octets_join_those_that_wait(rt: HostRuntime) -> Result<(), Fail> {
     let mut more = Vec::new(rt.alloc());
     more.extend_from_slice(rest)?;
     outbox.add(None, more, true)?;
-    assert!(rt; octets_of(outbox.next(9)) == Some((b"llo".as_slice(), true)));
+    assert!(rt; octets_of(outbox.next(9)) == Some((b"llo".as_slice(), b"".as_slice(), true)));
     Ok(())
 }
 
@@ -108,7 +110,7 @@ fn the_end_goes_alone_behind_all_octets(rt: HostRuntime) -> Result<(), Fail> {
     assert!(rt; !outbox.can_go(true));
     outbox.add(None, Vec::new(rt.alloc()), true)?;
     assert!(rt; outbox.can_go(false));
-    assert!(rt; octets_of(outbox.next(9)) == Some((b"".as_slice(), true)));
+    assert!(rt; octets_of(outbox.next(9)) == Some((b"".as_slice(), b"".as_slice(), true)));
     outbox.drop_octets(9);
     assert!(rt; outbox.next(9).is_none());
     Ok(())
@@ -146,10 +148,65 @@ fn octets_that_were_sent_go_first(rt: HostRuntime) -> Result<(), Fail> {
     let _head = outbox.take_head();
     outbox.drop_octets(1);
     outbox.add(None, b" you".to_vec(rt.alloc())?, false)?;
-    assert!(rt; octets_of(outbox.next(100)) == Some((b"ello you".as_slice(), false)));
+    assert!(rt;
+        octets_of(outbox.next(100)) == Some((b"ello you".as_slice(), b"".as_slice(), false))
+    );
     outbox.drop_octets(6);
     outbox.add(None, b"rs".to_vec(rt.alloc())?, true)?;
-    assert!(rt; octets_of(outbox.next(100)) == Some((b"ours".as_slice(), true)));
+    assert!(rt; octets_of(outbox.next(100)) == Some((b"ours".as_slice(), b"".as_slice(), true)));
     assert_eq!(rt; outbox.held(), 4);
+    Ok(())
+}
+
+/// An outbox whose final head was sent, with nothing behind it.
+fn begun(alloc: Global) -> Result<Outbox, Fail> {
+    let mut outbox = filled(alloc, b"HTTP/1.1 200 OK\r\n\r\n")?;
+    let _head = outbox.take_head();
+    Ok(outbox)
+}
+
+#[test]
+fn a_ring_goes_round(rt: HostRuntime) -> Result<(), Fail> {
+    let mut outbox = begun(rt.alloc())?;
+    outbox.add(None, b"01234".to_vec(rt.alloc())?, false)?;
+    outbox.add(None, b"56789".to_vec(rt.alloc())?, false)?;
+    outbox.drop_octets(8);
+    outbox.add(None, b"abcdefghijklmno".to_vec(rt.alloc())?, true)?;
+    assert_eq!(rt; outbox.held(), 17);
+    assert!(rt;
+        octets_of(outbox.next(13)) == Some((b"89abcdefghij".as_slice(), b"k".as_slice(), false))
+    );
+    assert!(rt;
+        octets_of(outbox.next(17)) == Some((b"89abcdefghij".as_slice(), b"klmno".as_slice(), true))
+    );
+    outbox.drop_octets(13);
+    assert!(rt; octets_of(outbox.next(17)) == Some((b"lmno".as_slice(), b"".as_slice(), true)));
+    Ok(())
+}
+
+#[test]
+fn a_ring_grows(rt: HostRuntime) -> Result<(), Fail> {
+    let mut outbox = begun(rt.alloc())?;
+    outbox.add(None, b"01".to_vec(rt.alloc())?, false)?;
+    outbox.add(None, b"2".to_vec(rt.alloc())?, false)?;
+    outbox.drop_octets(2);
+    outbox.add(None, b"34567".to_vec(rt.alloc())?, false)?;
+    outbox.add(None, b"89abcdef".to_vec(rt.alloc())?, false)?;
+    assert!(rt;
+        octets_of(outbox.next(20)) == Some((b"23456789abcdef".as_slice(), b"".as_slice(), false))
+    );
+    Ok(())
+}
+
+#[test]
+fn what_no_ring_holds_stands_in_one_piece(rt: HostRuntime) -> Result<(), Fail> {
+    let long = [7u8; 40000];
+    let mut outbox = begun(rt.alloc())?;
+    outbox.add(None, long.to_vec(rt.alloc())?, false)?;
+    outbox.drop_octets(10000);
+    outbox.add(None, long.to_vec(rt.alloc())?, false)?;
+    assert_eq!(rt; outbox.held(), 70000);
+    outbox.drop_octets(69999);
+    assert!(rt; octets_of(outbox.next(20)) == Some((b"\x07".as_slice(), b"".as_slice(), false)));
     Ok(())
 }

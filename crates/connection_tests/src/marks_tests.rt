@@ -1,6 +1,6 @@
 //! Marks with ample memory.
 
-use super::*;
+use marks_kept::Marks;
 use std::test::*;
 
 #[test]

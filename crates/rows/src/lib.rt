@@ -1,4 +1,5 @@
-//! Tests of whole connections, as scripts of `h2replay`: what comes of the client and of upstreams, and what is put out at each step.
+//! Tests of the calls of `gateway` and `worlds`, and of whole connections, as scripts of `h2replay`: what comes of the client and of upstreams, and what is
+//! put out at each step.
 //!
 //! There is nothing here but tests. Rows of tables are transcripts: each event, and under it what is printed (`notation` says how octets
 //! are written). The same transcripts are then cut: octet by octet, by a client that goes away, by upstreams that do.

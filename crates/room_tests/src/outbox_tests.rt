@@ -1,4 +1,4 @@
-//! What is on offer for a stream, with ample memory.
+//! What is on offer for a stream, with ample memory: calls of an outbox, one after another, and what they answer.
 
 use h1_reader::{Piece, Reader};
 use outbox::{Outbox, Part};
@@ -9,31 +9,51 @@ use std::test::*;
 const RESPONSE: &[u8] =
     b"HTTP/1.1 103 Early Hints\r\n\r\nHTTP/1.1 200 OK\r\ncontent-length: 5\r\n\r\nhello";
 
-/// The octets of a part as they lie, and whether the response ends with them.
-fn octets_of<'a>(part: Option<Part<'a>>) -> Option<(&'a [u8], &'a [u8], bool)> {
-    match part {
-        Some(Part::Octets(front, back, ends)) => Some((front, back, ends)),
-        _ => None,
-    }
+/// A response whose body goes on until the connection ends, with five octets of it.
+const OPEN: &[u8] = b"HTTP/1.1 200 OK\r\n\r\nhello";
+
+/// A response whose body goes on until the connection ends.
+const HEAD: &[u8] = b"HTTP/1.1 200 OK\r\n\r\n";
+
+/// The reply that the gateway gives.
+const REPLY: &[u8] = b"HTTP/1.1 502 Bad Gateway\r\ncontent-length: 0\r\n\r\n";
+
+/// More octets than a ring holds half of.
+const LONG: [u8; 40000] = [7; 40000];
+
+/// A call, and what it answers.
+#[derive(Clone, Copy)]
+enum Call<'a> {
+    /// More of a response comes, of which nothing came yet.
+    Come(&'a [u8]),
+    /// Octets of a body come, and its end or not.
+    Add(&'a [u8], bool),
+    /// The gateway replies.
+    Reply(&'a [u8]),
+    /// Nothing is next, where so many octets may go.
+    Nothing(usize),
+    /// A head is next, with this status, and ends the response or doesn't.
+    Head(u16, bool),
+    /// Octets are next where so many may go: these, as they lie, and they end the response or don't.
+    Octets(usize, &'a [u8], &'a [u8], bool),
+    /// The head that is next is taken, if one is.
+    TakeHead(bool),
+    /// So many octets were sent.
+    Drop(usize),
+    /// So many octets wait.
+    Held(usize),
+    /// Something can go, or can't, where the windows are open or aren't.
+    CanGo(bool, bool),
+    /// The final head was sent, or wasn't.
+    Begun(bool),
 }
 
-/// The status of a head that is next, and whether the response ends with it.
-fn head_of(part: Option<Part<'_>>) -> Option<(u16, bool)> {
-    match part {
-        Some(Part::Early(head)) => Some((head.status(), false)),
-        Some(Part::Final(head, ends)) => Some((head.status(), ends)),
-        _ => None,
-    }
-}
-
-/// An outbox with all that stands in octets of a response.
-fn filled(alloc: Global, octets: &[u8]) -> Result<Outbox, Fail> {
+/// Puts all that stands in octets of a response on offer.
+fn come(alloc: Global, outbox: &mut Outbox, octets: &[u8]) -> Result<(), Fail> {
     let mut reader = Reader::new(alloc, false);
     let mut pieces = Vec::new(alloc);
     reader.feed(octets, &mut pieces)?;
-    let mut outbox = Outbox::new(alloc);
-    pieces.reverse();
-    while let Some(piece) = pieces.pop() {
+    for piece in pieces {
         match piece {
             Piece::Interim(head) => outbox.add_interim(head)?,
             Piece::Head(head) => outbox.add(Some(head), Vec::new(alloc), false)?,
@@ -41,172 +61,213 @@ fn filled(alloc: Global, octets: &[u8]) -> Result<Outbox, Fail> {
             Piece::Done => outbox.add(None, Vec::new(alloc), true)?,
         }
     }
-    Ok(outbox)
+    Ok(())
+}
+
+/// Replies with the head of a response.
+fn reply(alloc: Global, outbox: &mut Outbox, response: &[u8]) -> Result<bool, Fail> {
+    let mut other = Outbox::new(alloc);
+    come(alloc, &mut other, response)?;
+    let Some(head) = other.take_head() else {
+        return Ok(false);
+    };
+    outbox.reply(alloc, head);
+    Ok(true)
+}
+
+/// Whether a head is next, with this status and this end.
+fn is_head(part: Option<Part<'_>>, status: u16, ends: bool) -> bool {
+    match part {
+        Some(Part::Early(head)) => head.status() == status && !ends,
+        Some(Part::Final(head, last)) => head.status() == status && last == ends,
+        _ => false,
+    }
+}
+
+/// Whether these octets are next, as they lie, with this end.
+fn are_octets(part: Option<Part<'_>>, front: &[u8], back: &[u8], ends: bool) -> bool {
+    match part {
+        Some(Part::Octets(first, second, last)) => {
+            first == front && second == back && last == ends
+        }
+        _ => false,
+    }
+}
+
+/// Makes a call, and says whether it answers so.
+fn answers(alloc: Global, outbox: &mut Outbox, call: Call<'_>) -> Result<bool, Fail> {
+    match call {
+        Call::Come(octets) => come(alloc, outbox, octets)?,
+        Call::Add(octets, ends) => outbox.add(None, Vec::from_slice(alloc, octets)?, ends)?,
+        Call::Reply(response) => return reply(alloc, outbox, response),
+        Call::Nothing(most) => return Ok(outbox.next(most).is_none()),
+        Call::Head(status, ends) => return Ok(is_head(outbox.next(1), status, ends)),
+        Call::Octets(most, front, back, ends) => {
+            return Ok(are_octets(outbox.next(most), front, back, ends));
+        }
+        Call::TakeHead(is) => return Ok(outbox.take_head().is_some() == is),
+        Call::Drop(count) => outbox.drop_octets(count),
+        Call::Held(count) => return Ok(outbox.held() == count),
+        Call::CanGo(windows_open, can) => return Ok(outbox.can_go(windows_open) == can),
+        Call::Begun(is) => return Ok(outbox.is_begun() == is),
+    }
+    Ok(true)
+}
+
+/// The first of some calls of a new outbox that answers otherwise.
+fn first_that_differs(alloc: Global, calls: &[Call<'_>]) -> Result<Option<usize>, Fail> {
+    let mut outbox = Outbox::new(alloc);
+    for (place, call) in calls.iter().enumerate() {
+        if !answers(alloc, &mut outbox, *call)? {
+            return Ok(Some(place));
+        }
+    }
+    Ok(None)
 }
 
 #[test]
-fn nothing_goes_of_a_new_outbox(rt: HostRuntime) {
-    let outbox = Outbox::new(rt.alloc());
-    assert!(rt; !outbox.can_go(true));
-    assert!(rt; !outbox.is_begun());
-    assert!(rt; outbox.next(100).is_none());
-}
-
-#[test]
-fn parts_go_in_their_order(rt: HostRuntime) -> Result<(), Fail> {
-    let mut outbox = filled(rt.alloc(), RESPONSE)?;
-    assert_eq!(rt; head_of(outbox.next(3)), Some((103, false)));
-    assert!(rt; outbox.take_head().is_some());
-    assert_eq!(rt; head_of(outbox.next(3)), Some((200, false)));
-    assert!(rt; outbox.take_head().is_some());
-    assert!(rt; outbox.is_begun());
-    assert!(rt; outbox.take_head().is_none());
-    assert!(rt; octets_of(outbox.next(3)) == Some((b"hel".as_slice(), b"".as_slice(), false)));
-    outbox.drop_octets(3);
-    assert!(rt; outbox.can_go(true));
-    assert!(rt; !outbox.can_go(false));
-    assert!(rt; octets_of(outbox.next(3)) == Some((b"lo".as_slice(), b"".as_slice(), true)));
-    outbox.drop_octets(3);
-    assert!(rt; outbox.next(3).is_none());
-    assert!(rt; !outbox.can_go(true));
+fn nothing_goes_of_a_new_outbox(rt: HostRuntime) -> Result<(), Fail> {
+    let calls = [
+        Call::CanGo(true, false),
+        Call::Begun(false),
+        Call::Nothing(100),
+        Call::Held(0),
+    ];
+    assert_eq!(rt; first_that_differs(rt.alloc(), &calls)?, None);
     Ok(())
 }
 
 #[test]
-fn what_wasnt_sent_is_held(rt: HostRuntime) -> Result<(), Fail> {
-    assert_eq!(rt; Outbox::new(rt.alloc()).held(), 0);
-    let mut outbox = filled(rt.alloc(), RESPONSE)?;
-    assert_eq!(rt; outbox.held(), 5);
-    let _early = outbox.take_head();
-    let _head = outbox.take_head();
-    assert_eq!(rt; outbox.held(), 5);
-    outbox.drop_octets(3);
-    assert_eq!(rt; outbox.held(), 2);
-    outbox.drop_octets(2);
-    assert_eq!(rt; outbox.held(), 0);
+fn parts_go_in_their_order(rt: HostRuntime) -> Result<(), Fail> {
+    let calls = [
+        Call::Come(RESPONSE),
+        Call::Held(5),
+        Call::Head(103, false),
+        Call::TakeHead(true),
+        Call::Head(200, false),
+        Call::TakeHead(true),
+        Call::Begun(true),
+        Call::TakeHead(false),
+        Call::Octets(3, b"hel", b"", false),
+        Call::Drop(3),
+        Call::Held(2),
+        Call::CanGo(true, true),
+        Call::CanGo(false, false),
+        Call::Octets(3, b"lo", b"", true),
+        Call::Drop(3),
+        Call::Nothing(3),
+        Call::Held(0),
+        Call::CanGo(true, false),
+    ];
+    assert_eq!(rt; first_that_differs(rt.alloc(), &calls)?, None);
     Ok(())
 }
 
 #[test]
 fn octets_join_those_that_wait(rt: HostRuntime) -> Result<(), Fail> {
-    let (front, rest) = RESPONSE.split_at(RESPONSE.len() - 1);
-    let mut outbox = filled(rt.alloc(), front)?;
-    let _early = outbox.take_head();
-    let _head = outbox.take_head();
-    outbox.drop_octets(2);
-    let mut more = Vec::new(rt.alloc());
-    more.extend_from_slice(rest)?;
-    outbox.add(None, more, true)?;
-    assert!(rt; octets_of(outbox.next(9)) == Some((b"llo".as_slice(), b"".as_slice(), true)));
+    let calls = [
+        Call::Come(OPEN),
+        Call::TakeHead(true),
+        Call::Drop(1),
+        Call::Add(b" you", false),
+        Call::Octets(100, b"ello you", b"", false),
+        Call::Drop(6),
+        Call::Add(b"rs", true),
+        Call::Octets(100, b"ours", b"", true),
+        Call::Held(4),
+    ];
+    assert_eq!(rt; first_that_differs(rt.alloc(), &calls)?, None);
     Ok(())
 }
 
 #[test]
 fn the_end_goes_alone_behind_all_octets(rt: HostRuntime) -> Result<(), Fail> {
-    let mut outbox = filled(rt.alloc(), &RESPONSE[..RESPONSE.len() - 1])?;
-    let _early = outbox.take_head();
-    let _head = outbox.take_head();
-    outbox.drop_octets(9);
-    assert!(rt; !outbox.can_go(true));
-    outbox.add(None, Vec::new(rt.alloc()), true)?;
-    assert!(rt; outbox.can_go(false));
-    assert!(rt; octets_of(outbox.next(9)) == Some((b"".as_slice(), b"".as_slice(), true)));
-    outbox.drop_octets(9);
-    assert!(rt; outbox.next(9).is_none());
+    let calls = [
+        Call::Come(OPEN),
+        Call::TakeHead(true),
+        Call::Drop(9),
+        Call::CanGo(true, false),
+        Call::Add(b"", true),
+        Call::CanGo(false, true),
+        Call::Octets(9, b"", b"", true),
+        Call::Drop(9),
+        Call::Nothing(9),
+    ];
+    assert_eq!(rt; first_that_differs(rt.alloc(), &calls)?, None);
     Ok(())
 }
 
 #[test]
 fn a_head_alone_ends_a_response_without_body(rt: HostRuntime) -> Result<(), Fail> {
-    let mut outbox = filled(rt.alloc(), b"HTTP/1.1 204 No Content\r\n\r\n")?;
-    assert_eq!(rt; head_of(outbox.next(1)), Some((204, true)));
-    assert!(rt; outbox.take_head().is_some());
-    assert!(rt; outbox.is_begun());
-    assert!(rt; outbox.next(1).is_none());
+    let calls = [
+        Call::Come(b"HTTP/1.1 204 No Content\r\n\r\n"),
+        Call::Head(204, true),
+        Call::TakeHead(true),
+        Call::Begun(true),
+        Call::Nothing(1),
+    ];
+    assert_eq!(rt; first_that_differs(rt.alloc(), &calls)?, None);
     Ok(())
 }
 
 #[test]
 fn a_reply_takes_the_place_of_what_was_on_offer(rt: HostRuntime) -> Result<(), Fail> {
-    let mut other = filled(
-        rt.alloc(),
-        b"HTTP/1.1 502 Bad Gateway\r\ncontent-length: 0\r\n\r\n",
-    )?;
-    let Some(head) = other.take_head() else {
-        return Err(Fail::from("no head"));
-    };
-    let mut outbox = filled(rt.alloc(), RESPONSE)?;
-    outbox.reply(rt.alloc(), head);
-    assert_eq!(rt; head_of(outbox.next(1)), Some((502, true)));
+    let calls = [
+        Call::Come(RESPONSE),
+        Call::Reply(REPLY),
+        Call::Head(502, true),
+    ];
+    assert_eq!(rt; first_that_differs(rt.alloc(), &calls)?, None);
     Ok(())
-}
-
-#[test]
-fn octets_that_were_sent_go_first(rt: HostRuntime) -> Result<(), Fail> {
-    let open = b"HTTP/1.1 200 OK\r\n\r\nhello";
-    let mut outbox = filled(rt.alloc(), open)?;
-    let _head = outbox.take_head();
-    outbox.drop_octets(1);
-    outbox.add(None, b" you".to_vec(rt.alloc())?, false)?;
-    assert!(rt;
-        octets_of(outbox.next(100)) == Some((b"ello you".as_slice(), b"".as_slice(), false))
-    );
-    outbox.drop_octets(6);
-    outbox.add(None, b"rs".to_vec(rt.alloc())?, true)?;
-    assert!(rt; octets_of(outbox.next(100)) == Some((b"ours".as_slice(), b"".as_slice(), true)));
-    assert_eq!(rt; outbox.held(), 4);
-    Ok(())
-}
-
-/// An outbox whose final head was sent, with nothing behind it.
-fn begun(alloc: Global) -> Result<Outbox, Fail> {
-    let mut outbox = filled(alloc, b"HTTP/1.1 200 OK\r\n\r\n")?;
-    let _head = outbox.take_head();
-    Ok(outbox)
 }
 
 #[test]
 fn a_ring_goes_round(rt: HostRuntime) -> Result<(), Fail> {
-    let mut outbox = begun(rt.alloc())?;
-    outbox.add(None, b"01234".to_vec(rt.alloc())?, false)?;
-    outbox.add(None, b"56789".to_vec(rt.alloc())?, false)?;
-    outbox.drop_octets(8);
-    outbox.add(None, b"abcdefghijklmno".to_vec(rt.alloc())?, true)?;
-    assert_eq!(rt; outbox.held(), 17);
-    assert!(rt;
-        octets_of(outbox.next(13)) == Some((b"89abcdefghij".as_slice(), b"k".as_slice(), false))
-    );
-    assert!(rt;
-        octets_of(outbox.next(17)) == Some((b"89abcdefghij".as_slice(), b"klmno".as_slice(), true))
-    );
-    outbox.drop_octets(13);
-    assert!(rt; octets_of(outbox.next(17)) == Some((b"lmno".as_slice(), b"".as_slice(), true)));
+    let calls = [
+        Call::Come(HEAD),
+        Call::TakeHead(true),
+        Call::Add(b"01234", false),
+        Call::Add(b"56789", false),
+        Call::Drop(8),
+        Call::Add(b"abcdefghijklmno", true),
+        Call::Held(17),
+        Call::Octets(13, b"89abcdefghij", b"k", false),
+        Call::Octets(17, b"89abcdefghij", b"klmno", true),
+        Call::Drop(13),
+        Call::Octets(17, b"lmno", b"", true),
+    ];
+    assert_eq!(rt; first_that_differs(rt.alloc(), &calls)?, None);
     Ok(())
 }
 
 #[test]
 fn a_ring_grows(rt: HostRuntime) -> Result<(), Fail> {
-    let mut outbox = begun(rt.alloc())?;
-    outbox.add(None, b"01".to_vec(rt.alloc())?, false)?;
-    outbox.add(None, b"2".to_vec(rt.alloc())?, false)?;
-    outbox.drop_octets(2);
-    outbox.add(None, b"34567".to_vec(rt.alloc())?, false)?;
-    outbox.add(None, b"89abcdef".to_vec(rt.alloc())?, false)?;
-    assert!(rt;
-        octets_of(outbox.next(20)) == Some((b"23456789abcdef".as_slice(), b"".as_slice(), false))
-    );
+    let calls = [
+        Call::Come(HEAD),
+        Call::TakeHead(true),
+        Call::Add(b"01", false),
+        Call::Add(b"2", false),
+        Call::Drop(2),
+        Call::Add(b"34567", false),
+        Call::Add(b"89abcdef", false),
+        Call::Octets(20, b"23456789abcdef", b"", false),
+    ];
+    assert_eq!(rt; first_that_differs(rt.alloc(), &calls)?, None);
     Ok(())
 }
 
 #[test]
 fn what_no_ring_holds_stands_in_one_piece(rt: HostRuntime) -> Result<(), Fail> {
-    let long = [7u8; 40000];
-    let mut outbox = begun(rt.alloc())?;
-    outbox.add(None, long.to_vec(rt.alloc())?, false)?;
-    outbox.drop_octets(10000);
-    outbox.add(None, long.to_vec(rt.alloc())?, false)?;
-    assert_eq!(rt; outbox.held(), 70000);
-    outbox.drop_octets(69999);
-    assert!(rt; octets_of(outbox.next(20)) == Some((b"\x07".as_slice(), b"".as_slice(), false)));
+    let calls = [
+        Call::Come(HEAD),
+        Call::TakeHead(true),
+        Call::Add(&LONG, false),
+        Call::Drop(10000),
+        Call::Add(&LONG, false),
+        Call::Held(70000),
+        Call::Drop(69999),
+        Call::Octets(20, b"\x07", b"", false),
+    ];
+    assert_eq!(rt; first_that_differs(rt.alloc(), &calls)?, None);
     Ok(())
 }

@@ -24,7 +24,7 @@ mod responses;
 #[cfg(test)]
 mod runs;
 #[cfg(test)]
-mod serving;
+mod served;
 #[cfg(test)]
 mod streaming;
 #[cfg(test)]

@@ -11,6 +11,3 @@ pub use arguments::read_arguments;
 pub use gateways::{GatewayWords, read_gateway_words};
 pub use replays::{ReplayWords, read_replay_words};
 pub use words::{Word, WordsFault};
-
-#[cfg(test)]
-mod tests;

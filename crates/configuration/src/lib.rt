@@ -7,6 +7,3 @@ mod reading;
 
 pub use faults::{ConfigFault, Key};
 pub use reading::read_config;
-
-#[cfg(test)]
-mod tests;

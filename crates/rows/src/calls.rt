@@ -9,28 +9,28 @@ use std::string::String;
 use std::test::*;
 
 /// The preface, SETTINGS without entries, and HEADERS of stream 1: GET, http, / and www.example.com.
-const FIRST_REQUEST: [u8; 62] = [
-    80, 82, 73, 32, 42, 32, 72, 84, 84, 80, 47, 50, 46, 48, 13, 10, 13, 10, 83, 77, 13, 10, 13, 10,
-    0, 0, 0, 4, 0, 0, 0, 0, 0, 0, 0, 20, 1, 5, 0, 0, 0, 1, 130, 134, 132, 65, 15, 119, 119, 119,
-    46, 101, 120, 97, 109, 112, 108, 101, 46, 99, 111, 109,
-];
+const FIRST_REQUEST: &[u8] =
+    b"PRI * HTTP/2.0\r\n\r\nSM\r\n\r\n\0\0\0\x04\0\0\0\0\0\0\0\x14\x01\x05\0\0\0\x01\x82\x86\x84\x41\x0fwww.example.com";
+
+/// The same with SETTINGS that give streams no window at first (RFC 9113, section 6.9.2).
+const WITHOUT_WINDOW: &[u8] =
+    b"PRI * HTTP/2.0\r\n\r\nSM\r\n\r\n\0\0\x06\x04\0\0\0\0\0\0\x04\0\0\0\0\0\0\x14\x01\x05\0\0\0\x01\x82\x86\x84\x41\x0fwww.example.com";
 
 /// The request's text upstream.
 const FORWARDED: &[u8] =
     b"GET / HTTP/1.1\r\nhost: www.example.com\r\nvia: 2.0 h2gw\r\nconnection: close\r\n\r\n";
 
-/// SETTINGS that give streams no window at first (RFC 9113, section 6.9.2).
-const NO_WINDOW: [u8; 15] = [0, 0, 6, 4, 0, 0, 0, 0, 0, 0, 4, 0, 0, 0, 0];
+/// A response, and the front of one with a longer body.
+const RESPONSE: &[u8] = b"HTTP/1.1 200 OK\r\nContent-Length: 2\r\n\r\nhi";
 
-/// The front of a response with a longer body.
 const FRONT: &[u8] = b"HTTP/1.1 200 OK\r\nContent-Length: 100000\r\n\r\nhello";
 
-/// One route, for an authority, and paths that begin with `/`.
-fn config(alloc: Global, authority: &[u8], passing: Passing) -> Result<Config, AllocError>
+/// One route, for paths that begin with `/`.
+fn config(alloc: Global, passing: Passing) -> Result<Config, AllocError>
     ensures { IfOk result (λ config. IsServable (setup_of config)) }
 {
     let route = Route {
-        authority: Vec::from_slice(alloc, authority)?,
+        authority: Vec::new(alloc),
         prefix: Vec::from_slice(alloc, b"/")?,
         upstream: String::new(alloc),
     };
@@ -43,7 +43,85 @@ fn config(alloc: Global, authority: &[u8], passing: Passing) -> Result<Config, A
     })
 }
 
-/// What a gateway answers for a first request: its settings and their acknowledgement, and the request on a first connection.
+/// The client's octets.
+fn octets(alloc: Global, octets: &[u8]) -> Result<Event, AllocError> {
+    Ok(Event::Client(Vec::from_slice(alloc, octets)?))
+}
+
+/// Octets of the first upstream.
+fn answer(alloc: Global, octets: &[u8]) -> Result<Event, AllocError> {
+    Ok(Event::Up(1, Vec::from_slice(alloc, octets)?))
+}
+
+/// A gateway to which this came first, and what it answered.
+fn begun(alloc: Global, first: &Event) -> Result<(Gateway, Vec<Output>), Fail> {
+    let config = config(alloc, Passing::Whole)?;
+    let mut gateway = Gateway::new(alloc, &config)?;
+    let mut out = Vec::new(alloc);
+    if !gateway.admits(first) || gateway.step(first, &mut out).is_err() {
+        return Err("the event was refused".into());
+    }
+    Ok((gateway, out))
+}
+
+/// The rooms that a gateway lists.
+fn rooms_of(alloc: Global, gateway: &Gateway) -> Result<Vec<(u32, usize)>, AllocError> {
+    let mut rooms = Vec::new(alloc);
+    gateway.list_rooms(&mut rooms)?;
+    Ok(rooms)
+}
+
+/// Why a run of these events is refused.
+fn fault_of(
+    alloc: Global,
+    passing: Passing,
+    events: &[Event],
+) -> Result<Option<RunFault>, AllocError> {
+    let config = config(alloc, passing)?;
+    Ok(run(alloc, &config, events).err())
+}
+
+#[test]
+fn a_configuration_bounds_what_is_held(rt: HostRuntime) -> Result<(), Fail> {
+    let config = config(rt.alloc(), Passing::Whole)?;
+    assert_eq!(rt; config.held_bound(), 40_500_000);
+    Ok(())
+}
+
+#[test]
+fn open_connections_are_listed(rt: HostRuntime) -> Result<(), Fail> {
+    let preface = octets(rt.alloc(), &FIRST_REQUEST[..33])?;
+    let (greeted, _out) = begun(rt.alloc(), &preface)?;
+    assert!(rt; rooms_of(rt.alloc(), &greeted)?.is_empty());
+    let request = octets(rt.alloc(), FIRST_REQUEST)?;
+    let (gateway, _out) = begun(rt.alloc(), &request)?;
+    let rooms = rooms_of(rt.alloc(), &gateway)?;
+    assert_eq!(rt; rooms.as_slice(), [(1, 65536)].as_slice());
+    assert_eq!(rt; (gateway.room(1), gateway.room(2)), (65536, 0));
+    Ok(())
+}
+
+#[test]
+fn rooms_are_brought_up_to_date(rt: HostRuntime) -> Result<(), Fail> {
+    let request = octets(rt.alloc(), FIRST_REQUEST)?;
+    let (gateway, out) = begun(rt.alloc(), &request)?;
+    let mut rooms = Vec::new(rt.alloc());
+    gateway.update_rooms(&request, &out, &mut rooms)?;
+    assert_eq!(rt; rooms.as_slice(), [(1, 65536)].as_slice());
+    Ok(())
+}
+
+/// A request, its response, and the client's end.
+fn exchange(alloc: Global) -> Result<Vec<Event>, AllocError> {
+    let mut events = Vec::new(alloc);
+    events.push(octets(alloc, FIRST_REQUEST)?)?;
+    events.push(Event::UpTook(1, 75))?;
+    events.push(answer(alloc, RESPONSE)?)?;
+    events.push(Event::ClientEnd)?;
+    Ok(events)
+}
+
+/// Whether a first request is answered: by settings and their acknowledgement, and the request on a first connection.
 fn answers_request(out: &[Output]) -> bool {
     match out {
         [
@@ -55,92 +133,55 @@ fn answers_request(out: &[Output]) -> bool {
     }
 }
 
-#[test]
-fn a_configuration_bounds_what_is_held(rt: HostRuntime) -> Result<(), Fail> {
-    let config = config(rt.alloc(), b"", Passing::Whole)?;
-    assert_eq!(rt; config.held_bound(), 40_500_000);
-    Ok(())
-}
-
-#[test]
-fn open_connections_are_listed(rt: HostRuntime) -> Result<(), Fail> {
-    let alloc = rt.alloc();
-    let config = config(alloc, b"", Passing::Whole)?;
-    let mut gateway = Gateway::new(alloc, &config)?;
-    let mut rooms = Vec::new(alloc);
-    gateway.list_rooms(&mut rooms)?;
-    assert!(rt; rooms.is_empty());
-    let request = Event::Client(Vec::from_slice(alloc, &FIRST_REQUEST)?);
-    let mut out = Vec::new(alloc);
-    if !gateway.admits(&request) || gateway.step(&request, &mut out).is_err() {
-        return Err("the request was refused".into());
+/// Whether these are the answers to an exchange.
+fn answer_exchange(steps: &[Vec<Output>]) -> bool {
+    match steps {
+        [first, took, passed, ended] => {
+            answers_request(first)
+                && took.is_empty()
+                && matches!(passed.as_slice(), [Output::Close(1), Output::Client(_)])
+                && matches!(ended.as_slice(), [Output::CloseClient])
+        }
+        _ => false,
     }
-    gateway.list_rooms(&mut rooms)?;
-    assert_eq!(rt; rooms.as_slice(), [(1, 65536)].as_slice());
-    Ok(())
-}
-
-#[test]
-fn rooms_are_brought_up_to_date(rt: HostRuntime) -> Result<(), Fail> {
-    let alloc = rt.alloc();
-    let config = config(alloc, b"", Passing::Whole)?;
-    let mut gateway = Gateway::new(alloc, &config)?;
-    let mut rooms = Vec::new(alloc);
-    let request = Event::Client(Vec::from_slice(alloc, &FIRST_REQUEST)?);
-    let mut out = Vec::new(alloc);
-    if !gateway.admits(&request) || gateway.step(&request, &mut out).is_err() {
-        return Err("the request was refused".into());
-    }
-    gateway.update_rooms(&request, &out, &mut rooms)?;
-    assert_eq!(rt; rooms.as_slice(), [(1, 65536)].as_slice());
-    Ok(())
 }
 
 #[test]
 fn a_run_answers_each_event(rt: HostRuntime) -> Result<(), Fail> {
-    let alloc = rt.alloc();
-    let config = config(alloc, b"", Passing::Whole)?;
-    let mut events = Vec::new(alloc);
-    events.push(Event::Client(Vec::from_slice(alloc, &FIRST_REQUEST)?))?;
-    events.push(Event::UpTook(1, 75))?;
-    let response = b"HTTP/1.1 200 OK\r\nContent-Length: 2\r\n\r\nhi";
-    events.push(Event::Up(1, Vec::from_slice(alloc, response)?))?;
-    events.push(Event::ClientEnd)?;
-    match run(alloc, &config, &events) {
-        Ok(outputs) => match outputs.as_slice() {
-            [first, took, passed, ended] => {
-                assert!(rt; answers_request(first));
-                assert!(rt; took.is_empty());
-                assert!(rt; matches!(passed.as_slice(), [Output::Close(1), Output::Client(_)]));
-                assert!(rt; matches!(ended.as_slice(), [Output::CloseClient]));
-            }
-            _ => return Err("other steps".into()),
-        },
+    let config = config(rt.alloc(), Passing::Whole)?;
+    let events = exchange(rt.alloc())?;
+    match run(rt.alloc(), &config, &events) {
+        Ok(steps) => assert!(rt; answer_exchange(&steps)),
         Err(_) => return Err("the run was refused".into()),
     }
-    events.push(Event::ClientEnd)?;
-    assert!(rt; run(alloc, &config, &events).err() == Some(RunFault::NotAdmitted(4)));
     Ok(())
 }
 
 #[test]
-fn octets_that_wait_take_room(rt: HostRuntime) -> Result<(), Fail> {
-    let alloc = rt.alloc();
-    let config = config(alloc, b"", Passing::Streaming)?;
-    let mut request = Vec::from_slice(alloc, &FIRST_REQUEST[..24])?;
-    request.extend_from_slice(&NO_WINDOW)?;
-    request.extend_from_slice(&FIRST_REQUEST[33..])?;
-    let mut body = Vec::new(alloc);
-    body.resize(65532, 0)?;
+fn a_run_names_the_first_event_that_may_not_come(rt: HostRuntime) -> Result<(), Fail> {
+    let mut events = exchange(rt.alloc())?;
+    events.push(Event::ClientEnd)?;
+    let fault = fault_of(rt.alloc(), Passing::Whole, &events)?;
+    assert!(rt; fault == Some(RunFault::NotAdmitted(4)));
+    Ok(())
+}
+
+/// A request whose response has no window to go through, five octets of it, and so many more.
+fn waiting(alloc: Global, count: usize) -> Result<Vec<Event>, AllocError> {
+    let more = vec![in alloc; 0; count]?;
     let mut events = Vec::new(alloc);
-    events.push(Event::Client(request))?;
-    events.push(Event::Up(1, Vec::from_slice(alloc, FRONT)?))?;
-    events.push(Event::Up(1, body))?;
-    assert!(rt; run(alloc, &config, &events).err() == Some(RunFault::NotAdmitted(2)));
-    let _longer = events.pop();
-    let mut body = Vec::new(alloc);
-    body.resize(65531, 0)?;
-    events.push(Event::Up(1, body))?;
-    assert!(rt; run(alloc, &config, &events).is_ok());
+    events.push(octets(alloc, WITHOUT_WINDOW)?)?;
+    events.push(answer(alloc, FRONT)?)?;
+    events.push(answer(alloc, &more)?)?;
+    Ok(events)
+}
+
+#[test]
+fn octets_that_wait_take_room(rt: HostRuntime) -> Result<(), Fail> {
+    let over = waiting(rt.alloc(), 65532)?;
+    let fault = fault_of(rt.alloc(), Passing::Streaming, &over)?;
+    assert!(rt; fault == Some(RunFault::NotAdmitted(2)));
+    let fits = waiting(rt.alloc(), 65531)?;
+    assert!(rt; fault_of(rt.alloc(), Passing::Streaming, &fits)?.is_none());
     Ok(())
 }

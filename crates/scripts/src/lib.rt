@@ -11,6 +11,3 @@ pub use laws::one_meaning;
 pub use printing::print_steps;
 pub use replays::replay;
 pub use scripts::{ScriptFault, read_script};
-
-#[cfg(test)]
-mod tests;

@@ -1,4 +1,6 @@
-use super::*;
+//! The configuration of a gateway.
+
+use configuration::{ConfigFault, Key, read_config};
 use gateway::{Config, Passing, Policy};
 use std::alloc::Global;
 use std::process::Abort;

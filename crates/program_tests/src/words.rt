@@ -1,4 +1,6 @@
-use super::*;
+//! The words of a command line.
+
+use command_line::{Word, WordsFault, read_arguments, read_gateway_words, read_replay_words};
 use std::env::{Env, FillError};
 use std::test::*;
 

@@ -1,5 +1,7 @@
-use super::*;
+//! Scripts, and their replay.
+
 use gateway::{Event, Output};
+use scripts::{ScriptFault, print_steps, read_script, replay};
 use std::alloc::{AllocError, Global};
 use std::io::Write;
 use std::process::Abort;
@@ -386,7 +388,7 @@ fn prints_outputs(rt: HostRuntime) -> Result<(), Fail> {
         Output::CloseClient,
     ]?;
     let steps = vec![in alloc; first, Vec::new(alloc), second]?;
-    let text = printing::print_steps(alloc, &steps)?;
+    let text = print_steps(alloc, &steps)?;
     assert_eq!(rt; text.as_str(), "C 6869\nO 1 20\nU 1 \nX 4294967295\nXC\n");
     Ok(())
 }

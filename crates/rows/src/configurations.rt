@@ -1,6 +1,6 @@
 //! Connections under other configurations than the default: other routes, and blocks that use the table and the Huffman code.
 
-ghost use Rattle.std.specs.Prelude.{◌≤◌, length};
+ghost use Rattle.std.specs.Prelude.{◌≤◌, length, IfOk};
 ghost use Rattle.gateway.specs.Setups.{setup_of, IsServable};
 
 use crate::transcripts::{NOTHING, REQUEST, Row, START, Transcript};
@@ -31,6 +31,39 @@ pub(crate) fn config(routes: Vec<Route>, policy: Policy, passing: Passing) -> Co
         max_body: 1048576,
         max_response: 1048576,
     }
+}
+
+/// One route, for the authority `a.example`.
+pub(crate) fn one_authority(alloc: Global) -> Result<Config, AllocError>
+    ensures { IfOk result (λ config. IsServable (setup_of config)) }
+{
+    let routes = vec![in alloc; route(alloc, "a.example", "/")?]?;
+    Ok(config(routes, Policy::Plain, Passing::Whole))
+}
+
+/// A route for `/a` at the authority `h`, one for `/` at `h`, and one for `/b` at any.
+pub(crate) fn three_routes(alloc: Global) -> Result<Config, AllocError>
+    ensures { IfOk result (λ config. IsServable (setup_of config)) }
+{
+    let routes = vec![in alloc;
+        route(alloc, "h", "/a")?,
+        route(alloc, "h", "/")?,
+        route(alloc, "", "/b")?,
+    ]?;
+    Ok(config(routes, Policy::Plain, Passing::Whole))
+}
+
+/// One route for all, and bodies of at most ten octets either way.
+pub(crate) fn small(alloc: Global) -> Result<Config, AllocError>
+    ensures { IfOk result (λ config. IsServable (setup_of config)) }
+{
+    Ok(Config {
+        routes: vec![in alloc; route(alloc, "", "/")?]?,
+        policy: Policy::Plain,
+        passing: Passing::Whole,
+        max_body: 10,
+        max_response: 10,
+    })
 }
 
 /// What a run of a script prints.
@@ -73,8 +106,8 @@ fn assert_rows_run(
     Ok(())
 }
 
-/// With one route, for the authority `a.example`.
-static ONE_AUTHORITY: [Row; 2] = [
+/// By `one_authority`.
+pub static ONE_AUTHORITY: [Row; 2] = [
     Row {
         name: "a request that no route takes",
         begins: NOTHING,
@@ -94,8 +127,8 @@ static ONE_AUTHORITY: [Row; 2] = [
     },
 ];
 
-/// With a route for `/a` at the authority `h`, one for `/` at `h`, and one for `/b` at any.
-static THREE_ROUTES: [Row; 1] = [Row {
+/// By `three_routes`.
+pub static THREE_ROUTES: [Row; 1] = [Row {
     name: "the first route that fits",
     begins: START,
     goes_on: r"
@@ -112,6 +145,31 @@ static THREE_ROUTES: [Row; 1] = [Row {
         C 000005 01 05 00000007 8d 0f0d0130
     ",
 }];
+
+/// By `small`.
+pub static SMALL: [Row; 2] = [
+    Row {
+        name: "a body that becomes longer than the largest",
+        begins: START,
+        goes_on: r"
+            > C 000014 01 04 00000001 {B}
+            > C 00000a 00 00 00000001 '0123456789'
+            C 000004 08 00 00000000 0000000a 000004 08 00 00000001 0000000a
+            > C 000001 00 00 00000001 'x'
+            C 000004 08 00 00000000 00000001 000004 08 00 00000001 00000001 000009 01 05 00000001 0803 '413' 0f0d0130 000004 03 00 00000001 00000000
+        ",
+    },
+    Row {
+        name: "a response that becomes longer than the largest",
+        begins: REQUEST,
+        goes_on: r"
+            > U 1 'HTTP/1.0 200 OK\r\n\r\n0123456789'
+            > U 1 'x'
+            X 1
+            C 000009 01 05 00000001 0803 '502' 0f0d0130
+        ",
+    },
+];
 
 /// With blocks that use the dynamic table and the Huffman code.
 pub static INDEXING: [Row; 2] = [
@@ -164,16 +222,9 @@ pub static INDEXING: [Row; 2] = [
 #[test]
 fn other_configurations(rt: HostRuntime) -> Result<(), Fail> {
     let alloc = rt.alloc();
-    let routes = vec![in alloc; route(alloc, "a.example", "/")?]?;
-    let plain = config(routes, Policy::Plain, Passing::Whole);
-    assert_rows_run(&rt, alloc, &plain, &ONE_AUTHORITY)?;
-    let routes = vec![in alloc;
-        route(alloc, "h", "/a")?,
-        route(alloc, "h", "/")?,
-        route(alloc, "", "/b")?,
-    ]?;
-    let plain = config(routes, Policy::Plain, Passing::Whole);
-    assert_rows_run(&rt, alloc, &plain, &THREE_ROUTES)?;
+    assert_rows_run(&rt, alloc, &one_authority(alloc)?, &ONE_AUTHORITY)?;
+    assert_rows_run(&rt, alloc, &three_routes(alloc)?, &THREE_ROUTES)?;
+    assert_rows_run(&rt, alloc, &small(alloc)?, &SMALL)?;
     let routes = vec![in alloc; route(alloc, "", "/")?]?;
     let indexing = config(routes, Policy::Indexing, Passing::Whole);
     assert_rows_run(&rt, alloc, &indexing, &INDEXING)?;

@@ -3,8 +3,14 @@
 ghost use Rattle.std.specs.Prelude.{◌<◌, IfOk};
 ghost use Rattle.gateway.specs.Setups.{setup_of, IsServable};
 
-use crate::configurations::{INDEXING, config, route};
+use crate::configurations::{
+    INDEXING, ONE_AUTHORITY, SMALL, THREE_ROUTES, config, one_authority, route, small, three_routes,
+};
 use crate::connections::{ENDED, GOES_ON};
+use crate::many_streams::{
+    a_hundred_requests, one_more_than_a_hundred, ten_thousand_requests,
+    ten_thousand_without_a_route, unrouted,
+};
 use crate::request_transcripts::{ANSWERED, MALFORMED, PASSED_ON};
 use crate::responses::{BROKEN, PASSED_BACK};
 use crate::streaming::{INDEXED_AS_IT_COMES, PASSED_AS_IT_COMES, UNTAKEN, streaming};
@@ -27,14 +33,13 @@ fn config_of(alloc: Global, policy: Policy) -> Result<Config, AllocError>
     Ok(config(routes, policy, Passing::Whole))
 }
 
-/// The events of a row.
-fn events_of(alloc: Global, row: &Row) -> Result<Vec<Event>, Fail> {
-    let transcript = Transcript::of(alloc, row)?;
-    Ok(read_script(alloc, &transcript.script).map_err(|_| "a script")?)
+/// The events of a script.
+fn events_of(alloc: Global, script: &str) -> Result<Vec<Event>, Fail> {
+    Ok(read_script(alloc, script).map_err(|_| "a script")?)
 }
 
 /// After how many octets pieces of this length are cut: after each, or, where there are more than 2,000, after every 1,021st, a prime, so that the cuts meet
-/// frames at other places each time; else a piece of 65,535 octets would be run through as often.
+/// frames at other places each time; else a piece of 65,535 octets would be run through as often. Of so many events it is each such one whose octets are cut.
 fn step_of(length: usize) -> usize
     ensures { 0 < result }
 {

@@ -1,8 +1,10 @@
 //! Many streams on one connection: the most that are active, and the most that are opened.
 
+ghost use Rattle.gateway.specs.Setups.{setup_of, IsServable};
+
 use crate::configurations::{assert_runs, config};
 use crate::transcripts::{REQUEST, START, Transcript, assert_prints};
-use gateway::{Passing, Policy};
+use gateway::{Config, Passing, Policy};
 use std::alloc::{AllocError, Global};
 use std::test::*;
 
@@ -24,7 +26,7 @@ fn push_requests(
 }
 
 /// A hundred streams are active, of which the first waits for the end of its request; one more is refused, and the first goes on.
-fn one_more_than_a_hundred(alloc: Global) -> Result<Transcript, AllocError> {
+pub(crate) fn one_more_than_a_hundred(alloc: Global) -> Result<Transcript, AllocError> {
     let mut transcript = Transcript::new(alloc);
     transcript.push(START)?;
     transcript.push("> C 000014 01 04 00000001 {B}")?;
@@ -42,7 +44,7 @@ fn one_more_than_a_hundred(alloc: Global) -> Result<Transcript, AllocError> {
 }
 
 /// A hundred requests wait for their responses, and one more is refused.
-fn a_hundred_requests(alloc: Global) -> Result<Transcript, AllocError> {
+pub(crate) fn a_hundred_requests(alloc: Global) -> Result<Transcript, AllocError> {
     let mut transcript = Transcript::new(alloc);
     transcript.push(REQUEST)?;
     push_requests(&mut transcript, 3..200, 2)?;
@@ -57,7 +59,7 @@ fn a_hundred_requests(alloc: Global) -> Result<Transcript, AllocError> {
 
 /// Ten thousand streams, each but the last reset by the client before its request has ended. With the last the gateway says
 /// farewell; what comes on later streams is dropped, and when the last is answered, the connection ends.
-fn ten_thousand_requests(alloc: Global) -> Result<Transcript, AllocError> {
+pub(crate) fn ten_thousand_requests(alloc: Global) -> Result<Transcript, AllocError> {
     let mut transcript = Transcript::new(alloc);
     transcript.push(START)?;
     transcript.push("> C 000014 01 04 00000001 {A} 000004 03 00 00000001 00000008")?;
@@ -86,7 +88,7 @@ fn ten_thousand_requests(alloc: Global) -> Result<Transcript, AllocError> {
 }
 
 /// Ten thousand requests that have no route.
-fn ten_thousand_without_a_route(alloc: Global) -> Result<Transcript, AllocError> {
+pub(crate) fn ten_thousand_without_a_route(alloc: Global) -> Result<Transcript, AllocError> {
     let mut transcript = Transcript::new(alloc);
     transcript.push(START)?;
     transcript.push(
@@ -113,6 +115,13 @@ fn ten_thousand_without_a_route(alloc: Global) -> Result<Transcript, AllocError>
     Ok(transcript)
 }
 
+/// A configuration without routes.
+pub(crate) fn unrouted(alloc: Global) -> Config
+    ensures { IsServable (setup_of result) }
+{
+    config(Vec::new(alloc), Policy::Plain, Passing::Whole)
+}
+
 #[test]
 fn a_hundred_active_streams(rt: HostRuntime) -> Result<(), Fail> {
     let alloc = rt.alloc();
@@ -135,6 +144,5 @@ fn ten_thousand_streams(rt: HostRuntime) -> Result<(), Fail> {
 fn ten_thousand_answers(rt: HostRuntime) -> Result<(), Fail> {
     let alloc = rt.alloc();
     let transcript = ten_thousand_without_a_route(alloc)?;
-    let unrouted = config(Vec::new(alloc), Policy::Plain, Passing::Whole);
-    assert_runs(&rt, alloc, &unrouted, "no route", &transcript)
+    assert_runs(&rt, alloc, &unrouted(alloc), "no route", &transcript)
 }

@@ -1,6 +1,7 @@
 //! Responses, as they come by HTTP/1.1 and go back by HTTP/2, and what comes in their place.
 
-use crate::transcripts::{REQUEST, Row, START, assert_rows};
+use crate::transcripts::{REQUEST, Row, START, Transcript, assert_prints, assert_rows};
+use std::alloc::{AllocError, Global};
 use std::test::*;
 
 /// Responses that go back.
@@ -212,5 +213,30 @@ pub static BROKEN: [Row; 7] = [
 fn responses(rt: HostRuntime) -> Result<(), Fail> {
     assert_rows(&rt, rt.alloc(), &PASSED_BACK)?;
     assert_rows(&rt, rt.alloc(), &BROKEN)?;
+    Ok(())
+}
+
+/// A response whose block is 16,435 octets long, more than a frame may have: 99 fields `a` of 161 octets.
+fn large_head(alloc: Global) -> Result<Transcript, AllocError> {
+    let mut fields = String::new(alloc);
+    let mut block = String::new(alloc);
+    for _ in 0..98 {
+        fields.push_str("'a:' {61 x 161} 0d0a ")?;
+        block.push_str("0001617f22 {61 x 161} ")?;
+    }
+    let lines = format!(in alloc;
+        "> U 1 'HTTP/1.1 204 No Content\\r\\na:' {{61 x 161}} 0d0a {fields} 0d0a\nX 1\n\
+        C 004000 01 01 00000001 89 {block} 0001617f22 {{61 x 110}} 000033 09 04 00000001 {{61 x 51}}"
+    )?;
+    let mut transcript = Transcript::new(alloc);
+    transcript.push(REQUEST)?;
+    transcript.push(&lines)?;
+    Ok(transcript)
+}
+
+#[test]
+fn a_head_in_two_frames(rt: HostRuntime) -> Result<(), Fail> {
+    let transcript = large_head(rt.alloc())?;
+    assert_prints(&rt, rt.alloc(), "a head in two frames", &transcript);
     Ok(())
 }

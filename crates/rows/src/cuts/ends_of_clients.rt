@@ -63,7 +63,7 @@ fn is_left_well(told: &Told, whole: &Told, octets: &[u8]) -> bool {
     told.upstreams.len() <= whole.upstreams.len()
 }
 
-/// The first cut of a piece at which it is wrong what is put out, where the client goes away there; `came` came before it.
+/// The first cut of a piece at which it is wrong what is put out, where the client goes away there; `came` came before it, and is left as it was.
 fn wrong_cut(
     alloc: Global,
     config: &Config,
@@ -89,7 +89,6 @@ fn wrong_cut(
         }
     }
     came.truncate(start);
-    came.extend_from_slice(piece)?;
     Ok(None)
 }
 
@@ -99,18 +98,23 @@ fn assert_left_well(
     alloc: Global,
     config: &Config,
     name: &str,
-    events: &[Event],
+    transcript: &Transcript,
 ) -> Result<(), Fail>
     requires { IsServable (setup_of config.now) }
 {
-    let whole = drive(alloc, config, events, &[])?;
+    let events = events_of(alloc, &transcript.script)?;
+    let whole = drive(alloc, config, &events, &[])?;
     let mut came = Vec::new(alloc);
     for (place, event) in events.iter().enumerate() {
-        if let Event::Client(piece) = event {
+        let Event::Client(piece) = event else {
+            continue;
+        };
+        if place % step_of(events.len()) == 0 {
             let before = events.get(..place).unwrap_or(&[]);
             let wrong = wrong_cut(alloc, config, before, piece, &whole, &mut came)?;
             assert_eq!(rt; wrong, None, "at {name}, event {place}");
         }
+        came.extend_from_slice(piece)?;
     }
     Ok(())
 }
@@ -124,7 +128,7 @@ fn assert_rows_left_well(
     requires { IsServable (setup_of config.now) }
 {
     for row in rows {
-        assert_left_well(rt, alloc, config, row.name, &events_of(alloc, row)?)?;
+        assert_left_well(rt, alloc, config, row.name, &Transcript::of(alloc, row)?)?;
     }
     Ok(())
 }
@@ -143,4 +147,26 @@ fn client_goes_away(rt: HostRuntime) -> Result<(), Fail> {
     assert_rows_left_well(&rt, alloc, &plain, &WAITING)?;
     assert_rows_left_well(&rt, alloc, &plain, &IN_TURN)?;
     assert_rows_left_well(&rt, alloc, &config_of(alloc, Policy::Indexing)?, &INDEXING)
+}
+
+#[test]
+fn client_goes_away_by_other_configurations(rt: HostRuntime) -> Result<(), Fail> {
+    let alloc = rt.alloc();
+    assert_rows_left_well(&rt, alloc, &one_authority(alloc)?, &ONE_AUTHORITY)?;
+    assert_rows_left_well(&rt, alloc, &three_routes(alloc)?, &THREE_ROUTES)?;
+    assert_rows_left_well(&rt, alloc, &small(alloc)?, &SMALL)
+}
+
+#[test]
+fn client_of_many_streams_goes_away(rt: HostRuntime) -> Result<(), Fail> {
+    let alloc = rt.alloc();
+    let plain = config_of(alloc, Policy::Plain)?;
+    let transcript = one_more_than_a_hundred(alloc)?;
+    assert_left_well(&rt, alloc, &plain, "a hundred streams", &transcript)?;
+    let transcript = a_hundred_requests(alloc)?;
+    assert_left_well(&rt, alloc, &plain, "a hundred requests", &transcript)?;
+    let transcript = ten_thousand_requests(alloc)?;
+    assert_left_well(&rt, alloc, &plain, "ten thousand streams", &transcript)?;
+    let transcript = ten_thousand_without_a_route(alloc)?;
+    assert_left_well(&rt, alloc, &unrouted(alloc), "no route", &transcript)
 }

@@ -25,14 +25,25 @@ fn is_ended_by_end(heard: &[u8]) -> bool {
     heard.starts_with(b"HTTP/1.0") && contains(heard, b"\r\n\r\n")
 }
 
-/// Whether what is put out for the client is right where an upstream ends, or fails: nothing more where it was closed before, and nothing yet
-/// where the client takes nothing; else the response, where the end completes it, or 502.
-fn is_ended_well(told: &Told, k: u32, is_end: bool) -> bool {
+/// What stands behind the head of a response.
+fn body_of(heard: &[u8]) -> &[u8] {
+    for start in 0..heard.len() {
+        if heard[start..].starts_with(b"\r\n\r\n") {
+            return heard.get(start.saturating_add(4)..).unwrap_or(&[]);
+        }
+    }
+    &[]
+}
+
+/// Whether what is put out for the client is right where an upstream ends, or fails. Where its connection was closed before, that is what is put out where
+/// the whole piece comes, whose front decided it (`whole`); where the client takes nothing it is nothing yet; else it is the response with all that came of its
+/// body, where the end completes it, or 502.
+fn is_ended_well(told: &Told, whole: &Told, k: u32, is_end: bool) -> bool {
     if told.strays > 0 {
         return false;
     }
     if !told.came {
-        return true;
+        return told.client.as_slice() == whole.client.as_slice();
     }
     let last = told.last_of_client();
     if told.untaken_before() >= 65536 {
@@ -40,7 +51,9 @@ fn is_ended_well(told: &Told, k: u32, is_end: bool) -> bool {
     }
     let failed = contains(last, FAILED[0]) || contains(last, FAILED[1]);
     match told.upstream(k) {
-        Some(upstream) if is_end && is_ended_by_end(&upstream.heard) => !failed && !last.is_empty(),
+        Some(upstream) if is_end && is_ended_by_end(&upstream.heard) => {
+            !failed && !last.is_empty() && last.ends_with(body_of(&upstream.heard))
+        }
         Some(upstream) => failed && upstream.is_closed,
         None => false,
     }
@@ -56,6 +69,8 @@ fn wrong_cut(
 ) -> Result<Option<usize>, Fail>
     requires { IsServable (setup_of config.now) }
 {
+    let whole = [Event::Up(k, Vec::from_slice(alloc, piece)?)];
+    let whole = drive(alloc, config, before, &whole)?;
     for cut in (1..piece.len() + 1).step_by(step_of(piece.len())) {
         let front = piece.get(..cut).unwrap_or(piece);
         let ends = [
@@ -66,8 +81,8 @@ fn wrong_cut(
             Event::Up(k, Vec::from_slice(alloc, front)?),
             Event::UpFailed(k),
         ];
-        if !is_ended_well(&drive(alloc, config, before, &ends)?, k, true)
-            || !is_ended_well(&drive(alloc, config, before, &fails)?, k, false)
+        if !is_ended_well(&drive(alloc, config, before, &ends)?, &whole, k, true)
+            || !is_ended_well(&drive(alloc, config, before, &fails)?, &whole, k, false)
         {
             return Ok(Some(cut));
         }
@@ -76,11 +91,16 @@ fn wrong_cut(
 }
 
 /// It is right what is put out where an upstream ends or fails in the midst of what it sends.
-fn assert_ended_well(rt: &impl Abort, alloc: Global, config: &Config, row: &Row) -> Result<(), Fail>
+fn assert_ended_well(
+    rt: &impl Abort,
+    alloc: Global,
+    config: &Config,
+    name: &str,
+    transcript: &Transcript,
+) -> Result<(), Fail>
     requires { IsServable (setup_of config.now) }
 {
-    let events = events_of(alloc, row)?;
-    let name = row.name;
+    let events = events_of(alloc, &transcript.script)?;
     for (place, event) in events.iter().enumerate() {
         if let Event::Up(k, piece) = event {
             let before = events.get(..place).unwrap_or(&[]);
@@ -100,7 +120,7 @@ fn assert_rows_ended_well(
     requires { IsServable (setup_of config.now) }
 {
     for row in rows {
-        assert_ended_well(rt, alloc, config, row)?;
+        assert_ended_well(rt, alloc, config, row.name, &Transcript::of(alloc, row)?)?;
     }
     Ok(())
 }
@@ -114,5 +134,8 @@ fn upstreams_go_away(rt: HostRuntime) -> Result<(), Fail> {
     assert_rows_ended_well(&rt, alloc, &plain, &ENDED)?;
     assert_rows_ended_well(&rt, alloc, &plain, &WAITING)?;
     assert_rows_ended_well(&rt, alloc, &plain, &IN_TURN)?;
+    assert_rows_ended_well(&rt, alloc, &small(alloc)?, &SMALL)?;
+    let transcript = ten_thousand_requests(alloc)?;
+    assert_ended_well(&rt, alloc, &plain, "ten thousand streams", &transcript)?;
     assert_rows_ended_well(&rt, alloc, &config_of(alloc, Policy::Indexing)?, &INDEXING)
 }

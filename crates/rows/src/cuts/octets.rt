@@ -54,12 +54,34 @@ fn in_octets(alloc: Global, events: Vec<Event>, side: Side) -> Result<Vec<Event>
 }
 
 /// The same is put out in all where the octets of a side come one by one.
-fn is_alike(alloc: Global, config: &Config, row: &Row, side: Side) -> Result<bool, Fail>
+fn is_alike(alloc: Global, config: &Config, script: &str, side: Side) -> Result<bool, Fail>
     requires { IsServable (setup_of config.now) }
 {
-    let whole = drive(alloc, config, &events_of(alloc, row)?, &[])?;
-    let cut = in_octets(alloc, events_of(alloc, row)?, side)?;
+    let whole = drive(alloc, config, &events_of(alloc, script)?, &[])?;
+    let cut = in_octets(alloc, events_of(alloc, script)?, side)?;
     Ok(whole.strays == 0 && drive(alloc, config, &cut, &[])?.is_same(&whole))
+}
+
+/// The same is put out in all for a script where octets come one by one.
+fn assert_script_alike(
+    rt: &impl Abort,
+    alloc: Global,
+    config: &Config,
+    name: &str,
+    transcript: &Transcript,
+) -> Result<(), Fail>
+    requires { IsServable (setup_of config.now) }
+{
+    let script = &transcript.script;
+    assert!(rt;
+        is_alike(alloc, config, script, Side::Client)?,
+        "at {name}, of the client"
+    );
+    assert!(rt;
+        is_alike(alloc, config, script, Side::Upstreams)?,
+        "at {name}, of upstreams"
+    );
+    Ok(())
 }
 
 /// The same is put out in all where octets come one by one.
@@ -67,15 +89,7 @@ fn assert_alike(rt: &impl Abort, alloc: Global, config: &Config, rows: &[Row]) -
     requires { IsServable (setup_of config.now) }
 {
     for row in rows {
-        let name = row.name;
-        assert!(rt;
-            is_alike(alloc, config, row, Side::Client)?,
-            "at {name}, of the client"
-        );
-        assert!(rt;
-            is_alike(alloc, config, row, Side::Upstreams)?,
-            "at {name}, of upstreams"
-        );
+        assert_script_alike(rt, alloc, config, row.name, &Transcript::of(alloc, row)?)?;
     }
     Ok(())
 }
@@ -124,11 +138,11 @@ fn joined(alloc: Global, frames: &[u8]) -> Result<Vec<u8>, AllocError> {
 }
 
 /// The same is put out in all where the octets of upstreams come one by one, but for where DATA is cut.
-fn is_alike_joined(alloc: Global, config: &Config, row: &Row) -> Result<bool, Fail>
+fn is_alike_joined(alloc: Global, config: &Config, script: &str) -> Result<bool, Fail>
     requires { IsServable (setup_of config.now) }
 {
-    let whole = drive(alloc, config, &events_of(alloc, row)?, &[])?;
-    let octets = in_octets(alloc, events_of(alloc, row)?, Side::Upstreams)?;
+    let whole = drive(alloc, config, &events_of(alloc, script)?, &[])?;
+    let octets = in_octets(alloc, events_of(alloc, script)?, Side::Upstreams)?;
     let cut = drive(alloc, config, &octets, &[])?;
     let alike = joined(alloc, &whole.client)?.as_slice() == joined(alloc, &cut.client)?.as_slice();
     Ok(alike && whole.strays == 0 && cut.is_same_upstream(&whole))
@@ -145,12 +159,13 @@ fn assert_alike_streaming(
 {
     for row in rows {
         let name = row.name;
+        let transcript = Transcript::of(alloc, row)?;
         assert!(rt;
-            is_alike(alloc, config, row, Side::Client)?,
+            is_alike(alloc, config, &transcript.script, Side::Client)?,
             "at {name}, of the client"
         );
         assert!(rt;
-            is_alike_joined(alloc, config, row)?,
+            is_alike_joined(alloc, config, &transcript.script)?,
             "at {name}, of upstreams"
         );
     }
@@ -196,6 +211,28 @@ fn one_by_one(rt: HostRuntime) -> Result<(), Fail> {
     assert_alike(&rt, alloc, &plain, &WAITING)?;
     assert_alike(&rt, alloc, &plain, &IN_TURN)?;
     assert_alike(&rt, alloc, &config_of(alloc, Policy::Indexing)?, &INDEXING)
+}
+
+#[test]
+fn one_by_one_by_other_configurations(rt: HostRuntime) -> Result<(), Fail> {
+    let alloc = rt.alloc();
+    assert_alike(&rt, alloc, &one_authority(alloc)?, &ONE_AUTHORITY)?;
+    assert_alike(&rt, alloc, &three_routes(alloc)?, &THREE_ROUTES)?;
+    assert_alike(&rt, alloc, &small(alloc)?, &SMALL)
+}
+
+#[test]
+fn many_streams_one_by_one(rt: HostRuntime) -> Result<(), Fail> {
+    let alloc = rt.alloc();
+    let plain = config_of(alloc, Policy::Plain)?;
+    let transcript = one_more_than_a_hundred(alloc)?;
+    assert_script_alike(&rt, alloc, &plain, "a hundred streams", &transcript)?;
+    let transcript = a_hundred_requests(alloc)?;
+    assert_script_alike(&rt, alloc, &plain, "a hundred requests", &transcript)?;
+    let transcript = ten_thousand_requests(alloc)?;
+    assert_script_alike(&rt, alloc, &plain, "ten thousand streams", &transcript)?;
+    let transcript = ten_thousand_without_a_route(alloc)?;
+    assert_script_alike(&rt, alloc, &unrouted(alloc), "no route", &transcript)
 }
 
 #[test]

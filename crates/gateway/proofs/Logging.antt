@@ -6,7 +6,7 @@ use Rattle.model.specs.Setup.{Setup}
 use Rattle.model.specs.Tables.{first_table}
 use Rattle.model.specs.Tapes.{Entry, IsRead}
 use Rattle.model.specs.Known.{Known}
-use Rattle.model.specs.Synchrony.{StaysReady, turns_on}
+use Rattle.model.specs.Synchrony.{IsReadyAtEach, turns_on}
 use Rattle.model.specs.Headline.{ClausesHold, HoldsInTurn, IsTold, HasTape}
 use Rattle.conduct.specs.Rule.{AreKnown, known_of}
 use Rattle.conduct.proofs.Knowing.{known_so}
@@ -80,7 +80,7 @@ so_in phase.Dead setup partial kept text run o = absurd o
 in_step_first : (known : Known) (t : List Entry) → t ≡ [] → AreInStep known t
 in_step_first known t e = rw e (record { encoding = first_table; decoding = first_table; in_step = record { of_sent = refl; of_came = refl; all_read = tt; written = tt; fair = none } })
   where
-    none : (later stretch before : List Entry) → [] ≡ later ++ stretch ++ before → (waits other : ℕ) → StaysReady known waits before stretch → turns_on waits stretch ≡ 0 → turns_on other stretch ≤ 1
+    none : (later stretch before : List Entry) → [] ≡ later ++ stretch ++ before → (waits other : ℕ) → IsReadyAtEach known waits before stretch → turns_on waits stretch ≡ 0 → turns_on other stretch ≤ 1
     none later [] before is waits other stays no_turn = omega arith
     none [] (e ∷ stretch) before is waits other stays no_turn = absurd (let no : [] ≡ e ∷ (stretch ++ before) = is in cc)
     none (l ∷ later) (e ∷ stretch) before is waits other stays no_turn = absurd (let no : [] ≡ l ∷ ((later ++ e ∷ stretch) ++ before) = is in cc)

@@ -1,27 +1,20 @@
 -- Where a body in chunks isn't whole, and where it can't be.
-use Rattle.std.proofs.Common.{◌≡◌, ℕ, ◌+◌, ◌<◌, Bool, List, [], ◌∷◌, ◌++◌, length, get_or, refl, sym, ap, ◌∙◌, subst, append_assoc, length-append, arith}
-use Rattle.std.specs.Prelude.{◌≢◌, Result, Ok, Err, OnErr, IfErr}
+use Rattle.std.proofs.Common.{◌≡◌, ℕ, ◌+◌, ◌<◌, Bool, List, [], ◌∷◌, ◌++◌, length, refl, sym, ap, ◌∙◌, subst, append_assoc, length-append, arith}
 use Rattle.httparse.specs.Grammar.{ReadsSection, HasNoSection}
 use Rattle.httparse.proofs.GrammarLemmas.{ReadsSection-append}
 use Rattle.model.specs.Octets.{Joined}
 use Rattle.model.specs.Http1.{crlf}
 use Rattle.model.specs.ResponseHeads as model
 use Rattle.model.specs.ResponseHeads.Framing.{Chunks as IsChunks}
-use Rattle.model.specs.Responses.{ChunkLine, Chunk as IsChunk, Chunked, IsTrailers, HasBody, IsComplete, IsSpoilt}
+use Rattle.model.specs.Responses.{ChunkLine, Chunk as IsChunk, Chunked, IsTrailers, HasBody, IsComplete}
 use Rattle.model.proofs.Http1Runs.{same_front, same_rest, BeginsNone, one_joined}
 use Rattle.model.proofs.ResponseHeadReadings.{one_front}
 use Rattle.model.proofs.ResponseBodies.{one_chunk_line, one_response_chunk, none_at_last}
 use Rattle.h1_reader.specs.Parts.{Part}
-use Rattle.h1_reader.specs.ChunkLines.{IsLinePart, NeverLine}
-use Rattle.h1_reader.specs.Trailers.{NeverTrailers}
-use Rattle.h1_reader.specs.Standing.{State, InChunked, InLine, InChunk, BehindChunk, InTrailers, Breaks}
-use Rattle.h1_reader.specs.declared.fault.ResponseFault.{ResponseFault}
-use Rattle.h1_reader.specs.declared.fault.ResponseFault.TheVariants.{Memory}
+use Rattle.h1_reader.specs.ChunkLines.{IsLinePart}
+use Rattle.h1_reader.specs.Standing.{InChunked, InLine, InChunk, BehindChunk, InTrailers}
 use Rattle.h1_reader.specs.declared.chunk_line.LinePlace.{LinePlace}
-use Rattle.h1_reader.specs.declared.reader.Place.TheVariants.{Line, ChunkEnd, ChunkReturn, Trailers}
 use Rattle.h1_reader.proofs.ChunkLineLemmas.{line_begun, none_in_line}
-use Rattle.h1_reader.proofs.Steps.{at}
-use Rattle.h1_reader.proofs.ChunkSteps.{chunked_on}
 
 -- neither a chunk nor the end of a body in chunks begins the text
 pub record NoBody (text : List ℕ) : Type 0 where

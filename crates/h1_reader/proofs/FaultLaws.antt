@@ -1,25 +1,23 @@
 -- A fault that stands spoils the response, and one text has one fault at most.
-use Rattle.std.proofs.Common.{◌≡◌, ℕ, ◌+◌, ◌<◌, ◌≤◌, Bool, List, [], ◌∷◌, ◌++◌, length, take, drop, refl, sym, ap, ◌∙◌, subst, append_assoc, length-append, length-take-le, inl, inr, arith}
+use Rattle.std.proofs.Common.{◌≡◌, ℕ, ◌+◌, ◌<◌, ◌≤◌, Bool, List, [], ◌∷◌, ◌++◌, length, drop, refl, sym, ap, ◌∙◌, subst, append_assoc, length-append, length-take-le, inl, inr, arith}
 use Rattle.std.specs.Prelude.{◌⊎◌, Some, None, Option}
 use Rattle.std.proofs.lemmas.Bool.{cases_lt}
-use Rattle.std.proofs.lemmas.List.{append-nil, take-append-drop}
-use Rattle.std.proofs.Math.Seq.{take-append_seam}
+use Rattle.std.proofs.lemmas.List.{take-append-drop}
 use Rattle.httparse.specs.Grammar as grammar
-use Rattle.httparse.specs.Grammar.{ReadsResponse, HasNoResponse, ReadsSection, HasNoSection, NeverHasSection, LineEnd, status_code}
+use Rattle.httparse.specs.Grammar.{ReadsResponse, ReadsSection, status_code}
 use Rattle.httparse.proofs.GrammarLemmas.{section_unique, ReadsSection-append}
 use Rattle.model.specs.Octets.{Joined, IsFront}
 use Rattle.model.specs.Http1.{crlf}
 use Rattle.model.specs.ResponseHeads as model
-use Rattle.model.specs.ResponseHeads.{IsTaken, framing_of}
+use Rattle.model.specs.ResponseHeads.{framing_of}
 use Rattle.model.specs.ResponseHeads.Framing.{Chunks as IsChunks}
-use Rattle.model.specs.Responses.{ChunkLine, Chunk as IsChunk, Chunked, IsTrailers, HasBody, IsComplete, IsSpoilt, IsNoLine, IsBadChunkEnd}
+use Rattle.model.specs.Responses.{ChunkLine, HasBody, IsSpoilt, IsNoLine}
 use Rattle.model.proofs.Http1Runs.{same_rest, BeginsNone, one_joined}
 use Rattle.model.proofs.ResponseHeadReadings.{Spelled, spelled_reads, one_spelled, one_interim, none_at_final, one_front}
-use Rattle.model.proofs.ResponseBodies.{one_chunk_line, one_response_chunk, none_at_last}
 use Rattle.h1_reader.specs.Heads.{HasNoHead}
 use Rattle.h1_reader.specs.Trailers.{NeverTrailers}
 use Rattle.h1_reader.specs.Standing.{State, Breaks}
-use Rattle.h1_reader.specs.Faults.{in_reach, codings, IsUnframed, IsRefusedFor, IsRefusedHead, IsLongHead, IsNinth, HeadFault, AreManyTrailers, AreLongTrailers, TrailerFault, IsBehindLast, ChunkFault, FaultBefore, FaultBehind, FaultStands, Fails}
+use Rattle.h1_reader.specs.Faults.{in_reach, IsUnframed, IsRefusedFor, IsRefusedHead, IsLongHead, IsNinth, HeadFault, TrailerFault, IsBehindLast, ChunkFault, FaultBefore, FaultBehind, FaultStands, Fails}
 use Rattle.h1_reader.specs.declared.fault.ResponseFault.{ResponseFault}
 use Rattle.h1_reader.specs.declared.fault.ResponseFault.TheVariants as fault
 use Rattle.h1_reader.proofs.HeadLemmas.{none_taken}
@@ -27,7 +25,6 @@ use Rattle.h1_reader.proofs.FrontLemmas.{front_of_longer, none_so_long, none_lon
 use Rattle.h1_reader.proofs.TrailerLemmas.{never_longer, never_so_long, trailers_read}
 use Rattle.h1_reader.proofs.Steps.{joined_longer, joined_more}
 use Rattle.h1_reader.proofs.ChunkEnds.{NoBody, no_line_body, end_no_body, trailers_no_body, not_chunked}
-use Rattle.h1_reader.proofs.Noticed.{chunk_begins_none}
 
 -- ---- no head begins where one is at fault
 

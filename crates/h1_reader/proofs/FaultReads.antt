@@ -1,19 +1,19 @@
 -- Which fault the parser's answer is, and what is read of a front in reach is read of the whole text.
 use Rattle.std.proofs.Common.{◌≡◌, ℕ, ◌+◌, ◌-◌, ◌<◌, ◌≤◌, Bool, List, [], ◌∷◌, ◌++◌, length, take, drop, map, sym, ap, ◌∙◌, subst, append_assoc, length-append, length-take-le, refl, inl, inr, arith}
-use Rattle.std.specs.Prelude.{◌≢◌, None, codes, ◌⊎◌}
+use Rattle.std.specs.Prelude.{None, codes}
 use Rattle.std.proofs.lemmas.Bool.{cases_lt}
 use Rattle.std.proofs.lemmas.List.{append-nil, take_all, take-append-drop}
 use Rattle.std.proofs.Math.Seq.{take-append_seam}
 use Rattle.httparse.specs.Grammar as grammar
-use Rattle.httparse.specs.Grammar.{ReadsSection, HasNoResponse, MayBecomeResponse, NeverHasResponse, HasNoSection, MayBecomeSection, NeverHasSection, LineEnd, status_code, print_section}
+use Rattle.httparse.specs.Grammar.{HasNoResponse, MayBecomeResponse, NeverHasResponse, HasNoSection, MayBecomeSection, NeverHasSection, status_code, print_section}
 use Rattle.httparse.specs.declared.spans.HeaderSpan.{HeaderSpan}
 use Rattle.httparse.specs.declared.spans.ResponseSpans.{ResponseSpans}
 use Rattle.httparse.specs.Spans.{IsResponseOf, IsResponseWithin, IsSectionOf, IsSectionWithin}
 use Rattle.model.specs.Messages.{Field}
 use Rattle.model.specs.Http1.{values_of}
-use Rattle.model.specs.ResponseHeads.{meant, framing_for, framing_of}
+use Rattle.model.specs.ResponseHeads.{framing_for, framing_of}
 use Rattle.h1_reader.specs.Heads.{field_from, framing_fault}
-use Rattle.h1_reader.specs.Faults.{in_reach, codings, IsUnframed, IsRefusedFor, IsRefusedHead, IsLongHead, HeadFault, AreManyTrailers, AreLongTrailers, TrailerFault}
+use Rattle.h1_reader.specs.Faults.{in_reach, codings, IsUnframed, IsRefusedFor, IsRefusedHead, IsLongHead, HeadFault, AreManyTrailers, TrailerFault}
 use Rattle.h1_reader.specs.declared.fault.ResponseFault.{ResponseFault}
 use Rattle.h1_reader.specs.declared.fault.ResponseFault.TheVariants as fault
 use Rattle.h1_reader.proofs.HeadLemmas.{front_is, count_is, meant_at}

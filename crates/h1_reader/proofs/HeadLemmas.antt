@@ -1,18 +1,17 @@
 -- What the parser's answer says of the heads that are taken.
-use Rattle.std.proofs.Common.{suc, ◌≡◌, ℕ, ◌<◌, ◌≤◌, Bool, List, [], ◌∷◌, ◌++◌, length, get_or, take, drop, map, refl, sym, ap, ◌∙◌, subst, length-take-le, arith}
-use Rattle.std.specs.Prelude.{Option, Some, None}
+use Rattle.std.proofs.Common.{suc, ◌≡◌, ℕ, ◌<◌, ◌≤◌, Bool, List, [], ◌∷◌, ◌++◌, length, get_or, take, drop, map, refl, sym, ap, ◌∙◌, length-take-le, arith}
+use Rattle.std.specs.Prelude.{Some}
 use Rattle.std.proofs.lemmas.List.{append-nil}
 use Rattle.std.proofs.Math.Seq.{take-append_seam}
 use Rattle.httparse.specs.Grammar as grammar
-use Rattle.httparse.specs.Grammar.{ReadsResponse, print_response, status_code}
+use Rattle.httparse.specs.Grammar.{print_response, status_code}
 use Rattle.httparse.specs.declared.spans.HeaderSpan.{HeaderSpan}
 use Rattle.httparse.specs.declared.spans.ResponseSpans.{ResponseSpans}
-use Rattle.httparse.specs.Spans.{IsResponseAt, IsResponseOf, IsResponseWithin, AreFieldsAt, ResponseOverflows, header_bytes, name_and_value}
-use Rattle.httparse.proofs.GrammarLemmas.{response_unique, ReadsResponse-append}
+use Rattle.httparse.specs.Spans.{IsResponseAt, IsResponseOf, IsResponseWithin, AreFieldsAt, header_bytes, name_and_value}
 use Rattle.model.specs.Octets.{lower}
 use Rattle.model.specs.Messages.{Field}
 use Rattle.model.specs.ResponseHeads.{Head, Framing, IsTaken, meant, framing_of, framing_for, head_of, passed, without_framing}
-use Rattle.model.proofs.ResponseHeadReadings.{Spelled, spelled_reads}
+use Rattle.model.proofs.ResponseHeadReadings.{Spelled}
 use Rattle.h1_reader.specs.Heads.{field_from, HasNoHead}
 use Rattle.h1_reader.proofs.Values.{head_values}
 

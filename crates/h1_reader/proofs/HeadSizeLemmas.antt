@@ -5,12 +5,12 @@ use Rattle.std.specs.List.{flat_map}
 use Rattle.std.proofs.lemmas.List.{length-reverse, length-map}
 use Rattle.std.proofs.lemmas.List.Elements.{All-append, All-cons, All-nil}
 use Rattle.httparse.specs.Grammar as grammar
-use Rattle.httparse.specs.Grammar.{skip_ows, trim_ows, is_ows, print_field, print_section, print_end, print_response}
+use Rattle.httparse.specs.Grammar.{skip_ows, trim_ows, is_ows, print_field, print_end, print_response}
 use Rattle.model.specs.Messages.{Field}
 use Rattle.model.specs.Http1.{without}
 use Rattle.model.specs.Octets.{Joined}
 use Rattle.model.specs.ResponseHeads as model
-use Rattle.model.specs.ResponseHeads.{meant, passed, without_framing, with_one, never_has_body, head_of, IsTaken}
+use Rattle.model.specs.ResponseHeads.{meant, without_framing, with_one, never_has_body, head_of, IsTaken}
 use Rattle.h1_reader.specs.Parts.{Part}
 use Rattle.h1_reader.specs.Parts.Part.{Interim, Final, Body, Done}
 use Rattle.h1_reader.specs.HeadSizes.{field_octets, head_octets, HeadsAreShort}

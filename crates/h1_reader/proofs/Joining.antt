@@ -5,12 +5,10 @@ use Rattle.std.specs.List.{concat}
 use Rattle.std.proofs.lemmas.List.{append-nil, take_all, take-append-drop}
 use Rattle.model.specs.ResponseHeads as model
 use Rattle.h1_reader.specs.Parts.{Part}
-use Rattle.h1_reader.specs.Parts.Part.{Interim, Final, Body, Done}
-use Rattle.h1_reader.specs.Standing.{State, InBody, InChunked, InChunk, BehindChunk, Stands, StandsAt, Hears}
+use Rattle.h1_reader.specs.Parts.Part.{Interim, Final, Body}
+use Rattle.h1_reader.specs.Standing.{State, InChunked, Stands, StandsAt, Hears}
 use Rattle.h1_reader.specs.GoesOn.{GoesOn, IsJoined}
 use Rattle.h1_reader.specs.Faults.{FaultStands, Fails}
-use Rattle.h1_reader.specs.Views.{part_of, parts_of}
-use Rattle.h1_reader.specs.declared.piece.Piece.{Piece}
 use Rattle.h1_reader.specs.declared.fault.ResponseFault.{ResponseFault}
 use Rattle.h1_reader.specs.declared.reader.Place.{Place}
 use Rattle.h1_reader.specs.declared.reader.Place.TheVariants.{Chunk, ChunkEnd}

@@ -3,14 +3,14 @@ use Rattle.std.proofs.Common.{◌≡◌, ℕ, ◌+◌, ◌<◌, ◌≤◌, Bool,
 use Rattle.std.proofs.lemmas.Bool.{cases_lt}
 use Rattle.std.proofs.lemmas.List.{append-nil}
 use Rattle.httparse.specs.Grammar as grammar
-use Rattle.httparse.specs.Grammar.{ReadsResponse, HasNoResponse, MayBecomeResponse, NeverHasResponse, ReadsSection, HasNoSection, NeverHasSection, MayBecomeSection, LineEnd}
+use Rattle.httparse.specs.Grammar.{ReadsResponse, HasNoResponse, MayBecomeResponse, NeverHasResponse, ReadsSection, HasNoSection, MayBecomeSection, LineEnd}
 use Rattle.httparse.proofs.GrammarLemmas.{section_unique, ReadsSection-append}
 use Rattle.model.specs.Octets.{Joined, IsFront}
 use Rattle.model.specs.Http1.{crlf}
 use Rattle.model.specs.ResponseHeads as model
 use Rattle.model.specs.ResponseHeads.Framing.{Chunks as IsChunks, Sized as IsSized, UntilEnd as IsUntilEnd}
 use Rattle.model.specs.Responses as responses
-use Rattle.model.specs.Responses.{ChunkLine, Chunk as IsChunk, Chunked, IsTrailers, HasBody, IsRefused, IsBadHead, IsNoLine, IsBadChunkEnd, AreRefused, AreBadTrailers, IsBadChunk, PlainlyBefore, PlainlyBehind, IsPlainlyBad}
+use Rattle.model.specs.Responses.{ChunkLine, Chunk as IsChunk, Chunked, IsTrailers, HasBody, IsBadHead, AreBadTrailers, IsBadChunk, PlainlyBefore, PlainlyBehind, IsPlainlyBad}
 use Rattle.model.proofs.Http1Runs.{same_front, same_rest, BeginsNone, one_joined}
 use Rattle.model.proofs.ResponseHeadReadings.{one_spelled, one_interim, none_at_final, none_without_head, one_front, spelled_reads}
 use Rattle.model.proofs.ResponseBodies.{one_chunk_line, one_response_chunk, none_at_last}

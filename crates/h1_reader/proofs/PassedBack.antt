@@ -1,8 +1,6 @@
 -- Each head that is taken can be passed back, and so can each that the gateway answers with itself.
-use Rattle.std.proofs.Common.{◌≡◌, ◌<◌, ◌≤◌, ℕ, List, [], ◌∷◌, length, refl, sym, subst, arith}
-use Rattle.std.specs.Prelude.{codes}
+use Rattle.std.proofs.Common.{◌≡◌, ◌≤◌, ℕ, List, length, refl, sym, subst, arith}
 use Rattle.httparse.specs.Grammar as grammar
-use Rattle.model.specs.Http2.{pseudo_fields}
 use Rattle.model.specs.ResponseHeads.{Head, IsTaken, head_of}
 use Rattle.model.specs.Causes.{Cause, reply_head}
 use Rattle.model.specs.Causes.Cause.{LargeFields, Tunnel, Expects, LargeBody, NoRoute, BadAnswer}

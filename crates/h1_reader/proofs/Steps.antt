@@ -1,7 +1,7 @@
 -- What each step of a reader does to where it stands.
-use Rattle.std.proofs.Common.{suc, zero, ◌≡◌, ℕ, ◌+◌, ◌-◌, ◌<◌, ◌≤◌, Bool, true, false, List, [], ◌∷◌, ◌++◌, length, take, drop, map, refl, sym, ap, ◌∙◌, subst, append_assoc, length-append, arith}
+use Rattle.std.proofs.Common.{suc, zero, ◌≡◌, ℕ, ◌+◌, ◌-◌, ◌<◌, ◌≤◌, Bool, true, false, List, [], ◌∷◌, ◌++◌, length, take, map, refl, sym, ap, ◌∙◌, subst, append_assoc, length-append, arith}
 use Rattle.std.specs.List.{concat}
-use Rattle.std.proofs.lemmas.List.{append-nil, map-append, take-append-drop, take_all}
+use Rattle.std.proofs.lemmas.List.{append-nil, map-append, take_all}
 use Rattle.std.proofs.lemmas.List.Folds.{concat-append}
 use Rattle.std.proofs.lemmas.Bool.{eqb-true}
 use Rattle.std.specs.Prelude.{◌==◌}
@@ -9,21 +9,20 @@ use Rattle.httparse.specs.Grammar.{HasNoResponse, MayBecomeResponse}
 use Rattle.model.specs.Octets.{Joined}
 use Rattle.model.specs.ResponseHeads as model
 use Rattle.model.specs.ResponseHeads.Framing.{Bodiless as IsBodiless, Chunks as IsChunks, Sized as IsSized, UntilEnd as IsUntilEnd}
-use Rattle.model.specs.Responses.{HasBody, IsSpoilt}
-use Rattle.model.proofs.Http1Runs.{same_rest, BeginsNone, one_joined}
-use Rattle.model.proofs.ResponseHeadReadings.{one_interim, none_at_final}
+use Rattle.model.specs.Responses.{HasBody}
+use Rattle.model.proofs.Http1Runs.{same_rest, BeginsNone}
+use Rattle.model.proofs.ResponseHeadReadings.{one_interim}
 use Rattle.h1_reader.specs.Parts.{Part}
 use Rattle.h1_reader.specs.Parts.Part.{Interim, Final, Body, Done}
-use Rattle.h1_reader.specs.Heads.{HasNoHead}
 use Rattle.h1_reader.specs.Views.{framing_view}
 use Rattle.h1_reader.specs.Begins.{Begins, place_behind, told_behind}
 use Rattle.h1_reader.specs.declared.framing.Framing.{Framing}
 use Rattle.h1_reader.specs.declared.framing.Framing.TheVariants as ways
 use Rattle.h1_reader.proofs.FrontLemmas.{none_in_nothing, nothing_may_become, nothing_is_short}
 use Rattle.h1_reader.specs.declared.chunk_line.LinePlace.TheVariants.{Size}
-use Rattle.h1_reader.specs.Standing.{State, BeforeHead, InBody, InSized, InRest, InLine, IsPast, IsKept, StandsAt, Stands, Hears, Breaks}
+use Rattle.h1_reader.specs.Standing.{State, BeforeHead, InBody, InSized, InRest, InLine, IsPast, IsKept, StandsAt, Stands, Hears}
 use Rattle.h1_reader.specs.declared.reader.Place.{Place}
-use Rattle.h1_reader.specs.declared.reader.Place.TheVariants.{Head, Sized, UntilEnd, Past, Broken}
+use Rattle.h1_reader.specs.declared.reader.Place.TheVariants.{Head, Sized, UntilEnd, Past}
 
 -- ---- texts and pieces
 

@@ -1,13 +1,13 @@
 -- What the parser's answer says of trailers.
-use Rattle.std.proofs.Common.{suc, ◌≡◌, ℕ, ◌+◌, ◌-◌, ◌<◌, ◌≤◌, List, [], ◌∷◌, ◌++◌, length, get_or, take, drop, refl, sym, ap, ◌∙◌, subst, append_assoc, length-append, length-take-le, arith}
-use Rattle.std.proofs.lemmas.List.{append-nil, take-append-drop}
+use Rattle.std.proofs.Common.{suc, ◌≡◌, ℕ, ◌+◌, ◌<◌, ◌≤◌, List, [], ◌∷◌, ◌++◌, length, get_or, take, drop, refl, sym, ap, ◌∙◌, subst, append_assoc, length-append, length-take-le, arith}
+use Rattle.std.proofs.lemmas.List.{append-nil}
 use Rattle.std.proofs.lemmas.List.Elements.{All-nil}
 use Rattle.std.proofs.Math.Seq.{take-append_seam}
 use Rattle.httparse.specs.Grammar as grammar
 use Rattle.httparse.specs.Grammar.{ReadsSection, HasNoSection, MayBecomeSection, LineEnd, print_section}
 use Rattle.httparse.specs.declared.spans.HeaderSpan.{HeaderSpan}
 use Rattle.httparse.specs.Spans.{IsSectionOf, IsSectionWithin}
-use Rattle.httparse.proofs.GrammarLemmas.{section_unique, ReadsSection-append}
+use Rattle.httparse.proofs.GrammarLemmas.{ReadsSection-append}
 use Rattle.model.specs.Responses.{IsTrailers}
 use Rattle.h1_reader.specs.Trailers.{NeverTrailers}
 use Rattle.h1_reader.proofs.HeadLemmas.{count_is}

@@ -1,6 +1,6 @@
 //! The first line of a chunk, octet by octet (RFC 9112, section 7.1).
 
-ghost use Rattle.std.specs.Prelude.{◌≡◌, ◌^◌, ◌<◌, ◌≤◌, true, false, MatchOption};
+ghost use Rattle.std.specs.Prelude.{◌≡◌, ◌^◌, ◌<◌, true, false, MatchOption};
 ghost use Rattle.std.specs.Char.{digit_value};
 ghost use Rattle.model.specs.Octets.{is_hex_digit};
 ghost use Rattle.h1_reader.specs.ChunkLines.{AreDigits, BehindSize, InExtension, BehindReturn, IsLinePart, IsInRange, IsStep, BreaksLine, EndsSize};

@@ -1,11 +1,9 @@
 //! What the fields of a response's head say.
 
-ghost use Rattle.std.specs.Prelude.{◌≡◌, ◌++◌, ℕ, not, ◌&&◌, ◌||◌, [], ◌∷◌, codes, bytes_eq, filter, map, length, IfOk, IfSome, OnOk};
-ghost use Rattle.std.specs.List.{list_all, list_any};
-ghost use Rattle.model.specs.Messages.{Field as Meaning};
+ghost use Rattle.std.specs.Prelude.{◌≡◌, ◌++◌, not, ◌&&◌, ◌||◌, [], ◌∷◌, codes, bytes_eq, filter, length, IfOk, OnOk};
+ghost use Rattle.std.specs.List.{list_any};
 ghost use Rattle.model.specs.Http1.{values_of, without};
-ghost use Rattle.model.specs.Http2.{connection_names};
-ghost use Rattle.model.specs.ResponseHeads.{names_in, named_by_connection, never_has_body, without_framing, passed, with_one};
+ghost use Rattle.model.specs.ResponseHeads.{names_in, named_by_connection, names_of_connection, never_has_body, without_framing, passed, with_one};
 
 use crate::octets;
 use hpack_table::Field;
@@ -41,9 +39,10 @@ fn is_named_by_connection(fields: &[Field], name: &[u8]) -> bool
 
 /// Whether the field is one of a connection (RFC 9113, section 8.2.2).
 fn is_of_connection(field: &Field) -> bool
-    ensures { result ≡ list_any (bytes_eq field.now.name) connection_names }
+    ensures { result ≡ list_any (bytes_eq field.now.name) names_of_connection }
 {
-    is_named(field, b"connection")
+    is_named(field, b"te")
+        || is_named(field, b"connection")
         || is_named(field, b"proxy-connection")
         || is_named(field, b"keep-alive")
         || is_named(field, b"transfer-encoding")
@@ -66,7 +65,7 @@ fn never_has_body(status: u16) -> bool
 
 /// Whether a field is passed back, by the fields Connection of its head, or by more of them.
 fn is_passed(connections: &[Field], field: &Field) -> bool
-    ensures { result ≡ not (list_any (bytes_eq field.now.name) (connection_names ++ named_by_connection connections.now)) }
+    ensures { result ≡ not (list_any (bytes_eq field.now.name) (names_of_connection ++ named_by_connection connections.now)) }
 {
     !is_of_connection(field) && !is_named_by_connection(connections, field.name())
 }

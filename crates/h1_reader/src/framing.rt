@@ -1,6 +1,6 @@
 //! How the body behind a final head is framed (RFC 9112, section 6.3).
 
-ghost use Rattle.std.specs.Prelude.{◌≡◌, not, true, false, ◌||◌, ◌&&◌, ◌==◌, ◌∷◌, [], List, ℕ, Some, None, nat_le, codes, bytes_eq, length, MatchOption, MatchResult};
+ghost use Rattle.std.specs.Prelude.{◌≡◌, not, true, false, ◌||◌, ◌&&◌, ◌==◌, ◌∷◌, [], List, ℕ, Some, None, codes, bytes_eq, MatchOption, MatchResult};
 ghost use Rattle.std.specs.List.{list_all};
 ghost use Rattle.std.specs.Str.Parse.{digits_value};
 ghost use Rattle.model.specs.Octets.{lower};

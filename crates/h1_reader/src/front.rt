@@ -1,6 +1,6 @@
 //! The head that octets end, behind those that were held.
 
-ghost use Rattle.std.specs.Prelude.{◌≡◌, ◌≢◌, ◌≤◌, ◌++◌, [], length, MatchResult};
+ghost use Rattle.std.specs.Prelude.{◌≢◌, ◌≤◌, ◌++◌, [], length, MatchResult};
 ghost use Rattle.httparse.specs.Grammar.{HasNoResponse};
 ghost use Rattle.h1_reader.specs.Heads.{IsHeadRead, IsFrontRead};
 ghost use Rattle.h1_reader.specs.Faults.{HeadFault};

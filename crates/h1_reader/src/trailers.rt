@@ -1,6 +1,6 @@
 //! The trailers behind the last chunk (RFC 9112, section 7.1.2).
 
-ghost use Rattle.std.specs.Prelude.{◌≡◌, ◌≢◌, ◌<◌, ◌≤◌, ◌++◌, length, MatchOption, MatchResult};
+ghost use Rattle.std.specs.Prelude.{◌≢◌, ◌<◌, ◌≤◌, ◌++◌, length, MatchOption, MatchResult};
 ghost use Rattle.httparse.specs.Grammar.{HasNoSection};
 ghost use Rattle.h1_reader.specs.Trailers.{AreTrailersAt, AreTrailersRead};
 ghost use Rattle.h1_reader.specs.Faults.{TrailerFault};

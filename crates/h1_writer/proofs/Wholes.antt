@@ -183,28 +183,28 @@ whole_holds None true pieces none = record { rest = []; is = sym (append-nil (fl
 pub lacks_one : (parts : HeadParts) (ended : Bool) (text : List ℕ) (pieces : List (List ℕ)) (stage : Stage) → Sending parts ended text pieces stage → LacksAtMostOne parts ended text pieces
 lacks_one parts ended text pieces Whole s = record {
   missing = [];
-  few = omega arith;
+  is_last = tt;
   content = content_of parts.length ended pieces;
   is = append-nil text ∙ s.is;
   holds_all = whole_holds parts.length ended pieces s.none_ended;
 }
 lacks_one parts ended text pieces (Counting left) s = record {
   missing = [];
-  few = omega arith;
+  is_last = tt;
   content = concat pieces;
   is = append-nil text ∙ s.is ∙ ap (λ (e : Bool). head_of parts e ++ concat pieces) (sym s.not_ended);
   holds_all = subst (λ (d : Option ℕ). HoldsAll d pieces (concat pieces)) (sym s.declared) refl;
 }
 lacks_one parts ended text pieces (Holding octet) s = record {
   missing = octet ∷ [];
-  few = omega arith;
+  is_last = s.declared;
   content = concat pieces;
   is = s.is ∙ ap (λ (e : Bool). head_of parts e ++ concat pieces) (sym s.not_ended);
   holds_all = subst (λ (d : Option ℕ). HoldsAll d pieces (concat pieces)) (sym s.declared) refl;
 }
 lacks_one parts ended text pieces Chunking s = record {
   missing = [];
-  few = omega arith;
+  is_last = tt;
   content = flat_map chunk_text pieces;
   is = append-nil text ∙ s.is ∙ ap (λ (e : Bool). head_of parts e ++ flat_map chunk_text pieces) (sym s.not_ended);
   holds_all = subst (λ (d : Option ℕ). HoldsAll d pieces (flat_map chunk_text pieces)) (sym s.undeclared) (record { rest = []; is = sym (append-nil (flat_map chunk_text pieces)) });

@@ -129,10 +129,16 @@ abbrev pub HoldsAll : Option ℕ → List (List ℕ) → List ℕ → Type 0
 HoldsAll (Some declared) pieces content = content ≡ concat pieces
 HoldsAll None pieces content = IsFront (flat_map chunk_text pieces) content
 
--- With at most one octet added a text is its whole head and all octets that came.
+-- Nothing is missing, or one octet where as many came as were declared.
+abbrev pub MissesLast : Option ℕ → List (List ℕ) → List ℕ → Type 0
+MissesLast declared pieces [] = Unit {0}
+MissesLast declared pieces (_ ∷ []) = declared ≡ Some (length (concat pieces))
+MissesLast declared pieces (_ ∷ _ ∷ _) = ⊥
+
+-- With what is missing, an octet at most and that the last of a declared length, a text is its whole head and all octets that came.
 pub record LacksAtMostOne (parts : HeadParts) (ended : Bool) (text : List ℕ) (pieces : List (List ℕ)) : Type 0 where
   pub missing : List ℕ
-  pub few : length missing ≤ 1
+  pub is_last : MissesLast parts.length pieces missing
   pub content : List ℕ
   pub is : text ++ missing ≡ head_of parts ended ++ content
   pub holds_all : HoldsAll parts.length pieces content

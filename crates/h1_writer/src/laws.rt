@@ -27,7 +27,7 @@ pub fn room_and_end()
     ensures end { (parts : HeadParts) (ended : Bool) (text : List ℕ) (pieces : List (List ℕ)) (stage : Stage) → Sending parts ended text pieces stage → (stage ≡ Whole → ⊥) → HasLength parts.length (concat pieces) → MayFinish stage }
 {}
 
-/// With at most one octet added, a text holds its whole head and all octets that were pushed.
+/// With what is missing, an octet at most and that the last of a declared length, a text holds its whole head and all octets that were pushed.
 pub fn lacks_at_most_one()
     ensures { (parts : HeadParts) (ended : Bool) (text : List ℕ) (pieces : List (List ℕ)) (stage : Stage) → Sending parts ended text pieces stage → LacksAtMostOne parts ended text pieces }
 {}

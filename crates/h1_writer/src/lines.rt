@@ -1,6 +1,6 @@
 //! Lines of a head.
 
-ghost use Rattle.std.specs.Prelude.{◌≡◌, ◌++◌, [], ◌∷◌, OnOk, codes, length};
+ghost use Rattle.std.specs.Prelude.{◌≡◌, ◌++◌, OnOk, length};
 ghost use Rattle.model.specs.Http1Text.{line_text, lines_text, framing_of};
 
 use crate::numbers;

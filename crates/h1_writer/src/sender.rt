@@ -1,10 +1,8 @@
 //! A request as it is sent.
 
-ghost use Rattle.std.specs.Prelude.{◌≡◌, ◌<◌, ◌++◌, [], ◌∷◌, ℕ, List, true, false, OnOk, OnErr, IfOk, MatchBool, length, codes, take};
+ghost use Rattle.std.specs.Prelude.{◌≡◌, ◌<◌, ◌++◌, [], ◌∷◌, ℕ, List, true, false, OnOk, OnErr, IfOk, MatchBool, length, take};
 ghost use Rattle.model.specs.Http2.{HasLength};
-ghost use Rattle.model.specs.Http1Text.{framing_of, head_text};
-ghost use Rattle.request_rules.specs.Heads.{IsRequestHead, request_with};
-ghost use Rattle.h1_writer.specs.Sending.{Sending, Continues, MayPush, MayFinish, hex_size, chunk_text, last_chunk, head_of, Begins};
+ghost use Rattle.h1_writer.specs.Sending.{Sending, Continues, MayPush, MayFinish, chunk_text, head_of, Begins};
 ghost use Rattle.h1_writer.specs.Views.{stage_of};
 ghost use Rattle.h1_writer.specs.Sending.Stage.{Whole};
 

@@ -1,5 +1,5 @@
 -- What a joiner keeps, by the frames of a direction, the newest first (RFC 9113, section 4.3).
-use Rattle.std.specs.Prelude.{◌≡◌, ℕ, List, Option, None}
+use Rattle.std.specs.Prelude.{◌≡◌, List, None}
 use Rattle.model.specs.Tapes.{Noted}
 use Rattle.model.specs.Decoding.{begun}
 use Rattle.model.specs.FrameErrors.{last_continuations}

@@ -1,7 +1,6 @@
 //! The decoder of a direction, with its table.
 
-ghost use Rattle.std.specs.Prelude.{◌≡◌, if◌then◌else◌, [], ℕ, List, ◌∷◌, ◌++◌, IfOk, IfErr, IfSome, OnOk, OnErr, Some, None, Err};
-ghost use Rattle.model.specs.Messages.{Field as FieldLine};
+ghost use Rattle.std.specs.Prelude.{◌≡◌, if◌then◌else◌, [], IfOk, IfErr, IfSome, OnOk, OnErr, Some, None, Err};
 ghost use Rattle.model.specs.Blocks.{NoBlock};
 ghost use Rattle.model.specs.Tables.{added};
 ghost use Rattle.header_blocks.specs.Represented.{UnlessMemory};

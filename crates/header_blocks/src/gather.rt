@@ -1,6 +1,6 @@
 //! The fields of a block, gathered as long as they fit.
 
-ghost use Rattle.std.specs.Prelude.{ℕ, List, [], ◌∷◌, ◌++◌, IfOk, OnOk};
+ghost use Rattle.std.specs.Prelude.{ℕ, List, [], ◌∷◌, ◌++◌, OnOk};
 ghost use Rattle.model.specs.Messages.{Field as FieldLine};
 ghost use Rattle.header_blocks.specs.Gathering.{Finishes, Holds};
 

@@ -1,6 +1,6 @@
 //! Fragments joined to header blocks.
 
-ghost use Rattle.std.specs.Prelude.{◌≡◌, ◌≤◌, ℕ, length, None, Some, IfOk, OnOk, OnErr};
+ghost use Rattle.std.specs.Prelude.{◌≡◌, ◌≤◌, ℕ, length, None, Some, OnOk, OnErr};
 ghost use Rattle.model.specs.FrameErrors.{longest_block};
 ghost use Rattle.header_blocks.specs.Joining.{Joining, nothing_begun, fault_at, begins, continues, HasRoom, IsWithin};
 

@@ -1,6 +1,6 @@
 //! The limits that the peer sets on an encoder's table (RFC 7541, section 4.2).
 
-ghost use Rattle.std.specs.Prelude.{◌≡◌, ◌≤◌, nat_lt, ◌==◌, min, if◌then◌else◌, Some, None};
+ghost use Rattle.std.specs.Prelude.{◌≡◌, ◌==◌, min, if◌then◌else◌, Some, None};
 ghost use Rattle.std.specs.Option.{ForSome};
 ghost use Rattle.header_blocks.specs.Encoding.{limits_with};
 ghost use Rattle.header_blocks.specs.Due.{AreInRange, IsDue};

@@ -1,7 +1,6 @@
 //! How an encoder writes fields.
 
-ghost use Rattle.std.specs.Prelude.{◌≡◌, ◌≤◌, ◌↔◌, IsTrue};
-ghost use Rattle.model.specs.Tables.{field_size};
+ghost use Rattle.std.specs.Prelude.{◌≡◌, ◌↔◌, IsTrue};
 ghost use Rattle.header_blocks.specs.Encoding.{is_indexing};
 ghost use Rattle.header_blocks.specs.Inserting.{Inserts};
 

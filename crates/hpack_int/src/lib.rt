@@ -2,7 +2,7 @@
 //! doesn't fit it.
 #![tactic(auto)]
 
-ghost use Rattle.std.specs.Prelude.{◌≡◌, ◌-◌, ◌≤◌, ◌%◌, ◌^◌, List, ℕ, ◌++◌, OnOk, OnErr};
+ghost use Rattle.std.specs.Prelude.{◌≡◌, ◌-◌, ◌≤◌, ◌%◌, ◌^◌, OnOk, OnErr};
 ghost use Rattle.hpack_int.specs.Reading.{Reads, ReadsGroups};
 ghost use Rattle.hpack_int.specs.Writing.{Writes, AreGroupsOf};
 

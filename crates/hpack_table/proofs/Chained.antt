@@ -1,8 +1,8 @@
 -- Entries of a ring, chained by their hashes.
-use Rattle.std.proofs.Common.{◌≡◌, ℕ, zero, suc, ◌+◌, ◌-◌, ◌%◌, ◌^◌, ◌<◌, ◌≤◌, ◌==◌, ◌⊎◌, nat_lt, Bool, true, false, if◌then◌else◌, List, [], ◌∷◌, ◌++◌, length, take, drop, map, set, slice_get, Option, Some, None, Result, Ok, Err, is_ok, refl, ap, sym, ◌∙◌, subst, inl, inr, arith, lt-ltb, eqb-true}
-use Rattle.std.specs.Prelude.{option_map, replicate}
+use Rattle.std.proofs.Common.{◌≡◌, ℕ, zero, suc, ◌+◌, ◌-◌, ◌%◌, ◌^◌, ◌<◌, ◌≤◌, ◌==◌, ◌⊎◌, nat_lt, Bool, true, false, if◌then◌else◌, List, [], ◌∷◌, ◌++◌, length, take, drop, set, slice_get, Option, Some, None, Result, Ok, Err, is_ok, refl, ap, sym, ◌∙◌, subst, inl, inr, arith, lt-ltb, eqb-true}
+use Rattle.std.specs.Prelude.{replicate}
 use Rattle.std.proofs.lemmas.Bool.{cases_lt}
-use Rattle.std.proofs.lemmas.Option.{slice_get-map, slice_get_within, slice_get_past}
+use Rattle.std.proofs.lemmas.Option.{slice_get_past}
 use Rattle.std.proofs.lemmas.List.{take-map, length-map, length-set}
 use Rattle.std.proofs.Math.Seq.{take-append_seam}
 use Rattle.hpack_table.specs.Chaining.{IsChained, IsNextOfHash, bucket, entries_since, hashes_of, step_from, with_number}

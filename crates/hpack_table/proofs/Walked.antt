@@ -1,7 +1,6 @@
 -- The static table, whose names stand in runs that begin where their slots say.
-use Rattle.std.proofs.Common.{◌≡◌, ℕ, zero, suc, ◌+◌, ◌-◌, ◌<◌, ◌≤◌, Bool, true, false, ◌&&◌, ◌||◌, not, nat_eq, nat_lt, nat_le, List, [], ◌∷◌, ◌++◌, length, get_or, slice_get, Option, Some, None, refl, ap, sym, ◌∙◌, subst, inl, inr, arith, eqb-true, leb-true, le-leb, lt-ltb}
+use Rattle.std.proofs.Common.{◌≡◌, ℕ, zero, suc, ◌+◌, ◌<◌, ◌≤◌, Bool, true, false, ◌&&◌, ◌||◌, not, nat_eq, nat_lt, nat_le, List, [], ◌∷◌, get_or, slice_get, Option, Some, refl, ap, sym, ◌∙◌, subst, inl, inr, arith, eqb-true, leb-true, le-leb, lt-ltb}
 use Rattle.std.proofs.lemmas.Bool.{cases_lt}
-use Rattle.std.proofs.lemmas.List.{append-nil}
 use Rattle.std.proofs.lemmas.Option.{slice_get-get_or, slice_get_within}
 use Rattle.model.specs.Messages.{Field}
 use Rattle.model.specs.Tables.{field_of, look_up, static_table}

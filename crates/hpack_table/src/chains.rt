@@ -4,7 +4,7 @@
 //! and each entry notes how many stand between it and the next one. So an entry that goes off the end of the ring changes
 //! nothing. Numbers go round. A chain that numbers of another time lead astray costs steps, and skips no entry.
 
-ghost use Rattle.std.specs.Prelude.{ℕ, List, ◌≡◌, ◌+◌, ◌<◌, ◌≤◌, ◌^◌, ◌==◌, if◌then◌else◌, ◌∷◌, [], length, take, slice_get, OnOk};
+ghost use Rattle.std.specs.Prelude.{ℕ, List, ◌≡◌, ◌+◌, ◌<◌, ◌^◌, ◌==◌, ◌∷◌, [], length, take, slice_get, OnOk};
 ghost use Rattle.hpack_table.specs.Chaining.{IsChained, IsNextOfHash, bucket, hashes_of, step_from, entries_since, with_number};
 ghost use Rattle.hpack_table.specs.declared.chains.Link.{Link};
 

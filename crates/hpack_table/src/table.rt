@@ -1,6 +1,6 @@
 //! The table of a direction.
 
-ghost use Rattle.std.specs.Prelude.{◌≡◌, ◌<◌, ◌^◌, ◌≤◌, [], length, OnSome, ℕ, Some, None, MatchOption, OnOk, OnErr};
+ghost use Rattle.std.specs.Prelude.{◌≡◌, ◌<◌, ◌^◌, ◌≤◌, [], length, OnSome, Some, None, MatchOption, OnOk, OnErr};
 ghost use Rattle.model.specs.Tables.{added, field_of, keep, look_up, resized, total_size};
 ghost use Rattle.hpack_table.specs.Finding.{Finds};
 ghost use Rattle.hpack_table.specs.Searching.{Seeks, table_of};

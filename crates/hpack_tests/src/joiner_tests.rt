@@ -1,7 +1,5 @@
 //! Header blocks as they are joined from the fragments of frames.
 
-ghost use Rattle.std.specs.Prelude.{◌≡◌};
-
 use header_blocks::{Block, Decoded, Decoder, JoinFault, Joiner};
 use std::alloc::{AllocError, Global};
 use std::test::*;

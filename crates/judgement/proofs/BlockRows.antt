@@ -23,7 +23,7 @@ use Rattle.stream_state.specs.Views.{verdict_in}
 use Rattle.stream_state.specs.declared.verdicts.Verdict.{Verdict as Answer}
 use Rattle.stream_state.specs.declared.verdicts.Verdict.TheVariants as answer
 use Rattle.streams_kept.specs.Asked as asked
-use Rattle.streams_kept.specs.Asked.{has, is_active, active_in, opened_in, standing, with_slot, changed, MayOpen, AllowsOpening}
+use Rattle.streams_kept.specs.Asked.{has, is_active, active_in, opened_in, changed, MayOpen, AllowsOpening}
 use Rattle.streams_kept.specs.Steps.{taken}
 use Rattle.judgement.specs.Blocks.{placed, kept_so, IsOpenOrIdle}
 use Rattle.judgement.proofs.Standings.{opened_standing, other_standing}

@@ -38,7 +38,7 @@ use Rattle.conduct.proofs.Rows.{over_stays}
 use Rattle.conduct.proofs.RowsKept.{completed_own}
 use Rattle.model.proofs.OpenedLaws.{not_opened}
 use Rattle.streams_kept.specs.Asked as asked
-use Rattle.streams_kept.specs.Asked.{has, is_active, with_slot, changed, active_in}
+use Rattle.streams_kept.specs.Asked.{has, with_slot, changed, active_in}
 use Rattle.streams_kept.proofs.Searches.{IsFound}
 use Rattle.streams_kept.proofs.Changes.{slot_left, slot_given}
 use Rattle.judgement.specs.Fragments.{IsFragment}

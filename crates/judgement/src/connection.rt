@@ -1,6 +1,6 @@
 //! What is kept of a connection for its client's frames.
 
-ghost use Rattle.std.specs.Prelude.{◌≡◌, ◌≤◌, ◌==◌, ◌&&◌, not, ℕ, List, [], ◌∷◌, length, false, true, None, Some, IfOk, IfErr, IfSome, IfNone, OnOk, OnErr, option_map, is_some, pos, ◌+ℤ◌, ◌-ℤ◌, int_lt};
+ghost use Rattle.std.specs.Prelude.{◌≡◌, ◌≤◌, ◌==◌, ◌&&◌, [], ◌∷◌, length, false, true, None, Some, IfOk, IfErr, IfSome, IfNone, OnOk, OnErr, option_map, pos, ◌+ℤ◌, ◌-ℤ◌, int_lt};
 ghost use Rattle.model.specs.Setup.{Setup};
 ghost use Rattle.model.specs.Tables.{first_table};
 ghost use Rattle.model.specs.Errors.{first_of};
@@ -14,10 +14,9 @@ ghost use Rattle.conduct.specs.Rows.Slot.{Live as Active};
 ghost use Rattle.stream_state.specs.Views.{kind_in, verdict_in};
 ghost use Rattle.streams_kept.specs.Asked.{is_active, verdict, changed, MayOpen, AllowsOpening};
 ghost use Rattle.streams_kept.specs.Steps.{taken};
-ghost use Rattle.streams_kept.specs.Courses.{is_malformed_with};
 ghost use Rattle.streams_kept.specs.Views.{brief_of};
 ghost use Rattle.model.specs.WindowsOnTape.{has_settings};
-ghost use Rattle.model.specs.Frames.{settings_kind, window_update_kind, ends_stream, content};
+ghost use Rattle.model.specs.Frames.{ends_stream, content};
 ghost use Rattle.frames.specs.Views.{frame_of};
 ghost use Rattle.frames.specs.Parsed.{Says};
 ghost use Rattle.frames.specs.declared.parts.Frame.TheVariants.{Settings as Entries, Ping as Octets, Other as Unused};

@@ -17,7 +17,6 @@ ghost use Rattle.model.specs.WindowsOnTape.{increment};
 ghost use Rattle.model.specs.Courses.{upstream_of, is_final};
 ghost use Rattle.conduct.specs.Turn.{rest_of};
 ghost use Rattle.conduct.specs.Judging.{completed_in};
-ghost use Rattle.conduct.specs.Rule.{Move};
 ghost use Rattle.conduct.specs.Book.{Book, Desk, desk_after};
 ghost use Rattle.conduct.specs.Tidy.{AreKept};
 ghost use Rattle.conduct.specs.Quiet.{IsControl, sending, paid_of};

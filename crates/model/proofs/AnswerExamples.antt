@@ -37,7 +37,7 @@ use Rattle.model.proofs.Http2Readings.{one_meaning}
 use Rattle.model.proofs.OfferLemmas.{BringNone, no_items}
 use Rattle.model.specs.ResponseClause.{EachKeeps, ResponsesHold}
 use Rattle.model.proofs.FirstLog as first
-use Rattle.model.proofs.FirstLog.{setup, field, short, indexed, text, request, well_formed, nothing_begins_none, settings_fits, ack_fits}
+use Rattle.model.proofs.FirstLog.{setup, text, request, well_formed, nothing_begins_none}
 use Rattle.model.proofs.AnswerTexts.{answer, head, fields, block, is_block, response, answered, one_framing, not_plain}
 use Rattle.model.proofs.HeadlineExamples as before
 use Rattle.model.proofs.BeginningExamples.{known, not_streaming, no_request, nothing_either, none_read}

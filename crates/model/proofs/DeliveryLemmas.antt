@@ -15,8 +15,8 @@ use Rattle.httparse.specs.Grammar.{is_token_byte, IsField, IsResponseHead, statu
 use Rattle.model.specs.Octets.{begins_with, is_digit, lower}
 use Rattle.model.specs.Messages.{Field}
 use Rattle.model.specs.Http1.{without}
-use Rattle.model.specs.Http2.{is_pseudo, pseudo_fields, connection_names}
-use Rattle.model.specs.ResponseHeads.{Head, Framing, meant, named_by_connection, with_one, never_has_body, without_framing, head_of, Final}
+use Rattle.model.specs.Http2.{is_pseudo, pseudo_fields}
+use Rattle.model.specs.ResponseHeads.{Head, Framing, meant, named_by_connection, names_of_connection, with_one, never_has_body, without_framing, head_of, Final}
 use Rattle.model.specs.Deliveries.{IsSection}
 
 -- ---- the status
@@ -130,7 +130,7 @@ meant_plain (f ∷ fs) all =
 pub head_plain : (h : grammar.ResponseHead) → IsResponseHead h → pseudo_fields (head_of h).fields ≡ []
 head_plain h is =
     let all = map meant h.fields in
-    kept_plain (λ field. not (list_any (bytes_eq field.name) (connection_names ++ named_by_connection all))) (without_framing (status_code h) all) (framed (never_has_body (status_code h)))
+    kept_plain (λ field. not (list_any (bytes_eq field.name) (names_of_connection ++ named_by_connection all))) (without_framing (status_code h) all) (framed (never_has_body (status_code h)))
   where
     framed : (b : Bool) → pseudo_fields (if b then without (codes "content-length" ∷ codes "transfer-encoding" ∷ []) (map meant h.fields) else with_one (codes "content-length") (map meant h.fields)) ≡ []
     framed true = kept_plain (λ field. not (list_any (bytes_eq field.name) (codes "content-length" ∷ codes "transfer-encoding" ∷ []))) (map meant h.fields) (meant_plain h.fields is.fields)

@@ -7,7 +7,7 @@ use Rattle.std.specs.Str.Parse.{digits_value}
 use Rattle.std.proofs.lemmas.List.{append-nil}
 use Rattle.std.proofs.lemmas.Bool.{le-leb, lt-leb}
 use Rattle.httparse.specs.Grammar as grammar
-use Rattle.httparse.specs.Grammar.{HasNoResponse, ReadsResponse}
+use Rattle.httparse.specs.Grammar.{HasNoResponse}
 use Rattle.model.specs.Messages.{Field, Item}
 use Rattle.model.specs.Messages.Item.{Block, Content}
 use Rattle.model.specs.Http1.{values_of}

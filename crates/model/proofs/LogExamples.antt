@@ -1,6 +1,6 @@
 -- Whole tapes of worked rows: what was sent is just what was owed, the client is closed just where it has to be, and octets are
 -- given back.
-use Rattle.std.proofs.Common.{◌≡◌, ℕ, true, false, List, [], ◌∷◌, ◌++◌, refl, inl, arith}
+use Rattle.std.proofs.Common.{◌≡◌, ℕ, true, false, List, [], ◌∷◌, ◌++◌, refl, inl}
 use Rattle.std.specs.Prelude.{codes, pos, ◌-ℤ◌}
 use Rattle.model.specs.Octets.{some_of, is_token_octet, is_value, lower}
 use Rattle.model.specs.Messages.Item.{Block}
@@ -147,7 +147,7 @@ has_posted = record {
 }
 
 has_come : HasCome (sent_up 1 streamed) (codes "hello")
-has_come = record { extra = codes "o"; one = omega arith; head = posted; head_text = head_text; rest = codes "hello"; is = refl; has_head = has_posted; has_body = record { rest = []; is = refl } }
+has_come = record { extra = codes "o"; head = posted; head_text = head_text; rest = codes "hello"; is = refl; has_head = has_posted; kept_back = refl; has_body = record { rest = []; is = refl } }
 
 passed_on : IsStreamed by_streaming streamed 1
 unfolding total_size

@@ -3,7 +3,7 @@ use Rattle.std.proofs.Common.{◌≡◌, ℕ, ◌<◌, ◌≤◌, Bool, List, []
 use Rattle.std.specs.Prelude.{Option, Some}
 use Rattle.std.proofs.lemmas.List.{append_cancel_right}
 use Rattle.httparse.specs.Grammar as grammar
-use Rattle.httparse.specs.Grammar.{ReadsResponse, HasNoResponse, status_code, LineEnd, ReadsSection}
+use Rattle.httparse.specs.Grammar.{ReadsResponse, HasNoResponse, status_code}
 use Rattle.httparse.proofs.GrammarLemmas.{response_unique, ReadsResponse-append}
 use Rattle.model.specs.Octets.{Joined}
 use Rattle.model.specs.ResponseHeads.{Head, Framing, Interim, Final, head_of, framing_of}

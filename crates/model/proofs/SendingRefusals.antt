@@ -1,6 +1,6 @@
 -- Gateways that send what they shouldn't, or when they shouldn't: frames that no peer may have to read, octets given back that didn't
 -- come, what a frame brought held back until the next, acts before the event that causes them.
-use Rattle.std.proofs.Common.{◌≡◌, ℕ, ◌+◌, true, false, List, [], ◌∷◌, ◌++◌, length, length-append, refl, sym, ap, ◌∙◌, subst, inl, inr, arith}
+use Rattle.std.proofs.Common.{◌≡◌, ◌<◌, ℕ, ◌+◌, true, false, List, [], ◌∷◌, ◌++◌, length, length-append, append_assoc, refl, sym, ap, ◌∙◌, subst, inl, inr, arith}
 use Rattle.std.specs.Prelude.{pos, ◌≤ℤ◌, codes, replicate}
 use Rattle.std.proofs.lemmas.List.{append_cancel_left}
 use Rattle.model.specs.Tables.{total_size}
@@ -15,7 +15,7 @@ use Rattle.model.specs.Openings.{Opened, opens, sent_for}
 use Rattle.model.specs.Available.{IsIn}
 use Rattle.model.specs.ErrorClause.{ErrorsHold}
 use Rattle.model.specs.ResponseClause.{AreWithin}
-use Rattle.model.specs.ProgressClause.{HasBody, HasCome, AllStreamed}
+use Rattle.model.specs.ProgressClause.{HasBody, HasCome, KeptBack, AllStreamed}
 use Rattle.model.specs.WindowClause.{WindowsHold}
 use Rattle.model.specs.Headline.{ClausesHold, HoldsInTurn}
 use Rattle.model.proofs.Http1Readings.{one_head}
@@ -69,23 +69,43 @@ gives_too_much c = let clash : pos 66530 ≤ℤ pos 65535 = c.no_more.0 refl in 
 abbrev three_came : List Entry
 three_came = plain (frame 0 0 1 (codes "hel")) ∷ Did (ToUp 1 five_text) ∷ Did (Open 1 0) ∷ headed (frame 1 4 1 []) five ∷ begun
 
-head_alone : HasCome five_text (codes "hel") → ⊥
-head_alone h =
-    let same = one_head five_text h.head_text h.extra h.rest five_head h.head has_five_head h.has_head h.is in
-    let rest : h.extra ≡ h.rest = append_cancel_left h.head_text h.extra h.rest (ap (λ (x : List ℕ). x ++ h.extra) (sym same.0) ∙ h.is) in
-    let stands : HasBody (values_of (codes "content-length") five_head.fields) (values_of (codes "transfer-encoding") five_head.fields) h.rest (codes "hel") =
-    subst (λ (head : Head). HasBody (values_of (codes "content-length") head.fields) (values_of (codes "transfer-encoding") head.fields) h.rest (codes "hel")) (sym same.1) h.has_body in
-    let long : length h.rest ≡ 3 + length stands.rest = ap length stands.is ∙ length-append (codes "hel") stands.rest in
-    let same_length = ap length rest in
-    let one = h.one in
-    omega (arith, long, same_length, one)
+-- less than the whole body came: nothing is kept back
+none_kept : (extra came : List ℕ) → length came < 5 → KeptBack extra (codes "5" ∷ []) came → extra ≡ []
+none_kept [] came part k = refl
+none_kept (x ∷ []) came part k = let whole : length came ≡ 5 = k in absurd (omega (arith, whole, part))
+none_kept (x ∷ y ∷ more) came part k = absurd k
+
+lacks_some : (put came : List ℕ) → length put < length came → length came < 5 → HasCome (five_text ++ put) came → ⊥
+lacks_some put came less part h =
+    let whole : five_text ++ (put ++ h.extra) ≡ h.head_text ++ h.rest = sym (append_assoc five_text put h.extra) ∙ h.is in
+    let same = one_head five_text h.head_text (put ++ h.extra) h.rest five_head h.head has_five_head h.has_head whole in
+    let rest : put ++ h.extra ≡ h.rest = append_cancel_left h.head_text (put ++ h.extra) h.rest (ap (λ (x : List ℕ). x ++ (put ++ h.extra)) (sym same.0) ∙ whole) in
+    let stands : HasBody (values_of (codes "content-length") five_head.fields) (values_of (codes "transfer-encoding") five_head.fields) h.rest came =
+    subst (λ (head : Head). HasBody (values_of (codes "content-length") head.fields) (values_of (codes "transfer-encoding") head.fields) h.rest came) (sym same.1) h.has_body in
+    let kept : KeptBack h.extra (codes "5" ∷ []) came = subst (λ (head : Head). KeptBack h.extra (values_of (codes "content-length") head.fields) came) (sym same.1) h.kept_back in
+    let none : length h.extra ≡ 0 = ap length (none_kept h.extra came part kept) in
+    let long : length h.rest ≡ length came + length stands.rest = ap length stands.is ∙ length-append came stands.rest in
+    let same_length : length h.rest ≡ length put + length h.extra = ap length (sym rest) ∙ length-append put h.extra in
+    omega (arith, long, same_length, none, less)
 
 not_streamed : AllStreamed by_streaming three_came → ⊥
 unfolding total_size
 not_streamed all = let s = all refl 1 five refl refl refl in at s.o s.given.is_opened s.has_come
   where
     at : (o : Opened) → IsIn o (opens three_came) → (is_open o.k three_came ≡ true → HasCome (sent_for o three_came) (codes "hel")) → ⊥
-    at o (inl same) come = head_alone (subst (λ (p : Opened). is_open p.k three_came ≡ true → HasCome (sent_for p three_came) (codes "hel")) same come refl)
+    at o (inl same) come = lacks_some [] (codes "hel") (omega arith) (omega arith) (subst (λ (p : Opened). is_open p.k three_came ≡ true → HasCome (sent_for p three_came) (codes "hel")) same come refl)
+    at o (inr none) come = none
+
+-- One octet of the three is held back, and more is to come.
+abbrev two_put : List Entry
+two_put = Did (ToUp 1 (codes "he")) ∷ three_came
+
+pub one_held_back : AllStreamed by_streaming two_put → ⊥
+unfolding total_size
+one_held_back all = let s = all refl 1 five refl refl refl in at s.o s.given.is_opened s.has_come
+  where
+    at : (o : Opened) → IsIn o (opens two_put) → (is_open o.k two_put ≡ true → HasCome (sent_for o two_put) (codes "hel")) → ⊥
+    at o (inl same) come = lacks_some (codes "he") (codes "hel") (omega arith) (omega arith) (subst (λ (p : Opened). is_open p.k two_put ≡ true → HasCome (sent_for p two_put) (codes "hel")) same come refl)
     at o (inr none) come = none
 
 -- Two frames of DATA come in one piece, and what both bring is put out behind the second: octets would go back at once that nobody took.

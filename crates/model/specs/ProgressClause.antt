@@ -1,7 +1,8 @@
 -- The clause on progress: nothing is due that could go on, and upstream connections are closed where they are done with, and
 -- nowhere else.
-use Rattle.std.specs.Prelude.{◌≡◌, ℕ, ◌<◌, ◌≤◌, Bool, true, false, ◌&&◌, ◌==◌, if◌then◌else◌, List, [], ◌∷◌, ◌++◌, length, Some, codes, not}
+use Rattle.std.specs.Prelude.{◌≡◌, ℕ, ◌<◌, Bool, true, false, ◌&&◌, ◌==◌, if◌then◌else◌, List, [], ◌∷◌, ◌++◌, length, Some, codes, not}
 use Rattle.std.specs.List.{list_any, concat}
+use Rattle.std.specs.Str.Parse.{digits_value}
 use Rattle.model.specs.Octets.{IsFront, lower, Joined}
 use Rattle.model.specs.Messages.{Field, Request, ends_with}
 use Rattle.model.specs.Http1.{H1Head, Head, Chunk, Chunked, H1Requests, values_of, forward}
@@ -69,15 +70,21 @@ HasBody (digits ∷ []) [] rest octets = IsFront octets rest
 HasBody [] (coding ∷ []) rest octets = (lower coding ≡ codes "chunked") × HasChunks rest octets
 HasBody _ _ rest octets = ⊥
 
--- The text, with at most one octet more, is a whole head and a beginning of a body with these octets.
+-- What is kept back of a text: nothing, or one octet where as many octets of a body came as the head declares (RFC 9112, section 6.2).
+abbrev pub KeptBack : List ℕ → List (List ℕ) → List ℕ → Type 0
+KeptBack [] lengths octets = Unit {0}
+KeptBack (_ ∷ []) (digits ∷ []) octets = length octets ≡ digits_value 10 digits
+KeptBack _ _ _ = ⊥
+
+-- The text, with what is kept back of it, is a whole head and a beginning of a body with these octets.
 pub record HasCome (text octets : List ℕ) : Type 0 where
   pub extra : List ℕ
-  pub one : length extra ≤ 1
   pub head : Head
   pub head_text : List ℕ
   pub rest : List ℕ
   pub is : text ++ extra ≡ head_text ++ rest
   pub has_head : H1Head head_text head
+  pub kept_back : KeptBack extra (values_of (codes "content-length") head.fields) octets
   pub has_body : HasBody (values_of (codes "content-length") head.fields) (values_of (codes "transfer-encoding") head.fields) rest octets
 
 -- A connection was given to the stream and, while it is open, all octets of the body have come to it.

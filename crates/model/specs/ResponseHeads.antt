@@ -74,10 +74,15 @@ abbrev pub without_framing : ℕ → List Field → List Field
 without_framing status fields =
     if never_has_body status then without (codes "content-length" ∷ codes "transfer-encoding" ∷ []) fields else with_one (codes "content-length") fields
 
+-- The names of fields that are a connection's, and in no response: those that aren't in a request either, and te, which may be (RFC
+-- 9113, section 8.2.2).
+abbrev pub names_of_connection : List (List ℕ)
+names_of_connection = codes "te" ∷ connection_names
+
 -- The fields that are passed back: all but those of the connection, and those that Connection names (RFC 9110, section
 -- 7.6.1).
 abbrev pub passed : List Field → List Field → List Field
-passed all fields = without (connection_names ++ named_by_connection all) fields
+passed all fields = without (names_of_connection ++ named_by_connection all) fields
 
 -- what a head says, as it is passed back
 abbrev pub head_of : grammar.ResponseHead → Head

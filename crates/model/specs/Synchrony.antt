@@ -1,7 +1,7 @@
 -- Tables kept in step, and fair turns: what holds besides the headline, which an encoder that never inserts keeps too.
-use Rattle.std.specs.Prelude.{◌≡◌, ℕ, suc, ◌<◌, ◌≤◌, ◌&&◌, ◌||◌, ◌==◌, ◌⊎◌, if◌then◌else◌, List, [], ◌∷◌, ◌++◌, Option, Some, None}
+use Rattle.std.specs.Prelude.{◌≡◌, ℕ, suc, ◌<◌, ◌≤◌, Bool, true, ◌&&◌, ◌||◌, ◌==◌, ◌⊎◌, if◌then◌else◌, List, [], ◌∷◌, ◌++◌, Option, Some, None}
 use Rattle.model.specs.Messages.{Field}
-use Rattle.model.specs.Frames.{data_kind, headers_kind}
+use Rattle.model.specs.Frames.{Frame, data_kind, headers_kind}
 use Rattle.model.specs.Tables.{Table, field_size, look_up}
 use Rattle.model.specs.Blocks.{IsIndexed, IsInserted, IsNotInserted, AreMaxima, AreFields}
 use Rattle.model.specs.Maxima.{Maxima}
@@ -83,22 +83,26 @@ EachInStep policy (_ ∷ t) = EachInStep policy t
 
 -- ---- turns
 
--- the frames that begin a part of a response of a stream
+-- the frame begins a part of a response: its stream has a turn
+abbrev pub begins_part : Frame → Bool
+begins_part frame = frame.kind == data_kind || frame.kind == headers_kind
+
+-- the turns of a stream
 abbrev pub turns_on : ℕ → List Entry → ℕ
 turns_on stream [] = 0
-turns_on stream (Sent noted ∷ t) =
-    if (noted.frame.kind == data_kind || noted.frame.kind == headers_kind) && noted.frame.id == stream then suc (turns_on stream t) else turns_on stream t
+turns_on stream (Sent noted ∷ t) = if begins_part noted.frame && noted.frame.id == stream then suc (turns_on stream t) else turns_on stream t
 turns_on stream (_ ∷ t) = turns_on stream t
 
--- The stream is ready before each entry of a stretch of the tape that stands behind this one.
-abbrev pub StaysReady : Known → ℕ → List Entry → List Entry → Type 0
-StaysReady known stream before [] = Unit {0}
-StaysReady known stream before (e ∷ stretch) = IsReady known (stretch ++ before) stream × StaysReady known stream before stretch
+-- The stream is ready before each turn, of whichever stream, in a stretch of the tape that stands behind this one.
+abbrev pub IsReadyAtEach : Known → ℕ → List Entry → List Entry → Type 0
+IsReadyAtEach known stream before [] = Unit {0}
+IsReadyAtEach known stream before (Sent noted ∷ stretch) = (begins_part noted.frame ≡ true → IsReady known (stretch ++ before) stream) × IsReadyAtEach known stream before stretch
+IsReadyAtEach known stream before (_ ∷ stretch) = IsReadyAtEach known stream before stretch
 
--- While a stream stays ready and has no turn, no other has two.
+-- While a stream is ready at each turn and has none, no other has two.
 abbrev pub AreFair : Known → List Entry → Type 0
 AreFair known t =
-    (later stretch before : List Entry) → t ≡ later ++ stretch ++ before → (waits other : ℕ) → StaysReady known waits before stretch → turns_on waits stretch ≡ 0 → turns_on other stretch ≤ 1
+    (later stretch before : List Entry) → t ≡ later ++ stretch ++ before → (waits other : ℕ) → IsReadyAtEach known waits before stretch → turns_on waits stretch ≡ 0 → turns_on other stretch ≤ 1
 
 -- These are the tables of both directions behind the tape, as the other side has them: that of the blocks that were sent, and
 -- that of all that came, refused, reset and discarded ones too. Blocks are written as the policy says, and turns are fair.

@@ -1,14 +1,13 @@
 //! Laws of what the clauses of the headline speak of.
 
 ghost use Rattle.std.specs.Prelude.{◌≡◌, ℕ, ◌≤◌, Bool, List, length, false, true, Some, slice_get};
-ghost use Rattle.std.specs.List.{list_any};
 ghost use Rattle.model.specs.Messages.{Item, Field};
 ghost use Rattle.model.specs.Deliveries.{Delivery, ReadsAs};
 ghost use Rattle.model.specs.Openings.{Opened, opens, AreNumbered, AreApart};
 ghost use Rattle.model.specs.Available.{IsIn, IsShown};
 ghost use Rattle.model.specs.Http2.{WellFormedHead, WellFormedTrailers, authority_of, path_of};
 ghost use Rattle.model.specs.Malformed.{is_well_formed, are_trailers};
-ghost use Rattle.model.specs.Setup.{Setup, Passing, Route, Matches, IsFirstMatch};
+ghost use Rattle.model.specs.Setup.{Passing, Route, Matches, IsFirstMatch};
 ghost use Rattle.model.specs.Causes.{is_routed};
 ghost use Rattle.model.specs.Tapes.{Noted, Entry, came};
 ghost use Rattle.model.specs.Decoding.{completed};

@@ -1,6 +1,6 @@
 //! Laws of what looks at one payload, one stream, one window or the turns (RFC 9113, sections 5 and 6).
 
-ghost use Rattle.std.specs.Prelude.{◌≡◌, ◌≢◌, map, ◌<◌, ◌≤◌, ℕ, ◌+◌, ◌∷◌, ◌++◌, pos, ◌+ℤ◌, ◌-ℤ◌, List, Option, None, Some};
+ghost use Rattle.std.specs.Prelude.{◌≡◌, ◌≢◌, map, ◌<◌, ◌≤◌, ℕ, ◌+◌, ◌∷◌, ◌++◌, pos, ◌+ℤ◌, ◌-ℤ◌, List, Option, None};
 ghost use Rattle.model.specs.Frames.{Frame, setting};
 ghost use Rattle.model.specs.Payloads.{payload_fault, IsPadded};
 ghost use Rattle.model.specs.SettingValues.{Setting, settings_in, initial_window_after};

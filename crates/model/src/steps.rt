@@ -1,6 +1,6 @@
 //! What an entry more changes of what a tape leaves (RFC 9113, sections 5.1 and 5.4).
 
-ghost use Rattle.std.specs.Prelude.{◌≡◌, ℕ, Bool, true, false, ◌==◌, List, []};
+ghost use Rattle.std.specs.Prelude.{◌≡◌, ℕ, true, false, ◌==◌, List, []};
 ghost use Rattle.std.specs.List.{list_any};
 ghost use Rattle.model.specs.Logs.{Act};
 ghost use Rattle.model.specs.Tapes.{Noted, Entry};

@@ -7,7 +7,7 @@ use Rattle.std.proofs.lemmas.List.{length-reverse, length-map}
 use Rattle.std.proofs.lemmas.List.Sums.{sum_by-cons}
 use Rattle.std.proofs.lemmas.List.Elements.{All-cons, All-nil}
 use Rattle.httparse.specs.Grammar as grammar
-use Rattle.httparse.specs.Grammar.{skip_ows, trim_ows, is_ows, print_field, print_section, print_end, print_response}
+use Rattle.httparse.specs.Grammar.{skip_ows, trim_ows, is_ows, print_field, print_end, print_response}
 use Rattle.model.specs.Messages.{Field}
 use Rattle.model.specs.Http1.{without}
 use Rattle.model.specs.Octets.{Joined}

@@ -1,5 +1,5 @@
 -- Octets of a body of which some were sent.
-use Rattle.std.proofs.Common.{◌≡◌, ℕ, zero, suc, ◌+◌, ◌-◌, ◌<◌, ◌≤◌, Bool, true, false, ◌&&◌, List, [], ◌∷◌, take, drop, length, Option, Some, refl, sym, ◌∙◌, ap, subst, arith, length-drop, drop-drop}
+use Rattle.std.proofs.Common.{◌≡◌, ℕ, zero, suc, ◌<◌, Bool, true, false, ◌&&◌, List, [], ◌∷◌, take, drop, length, Option, Some, refl, sym, ◌∙◌, ap, subst, arith}
 use lib.Seq.{length-take-le, take-nil}
 use Rattle.model.specs.Octets.{is_empty}
 use Rattle.model.specs.ResponseHeads.{Head}

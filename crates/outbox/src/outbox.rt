@@ -1,6 +1,6 @@
 //! The outbox of a stream.
 
-ghost use Rattle.std.specs.Prelude.{◌≡◌, ◌<◌, ◌≤◌, ◌-◌, ◌&&◌, [], ◌∷◌, ◌++◌, true, false, None, Some, option_map, length, drop, MatchOption, IfNone, OnOk, OnErr};
+ghost use Rattle.std.specs.Prelude.{◌≡◌, ◌<◌, ◌-◌, ◌&&◌, [], ◌∷◌, true, false, None, Some, option_map, length, MatchOption, IfNone, OnOk, OnErr};
 ghost use Rattle.model.specs.Octets.{is_empty};
 ghost use Rattle.offering.specs.Outbox.{silent, grown, can_go, part_of, left, rest_of};
 ghost use Rattle.offering.specs.Outbox as rule;

@@ -14,9 +14,8 @@ use Rattle.conduct.specs.Summary.{Summary}
 use Rattle.conduct.specs.Judging.{completed_in}
 use Rattle.offering.specs.Sight.{sight_in}
 use Rattle.receiving.specs.Rule as windows
-use Rattle.receiving.specs.Rule.{is_over_by}
 use Rattle.tables.specs.Rule.{IsGiven}
-use Rattle.tables.specs.Turns.{begins_part}
+use Rattle.model.specs.Synchrony.{begins_part}
 use Rattle.policy.specs.Moves.{Deed, given_or_sent}
 use Rattle.policy.specs.Moves.Deed.{Sends}
 use Rattle.policy.specs.State.{State, gates_in}

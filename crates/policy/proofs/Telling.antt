@@ -20,7 +20,6 @@ use Rattle.conduct.proofs.Seen.{end_seen}
 use Rattle.offering.specs.Sight.{IsRightOf, sight_in}
 use Rattle.offering.proofs.Sights.{right_by_summary, right_by_book}
 use Rattle.serving.specs.Told as serving
-use Rattle.serving.specs.Told.{is_served}
 use Rattle.serving.proofs.Sources.{served_by_parts}
 use Rattle.tables.specs.Kept.{IsJudged}
 use Rattle.tables.specs.Verdicts.{verdict_in}

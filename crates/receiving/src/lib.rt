@@ -13,7 +13,7 @@
 //! state of both.
 #![tactic(auto)]
 
-ghost use Rattle.std.specs.Prelude.{◌≡◌, ◌≢◌, ◌+◌, ◌≤◌, ℕ, Bool, true, List, length, sum_by, pos, ◌-ℤ◌};
+ghost use Rattle.std.specs.Prelude.{◌≡◌, ◌≢◌, ◌+◌, ℕ, true, List, length, sum_by, pos, ◌-ℤ◌};
 ghost use Rattle.model.specs.Setup.{Passing};
 ghost use Rattle.model.specs.Logs.{Event};
 ghost use Rattle.model.specs.Tapes.{Entry, sent};

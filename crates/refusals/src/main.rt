@@ -1,8 +1,8 @@
 //! Gateways to which a growth of memory is refused: `refusals FILE`.
 //!
-//! The file has a line with a number and with how bodies are passed on, `whole` or `streaming`, and scripts of `h2replay`, each behind an empty line. Each goes
-//! through two gateways at once, under either policy, and both put out the same at each event, until a growth is refused to one of them: that step says so
-//! and puts out nothing, and its gateway is closed from then on.
+//! The file has a line with a number and with how bodies are passed on, `whole` or `streaming`, and scripts of `h2replay`, each behind an empty line. A script's
+//! first line may be `route AUTHORITY`: then the route is for that authority, else for any. Each goes through two gateways at once, under either policy, and both
+//! put out the same at each event, until a growth is refused to one of them: that step says so and puts out nothing, and its gateway is closed from then on.
 //!
 //! As many growths as the number says are made first. `.ci/refusals` has one growth refused, always that of the same number, and reaches each
 //! growth of a gateway by how many are made before it.
@@ -81,26 +81,42 @@ fn go_through(alloc: Global, text: &str, passing: Passing) -> Result<Met, AllocE
     Ok(Met::Nothing)
 }
 
+/// The authority that the route is for by a script's first line, if that says one, and the lines of its events.
+fn split_route(script: &str) -> (&str, &str) {
+    script
+        .strip_prefix("route ")
+        .and_then(|rest| rest.split_once('\n'))
+        .unwrap_or(("", script))
+}
+
 /// What is met in a script, under one policy and then under the other.
 fn met_in(alloc: Global, script: &str, passing: Passing) -> Result<Met, AllocError> {
-    let events = match read_script(alloc, script) {
+    let (authority, lines) = split_route(script);
+    let events = match read_script(alloc, lines) {
         Ok(events) => events,
         Err(ScriptFault::Memory) => return Err(AllocError),
         Err(ScriptFault::NotALine(_)) => return Ok(Met::Difference),
     };
-    let met = met_by(alloc, &config(alloc, Policy::Plain, passing)?, &events);
+    let plain = config(alloc, authority, Policy::Plain, passing)?;
+    let met = met_by(alloc, &plain, &events);
     if met != Met::Nothing {
         return Ok(met);
     }
-    Ok(met_by(alloc, &config(alloc, Policy::Indexing, passing)?, &events))
+    let indexing = config(alloc, authority, Policy::Indexing, passing)?;
+    Ok(met_by(alloc, &indexing, &events))
 }
 
-/// The default configuration, but for how blocks are written and bodies passed on: all requests go to one upstream.
-fn config(alloc: Global, policy: Policy, passing: Passing) -> Result<Config, AllocError>
+/// The default configuration, but for how blocks are written and bodies passed on, with one route: for an authority, or for any if that is empty.
+fn config(
+    alloc: Global,
+    authority: &str,
+    policy: Policy,
+    passing: Passing,
+) -> Result<Config, AllocError>
     ensures { IfOk result (λ config. IsServable (setup_of config)) }
 {
     let route = Route {
-        authority: Vec::new(alloc),
+        authority: Vec::from_slice(alloc, authority.as_bytes())?,
         prefix: Vec::from_slice(alloc, b"/")?,
         upstream: String::new(alloc),
     };

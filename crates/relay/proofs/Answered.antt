@@ -3,7 +3,7 @@ use Rattle.std.proofs.Common.{◌≡◌, ℕ, ◌<◌, ◌≤◌, ◌%◌, Bool,
 use Rattle.std.proofs.lemmas.Bool.{eq-eqb, eqb-true, eqb-false, and_parts, ltb-true, lt-ltb}
 use Rattle.std.specs.Prelude.{is_some}
 use Rattle.std.specs.List.{list_any, list_all}
-use Rattle.model.specs.Messages.{Field, Item}
+use Rattle.model.specs.Messages.{Field}
 use Rattle.model.specs.Messages.Item.{Block, Content}
 use Rattle.model.specs.Frames.{Frame, data_kind, headers_kind, continuation_kind, rst_stream_kind, settings_kind, ping_kind, window_update_kind, has_flag, is_ack, content, ends_stream, protocol_error, settings_ack}
 use Rattle.model.specs.Setup.{Setup}

@@ -4,7 +4,7 @@ use Rattle.std.proofs.lemmas.Bool.{eqb-true}
 use Rattle.std.specs.Prelude.{is_none}
 use Rattle.std.specs.List.{list_any}
 use Rattle.model.specs.Setup.{Setup}
-use Rattle.model.specs.Tapes.{Noted, Entry}
+use Rattle.model.specs.Tapes.{Noted}
 use Rattle.model.specs.Tapes.Entry.{Came}
 use Rattle.model.specs.Lifetimes.{opens_by}
 use Rattle.model.specs.Errors.{Fault, or_else, first_of}

@@ -1,6 +1,6 @@
 -- What a frame of the client gains its stream's request, by the answer that the judgement gave.
 use Rattle.std.specs.Prelude.{◌≡◌, ℕ, Bool, true, false, List, [], None}
-use Rattle.model.specs.Messages.{Field, Item}
+use Rattle.model.specs.Messages.{Field}
 use Rattle.model.specs.Messages.Item.{Block, Content}
 use Rattle.model.specs.Setup.{Setup}
 use Rattle.model.specs.Tapes.{Noted}

@@ -1,6 +1,6 @@
 //! The first rule that is broken.
 
-ghost use Rattle.std.specs.Prelude.{◌≡◌, ℕ, true, false, [], MatchBool, MatchOption, take, IfOk, OnOk, IfErr, OnErr};
+ghost use Rattle.std.specs.Prelude.{◌≡◌, true, false, [], MatchBool, MatchOption, take, IfOk, OnOk, IfErr, OnErr};
 ghost use Rattle.model.specs.Http2.{LengthFieldHolds, HasLength, declared_length, is_connect, WellFormedHead, WellFormedTrailers};
 ghost use Rattle.model.specs.Malformed.{carried_by, is_malformed_block, are_trailers};
 ghost use Rattle.request_rules.specs.Heads.{parts_of, IsRequestHead};

@@ -1,10 +1,10 @@
 //! What a list of fields says of names and values.
 
-ghost use Rattle.std.specs.Prelude.{◌≡◌, ◌≤◌, ℕ, length, not, true, false, ◌&&◌, ◌||◌, ◌++◌, [], codes, bytes_eq, nat_le, count_by, MatchBool};
+ghost use Rattle.std.specs.Prelude.{◌≡◌, length, not, true, false, ◌&&◌, ◌||◌, ◌++◌, [], codes, bytes_eq, nat_le, count_by, MatchBool};
 ghost use Rattle.std.specs.List.{list_all, list_any};
 ghost use Rattle.model.specs.Octets.{some_of, is_value, is_digit, lower};
-ghost use Rattle.model.specs.Http1.{values_of, without};
-ghost use Rattle.model.specs.Http2.{first_of, is_pseudo, pseudo_fields, regular_fields, is_path_for, known_names, is_connect, method_of, is_name_octet, connection_names, NamesHold, ValuesHold, HasNoConnectionField, TeHolds, SchemeHolds};
+ghost use Rattle.model.specs.Http1.{values_of};
+ghost use Rattle.model.specs.Http2.{first_of, is_pseudo, pseudo_fields, regular_fields, is_path_for, known_names, is_name_octet, connection_names};
 ghost use Rattle.request_rules.specs.Ordinary.{judged_names, is_ordinary, EndsOrdinary, IsShortest};
 
 use crate::octets;

@@ -1,11 +1,11 @@
 //! What a checked head says.
 
-ghost use Rattle.std.specs.Prelude.{◌≡◌, ◌≤◌, ◌<◌, ℕ, not, false, true, [], ◌∷◌, ◌++◌, ◌&&◌, IfOk, OnOk, codes, bytes_eq, length, take, drop, filter, get_or, MatchBool};
+ghost use Rattle.std.specs.Prelude.{◌≡◌, ◌≤◌, ◌<◌, not, true, [], ◌∷◌, ◌++◌, ◌&&◌, IfOk, OnOk, codes, bytes_eq, length, take, filter, get_or};
 ghost use Rattle.std.specs.List.{list_all, list_any};
 ghost use Rattle.model.specs.Messages.{Field as Meaning};
 ghost use Rattle.model.specs.Octets.{is_empty};
 ghost use Rattle.model.specs.Http1.{values_of};
-ghost use Rattle.model.specs.Http2.{is_pseudo, is_cookie, is_empty_cookie, fields_of, joined_by, LengthFieldHolds};
+ghost use Rattle.model.specs.Http2.{is_pseudo, is_empty_cookie, fields_of, joined_by, LengthFieldHolds};
 ghost use Rattle.request_rules.specs.Heads.{parts_of};
 ghost use Rattle.request_rules.specs.Sent.{is_sent, is_full_cookie, is_plain};
 

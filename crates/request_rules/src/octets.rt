@@ -1,7 +1,7 @@
 //! Octets and texts: tokens, values, paths and authorities. Tests of all octets of a text don't stop early, so that many
 //! octets are tested at once.
 
-ghost use Rattle.std.specs.Prelude.{◌≡◌, ◌≤◌, ℕ, true, length, bytes_eq};
+ghost use Rattle.std.specs.Prelude.{◌≡◌, ◌≤◌, true, length, bytes_eq};
 ghost use Rattle.std.specs.Str.Parse.{digits_value};
 ghost use Rattle.std.specs.List.{list_all};
 ghost use Rattle.model.specs.Octets.{begins_with, some_of, is_digit, is_token_octet, is_visible, is_space, is_value_octet, is_value, begins_with_space, ends_with_space, lower};

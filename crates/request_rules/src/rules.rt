@@ -1,8 +1,8 @@
 //! The rules of a head, each as a test.
 
-ghost use Rattle.std.specs.Prelude.{◌≡◌, ◌≤◌, ℕ, [], true, false, MatchBool, if◌then◌else◌, length, codes, bytes_eq};
+ghost use Rattle.std.specs.Prelude.{◌≡◌, ◌≤◌, [], true, false, MatchBool, if◌then◌else◌, length, codes};
 ghost use Rattle.model.specs.Http1.{values_of};
-ghost use Rattle.model.specs.Http2.{pseudo_fields, first_of, is_connect, authority_of, authorities_of, method_of, PseudoFieldsHold, NamesHold, ValuesHold, HasNoConnectionField, TeHolds, MethodHolds, SchemeHolds, PathHolds, AuthorityHolds, LengthFieldHolds, Has};
+ghost use Rattle.model.specs.Http2.{pseudo_fields, is_connect, authority_of, PseudoFieldsHold, NamesHold, ValuesHold, HasNoConnectionField, TeHolds, MethodHolds, SchemeHolds, PathHolds, AuthorityHolds, LengthFieldHolds, Has};
 
 use crate::{fields, octets};
 use hpack_table::Field;

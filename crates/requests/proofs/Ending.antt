@@ -1,6 +1,6 @@
 -- A body of the right length may be pushed in one piece, and then the text may be ended.
 use Rattle.std.proofs.Common.{◌≡◌, ℕ, ◌+◌, ◌<◌, ◌≤◌, Bool, true, false, List, [], ◌∷◌, ◌++◌, length, take, drop, Option, Some, refl, sym, ◌∙◌, ap, subst, arith, append_assoc, append-nil, length-append}
-use Rattle.std.proofs.lemmas.List.{take-append-drop, take-append-le, drop-append-le}
+use Rattle.std.proofs.lemmas.List.{take-append-drop, take-append-le, drop-append-le, take_all, drop_all}
 use Rattle.std.specs.List.{concat}
 use Rattle.model.specs.Http2.{HasLength}
 use Rattle.request_rules.specs.Heads.{HeadParts}
@@ -85,6 +85,14 @@ module _ (route start : ℕ) (sender : Stage) (items octets : List ℕ) where
     is = is ∙ ap (λ (os : List ℕ). os ++ octets) (sym (take-append-drop start items)) ∙ append_assoc (take start items) (drop start items) octets;
     continues = ends_counted m.parts (take start items) sender (drop start items ++ octets) m.sending m.goes_on not_yet m.has_length;
   }) may
+
+  -- it is written where it stands, since nothing of its body came before
+  pub ends_at_once : (request : Request) (text : List ℕ) → kept ≡ request → length items ≤ start → IsEndedText items sender octets text → IsEnded request octets text
+  ends_at_once request text view all ended = subst (λ (r : Request). IsEnded r octets text) view (record {
+    written = ended.0;
+    is = ended.1 ∙ ap (λ (os : List ℕ). os ++ ended.0) (sym (take_all start items all));
+    continues = subst (λ (os : List ℕ). Continues sender ended.0 (os ++ octets) Whole) (sym (drop_all start items all)) ended.2;
+  })
 
   -- it may end behind the octets
   pub may_end : (request : Request) (head body : List ℕ) → kept ≡ request → start ≤ length items → head ≡ take start (items ++ octets) → body ≡ drop start (items ++ octets) → MayEnd request octets → Ends sender head body

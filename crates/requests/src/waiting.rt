@@ -87,15 +87,21 @@ pub fn begin(
     }))
 }
 
-/// The whole text of a request whose text may be ended where nothing of the body was sent: that of the head, and the body in one piece.
-fn end_text(
-    alloc: Global,
-    mut sender: Sender,
-    head: &[u8],
-    body: &[u8],
-) -> Result<Vec<u8>, AllocError>
-    requires { Ends sender head.now body.now }
-    ensures { IfOk result (λ text. IsEndedText head.now sender body.now text.items) }
+/// The whole text of a request whose head is this text, and which may be ended, where nothing of the body was sent: its head, and the body in one piece.
+fn end_text(mut sender: Sender, head: Vec<u8>, body: &[u8]) -> Result<Vec<u8>, AllocError>
+    requires { Ends sender head.items body.now }
+    ensures { IfOk result (λ text. IsEndedText head.items sender body.now text.items) }
+{
+    let mut text = head;
+    text.reserve(body.len().saturating_add(CHUNK_ROOM))?;
+    sender.push(body, &mut text)?;
+    sender.finish(&mut text)?;
+    Ok(text)
+}
+
+/// The head's text alone, of a text with a body that waits behind it, with room for that.
+fn copy_head(alloc: Global, head: &[u8], body: &[u8]) -> Result<Vec<u8>, AllocError>
+    ensures { IfOk result (λ text. text.items ≡ head.now) }
 {
     let room = head
         .len()
@@ -103,8 +109,6 @@ fn end_text(
         .saturating_add(CHUNK_ROOM);
     let mut text = Vec::with_capacity(alloc, room)?;
     text.extend_from_slice(head)?;
-    sender.push(body, &mut text)?;
-    sender.finish(&mut text)?;
     Ok(text)
 }
 
@@ -153,12 +157,17 @@ impl Waiting {
             start,
             ..
         } = self;
-        text.extend_from_slice(octets)?;
         if !sender.may_finish() {
             // Its length was declared.
+            text.extend_from_slice(octets)?;
             return Ok(text);
         }
+        if text.len() == start {
+            // The body came in one frame.
+            return end_text(sender, text, octets);
+        }
+        text.extend_from_slice(octets)?;
         let (head, body) = text.split_at(start);
-        end_text(*text.allocator(), sender, head, body)
+        end_text(sender, copy_head(*text.allocator(), head, body)?, body)
     }
 }

@@ -43,8 +43,8 @@ fn config(alloc: Global, passing: Passing) -> Result<Config, AllocError>
     })
 }
 
-/// The client's octets.
-fn octets(alloc: Global, octets: &[u8]) -> Result<Event, AllocError> {
+/// These octets of the client.
+fn client(alloc: Global, octets: &[u8]) -> Result<Event, AllocError> {
     Ok(Event::Client(Vec::from_slice(alloc, octets)?))
 }
 
@@ -90,7 +90,7 @@ fn a_configuration_bounds_what_is_held(rt: HostRuntime) -> Result<(), Fail> {
 
 /// The rooms that a gateway lists to which these octets came first.
 fn listed_behind(alloc: Global, first: &[u8]) -> Result<Vec<(u32, usize)>, Fail> {
-    let first = octets(alloc, first)?;
+    let first = client(alloc, first)?;
     let (gateway, _out) = begun(alloc, &first)?;
     Ok(rooms_of(alloc, &gateway)?)
 }
@@ -105,7 +105,7 @@ fn open_connections_are_listed(rt: HostRuntime) -> Result<(), Fail> {
 
 #[test]
 fn open_connections_have_room(rt: HostRuntime) -> Result<(), Fail> {
-    let request = octets(rt.alloc(), FIRST_REQUEST)?;
+    let request = client(rt.alloc(), FIRST_REQUEST)?;
     let (gateway, _out) = begun(rt.alloc(), &request)?;
     assert_eq!(rt; gateway.room(1), 65536);
     assert_eq!(rt; gateway.room(2), 0);
@@ -114,7 +114,7 @@ fn open_connections_have_room(rt: HostRuntime) -> Result<(), Fail> {
 
 #[test]
 fn rooms_are_brought_up_to_date(rt: HostRuntime) -> Result<(), Fail> {
-    let request = octets(rt.alloc(), FIRST_REQUEST)?;
+    let request = client(rt.alloc(), FIRST_REQUEST)?;
     let (gateway, out) = begun(rt.alloc(), &request)?;
     let mut rooms = Vec::new(rt.alloc());
     gateway.update_rooms(&request, &out, &mut rooms)?;
@@ -125,7 +125,7 @@ fn rooms_are_brought_up_to_date(rt: HostRuntime) -> Result<(), Fail> {
 /// A request, its response, and the client's end.
 fn exchange(alloc: Global) -> Result<Vec<Event>, AllocError> {
     let mut events = Vec::new(alloc);
-    events.push(octets(alloc, FIRST_REQUEST)?)?;
+    events.push(client(alloc, FIRST_REQUEST)?)?;
     events.push(Event::UpTook(1, 75))?;
     events.push(answer(alloc, RESPONSE)?)?;
     events.push(Event::ClientEnd)?;
@@ -181,7 +181,7 @@ fn a_run_names_the_first_event_that_may_not_come(rt: HostRuntime) -> Result<(), 
 fn waiting(alloc: Global, count: usize) -> Result<Vec<Event>, AllocError> {
     let more = vec![in alloc; 0; count]?;
     let mut events = Vec::new(alloc);
-    events.push(octets(alloc, WITHOUT_WINDOW)?)?;
+    events.push(client(alloc, WITHOUT_WINDOW)?)?;
     events.push(answer(alloc, FRONT)?)?;
     events.push(answer(alloc, &more)?)?;
     Ok(events)

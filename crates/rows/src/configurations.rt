@@ -33,6 +33,18 @@ pub(crate) fn config(routes: Vec<Route>, policy: Policy, passing: Passing) -> Co
     }
 }
 
+/// The default configuration but for how blocks are written and bodies passed on: one route for all requests.
+pub(crate) fn one_route(
+    alloc: Global,
+    policy: Policy,
+    passing: Passing,
+) -> Result<Config, AllocError>
+    ensures { IfOk result (λ config. IsServable (setup_of config)) }
+{
+    let routes = vec![in alloc; route(alloc, "", "/")?]?;
+    Ok(config(routes, policy, passing))
+}
+
 /// One route, for the authority `a.example`.
 pub(crate) fn one_authority(alloc: Global) -> Result<Config, AllocError>
     ensures { IfOk result (λ config. IsServable (setup_of config)) }
@@ -225,8 +237,6 @@ fn other_configurations(rt: HostRuntime) -> Result<(), Fail> {
     assert_rows_run(&rt, alloc, &one_authority(alloc)?, &ONE_AUTHORITY)?;
     assert_rows_run(&rt, alloc, &three_routes(alloc)?, &THREE_ROUTES)?;
     assert_rows_run(&rt, alloc, &small(alloc)?, &SMALL)?;
-    let routes = vec![in alloc; route(alloc, "", "/")?]?;
-    let indexing = config(routes, Policy::Indexing, Passing::Whole);
-    assert_rows_run(&rt, alloc, &indexing, &INDEXING)?;
-    Ok(())
+    let indexing = one_route(alloc, Policy::Indexing, Passing::Whole)?;
+    assert_rows_run(&rt, alloc, &indexing, &INDEXING)
 }

@@ -1,10 +1,10 @@
 //! The transcripts once more, cut: octet by octet, by a client that goes away, and by upstreams that end or fail.
 
-ghost use Rattle.std.specs.Prelude.{◌<◌, IfOk};
+ghost use Rattle.std.specs.Prelude.{◌<◌};
 ghost use Rattle.gateway.specs.Setups.{setup_of, IsServable};
 
 use crate::configurations::{
-    INDEXING, ONE_AUTHORITY, SMALL, THREE_ROUTES, config, one_authority, route, small, three_routes,
+    INDEXING, ONE_AUTHORITY, SMALL, THREE_ROUTES, one_authority, one_route, small, three_routes,
 };
 use crate::connections::{ENDED, GOES_ON};
 use crate::many_streams::{
@@ -13,7 +13,7 @@ use crate::many_streams::{
 };
 use crate::request_transcripts::{ANSWERED, MALFORMED, PASSED_ON};
 use crate::responses::{BROKEN, PASSED_BACK};
-use crate::streaming::{INDEXED_AS_IT_COMES, PASSED_AS_IT_COMES, UNTAKEN, streaming};
+use crate::streaming::{INDEXED_AS_IT_COMES, PASSED_AS_IT_COMES, UNTAKEN};
 use crate::transcripts::{Row, Transcript, assert_prints};
 use crate::windows::{IN_TURN, WAITING};
 use gateway::{Config, Event, Passing, Policy};
@@ -24,14 +24,6 @@ use std::test::*;
 mod ends_of_clients;
 mod ends_of_upstreams;
 mod octets;
-
-/// The default configuration, but for how blocks are written.
-fn config_of(alloc: Global, policy: Policy) -> Result<Config, AllocError>
-    ensures { IfOk result (λ config. IsServable (setup_of config)) }
-{
-    let routes = vec![in alloc; route(alloc, "", "/")?]?;
-    Ok(config(routes, policy, Passing::Whole))
-}
 
 /// The events of a script.
 fn events_of(alloc: Global, script: &str) -> Result<Vec<Event>, Fail> {

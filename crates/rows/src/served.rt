@@ -57,7 +57,7 @@ struct Quiet {
 }
 
 impl World for Quiet {
-    ghost use Rattle.std.specs.Prelude.{None, ℕ};
+    ghost use Rattle.std.specs.Prelude.{None};
 
     ghost calls = { λ world. world.turn };
 

@@ -1,23 +1,14 @@
 //! Bodies that are passed on as they come.
 
-ghost use Rattle.std.specs.Prelude.{IfOk};
 ghost use Rattle.gateway.specs.Setups.{setup_of, IsServable};
 
-use crate::configurations::{assert_runs, config, route};
+use crate::configurations::{assert_runs, one_route};
 use crate::transcripts::{REQUEST, Row, START, Transcript};
 use crate::windows::{IN_TURN, WAITING};
 use gateway::{Config, Passing, Policy};
-use std::alloc::{AllocError, Global};
+use std::alloc::Global;
 use std::process::Abort;
 use std::test::*;
-
-/// The default configuration, but that bodies are passed on as they come, and for how blocks are written.
-pub(crate) fn streaming(alloc: Global, policy: Policy) -> Result<Config, AllocError>
-    ensures { IfOk result (λ config. IsServable (setup_of config)) }
-{
-    let routes = vec![in alloc; route(alloc, "", "/")?]?;
-    Ok(config(routes, policy, Passing::Streaming))
-}
 
 /// A run of a row prints what it says, and so does that of each front of it that ends with an event.
 fn assert_row_runs(rt: &impl Abort, alloc: Global, config: &Config, row: &Row) -> Result<(), Fail>
@@ -205,11 +196,11 @@ pub static INDEXED_AS_IT_COMES: [Row; 1] = [Row {
 #[test]
 fn bodies_as_they_come(rt: HostRuntime) -> Result<(), Fail> {
     let alloc = rt.alloc();
-    let plain = streaming(alloc, Policy::Plain)?;
+    let plain = one_route(alloc, Policy::Plain, Passing::Streaming)?;
     assert_rows_run(&rt, alloc, &plain, &PASSED_AS_IT_COMES)?;
     assert_rows_run(&rt, alloc, &plain, &UNTAKEN)?;
     assert_rows_run(&rt, alloc, &plain, &WAITING)?;
     assert_rows_run(&rt, alloc, &plain, &IN_TURN)?;
-    let indexing = streaming(alloc, Policy::Indexing)?;
+    let indexing = one_route(alloc, Policy::Indexing, Passing::Streaming)?;
     assert_rows_run(&rt, alloc, &indexing, &INDEXED_AS_IT_COMES)
 }

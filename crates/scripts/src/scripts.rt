@@ -1,6 +1,6 @@
 //! Scripts: texts whose lines say what happens to a gateway.
 
-ghost use Rattle.std.specs.Prelude.{ℕ, ◌+◌, map, IfOk, IfErr};
+ghost use Rattle.std.specs.Prelude.{◌+◌, map, IfOk, IfErr};
 ghost use Rattle.scripts.specs.Scripts.{lines_of, AllSay};
 ghost use Rattle.scripts.specs.Faults.{ExplainsFault};
 ghost use Rattle.gateway.specs.Views.{event_of};

@@ -16,7 +16,7 @@ use Rattle.model.specs.Available.{IsIn}
 use Rattle.model.specs.Known.{Known}
 use Rattle.model.specs.Courses.{items}
 use Rattle.model.specs.RequestClause.{IsServed, RequestsHold}
-use Rattle.model.specs.ProgressClause.{IsForwarded, AllForwarded, HasCome, AllStreamed, Reason, AreClosed, IsDoneWith, ClosesRightly}
+use Rattle.model.specs.ProgressClause.{AllForwarded, AreClosed, IsDoneWith, ClosesRightly}
 use Rattle.model.specs.ProgressClause.Reason.{ClientClosed}
 use Rattle.model.proofs.Http2Readings.{one_meaning}
 use Rattle.serving.specs.Told.{Told, IsTold}

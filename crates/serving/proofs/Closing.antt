@@ -1,7 +1,7 @@
 -- Connections that are closed, or fail, and the end of the client's.
 use Rattle.std.proofs.Common.{◌≡◌, ℕ, Bool, true, false, not, ◌==◌, ◌&&◌, ◌||◌, List, ◌∷◌, map, refl, sym, ap, ◌∙◌, subst, inl, inr, if◌then◌else◌, arith}
 use Rattle.std.specs.Prelude.{Option, Some, None, is_none, option_map}
-use Rattle.std.proofs.lemmas.Bool.{or_parts, and_from}
+use Rattle.std.proofs.lemmas.Bool.{or_parts}
 use Rattle.std.proofs.lemmas.Bool.Decides.{eqb_tells}
 use Rattle.model.specs.Logs.Event.{UpFailed}
 use Rattle.model.specs.Logs.Act.{Close, CloseClient}

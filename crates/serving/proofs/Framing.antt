@@ -4,8 +4,8 @@ use Rattle.std.specs.Prelude.{Some}
 use Rattle.std.proofs.lemmas.Bool.Decides.{eqb_tells}
 use Rattle.model.specs.Logs.{Event}
 use Rattle.model.specs.Logs.Event.{Client, ClientEnd, ClientTook, Up, UpEnd, UpFailed, UpTook}
-use Rattle.model.specs.Tapes.{Noted, Breach, Entry, is_closed}
-use Rattle.model.specs.Tapes.Entry.{Came, Breached, Happened, Sent, Did}
+use Rattle.model.specs.Tapes.{Noted, Breach, Entry}
+use Rattle.model.specs.Tapes.Entry.{Came, Breached, Happened, Sent}
 use Rattle.model.specs.Openings.{Opened, opens, AreNumbered}
 use Rattle.model.specs.Admission.{is_open}
 use Rattle.model.specs.Available.{IsIn}

@@ -20,9 +20,9 @@ use Rattle.model.proofs.OfferLemmas.{nothing_complete}
 use Rattle.h1_writer.specs.Sending.{Stage}
 use Rattle.serving.specs.Written.{IsWritten, IsAwaited}
 use Rattle.serving.specs.Told.{Told, IsTold}
-use Rattle.serving.specs.State.{Way, Held, held_of, held_with, held_opened, unless_whole, is_whole, Live, live_of, k_of, Due, State, after, Move}
+use Rattle.serving.specs.State.{Way, Held, held_of, held_with, held_opened, unless_whole, is_whole, Live, live_of, k_of, State, after}
 use Rattle.serving.specs.State.Way.{Waiting, Going, Dropped}
-use Rattle.serving.specs.State.Due.{Nothing, ToOpen, ToSend}
+use Rattle.serving.specs.State.Due.{Nothing, ToSend}
 use Rattle.serving.specs.State.Move.{Acts}
 use Rattle.serving.specs.Rule.{MayOpen}
 use Rattle.serving.specs.Meaning.{IsAllHeard}

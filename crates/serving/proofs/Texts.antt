@@ -8,7 +8,7 @@ use Rattle.model.specs.Octets.{IsFront}
 use Rattle.model.specs.Messages.{Field, Request, Item, ends_with}
 use Rattle.model.specs.Messages.Item.{Block, Content}
 use Rattle.model.specs.Http1.{H1Request, H1Requests, forward}
-use Rattle.model.specs.Http2.{HasHead, HasLength, body_of, declared_length, request_of, EndsWithLast, H2Request, MayBecome}
+use Rattle.model.specs.Http2.{HasHead, HasLength, body_of, declared_length, request_of, EndsWithLast, H2Request}
 use Rattle.model.specs.RequestClause.{IsSentWhole, IsSentInPart}
 use Rattle.request_rules.specs.Heads.{parts_of, IsRequestHead}
 use Rattle.h1_writer.specs.Sending.{Stage, Sending, GoesOnTo}

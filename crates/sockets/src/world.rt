@@ -1,6 +1,6 @@
 //! The world of sockets.
 
-ghost use Rattle.std.specs.Prelude.{◌≡◌, ◌+◌, ◌<◌, [], None, Option, Some, false, true, length, IfSome, IfOk, if◌then◌else◌};
+ghost use Rattle.std.specs.Prelude.{◌≡◌, ◌+◌, ◌<◌, None, Option, Some, false, true, length, IfSome, IfOk};
 
 use crate::rooms::room_of;
 use crate::side::Side;
@@ -293,7 +293,7 @@ impl<'a, N: Net> Sockets<'a, N> {
 }
 
 impl<'a, N: Net> World for SocketWorld<'a, N> {
-    ghost use Rattle.std.specs.Prelude.{ℕ, None, false};
+    ghost use Rattle.std.specs.Prelude.{None, false};
 
     ghost calls = { λ world. world.calls };
 

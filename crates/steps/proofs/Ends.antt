@@ -14,7 +14,7 @@ use Rattle.policy.specs.Moves.Deed.{Acts, Sends}
 use Rattle.policy.specs.Moves.Move.{Does}
 use Rattle.policy.specs.State.{State, tape_of}
 use Rattle.policy.specs.Rule.{AllAllowed, RestsBehind}
-use Rattle.policy.specs.Ending.{farewell_by, farewell_of, sent_all, frames_sent, closes_of, closed_all, by_number, ending_of, ending_on_tape, Ends}
+use Rattle.policy.specs.Ending.{farewell_by, farewell_of, sent_all, frames_sent, closes_of, closed_all, by_number, ending_of, ending_on_tape}
 use Rattle.relay.specs.View.{View, Pending, AreSo, Leads, square}
 use Rattle.relay.specs.Rest.{IsAtRest}
 use Rattle.relay.specs.Performing.{put_all}

@@ -1,6 +1,6 @@
 //! A frame of the client, taken whole.
 
-ghost use Rattle.std.specs.Prelude.{◌≡◌, ◌≤◌, ◌<◌, ◌==◌, ◌||◌, ℕ, List, [], ◌∷◌, length, true, false, if◌then◌else◌, IfOk, OnOk};
+ghost use Rattle.std.specs.Prelude.{◌≡◌, ◌≤◌, ◌<◌, ◌==◌, ◌||◌, ℕ, List, [], ◌∷◌, length, true, false, IfOk, OnOk};
 ghost use Rattle.model.specs.Frames.{Frame};
 ghost use Rattle.model.specs.Setup.{Setup};
 ghost use Rattle.model.specs.WindowsOnTape.{is_any, data_length};

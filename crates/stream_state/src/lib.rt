@@ -2,7 +2,7 @@
 #![tactic(auto)]
 
 ghost use Rattle.std.specs.Prelude.{◌≡◌, ◌≤◌, [], ◌∷◌, ◌++◌, length, OnOk, OnErr};
-ghost use Rattle.model.specs.StreamStates.{StreamState, standing, verdict, active_count, changed, is_above, most_streams};
+ghost use Rattle.model.specs.StreamStates.{StreamState, standing, verdict, active_count, changed, most_streams};
 ghost use Rattle.model.specs.StreamStates.Change.{RemoteEnds, LocalEnds, PeerResets, WeReset};
 
 mod records;

@@ -7,7 +7,7 @@ use Rattle.std.proofs.lemmas.List.{length-set, get_or-set_same, get_or-set_other
 use Rattle.std.proofs.lemmas.List.Sums.{sum_by-set}
 use Rattle.conduct.specs.Summary.{Stream as Kept}
 use Rattle.conduct.specs.Rows as rows
-use Rattle.conduct.specs.Rows.{Row, find, kept_in, ids_of}
+use Rattle.conduct.specs.Rows.{Row, ids_of}
 use Rattle.conduct.specs.Tidy.{IsTidy, IsRow, AreKept}
 use Rattle.streams_kept.specs.declared.entries.Entry.{Entry}
 use Rattle.streams_kept.specs.declared.entries.Slot.{Slot}

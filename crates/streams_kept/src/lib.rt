@@ -11,7 +11,7 @@ ghost use Rattle.conduct.specs.Owing.{highest_in};
 ghost use Rattle.conduct.specs.Judging.{is_over_in};
 ghost use Rattle.conduct.specs.Rows.{find as kept_of, ids_of, slot_of};
 ghost use Rattle.conduct.specs.Rows.Slot.{Live as Active, Over as Done};
-ghost use Rattle.conduct.specs.Tidy.{AreKept, IsTidy, is_above_all};
+ghost use Rattle.conduct.specs.Tidy.{AreKept, IsTidy};
 ghost use Rattle.streams_kept.specs.Views.{brief_of};
 ghost use Rattle.stream_state.specs.Views.{kind_in, standing_in, verdict_in};
 

@@ -11,7 +11,7 @@ use Rattle.model.specs.Streams.{frame_items}
 use Rattle.model.specs.Known.{Known}
 use Rattle.model.specs.FrameErrors.{is_between}
 use Rattle.model.specs.ResponseClause.{AreTogether}
-use Rattle.model.specs.Synchrony.{AreFair}
+use Rattle.model.specs.Synchrony.{begins_part, AreFair}
 use Rattle.model.specs.Turns.{IsNextTurn}
 use Rattle.offering.specs.State.{Move, entry_of, ready, state_of}
 use Rattle.offering.specs.State.Move.{Takes, Breaks, Notes, Hears, Fails, Goes, Sends, Acts}
@@ -19,7 +19,7 @@ use Rattle.offering.specs.Policy.{Neighbours, windows_on, AreAllowed, Brings, Br
 use Rattle.offering.proofs.Flushing.{listed, run_holds}
 use Rattle.conduct.specs.After.{begun_after}
 use Rattle.conduct.specs.Judging.{completed_in}
-use Rattle.tables.specs.Turns.{begins_part, last_turn, HasTurn, EachInTurn, MayBegin, MayBeginIf, EachBegan}
+use Rattle.tables.specs.Turns.{last_turn, HasTurn, EachInTurn, MayBegin, MayBeginIf, EachBegan}
 use Rattle.tables.proofs.Fairness.{fair}
 
 -- Outside a block the last turn is the one that is kept, and inside it is that of its stream.

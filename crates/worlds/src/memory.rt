@@ -169,7 +169,7 @@ fn add_output(
 }
 
 impl World for MemoryWorld {
-    ghost use Rattle.std.specs.Prelude.{ℕ, Some};
+    ghost use Rattle.std.specs.Prelude.{Some};
     ghost use Rattle.worlds.specs.Memory.{log_in, handed_in};
 
     ghost calls = { λ world. world.calls };

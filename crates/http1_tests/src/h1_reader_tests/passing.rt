@@ -44,7 +44,8 @@ fn is_named(alloc: Global, lines: &[Line<'_>], name: &[u8]) -> Result<bool, Allo
 
 /// Whether a field of this name speaks of the connection alone.
 fn is_of_connection(name: &[u8]) -> bool {
-    let all: [&[u8]; 5] = [
+    let all: [&[u8]; 6] = [
+        b"te",
         b"connection",
         b"proxy-connection",
         b"keep-alive",
@@ -106,7 +107,7 @@ static LINES: [Line<'static>; 10] = [
     (b"transfer-encoding", b"chunked"),
     (b"x-a", b"4"),
     (b"upgrade", b"5"),
-    (b"date", b"6"),
+    (b"te", b"6"),
 ];
 
 /// Three of the fields by their numbers, in base ten.

@@ -136,7 +136,7 @@ fn assert_rows_left_well(
 #[test]
 fn client_goes_away(rt: HostRuntime) -> Result<(), Fail> {
     let alloc = rt.alloc();
-    let plain = config_of(alloc, Policy::Plain)?;
+    let plain = one_route(alloc, Policy::Plain, Passing::Whole)?;
     assert_rows_left_well(&rt, alloc, &plain, &PASSED_ON)?;
     assert_rows_left_well(&rt, alloc, &plain, &MALFORMED)?;
     assert_rows_left_well(&rt, alloc, &plain, &ANSWERED)?;
@@ -146,7 +146,8 @@ fn client_goes_away(rt: HostRuntime) -> Result<(), Fail> {
     assert_rows_left_well(&rt, alloc, &plain, &GOES_ON)?;
     assert_rows_left_well(&rt, alloc, &plain, &WAITING)?;
     assert_rows_left_well(&rt, alloc, &plain, &IN_TURN)?;
-    assert_rows_left_well(&rt, alloc, &config_of(alloc, Policy::Indexing)?, &INDEXING)
+    let indexing = one_route(alloc, Policy::Indexing, Passing::Whole)?;
+    assert_rows_left_well(&rt, alloc, &indexing, &INDEXING)
 }
 
 #[test]
@@ -160,7 +161,7 @@ fn client_goes_away_by_other_configurations(rt: HostRuntime) -> Result<(), Fail>
 #[test]
 fn client_of_many_streams_goes_away(rt: HostRuntime) -> Result<(), Fail> {
     let alloc = rt.alloc();
-    let plain = config_of(alloc, Policy::Plain)?;
+    let plain = one_route(alloc, Policy::Plain, Passing::Whole)?;
     let transcript = one_more_than_a_hundred(alloc)?;
     assert_left_well(&rt, alloc, &plain, "a hundred streams", &transcript)?;
     let transcript = a_hundred_requests(alloc)?;

@@ -128,7 +128,7 @@ fn assert_rows_ended_well(
 #[test]
 fn upstreams_go_away(rt: HostRuntime) -> Result<(), Fail> {
     let alloc = rt.alloc();
-    let plain = config_of(alloc, Policy::Plain)?;
+    let plain = one_route(alloc, Policy::Plain, Passing::Whole)?;
     assert_rows_ended_well(&rt, alloc, &plain, &PASSED_BACK)?;
     assert_rows_ended_well(&rt, alloc, &plain, &BROKEN)?;
     assert_rows_ended_well(&rt, alloc, &plain, &ENDED)?;
@@ -137,5 +137,6 @@ fn upstreams_go_away(rt: HostRuntime) -> Result<(), Fail> {
     assert_rows_ended_well(&rt, alloc, &small(alloc)?, &SMALL)?;
     let transcript = ten_thousand_requests(alloc)?;
     assert_ended_well(&rt, alloc, &plain, "ten thousand streams", &transcript)?;
-    assert_rows_ended_well(&rt, alloc, &config_of(alloc, Policy::Indexing)?, &INDEXING)
+    let indexing = one_route(alloc, Policy::Indexing, Passing::Whole)?;
+    assert_rows_ended_well(&rt, alloc, &indexing, &INDEXING)
 }

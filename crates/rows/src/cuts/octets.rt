@@ -200,7 +200,7 @@ fn assert_request_by_octets(rt: &impl Abort, alloc: Global) -> Result<(), Fail> 
 fn one_by_one(rt: HostRuntime) -> Result<(), Fail> {
     let alloc = rt.alloc();
     assert_request_by_octets(&rt, alloc)?;
-    let plain = config_of(alloc, Policy::Plain)?;
+    let plain = one_route(alloc, Policy::Plain, Passing::Whole)?;
     assert_alike(&rt, alloc, &plain, &PASSED_ON)?;
     assert_alike(&rt, alloc, &plain, &MALFORMED)?;
     assert_alike(&rt, alloc, &plain, &ANSWERED)?;
@@ -210,7 +210,8 @@ fn one_by_one(rt: HostRuntime) -> Result<(), Fail> {
     assert_alike(&rt, alloc, &plain, &GOES_ON)?;
     assert_alike(&rt, alloc, &plain, &WAITING)?;
     assert_alike(&rt, alloc, &plain, &IN_TURN)?;
-    assert_alike(&rt, alloc, &config_of(alloc, Policy::Indexing)?, &INDEXING)
+    let indexing = one_route(alloc, Policy::Indexing, Passing::Whole)?;
+    assert_alike(&rt, alloc, &indexing, &INDEXING)
 }
 
 #[test]
@@ -224,7 +225,7 @@ fn one_by_one_by_other_configurations(rt: HostRuntime) -> Result<(), Fail> {
 #[test]
 fn many_streams_one_by_one(rt: HostRuntime) -> Result<(), Fail> {
     let alloc = rt.alloc();
-    let plain = config_of(alloc, Policy::Plain)?;
+    let plain = one_route(alloc, Policy::Plain, Passing::Whole)?;
     let transcript = one_more_than_a_hundred(alloc)?;
     assert_script_alike(&rt, alloc, &plain, "a hundred streams", &transcript)?;
     let transcript = a_hundred_requests(alloc)?;
@@ -238,21 +239,23 @@ fn many_streams_one_by_one(rt: HostRuntime) -> Result<(), Fail> {
 #[test]
 fn one_by_one_as_bodies_come(rt: HostRuntime) -> Result<(), Fail> {
     let alloc = rt.alloc();
-    let plain = streaming(alloc, Policy::Plain)?;
+    let plain = one_route(alloc, Policy::Plain, Passing::Streaming)?;
     assert_alike_streaming(&rt, alloc, &plain, &PASSED_AS_IT_COMES)?;
     assert_alike_streaming(&rt, alloc, &plain, &WAITING)?;
-    let indexing = streaming(alloc, Policy::Indexing)?;
+    let indexing = one_route(alloc, Policy::Indexing, Passing::Streaming)?;
     assert_alike_streaming(&rt, alloc, &indexing, &INDEXED_AS_IT_COMES)
 }
 
 #[test]
 fn untaken_one_by_one(rt: HostRuntime) -> Result<(), Fail> {
     let alloc = rt.alloc();
-    assert_alike_streaming(&rt, alloc, &streaming(alloc, Policy::Plain)?, &UNTAKEN)
+    let plain = one_route(alloc, Policy::Plain, Passing::Streaming)?;
+    assert_alike_streaming(&rt, alloc, &plain, &UNTAKEN)
 }
 
 #[test]
 fn in_turn_one_by_one(rt: HostRuntime) -> Result<(), Fail> {
     let alloc = rt.alloc();
-    assert_alike_streaming(&rt, alloc, &streaming(alloc, Policy::Plain)?, &IN_TURN)
+    let plain = one_route(alloc, Policy::Plain, Passing::Streaming)?;
+    assert_alike_streaming(&rt, alloc, &plain, &IN_TURN)
 }

@@ -7,7 +7,7 @@ use Rattle.model.specs.Frames.{Frame, settings_kind, is_ack, goaway, no_error}
 use Rattle.model.specs.Setup.{Setup}
 use Rattle.model.specs.StreamStates.{most_streams}
 use Rattle.model.specs.Tables.{Table}
-use Rattle.model.specs.Tapes.{Noted, Entry}
+use Rattle.model.specs.Tapes.{Noted}
 use Rattle.model.specs.Tapes.Entry.{Came}
 use Rattle.model.specs.Logs.{Output}
 use Rattle.model.specs.Decoding.{Partial, is_read}

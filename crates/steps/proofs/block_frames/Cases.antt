@@ -27,7 +27,7 @@ use Rattle.conduct.proofs.Rows.{ids_changed}
 use Rattle.offering.specs.State as offering
 use Rattle.offering.specs.Rule.{found_by}
 use Rattle.serving.specs.State as serving
-use Rattle.serving.specs.State.{Held, Due, id_of}
+use Rattle.serving.specs.State.{Held, id_of}
 use Rattle.serving.specs.State.Due.{Nothing}
 use Rattle.tables.specs.Rule.{IsNoted}
 use Rattle.tables.specs.Verdicts.{verdict_in}
@@ -37,7 +37,7 @@ use Rattle.judgement.specs.Inbound.{Inbound, told_of}
 use Rattle.judgement.specs.Fragments.{IsOfBlock}
 use Rattle.upstreams.specs.Kept as upstreams
 use Rattle.upstreams.specs.Kept.{with_due}
-use Rattle.policy.specs.Moves.{Gain, Move}
+use Rattle.policy.specs.Moves.{Move}
 use Rattle.policy.specs.Moves.Gain.{Nothing as NoGain}
 use Rattle.policy.specs.Moves.Deed.{Takes}
 use Rattle.policy.specs.State.{State}

@@ -2,7 +2,7 @@
 use Rattle.std.proofs.Common.{◌≡◌, ℕ, ◌+◌, Bool, true, false, not, ◌&&◌, ◌||◌, ◌==◌, if◌then◌else◌, List, [], ◌∷◌, ◌++◌, Option, Some, None, refl, sym, ◌∙◌, ap, subst, arith}
 use Rattle.std.specs.Prelude.{is_none, is_some}
 use Rattle.std.proofs.lemmas.Bool.{or_parts, eqb-false}
-use Rattle.model.specs.Messages.{Field, Item}
+use Rattle.model.specs.Messages.{Field}
 use Rattle.model.specs.Messages.Item.{Block}
 use Rattle.model.specs.Frames.{Frame}
 use Rattle.model.specs.Logs.{Output}
@@ -17,7 +17,6 @@ use Rattle.model.specs.Causes.Cause.{LargeFields}
 use Rattle.model.specs.Courses.{cause_of_block}
 use Rattle.model.specs.Decoding.{Partial, is_read}
 use Rattle.model.specs.Errors.{Fault, first_of, or_else}
-use Rattle.model.specs.Errors.Fault.{Stream}
 use Rattle.model.specs.ErrorClause.{is_fatal}
 use Rattle.model.specs.FrameErrors.{fault_if}
 use Rattle.model.specs.ErrorTable.{is_malformed}

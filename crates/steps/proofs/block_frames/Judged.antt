@@ -1,5 +1,5 @@
 -- What has to be so before the answer is acted on, and what comes of it, by where moves led.
-use Rattle.std.proofs.Common.{◌≡◌, ℕ, ◌<◌, ◌≤◌, ◌⊎◌, Bool, true, false, if◌then◌else◌, List, [], length, Some, None, refl, sym, ◌∙◌, ap, subst, inl, inr}
+use Rattle.std.proofs.Common.{◌≡◌, ℕ, ◌<◌, ◌≤◌, ◌⊎◌, Bool, true, false, if◌then◌else◌, List, length, Some, None, refl, sym, ◌∙◌, ap, subst, inl, inr}
 use Rattle.model.specs.Messages.{Field}
 use Rattle.model.specs.Frames.{Frame}
 use Rattle.model.specs.Logs.{Output}
@@ -7,7 +7,7 @@ use Rattle.model.specs.Setup.{Setup}
 use Rattle.model.specs.StreamStates.{most_streams}
 use Rattle.model.specs.Tapes.Note.{Fields}
 use Rattle.model.specs.Tapes.Entry.{Came}
-use Rattle.model.specs.Causes.{Cause, reset_code, cause_if, are_large, cause_of_head}
+use Rattle.model.specs.Causes.{reset_code, cause_if, are_large, cause_of_head}
 use Rattle.model.specs.Causes.Cause.{LargeFields}
 use Rattle.model.specs.Courses.{cause_of_block}
 use Rattle.model.specs.ErrorClause.{is_fatal}

@@ -39,7 +39,7 @@ use Rattle.marks_kept.specs.Sides.{find as find_side, opened as opened_side}
 use Rattle.marks_kept.proofs.Looking.{above_all, joined_own}
 use Rattle.streams_kept.specs.Asked as asked
 use Rattle.serving.specs.State as serving
-use Rattle.serving.specs.State.{Held, Live, Due, find, held_with, unless_whole}
+use Rattle.serving.specs.State.{Held, Live, find, held_with, unless_whole}
 use Rattle.serving.specs.State.Way.{Going}
 use Rattle.serving.specs.State.Due.{Nothing, ToOpen, ToSend}
 use Rattle.serving.specs.Rule as requests

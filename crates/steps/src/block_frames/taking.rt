@@ -1,6 +1,6 @@
 //! A frame of the client with a fragment of a header block is taken.
 
-ghost use Rattle.std.specs.Prelude.{◌≡◌, ◌≤◌, ◌<◌, ℕ, true, [], length, IfOk};
+ghost use Rattle.std.specs.Prelude.{◌≡◌, ◌≤◌, ◌<◌, true, [], length, IfOk};
 ghost use Rattle.model.specs.Causes.{reset_code};
 ghost use Rattle.model.specs.Setup.{Setup};
 ghost use Rattle.causes.specs.Views.{cause_of};

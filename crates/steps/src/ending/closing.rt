@@ -1,6 +1,6 @@
 //! Connections are closed.
 
-ghost use Rattle.std.specs.Prelude.{◌≡◌, ℕ, List, [], ◌∷◌, reverse, true, OnOk};
+ghost use Rattle.std.specs.Prelude.{◌≡◌, ℕ, List, ◌∷◌, reverse, true, OnOk};
 ghost use Rattle.model.specs.Setup.{Setup};
 ghost use Rattle.model.specs.Logs.Act.{CloseClient};
 ghost use Rattle.model.specs.Tapes.Entry.{Did};

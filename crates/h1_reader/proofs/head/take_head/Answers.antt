@@ -1,7 +1,7 @@
 use Rattle.std.proofs.Common.{◌≡◌, ◌<◌, ◌≤◌, ◌∙◌, refl, sym, ap, List, arith}
 use Rattle.model.specs.Messages.{Field}
 use Rattle.httparse.specs.Grammar.{status_code}
-use Rattle.model.specs.ResponseHeads.{passed, without_framing, framing_for}
+use Rattle.model.specs.ResponseHeads.{passed, framing_for}
 use Rattle.std.specs.Prelude.{codes}
 use Rattle.model.specs.Http1.{values_of}
 use Rattle.h1_reader.specs.Heads.{framing_fault}

@@ -1,4 +1,4 @@
-use Rattle.std.proofs.Common.{ℕ, ◌+◌, subst, sym}
+use Rattle.std.proofs.Common.{◌+◌, subst, sym}
 use Rattle.hpack_table.specs.Chaining.{IsNextOfHash, hashes_of}
 use Rattle.hpack_table.proofs.Looked.{some_at}
 use Rattle.hpack_table.proofs.Chained.{next_then, other_hash, step_is}

@@ -1,5 +1,5 @@
-use Rattle.std.proofs.Common.{arith, ◌∙◌, sym}
-use Rattle.hpack_table.proofs.Walked.{start_within, static_within, walk_ends, walk_finds, walk_finds_none}
+use Rattle.std.proofs.Common.{arith}
+use Rattle.hpack_table.proofs.Walked.{start_within, static_within, walk_ends, walk_finds_none}
 use Rattle.hpack_table.proofs.static_table.find_static.Goals as goal
 
 pub overflow_cast-result : goal.overflow_cast-result

@@ -1,4 +1,3 @@
-use Rattle.std.proofs.Common.{◌∙◌, ap, get_or}
 use Rattle.hpack_table.proofs.Walked.{has_start}
 use Rattle.hpack_table.proofs.static_table.start_of.Goals as goal
 

@@ -1,4 +1,4 @@
-use Rattle.std.proofs.Common.{ℕ, [], ◌∷◌, None, refl, sym, subst}
+use Rattle.std.proofs.Common.{[], ◌∷◌, None, refl, sym, subst}
 use Rattle.model.specs.Tapes.Breach.{WrongPreface, TooLong}
 use Rattle.policy.specs.Moves.Deed.{Breaks}
 use Rattle.relay.specs.View.{square}

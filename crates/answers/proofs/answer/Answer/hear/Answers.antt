@@ -1,4 +1,4 @@
-use Rattle.std.proofs.Common.{rules, ◌≡◌, ◌≤◌, true, false, [], ◌++◌, length, refl, ap, subst, inl, inr}
+use Rattle.std.proofs.Common.{rules, ◌≡◌, ◌≤◌, true, false, ◌++◌, length, refl, ap, subst, inl, inr}
 use Rattle.offering.specs.Outbox.{grown}
 use Rattle.h1_reader.specs.Views.{parts_of}
 use Rattle.h1_reader.specs.declared.fault.ResponseFault.TheVariants.{Memory}

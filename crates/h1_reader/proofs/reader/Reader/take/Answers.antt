@@ -1,10 +1,10 @@
-use Rattle.std.proofs.Common.{◌∙◌, ◌∷◌, [], length, take, ap, sym, arith}
+use Rattle.std.proofs.Common.{◌∙◌, ◌∷◌, [], take, ap, sym, arith}
 use Rattle.std.proofs.lemmas.List.{append-nil}
 use Rattle.h1_reader.specs.Parts.Part.{Body}
 use Rattle.h1_reader.specs.Standing.{State}
 use Rattle.h1_reader.proofs.Steps.{hears_rest, hears_past, all_taken}
 use Rattle.h1_reader.proofs.Joining.{goes_on, first_goes}
-use Rattle.h1_reader.proofs.FaultSteps.{first_fails, fails_broken}
+use Rattle.h1_reader.proofs.FaultSteps.{first_fails}
 use Rattle.h1_reader.proofs.reader.Reader.take.Goals as goal
 
 pub returns-in_ok-body-in-UntilEnd-clause-ok : goal.returns-in_ok-body-in-UntilEnd-clause-ok

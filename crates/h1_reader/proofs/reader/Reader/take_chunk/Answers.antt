@@ -1,7 +1,5 @@
-use Rattle.std.proofs.Common.{◌≡◌, ◌<◌, ◌∙◌, ◌-◌, ◌∷◌, [], length, take, ap, subst, refl, length-take-le, arith}
-use Rattle.h1_reader.specs.Parts.Part.{Body}
+use Rattle.std.proofs.Common.{◌≡◌, ◌<◌, ◌∙◌, ◌-◌, length, take, ap, subst, refl, length-take-le, arith}
 use Rattle.h1_reader.specs.Standing.{State, IsKept}
-use Rattle.h1_reader.specs.GoesOn.{GoesOn}
 use Rattle.h1_reader.specs.declared.reader.Place.{Place}
 use Rattle.h1_reader.specs.declared.reader.Place.TheVariants.{Chunk, ChunkEnd}
 use Rattle.h1_reader.proofs.ChunkSteps.{hears_chunk, hears_chunk_all}

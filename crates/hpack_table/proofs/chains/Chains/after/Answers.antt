@@ -1,7 +1,6 @@
 use Rattle.std.proofs.Common.{ℕ, List, ◌+◌, length, subst, sym, refl}
 use Rattle.std.proofs.lemmas.Option.{slice_get_read}
 use Rattle.hpack_table.specs.Chaining.{IsNextOfHash, hashes_of}
-use Rattle.hpack_table.proofs.Looked.{some_at}
 use Rattle.hpack_table.proofs.Chained.{step_is, within_hashes}
 use Rattle.hpack_table.proofs.chains.Chains.after.Goals as goal
 

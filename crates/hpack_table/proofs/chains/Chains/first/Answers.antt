@@ -1,5 +1,5 @@
 use Rattle.std.proofs.Common.{ℕ, List, slice_get, subst, sym, ◌∙◌, ap}
-use Rattle.hpack_table.specs.Chaining.{IsNextOfHash, bucket, entries_since, hashes_of}
+use Rattle.hpack_table.specs.Chaining.{IsNextOfHash, entries_since, hashes_of}
 use Rattle.hpack_table.proofs.Chained.{first_is}
 use Rattle.hpack_table.proofs.chains.Chains.first.Goals as goal
 

@@ -10,8 +10,14 @@ pub returns-then-not-may_finish : goal.returns-then-not-may_finish
 returns-then-not-may_finish c =
     laws.ends_as_it_is c.self.inside.route c.self.inside.start c.self.inside.sender c.self.inside.octets.items c.args.octets.now c.args.self c.extend_from_slice.new.self.items c.self.view_is (search rules) c.requires (search rules)
 
+pub returns-then-len-start : goal.returns-then-len-start
+returns-then-len-start c =
+    if_ok c.end_text.result
+    (λ text ended. laws.ends_at_once c.self.inside.route c.self.inside.start c.self.inside.sender c.self.inside.octets.items c.args.octets.now c.args.self text.items c.self.view_is (search rules) ended)
+    c.end_text.ensures
+
 pub returns : goal.returns
 returns c =
-    if_ok c.end_text.result
+    if_ok c.end_text-2.result
     (λ text ended. laws.ends_anew c.self.inside.route c.self.inside.start c.self.inside.sender c.self.inside.octets.items c.args.octets.now c.args.self _ _ text.items c.self.view_is (search rules) (search rules) (search rules) ended)
-    c.end_text.ensures
+    c.end_text-2.ensures

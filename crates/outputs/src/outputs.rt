@@ -80,7 +80,8 @@ impl Outputs {
         self.send_joined(view, &[])
     }
 
-    /// Puts a frame out to the client whose payload lies in two parts, that of `view` and `more` behind it.
+    /// Puts a frame out to the client as [`Outputs::send`] does, whose payload lies in two parts, that of `view` and `more` behind it:
+    /// together they have at most 16,384 octets. An `Err` says that memory was refused.
     pub fn send_joined(&mut self, view: &View<'_>, more: &[u8]) -> Result<(), AllocError>
         requires { Fits (joined view.now more.now) }
         ensures { OnOk result (self.new ≡ put self.old (ToClient (spell (joined view.now more.now)))) }

@@ -8,6 +8,7 @@ use mio::net::TcpStream;
 use mio::{Interest, Registry, Token};
 use std::alloc::Global;
 use std::io;
+use std::net::Shutdown;
 use transfers::{Got, Outgoing, PutFault, read_piece};
 
 /// A socket that doesn't wait, with what is on its way out to it and what was reported of it.
@@ -22,6 +23,10 @@ pub struct Side {
     hung_up: bool,
     /// Its end was read.
     ended: bool,
+    /// Both its directions are over: what is written to it reaches nobody.
+    lost: bool,
+    /// It was told that nothing more is written.
+    shut: bool,
     /// The last write took less than all, and it wasn't reported since that it takes octets again.
     full: bool,
     /// It is reported too once it takes octets again.
@@ -49,6 +54,8 @@ impl Side {
             readable: false,
             hung_up: false,
             ended: false,
+            lost: false,
+            shut: false,
             full: false,
             watched: false,
             least,
@@ -77,6 +84,27 @@ impl Side {
         self.readable && !self.ended
     }
 
+    /// Whether its end was read.
+    pub fn is_ended(&self) -> bool
+        ensures { result ≡ self.now.ended }
+    {
+        self.ended
+    }
+
+    /// Whether both its directions are over, so that what is written to it reaches nobody.
+    pub fn is_lost(&self) -> bool
+        ensures { result ≡ self.now.lost }
+    {
+        self.lost
+    }
+
+    /// Whether octets wait to be written.
+    pub fn has_waiting(&self) -> bool
+        ensures { IsTrue result ↔ (0 < length self.now.out.waiting) }
+    {
+        self.out.waiting() > 0
+    }
+
     /// It has something to be read, if only a failure.
     pub fn expect_input(&mut self) {
         self.readable = true;
@@ -88,6 +116,7 @@ impl Side {
         self.hung_up = self.hung_up || over;
         self.readable = self.readable || over || event.is_readable();
         self.full = self.full && !event.is_writable();
+        self.lost = self.lost || event.is_error() || event.is_write_closed();
     }
 
     /// Puts octets out.
@@ -115,6 +144,15 @@ impl Side {
     /// Writes what waits until a write takes nothing.
     pub fn finish(&mut self) -> io::Result<()> {
         self.out.flush_all(&mut self.socket)
+    }
+
+    /// Tells it that nothing more is written.
+    pub fn shut(&mut self) -> io::Result<()> {
+        if !self.shut {
+            self.socket.shutdown(Shutdown::Write)?;
+            self.shut = true;
+        }
+        Ok(())
     }
 
     /// Reads what is there, as far as there is room.

@@ -7,7 +7,7 @@ use gateway::{Config, Output, Passing, Policy, Route};
 use mio::{Events, Poll, Token};
 use std::alloc::{AllocError, Global};
 use std::io::{ErrorKind, Read, Write};
-use std::net::{Ipv4Addr, SocketAddr, TcpListener, TcpStream};
+use std::net::{Ipv4Addr, Shutdown, SocketAddr, TcpListener, TcpStream};
 use std::test::*;
 use std::time::Duration;
 use std::{io, mem};
@@ -430,10 +430,33 @@ fn what_is_put_out_goes_out_where_the_turns_end(rt: HostRuntime) -> Result<(), F
     let mut world = SocketWorld::new(rt.alloc(), &rt, &[], far)?;
     let ended = serve(rt.alloc(), &config, &mut world, 1);
     assert_eq!(rt; ended, Ok(Ended::Turns));
+    client.shutdown(Shutdown::Write)?;
     world.finish()?;
     let mut room = [0u8; 256];
     let count = client.read(&mut room)?;
     assert!(rt; room[..count].starts_with(GREETING));
+    Ok(())
+}
+
+/// The farewell behind a wrong preface (RFC 9113, sections 3.4 and 6.8).
+const FAREWELL: &[u8] = b"\0\0\x08\x07\0\0\0\0\0\0\0\0\0\0\0\0\x01";
+
+#[test]
+fn a_client_that_sends_on_reads_why_it_was_left(rt: HostRuntime) -> Result<(), Fail> {
+    let config = one_route(rt.alloc())?;
+    let (mut client, far) = pair(&rt)?;
+    client.write_all(&vec![in rt.alloc(); b'x'; 200_000]?)?;
+    client.shutdown(Shutdown::Write)?;
+    let far = mio::net::TcpStream::from_std(far);
+    let mut world = SocketWorld::new(rt.alloc(), &rt, &[], far)?;
+    let ended = serve(rt.alloc(), &config, &mut world, 100);
+    assert_eq!(rt; ended, Ok(Ended::Closed));
+    world.finish()?;
+    mem::drop(world);
+    // Were octets left unread, the socket would be reset, and what was written might be lost.
+    let mut read = Vec::new(rt.alloc());
+    client.read_to_end(&mut read)?;
+    assert!(rt; read.ends_with(FAREWELL));
     Ok(())
 }
 

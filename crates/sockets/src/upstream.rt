@@ -97,9 +97,18 @@ impl Upstream {
         }
     }
 
+    /// Whether what is written to it reaches nobody. What it sent before is still read: no write is to be the first to meet a failure, behind which
+    /// an end that came couldn't be told from one that didn't.
+    fn is_deaf(&self) -> bool {
+        match &self.side {
+            Some(side) => self.broken || side.is_lost(),
+            None => self.broken,
+        }
+    }
+
     /// Puts octets out. Where its socket failed they are dropped.
     pub fn put(&mut self, registry: &Registry, octets: &[u8]) -> Result<(), WorldFault> {
-        if self.broken {
+        if self.is_deaf() {
             return Ok(());
         }
         let Some(side) = &mut self.side else {
@@ -117,7 +126,7 @@ impl Upstream {
 
     /// Writes what waits, if its socket may take it.
     pub fn flush(&mut self, registry: &Registry) {
-        if self.broken {
+        if self.is_deaf() {
             return;
         }
         let Some(side) = &mut self.side else {

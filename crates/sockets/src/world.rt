@@ -13,6 +13,7 @@ use std::collections::VecDeque;
 use std::io;
 use std::io::ErrorKind;
 use std::net::{Net, SocketAddr};
+use std::time::Duration;
 use transfers::{Got, PutFault};
 use worlds::{Next, World, WorldFault};
 
@@ -30,6 +31,18 @@ const TOLD_AT_ONCE: u64 = 16384;
 
 /// The client's number among the sockets. Connections to upstreams count from 1.
 const CLIENT: u32 = 0;
+
+/// Of so many turns one begins with a look at all sockets, and one in the middle with what they took, though something else is there: so none keeps the
+/// others from theirs.
+const ROUND: u32 = 64;
+
+/// So many seconds the socket of a client that is left may take nothing of what waits for it, and then so many it may say nothing before its end.
+const TO_TAKE: u64 = 60;
+
+const TO_END: u64 = 5;
+
+/// In so many turns a client is left at most.
+const MOST_TURNS_LEAVING: u32 = 10000;
 
 /// How many sockets may be reported at once.
 const REPORTS: usize = 128;
@@ -61,6 +74,8 @@ struct Sockets<'a, N: Net> {
     writes: VecDeque<u32>,
     /// Where octets are read to; kept from read to read.
     buffer: Vec<u8>,
+    /// How many turns there were, from 0 on again behind the last number.
+    turns: u32,
 }
 
 impl<'a, N: Net> SocketWorld<'a, N> {
@@ -88,6 +103,7 @@ impl<'a, N: Net> SocketWorld<'a, N> {
             ready: VecDeque::new(alloc),
             writes: VecDeque::new(alloc),
             buffer: vec![in alloc; 0; PIECE]?,
+            turns: 0,
         };
         Ok(SocketWorld {
             sockets,
@@ -96,24 +112,42 @@ impl<'a, N: Net> SocketWorld<'a, N> {
         })
     }
 
-    /// Writes what was put out for the client and waits, until its socket takes no more. Where the world is left before the client
-    /// is closed, that is still to be done.
+    /// Leaves the client, and closes the connections to upstreams: what was put out for the client is written as its socket takes it, and then what still
+    /// comes of it is read and dropped until its end, so that nothing that was written is lost to it (RFC 9112, section 9.6). It isn't waited for for ever: a
+    /// minute for each time that its socket takes something, and then five seconds for each that something comes. An error is the socket's, or says that
+    /// memory was refused.
     pub fn finish(&mut self) -> io::Result<()>
         ensures calls { self.new.calls ≡ self.old.calls }
         ensures failures { self.new.failures ≡ self.old.failures }
     {
-        self.sockets.client.finish()
+        self.sockets.leave_client()
     }
 }
 
 impl<'a, N: Net> Sockets<'a, N> {
     /// What comes next. Where nothing is there the world waits once, until something is reported.
     fn find_next(&mut self, rooms: &[(u32, usize)]) -> Result<Option<Event>, WorldFault> {
+        if let Some(event) = self.find_aside(rooms)? {
+            return Ok(Some(event));
+        }
         if let Some(event) = self.find_event(rooms)? {
             return Ok(Some(event));
         }
-        self.wait()?;
+        self.look(None)?;
         self.find_event(rooms)
+    }
+
+    /// In some turns an event that else would have to wait as long as others are there: of a socket that wasn't looked at yet, or what was taken.
+    fn find_aside(&mut self, rooms: &[(u32, usize)]) -> Result<Option<Event>, WorldFault> {
+        self.turns = self.turns.wrapping_add(1);
+        if self.turns % ROUND == 0 {
+            self.look(Some(Duration::ZERO))?;
+            return self.read_ready(rooms);
+        }
+        if self.turns % ROUND == ROUND / 2 {
+            return Ok(self.tell());
+        }
+        Ok(None)
     }
 
     /// An event that is there already. Where nothing may be read any more, what waits for the client is written.
@@ -194,12 +228,8 @@ impl<'a, N: Net> Sockets<'a, N> {
         Ok(())
     }
 
-    /// What sockets took that wasn't told of, if they took some.
+    /// What sockets took that wasn't told of, if they took some: upstreams first, since each of them is told of once in a while.
     fn tell(&mut self) -> Option<Event> {
-        let count = self.client.tell(1);
-        if count > 0 {
-            return Some(Event::ClientTook(count));
-        }
         for _ in 0..self.writes.len() {
             let k = self.writes.pop_front()?;
             if let Some(place) = place_of(k, &self.upstreams) {
@@ -209,12 +239,15 @@ impl<'a, N: Net> Sockets<'a, N> {
                 }
             }
         }
-        None
+        match self.client.tell(1) {
+            0 => None,
+            count => Some(Event::ClientTook(count)),
+        }
     }
 
-    /// Waits until a socket is reported, notes what is, and writes what waits for those that take octets again.
-    fn wait(&mut self) -> Result<(), WorldFault> {
-        match self.poll.poll(&mut self.reports, None) {
+    /// Waits until a socket is reported, at most so long where that is said, notes what is, and writes what waits for those that take octets again.
+    fn look(&mut self, most: Option<Duration>) -> Result<(), WorldFault> {
+        match self.poll.poll(&mut self.reports, most) {
             Ok(()) => {}
             // A signal came. The next turn waits again.
             Err(error) if error.kind() == ErrorKind::Interrupted => return Ok(()),
@@ -231,6 +264,39 @@ impl<'a, N: Net> Sockets<'a, N> {
         }
         self.client.flush(self.poll.registry())?;
         self.queue_client()
+    }
+
+    /// Writes what waits for the client, and then reads and drops what comes of it until its end, unless nothing happens for too long.
+    fn leave_client(&mut self) -> io::Result<()> {
+        self.upstreams.clear();
+        for _ in 0..MOST_TURNS_LEAVING {
+            self.client.flush(self.poll.registry())?;
+            let is_written = !self.client.has_waiting();
+            if is_written && self.client.is_ended() {
+                return Ok(());
+            }
+            if is_written {
+                self.client.shut()?;
+            }
+            if self.client.is_readable() {
+                let _ = self.client.read(self.alloc, &mut self.buffer)?;
+            } else if !self.hear_client(if is_written { TO_END } else { TO_TAKE })? {
+                return Ok(());
+            }
+        }
+        Ok(())
+    }
+
+    /// Waits until the client's socket is reported, at most so many seconds, and notes what is. Whether it was.
+    fn hear_client(&mut self, most: u64) -> io::Result<bool> {
+        let most = Duration::from_secs(most);
+        self.poll.poll(&mut self.reports, Some(most))?;
+        for report in &self.reports {
+            if report.token() == token_of(CLIENT) {
+                self.client.note(report);
+            }
+        }
+        Ok(!self.reports.is_empty())
     }
 
     /// Opens a connection. One that can't be made fails at a later `next`.

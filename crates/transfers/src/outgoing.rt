@@ -51,6 +51,9 @@ impl Model for Outgoing {
     ghost invariant = { λ out. (out.start ≤ vec_len out.octets) × (out.untold < 2 ^ 64) };
 }
 
+/// Room for so many octets is kept where nothing waits.
+const MOST_KEPT: usize = 262_144;
+
 impl Outgoing {
     /// Nothing was put out yet.
     pub fn new(alloc: Global) -> Outgoing
@@ -130,7 +133,18 @@ impl Outgoing {
         let taken = write_some(socket, &self.octets[self.start..])?;
         self.start += taken;
         self.untold = self.untold.saturating_add(taken as u64);
+        self.give_back();
         Ok(taken)
+    }
+
+    /// Where nothing waits, much room that was taken for what did is given back.
+    fn give_back(&mut self)
+        ensures { self.new ≡ self.old }
+    {
+        if self.start == self.octets.len() && self.start > MOST_KEPT {
+            self.octets = Vec::new(*self.octets.allocator());
+            self.start = 0;
+        }
     }
 
     /// Writes what waits until a write takes nothing, or nothing waits. Where the socket fails, what wasn't written still waits.

@@ -1,6 +1,7 @@
-use Rattle.std.proofs.Common.{◌≡◌, ◌+◌, ◌-◌, ◌^◌, ◌≤◌, List, ℕ, length, min, take, drop, ap, ◌∙◌, arith, subst}
+use Rattle.std.proofs.Common.{◌≡◌, ◌+◌, ◌-◌, ◌^◌, ◌≤◌, List, [], ℕ, length, min, take, drop, sym, ap, ◌∙◌, arith, subst}
 use Rattle.std.proofs.lemmas.Grind.{common_steps}
 use Rattle.std.specs.Io.KnownBytes.{Appends}
+use Rattle.transfers.specs.Transfers.{Passes}
 use Rattle.transfers.proofs.Passing.{went_on}
 use Rattle.transfers.proofs.outgoing.Outgoing.flush.Goals as goal
 
@@ -17,8 +18,9 @@ returns-clause-passes g c =
     let waiting : drop start c.self.inside.octets.items ≡ c.args.self.now.waiting = ap (λ w. w.waiting) c.self.view_is in
     let written : take (length c.deref.result.now - start) (drop start c.deref.result.now) ≡ c.args.self.now.waiting =
     rest_of c.deref.result.now c.self.inside.octets.items c.args.self.now.waiting start c.deref.ensures.value waiting in
-    went_on _ _ c.args.self.now _ n
+    subst (λ new. Passes (g.W.Write.contents c.args.socket.now) (g.W.Write.contents c.write_some.new.socket) c.args.self.now [] new) (sym c.give_back.ensures)
+    (went_on _ _ c.args.self.now _ n
     (subst (λ ws. n ≤ length ws) written c.in_ok-taken.ensures.within)
     (subst (λ ws. Appends (g.W.Write.contents c.args.socket.now) (g.W.Write.contents c.write_some.new.socket) (take n ws)) written c.in_ok-taken.ensures.written)
     (behind c.self.inside.octets.items c.args.self.now.waiting start n waiting)
-    (c.saturating_add-self-inside.ensures ∙ ap (λ u. min (u + n) (2 ^ 64 - 1)) (ap (λ w. w.untold) c.self.view_is))
+    (c.saturating_add-self-inside.ensures ∙ ap (λ u. min (u + n) (2 ^ 64 - 1)) (ap (λ w. w.untold) c.self.view_is)))

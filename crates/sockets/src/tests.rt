@@ -441,12 +441,18 @@ fn what_is_put_out_goes_out_where_the_turns_end(rt: HostRuntime) -> Result<(), F
 /// The farewell behind a wrong preface (RFC 9113, sections 3.4 and 6.8).
 const FAREWELL: &[u8] = b"\0\0\x08\x07\0\0\0\0\0\0\0\0\0\0\0\0\x01";
 
+/// Writes so many octets that are no preface, and then no more.
+fn send_on(alloc: Global, client: &mut TcpStream, count: usize) -> io::Result<()> {
+    let octets = vec![in alloc; b'x'; count]?;
+    client.write_all(&octets)?;
+    client.shutdown(Shutdown::Write)
+}
+
 #[test]
 fn a_client_that_sends_on_reads_why_it_was_left(rt: HostRuntime) -> Result<(), Fail> {
     let config = one_route(rt.alloc())?;
     let (mut client, far) = pair(&rt)?;
-    client.write_all(&vec![in rt.alloc(); b'x'; 200_000]?)?;
-    client.shutdown(Shutdown::Write)?;
+    send_on(rt.alloc(), &mut client, 200_000)?;
     let far = mio::net::TcpStream::from_std(far);
     let mut world = SocketWorld::new(rt.alloc(), &rt, &[], far)?;
     let ended = serve(rt.alloc(), &config, &mut world, 100);

@@ -110,9 +110,8 @@ fn events_of(alloc: Global, load: Load) -> Option<Vec<Event>> {
 fn keep(outputs: &[Output], made: &mut Made) -> Option<()> {
     for output in outputs {
         match output {
-            Output::Client(octets) | Output::Up(_, octets) => {
-                made.octets.extend_from_slice(octets).ok()?
-            }
+            Output::Client(octets) => made.octets.extend_from_slice(octets).ok()?,
+            Output::Up(_, text) => made.octets.extend_from_slice(text.as_slice()).ok()?,
             Output::Open(_, _) | Output::Close(_) | Output::CloseClient => {}
         }
     }

@@ -3,3 +3,4 @@ pub mod Texts
 pub mod Stages
 pub mod Written
 pub mod Wholes
+pub mod Closing

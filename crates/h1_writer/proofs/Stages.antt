@@ -1,14 +1,15 @@
 -- How the text grows with what is pushed.
-use Rattle.std.proofs.Common.{Result, Ok, Err, OnOk, ◌≡◌, ℕ, ◌+◌, ◌-◌, ◌<◌, ◌≤◌, Bool, true, false, List, [], ◌∷◌, ◌++◌, length, take, get_or, Option, Some, refl, sym, ap, ◌∙◌, subst, append_assoc, length-append, arith}
+use Rattle.std.proofs.Common.{Result, Ok, Err, OnOk, ◌≡◌, ℕ, ◌+◌, ◌-◌, ◌<◌, ◌≤◌, Bool, true, false, List, [], ◌∷◌, ◌++◌, length, take, get_or, Option, Some, None, drop, refl, sym, ap, ◌∙◌, subst, append_assoc, length-append, arith}
 use Rattle.std.specs.Prelude.{not}
 use Rattle.std.specs.List.{list_all, concat, flat_map}
 use Rattle.std.proofs.lemmas.Bool.{and_parts, and_from}
-use Rattle.std.proofs.lemmas.List.{append-nil, take_more, take_all}
+use Rattle.std.proofs.lemmas.List.{append-nil, take_more, take_all, length-drop}
 use Rattle.std.proofs.lemmas.List.Concat.{flat_map-append}
 use Rattle.model.specs.Octets.{is_empty}
 use Rattle.request_rules.specs.Heads.{HeadParts}
-use Rattle.h1_writer.specs.Sending.{Stage, Sending, SentCounting, SentHolding, SentChunking, Continues, MayPush, piece_of, chunk_text, head_of}
-use Rattle.h1_writer.specs.Sending.Stage.{Counting, Holding, Chunking}
+use Rattle.h1_writer.specs.Sending.{Stage, Sending, SentWhole, SentCounting, SentHolding, SentChunking, Continues, MayPush, piece_of, chunk_text, last_chunk, content_of, head_of}
+use Rattle.h1_writer.specs.Sending.Stage.{Whole, Counting, Holding, Chunking}
+use Rattle.model.specs.Http2.{HasLength}
 
 abbrev pub are_full : List (List ℕ) → Bool
 are_full pieces = list_all (λ piece. not (is_empty piece)) pieces
@@ -99,6 +100,27 @@ pub adds_chunk : (stage : Stage) (octets : List ℕ) → stage ≡ Chunking → 
 adds_chunk stage octets e some parts ended text pieces s =
     subst (λ (t : Stage). Sending parts ended (text ++ chunk_text octets) (pieces ++ piece_of octets) t) (sym e)
     (push_chunked parts ended text octets pieces some (subst (λ (t : Stage). Sending parts ended text pieces t) e s))
+
+-- the last chunk ends a text of chunks
+ends_chunks : (parts : HeadParts) (ended : Bool) (text : List ℕ) (pieces : List (List ℕ)) → SentChunking parts ended text pieces → SentWhole parts ended (text ++ last_chunk) pieces
+ends_chunks parts ended text pieces s = record {
+  none_ended = λ e. absurd (let clash : true ≡ false = sym e ∙ s.not_ended in cc);
+  full = s.full;
+  has_length = subst (λ (o : Option ℕ). HasLength o (concat pieces)) (sym s.undeclared) tt;
+  is = ap (λ (t : List ℕ). t ++ last_chunk) s.is ∙ append_assoc (head_of parts false) (flat_map chunk_text pieces) last_chunk
+      ∙ ap (λ (b : Bool). head_of parts b ++ content_of None b pieces) (sym s.not_ended)
+      ∙ ap (λ (o : Option ℕ). head_of parts ended ++ content_of o ended pieces) (sym s.undeclared);
+}
+
+-- a body in one chunk ends it
+pub closes : (stage : Stage) (octets : List ℕ) → stage ≡ Chunking → 0 < length octets → Continues stage (chunk_text octets ++ last_chunk) octets Whole
+closes stage octets e some parts ended text pieces s =
+    subst (λ (t : List ℕ). SentWhole parts ended t (pieces ++ piece_of octets)) (append_assoc text (chunk_text octets) last_chunk)
+    (ends_chunks parts ended (text ++ chunk_text octets) (pieces ++ piece_of octets) (push_chunked parts ended text octets pieces some (subst (λ (t : Stage). Sending parts ended text pieces t) e s)))
+
+-- some octets stand behind a place within
+pub some_left : (items : List ℕ) (place : ℕ) → place < length items → 0 < length (drop place items)
+some_left items place within = let count : length (drop place items) ≡ length items - place = length-drop place items in omega (arith, count, within)
 
 pub on_ok : {T E P Q : Type 0} (r : Result T E) → (P → Q) → OnOk r P → OnOk r Q
 on_ok (Ok x) to p = to p

@@ -5,5 +5,7 @@ pub mod laws;
 mod lines;
 mod numbers;
 mod sender;
+mod text;
 
 pub use crate::sender::Sender;
+pub use crate::text::{LINE_ROOM, Text};

@@ -1,11 +1,12 @@
 //! A request as it is sent.
 
-ghost use Rattle.std.specs.Prelude.{◌≡◌, ◌<◌, ◌++◌, [], ◌∷◌, ℕ, List, true, false, OnOk, OnErr, IfOk, MatchBool, length, take};
+ghost use Rattle.std.specs.Prelude.{◌≡◌, ◌<◌, ◌++◌, [], ◌∷◌, ℕ, List, true, false, OnOk, OnErr, IfOk, MatchBool, length, take, drop, ◌+◌, ◌≤◌};
 ghost use Rattle.model.specs.Http2.{HasLength};
 ghost use Rattle.h1_writer.specs.Sending.{Sending, Continues, MayPush, MayFinish, chunk_text, head_of, Begins};
 ghost use Rattle.h1_writer.specs.Views.{stage_of};
-ghost use Rattle.h1_writer.specs.Sending.Stage.{Whole};
+ghost use Rattle.h1_writer.specs.Sending.Stage.{Whole, Chunking};
 
+use crate::text::{Text, close_chunk};
 use crate::{lines, numbers};
 use request_rules::RequestHead;
 use std::alloc::AllocError;
@@ -174,6 +175,18 @@ impl Sender {
         }
         self.waiting = Waiting::Nothing;
         Ok(())
+    }
+
+    /// The whole text, where octets of no declared length wait for their end: that of the head, which has so many octets, and behind it what is
+    /// written for the body at once. The body stays where it stands, from the place `body` on, with room for its chunk's line between it and the
+    /// head. An `Err` says that memory was refused.
+    pub fn close(self, octets: Vec<u8>, head: usize, body: usize) -> Result<Text, AllocError>
+        requires chunked { self ≡ Chunking }
+        requires room { head + 18 ≤ body }
+        requires some { body < length octets.items }
+        ensures { IfOk result (λ text. (written : List ℕ) × (text ≡ take head octets.items ++ written) × Continues self written (drop body octets.items) Whole) }
+    {
+        close_chunk(octets, head, body)
     }
 
     /// Whether so many octets may be pushed.

@@ -54,6 +54,46 @@ fn a_body_is_written_in_one_piece(rt: HostRuntime) -> Result<(), Fail> {
     Ok(())
 }
 
+#[test]
+fn a_body_of_several_frames_stands_behind_the_line_with_its_size(
+    rt: HostRuntime,
+) -> Result<(), Fail> {
+    let head = head_of(rt.alloc(), &rt, b"POST", false)?;
+    let Begun::Waits(mut request) = begin(rt.alloc(), &head, false, 7)? else {
+        return Err(Fail::from("whole"));
+    };
+    request.gather(b"")?;
+    assert_eq!(rt; request.len(), 0);
+    request.gather(&[b'a'; 255])?;
+    request.gather(b"b")?;
+    assert_eq!(rt; request.len(), 256);
+    let text = request.finish(b"")?;
+    let mut wanted =
+        b"POST / HTTP/1.1\r\nhost: h\r\nvia: 2.0 h2gw\r\ntransfer-encoding: chunked\r\nconnection: close\r\n\r\n100\r\n".to_vec(
+            rt.alloc(),
+        )?;
+    wanted.extend_from_slice(&[b'a'; 255])?;
+    wanted.extend_from_slice(b"b\r\n0\r\n\r\n")?;
+    assert_eq!(rt; text.as_slice(), wanted.as_slice());
+    Ok(())
+}
+
+#[test]
+fn a_body_of_empty_frames_is_the_last_chunk_alone(rt: HostRuntime) -> Result<(), Fail> {
+    let head = head_of(rt.alloc(), &rt, b"POST", false)?;
+    let Begun::Waits(mut request) = begin(rt.alloc(), &head, false, 7)? else {
+        return Err(Fail::from("whole"));
+    };
+    request.gather(b"")?;
+    request.gather(b"")?;
+    let text = request.finish(b"")?;
+    assert!(rt;
+        text.as_slice()
+            .ends_with(b"connection: close\r\n\r\n0\r\n\r\n")
+    );
+    Ok(())
+}
+
 /// The head of a request on `/` of `h` that declares this length.
 fn head_of_length(
     alloc: Global,

@@ -18,7 +18,7 @@ event_of (event.UpTook k count) = logs.Event.UpTook k count
 abbrev pub output_of : Output → logs.Output
 output_of (output.Client octets) = logs.Output.ToClient octets.items
 output_of (output.Open k route) = logs.Output.Does (logs.Act.Open k route)
-output_of (output.Up k octets) = logs.Output.Does (logs.Act.ToUp k octets.items)
+output_of (output.Up k octets) = logs.Output.Does (logs.Act.ToUp k octets)
 output_of (output.Close k) = logs.Output.Does (logs.Act.Close k)
 output_of output.CloseClient = logs.Output.Does logs.Act.CloseClient
 

@@ -1,5 +1,7 @@
 //! What happens to a gateway, and what it puts out.
 
+use h1_writer::Text;
+
 /// What happens to a gateway. Connections to upstreams have numbers, from 1 in the order in which they are opened.
 #[derive(Drop)]
 pub enum Event {
@@ -27,7 +29,7 @@ pub enum Output {
     /// A connection is opened to the upstream of a route, which goes by its place from 0.
     Open(u32, u32),
     /// Octets for an upstream.
-    Up(u32, Vec<u8>),
+    Up(u32, Text),
     /// An upstream's connection is closed.
     Close(u32),
     /// The client's connection is closed.

@@ -13,3 +13,4 @@ pub use crate::events::{Event, Output};
 pub use crate::laws::{blocks_are_completed, data_is_told, fragments_may_go, updates_are_told};
 pub use crate::outputs::Outputs;
 pub use crate::sections::section_of;
+pub use h1_writer::Text;

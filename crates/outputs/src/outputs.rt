@@ -11,6 +11,7 @@ ghost use Rattle.outputs.specs.Views.{outputs_of};
 use crate::events::Output;
 use crate::kinds::{HEADER, LONGEST};
 use frames::View;
+use h1_writer::Text;
 use std::alloc::{AllocError, Global};
 use std::marker::Model;
 
@@ -94,13 +95,13 @@ impl Outputs {
     }
 
     /// Puts octets out to the upstream connection `k`.
-    pub fn send_up(&mut self, k: u32, octets: Vec<u8>) -> Result<(), AllocError>
-        ensures { OnOk result (self.new ≡ put self.old (Does (DoesUp k octets.items))) }
+    pub fn send_up(&mut self, k: u32, octets: Text) -> Result<(), AllocError>
+        ensures { OnOk result (self.new ≡ put self.old (Does (DoesUp k octets))) }
     {
         match self.items.pop() {
             Some(Output::Up(j, mut before)) => {
                 if j == k {
-                    before.extend_from_slice(&octets)?;
+                    before.append(octets.as_slice())?;
                     self.items.push(Output::Up(j, before))?;
                 } else {
                     self.items.push(Output::Up(j, before))?;

@@ -1,6 +1,6 @@
 //! Scripts, and their replay.
 
-use gateway::{Event, Output};
+use gateway::{Event, Output, Text};
 use scripts::{ScriptFault, print_steps, read_script, replay};
 use std::alloc::{AllocError, Global};
 use std::io::Write;
@@ -383,7 +383,7 @@ fn prints_outputs(rt: HostRuntime) -> Result<(), Fail> {
     let alloc = rt.alloc();
     let first = vec![in alloc; Output::Client(b"hi".to_vec(alloc)?), Output::Open(1, 20)]?;
     let second = vec![in alloc;
-        Output::Up(1, Vec::new(alloc)),
+        Output::Up(1, Text::from_octets(Vec::new(alloc))),
         Output::Close(4294967295),
         Output::CloseClient,
     ]?;

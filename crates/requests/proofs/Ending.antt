@@ -1,6 +1,6 @@
 -- A body of the right length may be pushed in one piece, and then the text may be ended.
-use Rattle.std.proofs.Common.{◌≡◌, ℕ, ◌+◌, ◌<◌, ◌≤◌, Bool, true, false, List, [], ◌∷◌, ◌++◌, length, take, drop, Option, Some, refl, sym, ◌∙◌, ap, subst, arith, append_assoc, append-nil, length-append}
-use Rattle.std.proofs.lemmas.List.{take-append-drop, take-append-le, drop-append-le, take_all, drop_all}
+use Rattle.std.proofs.Common.{◌≡◌, ℕ, ◌+◌, ◌-◌, ◌<◌, ◌≤◌, Bool, true, false, List, [], ◌∷◌, ◌++◌, length, take, drop, Option, Some, refl, sym, ◌∙◌, ap, subst, arith, append_assoc, append-nil, length-append}
+use Rattle.std.proofs.lemmas.List.{take-append-drop, take-append-le, drop-append-le, drop_all, length-drop}
 use Rattle.std.specs.List.{concat}
 use Rattle.model.specs.Http2.{HasLength}
 use Rattle.request_rules.specs.Heads.{HeadParts}
@@ -65,52 +65,60 @@ ends_counted parts text (Counting left) body sending on not_yet fits =
 ends_counted parts text (Holding octet) body sending on not_yet fits = absurd (not_yet tt)
 ends_counted parts text Chunking body sending on not_yet fits = absurd (not_yet tt)
 
+-- where octets came and the text may be ended, they go out in chunks
+pub chunking : (parts : HeadParts) (text : List ℕ) (stage : Stage) (body : List ℕ) → Sending parts false text [] stage → (stage ≡ Whole → ⊥) → MayFinish stage → HasLength parts.length body → 0 < length body → stage ≡ Chunking
+chunking parts text Whole body sending on may fits some = absurd may
+chunking parts text (Counting left) body sending on may fits some = absurd may
+chunking parts text (Holding octet) body sending on may fits some =
+    let same : length body ≡ 0 = subst (λ o. HasLength o body) sending.declared fits in absurd (omega (arith, same, some))
+chunking parts text Chunking body sending on may fits some = refl
+
 -- ---- a request that waits, as it lies in one piece of memory
 
--- of which nothing of the body came
-pub head_alone : (route start : ℕ) (sender : Stage) (items : List ℕ) (request : Request) → (let kept : Request = record { route = route; text = take start items; stage = sender; body = drop start items } in kept ≡ request)
-    → request.body ≡ [] → items ≡ request.text
-head_alone route start sender items request view none =
-    let rest : drop start items ≡ [] = ap (λ (r : Request). r.body) view ∙ none in
-    sym (take-append-drop start items) ∙ ap (λ (os : List ℕ). take start items ++ os) rest ∙ append-nil (take start items) ∙ ap (λ (r : Request). r.text) view
-
-module _ (route start : ℕ) (sender : Stage) (items octets : List ℕ) where
+module _ (route head body : ℕ) (sender : Stage) (items octets : List ℕ) where
   abbrev kept : Request
-  kept = record { route = route; text = take start items; stage = sender; body = drop start items }
+  kept = record { route = route; text = take head items; stage = sender; body = drop body items }
 
-  -- its body stands as it came
-  pub ends_as_it_is : (request : Request) (text : List ℕ) → kept ≡ request → text ≡ items ++ octets → MayEnd request octets → (MayFinish sender → ⊥) → IsEnded request octets text
-  ends_as_it_is request text view is may not_yet = subst (λ (r : Request). MayEnd r octets → IsEnded r octets text) view (λ m. record {
-    written = drop start items ++ octets;
-    is = is ∙ ap (λ (os : List ℕ). os ++ octets) (sym (take-append-drop start items)) ∙ append_assoc (take start items) (drop start items) octets;
-    continues = ends_counted m.parts (take start items) sender (drop start items ++ octets) m.sending m.goes_on not_yet m.has_length;
+  -- of a declared length its body stands as it came, right behind the head
+  pub ends_as_it_is : (request : Request) (text : List ℕ) → kept ≡ request → body ≡ head → text ≡ items ++ octets → MayEnd request octets → (MayFinish sender → ⊥) → IsEnded request octets text
+  ends_as_it_is request text view joined is may not_yet = subst (λ (r : Request). MayEnd r octets → IsEnded r octets text) view (λ m. record {
+    written = drop body items ++ octets;
+    is = is ∙ ap (λ (os : List ℕ). os ++ octets) (sym (take-append-drop head items) ∙ ap (λ (n : ℕ). take head items ++ drop n items) (sym joined)) ∙ append_assoc (take head items) (drop body items) octets;
+    continues = ends_counted m.parts (take head items) sender (drop body items ++ octets) m.sending m.goes_on not_yet m.has_length;
   }) may
 
-  -- it is written where it stands, since nothing of its body came before
-  pub ends_at_once : (request : Request) (text : List ℕ) → kept ≡ request → length items ≤ start → IsEndedText items sender octets text → IsEnded request octets text
+  -- it is written at once, since nothing of its body came before
+  pub ends_at_once : (request : Request) (text : List ℕ) → kept ≡ request → length items ≤ body → IsEndedText (take head items) sender octets text → IsEnded request octets text
   ends_at_once request text view all ended = subst (λ (r : Request). IsEnded r octets text) view (record {
     written = ended.0;
-    is = ended.1 ∙ ap (λ (os : List ℕ). os ++ ended.0) (sym (take_all start items all));
-    continues = subst (λ (os : List ℕ). Continues sender ended.0 (os ++ octets) Whole) (sym (drop_all start items all)) ended.2;
+    is = ended.1;
+    continues = subst (λ (os : List ℕ). Continues sender ended.0 (os ++ octets) Whole) (sym (drop_all body items all)) ended.2;
   })
 
-  -- it may end behind the octets
-  pub may_end : (request : Request) (head body : List ℕ) → kept ≡ request → start ≤ length items → head ≡ take start (items ++ octets) → body ≡ drop start (items ++ octets) → MayEnd request octets → Ends sender head body
-  may_end request head body view short front rest may =
+  -- then it may end with the octets
+  pub may_end_at_once : (request : Request) → kept ≡ request → length items ≤ body → MayEnd request octets → Ends sender (take head items) octets
+  may_end_at_once request view all may =
       let m : MayEnd kept octets = subst (λ (r : Request). MayEnd r octets) (sym view) may in
-      let same : head ≡ take start items = front ∙ take-append-le start items octets short in
-      let all : body ≡ drop start items ++ octets = rest ∙ drop-append-le start items octets short in
       record {
         parts = m.parts;
-        sending = subst (λ (os : List ℕ). Sending m.parts false os [] sender) (sym same) m.sending;
+        sending = m.sending;
         goes_on = m.goes_on;
-        has_length = subst (λ (os : List ℕ). HasLength m.parts.length os) (sym all) m.has_length;
+        has_length = subst (λ (os : List ℕ). HasLength m.parts.length (os ++ octets)) (drop_all body items all) m.has_length;
       }
 
-  -- its text was written anew
-  pub ends_anew : (request : Request) (head body text : List ℕ) → kept ≡ request → start ≤ length items → head ≡ take start (items ++ octets) → body ≡ drop start (items ++ octets) → IsEndedText head sender body text → IsEnded request octets text
-  ends_anew request head body text view short front rest ended = subst (λ (r : Request). IsEnded r octets text) view (record {
+  -- some octets came, and it may end behind these
+  pub in_chunks : (request : Request) → kept ≡ request → body < length items → MayFinish sender → MayEnd request octets → sender ≡ Chunking
+  in_chunks request view some finish may =
+      let m : MayEnd kept octets = subst (λ (r : Request). MayEnd r octets) (sym view) may in
+      let count : length (drop body items) ≡ length items - body = length-drop body items in
+      let all : length (drop body items ++ octets) ≡ length (drop body items) + length octets = length-append (drop body items) octets in
+      chunking m.parts (take head items) sender (drop body items ++ octets) m.sending m.goes_on finish m.has_length (omega (arith, count, all, some))
+
+  -- and its text was written round them
+  pub ends_behind : (request : Request) (all text : List ℕ) → kept ≡ request → head ≤ body → body ≤ length items → all ≡ items ++ octets
+      → (written : List ℕ) × (text ≡ take head all ++ written) × Continues sender written (drop body all) Whole → IsEnded request octets text
+  ends_behind request all text view before within all_is ended = subst (λ (r : Request). IsEnded r octets text) view (record {
     written = ended.0;
-    is = ended.1 ∙ ap (λ (os : List ℕ). os ++ ended.0) (front ∙ take-append-le start items octets short);
-    continues = subst (λ (os : List ℕ). Continues sender ended.0 os Whole) (rest ∙ drop-append-le start items octets short) ended.2;
+    is = ended.1 ∙ ap (λ (os : List ℕ). take head os ++ ended.0) all_is ∙ ap (λ (os : List ℕ). os ++ ended.0) (take-append-le head items octets (omega (arith, before, within)));
+    continues = subst (λ (os : List ℕ). Continues sender ended.0 os Whole) (ap (drop body) all_is ∙ drop-append-le body items octets within) ended.2;
   })

@@ -1,8 +1,8 @@
 -- A request that waits for its end, as the rule of requests has it, and what it may end with.
-use Rattle.std.specs.Prelude.{◌≡◌, ℕ, false, List, [], ◌++◌}
+use Rattle.std.specs.Prelude.{◌≡◌, ℕ, ◌+◌, ◌<◌, ◌≤◌, false, List, [], ◌++◌}
 use Rattle.model.specs.Http2.{HasLength}
 use Rattle.request_rules.specs.Heads.{HeadParts}
-use Rattle.h1_writer.specs.Sending.{Stage, Sending, Continues}
+use Rattle.h1_writer.specs.Sending.{Stage, Sending, Continues, MayFinish}
 use Rattle.h1_writer.specs.Sending.Stage.{Whole}
 
 -- The place of its route, its head's text as it was written, what that waits for, and the octets of the body as they came.
@@ -11,6 +11,14 @@ pub record Request : Type 0 where
   pub text : List ℕ
   pub stage : Stage
   pub body : List ℕ
+
+-- How a request lies in one piece of memory with so many octets: its head ends before its body begins, right there where a length was declared;
+-- else with room for the line of a chunk between them, once anything stands behind the head.
+pub record IsLaid (stage : Stage) (head body all : ℕ) : Type 0 where
+  pub before : head ≤ body
+  pub within : body ≤ all
+  pub joined : (MayFinish stage → ⊥) → body ≡ head
+  pub room : MayFinish stage → head < all → head + 18 ≤ body
 
 -- The request may end behind these octets: its body has the length that its head declares, if it declares one.
 pub record MayEnd (request : Request) (octets : List ℕ) : Type 0 where

@@ -6,33 +6,35 @@ ghost use Rattle.requests.specs.Waits.{Ends, MayEnd, IsEnded, IsEndedText};
 ghost use Rattle.requests.specs.Beginning.{IsBegun};
 
 use crate::going::Going;
-use h1_writer::Sender;
+use h1_writer::{LINE_ROOM, Sender, Text};
 use request_rules::RequestHead;
 use std::alloc::{AllocError, Global};
 use std::marker::Model;
 
 /// A request of which more is to come, and which is passed on whole. A clause sees the place of its route, its head's text, what
-/// that waits for, and the octets of its body so far. Both texts lie in one piece of memory, since a body of a declared length goes
-/// out as it came, right behind its head.
+/// that waits for, and the octets of its body so far. Both texts lie in one piece of memory, where they go out as they lie: a body of a
+/// declared length right behind its head, any other behind room for the line of its chunk, which is written once its size is known.
 #[derive(Drop)]
 pub struct Waiting {
     route: u32,
     sender: Sender,
     /// The head's text, and behind it the body.
     octets: Vec<u8>,
+    /// Where the head ends.
+    head: usize,
     /// Where the body begins.
-    start: usize,
+    body: usize,
 }
 
 impl Model for Waiting {
-    ghost use Rattle.std.specs.Prelude.{◌≤◌, take, drop, vec_len};
-    ghost use Rattle.requests.specs.Waits.{Request};
+    ghost use Rattle.std.specs.Prelude.{take, drop, vec_len};
+    ghost use Rattle.requests.specs.Waits.{Request, IsLaid};
 
     ghost Value = { Request };
 
-    ghost view = { λ w. record { route = w.route; text = take w.start w.octets.items; stage = w.sender; body = drop w.start w.octets.items } };
+    ghost view = { λ w. record { route = w.route; text = take w.head w.octets.items; stage = w.sender; body = drop w.body w.octets.items } };
 
-    ghost invariant = { λ w. w.start ≤ vec_len w.octets };
+    ghost invariant = { λ w. IsLaid w.sender w.head w.body (vec_len w.octets) };
 }
 
 /// A request whose head came.
@@ -78,12 +80,13 @@ pub fn begin(
     if ended {
         return Ok(Begun::Whole(octets));
     }
-    let start = octets.len();
+    let head = octets.len();
     Ok(Begun::Waits(Waiting {
         route,
         sender,
         octets,
-        start,
+        head,
+        body: head,
     }))
 }
 
@@ -99,19 +102,6 @@ fn end_text(mut sender: Sender, head: Vec<u8>, body: &[u8]) -> Result<Vec<u8>, A
     Ok(text)
 }
 
-/// The head's text alone, of a text with a body that waits behind it, with room for that.
-fn copy_head(alloc: Global, head: &[u8], body: &[u8]) -> Result<Vec<u8>, AllocError>
-    ensures { IfOk result (λ text. text.items ≡ head.now) }
-{
-    let room = head
-        .len()
-        .saturating_add(body.len())
-        .saturating_add(CHUNK_ROOM);
-    let mut text = Vec::with_capacity(alloc, room)?;
-    text.extend_from_slice(head)?;
-    Ok(text)
-}
-
 impl Waiting {
     /// The place of its route.
     pub fn route(&self) -> u32
@@ -124,7 +114,7 @@ impl Waiting {
     pub fn len(&self) -> usize
         ensures { result ≡ length self.now.body }
     {
-        self.octets.len() - self.start
+        self.octets.len() - self.body
     }
 
     /// More octets of its body have come. An `Err` says that memory was refused; it changes nothing.
@@ -132,6 +122,10 @@ impl Waiting {
         ensures added { OnOk result (self.new ≡ record self.old { body = self.old.body ++ octets.now }) }
         ensures unchanged { OnErr result (self.new ≡ self.old) }
     {
+        if self.octets.len() == self.head && self.sender.may_finish() {
+            self.octets.extend_from_slice(&[0; LINE_ROOM])?;
+            self.body = self.octets.len();
+        }
         self.octets.extend_from_slice(octets)
     }
 
@@ -141,33 +135,41 @@ impl Waiting {
         ensures head { result.0.items ≡ self.text }
         ensures rest { result.1 ≡ self.stage }
     {
-        let Waiting { sender, octets, .. } = self;
+        let Waiting {
+            sender,
+            mut octets,
+            head,
+            ..
+        } = self;
+        octets.truncate(head);
         (octets, Going::by(sender))
     }
 
     /// The whole text, where these octets end the body: that of the head, and the body in one piece (RFC 9112, sections 6 and 7.1). An `Err`
     /// says that memory was refused.
-    pub fn finish(self, octets: &[u8]) -> Result<Vec<u8>, AllocError>
+    pub fn finish(self, octets: &[u8]) -> Result<Text, AllocError>
         requires { MayEnd self octets.now }
-        ensures { IfOk result (λ text. IsEnded self octets.now text.items) }
+        ensures { IfOk result (IsEnded self octets.now) }
     {
         let Waiting {
             sender,
             octets: mut text,
-            start,
+            head,
+            body,
             ..
         } = self;
         if !sender.may_finish() {
             // Its length was declared.
             text.extend_from_slice(octets)?;
-            return Ok(text);
+            return Ok(Text::from_octets(text));
         }
-        if text.len() == start {
+        if text.len() == body {
             // The body came in one frame.
-            return end_text(sender, text, octets);
+            text.truncate(head);
+            let whole = end_text(sender, text, octets)?;
+            return Ok(Text::from_octets(whole));
         }
         text.extend_from_slice(octets)?;
-        let (head, body) = text.split_at(start);
-        end_text(sender, copy_head(*text.allocator(), head, body)?, body)
+        sender.close(text, head, body)
     }
 }

@@ -2,7 +2,7 @@
 
 use frames::{Split, View, split};
 use h1_reader::{Piece, Reader, ResponseHead};
-use outputs::{Output, Outputs, section_of};
+use outputs::{Output, Outputs, Text, section_of};
 use std::alloc::Global;
 use std::test::*;
 
@@ -29,6 +29,11 @@ fn head_of(alloc: Global, text: &[u8]) -> Result<ResponseHead, Fail> {
     }
 }
 
+/// These octets for an upstream.
+fn text_of(alloc: Global, octets: &[u8]) -> Result<Text, Fail> {
+    Ok(Text::from_octets(Vec::from_slice(alloc, octets)?))
+}
+
 #[test]
 fn what_goes_to_one_place_is_joined(rt: HostRuntime) -> Result<(), Fail> {
     let alloc = rt.alloc();
@@ -42,9 +47,9 @@ fn what_goes_to_one_place_is_joined(rt: HostRuntime) -> Result<(), Fail> {
     outputs.send(&view)?;
     outputs.send(&view)?;
     outputs.open_up(1, 2)?;
-    outputs.send_up(1, Vec::from_slice(alloc, b"GET")?)?;
-    outputs.send_up(1, Vec::from_slice(alloc, b" /")?)?;
-    outputs.send_up(2, Vec::from_slice(alloc, b"PUT")?)?;
+    outputs.send_up(1, text_of(alloc, b"GET")?)?;
+    outputs.send_up(1, text_of(alloc, b" /")?)?;
+    outputs.send_up(2, text_of(alloc, b"PUT")?)?;
     outputs.close_up(1)?;
     outputs.close_client()?;
     let mut items = Vec::new(alloc);

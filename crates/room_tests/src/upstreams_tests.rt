@@ -148,7 +148,7 @@ fn only_the_stream_that_is_told_is_forgotten(rt: HostRuntime) -> Result<(), Fail
         return Err(Fail::from("it isn't due"));
     };
     assert_eq!(rt; due.stream, 3);
-    assert!(rt; due.text.ends_with(b"1\r\ny\r\n0\r\n\r\n"));
+    assert!(rt; due.text.as_slice().ends_with(b"1\r\ny\r\n0\r\n\r\n"));
     Ok(())
 }
 

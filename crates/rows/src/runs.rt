@@ -106,7 +106,7 @@ impl Told {
             })?,
             Output::Up(k, octets) => {
                 if let Some(upstream) = self.upstream_mut(*k) {
-                    upstream.text.extend_from_slice(octets)?;
+                    upstream.text.extend_from_slice(octets.as_slice())?;
                 }
             }
             Output::Close(k) => self.note_closed(*k),

@@ -171,7 +171,7 @@ fn write_output(output: &Output, text: &mut Vec<u8>) -> io::Result<()> {
         Output::Open(k, route) => write!(text, "\nO {k} {route}")?,
         Output::Up(k, octets) => {
             write!(text, "\nU {k} ")?;
-            text.extend_from_slice(octets)?;
+            text.extend_from_slice(octets.as_slice())?;
         }
         Output::Close(k) => write!(text, "\nX {k}")?,
         Output::CloseClient => write!(text, "\nXC")?,

@@ -41,7 +41,7 @@ fn print_output(output: &Output, text: &mut String) -> Result<(), AllocError>
         Output::Open(k, route) => write!(text, "O {k} {route}")?,
         Output::Up(k, octets) => {
             write!(text, "U {k} ")?;
-            print_hex(octets, text)?;
+            print_hex(octets.as_slice(), text)?;
         }
         Output::Close(k) => write!(text, "X {k}")?,
         Output::CloseClient => text.push_str("XC")?,

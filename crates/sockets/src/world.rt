@@ -343,7 +343,7 @@ impl<'a, N: Net> Sockets<'a, N> {
                 Err(PutFault::Socket(_) | PutFault::Memory) => Err(WorldFault {}),
             },
             Output::Open(k, route) => self.open(*k, *route),
-            Output::Up(k, octets) => self.put(*k, octets),
+            Output::Up(k, octets) => self.put(*k, octets.as_slice()),
             Output::Close(k) => {
                 if let Some(place) = place_of(*k, &self.upstreams) {
                     self.upstreams.remove(place);

@@ -20,7 +20,7 @@ stage_of (Some stage) = stage
 
 -- what is due for a request that goes out
 abbrev pub due_for : Outgoing → serving.Due
-due_for outgoing = ToOpen outgoing.stream outgoing.route outgoing.text.items (stage_of outgoing.rest)
+due_for outgoing = ToOpen outgoing.stream outgoing.route outgoing.text (stage_of outgoing.rest)
 
 -- what is due, as it is answered
 abbrev pub due_by : Due → serving.Due

@@ -7,6 +7,7 @@ ghost use Rattle.serving.specs.State.Way.{Going as GoingOn, Dropped};
 ghost use Rattle.upstreams.specs.Ways.{way_of};
 ghost use Rattle.upstreams.specs.Requests.{stage_of, due_by, MayTake, MayTakeOf, GoesBy, Takes, IsHeldAt, IsHeldNowhere};
 
+use h1_writer::Text;
 use requests::{Going, Waiting};
 use std::alloc::{AllocError, Global};
 use std::marker::Model;
@@ -19,7 +20,7 @@ pub struct Outgoing {
     /// The place of its route, from 0.
     pub route: u32,
     /// The text (RFC 9112, section 2.1), or as much of it as goes out now.
-    pub text: Vec<u8>,
+    pub text: Text,
     /// What goes out as it comes, where the text isn't whole.
     pub rest: Option<Going>,
 }

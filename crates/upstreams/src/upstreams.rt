@@ -14,6 +14,7 @@ use crate::connection::Connection;
 use crate::connections;
 use crate::held::{self, Due, Held, Outgoing, Way};
 use answers::{Answer, Passing};
+use h1_writer::Text;
 use request_rules::RequestHead;
 use requests::{Begun, Going, Waiting};
 use std::alloc::{AllocError, Global};
@@ -74,7 +75,7 @@ impl Upstreams {
                 Ok(Due::ToOpen(Outgoing {
                     stream: id,
                     route,
-                    text,
+                    text: Text::from_octets(text),
                     rest: None,
                 }))
             }
@@ -99,7 +100,7 @@ impl Upstreams {
         Outgoing {
             stream: id,
             route,
-            text,
+            text: Text::from_octets(text),
             rest: Some(going),
         }
     }

@@ -7,7 +7,7 @@ ghost use Rattle.worlds.specs.Memory.{steps_of, log_in, handed_in, left_in, Give
 ghost use Rattle.worlds.specs.Worlds.{AddsEvent, AddsHanded, SaysOver, with_outputs};
 
 use crate::world::{Next, World, WorldFault};
-use outputs::{Event, Output};
+use outputs::{Event, Output, Text};
 use std::alloc::{AllocError, Global};
 
 /// A world that gives a list of events in order, each as soon as it is asked, and keeps its log.
@@ -138,6 +138,13 @@ fn copy_event(alloc: Global, event: &Event) -> Result<Event, AllocError>
     })
 }
 
+/// A text once more.
+fn copy_text(alloc: Global, text: &Text) -> Result<Text, AllocError>
+    ensures { IfOk result (λ copy. copy ≡ text.now) }
+{
+    Ok(Text::from_octets(Vec::from_slice(alloc, text.as_slice())?))
+}
+
 /// An output once more.
 fn copy_output(alloc: Global, output: &Output) -> Result<Output, AllocError>
     ensures { IfOk result (λ copy. output_of copy ≡ output_of output.now) }
@@ -145,7 +152,7 @@ fn copy_output(alloc: Global, output: &Output) -> Result<Output, AllocError>
     Ok(match output {
         Output::Client(octets) => Output::Client(Vec::from_slice(alloc, octets)?),
         Output::Open(k, route) => Output::Open(*k, *route),
-        Output::Up(k, octets) => Output::Up(*k, Vec::from_slice(alloc, octets)?),
+        Output::Up(k, octets) => Output::Up(*k, copy_text(alloc, octets)?),
         Output::Close(k) => Output::Close(*k),
         Output::CloseClient => Output::CloseClient,
     })

@@ -16,6 +16,7 @@ ghost use Rattle.steps.specs.exchanges.Opening.{with_side, IsAbove};
 
 use crate::exchanges::listening::stream_of;
 use answers::Passing;
+use h1_writer::Text;
 use outputs::Outputs;
 use relay::Rooms;
 use std::alloc::AllocError;
@@ -69,8 +70,8 @@ pub fn open(
         text,
         rest,
     } = request;
-    let to_head = asks_for_head(&text);
-    let count = text.len() as u64;
+    let to_head = asks_for_head(text.as_slice());
+    let count = text.as_slice().len() as u64;
     let k = rooms.upstreams.open(stream, to_head, passing, rest)?;
     out.open_up(k, route)?;
     rooms.upstreams.put(k, count);
@@ -98,5 +99,5 @@ pub fn send(
     }
     rooms.upstreams.put(number, count);
     rooms.marks.put(stream, count);
-    out.send_up(number, text)
+    out.send_up(number, Text::from_octets(text))
 }

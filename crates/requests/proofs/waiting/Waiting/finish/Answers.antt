@@ -1,4 +1,5 @@
-use Rattle.std.proofs.Common.{rules, IfOk, Result, Ok, Err}
+use Rattle.std.proofs.Common.{rules, ◌≡◌, ◌++◌, ◌∙◌, List, ℕ, take, IfOk, Result, Ok, Err, subst, sym}
+use Rattle.requests.specs.Waits.{IsEnded, IsEndedText}
 use Rattle.requests.proofs.Ending as laws
 use Rattle.requests.proofs.waiting.Waiting.finish.Goals as goal
 
@@ -8,16 +9,19 @@ if_ok (Err e) to p = tt
 
 pub returns-then-not-may_finish : goal.returns-then-not-may_finish
 returns-then-not-may_finish c =
-    laws.ends_as_it_is c.self.inside.route c.self.inside.start c.self.inside.sender c.self.inside.octets.items c.args.octets.now c.args.self c.extend_from_slice.new.self.items c.self.view_is (search rules) c.requires (search rules)
+    laws.ends_as_it_is c.self.inside.route c.self.inside.head c.self.inside.body c.self.inside.sender c.self.inside.octets.items c.args.octets.now c.args.self c.from_octets.result c.self.view_is (search rules) (search rules) c.requires (search rules)
 
-pub returns-then-len-start : goal.returns-then-len-start
-returns-then-len-start c =
-    if_ok c.end_text.result
-    (λ text ended. laws.ends_at_once c.self.inside.route c.self.inside.start c.self.inside.sender c.self.inside.octets.items c.args.octets.now c.args.self text.items c.self.view_is (search rules) ended)
-    c.end_text.ensures
+pub returns-then-len-body : goal.returns-then-len-body
+returns-then-len-body c =
+    let ended : IsEndedText c.truncate.new.self.items c.self.inside.sender c.args.octets.now c.in_ok-whole.whole.items = c.in_ok-whole.ensures in
+    let head : c.truncate.new.self.items ≡ take c.self.inside.head c.self.inside.octets.items = search rules in
+    let same : c.from_octets-then-len-body.result ≡ c.in_ok-whole.whole.items = search rules in
+    subst (IsEnded c.args.self c.args.octets.now) (sym same)
+    (laws.ends_at_once c.self.inside.route c.self.inside.head c.self.inside.body c.self.inside.sender c.self.inside.octets.items c.args.octets.now c.args.self c.in_ok-whole.whole.items c.self.view_is (search rules)
+     (subst (λ (os : List ℕ). IsEndedText os c.self.inside.sender c.args.octets.now c.in_ok-whole.whole.items) head ended))
 
 pub returns : goal.returns
 returns c =
-    if_ok c.end_text-2.result
-    (λ text ended. laws.ends_anew c.self.inside.route c.self.inside.start c.self.inside.sender c.self.inside.octets.items c.args.octets.now c.args.self _ _ text.items c.self.view_is (search rules) (search rules) (search rules) ended)
-    c.end_text-2.ensures
+    if_ok c.close.result
+    (λ text ended. laws.ends_behind c.self.inside.route c.self.inside.head c.self.inside.body c.self.inside.sender c.self.inside.octets.items c.args.octets.now c.args.self c.extend_from_slice-2.new.self.items text c.self.view_is c.self.invariant.before (search rules) c.in_ok-extend_from_slice-2.ensures.items ended)
+    c.close.ensures

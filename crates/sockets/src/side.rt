@@ -98,15 +98,17 @@ impl Side {
         self.lost
     }
 
-    /// Whether octets wait to be written.
-    pub fn has_waiting(&self) -> bool
-        ensures { IsTrue result ↔ (0 < length self.now.out.waiting) }
+    /// How many octets wait to be written.
+    pub fn waiting(&self) -> usize
+        ensures { result ≡ length self.now.out.waiting }
     {
-        self.out.waiting() > 0
+        self.out.waiting()
     }
 
-    /// It has something to be read, if only a failure.
-    pub fn expect_input(&mut self) {
+    /// A write failed: what is written to it reaches nobody, and reads go on until its end, or to a failure.
+    pub fn lose(&mut self) {
+        self.lost = true;
+        self.hung_up = true;
         self.readable = true;
     }
 

@@ -16,7 +16,7 @@ pub struct Upstream {
     pub k: u32,
     /// Its socket, unless it couldn't be made.
     side: Option<Side>,
-    /// A write failed. What is there is still read.
+    /// A write failed, and its server hadn't ended it before. What is there is still read.
     broken: bool,
     /// It stands among those of which something may be read.
     is_queued: bool,
@@ -116,8 +116,8 @@ impl Upstream {
         };
         match side.put(registry, octets) {
             Ok(()) => Ok(()),
-            Err(PutFault::Socket(_)) => {
-                self.fail();
+            Err(PutFault::Socket(error)) => {
+                self.fail(error.kind());
                 Ok(())
             }
             Err(PutFault::Memory) => Err(WorldFault {}),
@@ -132,8 +132,8 @@ impl Upstream {
         let Some(side) = &mut self.side else {
             return;
         };
-        if side.flush(registry).is_err() {
-            self.fail();
+        if let Err(error) = side.flush(registry) {
+            self.fail(error.kind());
         }
     }
 
@@ -142,21 +142,24 @@ impl Upstream {
         let Some(side) = &mut self.side else {
             return Ok(Some(Event::UpFailed(self.k)));
         };
+        let is_lost = side.is_lost();
         match side.read(alloc, room) {
             Ok(Got::Octets(piece)) => Ok(Some(Event::Up(self.k, piece))),
             Ok(_) if self.broken => Ok(Some(Event::UpFailed(self.k))),
             Ok(Got::End) => Ok(Some(Event::UpEnd(self.k))),
+            Ok(Got::Nothing) if is_lost => Ok(Some(Event::UpFailed(self.k))),
             Ok(Got::Nothing) => Ok(None),
             Err(error) if error.kind() == ErrorKind::OutOfMemory => Err(WorldFault {}),
             Err(_) => Ok(Some(Event::UpFailed(self.k))),
         }
     }
 
-    /// Its socket failed at a write.
-    fn fail(&mut self) {
-        self.broken = true;
+    /// Its socket failed at a write. Where its server had ended it before, which a broken pipe says, that end is still there behind what was sent; else
+    /// it failed.
+    fn fail(&mut self, kind: ErrorKind) {
+        self.broken = kind != ErrorKind::BrokenPipe;
         if let Some(side) = &mut self.side {
-            side.expect_input();
+            side.lose();
         }
     }
 }

@@ -2,6 +2,7 @@
 
 ghost use Rattle.std.specs.Prelude.{◌≡◌, ◌+◌, ◌<◌, None, Option, Some, false, true, length, IfSome, IfOk};
 
+use crate::leaving::Leaving;
 use crate::rooms::room_of;
 use crate::side::Side;
 use crate::upstream::Upstream;
@@ -13,7 +14,7 @@ use std::collections::VecDeque;
 use std::io;
 use std::io::ErrorKind;
 use std::net::{Net, SocketAddr};
-use std::time::Duration;
+use std::time::{Clock, Duration};
 use transfers::{Got, PutFault};
 use worlds::{Next, World, WorldFault};
 
@@ -36,20 +37,15 @@ const CLIENT: u32 = 0;
 /// others from theirs.
 const ROUND: u32 = 64;
 
-/// So many seconds the socket of a client that is left may take nothing of what waits for it, and then so many it may say nothing before its end.
-const TO_TAKE: u64 = 60;
-
-const TO_END: u64 = 5;
-
 /// In so many turns a client is left at most.
-const MOST_TURNS_LEAVING: u32 = 10000;
+const MOST_TURNS_LEAVING: u32 = 10_000_000;
 
 /// How many sockets may be reported at once.
 const REPORTS: usize = 128;
 
 /// One client, and the upstreams that are opened for it, over sockets that don't wait. It stores no log.
 #[derive(Drop)]
-pub struct SocketWorld<'a, N: Net> {
+pub struct SocketWorld<'a, N: Net + Clock> {
     sockets: Sockets<'a, N>,
     calls: u64,
     failures: u64,
@@ -57,7 +53,7 @@ pub struct SocketWorld<'a, N: Net> {
 
 /// The sockets, and what is kept of them from turn to turn.
 #[derive(Drop)]
-struct Sockets<'a, N: Net> {
+struct Sockets<'a, N: Net + Clock> {
     alloc: Global,
     net: &'a N,
     addresses: &'a [SocketAddr],
@@ -78,7 +74,7 @@ struct Sockets<'a, N: Net> {
     turns: u32,
 }
 
-impl<'a, N: Net> SocketWorld<'a, N> {
+impl<'a, N: Net + Clock> SocketWorld<'a, N> {
     /// The world of a client's socket, which doesn't wait. The routes' upstreams have these addresses, in the routes' order.
     pub fn new(
         alloc: Global,
@@ -113,9 +109,9 @@ impl<'a, N: Net> SocketWorld<'a, N> {
     }
 
     /// Leaves the client, and closes the connections to upstreams: what was put out for the client is written as its socket takes it, and then what still
-    /// comes of it is read and dropped until its end, so that nothing that was written is lost to it (RFC 9112, section 9.6). It isn't waited for for ever: a
-    /// minute for each time that its socket takes something, and then five seconds for each that something comes. An error is the socket's, or says that
-    /// memory was refused.
+    /// comes of it is read and dropped until its end, so that nothing that was written is lost to it (RFC 9112, section 9.6). It isn't waited for for ever:
+    /// a minute since its socket last took something, and once all is written half a minute, and five seconds of silence. An error is the socket's or the
+    /// clock's, or says that memory was refused.
     pub fn finish(&mut self) -> io::Result<()>
         ensures calls { self.new.calls ≡ self.old.calls }
         ensures failures { self.new.failures ≡ self.old.failures }
@@ -124,7 +120,7 @@ impl<'a, N: Net> SocketWorld<'a, N> {
     }
 }
 
-impl<'a, N: Net> Sockets<'a, N> {
+impl<'a, N: Net + Clock> Sockets<'a, N> {
     /// What comes next. Where nothing is there the world waits once, until something is reported.
     fn find_next(&mut self, rooms: &[(u32, usize)]) -> Result<Option<Event>, WorldFault> {
         if let Some(event) = self.find_aside(rooms)? {
@@ -266,37 +262,41 @@ impl<'a, N: Net> Sockets<'a, N> {
         self.queue_client()
     }
 
-    /// Writes what waits for the client, and then reads and drops what comes of it until its end, unless nothing happens for too long.
+    /// Writes what waits for the client, and then reads and drops what comes of it until its end, unless that takes too long.
     fn leave_client(&mut self) -> io::Result<()> {
         self.upstreams.clear();
+        let mut leaving = Leaving::begin(self.net, self.client.waiting())?;
         for _ in 0..MOST_TURNS_LEAVING {
             self.client.flush(self.poll.registry())?;
-            let is_written = !self.client.has_waiting();
-            if is_written && self.client.is_ended() {
-                return Ok(());
-            }
-            if is_written {
+            leaving.note_waiting(self.net, self.client.waiting())?;
+            if self.client.waiting() == 0 {
+                if self.client.is_ended() {
+                    return Ok(());
+                }
                 self.client.shut()?;
             }
+            let Some(most) = leaving.remaining(self.net)? else {
+                return Ok(());
+            };
             if self.client.is_readable() {
                 let _ = self.client.read(self.alloc, &mut self.buffer)?;
-            } else if !self.hear_client(if is_written { TO_END } else { TO_TAKE })? {
-                return Ok(());
+                leaving.note_heard(self.net)?;
+            } else {
+                self.hear_client(most)?;
             }
         }
         Ok(())
     }
 
-    /// Waits until the client's socket is reported, at most so many seconds, and notes what is. Whether it was.
-    fn hear_client(&mut self, most: u64) -> io::Result<bool> {
-        let most = Duration::from_secs(most);
+    /// Waits until the client's socket is reported, at most so long, and notes what is.
+    fn hear_client(&mut self, most: Duration) -> io::Result<()> {
         self.poll.poll(&mut self.reports, Some(most))?;
         for report in &self.reports {
             if report.token() == token_of(CLIENT) {
                 self.client.note(report);
             }
         }
-        Ok(!self.reports.is_empty())
+        Ok(())
     }
 
     /// Opens a connection. One that can't be made fails at a later `next`.
@@ -358,7 +358,7 @@ impl<'a, N: Net> Sockets<'a, N> {
     }
 }
 
-impl<'a, N: Net> World for SocketWorld<'a, N> {
+impl<'a, N: Net + Clock> World for SocketWorld<'a, N> {
     ghost use Rattle.std.specs.Prelude.{None, false};
 
     ghost calls = { λ world. world.calls };

@@ -141,7 +141,7 @@ impl Outgoing {
     fn give_back(&mut self)
         ensures { self.new ≡ self.old }
     {
-        if self.start == self.octets.len() && self.start > MOST_KEPT {
+        if self.start == self.octets.len() && self.octets.capacity() > MOST_KEPT {
             self.octets = Vec::new(*self.octets.allocator());
             self.start = 0;
         }

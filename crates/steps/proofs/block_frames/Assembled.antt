@@ -27,7 +27,6 @@ use Rattle.streams_kept.specs.Asked.{changed}
 use Rattle.judgement.specs.Inbound.{Inbound, book_of, told_of}
 use Rattle.judgement.specs.Fragments.{IsOfBlock, IsFragmentJudged, noted_behind, noted_reset}
 use Rattle.judgement.specs.declared.answers.Fault.TheVariants as fault
-use Rattle.judgement.specs.declared.answers.BlockJudged.{BlockJudged}
 use Rattle.judgement.specs.declared.answers.BlockJudged.TheVariants as judged
 use Rattle.judgement.specs.Sending.{behind_reset}
 use Rattle.judgement.proofs.SendingBooks.{reset_leads}

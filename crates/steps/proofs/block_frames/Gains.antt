@@ -23,7 +23,7 @@ use Rattle.model.specs.ErrorTable.{is_malformed}
 use Rattle.h1_writer.specs.Sending.{Stage}
 use Rattle.h1_writer.specs.Sending.Stage.{Whole}
 use Rattle.causes.specs.Openings.{GoesOn}
-use Rattle.conduct.specs.Summary.{Stream as Kept, Brief, Summary, carried_in}
+use Rattle.conduct.specs.Summary.{Brief, Summary, carried_in}
 use Rattle.conduct.specs.Judging.{completed_in, rows_in, malformed_in}
 use Rattle.conduct.specs.Owing.{fault_in, owes_in}
 use Rattle.conduct.specs.Rows.{find}

@@ -1,4 +1,4 @@
-use Rattle.std.proofs.Common.{rules, ◌≡◌, ◌++◌, ◌∙◌, List, ℕ, take, IfOk, Result, Ok, Err, subst, sym}
+use Rattle.std.proofs.Common.{rules, ◌≡◌, List, ℕ, take, IfOk, Result, Ok, Err, subst, sym}
 use Rattle.requests.specs.Waits.{IsEnded, IsEndedText}
 use Rattle.requests.proofs.Ending as laws
 use Rattle.requests.proofs.waiting.Waiting.finish.Goals as goal
@@ -18,7 +18,7 @@ returns-then-len-body c =
     let same : c.from_octets-then-len-body.result ≡ c.in_ok-whole.whole.items = search rules in
     subst (IsEnded c.args.self c.args.octets.now) (sym same)
     (laws.ends_at_once c.self.inside.route c.self.inside.head c.self.inside.body c.self.inside.sender c.self.inside.octets.items c.args.octets.now c.args.self c.in_ok-whole.whole.items c.self.view_is (search rules)
-     (subst (λ (os : List ℕ). IsEndedText os c.self.inside.sender c.args.octets.now c.in_ok-whole.whole.items) head ended))
+    (subst (λ (os : List ℕ). IsEndedText os c.self.inside.sender c.args.octets.now c.in_ok-whole.whole.items) head ended))
 
 pub returns : goal.returns
 returns c =

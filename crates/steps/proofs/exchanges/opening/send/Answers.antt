@@ -1,6 +1,9 @@
-use Rattle.std.proofs.Common.{rules, ◌≡◌, ◌+◌, ◌<◌, ◌^◌, Option, sym, ap, subst}
+use Rattle.std.proofs.Common.{rules, ◌≡◌, ◌+◌, ◌<◌, ◌^◌, ℕ, List, Option, sym, ap, subst}
 use Rattle.std.proofs.lemmas.Result.{on_ok_weaker}
-use Rattle.std.specs.Prelude.{is_some, IfSome}
+use Rattle.std.specs.Prelude.{is_some, IfSome, OnOk}
+use Rattle.model.specs.Logs.Act.{ToUp}
+use Rattle.model.specs.Logs.Output.{Does}
+use Rattle.model.specs.Tapes.{put}
 use Rattle.marks_kept.specs.Sides.{find as find_side}
 use Rattle.serving.specs.State.{find}
 use Rattle.serving.specs.State.Due.{ToSend}
@@ -34,7 +37,7 @@ returns-clause-performs c =
     subst (λ (v : View). PerformsOwn setup v (record square { owed = owed; due = ToSend c.args.number c.args.text.items; fresh = fresh; shared = back }) c.args.out.now (record old { upstreams = c.put.new.self; marks = c.put-2.new.self }) (record square { owed = owed; fresh = fresh; shared = back }) c.send_up.new.self) c.rooms.view_is
     (calls_send old c.args.number c.stream_of-stream.result c.len-count.result c.args.text.items c.put.new.self c.put-2.new.self c.args.out.now c.send_up.new.self
     (subst (λ (v : View). IfSome (find number_of c.args.number v.upstreams.live) (λ x. c.stream_of-stream.result ≡ x.live.stream)) (sym c.rooms.view_is) c.stream_of-stream.ensures) (search rules) c.put.ensures c.put-2.ensures puts setup owed fresh back))
-    c.send_up.ensures
+    (subst (λ (t : List ℕ). OnOk c.send_up.result (c.send_up.new.self ≡ put c.args.out.now (Does (ToUp c.args.number t)))) c.from_octets.ensures c.send_up.ensures)
 
 pub returns-clause-none_but : goal.returns-clause-none_but
 returns-clause-none_but c =
@@ -44,4 +47,4 @@ returns-clause-none_but c =
     subst (λ (v : View). NoneDoneBut id v → NoneDoneBut id (record old { upstreams = c.put.new.self; marks = c.put-2.new.self })) c.rooms.view_is
     (sends_but old c.args.number c.stream_of-stream.result c.len-count.result c.args.text.items c.put.new.self c.put-2.new.self c.args.out.now c.send_up.new.self
     (subst (λ (v : View). IfSome (find number_of c.args.number v.upstreams.live) (λ x. c.stream_of-stream.result ≡ x.live.stream)) (sym c.rooms.view_is) c.stream_of-stream.ensures) (search rules) c.put.ensures c.put-2.ensures puts id))
-    c.send_up.ensures
+    (subst (λ (t : List ℕ). OnOk c.send_up.result (c.send_up.new.self ≡ put c.args.out.now (Does (ToUp c.args.number t)))) c.from_octets.ensures c.send_up.ensures)

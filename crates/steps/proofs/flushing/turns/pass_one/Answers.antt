@@ -1,4 +1,4 @@
-use Rattle.std.proofs.Common.{◌<◌, ◌≤◌, true, sym, ◌∙◌, ap, subst, refl, if◌then◌else◌, arith}
+use Rattle.std.proofs.Common.{◌<◌, ◌≤◌, sym, ◌∙◌, ap, subst, refl, if◌then◌else◌, arith}
 use Rattle.judgement.specs.Inbound.{Inbound}
 use Rattle.offering.specs.State as offering
 use Rattle.offers.specs.Asked.{windows_over}

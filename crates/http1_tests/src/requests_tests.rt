@@ -59,6 +59,7 @@ fn a_body_of_several_frames_stands_behind_the_line_with_its_size(
     rt: HostRuntime,
 ) -> Result<(), Fail> {
     let head = head_of(rt.alloc(), &rt, b"POST", false)?;
+    assert!(rt; head.length().is_none());
     let Begun::Waits(mut request) = begin(rt.alloc(), &head, false, 7)? else {
         return Err(Fail::from("whole"));
     };
@@ -81,6 +82,7 @@ fn a_body_of_several_frames_stands_behind_the_line_with_its_size(
 #[test]
 fn a_body_of_empty_frames_is_the_last_chunk_alone(rt: HostRuntime) -> Result<(), Fail> {
     let head = head_of(rt.alloc(), &rt, b"POST", false)?;
+    assert!(rt; head.length().is_none());
     let Begun::Waits(mut request) = begin(rt.alloc(), &head, false, 7)? else {
         return Err(Fail::from("whole"));
     };

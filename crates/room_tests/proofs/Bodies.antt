@@ -43,10 +43,10 @@ not_whole stage part e = let clash : true ≡ false = sym (ap is_whole e) ∙ pa
 module _ (old new : State) (id route : ℕ) (parts : HeadParts) (outgoing : Outgoing) (b : Begins old id route parts false true (due_for outgoing) new) (none : parts.length ≡ None) where
   -- what is due is its own
   stream_is : outgoing.stream ≡ id
-  stream_is = let same : ToOpen outgoing.stream outgoing.route outgoing.text.items (stage_of outgoing.rest) ≡ ToOpen id route b.text b.stage = b.due_is in cc
+  stream_is = let same : ToOpen outgoing.stream outgoing.route outgoing.text (stage_of outgoing.rest) ≡ ToOpen id route b.text b.stage = b.due_is in cc
 
   stage_is : stage_of outgoing.rest ≡ b.stage
-  stage_is = let same : ToOpen outgoing.stream outgoing.route outgoing.text.items (stage_of outgoing.rest) ≡ ToOpen id route b.text b.stage = b.due_is in cc
+  stage_is = let same : ToOpen outgoing.stream outgoing.route outgoing.text (stage_of outgoing.rest) ≡ ToOpen id route b.text b.stage = b.due_is in cc
 
   module _ (k : ℕ) (hs : List Held) (opened : hs ≡ held_with outgoing.stream (unless_whole (stage_of outgoing.rest) (Going k (stage_of outgoing.rest))) new.held) where
     pub goes_out : held_of id hs ≡ Some (record { id = id; way = Going k b.stage })

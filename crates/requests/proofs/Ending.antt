@@ -1,13 +1,13 @@
 -- A body of the right length may be pushed in one piece, and then the text may be ended.
-use Rattle.std.proofs.Common.{◌≡◌, ℕ, ◌+◌, ◌-◌, ◌<◌, ◌≤◌, Bool, true, false, List, [], ◌∷◌, ◌++◌, length, take, drop, Option, Some, refl, sym, ◌∙◌, ap, subst, arith, append_assoc, append-nil, length-append}
-use Rattle.std.proofs.lemmas.List.{take-append-drop, take-append-le, drop-append-le, drop_all, length-drop}
+use Rattle.std.proofs.Common.{◌≡◌, ℕ, ◌+◌, ◌<◌, ◌≤◌, Bool, true, false, List, [], ◌∷◌, ◌++◌, length, take, drop, Option, Some, refl, sym, ◌∙◌, ap, subst, arith, append_assoc, append-nil, length-append}
+use Rattle.std.proofs.lemmas.List.{take-append-drop, take-append-le, drop-append-le, drop_all}
 use Rattle.std.specs.List.{concat}
 use Rattle.model.specs.Http2.{HasLength}
 use Rattle.request_rules.specs.Heads.{HeadParts}
 use Rattle.h1_writer.specs.Sending.{Stage, Sending, SentCounting, SentWhole, Continues, MayPush, MayFinish, piece_of, head_of, content_of}
 use Rattle.h1_writer.proofs.Stages.{more_full, concat_more}
 use Rattle.h1_writer.specs.Sending.Stage.{Whole, Counting, Holding, Chunking}
-use Rattle.requests.specs.Waits.{Request, MayEnd, IsEnded, Ends, IsEndedText}
+use Rattle.requests.specs.Waits.{Request, MayEnd, IsEnded, IsEndedText}
 
 -- the body may be pushed
 pub may_push : (parts : HeadParts) (text : List ℕ) (stage : Stage) (body : List ℕ) → Sending parts false text [] stage → (stage ≡ Whole → ⊥) → HasLength parts.length body → MayPush stage (length body)
@@ -65,14 +65,6 @@ ends_counted parts text (Counting left) body sending on not_yet fits =
 ends_counted parts text (Holding octet) body sending on not_yet fits = absurd (not_yet tt)
 ends_counted parts text Chunking body sending on not_yet fits = absurd (not_yet tt)
 
--- where octets came and the text may be ended, they go out in chunks
-pub chunking : (parts : HeadParts) (text : List ℕ) (stage : Stage) (body : List ℕ) → Sending parts false text [] stage → (stage ≡ Whole → ⊥) → MayFinish stage → HasLength parts.length body → 0 < length body → stage ≡ Chunking
-chunking parts text Whole body sending on may fits some = absurd may
-chunking parts text (Counting left) body sending on may fits some = absurd may
-chunking parts text (Holding octet) body sending on may fits some =
-    let same : length body ≡ 0 = subst (λ o. HasLength o body) sending.declared fits in absurd (omega (arith, same, some))
-chunking parts text Chunking body sending on may fits some = refl
-
 -- ---- a request that waits, as it lies in one piece of memory
 
 module _ (route head body : ℕ) (sender : Stage) (items octets : List ℕ) where
@@ -94,25 +86,6 @@ module _ (route head body : ℕ) (sender : Stage) (items octets : List ℕ) wher
     is = ended.1;
     continues = subst (λ (os : List ℕ). Continues sender ended.0 (os ++ octets) Whole) (sym (drop_all body items all)) ended.2;
   })
-
-  -- then it may end with the octets
-  pub may_end_at_once : (request : Request) → kept ≡ request → length items ≤ body → MayEnd request octets → Ends sender (take head items) octets
-  may_end_at_once request view all may =
-      let m : MayEnd kept octets = subst (λ (r : Request). MayEnd r octets) (sym view) may in
-      record {
-        parts = m.parts;
-        sending = m.sending;
-        goes_on = m.goes_on;
-        has_length = subst (λ (os : List ℕ). HasLength m.parts.length (os ++ octets)) (drop_all body items all) m.has_length;
-      }
-
-  -- some octets came, and it may end behind these
-  pub in_chunks : (request : Request) → kept ≡ request → body < length items → MayFinish sender → MayEnd request octets → sender ≡ Chunking
-  in_chunks request view some finish may =
-      let m : MayEnd kept octets = subst (λ (r : Request). MayEnd r octets) (sym view) may in
-      let count : length (drop body items) ≡ length items - body = length-drop body items in
-      let all : length (drop body items ++ octets) ≡ length (drop body items) + length octets = length-append (drop body items) octets in
-      chunking m.parts (take head items) sender (drop body items ++ octets) m.sending m.goes_on finish m.has_length (omega (arith, count, all, some))
 
   -- and its text was written round them
   pub ends_behind : (request : Request) (all text : List ℕ) → kept ≡ request → head ≤ body → body ≤ length items → all ≡ items ++ octets

@@ -21,6 +21,7 @@ use Rattle.model.specs.Causes.Cause.{LargeBody, BadAnswer}
 use Rattle.model.specs.WindowsOnTape.{increment}
 use Rattle.model.specs.Courses.{cause_of_frame, first_of_both}
 use Rattle.model.specs.Octets.{is_empty}
+use Rattle.model.specs.Payloads.{number_field}
 use Rattle.model.specs.Admission.{high_water}
 use Rattle.model.specs.ErrorClause.{rst_stream, acks, reset_for, is_plainly_flagged, is_filled}
 use Rattle.conduct.specs.Summary.{Brief, carried_in, Stream as Kept, Summary}
@@ -212,7 +213,7 @@ module _ (setup : Setup) (fails : Bool) (f : ℕ → Kept) (s : Summary) (will :
 
   given_back_seen : (frame : Frame) → is_given_back_in view frame ≡ is_given_back_in s frame
   given_back_seen frame =
-      ap (λ b. length frame.payload == 4 && nat_lt 0 (increment frame) && (frame.id == 0 || b)) (when_active f s will (λ kept. not kept.ended_by_client) frame.id)
+      ap (λ b. length frame.payload == 4 && nat_lt (number_field frame.payload) 2147483648 && nat_lt 0 (increment frame) && (frame.id == 0 || b)) (when_active f s will (λ kept. not kept.ended_by_client) frame.id)
 
   part_seen : (frame : Frame) → is_part_in view frame ≡ is_part_in s frame
   part_seen frame =

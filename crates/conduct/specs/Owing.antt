@@ -6,6 +6,7 @@ use Rattle.model.specs.Messages.{Item, ends_with}
 use Rattle.model.specs.Http2.{body_of}
 use Rattle.model.specs.Malformed.{declared, is_begun}
 use Rattle.model.specs.Frames.{Frame, data_kind, window_update_kind, continuation_kind, ends_stream, goaway, no_error}
+use Rattle.model.specs.Payloads.{number_field}
 use Rattle.model.specs.Setup.{Setup}
 use Rattle.model.specs.Tapes.{Entry}
 use Rattle.model.specs.Tapes.Entry.{Came, Happened, Sent}
@@ -131,10 +132,12 @@ owes_in setup fails s e =
 
 -- ---- what may be sent, and the end
 
--- octets are given back to the connection, or to an active stream that the client hasn't ended
+-- octets are given back, with the reserved bit unset, to the connection, or to an active stream that the client hasn't ended
 abbrev pub is_given_back_in : Summary → Frame → Bool
 is_given_back_in s frame =
-    length frame.payload == 4 && nat_lt 0 (increment frame) && (frame.id == 0 || is_active_in frame.id s && not (s.stream frame.id).ended_by_client)
+    length frame.payload == 4 && nat_lt (number_field frame.payload) 2147483648
+    && nat_lt 0 (increment frame)
+    && (frame.id == 0 || is_active_in frame.id s && not (s.stream frame.id).ended_by_client)
 
 -- a part of a response to an active stream that the gateway hasn't ended, which may go out now and fills its frame where its block goes on
 abbrev pub is_part_in : Summary → Frame → Bool

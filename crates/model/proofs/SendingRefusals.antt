@@ -4,7 +4,8 @@ use Rattle.std.proofs.Common.{◌≡◌, ◌<◌, ℕ, ◌+◌, true, false, Lis
 use Rattle.std.specs.Prelude.{pos, ◌≤ℤ◌, codes, replicate}
 use Rattle.std.proofs.lemmas.List.{append_cancel_left}
 use Rattle.model.specs.Tables.{total_size}
-use Rattle.model.specs.Http1.{Head, values_of}
+use Rattle.model.specs.Octets.{Joined}
+use Rattle.model.specs.Http1.{crlf, Chunk, Head, values_of}
 use Rattle.model.specs.Logs.{Step}
 use Rattle.model.specs.Logs.Event.{UpFailed}
 use Rattle.model.specs.Logs.Act.{Open, ToUp, Close}
@@ -15,9 +16,10 @@ use Rattle.model.specs.Openings.{Opened, opens, sent_for}
 use Rattle.model.specs.Available.{IsIn}
 use Rattle.model.specs.ErrorClause.{ErrorsHold}
 use Rattle.model.specs.ResponseClause.{AreWithin}
-use Rattle.model.specs.ProgressClause.{HasBody, HasCome, KeptBack, AllStreamed}
+use Rattle.model.specs.ProgressClause.{HasBody, HasChunks, HasCome, KeptBack, AllStreamed}
 use Rattle.model.specs.WindowClause.{WindowsHold}
 use Rattle.model.specs.Headline.{ClausesHold, HoldsInTurn}
+use Rattle.model.proofs.Http1Bodies.{one_chunk}
 use Rattle.model.proofs.Http1Readings.{one_head}
 use Rattle.model.proofs.RowTapes.{by_whole, by_streaming, frame, plain, headed, out, out_headed, post, post_block, begun, getting, got, ok_two, update}
 use Rattle.model.proofs.RequestRefusals.{five, five_text, five_head, has_five_head}
@@ -48,6 +50,11 @@ prioritized c = let clash : false ≡ true = c.rightly_sent.0 in cc
 pub unknown_flag : ErrorsHold by_whole (out (frame 8 1 0 (0 ∷ 0 ∷ 0 ∷ 5 ∷ [])) ∷ plain (frame 0 0 1 (codes "hello")) ∷ headed (frame 1 4 1 post_block) post ∷ begun) → ⊥
 unfolding total_size
 unknown_flag c = let clash : false ≡ true = c.rightly_sent.0 in cc
+
+-- It gives the octets that came back with the reserved bit set.
+pub reserved_bit : ErrorsHold by_whole (out (frame 8 0 0 (128 ∷ 0 ∷ 0 ∷ 5 ∷ [])) ∷ plain (frame 0 0 1 (codes "hello")) ∷ headed (frame 1 4 1 post_block) post ∷ begun) → ⊥
+unfolding total_size
+reserved_bit c = let clash : false ≡ true = c.rightly_sent.0 in cc
 
 -- It goes on with another response while the client has taken nothing of 65,572 octets.
 abbrev a_frame : Entry
@@ -107,6 +114,28 @@ one_held_back all = let s = all refl 1 five refl refl refl in at s.o s.given.is_
     at : (o : Opened) → IsIn o (opens two_put) → (is_open o.k two_put ≡ true → HasCome (sent_for o two_put) (codes "hel")) → ⊥
     at o (inl same) come = lacks_some (codes "he") (codes "hel") (omega arith) (omega arith) (subst (λ (p : Opened). is_open p.k two_put ≡ true → HasCome (sent_for p two_put) (codes "hel")) same come refl)
     at o (inr none) come = none
+
+-- Digits of another chunk's size stand behind the chunk of what came, though nothing brought them.
+hel_chunk : Chunk (codes "3\r\nhel\r\n") (codes "hel")
+hel_chunk = record { size = codes "3"; is = refl; is_size = refl; has_size = refl; is_not_last = omega arith }
+
+one_octet : (octet : ℕ) (chunks : List (List ℕ)) → Joined Chunk (octet ∷ []) chunks → ⊥
+one_octet octet [] joined = let none : 1 ≡ 0 = ap length joined in omega (arith, none)
+one_octet octet (piece ∷ pieces) (first, more, chunk, is, rest) =
+    let all : 1 ≡ length first + length more = ap length is ∙ length-append first more in
+    let spelled : length (chunk.size ++ crlf ++ piece ++ crlf) ≡ length chunk.size + length piece + 4 = simp length-append (omega arith) in
+    let long : length first ≡ length chunk.size + length piece + 4 = ap length chunk.is ∙ spelled in
+    omega (arith, all, long)
+
+pub digits_behind_chunks : HasChunks (codes "3\r\nhel\r\n0") (codes "hel") → ⊥
+digits_behind_chunks h = by h.chunks h.are_chunks
+  where
+    by : (chunks : List (List ℕ)) → Joined Chunk (codes "3\r\nhel\r\n0") chunks → ⊥
+    by [] joined = let none : 9 ≡ 0 = ap length joined in omega (arith, none)
+    by (piece ∷ pieces) (first, more, chunk, is, rest) =
+        let same = one_chunk (codes "3\r\nhel\r\n") first (codes "0") more (codes "hel") piece hel_chunk chunk is in
+        let left : codes "0" ≡ more = append_cancel_left first (codes "0") more (ap (λ (x : List ℕ). x ++ codes "0") (sym same.0) ∙ is) in
+        one_octet 48 pieces (subst (λ (x : List ℕ). Joined Chunk x pieces) (sym left) rest)
 
 -- Two frames of DATA come in one piece, and what both bring is put out behind the second: octets would go back at once that nobody took.
 pub held_until_both : HoldsInTurn (ClausesHold by_streaming) (Did (ToUp 1 (codes "hell")) ∷ plain (frame 0 0 1 (codes "lo")) ∷ three_came) → ⊥

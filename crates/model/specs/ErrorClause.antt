@@ -5,6 +5,7 @@ use Rattle.std.specs.Prelude.{◌≡◌, ℕ, Bool, true, false, not, ◌&&◌, 
 use Rattle.std.specs.List.{list_any}
 use Rattle.model.specs.Octets.{is_empty}
 use Rattle.model.specs.Frames.{Frame, data_kind, headers_kind, rst_stream_kind, ping_kind, window_update_kind, continuation_kind, is_ack, ends_stream, ends_headers, spell_number, settings_frame, settings_ack, goaway, no_error}
+use Rattle.model.specs.Payloads.{number_field}
 use Rattle.model.specs.Logs.Event.{ClientEnd}
 use Rattle.model.specs.Tapes.{Noted, Entry, sent, is_closed}
 use Rattle.model.specs.Tapes.Entry.{Came, Breached, Happened, Sent, Did}
@@ -116,10 +117,13 @@ flags_of kind =
 abbrev pub is_plainly_flagged : Frame → Bool
 is_plainly_flagged frame = list_any (λ flags. flags == frame.flags) (flags_of frame.kind)
 
--- octets are given back, one or more, to the connection, or to an active stream that the client hasn't ended (section 5.1)
+-- octets are given back, one or more, with the reserved bit unset (section 6.9), to the connection, or to an active stream that the
+-- client hasn't ended (section 5.1)
 abbrev pub is_given_back : List Entry → Frame → Bool
 is_given_back t frame =
-    length frame.payload == 4 && nat_lt 0 (increment frame) && (frame.id == 0 || is_active frame.id t && not (is_ended_by_client frame.id t))
+    length frame.payload == 4 && nat_lt (number_field frame.payload) 2147483648
+    && nat_lt 0 (increment frame)
+    && (frame.id == 0 || is_active frame.id t && not (is_ended_by_client frame.id t))
 
 -- a header block goes on in another frame only where this one is full (section 6.10)
 abbrev pub is_filled : Frame → Bool

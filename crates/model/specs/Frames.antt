@@ -9,7 +9,7 @@ pub record Frame : Type 0 where
   pub payload : List ℕ
 
 -- What can be spelled: numbers that fit their fields (section 4.1), and a payload of at most 16,384 octets, the first
--- value of SETTINGS_MAX_FRAME_SIZE (section 4.2), which neither side of the gateway raises.
+-- value of SETTINGS_MAX_FRAME_SIZE (section 4.2): the gateway doesn't raise it, and makes no use of a client's that is greater.
 pub record Fits (frame : Frame) : Type 0 where
   pub kind : frame.kind < 256
   pub flags : frame.flags < 256

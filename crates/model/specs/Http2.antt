@@ -140,7 +140,7 @@ pub record WellFormedHead (head : List Field) : Type 0 where
   pub authority_holds : AuthorityHolds head
   pub length_holds : LengthFieldHolds head
 
--- A block that may end a request: the same rules for its fields, of which none is a pseudo-field (section 8.1).
+-- A block that may end a request: no pseudo-field (section 8.1), and the same rules for names, values and fields of a connection.
 pub record WellFormedTrailers (trailers : List Field) : Type 0 where
   pub no_pseudo_field : pseudo_fields trailers ≡ []
   pub names_hold : NamesHold trailers
@@ -231,8 +231,8 @@ pub record H2Request (items : List Item) (request : Request) : Type 0 where
   pub length_holds : HasLength (declared_length head) (body_of items)
   pub is : request ≡ request_of head (body_of items)
 
--- The request is one that the items of an unfinished stream may still become: it has their head, a body that begins with
--- their octets, and the declared length.
+-- The request is one that these items may still become, or are: it has their head, a body that begins with their octets, and the
+-- declared length. Whether they ended isn't asked.
 pub record MayBecome (items : List Item) (request : Request) : Type 0 where
   pub head : List Field
   pub has_head : HasHead items head

@@ -5,7 +5,7 @@ use Rattle.std.specs.List.{list_any, concat}
 use Rattle.std.specs.Str.Parse.{digits_value}
 use Rattle.model.specs.Octets.{IsFront, lower, Joined}
 use Rattle.model.specs.Messages.{Field, Request, ends_with}
-use Rattle.model.specs.Http1.{H1Head, Head, Chunk, Chunked, H1Requests, values_of, forward}
+use Rattle.model.specs.Http1.{H1Head, Head, Chunk, H1Requests, values_of, forward}
 use Rattle.model.specs.Http2.{HasHead, H2Request, body_of}
 use Rattle.model.specs.Logs.Act.{Close}
 use Rattle.model.specs.Setup.{IsFirstMatch}
@@ -54,16 +54,14 @@ AllForwarded known t =
 
 -- ---- requests that aren't whole, where they are passed on as they come
 
--- Behind a head with these lines stands a beginning of a body, and these octets are in it.
+-- What stands behind a head is whole chunks, and these octets are in them.
 pub record HasChunks (rest octets : List ℕ) : Type 0 where
   pub chunks : List (List ℕ)
-  pub front : List ℕ
-  pub past : List ℕ
-  pub is : rest ≡ front ++ past
-  pub are_chunks : Joined Chunk front chunks
+  pub are_chunks : Joined Chunk rest chunks
   pub hold : IsFront octets (concat chunks)
-  pub goes_on : (more body : List ℕ) × Chunked (rest ++ more) body
 
+-- By the lines of its head that say how a body is framed, what stands behind the head has these octets of it. That it is no more than
+-- a body begins with is said of each connection's text (`IsSentInPart`).
 abbrev pub HasBody : List (List ℕ) → List (List ℕ) → List ℕ → List ℕ → Type 0
 HasBody [] [] rest octets = (rest ≡ []) × (octets ≡ [])
 HasBody (digits ∷ []) [] rest octets = IsFront octets rest

@@ -119,8 +119,8 @@ abbrev pub unless_bodiless : Bool → Option Framing → Option Framing
 unless_bodiless bodiless None = None
 unless_bodiless bodiless (Some framing) = if bodiless then Some Bodiless else Some framing
 
--- How a body is framed by the minor version, the status and the fields of its head: a head that answers HEAD, a 204 and a
--- 304 have none (RFC 9112, section 6.3).
+-- How a body is framed by the minor version, the status and the fields of its head: a 204 has none, and a head that answers HEAD and
+-- a 304 have none if their lines are as a body's would be (RFC 9112, section 6.3).
 abbrev pub framing_for : Bool → ℕ → ℕ → List Field → Option Framing
 framing_for to_head minor status fields =
     if status == 204

@@ -122,7 +122,8 @@ ActsFollow [] = Unit {0}
 ActsFollow (Happened event ∷ t) = acts t ≡ []
 ActsFollow (_ ∷ t) = ActsFollow t
 
--- The entries are those of the step: they put out what it did, and its event is among them, before all acts.
+-- The entries are those of the step: they put out what it did, and its event is among them, before all acts, unless it is octets of
+-- the client, which stand as frames.
 pub record IsStep (step : Step) (segment : List Entry) : Type 0 where
   pub spelled : CanBeSpelled segment
   pub put_out : step.outputs ≡ reverse (outputs segment)

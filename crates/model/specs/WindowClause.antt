@@ -51,8 +51,8 @@ waiting o taken_now (_ ∷ t) put_out = waiting o taken_now t put_out
 abbrev pub waiting_for : Opened → List Entry → ℕ
 waiting_for o t = waiting o (taken_of o t) t (length (sent_for o t))
 
--- The octets of DATA that are kept for an active stream: none where requests are passed on whole; else those that its
--- connection's side hasn't taken.
+-- The octets of DATA that are kept for an active stream: none where requests are passed on whole; else those of each frame, padding
+-- included, behind which more was put out than its connection's side has taken.
 abbrev pub kept : Passing → ℕ → List Entry → ℕ
 kept Whole stream t = 0
 kept Streaming stream t = waiting_for (exchange_for stream t) t

@@ -3,7 +3,8 @@ use Rattle.std.proofs.Common.{◌≡◌, ℕ, ◌<◌, Bool, true, false, not, �
 use Rattle.std.specs.Prelude.{Option, Some, None, nat_lt}
 use Rattle.std.proofs.lemmas.Bool.{lt-ltb}
 use Rattle.model.specs.Octets.{is_empty}
-use Rattle.model.specs.Frames.{Frame, ends_stream, content, data_kind, continuation_kind, window_update_kind}
+use Rattle.model.specs.Frames.{Frame, ends_stream, content, data_kind, continuation_kind, window_update_kind, spell_number}
+use Rattle.model.specs.Payloads.{number_field}
 use Rattle.model.specs.Decoding.{Partial}
 use Rattle.model.specs.WindowsOnTape.{increment}
 use Rattle.model.specs.Admission.{high_water}
@@ -57,4 +58,6 @@ update_grants id number small =
 
 pub update_goes : (s : Summary) (id number : ℕ) → 0 < number → number < 2147483648 → (id == 0 || is_active_in id s && not (s.stream id).ended_by_client) ≡ true → is_rightly_sent_in s (window_update id number) ≡ true
 update_goes s id number some small open_yet =
-    both _ _ (let e : nat_lt 0 (increment (window_update id number)) ≡ true = ap (λ n. nat_lt 0 n) (update_grants id number small) ∙ lt-ltb 0 number some in e) open_yet
+    let bare : nat_lt (number_field (spell_number number)) 2147483648 ≡ true = lt-ltb (number_field (spell_number number)) 2147483648 (omega (arith, small)) in
+    let grants : nat_lt 0 (increment (window_update id number)) ≡ true = ap (λ n. nat_lt 0 n) (update_grants id number small) ∙ lt-ltb 0 number some in
+    both _ _ (both _ _ bare grants) open_yet

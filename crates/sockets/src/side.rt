@@ -1,7 +1,8 @@
 //! One socket, and what is known of it.
 
-ghost use Rattle.std.specs.Prelude.{◌≡◌, ◌+◌, ◌<◌, ◌↔◌, ◌&&◌, not, length, IsTrue};
-ghost use Rattle.transfers.specs.Transfers.{told, told_count};
+ghost use Rattle.std.specs.Prelude.{◌≡◌, ◌+◌, ◌<◌, ◌↔◌, ◌&&◌, [], not, length, IsTrue, IfOk, OnOk};
+ghost use Rattle.sockets.specs.Performed.{PutsOut};
+ghost use Rattle.transfers.specs.Transfers.{nothing_put, told, told_count};
 
 use mio::event::Event;
 use mio::net::TcpStream;
@@ -44,7 +45,9 @@ impl Side {
         mut socket: TcpStream,
         token: Token,
         least: usize,
-    ) -> io::Result<Side> {
+    ) -> io::Result<Side>
+        ensures { IfOk result (λ side. side.out ≡ nothing_put) }
+    {
         socket.set_nodelay(true)?;
         registry.register(&mut socket, token, Interest::READABLE)?;
         Ok(Side {
@@ -72,7 +75,7 @@ impl Side {
     /// How many octets the socket took that weren't told of, if at least so many. They are told of now.
     pub fn tell(&mut self, least: u64) -> u64
         ensures count { result ≡ told_count least self.old.out }
-        ensures told { self.new.out ≡ told least self.old.out }
+        ensures told { self.new ≡ record self.old { out = told least self.old.out } }
     {
         self.out.tell(least)
     }
@@ -106,14 +109,18 @@ impl Side {
     }
 
     /// A write failed: what is written to it reaches nobody, and reads go on until its end, or to a failure.
-    pub fn lose(&mut self) {
+    pub fn lose(&mut self)
+        ensures { self.new.out ≡ self.old.out }
+    {
         self.lost = true;
         self.hung_up = true;
         self.readable = true;
     }
 
     /// Notes what was reported.
-    pub fn note(&mut self, event: &Event) {
+    pub fn note(&mut self, event: &Event)
+        ensures { self.new.out ≡ self.old.out }
+    {
         let over = event.is_read_closed() || event.is_error();
         self.hung_up = self.hung_up || over;
         self.readable = self.readable || over || event.is_readable();
@@ -122,7 +129,9 @@ impl Side {
     }
 
     /// Puts octets out.
-    pub fn put(&mut self, registry: &Registry, octets: &[u8]) -> Result<(), PutFault> {
+    pub fn put(&mut self, registry: &Registry, octets: &[u8]) -> Result<(), PutFault>
+        ensures { OnOk result (PutsOut self.old.out octets.now self.new.out) }
+    {
         if self.out.waiting() == 0 && octets.len() >= self.least {
             self.out.put(&mut self.socket, octets)?;
             return self.watch(registry).map_err(PutFault::Socket);
@@ -135,7 +144,9 @@ impl Side {
     }
 
     /// Writes what waits, if the socket may take it.
-    pub fn flush(&mut self, registry: &Registry) -> io::Result<()> {
+    pub fn flush(&mut self, registry: &Registry) -> io::Result<()>
+        ensures { PutsOut self.old.out [] self.new.out }
+    {
         if !self.full && self.out.waiting() > 0 {
             self.out.flush(&mut self.socket)?;
             self.watch(registry)?;
@@ -144,12 +155,16 @@ impl Side {
     }
 
     /// Writes what waits until a write takes nothing.
-    pub fn finish(&mut self) -> io::Result<()> {
+    pub fn finish(&mut self) -> io::Result<()>
+        ensures { PutsOut self.old.out [] self.new.out }
+    {
         self.out.flush_all(&mut self.socket)
     }
 
     /// Tells it that nothing more is written.
-    pub fn shut(&mut self) -> io::Result<()> {
+    pub fn shut(&mut self) -> io::Result<()>
+        ensures { self.new.out ≡ self.old.out }
+    {
         if !self.shut {
             self.socket.shutdown(Shutdown::Write)?;
             self.shut = true;
@@ -158,7 +173,9 @@ impl Side {
     }
 
     /// Reads what is there, as far as there is room.
-    pub fn read(&mut self, alloc: Global, room: &mut [u8]) -> io::Result<Got> {
+    pub fn read(&mut self, alloc: Global, room: &mut [u8]) -> io::Result<Got>
+        ensures { self.new.out ≡ self.old.out }
+    {
         let got = read_piece(alloc, &mut self.socket, room)?;
         self.ended = matches!(got, Got::End);
         self.readable = match &got {
@@ -170,7 +187,9 @@ impl Side {
     }
 
     /// Notes behind a write whether octets wait, and has the socket reported once it takes those.
-    fn watch(&mut self, registry: &Registry) -> io::Result<()> {
+    fn watch(&mut self, registry: &Registry) -> io::Result<()>
+        ensures { self.new.out ≡ self.old.out }
+    {
         self.full = self.out.waiting() > 0;
         if self.watched || !self.full {
             return Ok(());

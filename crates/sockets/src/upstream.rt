@@ -1,5 +1,7 @@
 //! The connections to upstreams.
 
+ghost use Rattle.std.specs.Prelude.{◌≡◌};
+
 use crate::side::Side;
 use gateway::Event;
 use mio::{Registry, event};
@@ -26,7 +28,9 @@ pub struct Upstream {
 
 impl Upstream {
     /// A connection that is begun, or that couldn't be.
-    pub fn new(k: u32, side: Option<Side>) -> Upstream {
+    pub fn new(k: u32, side: Option<Side>) -> Upstream
+        ensures { result.k ≡ k }
+    {
         Upstream {
             k,
             side,
@@ -37,7 +41,9 @@ impl Upstream {
     }
 
     /// Whether it joins those of which something may be read: something may, and it doesn't stand among them.
-    pub fn joins_queue(&mut self) -> bool {
+    pub fn joins_queue(&mut self) -> bool
+        ensures { self.new.k ≡ self.old.k }
+    {
         let joins = !self.is_queued && self.may_be_ready();
         self.is_queued = self.is_queued || joins;
         joins
@@ -50,7 +56,9 @@ impl Upstream {
 
     /// Whether it joins those of which it may have to be told what they took: they were put out octets of which it wasn't, and it
     /// doesn't stand among them.
-    pub fn joins_list(&mut self) -> bool {
+    pub fn joins_list(&mut self) -> bool
+        ensures { self.new.k ≡ self.old.k }
+    {
         let joins = !self.is_listed && self.owes();
         self.is_listed = self.is_listed || joins;
         joins
@@ -107,7 +115,9 @@ impl Upstream {
     }
 
     /// Puts octets out. Where its socket failed they are dropped.
-    pub fn put(&mut self, registry: &Registry, octets: &[u8]) -> Result<(), WorldFault> {
+    pub fn put(&mut self, registry: &Registry, octets: &[u8]) -> Result<(), WorldFault>
+        ensures { self.new.k ≡ self.old.k }
+    {
         if self.is_deaf() {
             return Ok(());
         }
@@ -156,7 +166,9 @@ impl Upstream {
 
     /// Its socket failed at a write. Where its server had ended it before, which a broken pipe says, that end is still there behind what was sent; else
     /// it failed.
-    fn fail(&mut self, kind: ErrorKind) {
+    fn fail(&mut self, kind: ErrorKind)
+        ensures { self.new.k ≡ self.old.k }
+    {
         self.broken = kind != ErrorKind::BrokenPipe;
         if let Some(side) = &mut self.side {
             side.lose();

@@ -1,6 +1,11 @@
 //! The world of sockets.
 
-ghost use Rattle.std.specs.Prelude.{◌≡◌, ◌+◌, ◌<◌, None, Option, Some, false, true, length, IfSome, IfOk};
+ghost use Rattle.std.specs.Prelude.{◌≡◌, ◌+◌, ◌<◌, ◌^◌, None, Option, Some, [], ◌∷◌, ◌++◌, false, true, List, length, IfSome, IfOk, OnOk, OnErr, get_or, is_ok, if◌then◌else◌};
+ghost use Rattle.model.specs.Logs.{Step};
+ghost use Rattle.outputs.specs.Views.{output_of};
+ghost use Rattle.worlds.specs.Worlds.{with_outputs};
+ghost use Rattle.sockets.specs.Performed.{Opens, Performs, no_log, numbers_of};
+ghost use Rattle.transfers.specs.Transfers.{nothing_put};
 
 use crate::leaving::Leaving;
 use crate::rooms::room_of;
@@ -82,7 +87,9 @@ impl<'a, N: Net + Clock> SocketWorld<'a, N> {
         addresses: &'a [SocketAddr],
         client: TcpStream,
     ) -> io::Result<SocketWorld<'a, N>>
-        ensures { IfOk result (λ world. (world.calls ≡ 0) × (world.failures ≡ 0)) }
+        ensures counts { IfOk result (λ world. (world.calls ≡ 0) × (world.failures ≡ 0)) }
+        ensures addresses { IfOk result (λ world. world.sockets.addresses.now ≡ addresses.now) }
+        ensures nothing { IfOk result (λ world. (world.sockets.client.out ≡ nothing_put) × (numbers_of world.sockets.upstreams.items ≡ [])) }
     {
         let poll = Poll::new(net)?;
         let token = token_of(CLIENT);
@@ -115,6 +122,7 @@ impl<'a, N: Net + Clock> SocketWorld<'a, N> {
     pub fn finish(&mut self) -> io::Result<()>
         ensures calls { self.new.calls ≡ self.old.calls }
         ensures failures { self.new.failures ≡ self.old.failures }
+        ensures closed { numbers_of self.new.sockets.upstreams.items ≡ [] }
     {
         self.sockets.leave_client()
     }
@@ -263,7 +271,9 @@ impl<'a, N: Net + Clock> Sockets<'a, N> {
     }
 
     /// Writes what waits for the client, and then reads and drops what comes of it until its end, unless that takes too long.
-    fn leave_client(&mut self) -> io::Result<()> {
+    fn leave_client(&mut self) -> io::Result<()>
+        ensures closed { numbers_of self.new.upstreams.items ≡ [] }
+    {
         self.upstreams.clear();
         let mut leaving = Leaving::begin(self.net, self.client.waiting())?;
         for _ in 0..MOST_TURNS_LEAVING {
@@ -289,7 +299,9 @@ impl<'a, N: Net + Clock> Sockets<'a, N> {
     }
 
     /// Waits until the client's socket is reported, at most so long, and notes what is.
-    fn hear_client(&mut self, most: Duration) -> io::Result<()> {
+    fn hear_client(&mut self, most: Duration) -> io::Result<()>
+        ensures upstreams { self.new.upstreams ≡ self.old.upstreams }
+    {
         self.poll.poll(&mut self.reports, Some(most))?;
         for report in &self.reports {
             if report.token() == token_of(CLIENT) {
@@ -300,7 +312,10 @@ impl<'a, N: Net + Clock> Sockets<'a, N> {
     }
 
     /// Opens a connection. One that can't be made fails at a later `next`.
-    fn open(&mut self, k: u32, route: u32) -> Result<(), WorldFault> {
+    fn open(&mut self, k: u32, route: u32) -> Result<(), WorldFault>
+        ensures client { self.new.client ≡ self.old.client }
+        ensures opens { OnOk result (Opens k (numbers_of self.old.upstreams.items) (numbers_of self.new.upstreams.items)) }
+    {
         let side = match self.addresses.get(route as usize) {
             Some(address) => self.connect(k, *address)?,
             None => None,
@@ -313,7 +328,10 @@ impl<'a, N: Net + Clock> Sockets<'a, N> {
     }
 
     /// Puts octets out to an upstream, if it is open.
-    fn put(&mut self, k: u32, octets: &[u8]) -> Result<(), WorldFault> {
+    fn put(&mut self, k: u32, octets: &[u8]) -> Result<(), WorldFault>
+        ensures client { self.new.client ≡ self.old.client }
+        ensures same { numbers_of self.new.upstreams.items ≡ numbers_of self.old.upstreams.items }
+    {
         let Some(place) = place_of(k, &self.upstreams) else {
             return Ok(());
         };
@@ -323,7 +341,7 @@ impl<'a, N: Net + Clock> Sockets<'a, N> {
     }
 
     /// Begins to connect to an address.
-    fn connect(&mut self, k: u32, address: SocketAddr) -> Result<Option<Side>, WorldFault> {
+    fn connect(&self, k: u32, address: SocketAddr) -> Result<Option<Side>, WorldFault> {
         let Ok(socket) = TcpStream::connect(self.net, address) else {
             return Ok(None);
         };
@@ -336,7 +354,9 @@ impl<'a, N: Net + Clock> Sockets<'a, N> {
     }
 
     /// Does what an output says.
-    fn perform(&mut self, output: &Output) -> Result<(), WorldFault> {
+    fn perform(&mut self, output: &Output) -> Result<(), WorldFault>
+        ensures { OnOk result (Performs output.now self.old.client.out (numbers_of self.old.upstreams.items) self.new.client.out (numbers_of self.new.upstreams.items)) }
+    {
         match output {
             Output::Client(octets) => match self.client.put(self.poll.registry(), octets) {
                 Ok(()) => Ok(()),
@@ -360,6 +380,7 @@ impl<'a, N: Net + Clock> Sockets<'a, N> {
 
 impl<'a, N: Net + Clock> World for SocketWorld<'a, N> {
     ghost use Rattle.std.specs.Prelude.{None, false};
+    ghost use Rattle.sockets.specs.Performed.{no_log};
 
     ghost calls = { λ world. world.calls };
 
@@ -367,7 +388,7 @@ impl<'a, N: Net + Clock> World for SocketWorld<'a, N> {
 
     ghost over = { λ _. false };
 
-    ghost log = { λ _. None };
+    ghost log = { λ _. no_log };
 
     ghost handed = { λ _. None };
 
@@ -383,7 +404,15 @@ impl<'a, N: Net + Clock> World for SocketWorld<'a, N> {
         }
     }
 
-    fn apply(&mut self, output: &Output) -> Result<(), WorldFault> {
+    fn apply(&mut self, output: &Output) -> Result<(), WorldFault>
+        requires { self.old.failures + 1 < 2 ^ 64 }
+        ensures calls { self.new.calls ≡ self.old.calls }
+        ensures failures { self.new.failures ≡ (if is_ok result then self.old.failures else self.old.failures + 1) }
+        // The trait's, of a world that tells no log.
+        ensures log { OnOk result ((before : List Step) (step : Step) → no_log ≡ Some (before ++ step ∷ []) → no_log ≡ Some (before ++ with_outputs step (output_of output.now ∷ []) ∷ [])) }
+        ensures err { OnErr result (no_log ≡ no_log) }
+        ensures performs { OnOk result (Performs output.now self.old.sockets.client.out (numbers_of self.old.sockets.upstreams.items) self.new.sockets.client.out (numbers_of self.new.sockets.upstreams.items)) }
+    {
         let applied = self.sockets.perform(output);
         if applied.is_err() {
             self.failures += 1;
@@ -399,7 +428,8 @@ fn token_of(number: u32) -> Token {
 
 /// The place of a connection.
 fn place_of(k: u32, upstreams: &[Upstream]) -> Option<usize>
-    ensures { IfSome result (λ place. place < length upstreams.now) }
+    ensures within { IfSome result (λ place. place < length upstreams.now) }
+    ensures found { IfSome result (λ place. (other : Upstream) → (get_or upstreams.now place other).k ≡ k) }
 {
     upstreams
         .binary_search_by_key(&k, |upstream| upstream.k)
@@ -418,7 +448,9 @@ fn list(
     upstream: &mut Upstream,
     ready: &mut VecDeque<u32>,
     writes: &mut VecDeque<u32>,
-) -> Result<(), WorldFault> {
+) -> Result<(), WorldFault>
+    ensures { upstream.new.k ≡ upstream.old.k }
+{
     if upstream.joins_queue() {
         ready.push_back(upstream.k)?;
     }

@@ -1,5 +1,5 @@
 use Rattle.std.proofs.Common.{refl}
 use Rattle.sockets.proofs.world.SocketWorld.new.Goals as goal
 
-pub returns : goal.returns
-returns g c = (refl, refl)
+pub returns-clause-addresses : goal.returns-clause-addresses
+returns-clause-addresses g c = refl

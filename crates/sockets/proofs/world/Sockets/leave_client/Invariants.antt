@@ -1,0 +1,6 @@
+use Rattle.std.proofs.Common.{◌≡◌, []}
+use Rattle.sockets.specs.Performed.{numbers_of}
+use Rattle.sockets.proofs.world.Sockets.leave_client.Given as goal
+
+abbrev pub invariant-loop : goal.invariant-loop
+invariant-loop g l = numbers_of l.self.upstreams.items ≡ []

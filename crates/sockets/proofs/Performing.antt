@@ -1,6 +1,6 @@
 -- Which connections are open.
 use Rattle.std.proofs.Common.{◌≡◌, ◌<◌, ℕ, zero, suc, List, [], ◌∷◌, length, take, drop, set, get_or, Result, Ok, Err, refl, sym, ap, ◌∙◌, take-append-drop, arith}
-use Rattle.std.proofs.lemmas.List.{map-append}
+use Rattle.std.proofs.lemmas.List.{map-append, map-set, get_or-map, set-get_or}
 use Rattle.std.proofs.lemmas.Cmp.{ranked}
 use Rattle.std.specs.Prelude.{IfSome}
 use Rattle.std.specs.List.{insert, remove}
@@ -29,9 +29,8 @@ one_fewer (v ∷ vs) (suc i) k u within is =
 
 -- The one at a place changed, and has its number still.
 pub same_numbers : (us : List Upstream) (i : ℕ) (u new : Upstream) → i < length us → new.k ≡ (get_or us i u).k → numbers_of (set us i new) ≡ numbers_of us
-same_numbers [] i u new within is = grind arith
-same_numbers (v ∷ vs) zero u new within is = ap (λ n. n ∷ numbers_of vs) is
-same_numbers (v ∷ vs) (suc i) u new within is = ap (λ ns. v.k ∷ ns) (same_numbers vs i u new (grind arith) is)
+same_numbers us i u new within is =
+    map-set (λ v. v.k) us i new ∙ (ap (set (numbers_of us) i) (is ∙ sym (get_or-map (λ v. v.k) us i u 0 within)) ∙ set-get_or (numbers_of us) i 0)
 
 -- A search by halves ends at a connection with that number, or says that it found none.
 pub searched : (us : List Upstream) (k : ℕ) (r : Result ℕ ℕ) → IsBinarySearchResult (λ (u : Upstream). nat_cmp u.k k) us r

@@ -1,17 +1,12 @@
 pub mod FramesReadings
 pub mod FramesFronts
-mod FramesExamples
 pub mod Http1Runs
 pub mod Http1Lines
 pub mod Http1Bodies
 pub mod Http1Readings
 pub mod Http1Texts
-pub mod Http1Examples
 pub mod Http2Readings
 pub mod Http2Sends
-mod Http2Examples
-mod HpackExamples
-mod LayersExamples
 pub mod LayersPayloads
 pub mod LayersTurns
 pub mod LayersSettings
@@ -23,7 +18,7 @@ pub mod BlockLaws
 pub mod KeepLemmas
 pub mod MaximaLaws
 pub mod DecodingLaws
-mod FirstLog
+pub mod FirstLog
 pub mod ResponseHeadReadings
 pub mod ResponseBodies
 pub mod ResponseReadings
@@ -42,19 +37,4 @@ pub mod ActiveLaws
 pub mod HeadLaws
 pub mod LifeLaws
 pub mod ItemLaws
-mod BeginningExamples
-mod HeadlineExamples
 pub mod AnswerTexts
-mod AnswerExamples
-mod RowTapes
-mod ErrorExamples
-mod WindowExamples
-mod CauseExamples
-mod LogExamples
-mod Refusals
-mod ResponseRefusals
-mod RequestRefusals
-mod TurnRefusals
-mod SendingRefusals
-mod ServingRefusals
-mod OfferRefusals

@@ -49,3 +49,15 @@ pub returns-in-Err-clause-memory : goal.returns-in-Err-clause-memory
 returns-in-Err-clause-memory g c = λ e.
     let left = c.in-Err.ensures.memory (same_fault _ _ e) in
     (left.0 ∙ c.loop-turn.invariant.failures, λ before h. inr (left.1 (setup_of c.args.config.now) before _ (c.loop-turn.invariant.log before h)))
+
+pub returns-clause-turns : goal.returns-clause-turns
+returns-clause-turns g c = λ _. (let calls = c.loop-turn.invariant.calls in let end = c.loop-turn.auto._turn-end in let over = c.loop-turn-test.false in omega (arith, calls, end, over))
+
+pub returns-clause-calls : goal.returns-clause-calls
+returns-clause-calls g c = (let calls = c.loop-turn.invariant.calls in let end = c.loop-turn.auto._turn-end in omega (arith, calls, end))
+
+pub take_turn-requires-clause-calls : goal.take_turn-requires-clause-calls
+take_turn-requires-clause-calls g c = (let calls = c.loop-turn.invariant.calls in let end = c.loop-turn.auto._turn-end in let more = c.loop-turn-test.true in let turns = c.requires.turns in omega (arith, calls, end, more, turns))
+
+pub returns-in-Ok-Some-clause-calls : goal.returns-in-Ok-Some-clause-calls
+returns-in-Ok-Some-clause-calls g c = (let calls = c.loop-turn.invariant.calls in let end = c.loop-turn.auto._turn-end in let more = c.loop-turn-test.true in let took = c.in-Ok-Some.ensures.calls in omega (arith, calls, end, more, took))

@@ -13,7 +13,7 @@ use Rattle.model.specs.ProgressClause.{NoneReady}
 use Rattle.model.specs.Readiness.{IsReady, IsNextBody}
 use Rattle.model.specs.Synchrony.{begins_part, AreFair, IsReadyAtEach}
 use Rattle.model.proofs.AnswerTexts.{answer, head, fields, block, response, answered}
-use Rattle.model.proofs.RowTapes.{by_whole, frame, plain, settings, out, out_headed, getting, got}
+use Rattle.model_examples.proofs.RowTapes.{by_whole, frame, plain, settings, out, out_headed, getting, got}
 
 -- both upstreams have answered, and nothing was sent yet
 abbrev both : List Entry

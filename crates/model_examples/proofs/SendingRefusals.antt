@@ -21,8 +21,8 @@ use Rattle.model.specs.WindowClause.{WindowsHold}
 use Rattle.model.specs.Headline.{ClausesHold, HoldsInTurn}
 use Rattle.model.proofs.Http1Bodies.{one_chunk}
 use Rattle.model.proofs.Http1Readings.{one_head}
-use Rattle.model.proofs.RowTapes.{by_whole, by_streaming, frame, plain, headed, out, out_headed, post, post_block, begun, getting, got, ok_two, update}
-use Rattle.model.proofs.RequestRefusals.{five, five_text, five_head, has_five_head}
+use Rattle.model_examples.proofs.RowTapes.{by_whole, by_streaming, frame, plain, headed, out, out_headed, post, post_block, begun, getting, got, ok_two, update}
+use Rattle.model_examples.proofs.RequestRefusals.{five, five_text, five_head, has_five_head}
 
 -- ---- frames that it may not send
 

@@ -17,9 +17,9 @@ use Rattle.model.specs.ProgressClause.{HasCome, IsStreamed}
 use Rattle.model.specs.WindowsOnTape.{room_on_connection}
 use Rattle.model.specs.WindowClause.{kept_in_all}
 use Rattle.model.specs.Setup.Passing.{Streaming}
-use Rattle.model.proofs.RowTapes.{by_whole, by_streaming, frame, plain, headed, out, out_headed, field, post, post_block, begun, getting, got, update}
-use Rattle.model.proofs.WindowExamples.{five_sent, streamed, head_text}
-use Rattle.model.proofs.CauseExamples.{expecting, reply_fields, ended_streaming, in_chunk_streaming}
+use Rattle.model_examples.proofs.RowTapes.{by_whole, by_streaming, frame, plain, headed, out, out_headed, field, post, post_block, begun, getting, got, update}
+use Rattle.model_examples.proofs.WindowExamples.{five_sent, streamed, head_text}
+use Rattle.model_examples.proofs.CauseExamples.{expecting, reply_fields, ended_streaming, in_chunk_streaming}
 
 -- ---- more octets than were declared, passed on as they come: a reset, and six octets back
 

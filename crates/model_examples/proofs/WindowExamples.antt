@@ -13,7 +13,7 @@ use Rattle.model.specs.ResponseClause.{limits_since}
 use Rattle.model.specs.Courses.{items}
 use Rattle.model.specs.ErrorClause.{rst_stream, owed_by}
 use Rattle.model.specs.WindowClause.{kept, kept_in_all}
-use Rattle.model.proofs.RowTapes.{by_whole, frame, plain, headed, out, out_headed, field, post, post_block, begun, getting, got, answered, update, settings}
+use Rattle.model_examples.proofs.RowTapes.{by_whole, frame, plain, headed, out, out_headed, field, post, post_block, begun, getting, got, answered, update, settings}
 
 -- ---- a first size of 10, which is lowered to 3 when 10 octets were sent
 

@@ -39,8 +39,8 @@ use Rattle.model.specs.ResponseClause.{EachKeeps, ResponsesHold}
 use Rattle.model.proofs.FirstLog as first
 use Rattle.model.proofs.FirstLog.{setup, text, request, well_formed, nothing_begins_none}
 use Rattle.model.proofs.AnswerTexts.{answer, head, fields, block, is_block, response, answered, one_framing, not_plain}
-use Rattle.model.proofs.HeadlineExamples as before
-use Rattle.model.proofs.BeginningExamples.{known, not_streaming, no_request, nothing_either, none_read}
+use Rattle.model_examples.proofs.HeadlineExamples as before
+use Rattle.model_examples.proofs.BeginningExamples.{known, not_streaming, no_request, nothing_either, none_read}
 
 abbrev headers : Noted
 headers = record { frame = record { kind = 1; flags = 4; id = 1; payload = block }; note = Fields fields }

@@ -19,9 +19,9 @@ use Rattle.model.specs.Causes.{Cause, reply}
 use Rattle.model.specs.Causes.Cause.{BadAnswer}
 use Rattle.model.specs.Offers.{IsOffered, WasOffered, IsDelivered}
 use Rattle.model.specs.Headline.{ClausesHold, HoldsInTurn}
-use Rattle.model.proofs.ResponseRefusals.{IsUnanswered, no_interims}
+use Rattle.model_examples.proofs.ResponseRefusals.{IsUnanswered, no_interims}
 use Rattle.model.proofs.DeliveryReadings.{one_delivery}
-use Rattle.model.proofs.RowTapes.{by_whole, whole, frame, out_headed, field, got}
+use Rattle.model_examples.proofs.RowTapes.{by_whole, whole, frame, out_headed, field, got}
 
 -- ---- where what was delivered was on offer
 

@@ -18,7 +18,7 @@ use Rattle.model.specs.Admission.{untaken}
 use Rattle.model.specs.Causes.Cause.{LargeFields, Tunnel, Expects, LargeBody, NoRoute, BadAnswer}
 use Rattle.model.specs.Courses.{items, cause, fault, is_final}
 use Rattle.model.specs.ErrorClause.{rst_stream, owed_by}
-use Rattle.model.proofs.RowTapes.{whole, by_whole, streaming, frame, plain, headed, out, out_headed, field, head_of, get, get_block, post, post_block, begun, getting, got, reset}
+use Rattle.model_examples.proofs.RowTapes.{whole, by_whole, streaming, frame, plain, headed, out, out_headed, field, head_of, get, get_block, post, post_block, begun, getting, got, reset}
 
 -- ---- causes at a head
 

@@ -21,12 +21,12 @@ use Rattle.model.specs.RequestClause.{RequestsHold}
 use Rattle.model.specs.ProgressClause.{was_cut, AllForwarded}
 use Rattle.model.specs.Headline.{ClausesHold, HoldsInTurn}
 use Rattle.model.proofs.Http1Readings.{one_head}
-use Rattle.model.proofs.RowTapes.{by_whole, by_streaming, frame, plain, headed, field, get, get_block, post, post_block, begun, got, reset}
-use Rattle.model.proofs.RequestRefusals.{five, five_text, invents}
-use Rattle.model.proofs.Refusals.{closes_at_once}
+use Rattle.model_examples.proofs.RowTapes.{by_whole, by_streaming, frame, plain, headed, field, get, get_block, post, post_block, begun, got, reset}
+use Rattle.model_examples.proofs.RequestRefusals.{five, five_text, invents}
+use Rattle.model_examples.proofs.Refusals.{closes_at_once}
 use Rattle.model.proofs.FirstLog as first
-use Rattle.model.proofs.BeginningExamples.{known}
-use Rattle.model.proofs.HeadlineExamples as example
+use Rattle.model_examples.proofs.BeginningExamples.{known}
+use Rattle.model_examples.proofs.HeadlineExamples as example
 
 -- ---- connections for streams that want none
 

@@ -22,7 +22,7 @@ use Rattle.model.specs.ResponseClause.{ResponsesHold}
 use Rattle.model.proofs.IntegerLemmas.{one_int}
 use Rattle.model.proofs.BlockLemmas.{head_mark, literal_head}
 use Rattle.model.proofs.OfferLemmas.{OffersNothing, nothing_begun, nothing_offered}
-use Rattle.model.proofs.RowTapes.{by_whole, whole, frame, out, out_headed, field, getting, got, answer_text}
+use Rattle.model_examples.proofs.RowTapes.{by_whole, whole, frame, out, out_headed, field, getting, got, answer_text}
 
 -- ---- places of a tape before another
 

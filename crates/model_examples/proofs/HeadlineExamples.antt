@@ -25,7 +25,7 @@ use Rattle.model.specs.WindowClause.{WindowsHold}
 use Rattle.model.specs.Headline.{ClausesHold, HoldsInTurn, IsTold, IsTaped, Headline}
 use Rattle.model.proofs.FirstLog as first
 use Rattle.model.proofs.FirstLog.{setup, head, text, step, tape, request, decodes, well_formed, reads, nothing_begins_none, nothing_on, settings_fits, ack_fits}
-use Rattle.model.proofs.BeginningExamples.{known, not_streaming, no_request, nothing_either, none_read, settled_holds, settled_in_turn}
+use Rattle.model_examples.proofs.BeginningExamples.{known, not_streaming, no_request, nothing_either, none_read, settled_holds, settled_in_turn}
 use Rattle.model.proofs.Http2Readings.{one_meaning}
 use Rattle.model.proofs.OfferLemmas.{OffersNothing, nothing_begun, nothing_offered, nothing_complete, nothing_goes, BringNone, no_items}
 

@@ -25,8 +25,8 @@ use Rattle.model.specs.ErrorTable.{fault_of, fault_on, judged, unless_of_stream,
 use Rattle.model.specs.Courses.{course, carried, items, interrupts, new_cause}
 use Rattle.model.specs.RequestClause.{IsServed, IsSentInPart}
 use Rattle.model.proofs.Http1Readings.{one_head}
-use Rattle.model.proofs.RowTapes.{field}
-use Rattle.model.proofs.Http1Examples.{both_lines, both_framings}
+use Rattle.model_examples.proofs.RowTapes.{field}
+use Rattle.model_examples.proofs.Http1Examples.{both_lines, both_framings}
 
 -- Whatever the tape, a connection that was sent both framing lines is refused, on an unfinished stream as on a whole one.
 pub both_framing_lines : (known : Known) (t : List Entry) (o : Opened) → sent_for o t ≡ both_lines → IsServed known t o → ⊥

@@ -19,9 +19,9 @@ use Rattle.model.specs.WindowClause.{WindowsHold}
 use Rattle.model.specs.Headline.{IsTold}
 use Rattle.model.specs.Synchrony.{IsWritten}
 use Rattle.model.proofs.OfferLemmas.{nothing_complete}
-use Rattle.model.proofs.RowTapes.{by_whole, by_streaming, frame, plain, headed, out, field, post, post_block, begun, getting, got, update, settings}
-use Rattle.model.proofs.CauseExamples.{ended_streaming, in_chunk_streaming}
-use Rattle.model.proofs.WindowExamples as windows
+use Rattle.model_examples.proofs.RowTapes.{by_whole, by_streaming, frame, plain, headed, out, field, post, post_block, begun, getting, got, update, settings}
+use Rattle.model_examples.proofs.CauseExamples.{ended_streaming, in_chunk_streaming}
+use Rattle.model_examples.proofs.WindowExamples as windows
 
 -- It sends nothing: the first frame is to be the gateway's settings.
 pub silent : (known : Known) (t : List Entry) → sent t ≡ [] → ErrorsHold known t → ⊥

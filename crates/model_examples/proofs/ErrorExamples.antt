@@ -10,7 +10,7 @@ use Rattle.model.specs.Tapes.Entry.{Came, Breached}
 use Rattle.model.specs.Errors.Fault.{Connection, Discarded}
 use Rattle.model.specs.Courses.{items, fault}
 use Rattle.model.specs.ErrorClause.{rst_stream, ping_ack, owed_by}
-use Rattle.model.proofs.RowTapes.{by_whole, by_streaming, frame, plain, headed, out, field, get, get_block, post, post_block, begun, getting, got, answered, update, settings}
+use Rattle.model_examples.proofs.RowTapes.{by_whole, by_streaming, frame, plain, headed, out, field, get, get_block, post, post_block, begun, getting, got, answered, update, settings}
 
 -- ---- a header block in four frames, and a PING between them
 

@@ -2,10 +2,10 @@
 
 ghost use Rattle.std.specs.Prelude.{◌≤◌, IfErr};
 ghost use Rattle.gateway.specs.Setups.{setup_of, IsServable};
-ghost use Rattle.h2gw.specs.Stops.{status_of};
+ghost use Rattle.h2gw_parts.specs.Stops.{status_of};
 
-use crate::setting::Setting;
-use crate::stops::Stop;
+use h2gw_parts::setting::Setting;
+use h2gw_parts::stops::Stop;
 use mio::net::TcpStream as Socket;
 use sockets::SocketWorld;
 use std::io::ErrorKind;

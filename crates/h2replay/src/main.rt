@@ -1,11 +1,8 @@
 //! Replays a script on a gateway: `h2replay [--config FILE] SCRIPT`.
 #![tactic(auto)]
 
-mod setting;
-mod stops;
-
-use crate::setting::read_setting;
-use crate::stops::{Stop, report};
+use h2replay_parts::setting::read_setting;
+use h2replay_parts::stops::{Stop, report};
 use std::io;
 use std::process::ExitCode;
 

@@ -1,39 +1,46 @@
--- Which connections are open.
-use Rattle.std.proofs.Common.{◌≡◌, ◌<◌, ℕ, zero, suc, List, [], ◌∷◌, length, take, drop, set, get_or, Result, Ok, Err, refl, sym, ap, ◌∙◌, take-append-drop, arith}
-use Rattle.std.proofs.lemmas.List.{map-append, map-set, get_or-map, set-get_or}
-use Rattle.std.proofs.lemmas.Cmp.{ranked}
-use Rattle.std.specs.Prelude.{IfSome}
+-- Which connections are open, and what they were sent.
+use Rattle.std.proofs.Common.{◌≡◌, ◌<◌, ℕ, zero, suc, List, [], ◌∷◌, length, take, drop, set, get_or, Result, Ok, Err, refl, sym, ap, subst, take-append-drop, arith}
+use Rattle.std.specs.Prelude.{OnOk}
 use Rattle.std.specs.List.{insert, remove}
-use Rattle.std.specs.List.Sorted.{IsBinarySearchResult}
-use Rattle.std.specs.Result.{result_ok}
-use Rattle.std.specs.Ordering.{nat_cmp}
 use Rattle.sockets.specs.declared.upstream.Upstream.{Upstream}
-use Rattle.sockets.specs.Performed.{Opens, numbers_of}
+use Rattle.sockets.specs.Sides.{Sends}
+use Rattle.sockets.specs.Performed.{Opens, Changes}
 
 -- A connection was put at a place.
-pub one_more : (us : List Upstream) (i : ℕ) (u : Upstream) → Opens u.k (numbers_of us) (numbers_of (insert us i u))
-one_more us i u = record {
-  before = numbers_of (take i us);
-  behind = numbers_of (drop i us);
-  old_is = ap numbers_of (sym (take-append-drop i us)) ∙ map-append (λ v. v.k) (take i us) (drop i us);
-  new_is = map-append (λ v. v.k) (take i us) (u ∷ drop i us);
-}
+pub one_more : (us : List Upstream) (i : ℕ) (u : Upstream) → Opens u.k us (insert us i u)
+one_more us i u = record { before = take i us; behind = drop i us; opened = u; number = refl; old_is = sym (take-append-drop i us); new_is = refl }
 
 -- The one at a place was taken away.
-pub one_fewer : (us : List Upstream) (i k : ℕ) (u : Upstream) → i < length us → (get_or us i u).k ≡ k → Opens k (numbers_of (remove us i)) (numbers_of us)
+pub one_fewer : (us : List Upstream) (i k : ℕ) (u : Upstream) → i < length us → (get_or us i u).k ≡ k → Opens k (remove us i) us
 one_fewer [] i k u within is = grind arith
-one_fewer (v ∷ vs) zero k u within is = record { before = []; behind = numbers_of vs; old_is = refl; new_is = ap (λ n. n ∷ numbers_of vs) is }
+one_fewer (v ∷ vs) zero k u within is = record { before = []; behind = vs; opened = v; number = is; old_is = refl; new_is = refl }
 one_fewer (v ∷ vs) (suc i) k u within is =
     let below = one_fewer vs i k u (grind arith) is in
-    record { before = v.k ∷ below.before; behind = below.behind; old_is = ap (λ ns. v.k ∷ ns) below.old_is; new_is = ap (λ ns. v.k ∷ ns) below.new_is }
+    record { before = v ∷ below.before; behind = below.behind; opened = below.opened; number = below.number; old_is = ap (λ us. v ∷ us) below.old_is; new_is = ap (λ us. v ∷ us) below.new_is }
 
--- The one at a place changed, and has its number still.
-pub same_numbers : (us : List Upstream) (i : ℕ) (u new : Upstream) → i < length us → new.k ≡ (get_or us i u).k → numbers_of (set us i new) ≡ numbers_of us
-same_numbers us i u new within is =
-    map-set (λ v. v.k) us i new ∙ (ap (set (numbers_of us) i) (is ∙ sym (get_or-map (λ v. v.k) us i u 0 within)) ∙ set-get_or (numbers_of us) i 0)
+-- The one at a place was sent octets.
+pub one_changed : (us : List Upstream) (i k : ℕ) (u new : Upstream) (octets : List ℕ) → i < length us → (get_or us i u).k ≡ k → Sends (get_or us i u) octets new
+    → Changes k octets us (set us i new)
+one_changed [] i k u new octets within is sends = grind arith
+one_changed (v ∷ vs) zero k u new octets within is sends = record { before = []; behind = vs; from = v; to = new; number = is; sends = sends; old_is = refl; new_is = refl }
+one_changed (v ∷ vs) (suc i) k u new octets within is sends =
+    let below = one_changed vs i k u new octets (grind arith) is sends in
+    record {
+      before = v ∷ below.before;
+      behind = below.behind;
+      from = below.from;
+      to = below.to;
+      number = below.number;
+      sends = below.sends;
+      old_is = ap (λ us. v ∷ us) below.old_is;
+      new_is = ap (λ us. v ∷ us) below.new_is;
+    }
 
--- A search by halves ends at a connection with that number, or says that it found none.
-pub searched : (us : List Upstream) (k : ℕ) (r : Result ℕ ℕ) → IsBinarySearchResult (λ (u : Upstream). nat_cmp u.k k) us r
-    → IfSome (result_ok r) (λ place. (other : Upstream) → (get_or us place other).k ≡ k)
-searched us k (Ok place) equal = λ other. ranked _ k _ (sym (equal other))
-searched us k (Err place) parted = tt
+-- Where it is listed says nothing of what it was sent.
+pub listed : (from mid to : Upstream) (octets : List ℕ) → Sends from octets mid → to ≡ record mid { is_queued = to.is_queued; is_listed = to.is_listed } → Sends from octets to
+listed from mid to octets sends is = subst (Sends from octets) (sym is) (record { number = sends.number; puts_out = sends.puts_out })
+
+-- what holds anyway holds where a call succeeds
+pub on_ok : {A B P : Type 0} (r : Result A B) → P → OnOk r P
+on_ok (Ok a) p = p
+on_ok (Err b) p = tt

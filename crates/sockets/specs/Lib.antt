@@ -1,2 +1,4 @@
 pub mod Rooms
+pub mod Putting
+pub mod Sides
 pub mod Performed

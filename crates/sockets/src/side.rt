@@ -1,7 +1,8 @@
 //! One socket, and what is known of it.
 
-ghost use Rattle.std.specs.Prelude.{◌≡◌, ◌+◌, ◌<◌, ◌↔◌, ◌&&◌, [], not, length, IsTrue, IfOk, OnOk};
-ghost use Rattle.sockets.specs.Performed.{PutsOut};
+ghost use Rattle.std.specs.Prelude.{◌≡◌, ◌+◌, ◌<◌, ◌↔◌, ◌&&◌, [], true, false, not, length, IsTrue, IfOk, OnOk};
+ghost use Rattle.sockets.specs.Putting.{PutsOut};
+ghost use Rattle.sockets.specs.Sides.{noted, given_up};
 ghost use Rattle.transfers.specs.Transfers.{nothing_put, told, told_count};
 
 use mio::event::Event;
@@ -46,7 +47,11 @@ impl Side {
         token: Token,
         least: usize,
     ) -> io::Result<Side>
-        ensures { IfOk result (λ side. side.out ≡ nothing_put) }
+        ensures nothing { IfOk result (λ side. side.out ≡ nothing_put) }
+        ensures least { IfOk result (λ side. side.least ≡ least) }
+        ensures token { IfOk result (λ side. side.token ≡ token) }
+        ensures unheard { IfOk result (λ side. (side.readable ≡ false) × (side.hung_up ≡ false) × (side.ended ≡ false) × (side.lost ≡ false)) }
+        ensures unwritten { IfOk result (λ side. (side.shut ≡ false) × (side.full ≡ false) × (side.watched ≡ false)) }
     {
         socket.set_nodelay(true)?;
         registry.register(&mut socket, token, Interest::READABLE)?;
@@ -110,7 +115,7 @@ impl Side {
 
     /// A write failed: what is written to it reaches nobody, and reads go on until its end, or to a failure.
     pub fn lose(&mut self)
-        ensures { self.new.out ≡ self.old.out }
+        ensures { self.new ≡ given_up self.old }
     {
         self.lost = true;
         self.hung_up = true;
@@ -119,7 +124,7 @@ impl Side {
 
     /// Notes what was reported.
     pub fn note(&mut self, event: &Event)
-        ensures { self.new.out ≡ self.old.out }
+        ensures { self.new ≡ noted event.now self.old }
     {
         let over = event.is_read_closed() || event.is_error();
         self.hung_up = self.hung_up || over;
@@ -130,7 +135,8 @@ impl Side {
 
     /// Puts octets out.
     pub fn put(&mut self, registry: &Registry, octets: &[u8]) -> Result<(), PutFault>
-        ensures { OnOk result (PutsOut self.old.out octets.now self.new.out) }
+        ensures puts { OnOk result (PutsOut self.old.out octets.now self.new.out) }
+        ensures stays { self.new ≡ record self.old { socket = self.new.socket; out = self.new.out; full = self.new.full; watched = self.new.watched } }
     {
         if self.out.waiting() == 0 && octets.len() >= self.least {
             self.out.put(&mut self.socket, octets)?;
@@ -145,7 +151,8 @@ impl Side {
 
     /// Writes what waits, if the socket may take it.
     pub fn flush(&mut self, registry: &Registry) -> io::Result<()>
-        ensures { PutsOut self.old.out [] self.new.out }
+        ensures puts { PutsOut self.old.out [] self.new.out }
+        ensures stays { self.new ≡ record self.old { socket = self.new.socket; out = self.new.out; full = self.new.full; watched = self.new.watched } }
     {
         if !self.full && self.out.waiting() > 0 {
             self.out.flush(&mut self.socket)?;
@@ -156,14 +163,16 @@ impl Side {
 
     /// Writes what waits until a write takes nothing.
     pub fn finish(&mut self) -> io::Result<()>
-        ensures { PutsOut self.old.out [] self.new.out }
+        ensures puts { PutsOut self.old.out [] self.new.out }
+        ensures stays { self.new ≡ record self.old { socket = self.new.socket; out = self.new.out } }
     {
         self.out.flush_all(&mut self.socket)
     }
 
     /// Tells it that nothing more is written.
     pub fn shut(&mut self) -> io::Result<()>
-        ensures { self.new.out ≡ self.old.out }
+        ensures shut { OnOk result (self.new.shut ≡ true) }
+        ensures stays { self.new ≡ record self.old { socket = self.new.socket; shut = self.new.shut } }
     {
         if !self.shut {
             self.socket.shutdown(Shutdown::Write)?;
@@ -174,7 +183,8 @@ impl Side {
 
     /// Reads what is there, as far as there is room.
     pub fn read(&mut self, alloc: Global, room: &mut [u8]) -> io::Result<Got>
-        ensures { self.new.out ≡ self.old.out }
+        ensures ended { IfOk result (λ got. IsTrue self.new.ended ↔ (got ≡ Got.End)) }
+        ensures stays { self.new ≡ record self.old { socket = self.new.socket; readable = self.new.readable; ended = self.new.ended } }
     {
         let got = read_piece(alloc, &mut self.socket, room)?;
         self.ended = matches!(got, Got::End);
@@ -188,7 +198,8 @@ impl Side {
 
     /// Notes behind a write whether octets wait, and has the socket reported once it takes those.
     fn watch(&mut self, registry: &Registry) -> io::Result<()>
-        ensures { self.new.out ≡ self.old.out }
+        ensures full { IsTrue self.new.full ↔ (0 < length self.old.out.waiting) }
+        ensures stays { self.new ≡ record self.old { socket = self.new.socket; full = self.new.full; watched = self.new.watched } }
     {
         self.full = self.out.waiting() > 0;
         if self.watched || !self.full {

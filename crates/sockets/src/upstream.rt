@@ -1,6 +1,7 @@
 //! The connections to upstreams.
 
-ghost use Rattle.std.specs.Prelude.{◌≡◌};
+ghost use Rattle.std.specs.Prelude.{◌≡◌, ◌&&◌, ◌||◌, ◌<◌, [], true, false, not, nat_lt, IfOk, OnOk, IfSome, IsTrue, ◌↔◌};
+ghost use Rattle.sockets.specs.Sides.{noted, may_be_ready, owes, is_ready, is_deaf, Sends, IsOf, heard_of, side_told, count_told, side_given_up, out_of};
 
 use crate::side::Side;
 use gateway::Event;
@@ -29,7 +30,9 @@ pub struct Upstream {
 impl Upstream {
     /// A connection that is begun, or that couldn't be.
     pub fn new(k: u32, side: Option<Side>) -> Upstream
-        ensures { result.k ≡ k }
+        ensures number { result.k ≡ k }
+        ensures side { result.side ≡ side }
+        ensures anew { (result.broken ≡ false) × (result.is_queued ≡ false) × (result.is_listed ≡ false) }
     {
         Upstream {
             k,
@@ -42,7 +45,8 @@ impl Upstream {
 
     /// Whether it joins those of which something may be read: something may, and it doesn't stand among them.
     pub fn joins_queue(&mut self) -> bool
-        ensures { self.new.k ≡ self.old.k }
+        ensures joins { result ≡ (not self.old.is_queued && may_be_ready self.old.side) }
+        ensures stands { self.new ≡ record self.old { is_queued = self.old.is_queued || result } }
     {
         let joins = !self.is_queued && self.may_be_ready();
         self.is_queued = self.is_queued || joins;
@@ -50,14 +54,17 @@ impl Upstream {
     }
 
     /// It was taken from among them.
-    pub fn leave_queue(&mut self) {
+    pub fn leave_queue(&mut self)
+        ensures { self.new ≡ record self.old { is_queued = false } }
+    {
         self.is_queued = false;
     }
 
     /// Whether it joins those of which it may have to be told what they took: they were put out octets of which it wasn't, and it
     /// doesn't stand among them.
     pub fn joins_list(&mut self) -> bool
-        ensures { self.new.k ≡ self.old.k }
+        ensures joins { result ≡ (not self.old.is_listed && owes self.old.side) }
+        ensures stands { self.new ≡ record self.old { is_listed = self.old.is_listed || result } }
     {
         let joins = !self.is_listed && self.owes();
         self.is_listed = self.is_listed || joins;
@@ -65,7 +72,9 @@ impl Upstream {
     }
 
     /// Whether octets were put out for it that weren't told of as taken.
-    fn owes(&self) -> bool {
+    fn owes(&self) -> bool
+        ensures { result ≡ owes self.now.side }
+    {
         match &self.side {
             Some(side) => side.owes_more_than(0),
             None => false,
@@ -73,7 +82,9 @@ impl Upstream {
     }
 
     /// Whether something may be read of it, if there is room.
-    fn may_be_ready(&self) -> bool {
+    fn may_be_ready(&self) -> bool
+        ensures { result ≡ may_be_ready self.now.side }
+    {
         match &self.side {
             Some(side) => side.is_readable(),
             None => true,
@@ -82,22 +93,31 @@ impl Upstream {
 
     /// Whether something may be read of it, for which there is so much room: with none it isn't told either that it failed, since octets may still
     /// be there before that.
-    pub fn is_ready(&self, room: usize) -> bool {
+    pub fn is_ready(&self, room: usize) -> bool
+        ensures { result ≡ is_ready room self.now.side }
+    {
         match &self.side {
             Some(side) => side.is_readable() && room > 0,
             None => true,
         }
     }
 
-    /// Notes what was reported of its socket.
-    pub fn note(&mut self, event: &event::Event) {
+    /// Notes what was reported of its socket, and writes what waits for it, if it may take it.
+    pub fn heed(&mut self, report: &event::Event, registry: &Registry)
+        ensures sends { Sends (heard_of report.now self.old) [] self.new }
+        ensures stands { (self.new.is_queued ≡ self.old.is_queued) × (self.new.is_listed ≡ self.old.is_listed) }
+    {
         if let Some(side) = &mut self.side {
-            side.note(event);
+            side.note(report);
         }
+        self.flush(registry);
     }
 
     /// How many octets its socket took that weren't told of. They are told of now, and it isn't listed any more.
-    pub fn tell(&mut self) -> u64 {
+    pub fn tell(&mut self) -> u64
+        ensures count { result ≡ count_told self.old.side }
+        ensures told { self.new ≡ record self.old { is_listed = false; side = side_told self.old.side } }
+    {
         self.is_listed = false;
         match &mut self.side {
             Some(side) => side.tell(1),
@@ -107,7 +127,9 @@ impl Upstream {
 
     /// Whether what is written to it reaches nobody. What it sent before is still read: no write is to be the first to meet a failure, behind which
     /// an end that came couldn't be told from one that didn't.
-    fn is_deaf(&self) -> bool {
+    fn is_deaf(&self) -> bool
+        ensures { result ≡ is_deaf self.now }
+    {
         match &self.side {
             Some(side) => self.broken || side.is_lost(),
             None => self.broken,
@@ -116,7 +138,9 @@ impl Upstream {
 
     /// Puts octets out. Where its socket failed they are dropped.
     pub fn put(&mut self, registry: &Registry, octets: &[u8]) -> Result<(), WorldFault>
-        ensures { self.new.k ≡ self.old.k }
+        ensures number { self.new.k ≡ self.old.k }
+        ensures sends { OnOk result (Sends self.old octets.now self.new) }
+        ensures stands { (self.new.is_queued ≡ self.old.is_queued) × (self.new.is_listed ≡ self.old.is_listed) }
     {
         if self.is_deaf() {
             return Ok(());
@@ -135,7 +159,10 @@ impl Upstream {
     }
 
     /// Writes what waits, if its socket may take it.
-    pub fn flush(&mut self, registry: &Registry) {
+    fn flush(&mut self, registry: &Registry)
+        ensures sends { Sends self.old [] self.new }
+        ensures stands { (self.new.is_queued ≡ self.old.is_queued) × (self.new.is_listed ≡ self.old.is_listed) }
+    {
         if self.is_deaf() {
             return;
         }
@@ -148,7 +175,11 @@ impl Upstream {
     }
 
     /// The event that a read gives, if it gives one. A failure comes where nothing more is there.
-    pub fn read(&mut self, alloc: Global, room: &mut [u8]) -> Result<Option<Event>, WorldFault> {
+    pub fn read(&mut self, alloc: Global, room: &mut [u8]) -> Result<Option<Event>, WorldFault>
+        ensures event { IfOk result (λ event. IfSome event (IsOf self.old.k)) }
+        ensures stays { self.new ≡ record self.old { side = self.new.side } }
+        ensures out { out_of self.new.side ≡ out_of self.old.side }
+    {
         let Some(side) = &mut self.side else {
             return Ok(Some(Event::UpFailed(self.k)));
         };
@@ -167,7 +198,7 @@ impl Upstream {
     /// Its socket failed at a write. Where its server had ended it before, which a broken pipe says, that end is still there behind what was sent; else
     /// it failed.
     fn fail(&mut self, kind: ErrorKind)
-        ensures { self.new.k ≡ self.old.k }
+        ensures { self.new ≡ record self.old { broken = self.new.broken; side = side_given_up self.old.side } }
     {
         self.broken = kind != ErrorKind::BrokenPipe;
         if let Some(side) = &mut self.side {

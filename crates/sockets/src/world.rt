@@ -1,10 +1,10 @@
 //! The world of sockets.
 
-ghost use Rattle.std.specs.Prelude.{◌≡◌, ◌+◌, ◌<◌, ◌^◌, None, Option, Some, [], ◌∷◌, ◌++◌, false, true, List, length, IfSome, IfOk, OnOk, OnErr, get_or, is_ok, if◌then◌else◌};
+ghost use Rattle.std.specs.Prelude.{◌≡◌, ◌+◌, ◌<◌, ◌^◌, None, Option, Some, [], ◌∷◌, ◌++◌, false, true, List, length, IfSome, IfNone, IfOk, OnOk, OnErr, get_or, is_ok, if◌then◌else◌};
 ghost use Rattle.model.specs.Logs.{Step};
 ghost use Rattle.outputs.specs.Views.{output_of};
-ghost use Rattle.worlds.specs.Worlds.{with_outputs};
-ghost use Rattle.sockets.specs.Performed.{Opens, Performs, no_log, numbers_of};
+ghost use Rattle.worlds.specs.Worlds.{AddsEvent, AddsHanded, SaysOver, with_outputs};
+ghost use Rattle.sockets.specs.Performed.{AreRising, IsOpenNowhere, Opens, SendsTo, Performs, no_log, none_handed};
 ghost use Rattle.transfers.specs.Transfers.{nothing_put};
 
 use crate::leaving::Leaving;
@@ -13,7 +13,7 @@ use crate::side::Side;
 use crate::upstream::Upstream;
 use gateway::{Event, Output};
 use mio::net::TcpStream;
-use mio::{Events, Poll, Token};
+use mio::{Events, Poll, Registry, Token};
 use std::alloc::Global;
 use std::collections::VecDeque;
 use std::io;
@@ -89,7 +89,7 @@ impl<'a, N: Net + Clock> SocketWorld<'a, N> {
     ) -> io::Result<SocketWorld<'a, N>>
         ensures counts { IfOk result (λ world. (world.calls ≡ 0) × (world.failures ≡ 0)) }
         ensures addresses { IfOk result (λ world. world.sockets.addresses.now ≡ addresses.now) }
-        ensures nothing { IfOk result (λ world. (world.sockets.client.out ≡ nothing_put) × (numbers_of world.sockets.upstreams.items ≡ [])) }
+        ensures nothing { IfOk result (λ world. (world.sockets.client.out ≡ nothing_put) × (world.sockets.upstreams.items ≡ [])) }
     {
         let poll = Poll::new(net)?;
         let token = token_of(CLIENT);
@@ -122,7 +122,7 @@ impl<'a, N: Net + Clock> SocketWorld<'a, N> {
     pub fn finish(&mut self) -> io::Result<()>
         ensures calls { self.new.calls ≡ self.old.calls }
         ensures failures { self.new.failures ≡ self.old.failures }
-        ensures closed { numbers_of self.new.sockets.upstreams.items ≡ [] }
+        ensures closed { self.new.sockets.upstreams.items ≡ [] }
     {
         self.sockets.leave_client()
     }
@@ -130,7 +130,9 @@ impl<'a, N: Net + Clock> SocketWorld<'a, N> {
 
 impl<'a, N: Net + Clock> Sockets<'a, N> {
     /// What comes next. Where nothing is there the world waits once, until something is reported.
-    fn find_next(&mut self, rooms: &[(u32, usize)]) -> Result<Option<Event>, WorldFault> {
+    fn find_next(&mut self, rooms: &[(u32, usize)]) -> Result<Option<Event>, WorldFault>
+        ensures rising { AreRising self.old.upstreams.items → AreRising self.new.upstreams.items }
+    {
         if let Some(event) = self.find_aside(rooms)? {
             return Ok(Some(event));
         }
@@ -142,7 +144,9 @@ impl<'a, N: Net + Clock> Sockets<'a, N> {
     }
 
     /// In some turns an event that else would have to wait as long as others are there: of a socket that wasn't looked at yet, or what was taken.
-    fn find_aside(&mut self, rooms: &[(u32, usize)]) -> Result<Option<Event>, WorldFault> {
+    fn find_aside(&mut self, rooms: &[(u32, usize)]) -> Result<Option<Event>, WorldFault>
+        ensures rising { AreRising self.old.upstreams.items → AreRising self.new.upstreams.items }
+    {
         self.turns = self.turns.wrapping_add(1);
         if self.turns % ROUND == 0 {
             self.look(Some(Duration::ZERO))?;
@@ -155,7 +159,9 @@ impl<'a, N: Net + Clock> Sockets<'a, N> {
     }
 
     /// An event that is there already. Where nothing may be read any more, what waits for the client is written.
-    fn find_event(&mut self, rooms: &[(u32, usize)]) -> Result<Option<Event>, WorldFault> {
+    fn find_event(&mut self, rooms: &[(u32, usize)]) -> Result<Option<Event>, WorldFault>
+        ensures rising { AreRising self.old.upstreams.items → AreRising self.new.upstreams.items }
+    {
         let count = self.client.tell(TOLD_AT_ONCE);
         if count > 0 {
             return Ok(Some(Event::ClientTook(count)));
@@ -168,16 +174,14 @@ impl<'a, N: Net + Clock> Sockets<'a, N> {
     }
 
     /// The event that a read gives, of the first socket in turn whose read gives one.
-    fn read_ready(&mut self, rooms: &[(u32, usize)]) -> Result<Option<Event>, WorldFault> {
+    fn read_ready(&mut self, rooms: &[(u32, usize)]) -> Result<Option<Event>, WorldFault>
+        ensures rising { AreRising self.old.upstreams.items → AreRising self.new.upstreams.items }
+    {
         for _ in 0..self.ready.len() {
             let Some(number) = self.ready.pop_front() else {
                 return Ok(None);
             };
-            let event = if number == CLIENT {
-                self.read_client()?
-            } else {
-                self.read(number, rooms)?
-            };
+            let event = self.read(number, rooms)?;
             if event.is_some() {
                 return Ok(event);
             }
@@ -185,9 +189,26 @@ impl<'a, N: Net + Clock> Sockets<'a, N> {
         Ok(None)
     }
 
+    /// The event that a read of a socket gives, if it gives one.
+    fn read(&mut self, number: u32, rooms: &[(u32, usize)]) -> Result<Option<Event>, WorldFault>
+        ensures rising { AreRising self.old.upstreams.items → AreRising self.new.upstreams.items }
+    {
+        if number == CLIENT {
+            self.read_client()
+        } else {
+            self.read_upstream(number, rooms)
+        }
+    }
+
     /// The event that a read of an upstream gives, if it gives one. Then, and where there is no room, its next turn comes behind
     /// those of the others.
-    fn read(&mut self, number: u32, rooms: &[(u32, usize)]) -> Result<Option<Event>, WorldFault> {
+    fn read_upstream(
+        &mut self,
+        number: u32,
+        rooms: &[(u32, usize)],
+    ) -> Result<Option<Event>, WorldFault>
+        ensures rising { AreRising self.old.upstreams.items → AreRising self.new.upstreams.items }
+    {
         let Some(place) = place_of(number, &self.upstreams) else {
             return Ok(None);
         };
@@ -208,7 +229,9 @@ impl<'a, N: Net + Clock> Sockets<'a, N> {
     }
 
     /// The event that a read of the client's socket gives, if it gives one.
-    fn read_client(&mut self) -> Result<Option<Event>, WorldFault> {
+    fn read_client(&mut self) -> Result<Option<Event>, WorldFault>
+        ensures { self.new.upstreams ≡ self.old.upstreams }
+    {
         self.is_client_queued = false;
         let got = if self.client.owes_more_than(MOST_OWED) {
             Got::Nothing
@@ -224,7 +247,9 @@ impl<'a, N: Net + Clock> Sockets<'a, N> {
     }
 
     /// The client joins the sockets of which something may be read, if something may.
-    fn queue_client(&mut self) -> Result<(), WorldFault> {
+    fn queue_client(&mut self) -> Result<(), WorldFault>
+        ensures { self.new.upstreams ≡ self.old.upstreams }
+    {
         if !self.is_client_queued && self.client.is_readable() {
             self.is_client_queued = true;
             self.ready.push_back(CLIENT)?;
@@ -233,7 +258,9 @@ impl<'a, N: Net + Clock> Sockets<'a, N> {
     }
 
     /// What sockets took that wasn't told of, if they took some: upstreams first, since each of them is told of once in a while.
-    fn tell(&mut self) -> Option<Event> {
+    fn tell(&mut self) -> Option<Event>
+        ensures rising { AreRising self.old.upstreams.items → AreRising self.new.upstreams.items }
+    {
         for _ in 0..self.writes.len() {
             let k = self.writes.pop_front()?;
             if let Some(place) = place_of(k, &self.upstreams) {
@@ -250,29 +277,31 @@ impl<'a, N: Net + Clock> Sockets<'a, N> {
     }
 
     /// Waits until a socket is reported, at most so long where that is said, notes what is, and writes what waits for those that take octets again.
-    fn look(&mut self, most: Option<Duration>) -> Result<(), WorldFault> {
+    fn look(&mut self, most: Option<Duration>) -> Result<(), WorldFault>
+        ensures rising { AreRising self.old.upstreams.items → AreRising self.new.upstreams.items }
+    {
         match self.poll.poll(&mut self.reports, most) {
             Ok(()) => {}
             // A signal came. The next turn waits again.
             Err(error) if error.kind() == ErrorKind::Interrupted => return Ok(()),
             Err(_) => return Err(WorldFault {}),
         }
-        for report in &self.reports {
-            if report.token() == token_of(CLIENT) {
-                self.client.note(report);
-            } else if let Some(upstream) = find(report.token(), &mut self.upstreams) {
-                upstream.note(report);
-                upstream.flush(self.poll.registry());
-                list(upstream, &mut self.ready, &mut self.writes)?;
-            }
-        }
-        self.client.flush(self.poll.registry())?;
+        note_client(&self.reports, &mut self.client);
+        let registry = self.poll.registry();
+        heed_all(
+            &self.reports,
+            registry,
+            &mut self.upstreams,
+            &mut self.ready,
+            &mut self.writes,
+        )?;
+        self.client.flush(registry)?;
         self.queue_client()
     }
 
     /// Writes what waits for the client, and then reads and drops what comes of it until its end, unless that takes too long.
     fn leave_client(&mut self) -> io::Result<()>
-        ensures closed { numbers_of self.new.upstreams.items ≡ [] }
+        ensures closed { self.new.upstreams.items ≡ [] }
     {
         self.upstreams.clear();
         let mut leaving = Leaving::begin(self.net, self.client.waiting())?;
@@ -303,18 +332,15 @@ impl<'a, N: Net + Clock> Sockets<'a, N> {
         ensures upstreams { self.new.upstreams ≡ self.old.upstreams }
     {
         self.poll.poll(&mut self.reports, Some(most))?;
-        for report in &self.reports {
-            if report.token() == token_of(CLIENT) {
-                self.client.note(report);
-            }
-        }
+        note_client(&self.reports, &mut self.client);
         Ok(())
     }
 
     /// Opens a connection. One that can't be made fails at a later `next`.
     fn open(&mut self, k: u32, route: u32) -> Result<(), WorldFault>
         ensures client { self.new.client ≡ self.old.client }
-        ensures opens { OnOk result (Opens k (numbers_of self.old.upstreams.items) (numbers_of self.new.upstreams.items)) }
+        ensures opens { OnOk result (Opens k self.old.upstreams.items self.new.upstreams.items) }
+        ensures rising { AreRising self.old.upstreams.items → AreRising self.new.upstreams.items }
     {
         let side = match self.addresses.get(route as usize) {
             Some(address) => self.connect(k, *address)?,
@@ -330,7 +356,8 @@ impl<'a, N: Net + Clock> Sockets<'a, N> {
     /// Puts octets out to an upstream, if it is open.
     fn put(&mut self, k: u32, octets: &[u8]) -> Result<(), WorldFault>
         ensures client { self.new.client ≡ self.old.client }
-        ensures same { numbers_of self.new.upstreams.items ≡ numbers_of self.old.upstreams.items }
+        ensures sends { OnOk result (AreRising self.old.upstreams.items → SendsTo k octets.now self.old.upstreams.items self.new.upstreams.items) }
+        ensures rising { AreRising self.old.upstreams.items → AreRising self.new.upstreams.items }
     {
         let Some(place) = place_of(k, &self.upstreams) else {
             return Ok(());
@@ -355,7 +382,8 @@ impl<'a, N: Net + Clock> Sockets<'a, N> {
 
     /// Does what an output says.
     fn perform(&mut self, output: &Output) -> Result<(), WorldFault>
-        ensures { OnOk result (Performs output.now self.old.client.out (numbers_of self.old.upstreams.items) self.new.client.out (numbers_of self.new.upstreams.items)) }
+        ensures rising { AreRising self.old.upstreams.items → AreRising self.new.upstreams.items }
+        ensures performs { OnOk result (Performs output.now self.old.client.out self.old.upstreams.items self.new.client.out self.new.upstreams.items) }
     {
         match output {
             Output::Client(octets) => match self.client.put(self.poll.registry(), octets) {
@@ -379,8 +407,8 @@ impl<'a, N: Net + Clock> Sockets<'a, N> {
 }
 
 impl<'a, N: Net + Clock> World for SocketWorld<'a, N> {
-    ghost use Rattle.std.specs.Prelude.{None, false};
-    ghost use Rattle.sockets.specs.Performed.{no_log};
+    ghost use Rattle.std.specs.Prelude.{false};
+    ghost use Rattle.sockets.specs.Performed.{no_log, none_handed};
 
     ghost calls = { λ world. world.calls };
 
@@ -390,9 +418,20 @@ impl<'a, N: Net + Clock> World for SocketWorld<'a, N> {
 
     ghost log = { λ _. no_log };
 
-    ghost handed = { λ _. None };
+    ghost handed = { λ _. none_handed };
 
-    fn next(&mut self, rooms: &[(u32, usize)]) -> Result<Next, WorldFault> {
+    fn next(&mut self, rooms: &[(u32, usize)]) -> Result<Next, WorldFault>
+        requires calls { self.old.calls + 1 < 2 ^ 64 }
+        requires failures { self.old.failures + 1 < 2 ^ 64 }
+        ensures calls { self.new.calls ≡ self.old.calls + 1 }
+        ensures failures { self.new.failures ≡ (if is_ok result then self.old.failures else self.old.failures + 1) }
+        ensures over { IfOk result (λ next. SaysOver next false) }
+        // The trait's, of a world that tells no log.
+        ensures log { IfOk result (λ next. AddsEvent no_log next no_log) }
+        ensures handed { OnOk result (AddsHanded no_log none_handed rooms.now none_handed) }
+        ensures err { OnErr result ((no_log ≡ no_log) × (none_handed ≡ none_handed)) }
+        ensures rising { AreRising self.old.sockets.upstreams.items → AreRising self.new.sockets.upstreams.items }
+    {
         self.calls += 1;
         match self.sockets.find_next(rooms) {
             Ok(Some(event)) => Ok(Next::Happened(event)),
@@ -411,7 +450,8 @@ impl<'a, N: Net + Clock> World for SocketWorld<'a, N> {
         // The trait's, of a world that tells no log.
         ensures log { OnOk result ((before : List Step) (step : Step) → no_log ≡ Some (before ++ step ∷ []) → no_log ≡ Some (before ++ with_outputs step (output_of output.now ∷ []) ∷ [])) }
         ensures err { OnErr result (no_log ≡ no_log) }
-        ensures performs { OnOk result (Performs output.now self.old.sockets.client.out (numbers_of self.old.sockets.upstreams.items) self.new.sockets.client.out (numbers_of self.new.sockets.upstreams.items)) }
+        ensures rising { AreRising self.old.sockets.upstreams.items → AreRising self.new.sockets.upstreams.items }
+        ensures performs { OnOk result (Performs output.now self.old.sockets.client.out self.old.sockets.upstreams.items self.new.sockets.client.out self.new.sockets.upstreams.items) }
     {
         let applied = self.sockets.perform(output);
         if applied.is_err() {
@@ -430,17 +470,48 @@ fn token_of(number: u32) -> Token {
 fn place_of(k: u32, upstreams: &[Upstream]) -> Option<usize>
     ensures within { IfSome result (λ place. place < length upstreams.now) }
     ensures found { IfSome result (λ place. (other : Upstream) → (get_or upstreams.now place other).k ≡ k) }
+    ensures absent { IfNone result (AreRising upstreams.now → IsOpenNowhere k upstreams.now) }
 {
     upstreams
         .binary_search_by_key(&k, |upstream| upstream.k)
         .ok()
 }
 
-/// The upstream that is reported under a token, if it is open.
-fn find(token: Token, upstreams: &mut [Upstream]) -> Option<&mut Upstream> {
+/// The place of the connection that is reported under a token, if it is open.
+fn place_under(token: Token, upstreams: &[Upstream]) -> Option<usize>
+    ensures { IfSome result (λ place. place < length upstreams.now) }
+{
     let k = u32::try_from(token.0).ok()?;
-    let place = place_of(k, upstreams)?;
-    Some(&mut upstreams[place])
+    place_of(k, upstreams)
+}
+
+/// Notes what was reported of the client's socket.
+fn note_client(reports: &Events, client: &mut Side) {
+    for report in reports {
+        if report.token() == token_of(CLIENT) {
+            client.note(report);
+        }
+    }
+}
+
+/// Notes what was reported of upstreams, and writes what waits for those that take octets again.
+fn heed_all(
+    reports: &Events,
+    registry: &Registry,
+    upstreams: &mut [Upstream],
+    ready: &mut VecDeque<u32>,
+    writes: &mut VecDeque<u32>,
+) -> Result<(), WorldFault>
+    ensures { AreRising upstreams.old → AreRising upstreams.new }
+{
+    for report in reports {
+        if let Some(place) = place_under(report.token(), upstreams) {
+            let upstream = &mut upstreams[place];
+            upstream.heed(report, registry);
+            list(upstream, ready, writes)?;
+        }
+    }
+    Ok(())
 }
 
 /// Lists an upstream where it belongs by now: among those of which something may be read, and among those that may have taken octets.
@@ -449,7 +520,7 @@ fn list(
     ready: &mut VecDeque<u32>,
     writes: &mut VecDeque<u32>,
 ) -> Result<(), WorldFault>
-    ensures { upstream.new.k ≡ upstream.old.k }
+    ensures { upstream.new ≡ record upstream.old { is_queued = upstream.new.is_queued; is_listed = upstream.new.is_listed } }
 {
     if upstream.joins_queue() {
         ready.push_back(upstream.k)?;

@@ -1,6 +1,5 @@
 use Rattle.std.proofs.Common.{◌≡◌, []}
-use Rattle.sockets.specs.Performed.{numbers_of}
 use Rattle.sockets.proofs.world.Sockets.leave_client.Given as goal
 
 abbrev pub invariant-loop : goal.invariant-loop
-invariant-loop g l = numbers_of l.self.upstreams.items ≡ []
+invariant-loop g l = l.self.upstreams.items ≡ []

@@ -1,12 +1,29 @@
-use Rattle.std.proofs.Common.{◌≡◌, ◌∙◌, sym, subst}
-use Rattle.sockets.specs.Performed.{Opens, numbers_of}
+use Rattle.std.proofs.Common.{rules, ◌≡◌, ◌∙◌, ap, sym, subst}
+use Rattle.std.specs.Prelude.{nat_lt}
+use Rattle.std.specs.List.{insert}
+use Rattle.std.proofs.lemmas.List.Sorted.{IsPartitionPoint-from_clause}
+use Rattle.sockets.specs.declared.upstream.Upstream.{Upstream}
+use Rattle.sockets.specs.Performed.{AreRising, Opens}
 use Rattle.sockets.proofs.Performing.{one_more}
+use Rattle.sockets.proofs.Rising.{parted, rising_insert}
 use Rattle.sockets.proofs.world.Sockets.open.Goals as goal
 
 pub returns-clause-opens : goal.returns-clause-opens
 returns-clause-opens g c =
     let us = c.args.self.now.upstreams.items in
     let upstream = c.list.new.upstream in
-    let number : upstream.k ≡ c.args.k = c.list.ensures ∙ c.new-upstream.ensures in
-    subst (λ k. Opens k (numbers_of us) (numbers_of c.insert.new.self.items)) number
-    (subst (λ items. Opens upstream.k (numbers_of us) (numbers_of items)) (sym c.in_ok-insert.ensures.items) (one_more us c.partition_point-place.result upstream))
+    let number : upstream.k ≡ c.args.k = ap (λ (u : Upstream). u.k) c.list.ensures ∙ c.new-upstream.ensures.number in
+    subst (λ k. Opens k us c.insert.new.self.items) number
+    (subst (λ items. Opens upstream.k us items) (sym c.in_ok-insert.ensures.items) (one_more us c.partition_point-place.result upstream))
+
+pub returns-clause-rising : goal.returns-clause-rising
+returns-clause-rising g c = λ up.
+    let seen = c.deref.result.now in
+    let upstream = c.list.new.upstream in
+    let place = c.partition_point-place.result in
+    let facts = c.partition_point-place.ensures in
+    let number : upstream.k ≡ c.args.k = ap (λ (u : Upstream). u.k) c.list.ensures ∙ c.new-upstream.ensures.number in
+    let rising : AreRising seen = subst AreRising (sym c.deref.ensures.value) up in
+    let point = IsPartitionPoint-from_clause (λ (u : Upstream). nat_lt u.k c.args.k) _ _ facts.partitioned (parted seen c.args.k rising) (λ a r q k. search rules) in
+    subst AreRising (sym c.in_ok-insert.ensures.items)
+    (subst (λ us. AreRising (insert us place upstream)) c.deref.ensures.value (rising_insert seen place upstream c.args.k number facts.bound rising point))

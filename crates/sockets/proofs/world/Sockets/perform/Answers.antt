@@ -1,14 +1,27 @@
-use Rattle.std.proofs.Common.{◌≡◌, ◌<◌, refl, sym, subst, inr, length, get_or}
-use Rattle.sockets.specs.Performed.{Opens, numbers_of}
+use Rattle.std.proofs.Common.{◌≡◌, ◌<◌, refl, sym, subst, inl, inr, length, get_or}
+use Rattle.sockets.specs.Performed.{AreRising, IsOpenNowhere, Opens}
 use Rattle.sockets.proofs.Performing.{one_fewer}
+use Rattle.sockets.proofs.Rising.{rising_remove}
 use Rattle.sockets.proofs.world.Sockets.perform.Goals as goal
 
-pub returns-in-Some : goal.returns-in-Some
-returns-in-Some g c =
+pub returns-in-Some-clause-performs : goal.returns-in-Some-clause-performs
+returns-in-Some-clause-performs g c =
     let us = c.args.self.now.upstreams.items in
     let k = c.in-Close.k in
     let within : c.in-Some.place < length us = rw (← c.deref-in-Close.ensures.value) c.in-Some.ensures.within in
     let found : (get_or us c.in-Some.place c.remove.result).k ≡ k = rw (← c.deref-in-Close.ensures.value) (c.in-Some.ensures.found c.remove.result) in
-    let closed : Opens k (numbers_of c.remove.new.self.items) (numbers_of us) =
-    subst (λ items. Opens k (numbers_of items) (numbers_of us)) (sym c.remove.ensures.items) (one_fewer us c.in-Some.place k c.remove.result within found) in
-    rw c.in-Close.is (refl, inr closed)
+    let closed : Opens k c.remove.new.self.items us =
+    subst (λ items. Opens k items us) (sym c.remove.ensures.items) (one_fewer us c.in-Some.place k c.remove.result within found) in
+    rw c.in-Close.is (refl, λ up. inr closed)
+
+pub returns-in-Some-clause-rising : goal.returns-in-Some-clause-rising
+returns-in-Some-clause-rising g c = λ up.
+    let us = c.args.self.now.upstreams.items in
+    let within : c.in-Some.place < length us = rw (← c.deref-in-Close.ensures.value) c.in-Some.ensures.within in
+    subst AreRising (sym c.remove.ensures.items) (rising_remove us c.in-Some.place within up)
+
+pub returns-in_default-clause-performs : goal.returns-in_default-clause-performs
+returns-in_default-clause-performs g c =
+    let us = c.args.self.now.upstreams.items in
+    let absent : AreRising us → IsOpenNowhere c.in-Close.k us = rw (← c.deref-in-Close.ensures.value) c.in_default.ensures.absent in
+    rw c.in-Close.is (refl, λ up. inl (absent up, refl))

@@ -1,0 +1,5 @@
+use Rattle.sockets.specs.Performed.{AreRising}
+use Rattle.sockets.proofs.world.Sockets.tell.Given as goal
+
+abbrev pub invariant-loop : goal.invariant-loop
+invariant-loop g l = AreRising l.fn.self.upstreams.items → AreRising l.self.upstreams.items

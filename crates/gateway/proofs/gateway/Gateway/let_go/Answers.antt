@@ -6,4 +6,4 @@ use Rattle.gateway.proofs.gateway.Gateway.let_go.Goals as goal
 pub returns-clause-stays : goal.returns-clause-stays
 returns-clause-stays c =
     ap (λ (octets : List ℕ). record (the_view c.self.inside) { partial = octets; kept = c.no_rooms.result }) c.new.ensures.items
-        ∙ ap (λ (g : Standing). record g { partial = []; kept = c.no_rooms.result }) c.self.view_is
+    ∙ ap (λ (g : Standing). record g { partial = []; kept = c.no_rooms.result }) c.self.view_is

@@ -1,5 +1,5 @@
 -- What is known of a socket and of a connection to an upstream, and how it changes.
-use Rattle.std.specs.Prelude.{◌≡◌, ◌+◌, ◌||◌, ◌&&◌, ◌⊎◌, ℕ, Bool, true, false, not, nat_lt, List, length, Option, None, Some}
+use Rattle.std.specs.Prelude.{◌≡◌, ◌+◌, ◌==◌, ◌||◌, ◌&&◌, ◌⊎◌, ℕ, Bool, true, false, not, nat_lt, List, length, Option, None, Some}
 use Rattle.mio.specs.Event.{is_readable, is_writable, is_error, is_read_closed, is_write_closed}
 use Rattle.mio.specs.declared.event.event.Event.{Event}
 use Rattle.outputs.specs.declared.events.Event.{Event as Heard}
@@ -7,6 +7,8 @@ use Rattle.outputs.specs.declared.events.Event.TheVariants.{Up, UpEnd, UpFailed}
 use Rattle.sockets.specs.declared.side.Side.{Side}
 use Rattle.sockets.specs.declared.upstream.Upstream.{Upstream}
 use Rattle.transfers.specs.Transfers.{Way, told, told_count}
+use Rattle.transfers.specs.declared.incoming.Got.{Got}
+use Rattle.transfers.specs.declared.incoming.Got.TheVariants.{Octets}
 use Rattle.sockets.specs.Putting.{PutsOut}
 
 -- A report is noted. That something may be read, that its peer sends no more and that it takes no more stay so; that it is full is over once it takes
@@ -86,6 +88,17 @@ PutsOutTo (Some side) octets (Some new) = PutsOut side.out octets new.out
 pub record Sends (old : Upstream) (octets : List ℕ) (new : Upstream) : Type 0 where
   pub number : new.k ≡ old.k
   pub puts_out : PutsOutTo old.side octets new.side ⊎ (is_deaf new ≡ true)
+
+-- What a report or a failed write said of a side it says still.
+abbrev pub KeepsHeard : Option Side → Option Side → Type 0
+KeepsHeard None new = new ≡ None
+KeepsHeard (Some side) None = ⊥
+KeepsHeard (Some side) (Some new) = (side.readable ≡ true → new.readable ≡ true) × (side.hung_up ≡ true → new.hung_up ≡ true) × (side.lost ≡ true → new.lost ≡ true)
+
+-- Something may be left behind what a read gave: where all room was taken, or the peer sends no more, since its end is there then.
+abbrev pub is_left : ℕ → Bool → Got → Bool
+is_left room hung_up (Octets octets) = length octets.items == room || hung_up
+is_left room hung_up got = false
 
 -- the event is of this connection: what it sent, its end or its failure
 abbrev pub IsOf : ℕ → Heard → Type 0

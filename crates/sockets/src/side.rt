@@ -2,7 +2,7 @@
 
 ghost use Rattle.std.specs.Prelude.{◌≡◌, ◌+◌, ◌<◌, ◌↔◌, ◌&&◌, [], true, false, not, length, IsTrue, IfOk, OnOk};
 ghost use Rattle.sockets.specs.Putting.{PutsOut};
-ghost use Rattle.sockets.specs.Sides.{noted, given_up};
+ghost use Rattle.sockets.specs.Sides.{noted, given_up, is_left};
 ghost use Rattle.transfers.specs.Transfers.{nothing_put, told, told_count};
 
 use mio::event::Event;
@@ -184,6 +184,7 @@ impl Side {
     /// Reads what is there, as far as there is room.
     pub fn read(&mut self, alloc: Global, room: &mut [u8]) -> io::Result<Got>
         ensures ended { IfOk result (λ got. IsTrue self.new.ended ↔ (got ≡ Got.End)) }
+        ensures readable { IfOk result (λ got. self.new.readable ≡ is_left (length room.old) self.old.hung_up got) }
         ensures stays { self.new ≡ record self.old { socket = self.new.socket; readable = self.new.readable; ended = self.new.ended } }
     {
         let got = read_piece(alloc, &mut self.socket, room)?;

@@ -1,7 +1,7 @@
 //! The connections to upstreams.
 
-ghost use Rattle.std.specs.Prelude.{◌≡◌, ◌&&◌, ◌||◌, ◌<◌, [], true, false, not, nat_lt, IfOk, OnOk, IfSome, IsTrue, ◌↔◌};
-ghost use Rattle.sockets.specs.Sides.{noted, may_be_ready, owes, is_ready, is_deaf, Sends, IsOf, heard_of, side_told, count_told, side_given_up, out_of};
+ghost use Rattle.std.specs.Prelude.{◌≡◌, ◌&&◌, ◌||◌, [], false, not, Some, IfOk, IsOkAnd, OnOk, IfSome, IfNone};
+ghost use Rattle.sockets.specs.Sides.{may_be_ready, owes, is_ready, is_deaf, Sends, IsOf, heard_of, note_side, side_told, count_told, side_given_up, out_of, KeepsHeard};
 
 use crate::side::Side;
 use gateway::Event;
@@ -105,6 +105,7 @@ impl Upstream {
     /// Notes what was reported of its socket, and writes what waits for it, if it may take it.
     pub fn heed(&mut self, report: &event::Event, registry: &Registry)
         ensures sends { Sends (heard_of report.now self.old) [] self.new }
+        ensures noted { KeepsHeard (note_side report.now self.old.side) self.new.side }
         ensures stands { (self.new.is_queued ≡ self.old.is_queued) × (self.new.is_listed ≡ self.old.is_listed) }
     {
         if let Some(side) = &mut self.side {
@@ -161,6 +162,7 @@ impl Upstream {
     /// Writes what waits, if its socket may take it.
     fn flush(&mut self, registry: &Registry)
         ensures sends { Sends self.old [] self.new }
+        ensures heard { KeepsHeard self.old.side self.new.side }
         ensures stands { (self.new.is_queued ≡ self.old.is_queued) × (self.new.is_listed ≡ self.old.is_listed) }
     {
         if self.is_deaf() {
@@ -177,6 +179,7 @@ impl Upstream {
     /// The event that a read gives, if it gives one. A failure comes where nothing more is there.
     pub fn read(&mut self, alloc: Global, room: &mut [u8]) -> Result<Option<Event>, WorldFault>
         ensures event { IfOk result (λ event. IfSome event (IsOf self.old.k)) }
+        ensures unmade { IfNone self.old.side (IsOkAnd result (λ event. event ≡ Some (Event.UpFailed self.old.k))) }
         ensures stays { self.new ≡ record self.old { side = self.new.side } }
         ensures out { out_of self.new.side ≡ out_of self.old.side }
     {

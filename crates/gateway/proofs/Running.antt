@@ -43,6 +43,10 @@ pub record Running (setup : Setup) (events : List Event) (outs : List (Vec Outpu
   pub run : List Move
   pub stands : Stands setup g (reverse (log_of events outs)) run
 
+-- no event yet
+pub running_none : (setup : Setup) (outs : List (Vec Output Global)) (g : Standing) → outs ≡ [] → Stands setup g [] [] → Running setup [] outs g
+running_none setup outs g none stands = subst (λ os. Running setup [] os g) (sym none) (record { count = refl; run = []; stands = stands })
+
 -- one more event
 pub running_more : (setup : Setup) (events : List Event) (n : ℕ) (outs outs' : List (Vec Output Global)) (g g' : Standing) (event : Event) (old out : Vec Output Global) → n < length events → event ≡ get_or events n event → old.items ≡ [] → outs' ≡ outs ++ out ∷ []
     → (puts : (acts : List logs.Output) × (outputs_of out.items ≡ outputs_of old.items ++ acts) × ((s : Setup) (log : List logs.Step) (run : List Move) → Stands s g log run → StandsNext s g' log run (event_of event) acts))
@@ -72,6 +76,12 @@ running_promised setup events n outs g past r =
     let all : take n events ≡ events = grind (arith, common_steps) in
     let whole = subst (λ es. Running setup es outs g) all r in
     (promised_at setup g (log_of events outs) whole.run whole.stands).0
+
+-- an output list for each
+pub running_each : (setup : Setup) (events : List Event) (n : ℕ) (outs : List (Vec Output Global)) (g : Standing) → length events ≤ n → Running setup (take n events) outs g → length outs ≡ length events
+running_each setup events n outs g past r =
+    let all : take n events ≡ events = grind (arith, common_steps) in
+    r.count ∙ ap length all
 
 get_mapped : (events : List Event) (n : ℕ) (event : Event) → n < length events → event ≡ get_or events n event → slice_get (map event_of events) n ≡ Some (event_of event)
 get_mapped [] n event lt at = absurd (omega arith)

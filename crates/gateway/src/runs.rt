@@ -1,10 +1,12 @@
 //! A gateway over a list of events.
 
-ghost use Rattle.std.specs.Prelude.{◌≡◌, length, map, IfOk, IfErr};
+ghost use Rattle.std.specs.Prelude.{◌≡◌, [], length, map, IfOk, IfErr};
+ghost use Rattle.model.specs.Setup.{Setup};
 ghost use Rattle.outputs.specs.Views.{event_of};
 ghost use Rattle.gateway.specs.Promises.{Promise};
 ghost use Rattle.gateway.specs.Runs.{log_of, Explains};
 ghost use Rattle.gateway.specs.Setups.{setup_of, IsServable};
+ghost use Rattle.gateway.specs.Stands.{Stands};
 
 use crate::config::Config;
 use crate::gateway::Gateway;
@@ -33,6 +35,20 @@ pub fn run(alloc: Global, config: &Config, events: &[Event]) -> Result<Vec<Vec<O
     let Ok(mut gateway) = Gateway::new(alloc, config) else {
         return Err(RunFault::Memory(0));
     };
+    run_all(alloc, &mut gateway, events)
+}
+
+/// Runs a gateway that no event came to over events. That one is lent keeps it out of the many ways in which this ends.
+fn run_all(
+    alloc: Global,
+    gateway: &mut Gateway,
+    events: &[Event],
+) -> Result<Vec<Vec<Output>>, RunFault>
+    requires { (setup : Setup) × Stands setup gateway.old [] [] }
+    ensures promised { IfOk result (λ outputs. (setup : Setup) → Stands setup gateway.old [] [] → Promise setup (log_of events.now outputs.items)) }
+    ensures each { IfOk result (λ outputs. length outputs.items ≡ length events.now) }
+    ensures refused { IfErr result (λ fault. (setup : Setup) → Stands setup gateway.old [] [] → Explains setup (map event_of events.now) fault) }
+{
     let mut outputs = Vec::new(alloc);
     for (n, event) in events.iter().enumerate() {
         if !gateway.admits(event) {

@@ -232,3 +232,7 @@ cut_outputs n out = ap outputs_of (sym (take-append-drop n out)) ∙ map-append 
 -- An error is the same one, whatever an answer would have been.
 pub same_fault : {A B E : Type 0} (fault other : E) → IsErrOf {T = A} (Err fault) other → IsErrOf {T = B} (Err fault) other
 same_fault fault other is = let same : fault ≡ other = cc in rw same refl
+
+-- An answer is no error.
+pub no_fault : {A E : Type 0} (answer : A) (fault : E) → IsErrOf (Ok answer) fault → ⊥
+no_fault answer fault is = let no : true ≡ false = ap is_ok is in cc

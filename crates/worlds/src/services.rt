@@ -181,9 +181,34 @@ pub fn serve<W: World>(
     let Ok(mut gateway) = Gateway::new(alloc, config) else {
         return Err(ServeFault::Memory);
     };
+    serve_turns(alloc, &mut gateway, world, turns)
+}
+
+/// Serves a world with a gateway that no event came to. That one is lent keeps it out of the many ways in which this ends.
+fn serve_turns<W: World>(
+    alloc: Global,
+    gateway: &mut Gateway,
+    world: &mut W,
+    turns: u64,
+) -> Result<Ended, ServeFault>
+    requires begins { (setup : Setup) × Stands setup gateway.old [] [] }
+    requires turns { W.calls world.old + turns < 2 ^ 64 }
+    requires failures { W.failures world.old + 1 < 2 ^ 64 }
+    ensures run { IfOk result (λ ended. (setup : Setup) → Stands setup gateway.old [] [] → AddsRun setup ended (W.log world.old) (W.log world.new)) }
+    ensures world { IsErrOf result ServeFault.World → W.failures world.old < W.failures world.new }
+    ensures front { IsErrOf result ServeFault.World → (setup : Setup) → Stands setup gateway.old [] [] → AddsFront setup (W.log world.old) (W.log world.new) }
+    ensures refused { IsErrOf result ServeFault.NotAdmitted → (setup : Setup) → Stands setup gateway.old [] [] → AddsRefused setup (W.log world.old) (W.log world.new) }
+    ensures memory { IsErrOf result ServeFault.Memory → (W.failures world.new ≡ W.failures world.old)
+        × ((setup : Setup) → Stands setup gateway.old [] [] → AddsUnanswered setup (W.log world.old) (W.log world.new)) }
+    ensures failures { OnOk result (W.failures world.new ≡ W.failures world.old) }
+    ensures calls { OnOk result (W.calls world.new ≤ W.calls world.old + turns) }
+    ensures hands { (setup : Setup) → Stands setup gateway.old [] [] → Hands setup (W.log world.old) (W.handed world.old) (W.log world.new) (W.handed world.new) }
+    ensures turns { IsOkAnd result (λ ended. ended ≡ Ended.Turns) → W.calls world.new ≡ W.calls world.old + turns }
+    ensures over { IsOkAnd result (λ ended. ended ≡ Ended.Over) → W.over world.new ≡ true }
+{
     let mut rooms = Vec::new(alloc);
     for _turn in 0..turns {
-        match take_turn(alloc, &mut gateway, world, &mut rooms) {
+        match take_turn(alloc, gateway, world, &mut rooms) {
             Ok(None) => {}
             Ok(Some(ended)) => return Ok(ended),
             Err(fault) => return Err(fault),

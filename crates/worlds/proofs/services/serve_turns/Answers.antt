@@ -1,0 +1,104 @@
+use Rattle.std.proofs.Common.{[], refl, ◌∙◌, arith, inr}
+use Rattle.worlds.specs.declared.services.Ended.TheVariants.{Turns}
+use Rattle.worlds.proofs.Adding.{serves_none, serves_run, same_fault, no_fault, hands_of}
+use Rattle.worlds.proofs.services.serve_turns.Goals as goal
+
+pub loop-turn-init : goal.loop-turn-init
+loop-turn-init g c = record {
+  calls = omega arith;
+  failures = refl;
+  stands = λ setup at. ([], [], at);
+  log = λ setup at before e. serves_none setup _ c.args.gateway.now c.new-rooms.result.items _ before e c.new-rooms.ensures.items at;
+}
+
+pub take_turn-requires-clause-calls : goal.take_turn-requires-clause-calls
+take_turn-requires-clause-calls g c = (let calls = c.loop-turn.invariant.calls in let end = c.loop-turn.auto._turn-end in let more = c.loop-turn-test.true in let turns = c.requires.turns in omega (arith, calls, end, more, turns))
+
+pub take_turn-requires-clause-stands : goal.take_turn-requires-clause-stands
+take_turn-requires-clause-stands g c = (c.requires.begins.0, c.loop-turn.invariant.stands c.requires.begins.0 c.requires.begins.1)
+
+pub loop-turn-preserved : goal.loop-turn-preserved
+loop-turn-preserved g c = record {
+  calls = (let a = c.in-Ok-None.ensures.calls in let i = c.loop-turn.invariant.calls in omega (arith, a, i));
+  failures = c.in-Ok-None.ensures.failures ∙ c.loop-turn.invariant.failures;
+  stands = λ setup at. c.in-Ok-None.ensures.stands setup (c.loop-turn.invariant.stands setup at);
+  log = λ setup at before e. (rw c.in-Ok-None.field-0-is at c.in-Ok-None.ensures.log) setup before _ (c.loop-turn.invariant.log setup at before e);
+}
+
+pub returns-in-Ok-Some-clause-run : goal.returns-in-Ok-Some-clause-run
+returns-in-Ok-Some-clause-run g c = λ setup at before e.
+    serves_run _ _ c.in-Ok-Some.ended _ c.take_turn.new.gateway c.take_turn.new.rooms.items _ _ before
+    ((rw c.in-Ok-Some.field-0-is at c.in-Ok-Some.ensures.log) setup before _ (c.loop-turn.invariant.log setup at before e)) refl
+
+pub returns-in-Ok-Some-clause-calls : goal.returns-in-Ok-Some-clause-calls
+returns-in-Ok-Some-clause-calls g c = (let calls = c.loop-turn.invariant.calls in let end = c.loop-turn.auto._turn-end in let more = c.loop-turn-test.true in let took = c.in-Ok-Some.ensures.calls in omega (arith, calls, end, more, took))
+
+pub returns-in-Ok-Some-clause-hands : goal.returns-in-Ok-Some-clause-hands
+returns-in-Ok-Some-clause-hands g c = λ setup at before e.
+    hands_of _ _ _ c.take_turn.new.gateway c.take_turn.new.rooms.items _ _ before
+    ((rw c.in-Ok-Some.field-0-is at c.in-Ok-Some.ensures.log) setup before _ (c.loop-turn.invariant.log setup at before e))
+
+pub returns-in-Err-clause-front : goal.returns-in-Err-clause-front
+returns-in-Err-clause-front g c = λ e setup at before h. c.in-Err.ensures.front (same_fault _ _ e) setup before _ (c.loop-turn.invariant.log setup at before h)
+
+pub returns-in-Err-clause-refused : goal.returns-in-Err-clause-refused
+returns-in-Err-clause-refused g c = λ e setup at before h. c.in-Err.ensures.refused (same_fault _ _ e) setup before _ (c.loop-turn.invariant.log setup at before h)
+
+pub returns-in-Err-clause-memory : goal.returns-in-Err-clause-memory
+returns-in-Err-clause-memory g c = λ e.
+    let left = c.in-Err.ensures.memory (same_fault _ _ e) in
+    (left.0 ∙ c.loop-turn.invariant.failures, λ setup at before h. inr (left.1 setup before _ (c.loop-turn.invariant.log setup at before h)))
+
+pub returns-in-Err-clause-hands : goal.returns-in-Err-clause-hands
+returns-in-Err-clause-hands g c = λ setup at before h. c.in-Err.ensures.hands setup before _ (c.loop-turn.invariant.log setup at before h)
+
+pub returns-clause-run : goal.returns-clause-run
+returns-clause-run g c = λ setup at before e. serves_run _ _ Turns _ c.loop-turn.gateway c.loop-turn.rooms.items _ _ before (c.loop-turn.invariant.log setup at before e) refl
+
+pub returns-clause-calls : goal.returns-clause-calls
+returns-clause-calls g c = (let calls = c.loop-turn.invariant.calls in let end = c.loop-turn.auto._turn-end in omega (arith, calls, end))
+
+pub returns-clause-hands : goal.returns-clause-hands
+returns-clause-hands g c = λ setup at before e. hands_of _ _ _ c.loop-turn.gateway c.loop-turn.rooms.items _ _ before (c.loop-turn.invariant.log setup at before e)
+
+pub returns-clause-turns : goal.returns-clause-turns
+returns-clause-turns g c = λ _. (let calls = c.loop-turn.invariant.calls in let end = c.loop-turn.auto._turn-end in let over = c.loop-turn-test.false in omega (arith, calls, end, over))
+
+pub returns-in-Ok-Some-clause-world : goal.returns-in-Ok-Some-clause-world
+returns-in-Ok-Some-clause-world g c = λ e. absurd (no_fault _ _ e)
+
+pub returns-in-Ok-Some-clause-front : goal.returns-in-Ok-Some-clause-front
+returns-in-Ok-Some-clause-front g c = λ e. absurd (no_fault _ _ e)
+
+pub returns-in-Ok-Some-clause-refused : goal.returns-in-Ok-Some-clause-refused
+returns-in-Ok-Some-clause-refused g c = λ e. absurd (no_fault _ _ e)
+
+pub returns-in-Ok-Some-clause-memory : goal.returns-in-Ok-Some-clause-memory
+returns-in-Ok-Some-clause-memory g c = λ e. absurd (no_fault _ _ e)
+
+pub returns-in-Ok-Some-clause-failures : goal.returns-in-Ok-Some-clause-failures
+returns-in-Ok-Some-clause-failures g c = c.in-Ok-Some.ensures.failures ∙ c.loop-turn.invariant.failures
+
+pub returns-in-Err-clause-run : goal.returns-in-Err-clause-run
+returns-in-Err-clause-run g c = tt
+
+pub returns-in-Err-clause-failures : goal.returns-in-Err-clause-failures
+returns-in-Err-clause-failures g c = tt
+
+pub returns-in-Err-clause-calls : goal.returns-in-Err-clause-calls
+returns-in-Err-clause-calls g c = tt
+
+pub returns-clause-world : goal.returns-clause-world
+returns-clause-world g c = λ e. absurd (no_fault _ _ e)
+
+pub returns-clause-front : goal.returns-clause-front
+returns-clause-front g c = λ e. absurd (no_fault _ _ e)
+
+pub returns-clause-refused : goal.returns-clause-refused
+returns-clause-refused g c = λ e. absurd (no_fault _ _ e)
+
+pub returns-clause-memory : goal.returns-clause-memory
+returns-clause-memory g c = λ e. absurd (no_fault _ _ e)
+
+pub returns-clause-failures : goal.returns-clause-failures
+returns-clause-failures g c = c.loop-turn.invariant.failures

@@ -12,6 +12,9 @@ pub returns-in-Ok-Nothing-clause-log : goal.returns-in-Ok-Nothing-clause-log
 returns-in-Ok-Nothing-clause-log g c = λ setup before old s.
     serves_same setup _ _ c.args.gateway.now c.args.rooms.now.items old _ _ before (rw c.in-Ok-Nothing.field-0-is at c.in-Ok-Nothing.ensures.log) (rw c.deref.ensures.value at c.in-Ok-Nothing.ensures.handed) s
 
+pub returns-in-Ok-Nothing-clause-over : goal.returns-in-Ok-Nothing-clause-over
+returns-in-Ok-Nothing-clause-over g c = tt
+
 pub returns-in-Ok-Over-clause-log : goal.returns-in-Ok-Over-clause-log
 returns-in-Ok-Over-clause-log g c = λ setup before old s.
     serves_same setup _ _ c.args.gateway.now c.args.rooms.now.items old _ _ before (rw c.in-Ok-Over.field-0-is at c.in-Ok-Over.ensures.log) (rw c.deref.ensures.value at c.in-Ok-Over.ensures.handed) s

@@ -38,6 +38,9 @@ returns-in-Ok-Some-clause-hands g c = λ setup at before e.
     hands_of _ _ _ c.take_turn.new.gateway c.take_turn.new.rooms.items _ _ before
     ((rw c.in-Ok-Some.field-0-is at c.in-Ok-Some.ensures.log) setup before _ (c.loop-turn.invariant.log setup at before e))
 
+pub returns-in-Err-clause-world : goal.returns-in-Err-clause-world
+returns-in-Err-clause-world g c = λ e. (let failed = c.in-Err.ensures.world (same_fault _ _ e) in let before = c.loop-turn.invariant.failures in omega (arith, failed, before))
+
 pub returns-in-Err-clause-front : goal.returns-in-Err-clause-front
 returns-in-Err-clause-front g c = λ e setup at before h. c.in-Err.ensures.front (same_fault _ _ e) setup before _ (c.loop-turn.invariant.log setup at before h)
 

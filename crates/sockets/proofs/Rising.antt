@@ -9,7 +9,7 @@ use Rattle.std.proofs.lemmas.Cmp.{ranked}
 use Rattle.std.proofs.Math.Seq.{map-set_same}
 use Rattle.std.specs.Prelude.{IfSome, IfNone, nat_lt}
 use Rattle.std.specs.List.{insert, remove}
-use Rattle.std.specs.List.Sorted.{IsBinarySearchResult, IsNonDecreasingBy, IsPartitionedBy, IsPartitionPoint}
+use Rattle.std.specs.List.Sorted.{IsBinarySearchResult, IsNonDecreasingBy, IsPartitionPoint}
 use Rattle.std.specs.Result.{result_ok}
 use Rattle.std.specs.Ordering.{nat_cmp, ordering_index}
 use Rattle.sockets.specs.declared.upstream.Upstream.{Upstream}
@@ -57,13 +57,6 @@ rising_remove us i within up a b d le lt =
         | inr from ↦ omega (arith, ap (λ (u : Upstream). u.k) (get_or-remove_above us i d a from within), ap (λ (u : Upstream). u.k) (get_or-remove_above us i d b above within), up (a + 1) (b + 1) d (omega (arith, le)) (omega (arith, lt, long)))
       ]
     ]
-
--- numbers below one come before those that aren't
-pub parted : (us : List Upstream) (k : ℕ) → AreRising us → IsPartitionedBy (λ (u : Upstream). nat_lt u.k k) us
-parted us k up i j d le within upto =
-    let rises : (get_or us i d).k ≤ (get_or us j d).k = up i j d le within in
-    let low : nat_lt (get_or us j d).k k ≡ true = upto in
-    grind (arith, nat_tests)
 
 -- One was put between those below it and the others.
 pub rising_insert : (us : List Upstream) (i : ℕ) (u : Upstream) (k : ℕ) → u.k ≡ k → i ≤ length us → AreRising us

@@ -1,11 +1,11 @@
 use Rattle.std.proofs.Common.{rules, ◌≡◌, ◌∙◌, ap, sym, subst}
 use Rattle.std.specs.Prelude.{nat_lt}
 use Rattle.std.specs.List.{insert}
-use Rattle.std.proofs.lemmas.List.Sorted.{IsPartitionPoint-from_clause}
+use Rattle.std.proofs.lemmas.List.Sorted.{IsPartitionedBy-ltb, IsPartitionPoint-from_clause}
 use Rattle.sockets.specs.declared.upstream.Upstream.{Upstream}
 use Rattle.sockets.specs.Performed.{AreRising, Opens}
 use Rattle.sockets.proofs.Performing.{one_more}
-use Rattle.sockets.proofs.Rising.{parted, rising_insert}
+use Rattle.sockets.proofs.Rising.{rising_insert}
 use Rattle.sockets.proofs.world.Sockets.open.Goals as goal
 
 pub returns-clause-opens : goal.returns-clause-opens
@@ -24,6 +24,6 @@ returns-clause-rising g c = λ up.
     let facts = c.partition_point-place.ensures in
     let number : upstream.k ≡ c.args.k = ap (λ (u : Upstream). u.k) c.list.ensures ∙ c.new-upstream.ensures.number in
     let rising : AreRising seen = subst AreRising (sym c.deref.ensures.value) up in
-    let point = IsPartitionPoint-from_clause (λ (u : Upstream). nat_lt u.k c.args.k) _ _ facts.partitioned (parted seen c.args.k rising) (λ a r q k. search rules) in
+    let point = IsPartitionPoint-from_clause (λ (u : Upstream). nat_lt u.k c.args.k) _ _ facts.partitioned (IsPartitionedBy-ltb (λ (u : Upstream). u.k) seen c.args.k rising) (λ a r q k. search rules) in
     subst AreRising (sym c.in_ok-insert.ensures.items)
     (subst (λ us. AreRising (insert us place upstream)) c.deref.ensures.value (rising_insert seen place upstream c.args.k number facts.bound rising point))

@@ -12,7 +12,7 @@ use crate::many_streams::{
     ten_thousand_without_a_route, unrouted,
 };
 use crate::request_transcripts::{ANSWERED, MALFORMED, PASSED_ON};
-use crate::responses::{BROKEN, PASSED_BACK};
+use crate::responses::{BROKEN, PASSED_BACK, large_head};
 use crate::streaming::{INDEXED_AS_IT_COMES, PASSED_AS_IT_COMES, UNTAKEN};
 use crate::transcripts::{Row, Transcript, assert_prints};
 use crate::windows::{IN_TURN, WAITING};

@@ -217,7 +217,7 @@ fn responses(rt: HostRuntime) -> Result<(), Fail> {
 }
 
 /// A response whose block is 16,435 octets long, more than a frame may have: 99 fields `a` of 161 octets.
-fn large_head(alloc: Global) -> Result<Transcript, AllocError> {
+pub(crate) fn large_head(alloc: Global) -> Result<Transcript, AllocError> {
     let mut fields = String::new(alloc);
     let mut block = String::new(alloc);
     for _ in 0..98 {

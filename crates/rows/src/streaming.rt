@@ -1,44 +1,10 @@
 //! Bodies that are passed on as they come.
 
-ghost use Rattle.gateway.specs.Setups.{setup_of, IsServable};
-
-use crate::configurations::{assert_runs, one_route};
-use crate::transcripts::{REQUEST, Row, START, Transcript};
+use crate::configurations::{assert_rows_run, one_route};
+use crate::transcripts::{REQUEST, Row, START};
 use crate::windows::{IN_TURN, WAITING};
-use gateway::{Config, Passing, Policy};
-use std::alloc::Global;
-use std::process::Abort;
+use gateway::{Passing, Policy};
 use std::test::*;
-
-/// A run of a row prints what it says, and so does that of each front of it that ends with an event.
-fn assert_row_runs(rt: &impl Abort, alloc: Global, config: &Config, row: &Row) -> Result<(), Fail>
-    requires { IsServable (setup_of config.now) }
-{
-    let mut transcript = Transcript::new(alloc);
-    transcript.push(row.begins)?;
-    for line in row.goes_on.lines() {
-        if line.trim().starts_with('>') {
-            assert_runs(rt, alloc, config, row.name, &transcript)?;
-        }
-        transcript.push(line)?;
-    }
-    assert_runs(rt, alloc, config, row.name, &transcript)
-}
-
-/// Runs of the rows print what they say.
-fn assert_rows_run(
-    rt: &impl Abort,
-    alloc: Global,
-    config: &Config,
-    rows: &[Row],
-) -> Result<(), Fail>
-    requires { IsServable (setup_of config.now) }
-{
-    for row in rows {
-        assert_row_runs(rt, alloc, config, row)?;
-    }
-    Ok(())
-}
 
 /// Bodies of requests and of responses.
 pub static PASSED_AS_IT_COMES: [Row; 8] = [

@@ -1,6 +1,6 @@
 -- Connections whose numbers don't fall: which are found, and how they stay so.
-use Rattle.std.proofs.Common.{◌≡◌, ◌≤◌, ◌<◌, ◌+◌, ℕ, suc, List, ◌∷◌, length, set, get_or, map, true, false, Result, Ok, Err, sym, ap, ◌∙◌, inl, inr, arith}
-use Rattle.std.proofs.lemmas.List.{get_or-map, length-set}
+use Rattle.std.proofs.Common.{◌≡◌, ◌≤◌, ◌<◌, ◌+◌, ℕ, List, length, set, get_or, map, true, false, Result, Ok, Err, sym, ap, ◌∙◌, inl, inr, arith}
+use Rattle.std.proofs.lemmas.List.{get_or-map, length-map}
 use Rattle.std.proofs.lemmas.List.Edits.{get_or-remove_below, get_or-remove_above, length-remove}
 use Rattle.std.proofs.lemmas.List.Sorted.{IsNonDecreasingBy-insert}
 use Rattle.std.proofs.lemmas.Bool.{cases_lt}
@@ -36,15 +36,17 @@ not_found us k (Err place) parted = λ up i d within same.
       | inr from ↦ (let more : k < (get_or us i d).k = ranked _ k _ (sym ((parted (comparisons_rise us k up)).1 i d from within)) in omega (arith, more, same))
     ]
 
--- One changed that has its number still.
-pub rising_set : (us : List Upstream) (i : ℕ) (old new : Upstream) → new.k ≡ (get_or us i old).k → AreRising us → AreRising (set us i new)
-rising_set us i old new is up a b d le lt =
-    let vs = set us i new in
-    let same : map (λ (u : Upstream). u.k) vs ≡ map (λ (u : Upstream). u.k) us = map-set_same (λ (u : Upstream). u.k) us i new old is in
-    let long : length vs ≡ length us = length-set us i new in
+-- Others that have the same numbers.
+pub rising_same : (us vs : List Upstream) → map (λ (u : Upstream). u.k) vs ≡ map (λ (u : Upstream). u.k) us → AreRising us → AreRising vs
+rising_same us vs same up a b d le lt =
+    let long : length vs ≡ length us = sym (length-map vs (λ (u : Upstream). u.k)) ∙ ap length same ∙ length-map us (λ (u : Upstream). u.k) in
     let first : (get_or vs a d).k ≡ (get_or us a d).k = sym (get_or-map (λ (u : Upstream). u.k) vs a d 0 (omega (arith, le, lt))) ∙ ap (λ ks. get_or ks a 0) same ∙ get_or-map (λ (u : Upstream). u.k) us a d 0 (omega (arith, le, lt, long)) in
     let second : (get_or vs b d).k ≡ (get_or us b d).k = sym (get_or-map (λ (u : Upstream). u.k) vs b d 0 lt) ∙ ap (λ ks. get_or ks b 0) same ∙ get_or-map (λ (u : Upstream). u.k) us b d 0 (omega (arith, lt, long)) in
     omega (arith, first, second, up a b d le (omega (arith, lt, long)))
+
+-- One changed that has its number still.
+pub rising_set : (us : List Upstream) (i : ℕ) (old new : Upstream) → new.k ≡ (get_or us i old).k → AreRising us → AreRising (set us i new)
+rising_set us i old new is = rising_same us (set us i new) (map-set_same (λ (u : Upstream). u.k) us i new old is)
 
 -- One was taken away.
 pub rising_remove : (us : List Upstream) (i : ℕ) → i < length us → AreRising us → AreRising (remove us i)

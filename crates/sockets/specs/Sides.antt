@@ -6,10 +6,10 @@ use Rattle.outputs.specs.declared.events.Event.{Event as Heard}
 use Rattle.outputs.specs.declared.events.Event.TheVariants.{Up, UpEnd, UpFailed}
 use Rattle.sockets.specs.declared.side.Side.{Side}
 use Rattle.sockets.specs.declared.upstream.Upstream.{Upstream}
-use Rattle.transfers.specs.Transfers.{Way, told, told_count}
+use Rattle.transfers.specs.Transfers.{Way, nothing_put, told, told_count}
 use Rattle.transfers.specs.declared.incoming.Got.{Got}
 use Rattle.transfers.specs.declared.incoming.Got.TheVariants.{Octets}
-use Rattle.sockets.specs.Putting.{PutsOut}
+use Rattle.sockets.specs.Putting.{PutsOut, PutsFront, Drains}
 
 -- A report is noted. That something may be read, that its peer sends no more and that it takes no more stay so; that it is full is over once it takes
 -- octets again.
@@ -54,6 +54,11 @@ abbrev pub out_of : Option Side → Option Way
 out_of None = None
 out_of (Some side) = Some side.out
 
+-- Nothing was put out to a side.
+abbrev pub OutIsNothing : Option Side → Type 0
+OutIsNothing None = Unit {0}
+OutIsNothing (Some side) = side.out ≡ nothing_put
+
 -- a report is noted of a side
 abbrev pub note_side : Event → Option Side → Option Side
 note_side event None = None
@@ -84,10 +89,39 @@ PutsOutTo None octets new = new ≡ None
 PutsOutTo (Some side) octets None = ⊥
 PutsOutTo (Some side) octets (Some new) = PutsOut side.out octets new.out
 
--- Octets are put out to an upstream, or what is written to it reaches nobody by now.
+-- They are, or a front of them.
+abbrev pub PutsFrontTo : Option Side → List ℕ → Option Side → Type 0
+PutsFrontTo None octets new = new ≡ None
+PutsFrontTo (Some side) octets None = ⊥
+PutsFrontTo (Some side) octets (Some new) = PutsFront side.out octets new.out
+
+-- Octets are put out to an upstream, or a front of them, and nothing else.
+pub record SendsFront (old : Upstream) (octets : List ℕ) (new : Upstream) : Type 0 where
+  pub number : new.k ≡ old.k
+  pub front : PutsFrontTo old.side octets new.side
+
+-- Octets are put out to an upstream, unless what is written to it reaches nobody by now; then a front of them at most.
 pub record Sends (old : Upstream) (octets : List ℕ) (new : Upstream) : Type 0 where
   pub number : new.k ≡ old.k
+  pub front : PutsFrontTo old.side octets new.side
   pub puts_out : PutsOutTo old.side octets new.side ⊎ (is_deaf new ≡ true)
+
+-- Of what waits for a side it took a front, and the rest waits.
+abbrev pub DrainsTo : Option Side → Option Side → Type 0
+DrainsTo None new = new ≡ None
+DrainsTo (Some side) None = ⊥
+DrainsTo (Some side) (Some new) = Drains side.out new.out
+
+-- A connection is there still, and of what waits for it its socket took a front.
+pub record GoesOn (old new : Upstream) : Type 0 where
+  pub number : new.k ≡ old.k
+  pub drains : DrainsTo old.side new.side
+
+-- Nothing was put out for an upstream that is new, and none of its writes failed.
+pub record IsNew (k : ℕ) (upstream : Upstream) : Type 0 where
+  pub number : upstream.k ≡ k
+  pub nothing : OutIsNothing upstream.side
+  pub whole : upstream.broken ≡ false
 
 -- What a report or a failed write said of a side it says still.
 abbrev pub KeepsHeard : Option Side → Option Side → Type 0

@@ -1,7 +1,7 @@
 //! One socket, and what is known of it.
 
 ghost use Rattle.std.specs.Prelude.{◌≡◌, ◌+◌, ◌<◌, ◌↔◌, ◌&&◌, [], true, false, not, length, IsTrue, IfOk, OnOk};
-ghost use Rattle.sockets.specs.Putting.{PutsOut};
+ghost use Rattle.sockets.specs.Putting.{PutsOut, PutsFront};
 ghost use Rattle.sockets.specs.Sides.{noted, given_up, is_left};
 ghost use Rattle.transfers.specs.Transfers.{nothing_put, told, told_count};
 
@@ -136,6 +136,7 @@ impl Side {
     /// Puts octets out.
     pub fn put(&mut self, registry: &Registry, octets: &[u8]) -> Result<(), PutFault>
         ensures puts { OnOk result (PutsOut self.old.out octets.now self.new.out) }
+        ensures front { PutsFront self.old.out octets.now self.new.out }
         ensures stays { self.new ≡ record self.old { socket = self.new.socket; out = self.new.out; full = self.new.full; watched = self.new.watched } }
     {
         if self.out.waiting() == 0 && octets.len() >= self.least {

@@ -370,6 +370,34 @@ fn a_request_without_a_route_is_not_found(rt: HostRuntime) -> Result<(), Fail> {
     Ok(())
 }
 
+/// Whether a connection waits at a listener.
+fn is_called(listener: &TcpListener) -> bool {
+    for _ in 0..1000 {
+        if listener.accept().is_ok() {
+            return true;
+        }
+    }
+    false
+}
+
+#[test]
+fn each_route_has_its_own_address(rt: HostRuntime) -> Result<(), Fail> {
+    let first = quiet_listener(&rt)?;
+    let second = quiet_listener(&rt)?;
+    let addresses = [first.local_addr()?, second.local_addr()?];
+    let (_client, far) = pair(&rt)?;
+    let far = mio::net::TcpStream::from_std(far);
+    let mut world = SocketWorld::new(rt.alloc(), &rt, &addresses, far)?;
+    let opened = world.apply(&Output::Open(1, 1));
+    assert_eq!(rt; opened, Ok(()));
+    assert!(rt; is_called(&second));
+    assert!(rt; first.accept().is_err());
+    let opened = world.apply(&Output::Open(2, 0));
+    assert_eq!(rt; opened, Ok(()));
+    assert!(rt; is_called(&first));
+    Ok(())
+}
+
 #[test]
 fn a_client_that_breaks_off_is_one(rt: HostRuntime) -> Result<(), Fail> {
     let config = one_route(rt.alloc())?;

@@ -1,7 +1,7 @@
 //! The connections to upstreams.
 
 ghost use Rattle.std.specs.Prelude.{◌≡◌, ◌&&◌, ◌||◌, [], false, not, Some, IfOk, IsOkAnd, OnOk, IfSome, IfNone};
-ghost use Rattle.sockets.specs.Sides.{may_be_ready, owes, is_ready, is_deaf, Sends, IsOf, heard_of, note_side, side_told, count_told, side_given_up, out_of, KeepsHeard};
+ghost use Rattle.sockets.specs.Sides.{may_be_ready, owes, is_ready, is_deaf, Sends, SendsFront, GoesOn, IsOf, heard_of, note_side, side_told, count_told, side_given_up, out_of, KeepsHeard};
 
 use crate::side::Side;
 use gateway::Event;
@@ -105,6 +105,7 @@ impl Upstream {
     /// Notes what was reported of its socket, and writes what waits for it, if it may take it.
     pub fn heed(&mut self, report: &event::Event, registry: &Registry)
         ensures sends { Sends (heard_of report.now self.old) [] self.new }
+        ensures goes { GoesOn self.old self.new }
         ensures noted { KeepsHeard (note_side report.now self.old.side) self.new.side }
         ensures stands { (self.new.is_queued ≡ self.old.is_queued) × (self.new.is_listed ≡ self.old.is_listed) }
     {
@@ -118,6 +119,7 @@ impl Upstream {
     pub fn tell(&mut self) -> u64
         ensures count { result ≡ count_told self.old.side }
         ensures told { self.new ≡ record self.old { is_listed = false; side = side_told self.old.side } }
+        ensures goes { GoesOn self.old self.new }
     {
         self.is_listed = false;
         match &mut self.side {
@@ -139,7 +141,7 @@ impl Upstream {
 
     /// Puts octets out. Where its socket failed they are dropped.
     pub fn put(&mut self, registry: &Registry, octets: &[u8]) -> Result<(), WorldFault>
-        ensures number { self.new.k ≡ self.old.k }
+        ensures front { SendsFront self.old octets.now self.new }
         ensures sends { OnOk result (Sends self.old octets.now self.new) }
         ensures stands { (self.new.is_queued ≡ self.old.is_queued) × (self.new.is_listed ≡ self.old.is_listed) }
     {
@@ -162,6 +164,7 @@ impl Upstream {
     /// Writes what waits, if its socket may take it.
     fn flush(&mut self, registry: &Registry)
         ensures sends { Sends self.old [] self.new }
+        ensures goes { GoesOn self.old self.new }
         ensures heard { KeepsHeard self.old.side self.new.side }
         ensures stands { (self.new.is_queued ≡ self.old.is_queued) × (self.new.is_listed ≡ self.old.is_listed) }
     {
@@ -173,6 +176,25 @@ impl Upstream {
         };
         if let Err(error) = side.flush(registry) {
             self.fail(error.kind());
+        }
+    }
+
+    /// The event that a read gives, if something may be read and it gives one. It doesn't stand among those of which something may
+    /// be read any more.
+    pub fn read_in_turn(
+        &mut self,
+        alloc: Global,
+        room: &mut [u8],
+    ) -> Result<Option<Event>, WorldFault>
+        ensures event { IfOk result (λ event. IfSome event (IsOf self.old.k)) }
+        ensures goes { GoesOn self.old self.new }
+        ensures left { self.new.is_queued ≡ false }
+    {
+        self.leave_queue();
+        if self.is_ready(room.len()) {
+            self.read(alloc, room)
+        } else {
+            Ok(None)
         }
     }
 

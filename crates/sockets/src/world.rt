@@ -1,10 +1,12 @@
 //! The world of sockets.
 
-ghost use Rattle.std.specs.Prelude.{◌≡◌, ◌+◌, ◌<◌, ◌^◌, None, Option, Some, [], ◌∷◌, ◌++◌, false, true, List, length, IfSome, IfNone, IfOk, OnOk, OnErr, get_or, is_ok, if◌then◌else◌};
+ghost use Rattle.std.specs.Prelude.{◌≡◌, ◌+◌, ◌<◌, ◌^◌, None, Option, Some, [], ◌∷◌, ◌++◌, false, true, List, length, IfSome, IfNone, IfOk, OnOk, OnErr, get_or, is_ok, is_some, if◌then◌else◌};
 ghost use Rattle.model.specs.Logs.{Step};
 ghost use Rattle.outputs.specs.Views.{output_of};
 ghost use Rattle.worlds.specs.Worlds.{AddsEvent, AddsHanded, SaysOver, with_outputs};
-ghost use Rattle.sockets.specs.Performed.{AreRising, IsOpenNowhere, Opens, SendsTo, Performs, no_log, none_handed};
+ghost use Rattle.sockets.specs.Performed.{AreRising, IsOpenNowhere, Opens, Changes, SendsTo, Performs, Leaves, AllGoOn, MovesOn, failed_in, found_by, told_by, no_log, none_handed};
+ghost use Rattle.sockets.specs.Putting.{Drains};
+ghost use Rattle.sockets.specs.Sides.{IsNew, OutIsNothing, SendsFront};
 ghost use Rattle.transfers.specs.Transfers.{nothing_put};
 
 use crate::leaving::Leaving;
@@ -123,6 +125,7 @@ impl<'a, N: Net + Clock> SocketWorld<'a, N> {
         ensures calls { self.new.calls ≡ self.old.calls }
         ensures failures { self.new.failures ≡ self.old.failures }
         ensures closed { self.new.sockets.upstreams.items ≡ [] }
+        ensures client { Drains self.old.sockets.client.out self.new.sockets.client.out }
     {
         self.sockets.leave_client()
     }
@@ -131,7 +134,7 @@ impl<'a, N: Net + Clock> SocketWorld<'a, N> {
 impl<'a, N: Net + Clock> Sockets<'a, N> {
     /// What comes next. Where nothing is there the world waits once, until something is reported.
     fn find_next(&mut self, rooms: &[(u32, usize)]) -> Result<Option<Event>, WorldFault>
-        ensures rising { AreRising self.old.upstreams.items → AreRising self.new.upstreams.items }
+        ensures moves { MovesOn (found_by result) self.old.client.out self.old.upstreams.items self.new.client.out self.new.upstreams.items }
     {
         if let Some(event) = self.find_aside(rooms)? {
             return Ok(Some(event));
@@ -145,7 +148,7 @@ impl<'a, N: Net + Clock> Sockets<'a, N> {
 
     /// In some turns an event that else would have to wait as long as others are there: of a socket that wasn't looked at yet, or what was taken.
     fn find_aside(&mut self, rooms: &[(u32, usize)]) -> Result<Option<Event>, WorldFault>
-        ensures rising { AreRising self.old.upstreams.items → AreRising self.new.upstreams.items }
+        ensures moves { MovesOn (found_by result) self.old.client.out self.old.upstreams.items self.new.client.out self.new.upstreams.items }
     {
         self.turns = self.turns.wrapping_add(1);
         if self.turns % ROUND == 0 {
@@ -160,7 +163,7 @@ impl<'a, N: Net + Clock> Sockets<'a, N> {
 
     /// An event that is there already. Where nothing may be read any more, what waits for the client is written.
     fn find_event(&mut self, rooms: &[(u32, usize)]) -> Result<Option<Event>, WorldFault>
-        ensures rising { AreRising self.old.upstreams.items → AreRising self.new.upstreams.items }
+        ensures moves { MovesOn (found_by result) self.old.client.out self.old.upstreams.items self.new.client.out self.new.upstreams.items }
     {
         let count = self.client.tell(TOLD_AT_ONCE);
         if count > 0 {
@@ -175,7 +178,7 @@ impl<'a, N: Net + Clock> Sockets<'a, N> {
 
     /// The event that a read gives, of the first socket in turn whose read gives one.
     fn read_ready(&mut self, rooms: &[(u32, usize)]) -> Result<Option<Event>, WorldFault>
-        ensures rising { AreRising self.old.upstreams.items → AreRising self.new.upstreams.items }
+        ensures moves { MovesOn (found_by result) self.old.client.out self.old.upstreams.items self.new.client.out self.new.upstreams.items }
     {
         for _ in 0..self.ready.len() {
             let Some(number) = self.ready.pop_front() else {
@@ -191,7 +194,7 @@ impl<'a, N: Net + Clock> Sockets<'a, N> {
 
     /// The event that a read of a socket gives, if it gives one.
     fn read(&mut self, number: u32, rooms: &[(u32, usize)]) -> Result<Option<Event>, WorldFault>
-        ensures rising { AreRising self.old.upstreams.items → AreRising self.new.upstreams.items }
+        ensures moves { MovesOn (found_by result) self.old.client.out self.old.upstreams.items self.new.client.out self.new.upstreams.items }
     {
         if number == CLIENT {
             self.read_client()
@@ -207,20 +210,15 @@ impl<'a, N: Net + Clock> Sockets<'a, N> {
         number: u32,
         rooms: &[(u32, usize)],
     ) -> Result<Option<Event>, WorldFault>
-        ensures rising { AreRising self.old.upstreams.items → AreRising self.new.upstreams.items }
+        ensures moves { MovesOn (found_by result) self.old.client.out self.old.upstreams.items self.new.client.out self.new.upstreams.items }
     {
         let Some(place) = place_of(number, &self.upstreams) else {
             return Ok(None);
         };
         let room = room_of(number, rooms).min(self.buffer.len());
         let upstream = &mut self.upstreams[place];
-        upstream.leave_queue();
-        let event = if upstream.is_ready(room) {
-            upstream.read(self.alloc, &mut self.buffer[..room])?
-        } else {
-            None
-        };
-        if matches!(event, Some(Event::UpFailed(_))) {
+        let event = upstream.read_in_turn(self.alloc, &mut self.buffer[..room])?;
+        if is_failure(&event) {
             self.upstreams.remove(place);
         } else if upstream.joins_queue() {
             self.ready.push_back(number)?;
@@ -230,7 +228,9 @@ impl<'a, N: Net + Clock> Sockets<'a, N> {
 
     /// The event that a read of the client's socket gives, if it gives one.
     fn read_client(&mut self) -> Result<Option<Event>, WorldFault>
-        ensures { self.new.upstreams ≡ self.old.upstreams }
+        ensures upstreams { self.new.upstreams ≡ self.old.upstreams }
+        ensures out { self.new.client.out ≡ self.old.client.out }
+        ensures alive { failed_in (found_by result) ≡ None }
     {
         self.is_client_queued = false;
         let got = if self.client.owes_more_than(MOST_OWED) {
@@ -248,7 +248,8 @@ impl<'a, N: Net + Clock> Sockets<'a, N> {
 
     /// The client joins the sockets of which something may be read, if something may.
     fn queue_client(&mut self) -> Result<(), WorldFault>
-        ensures { self.new.upstreams ≡ self.old.upstreams }
+        ensures upstreams { self.new.upstreams ≡ self.old.upstreams }
+        ensures client { self.new.client ≡ self.old.client }
     {
         if !self.is_client_queued && self.client.is_readable() {
             self.is_client_queued = true;
@@ -259,7 +260,7 @@ impl<'a, N: Net + Clock> Sockets<'a, N> {
 
     /// What sockets took that wasn't told of, if they took some: upstreams first, since each of them is told of once in a while.
     fn tell(&mut self) -> Option<Event>
-        ensures rising { AreRising self.old.upstreams.items → AreRising self.new.upstreams.items }
+        ensures moves { MovesOn result self.old.client.out self.old.upstreams.items self.new.client.out self.new.upstreams.items }
     {
         for _ in 0..self.writes.len() {
             let k = self.writes.pop_front()?;
@@ -278,7 +279,7 @@ impl<'a, N: Net + Clock> Sockets<'a, N> {
 
     /// Waits until a socket is reported, at most so long where that is said, notes what is, and writes what waits for those that take octets again.
     fn look(&mut self, most: Option<Duration>) -> Result<(), WorldFault>
-        ensures rising { AreRising self.old.upstreams.items → AreRising self.new.upstreams.items }
+        ensures moves { MovesOn None self.old.client.out self.old.upstreams.items self.new.client.out self.new.upstreams.items }
     {
         match self.poll.poll(&mut self.reports, most) {
             Ok(()) => {}
@@ -302,6 +303,7 @@ impl<'a, N: Net + Clock> Sockets<'a, N> {
     /// Writes what waits for the client, and then reads and drops what comes of it until its end, unless that takes too long.
     fn leave_client(&mut self) -> io::Result<()>
         ensures closed { self.new.upstreams.items ≡ [] }
+        ensures client { Drains self.old.client.out self.new.client.out }
     {
         self.upstreams.clear();
         let mut leaving = Leaving::begin(self.net, self.client.waiting())?;
@@ -330,6 +332,7 @@ impl<'a, N: Net + Clock> Sockets<'a, N> {
     /// Waits until the client's socket is reported, at most so long, and notes what is.
     fn hear_client(&mut self, most: Duration) -> io::Result<()>
         ensures upstreams { self.new.upstreams ≡ self.old.upstreams }
+        ensures out { self.new.client.out ≡ self.old.client.out }
     {
         self.poll.poll(&mut self.reports, Some(most))?;
         note_client(&self.reports, &mut self.client);
@@ -339,7 +342,8 @@ impl<'a, N: Net + Clock> Sockets<'a, N> {
     /// Opens a connection. One that can't be made fails at a later `next`.
     fn open(&mut self, k: u32, route: u32) -> Result<(), WorldFault>
         ensures client { self.new.client ≡ self.old.client }
-        ensures opens { OnOk result (Opens k self.old.upstreams.items self.new.upstreams.items) }
+        ensures opens { OnOk result (Opens (IsNew k) self.old.upstreams.items self.new.upstreams.items) }
+        ensures err { OnErr result (self.new.upstreams.items ≡ self.old.upstreams.items) }
         ensures rising { AreRising self.old.upstreams.items → AreRising self.new.upstreams.items }
     {
         let side = match self.addresses.get(route as usize) {
@@ -356,6 +360,7 @@ impl<'a, N: Net + Clock> Sockets<'a, N> {
     /// Puts octets out to an upstream, if it is open.
     fn put(&mut self, k: u32, octets: &[u8]) -> Result<(), WorldFault>
         ensures client { self.new.client ≡ self.old.client }
+        ensures err { OnErr result (Changes k (λ from to. SendsFront from octets.now to) self.old.upstreams.items self.new.upstreams.items) }
         ensures sends { OnOk result (AreRising self.old.upstreams.items → SendsTo k octets.now self.old.upstreams.items self.new.upstreams.items) }
         ensures rising { AreRising self.old.upstreams.items → AreRising self.new.upstreams.items }
     {
@@ -368,7 +373,9 @@ impl<'a, N: Net + Clock> Sockets<'a, N> {
     }
 
     /// Begins to connect to an address.
-    fn connect(&self, k: u32, address: SocketAddr) -> Result<Option<Side>, WorldFault> {
+    fn connect(&self, k: u32, address: SocketAddr) -> Result<Option<Side>, WorldFault>
+        ensures { IfOk result OutIsNothing }
+    {
         let Ok(socket) = TcpStream::connect(self.net, address) else {
             return Ok(None);
         };
@@ -384,6 +391,7 @@ impl<'a, N: Net + Clock> Sockets<'a, N> {
     fn perform(&mut self, output: &Output) -> Result<(), WorldFault>
         ensures rising { AreRising self.old.upstreams.items → AreRising self.new.upstreams.items }
         ensures performs { OnOk result (Performs output.now self.old.client.out self.old.upstreams.items self.new.client.out self.new.upstreams.items) }
+        ensures leaves { OnErr result (Leaves output.now self.old.client.out self.old.upstreams.items self.new.client.out self.new.upstreams.items) }
     {
         match output {
             Output::Client(octets) => match self.client.put(self.poll.registry(), octets) {
@@ -431,6 +439,7 @@ impl<'a, N: Net + Clock> World for SocketWorld<'a, N> {
         ensures handed { OnOk result (AddsHanded no_log none_handed rooms.now none_handed) }
         ensures err { OnErr result ((no_log ≡ no_log) × (none_handed ≡ none_handed)) }
         ensures rising { AreRising self.old.sockets.upstreams.items → AreRising self.new.sockets.upstreams.items }
+        ensures moves { MovesOn (told_by result) self.old.sockets.client.out self.old.sockets.upstreams.items self.new.sockets.client.out self.new.sockets.upstreams.items }
     {
         self.calls += 1;
         match self.sockets.find_next(rooms) {
@@ -452,6 +461,7 @@ impl<'a, N: Net + Clock> World for SocketWorld<'a, N> {
         ensures err { OnErr result (no_log ≡ no_log) }
         ensures rising { AreRising self.old.sockets.upstreams.items → AreRising self.new.sockets.upstreams.items }
         ensures performs { OnOk result (Performs output.now self.old.sockets.client.out self.old.sockets.upstreams.items self.new.sockets.client.out self.new.sockets.upstreams.items) }
+        ensures leaves { OnErr result (Leaves output.now self.old.sockets.client.out self.old.sockets.upstreams.items self.new.sockets.client.out self.new.sockets.upstreams.items) }
     {
         let applied = self.sockets.perform(output);
         if applied.is_err() {
@@ -485,8 +495,17 @@ fn place_under(token: Token, upstreams: &[Upstream]) -> Option<usize>
     place_of(k, upstreams)
 }
 
+/// Whether an event tells that a connection failed.
+fn is_failure(event: &Option<Event>) -> bool
+    ensures { result ≡ is_some (failed_in event.now) }
+{
+    matches!(event, Some(Event::UpFailed(_)))
+}
+
 /// Notes what was reported of the client's socket.
-fn note_client(reports: &Events, client: &mut Side) {
+fn note_client(reports: &Events, client: &mut Side)
+    ensures { client.new.out ≡ client.old.out }
+{
     for report in reports {
         if report.token() == token_of(CLIENT) {
             client.note(report);
@@ -502,7 +521,7 @@ fn heed_all(
     ready: &mut VecDeque<u32>,
     writes: &mut VecDeque<u32>,
 ) -> Result<(), WorldFault>
-    ensures { AreRising upstreams.old → AreRising upstreams.new }
+    ensures { AllGoOn upstreams.old upstreams.new }
 {
     for report in reports {
         if let Some(place) = place_under(report.token(), upstreams) {

@@ -159,13 +159,15 @@ fn client_goes_away_by_other_configurations(rt: HostRuntime) -> Result<(), Fail>
 }
 
 #[test]
-fn client_of_many_streams_goes_away(rt: HostRuntime) -> Result<(), Fail> {
+fn client_of_a_long_script_goes_away(rt: HostRuntime) -> Result<(), Fail> {
     let alloc = rt.alloc();
     let plain = one_route(alloc, Policy::Plain, Passing::Whole)?;
     let transcript = one_more_than_a_hundred(alloc)?;
     assert_left_well(&rt, alloc, &plain, "a hundred streams", &transcript)?;
     let transcript = a_hundred_requests(alloc)?;
     assert_left_well(&rt, alloc, &plain, "a hundred requests", &transcript)?;
+    let transcript = large_head(alloc)?;
+    assert_left_well(&rt, alloc, &plain, "a head in two frames", &transcript)?;
     let transcript = ten_thousand_requests(alloc)?;
     assert_left_well(&rt, alloc, &plain, "ten thousand streams", &transcript)?;
     let transcript = ten_thousand_without_a_route(alloc)?;

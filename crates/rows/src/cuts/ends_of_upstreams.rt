@@ -19,6 +19,15 @@ fn contains(octets: &[u8], part: &[u8]) -> bool {
     part.is_empty()
 }
 
+/// Whether octets are one frame, the whole block of a response with the status 502 and nothing behind it.
+fn is_failure(octets: &[u8]) -> bool {
+    let Ok(length) = u8::try_from(octets.len().saturating_sub(9)) else {
+        return false;
+    };
+    octets.starts_with(&[0, 0, length, 1, 5])
+        && (contains(octets, FAILED[0]) || contains(octets, FAILED[1]))
+}
+
 /// Whether a response of which so much was heard is ended by the end of the connection. In the tables that is the one without a length, of
 /// HTTP/1.0.
 fn is_ended_by_end(heard: &[u8]) -> bool {
@@ -49,12 +58,11 @@ fn is_ended_well(told: &Told, whole: &Told, k: u32, is_end: bool) -> bool {
     if told.untaken_before() >= 65536 {
         return last.is_empty();
     }
-    let failed = contains(last, FAILED[0]) || contains(last, FAILED[1]);
     match told.upstream(k) {
         Some(upstream) if is_end && is_ended_by_end(&upstream.heard) => {
-            !failed && !last.is_empty() && last.ends_with(body_of(&upstream.heard))
+            !is_failure(last) && !last.is_empty() && last.ends_with(body_of(&upstream.heard))
         }
-        Some(upstream) => failed && upstream.is_closed,
+        Some(upstream) => is_failure(last) && upstream.is_closed,
         None => false,
     }
 }
@@ -135,6 +143,8 @@ fn upstreams_go_away(rt: HostRuntime) -> Result<(), Fail> {
     assert_rows_ended_well(&rt, alloc, &plain, &WAITING)?;
     assert_rows_ended_well(&rt, alloc, &plain, &IN_TURN)?;
     assert_rows_ended_well(&rt, alloc, &small(alloc)?, &SMALL)?;
+    let transcript = large_head(alloc)?;
+    assert_ended_well(&rt, alloc, &plain, "a head in two frames", &transcript)?;
     let transcript = ten_thousand_requests(alloc)?;
     assert_ended_well(&rt, alloc, &plain, "ten thousand streams", &transcript)?;
     let indexing = one_route(alloc, Policy::Indexing, Passing::Whole)?;

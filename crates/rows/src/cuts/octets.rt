@@ -223,13 +223,15 @@ fn one_by_one_by_other_configurations(rt: HostRuntime) -> Result<(), Fail> {
 }
 
 #[test]
-fn many_streams_one_by_one(rt: HostRuntime) -> Result<(), Fail> {
+fn long_scripts_one_by_one(rt: HostRuntime) -> Result<(), Fail> {
     let alloc = rt.alloc();
     let plain = one_route(alloc, Policy::Plain, Passing::Whole)?;
     let transcript = one_more_than_a_hundred(alloc)?;
     assert_script_alike(&rt, alloc, &plain, "a hundred streams", &transcript)?;
     let transcript = a_hundred_requests(alloc)?;
     assert_script_alike(&rt, alloc, &plain, "a hundred requests", &transcript)?;
+    let transcript = large_head(alloc)?;
+    assert_script_alike(&rt, alloc, &plain, "a head in two frames", &transcript)?;
     let transcript = ten_thousand_requests(alloc)?;
     assert_script_alike(&rt, alloc, &plain, "ten thousand streams", &transcript)?;
     let transcript = ten_thousand_without_a_route(alloc)?;

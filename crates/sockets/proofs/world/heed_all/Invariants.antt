@@ -1,8 +1,6 @@
-use Rattle.sockets.specs.Performed.{AreRising}
+use Rattle.sockets.specs.Performed.{AllGoOn}
 use Rattle.sockets.proofs.world.heed_all.Given as goal
 
 abbrev pub invariant-loop-report : goal.invariant-loop-report
 invariant-loop-report l =
-    (goal.iterator-loop-report).can_next l.report-iterator
-    × (goal.iterator-loop-report).is_finite l.report-iterator
-    × (AreRising l.fn.upstreams → AreRising l.upstreams)
+    (goal.iterator-loop-report).can_next l.report-iterator × (goal.iterator-loop-report).is_finite l.report-iterator × AllGoOn l.fn.upstreams l.upstreams

@@ -1,5 +1,5 @@
 use Rattle.std.proofs.Common.{◌≡◌, ◌<◌, refl, sym, subst, inl, inr, length, get_or}
-use Rattle.sockets.specs.Performed.{AreRising, IsOpenNowhere, Opens}
+use Rattle.sockets.specs.Performed.{AreRising, IsNumbered, IsOpenNowhere, Opens}
 use Rattle.sockets.proofs.Performing.{one_fewer}
 use Rattle.sockets.proofs.Rising.{rising_remove}
 use Rattle.sockets.proofs.world.Sockets.perform.Goals as goal
@@ -10,8 +10,8 @@ returns-in-Some-clause-performs g c =
     let k = c.in-Close.k in
     let within : c.in-Some.place < length us = rw (← c.deref-in-Close.ensures.value) c.in-Some.ensures.within in
     let found : (get_or us c.in-Some.place c.remove.result).k ≡ k = rw (← c.deref-in-Close.ensures.value) (c.in-Some.ensures.found c.remove.result) in
-    let closed : Opens k c.remove.new.self.items us =
-    subst (λ items. Opens k items us) (sym c.remove.ensures.items) (one_fewer us c.in-Some.place k c.remove.result within found) in
+    let closed : Opens (IsNumbered k) c.remove.new.self.items us =
+    subst (λ items. Opens (IsNumbered k) items us) (sym c.remove.ensures.items) (one_fewer us c.in-Some.place k c.remove.result within found) in
     rw c.in-Close.is (refl, λ up. inr closed)
 
 pub returns-in-Some-clause-rising : goal.returns-in-Some-clause-rising

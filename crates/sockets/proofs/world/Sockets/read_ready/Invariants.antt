@@ -1,5 +1,6 @@
-use Rattle.sockets.specs.Performed.{AreRising}
+use Rattle.std.specs.Prelude.{None}
+use Rattle.sockets.specs.Performed.{MovesOn}
 use Rattle.sockets.proofs.world.Sockets.read_ready.Given as goal
 
 abbrev pub invariant-loop : goal.invariant-loop
-invariant-loop g l = AreRising l.fn.self.upstreams.items → AreRising l.self.upstreams.items
+invariant-loop g l = MovesOn None l.fn.self.client.out l.fn.self.upstreams.items l.self.client.out l.self.upstreams.items

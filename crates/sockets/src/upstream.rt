@@ -188,7 +188,7 @@ impl Upstream {
     ) -> Result<Option<Event>, WorldFault>
         ensures event { IfOk result (λ event. IfSome event (IsOf self.old.k)) }
         ensures goes { GoesOn self.old self.new }
-        ensures left { self.new.is_queued ≡ false }
+        ensures stays { self.new ≡ record self.old { side = self.new.side; is_queued = false } }
     {
         self.leave_queue();
         if self.is_ready(room.len()) {

@@ -34,10 +34,6 @@ drains_twice old mid new first second =
 pub drained : (old new : Way) → PutsOut old [] new → Drains old new
 drained old new puts = record { taken = puts.taken; in_order = puts.in_order ∙ append-nil old.waiting }
 
--- All was put out.
-pub whole_front : (old new : Way) (octets : List ℕ) → PutsOut old octets new → PutsFront old octets new
-whole_front old new octets puts = record { taken = puts.taken; lost = []; in_order = ap (λ rest. puts.taken ++ rest) (append-nil new.waiting) ∙ puts.in_order }
-
 -- Nothing was put out.
 pub no_front : (old : Way) (octets : List ℕ) → PutsFront old octets old
 no_front old octets = record { taken = []; lost = octets; in_order = refl }
@@ -75,7 +71,7 @@ front_still upstream octets = record { number = refl; front = side_front_still u
 
 -- Nothing is put out to one that nothing reaches any more.
 pub deaf_still : (upstream : Upstream) (octets : List ℕ) → is_deaf upstream ≡ true → Sends upstream octets upstream
-deaf_still upstream octets deaf = record { number = refl; front = side_front_still upstream.side octets; puts_out = inr deaf }
+deaf_still upstream octets deaf = record { front = front_still upstream octets; puts_out = inr deaf }
 
 side_still : (side : Option Side) → DrainsTo side side
 side_still None = refl
@@ -210,9 +206,6 @@ moves_with event way us ws i u old none within goes same =
 -- Where it is listed says nothing of how it went on.
 pub goes_listed : (old mid new : Upstream) → GoesOn old mid → {b d : Bool} → new ≡ record mid { is_queued = b; is_listed = d } → GoesOn old new
 goes_listed old mid new goes is = subst (GoesOn old) (sym is) (record { number = goes.number; drains = goes.drains })
-
-pub goes_queued : (old mid new : Upstream) → GoesOn old mid → {b : Bool} → new ≡ record mid { is_queued = b } → GoesOn old new
-goes_queued old mid new goes is = subst (GoesOn old) (sym is) (record { number = goes.number; drains = goes.drains })
 
 -- No event was found.
 pub moves_quiet : (event : Option Event) (way way' : Way) (us vs : List Upstream) → event ≡ None → MovesOn event way us way' vs → MovesOn None way us way' vs

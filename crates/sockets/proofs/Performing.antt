@@ -38,7 +38,7 @@ one_changed So (v ∷ vs) (suc i) k u new within is so =
 
 -- Where it is listed says nothing of what it was sent.
 pub listed : (from mid to : Upstream) (octets : List ℕ) → Sends from octets mid → to ≡ record mid { is_queued = to.is_queued; is_listed = to.is_listed } → Sends from octets to
-listed from mid to octets sends is = subst (Sends from octets) (sym is) (record { number = sends.number; front = sends.front; puts_out = sends.puts_out })
+listed from mid to octets sends is = subst (Sends from octets) (sym is) (record { front = record { number = sends.front.number; front = sends.front.front }; puts_out = sends.puts_out })
 
 pub front_listed : (from mid to : Upstream) (octets : List ℕ) → SendsFront from octets mid → to ≡ record mid { is_queued = to.is_queued; is_listed = to.is_listed } → SendsFront from octets to
 front_listed from mid to octets sends is = subst (SendsFront from octets) (sym is) (record { number = sends.number; front = sends.front })

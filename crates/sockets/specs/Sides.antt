@@ -102,8 +102,7 @@ pub record SendsFront (old : Upstream) (octets : List ℕ) (new : Upstream) : Ty
 
 -- Octets are put out to an upstream, unless what is written to it reaches nobody by now; then a front of them at most.
 pub record Sends (old : Upstream) (octets : List ℕ) (new : Upstream) : Type 0 where
-  pub number : new.k ≡ old.k
-  pub front : PutsFrontTo old.side octets new.side
+  pub front : SendsFront old octets new
   pub puts_out : PutsOutTo old.side octets new.side ⊎ (is_deaf new ≡ true)
 
 -- Of what waits for a side it took a front, and the rest waits.

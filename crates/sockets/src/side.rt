@@ -1,7 +1,7 @@
 //! One socket, and what is known of it.
 
 ghost use Rattle.std.specs.Prelude.{◌≡◌, ◌+◌, ◌<◌, ◌↔◌, ◌&&◌, [], true, false, not, length, IsTrue, IfOk, OnOk};
-ghost use Rattle.sockets.specs.Putting.{PutsOut, PutsFront};
+ghost use Rattle.sockets.specs.Putting.{PutsOut, PutsFront, Drains};
 ghost use Rattle.sockets.specs.Sides.{noted, given_up, is_left};
 ghost use Rattle.transfers.specs.Transfers.{nothing_put, told, told_count};
 
@@ -81,6 +81,7 @@ impl Side {
     pub fn tell(&mut self, least: u64) -> u64
         ensures count { result ≡ told_count least self.old.out }
         ensures told { self.new ≡ record self.old { out = told least self.old.out } }
+        ensures drains { Drains self.old.out self.new.out }
     {
         self.out.tell(least)
     }

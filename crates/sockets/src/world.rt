@@ -308,25 +308,45 @@ impl<'a, N: Net + Clock> Sockets<'a, N> {
         self.upstreams.clear();
         let mut leaving = Leaving::begin(self.net, self.client.waiting())?;
         for _ in 0..MOST_TURNS_LEAVING {
-            self.client.flush(self.poll.registry())?;
-            leaving.note_waiting(self.net, self.client.waiting())?;
-            if self.client.waiting() == 0 {
-                if self.client.is_ended() {
-                    return Ok(());
-                }
-                self.client.shut()?;
+            if self.write_rest(&mut leaving)? {
+                return Ok(());
             }
             let Some(most) = leaving.remaining(self.net)? else {
                 return Ok(());
             };
-            if self.client.is_readable() {
-                let _ = self.client.read(self.alloc, &mut self.buffer)?;
-                leaving.note_heard(self.net)?;
-            } else {
-                self.hear_client(most)?;
-            }
+            self.drop_rest(&mut leaving, most)?;
         }
         Ok(())
+    }
+
+    /// Writes what waits for the client, and tells it that nothing more is written once nothing waits. The answer is whether it is left: all is written, and
+    /// its end was read.
+    fn write_rest(&mut self, leaving: &mut Leaving) -> io::Result<bool>
+        ensures upstreams { self.new.upstreams ≡ self.old.upstreams }
+        ensures client { Drains self.old.client.out self.new.client.out }
+    {
+        self.client.flush(self.poll.registry())?;
+        leaving.note_waiting(self.net, self.client.waiting())?;
+        if self.client.waiting() > 0 {
+            return Ok(false);
+        }
+        if self.client.is_ended() {
+            return Ok(true);
+        }
+        self.client.shut()?;
+        Ok(false)
+    }
+
+    /// Reads and drops what comes of the client, or waits for it, at most so long.
+    fn drop_rest(&mut self, leaving: &mut Leaving, most: Duration) -> io::Result<()>
+        ensures upstreams { self.new.upstreams ≡ self.old.upstreams }
+        ensures out { self.new.client.out ≡ self.old.client.out }
+    {
+        if !self.client.is_readable() {
+            return self.hear_client(most);
+        }
+        let _ = self.client.read(self.alloc, &mut self.buffer)?;
+        leaving.note_heard(self.net)
     }
 
     /// Waits until the client's socket is reported, at most so long, and notes what is.

@@ -21,7 +21,7 @@ mod runs;
 pub use config::{Config, Passing, Policy, Route};
 pub use gateway::{Fault, Gateway};
 pub use outputs::{Event, Output, Text};
-pub use runs::{RunFault, run};
+pub use runs::{RunFault, run, run_into};
 
 /// A log for which a gateway stands has what is promised of it: the headline, by a tape of it, and behind that tape tables are in step and turns were fair.
 pub fn logs_are_promised()

@@ -2,6 +2,7 @@
 
 use answers::{Answer, Ended, Heard, Passing};
 use outbox::{Outbox, Part};
+use std::alloc::Global;
 use std::test::*;
 
 /// A response with an interim head and a body of five octets.
@@ -20,83 +21,153 @@ enum Next {
     Octets(usize, bool),
 }
 
-/// What goes next of an outbox.
-fn upcoming(outbox: &Outbox) -> Next {
+/// What happens to an answer, and what that comes to: octets come, the connection ends, or what goes next goes.
+#[derive(Clone, Copy)]
+enum Step<'a> {
+    Hears(&'a [u8], Heard),
+    Ends(Ended),
+    Sends(Next),
+}
+
+/// Sends what goes next of an outbox.
+fn send(outbox: &mut Outbox) -> Next {
     match outbox.next(100) {
         None => Next::Nothing,
-        Some(Part::Early(head)) => Next::Early(head.status()),
-        Some(Part::Final(head, ends)) => Next::Final(head.status(), ends),
-        Some(Part::Octets(front, back, ends)) => Next::Octets(front.len() + back.len(), ends),
+        Some(Part::Octets(front, back, ends)) => {
+            let count = front.len() + back.len();
+            outbox.drop_octets(100);
+            Next::Octets(count, ends)
+        }
+        Some(Part::Early(head)) => {
+            let status = head.status();
+            let _early = outbox.take_head();
+            Next::Early(status)
+        }
+        Some(Part::Final(head, ends)) => {
+            let status = head.status();
+            let _head = outbox.take_head();
+            Next::Final(status, ends)
+        }
     }
+}
+
+/// Hears octets.
+fn hear(answer: &mut Answer, octets: &[u8], outbox: &mut Outbox) -> Result<Heard, Fail> {
+    Ok(answer.hear(octets, outbox)?)
+}
+
+/// Hears the end of the connection.
+fn end(answer: &mut Answer, outbox: &mut Outbox) -> Result<Ended, Fail> {
+    Ok(answer.end(outbox)?)
+}
+
+/// Whether a step comes to what it should.
+fn is_so(answer: &mut Answer, outbox: &mut Outbox, step: &Step<'_>) -> Result<bool, Fail> {
+    match step {
+        Step::Hears(octets, wanted) => Ok(hear(answer, octets, outbox)? == *wanted),
+        Step::Ends(wanted) => Ok(end(answer, outbox)? == *wanted),
+        Step::Sends(wanted) => Ok(send(outbox) == *wanted),
+    }
+}
+
+/// The first step of an answer, lent with its outbox, that comes to something else.
+fn first_of(
+    answer: &mut Answer,
+    outbox: &mut Outbox,
+    steps: &[Step<'_>],
+) -> Result<Option<usize>, Fail> {
+    for (place, step) in steps.iter().enumerate() {
+        if !is_so(answer, outbox, step)? {
+            return Ok(Some(place));
+        }
+    }
+    Ok(None)
+}
+
+/// The first step of a new answer that comes to something else.
+fn first_that_differs(
+    alloc: Global,
+    passing: Passing,
+    steps: &[Step<'_>],
+) -> Result<Option<usize>, Fail> {
+    let mut outbox = Outbox::new(alloc);
+    let mut answer = Answer::new(alloc, false, passing);
+    first_of(&mut answer, &mut outbox, steps)
+}
+
+#[test]
+fn an_answer_is_passed_on_as_it_is_told_to(rt: HostRuntime) {
+    let answer = Answer::new(rt.alloc(), false, Passing::Whole(5));
+    assert_eq!(rt; answer.passing(), Passing::Whole(5));
 }
 
 #[test]
 fn a_whole_response_waits_for_its_end(rt: HostRuntime) -> Result<(), Fail> {
     let (front, rest) = RESPONSE.split_at(RESPONSE.len() - 1);
-    let mut outbox = Outbox::new(rt.alloc());
-    let mut answer = Answer::new(rt.alloc(), false, Passing::Whole(5));
-    assert_eq!(rt; answer.passing(), Passing::Whole(5));
-    assert_eq!(rt; answer.hear(front, &mut outbox)?, Heard::GoesOn);
-    assert_eq!(rt; upcoming(&outbox), Next::Early(103));
-    let _early = outbox.take_head();
-    assert_eq!(rt; upcoming(&outbox), Next::Nothing);
-    assert_eq!(rt; answer.hear(rest, &mut outbox)?, Heard::Whole);
-    assert_eq!(rt; upcoming(&outbox), Next::Final(200, false));
-    let _head = outbox.take_head();
-    assert_eq!(rt; upcoming(&outbox), Next::Octets(5, true));
+    let steps = [
+        Step::Hears(front, Heard::GoesOn),
+        Step::Sends(Next::Early(103)),
+        Step::Sends(Next::Nothing),
+        Step::Hears(rest, Heard::Whole),
+        Step::Sends(Next::Final(200, false)),
+        Step::Sends(Next::Octets(5, true)),
+        Step::Sends(Next::Nothing),
+    ];
+    let first = first_that_differs(rt.alloc(), Passing::Whole(5), &steps)?;
+    assert_eq!(rt; first, None);
     Ok(())
 }
 
 #[test]
 fn a_streamed_response_goes_as_it_comes(rt: HostRuntime) -> Result<(), Fail> {
     let (front, rest) = RESPONSE.split_at(RESPONSE.len() - 2);
-    let mut outbox = Outbox::new(rt.alloc());
-    let mut answer = Answer::new(rt.alloc(), false, Passing::Streaming);
-    assert_eq!(rt; answer.hear(front, &mut outbox)?, Heard::GoesOn);
-    let _early = outbox.take_head();
-    let _head = outbox.take_head();
-    assert_eq!(rt; upcoming(&outbox), Next::Octets(3, false));
-    assert_eq!(rt; answer.hear(rest, &mut outbox)?, Heard::Whole);
-    assert_eq!(rt; upcoming(&outbox), Next::Octets(5, true));
+    let steps = [
+        Step::Hears(front, Heard::GoesOn),
+        Step::Sends(Next::Early(103)),
+        Step::Sends(Next::Final(200, false)),
+        Step::Sends(Next::Octets(3, false)),
+        Step::Sends(Next::Nothing),
+        Step::Hears(rest, Heard::Whole),
+        Step::Sends(Next::Octets(2, true)),
+    ];
+    let first = first_that_differs(rt.alloc(), Passing::Streaming, &steps)?;
+    assert_eq!(rt; first, None);
     Ok(())
 }
 
 #[test]
-fn a_body_that_is_too_long_fails(rt: HostRuntime) -> Result<(), Fail> {
-    let mut outbox = Outbox::new(rt.alloc());
-    let mut answer = Answer::new(rt.alloc(), false, Passing::Whole(4));
-    assert_eq!(rt; answer.hear(RESPONSE, &mut outbox)?, Heard::Failed);
-    assert_eq!(rt; upcoming(&outbox), Next::Nothing);
-    Ok(())
-}
-
-#[test]
-fn no_response_fails(rt: HostRuntime) -> Result<(), Fail> {
-    let mut outbox = Outbox::new(rt.alloc());
-    let mut answer = Answer::new(rt.alloc(), false, Passing::Streaming);
-    assert_eq!(rt;
-        answer.hear(b"SMTP ready\r\n\r\n", &mut outbox)?,
-        Heard::Failed
-    );
-    assert_eq!(rt; upcoming(&outbox), Next::Nothing);
+fn what_is_no_response_fails(rt: HostRuntime) -> Result<(), Fail> {
+    let too_long = [
+        Step::Hears(RESPONSE, Heard::Failed),
+        Step::Sends(Next::Nothing),
+    ];
+    let first = first_that_differs(rt.alloc(), Passing::Whole(4), &too_long)?;
+    assert_eq!(rt; first, None);
+    let other = [
+        Step::Hears(b"SMTP ready\r\n\r\n", Heard::Failed),
+        Step::Sends(Next::Nothing),
+    ];
+    let first = first_that_differs(rt.alloc(), Passing::Streaming, &other)?;
+    assert_eq!(rt; first, None);
     Ok(())
 }
 
 #[test]
 fn the_end_makes_a_response_whole_or_cuts_it_short(rt: HostRuntime) -> Result<(), Fail> {
-    let mut outbox = Outbox::new(rt.alloc());
-    let mut answer = Answer::new(rt.alloc(), false, Passing::Whole(100));
-    assert_eq!(rt; answer.hear(UNTIL_END, &mut outbox)?, Heard::GoesOn);
-    assert_eq!(rt; upcoming(&outbox), Next::Nothing);
-    assert_eq!(rt; answer.end(&mut outbox)?, Ended::Complete);
-    let _head = outbox.take_head();
-    assert_eq!(rt; upcoming(&outbox), Next::Octets(5, true));
-    let mut other = Outbox::new(rt.alloc());
-    let mut cut = Answer::new(rt.alloc(), false, Passing::Whole(100));
-    assert_eq!(rt;
-        cut.hear(&RESPONSE[..RESPONSE.len() - 1], &mut other)?,
-        Heard::GoesOn
-    );
-    assert_eq!(rt; cut.end(&mut other)?, Ended::Short);
+    let whole = [
+        Step::Hears(UNTIL_END, Heard::GoesOn),
+        Step::Sends(Next::Nothing),
+        Step::Ends(Ended::Complete),
+        Step::Sends(Next::Final(200, false)),
+        Step::Sends(Next::Octets(5, true)),
+    ];
+    let first = first_that_differs(rt.alloc(), Passing::Whole(100), &whole)?;
+    assert_eq!(rt; first, None);
+    let cut = [
+        Step::Hears(&RESPONSE[..RESPONSE.len() - 1], Heard::GoesOn),
+        Step::Ends(Ended::Short),
+    ];
+    let first = first_that_differs(rt.alloc(), Passing::Whole(100), &cut)?;
+    assert_eq!(rt; first, None);
     Ok(())
 }

@@ -4,7 +4,7 @@ use answers::{Answer, Ended, Heard, Passing};
 use causes::Cause;
 use offers::Offers;
 use outbox::Part;
-use std::alloc::Global;
+use std::alloc::{AllocError, Global};
 use std::test::*;
 use stream_state::{Kind, Verdict};
 use streams_kept::{Course, Live, Streams};
@@ -70,7 +70,7 @@ fn end(offers: &mut Offers, id: u32, answer: &mut Answer) -> Result<Option<Ended
 }
 
 /// Streams 1, 3 and 5 are active, and nothing is on offer for them.
-fn three(alloc: Global) -> Result<Offers, Fail> {
+fn three(alloc: Global) -> Result<Offers, AllocError> {
     let mut offers = Offers::new(alloc);
     offers.open(1)?;
     offers.open(3)?;
@@ -84,7 +84,7 @@ fn streamed(alloc: Global) -> Answer {
 }
 
 /// Opens a stream where its HEADERS may, and says whether they do.
-fn open_if_idle(streams: &mut Streams, id: u32) -> Result<bool, Fail> {
+fn open_if_idle(streams: &mut Streams, id: u32) -> Result<bool, AllocError> {
     match streams.verdict(id, Kind::Headers) {
         Verdict::Open => {
             streams.open(id, Live::opened(Course::new(), false))?;
@@ -94,134 +94,241 @@ fn open_if_idle(streams: &mut Streams, id: u32) -> Result<bool, Fail> {
     }
 }
 
+/// What is done with offers, and what that comes to.
+#[derive(Clone, Copy)]
+enum Step<'a> {
+    /// Octets of an upstream come for a stream.
+    Hears(u32, &'a [u8], Option<Heard>),
+    /// The connection of a stream's upstream ends.
+    Ends(u32, Option<Ended>),
+    /// Another answer is read from now on.
+    Anew,
+    /// What goes next on a stream goes, where so many octets may.
+    Sends(u32, usize, Next),
+    /// So it will, but it doesn't go yet.
+    Waits(u32, usize, Next),
+    /// The gateway replies itself.
+    Replies(u32, Cause),
+    Closes(u32),
+    IsKept(u32, bool),
+    IsCut(u32, bool),
+    /// A stream of the connection is opened, which has a window of its own.
+    Opens(u32),
+    /// Whose turn it is, by the first size of windows and by the connection's window.
+    Turns(u32, i64, Option<u32>),
+    /// How many octets of a stream's body wait.
+    Holds(u32, usize),
+}
+
+/// Offers, the streams of their connection, and the answer that is read.
+#[derive(Drop)]
+struct Desk {
+    alloc: Global,
+    offers: Offers,
+    streams: Streams,
+    answer: Answer,
+}
+
+/// Whether what is only looked at is as it should be.
+fn is_seen(desk: &Desk, step: &Step<'_>) -> bool {
+    match step {
+        Step::Waits(id, most, wanted) => upcoming(&desk.offers, *id, *most) == *wanted,
+        Step::IsKept(id, wanted) => desk.offers.is_kept(*id) == *wanted,
+        Step::IsCut(id, wanted) => desk.offers.is_cut(*id) == *wanted,
+        Step::Turns(first_size, shared, wanted) => {
+            desk.offers.next_turn(&desk.streams, *first_size, *shared) == *wanted
+        }
+        Step::Holds(id, wanted) => desk.offers.held(*id, &mut 0) == *wanted,
+        _ => false,
+    }
+}
+
+/// Whether a step comes to what it should.
+fn is_so(desk: &mut Desk, step: &Step<'_>) -> Result<bool, Fail> {
+    match step {
+        Step::Hears(id, octets, wanted) => {
+            Ok(hear(&mut desk.offers, *id, &mut desk.answer, octets)? == *wanted)
+        }
+        Step::Ends(id, wanted) => { Ok(end(&mut desk.offers, *id, &mut desk.answer)? == *wanted) }
+        Step::Anew => {
+            desk.answer = streamed(desk.alloc);
+            Ok(true)
+        }
+        Step::Sends(id, most, wanted) => Ok(send(&mut desk.offers, *id, *most) == *wanted),
+        Step::Replies(id, cause) => {
+            desk.offers.reply(*id, *cause)?;
+            Ok(true)
+        }
+        Step::Closes(id) => {
+            desk.offers.close(*id);
+            Ok(true)
+        }
+        Step::Opens(id) => Ok(open_if_idle(&mut desk.streams, *id)?),
+        _ => Ok(is_seen(desk, step)),
+    }
+}
+
+/// The first step at a desk that comes to something else.
+fn first_at(desk: &mut Desk, steps: &[Step<'_>]) -> Result<Option<usize>, Fail> {
+    for (place, step) in steps.iter().enumerate() {
+        if !is_so(desk, step)? {
+            return Ok(Some(place));
+        }
+    }
+    Ok(None)
+}
+
+/// The first step that comes to something else, where three streams are active.
+fn first_that_differs(alloc: Global, steps: &[Step<'_>]) -> Result<Option<usize>, Fail> {
+    let offers = three(alloc)?;
+    let mut desk = Desk {
+        alloc,
+        offers,
+        streams: Streams::new(alloc),
+        answer: streamed(alloc),
+    };
+    first_at(&mut desk, steps)
+}
+
 #[test]
 fn streams_are_opened_and_closed(rt: HostRuntime) -> Result<(), Fail> {
-    let mut offers = three(rt.alloc())?;
-    assert!(rt; offers.is_kept(3));
-    assert!(rt; !offers.is_kept(2));
-    offers.close(3);
-    offers.close(2);
-    assert!(rt; offers.is_kept(1));
-    assert!(rt; !offers.is_kept(3));
-    assert!(rt; offers.is_kept(5));
+    let steps = [
+        Step::IsKept(3, true),
+        Step::IsKept(2, false),
+        Step::Closes(3),
+        Step::Closes(2),
+        Step::IsKept(1, true),
+        Step::IsKept(3, false),
+        Step::IsKept(5, true),
+    ];
+    assert_eq!(rt; first_that_differs(rt.alloc(), &steps)?, None);
     Ok(())
 }
 
 #[test]
 fn what_is_heard_goes_to_its_stream(rt: HostRuntime) -> Result<(), Fail> {
-    let mut offers = three(rt.alloc())?;
-    let mut answer = streamed(rt.alloc());
-    assert_eq!(rt;
-        hear(&mut offers, 3, &mut answer, RESPONSE)?,
-        Some(Heard::Whole)
-    );
-    assert_eq!(rt; upcoming(&offers, 1, 9), Next::Nothing);
-    assert_eq!(rt; send(&mut offers, 3, 9), Next::Final(200, false));
-    assert_eq!(rt; send(&mut offers, 3, 2), Next::Octets(2, false));
-    assert_eq!(rt; send(&mut offers, 3, 9), Next::Octets(3, true));
-    assert_eq!(rt; send(&mut offers, 3, 9), Next::Nothing);
-    assert_eq!(rt; hear(&mut offers, 7, &mut answer, RESPONSE)?, None);
+    let steps = [
+        Step::Hears(3, RESPONSE, Some(Heard::Whole)),
+        Step::Waits(1, 9, Next::Nothing),
+        Step::Sends(3, 9, Next::Final(200, false)),
+        Step::Sends(3, 2, Next::Octets(2, false)),
+        Step::Sends(3, 9, Next::Octets(3, true)),
+        Step::Sends(3, 9, Next::Nothing),
+        Step::Hears(7, RESPONSE, None),
+    ];
+    assert_eq!(rt; first_that_differs(rt.alloc(), &steps)?, None);
+    Ok(())
+}
+
+#[test]
+fn a_stream_is_looked_for_behind_the_last_one(rt: HostRuntime) -> Result<(), Fail> {
+    let offers = three(rt.alloc())?;
+    let mut guess = 0;
+    assert_eq!(rt; offers.held(3, &mut guess), 0);
+    assert_eq!(rt; guess, 2);
     Ok(())
 }
 
 #[test]
 fn what_waits_of_a_body_is_held_for_its_stream(rt: HostRuntime) -> Result<(), Fail> {
-    let mut offers = three(rt.alloc())?;
-    let mut answer = streamed(rt.alloc());
-    let mut guess = 0;
-    assert_eq!(rt; offers.held(3, &mut guess), 0);
-    assert_eq!(rt; guess, 2);
-    let _heard = hear(&mut offers, 3, &mut answer, RESPONSE)?;
-    assert_eq!(rt; offers.held(3, &mut guess), 5);
-    assert_eq!(rt; offers.held(1, &mut guess), 0);
-    assert_eq!(rt; send(&mut offers, 3, 9), Next::Final(200, false));
-    assert_eq!(rt; send(&mut offers, 3, 2), Next::Octets(2, false));
-    assert_eq!(rt; offers.held(3, &mut guess), 3);
-    offers.close(3);
-    assert_eq!(rt; offers.held(3, &mut guess), 0);
-    assert_eq!(rt; offers.held(7, &mut guess), 0);
+    let steps = [
+        Step::Hears(3, RESPONSE, Some(Heard::Whole)),
+        Step::Holds(3, 5),
+        Step::Holds(1, 0),
+        Step::Sends(3, 9, Next::Final(200, false)),
+        Step::Sends(3, 2, Next::Octets(2, false)),
+        Step::Holds(3, 3),
+        Step::Closes(3),
+        Step::Holds(3, 0),
+        Step::Holds(7, 0),
+    ];
+    assert_eq!(rt; first_that_differs(rt.alloc(), &steps)?, None);
     Ok(())
 }
 
 #[test]
 fn the_end_of_a_connection_ends_its_stream(rt: HostRuntime) -> Result<(), Fail> {
-    let mut offers = three(rt.alloc())?;
-    let mut answer = streamed(rt.alloc());
-    let head = b"HTTP/1.1 200 OK\r\n\r\n";
-    assert_eq!(rt;
-        hear(&mut offers, 5, &mut answer, head)?,
-        Some(Heard::GoesOn)
-    );
-    assert_eq!(rt; send(&mut offers, 5, 9), Next::Final(200, false));
-    assert_eq!(rt; upcoming(&offers, 5, 9), Next::Nothing);
-    assert_eq!(rt; end(&mut offers, 5, &mut answer)?, Some(Ended::Complete));
-    assert_eq!(rt; send(&mut offers, 5, 9), Next::Octets(0, true));
+    let steps = [
+        Step::Hears(5, b"HTTP/1.1 200 OK\r\n\r\n", Some(Heard::GoesOn)),
+        Step::Sends(5, 9, Next::Final(200, false)),
+        Step::Waits(5, 9, Next::Nothing),
+        Step::Ends(5, Some(Ended::Complete)),
+        Step::Sends(5, 9, Next::Octets(0, true)),
+    ];
+    assert_eq!(rt; first_that_differs(rt.alloc(), &steps)?, None);
     Ok(())
 }
 
 #[test]
 fn a_reply_takes_the_place_of_a_response(rt: HostRuntime) -> Result<(), Fail> {
-    let mut offers = three(rt.alloc())?;
-    let mut answer = streamed(rt.alloc());
-    let _heard = hear(&mut offers, 1, &mut answer, RESPONSE)?;
-    offers.reply(1, Cause::BadAnswer)?;
-    offers.reply(7, Cause::BadAnswer)?;
-    assert!(rt; !offers.is_cut(1));
-    assert_eq!(rt; send(&mut offers, 1, 9), Next::Final(502, true));
-    assert_eq!(rt; upcoming(&offers, 1, 9), Next::Nothing);
+    let steps = [
+        Step::Hears(1, RESPONSE, Some(Heard::Whole)),
+        Step::Replies(1, Cause::BadAnswer),
+        Step::Replies(7, Cause::BadAnswer),
+        Step::IsCut(1, false),
+        Step::Sends(1, 9, Next::Final(502, true)),
+        Step::Waits(1, 9, Next::Nothing),
+    ];
+    assert_eq!(rt; first_that_differs(rt.alloc(), &steps)?, None);
     Ok(())
 }
 
 #[test]
 fn a_reply_behind_a_final_head_is_a_reset(rt: HostRuntime) -> Result<(), Fail> {
-    let mut offers = three(rt.alloc())?;
-    let streams = Streams::new(rt.alloc());
-    let mut answer = streamed(rt.alloc());
-    let _heard = hear(&mut offers, 1, &mut answer, RESPONSE)?;
-    assert_eq!(rt; send(&mut offers, 1, 9), Next::Final(200, false));
-    assert_eq!(rt; offers.next_turn(&streams, FIRST_SIZE, 65535), Some(1));
-    offers.reply(1, Cause::LargeBody)?;
-    assert!(rt; offers.is_cut(1));
-    assert!(rt; !offers.is_cut(3));
-    assert_eq!(rt; offers.next_turn(&streams, FIRST_SIZE, 65535), None);
+    let steps = [
+        Step::Hears(1, RESPONSE, Some(Heard::Whole)),
+        Step::Sends(1, 9, Next::Final(200, false)),
+        Step::Turns(FIRST_SIZE, 65535, Some(1)),
+        Step::Replies(1, Cause::LargeBody),
+        Step::IsCut(1, true),
+        Step::IsCut(3, false),
+        Step::Turns(FIRST_SIZE, 65535, None),
+    ];
+    assert_eq!(rt; first_that_differs(rt.alloc(), &steps)?, None);
     Ok(())
 }
 
 #[test]
 fn turns_go_round(rt: HostRuntime) -> Result<(), Fail> {
-    let mut offers = three(rt.alloc())?;
-    let streams = Streams::new(rt.alloc());
-    assert_eq!(rt; offers.next_turn(&streams, FIRST_SIZE, 9), None);
-    for id in [1, 3, 5] {
-        let mut answer = streamed(rt.alloc());
-        let _heard = hear(&mut offers, id, &mut answer, RESPONSE)?;
-    }
-    for id in [1, 3, 5] {
-        assert_eq!(rt; offers.next_turn(&streams, FIRST_SIZE, 9), Some(id));
-        assert_eq!(rt; send(&mut offers, id, 2), Next::Final(200, false));
-    }
-    for id in [1, 3, 5] {
-        assert_eq!(rt; offers.next_turn(&streams, FIRST_SIZE, 9), Some(id));
-        assert_eq!(rt; send(&mut offers, id, 2), Next::Octets(2, false));
-    }
-    offers.close(1);
-    assert_eq!(rt; offers.next_turn(&streams, FIRST_SIZE, 9), Some(3));
+    let steps = [
+        Step::Turns(FIRST_SIZE, 9, None),
+        Step::Hears(1, RESPONSE, Some(Heard::Whole)),
+        Step::Anew,
+        Step::Hears(3, RESPONSE, Some(Heard::Whole)),
+        Step::Anew,
+        Step::Hears(5, RESPONSE, Some(Heard::Whole)),
+        Step::Turns(FIRST_SIZE, 9, Some(1)),
+        Step::Sends(1, 2, Next::Final(200, false)),
+        Step::Turns(FIRST_SIZE, 9, Some(3)),
+        Step::Sends(3, 2, Next::Final(200, false)),
+        Step::Turns(FIRST_SIZE, 9, Some(5)),
+        Step::Sends(5, 2, Next::Final(200, false)),
+        Step::Turns(FIRST_SIZE, 9, Some(1)),
+        Step::Sends(1, 2, Next::Octets(2, false)),
+        Step::Turns(FIRST_SIZE, 9, Some(3)),
+        Step::Sends(3, 2, Next::Octets(2, false)),
+        Step::Turns(FIRST_SIZE, 9, Some(5)),
+        Step::Sends(5, 2, Next::Octets(2, false)),
+        Step::Closes(1),
+        Step::Turns(FIRST_SIZE, 9, Some(3)),
+    ];
+    assert_eq!(rt; first_that_differs(rt.alloc(), &steps)?, None);
     Ok(())
 }
 
 #[test]
 fn closed_windows_hold_octets_and_no_heads(rt: HostRuntime) -> Result<(), Fail> {
-    let mut offers = three(rt.alloc())?;
-    let mut streams = Streams::new(rt.alloc());
-    let mut answer = streamed(rt.alloc());
-    let _heard = hear(&mut offers, 3, &mut answer, RESPONSE)?;
-    assert!(rt; open_if_idle(&mut streams, 3)?);
-    assert_eq!(rt; offers.next_turn(&streams, 0, -1), Some(3));
-    assert_eq!(rt; send(&mut offers, 3, 9), Next::Final(200, false));
-    assert_eq!(rt; offers.next_turn(&streams, 0, 9), None);
-    assert_eq!(rt; offers.next_turn(&streams, 9, 0), None);
-    assert_eq!(rt; offers.next_turn(&streams, 1, 1), Some(3));
-    assert_eq!(rt; send(&mut offers, 3, 9), Next::Octets(5, true));
-    assert_eq!(rt; offers.next_turn(&streams, 9, 9), None);
+    let steps = [
+        Step::Hears(3, RESPONSE, Some(Heard::Whole)),
+        Step::Opens(3),
+        Step::Turns(0, -1, Some(3)),
+        Step::Sends(3, 9, Next::Final(200, false)),
+        Step::Turns(0, 9, None),
+        Step::Turns(9, 0, None),
+        Step::Turns(1, 1, Some(3)),
+        Step::Sends(3, 9, Next::Octets(5, true)),
+        Step::Turns(9, 9, None),
+    ];
+    assert_eq!(rt; first_that_differs(rt.alloc(), &steps)?, None);
     Ok(())
 }

@@ -3,7 +3,7 @@
 ghost use Rattle.std.specs.Prelude.{IfOk};
 ghost use Rattle.gateway.specs.Setups.{setup_of, IsServable};
 
-use gateway::{Config, Event, Gateway, Output, Passing, Policy, Route, RunFault, run};
+use gateway::{Config, Event, Gateway, Output, Passing, Policy, Route, RunFault, run, run_into};
 use std::alloc::{AllocError, Global};
 use std::string::String;
 use std::test::*;
@@ -20,8 +20,14 @@ const WITHOUT_WINDOW: &[u8] =
 const FORWARDED: &[u8] =
     b"GET / HTTP/1.1\r\nhost: www.example.com\r\nvia: 2.0 h2gw\r\nconnection: close\r\n\r\n";
 
-/// A response, and the front of one with a longer body.
+/// What the client is sent for these settings: the gateway's, and their acknowledgement.
+const GREETING: &[u8] =
+    b"\0\0\x0c\x04\0\0\0\0\0\0\x03\0\0\0\x64\0\x06\0\0\x40\0\0\0\0\x04\x01\0\0\0\0";
+
+/// A response, its frames, and the front of one with a longer body.
 const RESPONSE: &[u8] = b"HTTP/1.1 200 OK\r\nContent-Length: 2\r\n\r\nhi";
+
+const FRAMES: &[u8] = b"\0\0\x05\x01\x04\0\0\0\x01\x88\x0f\x0d\x01\x32\0\0\x02\0\x01\0\0\0\x01hi";
 
 const FRONT: &[u8] = b"HTTP/1.1 200 OK\r\nContent-Length: 100000\r\n\r\nhello";
 
@@ -139,7 +145,15 @@ fn answers_request(out: &[Output]) -> bool {
             Output::Client(settings),
             Output::Open(1, 0),
             Output::Up(1, text),
-        ] => settings.len() == 30 && text.as_slice() == FORWARDED,
+        ] => settings.as_slice() == GREETING && text.as_slice() == FORWARDED,
+        _ => false,
+    }
+}
+
+/// Whether a response is passed back, and its connection closed.
+fn passes_back(out: &[Output]) -> bool {
+    match out {
+        [Output::Close(1), Output::Client(frames)] => frames.as_slice() == FRAMES,
         _ => false,
     }
 }
@@ -150,7 +164,7 @@ fn answer_exchange(steps: &[Vec<Output>]) -> bool {
         [first, took, passed, ended] => {
             answers_request(first)
                 && took.is_empty()
-                && matches!(passed.as_slice(), [Output::Close(1), Output::Client(_)])
+                && passes_back(passed)
                 && matches!(ended.as_slice(), [Output::CloseClient])
         }
         _ => false,
@@ -174,6 +188,20 @@ fn a_run_names_the_first_event_that_may_not_come(rt: HostRuntime) -> Result<(), 
     events.push(Event::ClientEnd)?;
     let fault = fault_of(rt.alloc(), Passing::Whole, &events)?;
     assert!(rt; fault == Some(RunFault::NotAdmitted(4)));
+    Ok(())
+}
+
+#[test]
+fn what_was_put_out_before_an_event_that_may_not_come_is_told(rt: HostRuntime) -> Result<(), Fail> {
+    let config = config(rt.alloc(), Passing::Whole)?;
+    let mut events = exchange(rt.alloc())?;
+    events.push(Event::ClientEnd)?;
+    // What stood there before is gone.
+    let mut outputs = Vec::new(rt.alloc());
+    outputs.push(Vec::new(rt.alloc()))?;
+    let ran = run_into(rt.alloc(), &config, &events, &mut outputs);
+    assert!(rt; ran == Err(RunFault::NotAdmitted(4)));
+    assert!(rt; answer_exchange(&outputs));
     Ok(())
 }
 

@@ -3,7 +3,7 @@
 ghost use Rattle.std.specs.Prelude.{◌≤◌, length, IfOk};
 ghost use Rattle.gateway.specs.Setups.{setup_of, IsServable};
 
-use crate::transcripts::{NOTHING, REQUEST, Row, START, Transcript};
+use crate::transcripts::{NOTHING, REQUEST, Row, START, Transcript, assert_rows_by};
 use gateway::{Config, Passing, Policy, Route};
 use scripts::{print_steps, read_script};
 use std::alloc::{AllocError, Global};
@@ -132,6 +132,22 @@ pub(crate) fn assert_rows_run(
     Ok(())
 }
 
+/// What a configuration's text says of one route for all requests.
+pub(crate) const ROUTE: &str = "[[route]]\nprefix = \"/\"\nupstream = \"127.0.0.1:80\"\n";
+
+/// `one_authority` as a text.
+const ONE_AUTHORITY_TEXT: &str =
+    "[[route]]\nauthority = \"a.example\"\nprefix = \"/\"\nupstream = \"127.0.0.1:80\"\n";
+
+/// `three_routes` as a text.
+const THREE_ROUTES_TEXT: &str = r#"
+    route = [
+        { authority = "h", prefix = "/a", upstream = "127.0.0.1:80" },
+        { authority = "h", prefix = "/", upstream = "127.0.0.1:81" },
+        { prefix = "/b", upstream = "[::1]:80" },
+    ]
+"#;
+
 /// By `one_authority`.
 pub static ONE_AUTHORITY: [Row; 2] = [
     Row {
@@ -253,4 +269,16 @@ fn other_configurations(rt: HostRuntime) -> Result<(), Fail> {
     assert_rows_run(&rt, alloc, &small(alloc)?, &SMALL)?;
     let indexing = one_route(alloc, Policy::Indexing, Passing::Whole)?;
     assert_rows_run(&rt, alloc, &indexing, &INDEXING)
+}
+
+#[test]
+fn other_configurations_as_texts(rt: HostRuntime) -> Result<(), Fail> {
+    let alloc = rt.alloc();
+    assert_rows_by(&rt, alloc, ONE_AUTHORITY_TEXT, &ONE_AUTHORITY)?;
+    assert_rows_by(&rt, alloc, THREE_ROUTES_TEXT, &THREE_ROUTES)?;
+    let small = format!(in alloc; "max_body = 10\nmax_response = 10\n{ROUTE}")?;
+    assert_rows_by(&rt, alloc, &small, &SMALL)?;
+    let indexing = format!(in alloc; "policy = \"indexing\"\n{ROUTE}")?;
+    assert_rows_by(&rt, alloc, &indexing, &INDEXING)?;
+    Ok(())
 }

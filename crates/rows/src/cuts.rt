@@ -1,6 +1,5 @@
 //! The transcripts once more, cut: octet by octet, by a client that goes away, and by upstreams that end or fail.
 
-ghost use Rattle.std.specs.Prelude.{◌<◌};
 ghost use Rattle.gateway.specs.Setups.{setup_of, IsServable};
 
 use crate::configurations::{
@@ -30,10 +29,28 @@ fn events_of(alloc: Global, script: &str) -> Result<Vec<Event>, Fail> {
     Ok(read_script(alloc, script).map_err(|_| "a script")?)
 }
 
-/// After how many octets pieces of this length are cut: after each, or, where there are more than 2,000, after every 1,021st, a prime, so that the cuts meet
-/// frames at other places each time; else a piece of 65,535 octets would be run through as often. Of so many events it is each such one whose octets are cut.
-fn step_of(length: usize) -> usize
-    ensures { 0 < result }
-{
-    if length > 2000 { 1021 } else { 1 }
+/// Whether something of this length is cut at a place: at each, or, where it is longer than 2,000, behind its first hundred, at its end and the place before, and at
+/// every 1,021st, a prime, so that the cuts meet frames at other places each time; else a piece of 65,535 octets would be run through as often. Of so many events it is
+/// each such one whose octets are cut.
+fn is_cut(place: usize, length: usize) -> bool {
+    length <= 2000 || place <= 100 || place % 1021 == 0 || length.saturating_sub(place) < 2
+}
+
+/// Where a part stands first in octets.
+fn place_of(octets: &[u8], part: &[u8]) -> Option<usize> {
+    for start in 0..octets.len() {
+        if octets[start..].starts_with(part) {
+            return Some(start);
+        }
+    }
+    None
+}
+
+/// The end of a head.
+const HEAD_END: &[u8] = b"\r\n\r\n";
+
+/// What stands behind the head of a message, if all of it stands there.
+fn body_of(text: &[u8]) -> Option<&[u8]> {
+    let end = place_of(text, HEAD_END)?;
+    text.get(end.saturating_add(HEAD_END.len())..)
 }

@@ -1,7 +1,7 @@
 //! Bodies that are passed on as they come.
 
-use crate::configurations::{assert_rows_run, one_route};
-use crate::transcripts::{REQUEST, Row, START};
+use crate::configurations::{ROUTE, assert_rows_run, one_route};
+use crate::transcripts::{REQUEST, Row, START, assert_rows_by};
 use crate::windows::{IN_TURN, WAITING};
 use gateway::{Passing, Policy};
 use std::test::*;
@@ -169,4 +169,17 @@ fn bodies_as_they_come(rt: HostRuntime) -> Result<(), Fail> {
     assert_rows_run(&rt, alloc, &plain, &IN_TURN)?;
     let indexing = one_route(alloc, Policy::Indexing, Passing::Streaming)?;
     assert_rows_run(&rt, alloc, &indexing, &INDEXED_AS_IT_COMES)
+}
+
+#[test]
+fn bodies_as_they_come_as_texts_say(rt: HostRuntime) -> Result<(), Fail> {
+    let alloc = rt.alloc();
+    let plain = format!(in alloc; "passing = \"streaming\"\n{ROUTE}")?;
+    assert_rows_by(&rt, alloc, &plain, &PASSED_AS_IT_COMES)?;
+    assert_rows_by(&rt, alloc, &plain, &UNTAKEN)?;
+    assert_rows_by(&rt, alloc, &plain, &WAITING)?;
+    assert_rows_by(&rt, alloc, &plain, &IN_TURN)?;
+    let indexing = format!(in alloc; "policy = \"indexing\"\n{plain}")?;
+    assert_rows_by(&rt, alloc, &indexing, &INDEXED_AS_IT_COMES)?;
+    Ok(())
 }

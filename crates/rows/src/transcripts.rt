@@ -91,11 +91,17 @@ impl Transcript {
     }
 }
 
-/// A replay of the script prints just this.
-pub(crate) fn assert_prints(rt: &impl Abort, alloc: Global, name: &str, transcript: &Transcript) {
+/// A replay of the script, by a configuration or by the default, prints just this.
+fn assert_replays(
+    rt: &impl Abort,
+    alloc: Global,
+    config: Option<&str>,
+    name: &str,
+    transcript: &Transcript,
+) {
     let mut out = Vec::new(alloc);
     let mut err = Vec::new(alloc);
-    let status = replay(alloc, None, &transcript.script, &mut out, &mut err);
+    let status = replay(alloc, config, &transcript.script, &mut out, &mut err);
     assert_eq!(rt; str::from_utf8(&err).ok(), Some(""), "at {name}");
     assert_eq!(rt;
         str::from_utf8(&out).ok(),
@@ -105,24 +111,47 @@ pub(crate) fn assert_prints(rt: &impl Abort, alloc: Global, name: &str, transcri
     assert_eq!(rt; status, 0, "at {name}");
 }
 
+/// A replay of the script prints just this.
+pub(crate) fn assert_prints(rt: &impl Abort, alloc: Global, name: &str, transcript: &Transcript) {
+    assert_replays(rt, alloc, None, name, transcript);
+}
+
 /// A row prints what it says, and so does each front of it that ends with an event.
-pub(crate) fn assert_row(rt: &impl Abort, alloc: Global, row: &Row) -> Result<(), AllocError> {
+fn assert_row(
+    rt: &impl Abort,
+    alloc: Global,
+    config: Option<&str>,
+    row: &Row,
+) -> Result<(), AllocError> {
     let mut transcript = Transcript::new(alloc);
     transcript.push(row.begins)?;
     for line in row.goes_on.lines() {
         if line.trim().starts_with('>') {
-            assert_prints(rt, alloc, row.name, &transcript);
+            assert_replays(rt, alloc, config, row.name, &transcript);
         }
         transcript.push(line)?;
     }
-    assert_prints(rt, alloc, row.name, &transcript);
+    assert_replays(rt, alloc, config, row.name, &transcript);
     Ok(())
 }
 
 /// Each row prints what it says.
 pub(crate) fn assert_rows(rt: &impl Abort, alloc: Global, rows: &[Row]) -> Result<(), AllocError> {
     for row in rows {
-        assert_row(rt, alloc, row)?;
+        assert_row(rt, alloc, None, row)?;
+    }
+    Ok(())
+}
+
+/// Each row prints what it says by the configuration of this text.
+pub(crate) fn assert_rows_by(
+    rt: &impl Abort,
+    alloc: Global,
+    config: &str,
+    rows: &[Row],
+) -> Result<(), AllocError> {
+    for row in rows {
+        assert_row(rt, alloc, Some(config), row)?;
     }
     Ok(())
 }

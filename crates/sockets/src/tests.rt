@@ -8,6 +8,7 @@ use mio::{Events, Poll, Token};
 use std::alloc::{AllocError, Global};
 use std::io::{ErrorKind, Read, Write};
 use std::net::{Ipv4Addr, Shutdown, SocketAddr, TcpListener, TcpStream};
+use std::process::Abort;
 use std::test::*;
 use std::time::Duration;
 use std::{io, mem};
@@ -43,12 +44,13 @@ const CHUNKS: [&[u8]; 3] = [
 const CHUNK_FRAMES: &[u8] =
     b"\0\0\x01\x01\x04\0\0\0\x01\x88\0\0\x10\0\x01\0\0\0\x010123456789abcdef";
 
+/// Responses whose length is given twice: the same one, and two.
+const SAME_LENGTHS: &[u8] = b"HTTP/1.1 200 OK\r\nContent-Length: 2\r\nContent-Length: 2\r\n\r\nhi";
+
+const TWO_LENGTHS: &[u8] = b"HTTP/1.1 200 OK\r\nContent-Length: 2\r\nContent-Length: 3\r\n\r\nhi";
+
 /// The frames that go back where no route matches: the status 404.
 const NOT_FOUND: &[u8] = b"\0\0\x05\x01\x05\0\0\0\x01\x8d\x0f\x0d\x01\x30";
-
-/// The same request on streams 3 and 5.
-const MORE: &[u8] =
-    b"\0\0\x04\x01\x05\0\0\0\x03\x82\x86\x84\xbe\0\0\x04\x01\x05\0\0\0\x05\x82\x86\x84\xbe";
 
 /// The frames that go back on streams 5, 1 and 3.
 const JOINED: &[u8] =
@@ -227,69 +229,23 @@ fn pair(rt: &HostRuntime) -> io::Result<(TcpStream, TcpStream)> {
     Ok((near, far))
 }
 
-#[test]
-fn a_request_goes_there_and_back(rt: HostRuntime) -> Result<(), Fail> {
-    let config = one_route(rt.alloc())?;
-    let upstream = quiet_listener(&rt)?;
-    let addresses = [upstream.local_addr()?];
-    let (mut client, far) = pair(&rt)?;
-    client.write_all(REQUEST)?;
-    let far = mio::net::TcpStream::from_std(far);
-    let mut world = Loopback {
-        world: SocketWorld::new(rt.alloc(), &rt, &addresses, far)?,
-        peers: Peers {
-            upstream,
-            client: Some(client),
-            enough: GREETING.len() + FRAMES.len(),
-            read: Vec::new(rt.alloc()),
-            reads: 0,
-            asked: Vec::new(rt.alloc()),
-            answers: 1,
-            waiting: Vec::new(rt.alloc()),
-            pieces: Vec::new(rt.alloc()),
-            answering: None,
-        },
-    };
-    let ended = serve(rt.alloc(), &config, &mut world, 100);
-    assert_eq!(rt; ended, Ok(Ended::Closed));
-    assert_eq!(rt; world.peers.asked.as_slice(), TEXT);
-    let (greeting, frames) = world
-        .peers
-        .read
-        .split_at(GREETING.len().min(world.peers.read.len()));
-    assert_eq!(rt; greeting, GREETING);
-    assert_eq!(rt; frames, FRAMES);
-    Ok(())
+/// A client and its upstream: what the client sends, how many connections the upstream answers at once, the last one first, with which pieces in place of
+/// the answer in one piece, and how many octets the client reads before it leaves.
+#[derive(Clone, Copy)]
+struct Visit<'a> {
+    sent: &'a [u8],
+    answers: usize,
+    pieces: &'a [&'a [u8]],
+    enough: usize,
 }
 
-#[test]
-fn an_upstream_that_is_down_is_no_fault_of_the_world(rt: HostRuntime) -> Result<(), Fail> {
-    let config = one_route(rt.alloc())?;
-    let down = quiet_listener(&rt)?.local_addr()?;
-    let addresses = [down];
-    let (mut client, far) = pair(&rt)?;
-    client.write_all(REQUEST)?;
-    let far = mio::net::TcpStream::from_std(far);
-    let mut world = Loopback {
-        world: SocketWorld::new(rt.alloc(), &rt, &addresses, far)?,
-        peers: Peers {
-            upstream: quiet_listener(&rt)?,
-            client: Some(client),
-            enough: GREETING.len() + BAD_GATEWAY.len(),
-            read: Vec::new(rt.alloc()),
-            reads: 0,
-            asked: Vec::new(rt.alloc()),
-            answers: 1,
-            waiting: Vec::new(rt.alloc()),
-            pieces: Vec::new(rt.alloc()),
-            answering: None,
-        },
-    };
-    let ended = serve(rt.alloc(), &config, &mut world, 100);
-    assert_eq!(rt; ended, Ok(Ended::Closed));
-    assert!(rt; world.peers.read.starts_with(GREETING));
-    assert!(rt; world.peers.read.ends_with(BAD_GATEWAY));
-    Ok(())
+/// How serving ended, what the client read, in how many reads, and what the upstream was asked.
+#[derive(Drop)]
+struct Seen {
+    ended: Result<Ended, ServeFault>,
+    read: Vec<u8>,
+    reads: u32,
+    asked: Vec<u8>,
 }
 
 /// Copies of these pieces.
@@ -301,60 +257,111 @@ fn owned(alloc: Global, pieces: &[&[u8]]) -> Result<Vec<Vec<u8>>, AllocError> {
     Ok(copies)
 }
 
-/// What a client reads that asks where the upstream answers in these pieces, up to the end of what is wanted.
-fn read_of<'a>(
-    rt: &'a HostRuntime,
-    addresses: &'a [SocketAddr],
-    config: &Config,
+/// The peers of a visit before anything happened but that the client sent all.
+fn peers_of(
+    rt: &HostRuntime,
+    visit: &Visit<'_>,
     upstream: TcpListener,
-    pieces: Vec<Vec<u8>>,
-    wanted: &[u8],
-) -> Result<Vec<u8>, Fail>
-    requires { IsServable (setup_of config.now) }
-{
-    let (mut client, far) = pair(rt)?;
-    client.write_all(REQUEST)?;
-    let far = mio::net::TcpStream::from_std(far);
-    let mut world = Loopback {
-        world: SocketWorld::new(rt.alloc(), rt, addresses, far)?,
-        peers: Peers {
-            upstream,
-            client: Some(client),
-            enough: GREETING.len().saturating_add(wanted.len()),
-            read: Vec::new(rt.alloc()),
-            reads: 0,
-            asked: Vec::new(rt.alloc()),
-            answers: 1,
-            waiting: Vec::new(rt.alloc()),
-            pieces,
-            answering: None,
-        },
-    };
-    let _ = serve(rt.alloc(), config, &mut world, 100);
-    Ok(mem::replace(&mut world.peers.read, Vec::new(rt.alloc())))
+    mut client: TcpStream,
+) -> io::Result<Peers> {
+    client.write_all(visit.sent)?;
+    Ok(Peers {
+        upstream,
+        client: Some(client),
+        enough: visit.enough,
+        read: Vec::new(rt.alloc()),
+        reads: 0,
+        asked: Vec::new(rt.alloc()),
+        answers: visit.answers,
+        waiting: Vec::new(rt.alloc()),
+        pieces: owned(rt.alloc(), visit.pieces)?,
+        answering: None,
+    })
 }
 
-#[test]
-fn chunks_go_back_once_they_are_whole(rt: HostRuntime) -> Result<(), Fail> {
-    let config = one_route(rt.alloc())?;
-    let upstream = quiet_listener(&rt)?;
-    let addresses = [upstream.local_addr()?];
-    let pieces = owned(rt.alloc(), &CHUNKS)?;
-    let read = read_of(&rt, &addresses, &config, upstream, pieces, CHUNK_FRAMES)?;
-    assert!(rt; read.starts_with(GREETING));
-    assert!(rt; read.ends_with(CHUNK_FRAMES));
+/// Serves a visit, where the upstream listens, and is reached at this address.
+fn serve_visit(
+    rt: &HostRuntime,
+    config: &Config,
+    visit: &Visit<'_>,
+    upstream: TcpListener,
+    address: SocketAddr,
+) -> Result<Seen, Fail>
+    requires { IsServable (setup_of config.now) }
+{
+    let addresses = [address];
+    let (client, far) = pair(rt)?;
+    let far = mio::net::TcpStream::from_std(far);
+    let mut world = Loopback {
+        world: SocketWorld::new(rt.alloc(), rt, &addresses, far)?,
+        peers: peers_of(rt, visit, upstream, client)?,
+    };
+    let ended = serve(rt.alloc(), config, &mut world, 100);
+    Ok(Seen {
+        ended,
+        read: mem::replace(&mut world.peers.read, Vec::new(rt.alloc())),
+        reads: world.peers.reads,
+        asked: mem::replace(&mut world.peers.asked, Vec::new(rt.alloc())),
+    })
+}
+
+/// A client read the greeting and then these frames, and left.
+fn assert_read(rt: &impl Abort, seen: &Seen, frames: &[u8]) {
+    let ended = &seen.ended;
+    assert!(rt; matches!(ended, Ok(Ended::Closed)));
+    let (greeting, rest) = seen.read.split_at(GREETING.len().min(seen.read.len()));
+    assert_eq!(rt; greeting, GREETING);
+    assert_eq!(rt; rest, frames);
+}
+
+/// A client that asks an upstream which answers with these pieces, and then closes, reads these frames.
+fn assert_goes_back(
+    rt: &impl Abort,
+    host: &HostRuntime,
+    pieces: &[&[u8]],
+    frames: &[u8],
+) -> Result<(), Fail> {
+    let config = one_route(host.alloc())?;
+    let upstream = quiet_listener(host)?;
+    let address = upstream.local_addr()?;
+    let visit = Visit {
+        sent: REQUEST,
+        answers: 1,
+        pieces,
+        enough: GREETING.len().saturating_add(frames.len()),
+    };
+    let seen = serve_visit(host, &config, &visit, upstream, address)?;
+    assert_read(rt, &seen, frames);
+    assert_eq!(rt; seen.asked.as_slice(), TEXT);
     Ok(())
 }
 
 #[test]
-fn an_upstream_that_ends_within_chunks_is_a_bad_gateway(rt: HostRuntime) -> Result<(), Fail> {
+fn a_request_goes_there_and_back(rt: HostRuntime) -> Result<(), Fail> {
+    assert_goes_back(&rt, &rt, &[], FRAMES)
+}
+
+#[test]
+fn responses_go_back_once_they_are_whole(rt: HostRuntime) -> Result<(), Fail> {
+    assert_goes_back(&rt, &rt, &[SAME_LENGTHS], FRAMES)?;
+    assert_goes_back(&rt, &rt, &[TWO_LENGTHS], BAD_GATEWAY)?;
+    assert_goes_back(&rt, &rt, &[b"junk"], BAD_GATEWAY)?;
+    assert_goes_back(&rt, &rt, &CHUNKS, CHUNK_FRAMES)?;
+    assert_goes_back(&rt, &rt, &CHUNKS[..2], BAD_GATEWAY)
+}
+
+#[test]
+fn an_upstream_that_is_down_is_no_fault_of_the_world(rt: HostRuntime) -> Result<(), Fail> {
     let config = one_route(rt.alloc())?;
-    let upstream = quiet_listener(&rt)?;
-    let addresses = [upstream.local_addr()?];
-    let pieces = owned(rt.alloc(), &CHUNKS[..2])?;
-    let read = read_of(&rt, &addresses, &config, upstream, pieces, BAD_GATEWAY)?;
-    assert!(rt; read.starts_with(GREETING));
-    assert!(rt; read.ends_with(BAD_GATEWAY));
+    let down = quiet_listener(&rt)?.local_addr()?;
+    let visit = Visit {
+        sent: REQUEST,
+        answers: 1,
+        pieces: &[],
+        enough: GREETING.len() + BAD_GATEWAY.len(),
+    };
+    let seen = serve_visit(&rt, &config, &visit, quiet_listener(&rt)?, down)?;
+    assert_read(&rt, &seen, BAD_GATEWAY);
     Ok(())
 }
 
@@ -362,11 +369,16 @@ fn an_upstream_that_ends_within_chunks_is_a_bad_gateway(rt: HostRuntime) -> Resu
 fn a_request_without_a_route_is_not_found(rt: HostRuntime) -> Result<(), Fail> {
     let config = route_of(rt.alloc(), b"a.example")?;
     let upstream = quiet_listener(&rt)?;
-    let addresses = [upstream.local_addr()?];
-    let pieces = Vec::new(rt.alloc());
-    let read = read_of(&rt, &addresses, &config, upstream, pieces, NOT_FOUND)?;
-    assert!(rt; read.starts_with(GREETING));
-    assert!(rt; read.ends_with(NOT_FOUND));
+    let address = upstream.local_addr()?;
+    let visit = Visit {
+        sent: REQUEST,
+        answers: 1,
+        pieces: &[],
+        enough: GREETING.len() + NOT_FOUND.len(),
+    };
+    let seen = serve_visit(&rt, &config, &visit, upstream, address)?;
+    assert_read(&rt, &seen, NOT_FOUND);
+    assert!(rt; seen.asked.is_empty());
     Ok(())
 }
 
@@ -412,40 +424,25 @@ fn a_client_that_breaks_off_is_one(rt: HostRuntime) -> Result<(), Fail> {
     Ok(())
 }
 
+/// The request on three streams.
+const THREE: &[u8] =
+    b"PRI * HTTP/2.0\r\n\r\nSM\r\n\r\n\0\0\0\x04\0\0\0\0\0\0\0\x14\x01\x05\0\0\0\x01\x82\x86\x84\x41\x0fwww.example.com\0\0\x04\x01\x05\0\0\0\x03\x82\x86\x84\xbe\0\0\x04\x01\x05\0\0\0\x05\x82\x86\x84\xbe";
+
 #[test]
 fn responses_that_are_there_go_back_in_one_write(rt: HostRuntime) -> Result<(), Fail> {
     let config = one_route(rt.alloc())?;
     let upstream = quiet_listener(&rt)?;
-    let addresses = [upstream.local_addr()?];
-    let (mut client, far) = pair(&rt)?;
-    client.write_all(REQUEST)?;
-    client.write_all(MORE)?;
-    let far = mio::net::TcpStream::from_std(far);
-    let mut world = Loopback {
-        world: SocketWorld::new(rt.alloc(), &rt, &addresses, far)?,
-        peers: Peers {
-            upstream,
-            client: Some(client),
-            enough: GREETING.len() + JOINED.len(),
-            read: Vec::new(rt.alloc()),
-            reads: 0,
-            asked: Vec::new(rt.alloc()),
-            answers: 3,
-            waiting: Vec::new(rt.alloc()),
-            pieces: Vec::new(rt.alloc()),
-            answering: None,
-        },
+    let address = upstream.local_addr()?;
+    let visit = Visit {
+        sent: THREE,
+        answers: 3,
+        pieces: &[],
+        enough: GREETING.len() + JOINED.len(),
     };
-    let ended = serve(rt.alloc(), &config, &mut world, 100);
-    assert_eq!(rt; ended, Ok(Ended::Closed));
-    let (greeting, frames) = world
-        .peers
-        .read
-        .split_at(GREETING.len().min(world.peers.read.len()));
-    assert_eq!(rt; greeting, GREETING);
-    assert_eq!(rt; frames, JOINED);
+    let seen = serve_visit(&rt, &config, &visit, upstream, address)?;
+    assert_read(&rt, &seen, JOINED);
     // The greeting, and then all three: each in a write of its own would be read in as many reads more.
-    assert!(rt; world.peers.reads < 4);
+    assert!(rt; seen.reads < 4);
     Ok(())
 }
 
@@ -462,9 +459,12 @@ fn what_is_put_out_goes_out_where_the_turns_end(rt: HostRuntime) -> Result<(), F
     world.finish()?;
     let mut room = [0u8; 256];
     let count = client.read(&mut room)?;
-    assert!(rt; room[..count].starts_with(GREETING));
+    assert_eq!(rt; &room[..count], GREETING);
     Ok(())
 }
+
+/// The gateway's settings, which go out before all else.
+const SETTINGS: &[u8] = b"\0\0\x0c\x04\0\0\0\0\0\0\x03\0\0\0\x64\0\x06\0\0\x40\0";
 
 /// The farewell behind a wrong preface (RFC 9113, sections 3.4 and 6.8).
 const FAREWELL: &[u8] = b"\0\0\x08\x07\0\0\0\0\0\0\0\0\0\0\0\0\x01";
@@ -490,7 +490,9 @@ fn a_client_that_sends_on_reads_why_it_was_left(rt: HostRuntime) -> Result<(), F
     // Were octets left unread, the socket would be reset, and what was written might be lost.
     let mut read = Vec::new(rt.alloc());
     client.read_to_end(&mut read)?;
-    assert!(rt; read.ends_with(FAREWELL));
+    let (settings, farewell) = read.split_at(SETTINGS.len().min(read.len()));
+    assert_eq!(rt; settings, SETTINGS);
+    assert_eq!(rt; farewell, FAREWELL);
     Ok(())
 }
 

@@ -3,9 +3,10 @@
 ghost use Rattle.gateway.specs.Setups.{setup_of, IsServable};
 
 use super::*;
-use crate::runs::{Told, drive};
+use crate::runs::{Told, Upstream, drive};
 use frames::{Split, View, split};
 use std::process::Abort;
+use std::str;
 
 /// What was seen of the frames of a client: how many requests have ended, and whether the header block that is begun ends one.
 #[derive(Clone, Copy)]
@@ -50,17 +51,64 @@ fn ended_in(octets: &[u8]) -> usize {
     seen.ended
 }
 
-/// Whether all was closed, and upstreams were sent whole requests alone, as in the whole run, and no more than the client had ended.
-fn is_left_well(told: &Told, whole: &Told, octets: &[u8]) -> bool {
-    if !told.is_over || told.strays > 0 || told.upstreams.len() > ended_in(octets) {
+/// What stands before the length that a head declares.
+const LENGTH: &[u8] = b"\r\ncontent-length: ";
+
+/// The length that a request declares.
+fn declared(text: &[u8]) -> Option<usize> {
+    let place = place_of(text, LENGTH)?;
+    let value = text.get(place.saturating_add(LENGTH.len())..)?;
+    let end = place_of(value, b"\r\n")?;
+    str::from_utf8(value.get(..end)?).ok()?.parse().ok()
+}
+
+/// Whether a text is a whole request: behind its head stand chunks up to the last, or as many octets as it declares, or none.
+fn is_whole_request(text: &[u8]) -> bool {
+    let Some(body) = body_of(text) else {
         return false;
+    };
+    if place_of(text, b"\r\ntransfer-encoding: chunked\r\n").is_some() {
+        return body.ends_with(b"0\r\n\r\n");
     }
-    for (upstream, other) in told.upstreams.iter().zip(&whole.upstreams) {
-        if !upstream.is_closed || upstream.text.as_slice() != other.text.as_slice() {
+    body.len() == declared(text).unwrap_or(0)
+}
+
+/// How many of these upstreams were sent a whole request.
+fn whole_requests(upstreams: &[Upstream]) -> usize {
+    let mut count = 0usize;
+    for upstream in upstreams {
+        if is_whole_request(&upstream.text) {
+            count = count.saturating_add(1);
+        }
+    }
+    count
+}
+
+/// Whether all connections were closed, and were sent fronts of what they're sent in the whole run; where bodies are passed on whole, all of it.
+fn are_fronts(upstreams: &[Upstream], others: &[Upstream], passes_whole: bool) -> bool {
+    for (upstream, other) in upstreams.iter().zip(others) {
+        if !upstream.is_closed || !other.text.starts_with(&upstream.text) {
+            return false;
+        }
+        if passes_whole && upstream.text.len() < other.text.len() {
             return false;
         }
     }
-    told.upstreams.len() <= whole.upstreams.len()
+    upstreams.len() <= others.len()
+}
+
+/// Whether all was closed, and upstreams were sent no more whole requests than the client had ended, and else fronts of what they're sent in the whole run; where
+/// bodies are passed on whole, whole requests alone.
+fn is_left_well(told: &Told, whole: &Told, octets: &[u8], passing: Passing) -> bool {
+    let passes_whole = matches!(passing, Passing::Whole);
+    let requests = whole_requests(&told.upstreams);
+    if passes_whole && requests != told.upstreams.len() {
+        return false;
+    }
+    told.is_over
+        && told.strays == 0
+        && requests <= ended_in(octets)
+        && are_fronts(&told.upstreams, &whole.upstreams, passes_whole)
 }
 
 /// The first cut of a piece at which it is wrong what is put out, where the client goes away there; `came` came before it, and is left as it was.
@@ -75,7 +123,10 @@ fn wrong_cut(
     requires { IsServable (setup_of config.now) }
 {
     let start = came.len();
-    for cut in (0..piece.len() + 1).step_by(step_of(piece.len())) {
+    for cut in 0..piece.len() + 1 {
+        if !is_cut(cut, piece.len()) {
+            continue;
+        }
         let front = piece.get(..cut).unwrap_or(piece);
         came.truncate(start);
         came.extend_from_slice(front)?;
@@ -84,7 +135,7 @@ fn wrong_cut(
             Event::ClientEnd,
         ];
         let told = drive(alloc, config, before, &more)?;
-        if !is_left_well(&told, whole, came) {
+        if !is_left_well(&told, whole, came, config.passing) {
             return Ok(Some(cut));
         }
     }
@@ -109,7 +160,7 @@ fn assert_left_well(
         let Event::Client(piece) = event else {
             continue;
         };
-        if place % step_of(events.len()) == 0 {
+        if is_cut(place, events.len()) {
             let before = events.get(..place).unwrap_or(&[]);
             let wrong = wrong_cut(alloc, config, before, piece, &whole, &mut came)?;
             assert_eq!(rt; wrong, None, "at {name}, event {place}");
@@ -156,6 +207,20 @@ fn client_goes_away_by_other_configurations(rt: HostRuntime) -> Result<(), Fail>
     assert_rows_left_well(&rt, alloc, &one_authority(alloc)?, &ONE_AUTHORITY)?;
     assert_rows_left_well(&rt, alloc, &three_routes(alloc)?, &THREE_ROUTES)?;
     assert_rows_left_well(&rt, alloc, &small(alloc)?, &SMALL)
+}
+
+#[test]
+fn client_goes_away_as_bodies_come(rt: HostRuntime) -> Result<(), Fail> {
+    let alloc = rt.alloc();
+    let plain = one_route(alloc, Policy::Plain, Passing::Streaming)?;
+    assert_rows_left_well(&rt, alloc, &plain, &PASSED_AS_IT_COMES)?;
+    assert_rows_left_well(&rt, alloc, &plain, &UNTAKEN)?;
+    assert_rows_left_well(&rt, alloc, &plain, &PASSED_ON)?;
+    assert_rows_left_well(&rt, alloc, &plain, &MALFORMED)?;
+    assert_rows_left_well(&rt, alloc, &plain, &ANSWERED)?;
+    assert_rows_left_well(&rt, alloc, &plain, &IN_TURN)?;
+    let indexing = one_route(alloc, Policy::Indexing, Passing::Streaming)?;
+    assert_rows_left_well(&rt, alloc, &indexing, &INDEXED_AS_IT_COMES)
 }
 
 #[test]

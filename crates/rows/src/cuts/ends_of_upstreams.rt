@@ -3,52 +3,129 @@
 ghost use Rattle.gateway.specs.Setups.{setup_of, IsServable};
 
 use super::*;
-use crate::runs::{Told, drive};
+use crate::runs::{Told, Upstream, drive};
+use frames::{Split, View, split};
 use std::process::Abort;
 
-/// The gateway's status 502, as a literal, and as Huffman text that is inserted.
-const FAILED: [&[u8]; 2] = [b"\x08\x03502", b"\x48\x82\x6c\x02"];
+/// The block of the gateway's reply 502, as the plain policy writes it.
+const REPLY: &[u8] = b"\x08\x03502\x0f\x0d\x010";
 
-/// Whether a part stands somewhere in octets.
-fn contains(octets: &[u8], part: &[u8]) -> bool {
-    for start in 0..octets.len() {
-        if octets[start..].starts_with(part) {
-            return true;
-        }
-    }
-    part.is_empty()
+/// Its status as Huffman text that is inserted.
+const INSERTED_STATUS: &[u8] = b"\x48\x82\x6c\x02";
+
+/// The block of a response with the status 200 and no fields.
+const STATUS_200: &[u8] = b"\x88";
+
+/// New maxima of the table, which a block may begin with.
+const MAXIMA: &[u8] = b"\x20\x3f\xe1\x1f";
+
+/// Whether a frame is the gateway's reply 502, which ends its stream.
+fn is_reply(view: View<'_>) -> bool {
+    let fields = view.payload.strip_prefix(MAXIMA).unwrap_or(view.payload);
+    view.kind == 1
+        && view.flags == 5
+        && (fields == REPLY || place_of(fields, INSERTED_STATUS).is_some())
 }
 
-/// Whether octets are one frame, the whole block of a response with the status 502 and nothing behind it.
-fn is_failure(octets: &[u8]) -> bool {
-    let Ok(length) = u8::try_from(octets.len().saturating_sub(9)) else {
+/// Whether octets are nothing, or octets that go back to the connection.
+fn gives_back(octets: &[u8]) -> bool {
+    match split(octets) {
+        Split::Frame(view, used) => view.kind == 8 && view.id == 0 && used == octets.len(),
+        _ => octets.is_empty(),
+    }
+}
+
+/// Whether octets begin with a reset of a stream by this code, behind which octets go back at most.
+fn is_reset(octets: &[u8], code: u8) -> bool {
+    match split(octets) {
+        Split::Frame(view, used) => {
+            view.kind == 3
+                && view.payload == [0, 0, 0, code].as_slice()
+                && gives_back(octets.get(used..).unwrap_or(&[]))
+        }
+        _ => false,
+    }
+}
+
+/// Whether octets are the reply 502, behind which the stream is reset where its request hasn't ended.
+fn is_replied(octets: &[u8]) -> bool {
+    match split(octets) {
+        Split::Frame(view, used) => {
+            let rest = octets.get(used..).unwrap_or(&[]);
+            is_reply(view) && (gives_back(rest) || is_reset(rest, 0))
+        }
+        _ => false,
+    }
+}
+
+/// Whether octets are a frame of DATA that ends stream 1 with this.
+fn ends_with_data(octets: &[u8], body: &[u8]) -> bool {
+    match split(octets) {
+        Split::Frame(view, used) => {
+            let is_end = view.kind == 0 && view.id == 1 && view.flags == 1;
+            is_end && view.payload == body && used == octets.len()
+        }
+        _ => false,
+    }
+}
+
+/// Whether octets are the status 200 and this body, all of a response on stream 1.
+fn is_response(octets: &[u8], body: &[u8]) -> bool {
+    let Split::Frame(head, used) = split(octets) else {
         return false;
     };
-    octets.starts_with(&[0, 0, length, 1, 5])
-        && (contains(octets, FAILED[0]) || contains(octets, FAILED[1]))
+    if head.kind != 1 || head.id != 1 || head.payload != STATUS_200 {
+        return false;
+    }
+    let rest = octets.get(used..).unwrap_or(&[]);
+    if body.is_empty() {
+        return head.flags == 5 && rest.is_empty();
+    }
+    head.flags == 4 && ends_with_data(rest, body)
 }
 
-/// Whether a response of which so much was heard is ended by the end of the connection. In the tables that is the one without a length, of
-/// HTTP/1.0.
-fn is_ended_by_end(heard: &[u8]) -> bool {
-    heard.starts_with(b"HTTP/1.0") && contains(heard, b"\r\n\r\n")
-}
-
-/// What stands behind the head of a response.
-fn body_of(heard: &[u8]) -> &[u8] {
-    for start in 0..heard.len() {
-        if heard[start..].starts_with(b"\r\n\r\n") {
-            return heard.get(start.saturating_add(4)..).unwrap_or(&[]);
+/// What was heard behind interim heads.
+fn behind_hints(heard: &[u8]) -> &[u8] {
+    let mut rest = heard;
+    for _ in 0..heard.len() {
+        if !rest.starts_with(b"HTTP/1.1 1") {
+            return rest;
+        }
+        match body_of(rest) {
+            Some(behind) => rest = behind,
+            None => return rest,
         }
     }
-    &[]
+    rest
+}
+
+/// Whether what is put out last is right where an upstream ends, or fails, of which this was heard: where the end completes the response (in the tables, one of
+/// HTTP/1.0 without a length), all of it, or what is left; else 502, or a reset where the response's head went out.
+fn is_told_well(last: &[u8], heard: &[u8], is_end: bool, passing: Passing) -> bool {
+    let body = body_of(behind_hints(heard));
+    let is_ended = is_end && heard.starts_with(b"HTTP/1.0");
+    match (body, passing) {
+        (Some(body), Passing::Whole) if is_ended => is_response(last, body),
+        (Some(_), Passing::Streaming) if is_ended => ends_with_data(last, b""),
+        (Some(_), Passing::Streaming) => is_reset(last, 2),
+        _ => is_replied(last),
+    }
+}
+
+/// Whether the other connections are open or closed as they are where the whole piece comes.
+fn are_others_alike(upstreams: &[Upstream], others: &[Upstream], k: u32) -> bool {
+    for (place, (upstream, other)) in upstreams.iter().zip(others).enumerate() {
+        if place.saturating_add(1) != k as usize && upstream.is_closed != other.is_closed {
+            return false;
+        }
+    }
+    upstreams.len() == others.len()
 }
 
 /// Whether what is put out for the client is right where an upstream ends, or fails. Where its connection was closed before, that is what is put out where
-/// the whole piece comes, whose front decided it (`whole`); where the client takes nothing it is nothing yet; else it is the response with all that came of its
-/// body, where the end completes it, or 502.
-fn is_ended_well(told: &Told, whole: &Told, k: u32, is_end: bool) -> bool {
-    if told.strays > 0 {
+/// the whole piece comes, whose front decided it (`whole`); where the client takes nothing it is nothing yet.
+fn is_ended_well(told: &Told, whole: &Told, k: u32, is_end: bool, passing: Passing) -> bool {
+    if told.strays > 0 || !are_others_alike(&told.upstreams, &whole.upstreams, k) {
         return false;
     }
     if !told.came {
@@ -59,10 +136,9 @@ fn is_ended_well(told: &Told, whole: &Told, k: u32, is_end: bool) -> bool {
         return last.is_empty();
     }
     match told.upstream(k) {
-        Some(upstream) if is_end && is_ended_by_end(&upstream.heard) => {
-            !is_failure(last) && !last.is_empty() && last.ends_with(body_of(&upstream.heard))
+        Some(upstream) => {
+            upstream.is_closed && is_told_well(last, &upstream.heard, is_end, passing)
         }
-        Some(upstream) => is_failure(last) && upstream.is_closed,
         None => false,
     }
 }
@@ -77,9 +153,13 @@ fn wrong_cut(
 ) -> Result<Option<usize>, Fail>
     requires { IsServable (setup_of config.now) }
 {
+    let passing = config.passing;
     let whole = [Event::Up(k, Vec::from_slice(alloc, piece)?)];
     let whole = drive(alloc, config, before, &whole)?;
-    for cut in (1..piece.len() + 1).step_by(step_of(piece.len())) {
+    for cut in 1..piece.len() + 1 {
+        if !is_cut(cut, piece.len()) {
+            continue;
+        }
         let front = piece.get(..cut).unwrap_or(piece);
         let ends = [
             Event::Up(k, Vec::from_slice(alloc, front)?),
@@ -89,9 +169,19 @@ fn wrong_cut(
             Event::Up(k, Vec::from_slice(alloc, front)?),
             Event::UpFailed(k),
         ];
-        if !is_ended_well(&drive(alloc, config, before, &ends)?, &whole, k, true)
-            || !is_ended_well(&drive(alloc, config, before, &fails)?, &whole, k, false)
-        {
+        if !is_ended_well(
+            &drive(alloc, config, before, &ends)?,
+            &whole,
+            k,
+            true,
+            passing,
+        ) || !is_ended_well(
+            &drive(alloc, config, before, &fails)?,
+            &whole,
+            k,
+            false,
+            passing,
+        ) {
             return Ok(Some(cut));
         }
     }
@@ -149,4 +239,17 @@ fn upstreams_go_away(rt: HostRuntime) -> Result<(), Fail> {
     assert_ended_well(&rt, alloc, &plain, "ten thousand streams", &transcript)?;
     let indexing = one_route(alloc, Policy::Indexing, Passing::Whole)?;
     assert_rows_ended_well(&rt, alloc, &indexing, &INDEXING)
+}
+
+#[test]
+fn upstreams_go_away_as_bodies_come(rt: HostRuntime) -> Result<(), Fail> {
+    let alloc = rt.alloc();
+    let plain = one_route(alloc, Policy::Plain, Passing::Streaming)?;
+    assert_rows_ended_well(&rt, alloc, &plain, &PASSED_AS_IT_COMES)?;
+    assert_rows_ended_well(&rt, alloc, &plain, &PASSED_BACK)?;
+    assert_rows_ended_well(&rt, alloc, &plain, &BROKEN)?;
+    assert_rows_ended_well(&rt, alloc, &plain, &WAITING)?;
+    assert_rows_ended_well(&rt, alloc, &plain, &IN_TURN)?;
+    let indexing = one_route(alloc, Policy::Indexing, Passing::Streaming)?;
+    assert_rows_ended_well(&rt, alloc, &indexing, &INDEXED_AS_IT_COMES)
 }

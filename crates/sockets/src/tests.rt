@@ -279,22 +279,22 @@ fn peers_of(
     })
 }
 
-/// Serves a visit, where the upstream listens, and is reached at this address.
-fn serve_visit(
-    rt: &HostRuntime,
+/// Serves a visit, where the upstream listens, and is reached at the one of these addresses.
+fn serve_visit<'a>(
+    rt: &'a HostRuntime,
+    addresses: &'a [SocketAddr],
     config: &Config,
     visit: &Visit<'_>,
     upstream: TcpListener,
-    address: SocketAddr,
 ) -> Result<Seen, Fail>
     requires { IsServable (setup_of config.now) }
 {
-    let addresses = [address];
     let (client, far) = pair(rt)?;
     let far = mio::net::TcpStream::from_std(far);
+    let peers = peers_of(rt, visit, upstream, client)?;
     let mut world = Loopback {
-        world: SocketWorld::new(rt.alloc(), rt, &addresses, far)?,
-        peers: peers_of(rt, visit, upstream, client)?,
+        world: SocketWorld::new(rt.alloc(), rt, addresses, far)?,
+        peers,
     };
     let ended = serve(rt.alloc(), config, &mut world, 100);
     Ok(Seen {
@@ -323,14 +323,14 @@ fn assert_goes_back(
 ) -> Result<(), Fail> {
     let config = one_route(host.alloc())?;
     let upstream = quiet_listener(host)?;
-    let address = upstream.local_addr()?;
+    let addresses = [upstream.local_addr()?];
     let visit = Visit {
         sent: REQUEST,
         answers: 1,
         pieces,
         enough: GREETING.len().saturating_add(frames.len()),
     };
-    let seen = serve_visit(host, &config, &visit, upstream, address)?;
+    let seen = serve_visit(host, &addresses, &config, &visit, upstream)?;
     assert_read(rt, &seen, frames);
     assert_eq!(rt; seen.asked.as_slice(), TEXT);
     Ok(())
@@ -353,14 +353,14 @@ fn responses_go_back_once_they_are_whole(rt: HostRuntime) -> Result<(), Fail> {
 #[test]
 fn an_upstream_that_is_down_is_no_fault_of_the_world(rt: HostRuntime) -> Result<(), Fail> {
     let config = one_route(rt.alloc())?;
-    let down = quiet_listener(&rt)?.local_addr()?;
+    let addresses = [quiet_listener(&rt)?.local_addr()?];
     let visit = Visit {
         sent: REQUEST,
         answers: 1,
         pieces: &[],
         enough: GREETING.len() + BAD_GATEWAY.len(),
     };
-    let seen = serve_visit(&rt, &config, &visit, quiet_listener(&rt)?, down)?;
+    let seen = serve_visit(&rt, &addresses, &config, &visit, quiet_listener(&rt)?)?;
     assert_read(&rt, &seen, BAD_GATEWAY);
     Ok(())
 }
@@ -369,14 +369,14 @@ fn an_upstream_that_is_down_is_no_fault_of_the_world(rt: HostRuntime) -> Result<
 fn a_request_without_a_route_is_not_found(rt: HostRuntime) -> Result<(), Fail> {
     let config = route_of(rt.alloc(), b"a.example")?;
     let upstream = quiet_listener(&rt)?;
-    let address = upstream.local_addr()?;
+    let addresses = [upstream.local_addr()?];
     let visit = Visit {
         sent: REQUEST,
         answers: 1,
         pieces: &[],
         enough: GREETING.len() + NOT_FOUND.len(),
     };
-    let seen = serve_visit(&rt, &config, &visit, upstream, address)?;
+    let seen = serve_visit(&rt, &addresses, &config, &visit, upstream)?;
     assert_read(&rt, &seen, NOT_FOUND);
     assert!(rt; seen.asked.is_empty());
     Ok(())
@@ -432,14 +432,14 @@ const THREE: &[u8] =
 fn responses_that_are_there_go_back_in_one_write(rt: HostRuntime) -> Result<(), Fail> {
     let config = one_route(rt.alloc())?;
     let upstream = quiet_listener(&rt)?;
-    let address = upstream.local_addr()?;
+    let addresses = [upstream.local_addr()?];
     let visit = Visit {
         sent: THREE,
         answers: 3,
         pieces: &[],
         enough: GREETING.len() + JOINED.len(),
     };
-    let seen = serve_visit(&rt, &config, &visit, upstream, address)?;
+    let seen = serve_visit(&rt, &addresses, &config, &visit, upstream)?;
     assert_read(&rt, &seen, JOINED);
     // The greeting, and then all three: each in a write of its own would be read in as many reads more.
     assert!(rt; seen.reads < 4);

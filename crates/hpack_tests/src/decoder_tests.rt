@@ -62,6 +62,8 @@ const AUTHORITY: Line<'static> = (b":authority", b"www.example.com");
 
 const NO_CACHE: Line<'static> = (b"cache-control", b"no-cache");
 
+const CUSTOM: Line<'static> = (b"custom-key", b"custom-value");
+
 #[test]
 fn a_request_is_decoded(rt: HostRuntime) {
     let fields = [METHOD, SCHEME, PATH, AUTHORITY];
@@ -115,7 +117,7 @@ const THIRD_FIELDS: &[Line<'static>] = &[
     (b":scheme", b"https"),
     (b":path", b"/index.html"),
     AUTHORITY,
-    (b"custom-key", b"custom-value"),
+    CUSTOM,
 ];
 
 // RFC 7541, appendix C.4.
@@ -127,6 +129,49 @@ fn blocks_share_a_table(rt: HostRuntime) {
         (THIRD, 16384, Wanted::Fields(THIRD_FIELDS)),
     ];
     assert_eq!(rt; first_that_differs(rt.alloc(), &steps), None);
+}
+
+/// Behind these blocks a maximum of the table's size keeps all its entries, and one less drops the oldest: the sizes are 57, 110 and 164.
+static SIZE_BEHIND_FIRST: [Step<'static>; 3] = [
+    (FIRST, 16384, Wanted::Fields(FIRST_FIELDS)),
+    (b"\x3f\x1a\xbe", 16384, Wanted::Fields(&[AUTHORITY])),
+    (b"\x3f\x19\xbe", 16384, Wanted::Fault(DecodeFault::Index)),
+];
+
+static SIZE_BEHIND_SECOND: [Step<'static>; 5] = [
+    (FIRST, 16384, Wanted::Fields(FIRST_FIELDS)),
+    (SECOND, 16384, Wanted::Fields(SECOND_FIELDS)),
+    (
+        b"\x3f\x4f\xbe\xbf",
+        16384,
+        Wanted::Fields(&[NO_CACHE, AUTHORITY]),
+    ),
+    (b"\x3f\x4e\xbe", 16384, Wanted::Fields(&[NO_CACHE])),
+    (b"\xbf", 16384, Wanted::Fault(DecodeFault::Index)),
+];
+
+static SIZE_BEHIND_THIRD: [Step<'static>; 6] = [
+    (FIRST, 16384, Wanted::Fields(FIRST_FIELDS)),
+    (SECOND, 16384, Wanted::Fields(SECOND_FIELDS)),
+    (THIRD, 16384, Wanted::Fields(THIRD_FIELDS)),
+    (
+        b"\x3f\x85\x01\xbe\xbf\xc0",
+        16384,
+        Wanted::Fields(&[CUSTOM, NO_CACHE, AUTHORITY]),
+    ),
+    (
+        b"\x3f\x84\x01\xbe\xbf",
+        16384,
+        Wanted::Fields(&[CUSTOM, NO_CACHE]),
+    ),
+    (b"\xc0", 16384, Wanted::Fault(DecodeFault::Index)),
+];
+
+#[test]
+fn tables_have_the_sizes_of_the_standard(rt: HostRuntime) {
+    assert_eq!(rt; first_that_differs(rt.alloc(), &SIZE_BEHIND_FIRST), None);
+    assert_eq!(rt; first_that_differs(rt.alloc(), &SIZE_BEHIND_SECOND), None);
+    assert_eq!(rt; first_that_differs(rt.alloc(), &SIZE_BEHIND_THIRD), None);
 }
 
 #[test]

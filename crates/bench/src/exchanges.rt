@@ -103,17 +103,37 @@ pub(crate) fn exchange(alloc: Global, rounds: u32, made: &mut Made) -> Option<()
     Some(())
 }
 
-/// The requests of one connection and their responses.
+/// Decodes the next block and writes its request.
+fn send_next(alloc: Global, decoder: &mut Decoder, block: &[u8], out: &mut Vec<u8>) -> Option<()> {
+    let request = next_fields(alloc, decoder, block)?;
+    send_one(alloc, &request, out)
+}
+
+/// Reads a response's head and encodes it.
+fn answer_next(alloc: Global, encoder: &mut Encoder, out: &mut Vec<u8>) -> Option<()> {
+    let response = fields_of(alloc, SMALL_HEAD)?;
+    encode_one(encoder, &response, out)
+}
+
+/// The requests of one connection and their responses, over its tables.
+fn exchange_all(
+    alloc: Global,
+    decoder: &mut Decoder,
+    encoder: &mut Encoder,
+    out: &mut Vec<u8>,
+) -> Option<()> {
+    for place in 0..REQUESTS {
+        send_next(alloc, decoder, block_at(place), out)?;
+        answer_next(alloc, encoder, out)?;
+    }
+    Some(())
+}
+
+/// The same over new tables.
 fn exchange_once(alloc: Global, out: &mut Vec<u8>) -> Option<()> {
     let mut decoder = Decoder::new(alloc, FIRST_MAXIMUM);
     let mut encoder = Encoder::new(alloc, Policy::Plain);
-    for place in 0..REQUESTS {
-        let request = next_fields(alloc, &mut decoder, block_at(place))?;
-        send_one(alloc, &request, out)?;
-        let response = fields_of(alloc, SMALL_HEAD)?;
-        encode_one(&mut encoder, &response, out)?;
-    }
-    Some(())
+    exchange_all(alloc, &mut decoder, &mut encoder, out)
 }
 
 /// Decodes the blocks of 100 requests.

@@ -48,9 +48,8 @@ fn block_at(place: u32) -> &'static [u8] {
     }
 }
 
-/// The HEADERS frame of a connection's request at a place, the preface before the first one (RFC 9113, section 6.2).
-fn request_at(alloc: Global, place: u32) -> Option<Event> {
-    let mut octets = Vec::new(alloc);
+/// Adds the HEADERS frame of a connection's request at a place, the preface before the first one (RFC 9113, section 6.2).
+fn push_request(place: u32, octets: &mut Vec<u8>) -> Option<()> {
     if place == 0 {
         octets.extend_from_slice(BEGIN).ok()?;
     }
@@ -60,7 +59,13 @@ fn request_at(alloc: Global, place: u32) -> Option<Event> {
     octets.extend_from_slice(&length[1..]).ok()?;
     octets.extend_from_slice(&[1, 5]).ok()?;
     octets.extend_from_slice(&id).ok()?;
-    octets.extend_from_slice(block).ok()?;
+    octets.extend_from_slice(block).ok()
+}
+
+/// A connection's request at a place.
+fn request_at(alloc: Global, place: u32) -> Option<Event> {
+    let mut octets = Vec::new(alloc);
+    push_request(place, &mut octets)?;
     Some(Event::Client(octets))
 }
 
@@ -82,28 +87,40 @@ fn answer(alloc: Global, k: u32, events: &mut Vec<Event>) -> Option<()> {
     events.push(Event::Up(k, response)).ok()
 }
 
-/// How many octets for the client an answer takes.
-fn answer_octets(alloc: Global) -> Option<u64> {
-    let mut events = Vec::new(alloc);
-    events.push(request_at(alloc, 0)?).ok()?;
-    answer(alloc, 1, &mut events)?;
-    let outputs = run(alloc, &config(alloc)?, &events).ok()?;
-    Some(for_client(outputs.last()?))
+/// What each event puts out.
+fn steps_of(alloc: Global, config: &Config, events: &[Event]) -> Option<Vec<Vec<Output>>>
+    requires { IsServable (setup_of config.now) }
+{
+    run(alloc, config, events).ok()
 }
 
-/// The events of a connection.
-fn events_of(alloc: Global, load: Load) -> Option<Vec<Event>> {
+/// The events of a request that is answered.
+fn push_first(alloc: Global, events: &mut Vec<Event>) -> Option<()> {
+    events.push(request_at(alloc, 0)?).ok()?;
+    answer(alloc, 1, events)
+}
+
+/// How many octets for the client an answer takes.
+fn answer_octets(alloc: Global, config: &Config) -> Option<u64>
+    requires { IsServable (setup_of config.now) }
+{
     let mut events = Vec::new(alloc);
-    let count = answer_octets(alloc)?;
+    push_first(alloc, &mut events)?;
+    let steps = steps_of(alloc, config, &events)?;
+    Some(for_client(steps.last()?))
+}
+
+/// Adds the events of a connection, on which the client takes so many octets of each answer.
+fn push_events(alloc: Global, load: Load, count: u64, events: &mut Vec<Event>) -> Option<()> {
     let all = load.active.checked_add(load.answered)?;
     for place in 0..all {
         events.push(request_at(alloc, place)?).ok()?;
         if place >= load.active {
-            answer(alloc, place.checked_add(1)?, &mut events)?;
+            answer(alloc, place.checked_add(1)?, events)?;
             events.push(Event::ClientTook(count)).ok()?;
         }
     }
-    Some(events)
+    Some(())
 }
 
 /// Keeps the octets of outputs.
@@ -126,14 +143,29 @@ fn keep_all(steps: &[Vec<Output>], made: &mut Made) -> Option<()> {
     Some(())
 }
 
+/// A connection with these events.
+fn run_once(alloc: Global, config: &Config, events: &[Event], made: &mut Made) -> Option<()>
+    requires { IsServable (setup_of config.now) }
+{
+    made.clear();
+    let steps = steps_of(alloc, config, events)?;
+    keep_all(&steps, made)
+}
+
 /// A connection a round, each with the same events.
-pub(crate) fn get(alloc: Global, rounds: u32, made: &mut Made, load: Load) -> Option<()> {
-    let config = config(alloc)?;
-    let events = events_of(alloc, load)?;
+fn get_by(alloc: Global, config: &Config, rounds: u32, made: &mut Made, load: Load) -> Option<()>
+    requires { IsServable (setup_of config.now) }
+{
+    let count = answer_octets(alloc, config)?;
+    let mut events = Vec::new(alloc);
+    push_events(alloc, load, count, &mut events)?;
     for _ in 0..rounds {
-        made.clear();
-        let steps = run(alloc, &config, &events).ok()?;
-        keep_all(&steps, made)?;
+        run_once(alloc, config, &events, made)?;
     }
     Some(())
+}
+
+/// The same by one route for all requests.
+pub(crate) fn get(alloc: Global, rounds: u32, made: &mut Made, load: Load) -> Option<()> {
+    get_by(alloc, &config(alloc)?, rounds, made, load)
 }

@@ -67,22 +67,23 @@ struct Client {
     next: u32,
 }
 
+/// A route for all requests.
+fn routes_of(alloc: Global) -> Option<Vec<Route>> {
+    let route = Route {
+        authority: Vec::new(alloc),
+        prefix: Vec::from_slice(alloc, b"/").ok()?,
+    };
+    vec![in alloc; route].ok()
+}
+
 impl Client {
-    /// One whose settings came, and for whose requests there is a route.
+    /// One of whom nothing came yet, and for whose requests there is a route.
     fn new(alloc: Global) -> Option<Self> {
-        let mut routes = Vec::new(alloc);
-        let route = Route {
-            authority: Vec::new(alloc),
-            prefix: Vec::from_slice(alloc, b"/").ok()?,
-        };
-        routes.push(route).ok()?;
-        let mut client = Client {
+        Some(Client {
+            routes: routes_of(alloc)?,
             connection: Connection::new(alloc),
-            routes,
             next: 1,
-        };
-        client.judge(SETTINGS, 0, 0, b"")?;
-        Some(client)
+        })
     }
 
     /// A number for what comes of a frame.
@@ -131,20 +132,17 @@ impl Client {
         Some(())
     }
 
-    /// One with a single active stream.
-    fn with_one(alloc: Global) -> Option<Self> {
-        let mut client = Client::new(alloc)?;
-        client.begin()?;
-        Some(client)
-    }
-
-    /// One with 97 active streams and 9,000 that are over.
-    fn with_many(alloc: Global) -> Option<Self> {
-        let mut client = Client::new(alloc)?;
-        client.begin_active(BEFORE)?;
-        client.begin_over(OVER)?;
-        client.begin_active(BEHIND)?;
-        Some(client)
+    /// Its settings come, and then the requests that it has before a round: one that is active, or 97 and 9,000 that are over.
+    fn prepare(&mut self, streams: Streams) -> Option<()> {
+        self.judge(SETTINGS, 0, 0, b"")?;
+        match streams {
+            Streams::Few => self.begin_active(1),
+            Streams::Many => {
+                self.begin_active(BEFORE)?;
+                self.begin_over(OVER)?;
+                self.begin_active(BEHIND)
+            }
+        }
     }
 }
 
@@ -174,17 +172,27 @@ fn number_of_block(judged: BlockJudged) -> u8 {
     }
 }
 
-/// Judges frames, and keeps the numbers of what comes of them.
-fn judge_frames(client: &mut Client, judging: Judging, out: &mut Vec<u8>) -> Option<()> {
+/// Judges a frame, and gives the number of what comes of it.
+fn judge_one(client: &mut Client, judging: Judging) -> Option<u8> {
+    match judging {
+        Judging::Nothing => Some(0),
+        Judging::Ping => client.judge(PING, 0, 0, b"12345678"),
+        Judging::WindowUpdate => client.judge(WINDOW_UPDATE, 0, 1, b"\x00\x00\x00\x01"),
+        Judging::Data => client.judge(DATA, 0, 1, &CONTENT),
+        Judging::Headers => client.begin(),
+    }
+}
+
+/// Judges frames on a connection with these streams, and keeps the numbers of what comes of them.
+fn judge_frames(
+    client: &mut Client,
+    streams: Streams,
+    judging: Judging,
+    out: &mut Vec<u8>,
+) -> Option<()> {
+    client.prepare(streams)?;
     for _ in 0..FRAMES {
-        let number = match judging {
-            Judging::Nothing => 0,
-            Judging::Ping => client.judge(PING, 0, 0, b"12345678")?,
-            Judging::WindowUpdate => client.judge(WINDOW_UPDATE, 0, 1, b"\x00\x00\x00\x01")?,
-            Judging::Data => client.judge(DATA, 0, 1, &CONTENT)?,
-            Judging::Headers => client.begin()?,
-        };
-        out.push(number).ok()?;
+        out.push(judge_one(client, judging)?).ok()?;
     }
     Some(())
 }
@@ -199,11 +207,8 @@ pub(crate) fn judge(
 ) -> Option<()> {
     for _ in 0..rounds {
         made.clear();
-        let mut client = match streams {
-            Streams::Few => Client::with_one(alloc)?,
-            Streams::Many => Client::with_many(alloc)?,
-        };
-        judge_frames(&mut client, judging, &mut made.octets)?;
+        let mut client = Client::new(alloc)?;
+        judge_frames(&mut client, streams, judging, &mut made.octets)?;
     }
     Some(())
 }

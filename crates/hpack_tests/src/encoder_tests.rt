@@ -14,7 +14,10 @@ use std::test::*;
 fn short(octets: &[u8]) -> &[u8]
     ensures { length result.now ≤ 65536 }
 {
-    &octets[..octets.len().min(65536)]
+    match octets.get(..65536) {
+        Some(front) => front,
+        None => octets,
+    }
 }
 
 /// A field, whose strings are short.

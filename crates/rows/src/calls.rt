@@ -2,7 +2,9 @@
 
 ghost use Rattle.std.specs.Prelude.{IfOk};
 ghost use Rattle.gateway.specs.Setups.{setup_of, IsServable};
+ghost use Rattle.rows.specs.Driven.{IsDriven};
 
+use crate::runs::new_gateway;
 use gateway::{Config, Event, Gateway, Output, Passing, Policy, Route, RunFault, run, run_into};
 use std::alloc::{AllocError, Global};
 use std::string::String;
@@ -59,22 +61,28 @@ fn answer(alloc: Global, octets: &[u8]) -> Result<Event, AllocError> {
     Ok(Event::Up(1, Vec::from_slice(alloc, octets)?))
 }
 
-/// A gateway to which this came first, and what it answered.
-fn begun(alloc: Global, first: &Event) -> Result<(Gateway, Vec<Output>), Fail> {
-    let config = config(alloc, Passing::Whole)?;
-    let mut gateway = Gateway::new(alloc, &config)?;
-    let mut out = Vec::new(alloc);
-    if !gateway.admits(first) || gateway.step(first, &mut out).is_err() {
-        return Err("the event was refused".into());
-    }
-    Ok((gateway, out))
+/// A gateway to which nothing came, and which passes bodies on whole.
+fn whole_gateway(alloc: Global) -> Result<Gateway, AllocError>
+    ensures { IfOk result IsDriven }
+{
+    new_gateway(alloc, &config(alloc, Passing::Whole)?)
 }
 
-/// The rooms that a gateway lists.
-fn rooms_of(alloc: Global, gateway: &Gateway) -> Result<Vec<(u32, usize)>, AllocError> {
-    let mut rooms = Vec::new(alloc);
-    gateway.list_rooms(&mut rooms)?;
-    Ok(rooms)
+/// This comes, which may come, and is answered.
+fn take(gateway: &mut Gateway, event: &Event, out: &mut Vec<Output>) -> Result<(), Fail>
+    requires { IsDriven gateway.old }
+{
+    if !gateway.admits(event) || gateway.step(event, out).is_err() {
+        return Err("the event was refused".into());
+    }
+    Ok(())
+}
+
+/// What each of these events puts out.
+fn steps_of(alloc: Global, config: &Config, events: &[Event]) -> Result<Vec<Vec<Output>>, RunFault>
+    requires { IsServable (setup_of config.now) }
+{
+    run(alloc, config, events)
 }
 
 /// Why a run of these events is refused.
@@ -84,7 +92,7 @@ fn fault_of(
     events: &[Event],
 ) -> Result<Option<RunFault>, AllocError> {
     let config = config(alloc, passing)?;
-    Ok(run(alloc, &config, events).err())
+    Ok(steps_of(alloc, &config, events).err())
 }
 
 #[test]
@@ -94,11 +102,25 @@ fn a_configuration_bounds_what_is_held(rt: HostRuntime) -> Result<(), Fail> {
     Ok(())
 }
 
+/// Adds the rooms that a gateway lists to which these octets came first.
+fn list_behind(
+    alloc: Global,
+    gateway: &mut Gateway,
+    first: &[u8],
+    rooms: &mut Vec<(u32, usize)>,
+) -> Result<(), Fail>
+    requires { IsDriven gateway.old }
+{
+    take(gateway, &client(alloc, first)?, &mut Vec::new(alloc))?;
+    Ok(gateway.list_rooms(rooms)?)
+}
+
 /// The rooms that a gateway lists to which these octets came first.
 fn listed_behind(alloc: Global, first: &[u8]) -> Result<Vec<(u32, usize)>, Fail> {
-    let first = client(alloc, first)?;
-    let (gateway, _out) = begun(alloc, &first)?;
-    Ok(rooms_of(alloc, &gateway)?)
+    let mut gateway = whole_gateway(alloc)?;
+    let mut rooms = Vec::new(alloc);
+    list_behind(alloc, &mut gateway, first, &mut rooms)?;
+    Ok(rooms)
 }
 
 #[test]
@@ -109,33 +131,54 @@ fn open_connections_are_listed(rt: HostRuntime) -> Result<(), Fail> {
     Ok(())
 }
 
+/// The room of the first connection and of the next one behind these octets, which come first.
+fn rooms_behind(alloc: Global, gateway: &mut Gateway, first: &[u8]) -> Result<[usize; 2], Fail>
+    requires { IsDriven gateway.old }
+{
+    take(gateway, &client(alloc, first)?, &mut Vec::new(alloc))?;
+    Ok([gateway.room(1), gateway.room(2)])
+}
+
 #[test]
 fn open_connections_have_room(rt: HostRuntime) -> Result<(), Fail> {
-    let request = client(rt.alloc(), FIRST_REQUEST)?;
-    let (gateway, _out) = begun(rt.alloc(), &request)?;
-    assert_eq!(rt; gateway.room(1), 65536);
-    assert_eq!(rt; gateway.room(2), 0);
+    let mut gateway = whole_gateway(rt.alloc())?;
+    let rooms = rooms_behind(rt.alloc(), &mut gateway, FIRST_REQUEST)?;
+    assert_eq!(rt; rooms, [65536, 0]);
     Ok(())
+}
+
+/// Brings rooms up to date behind an event that comes first.
+fn update_behind(
+    alloc: Global,
+    gateway: &mut Gateway,
+    event: &Event,
+    rooms: &mut Vec<(u32, usize)>,
+) -> Result<(), Fail>
+    requires { IsDriven gateway.old }
+{
+    let mut out = Vec::new(alloc);
+    take(gateway, event, &mut out)?;
+    Ok(gateway.update_rooms(event, &out, rooms)?)
 }
 
 #[test]
 fn rooms_are_brought_up_to_date(rt: HostRuntime) -> Result<(), Fail> {
     let request = client(rt.alloc(), FIRST_REQUEST)?;
-    let (gateway, out) = begun(rt.alloc(), &request)?;
+    let mut gateway = whole_gateway(rt.alloc())?;
     let mut rooms = Vec::new(rt.alloc());
-    gateway.update_rooms(&request, &out, &mut rooms)?;
+    update_behind(rt.alloc(), &mut gateway, &request, &mut rooms)?;
     assert_eq!(rt; rooms.as_slice(), [(1, 65536)].as_slice());
     Ok(())
 }
 
 /// A request, its response, and the client's end.
 fn exchange(alloc: Global) -> Result<Vec<Event>, AllocError> {
-    let mut events = Vec::new(alloc);
-    events.push(client(alloc, FIRST_REQUEST)?)?;
-    events.push(Event::UpTook(1, 75))?;
-    events.push(answer(alloc, RESPONSE)?)?;
-    events.push(Event::ClientEnd)?;
-    Ok(events)
+    Ok(vec![in alloc;
+        client(alloc, FIRST_REQUEST)?,
+        Event::UpTook(1, 75),
+        answer(alloc, RESPONSE)?,
+        Event::ClientEnd,
+    ]?)
 }
 
 /// Whether a first request is answered: by settings and their acknowledgement, and the request on a first connection.
@@ -174,8 +217,7 @@ fn answer_exchange(steps: &[Vec<Output>]) -> bool {
 #[test]
 fn a_run_answers_each_event(rt: HostRuntime) -> Result<(), Fail> {
     let config = config(rt.alloc(), Passing::Whole)?;
-    let events = exchange(rt.alloc())?;
-    match run(rt.alloc(), &config, &events) {
+    match steps_of(rt.alloc(), &config, &exchange(rt.alloc())?) {
         Ok(steps) => assert!(rt; answer_exchange(&steps)),
         Err(_) => return Err("the run was refused".into()),
     }
@@ -191,28 +233,34 @@ fn a_run_names_the_first_event_that_may_not_come(rt: HostRuntime) -> Result<(), 
     Ok(())
 }
 
+/// Why a run of these events is refused, with what was put out before in place of what a list has.
+fn fault_behind(
+    alloc: Global,
+    events: &[Event],
+    outputs: &mut Vec<Vec<Output>>,
+) -> Result<Option<RunFault>, AllocError> {
+    let config = config(alloc, Passing::Whole)?;
+    Ok(run_into(alloc, &config, events, outputs).err())
+}
+
 #[test]
 fn what_was_put_out_before_an_event_that_may_not_come_is_told(rt: HostRuntime) -> Result<(), Fail> {
-    let config = config(rt.alloc(), Passing::Whole)?;
     let mut events = exchange(rt.alloc())?;
     events.push(Event::ClientEnd)?;
-    // What stood there before is gone.
-    let mut outputs = Vec::new(rt.alloc());
-    outputs.push(Vec::new(rt.alloc()))?;
-    let ran = run_into(rt.alloc(), &config, &events, &mut outputs);
-    assert!(rt; ran == Err(RunFault::NotAdmitted(4)));
+    let mut outputs = vec![in rt.alloc(); Vec::new(rt.alloc())]?;
+    let fault = fault_behind(rt.alloc(), &events, &mut outputs)?;
+    assert!(rt; fault == Some(RunFault::NotAdmitted(4)));
     assert!(rt; answer_exchange(&outputs));
     Ok(())
 }
 
 /// A request whose response has no window to go through, five octets of it, and so many more.
 fn waiting(alloc: Global, count: usize) -> Result<Vec<Event>, AllocError> {
-    let more = vec![in alloc; 0; count]?;
-    let mut events = Vec::new(alloc);
-    events.push(client(alloc, WITHOUT_WINDOW)?)?;
-    events.push(answer(alloc, FRONT)?)?;
-    events.push(answer(alloc, &more)?)?;
-    Ok(events)
+    Ok(vec![in alloc;
+        client(alloc, WITHOUT_WINDOW)?,
+        answer(alloc, FRONT)?,
+        Event::Up(1, vec![in alloc; 0; count]?),
+    ]?)
 }
 
 #[test]

@@ -132,6 +132,21 @@ pub(crate) fn assert_rows_run(
     Ok(())
 }
 
+/// The same of the rows of all these tables.
+pub(crate) fn assert_all_run(
+    rt: &impl Abort,
+    alloc: Global,
+    config: &Config,
+    tables: &[&[Row]],
+) -> Result<(), Fail>
+    requires { IsServable (setup_of config.now) }
+{
+    for rows in tables {
+        assert_rows_run(rt, alloc, config, rows)?;
+    }
+    Ok(())
+}
+
 /// What a configuration's text says of one route for all requests.
 pub(crate) const ROUTE: &str = "[[route]]\nprefix = \"/\"\nupstream = \"127.0.0.1:80\"\n";
 
@@ -266,7 +281,12 @@ fn other_configurations(rt: HostRuntime) -> Result<(), Fail> {
     let alloc = rt.alloc();
     assert_rows_run(&rt, alloc, &one_authority(alloc)?, &ONE_AUTHORITY)?;
     assert_rows_run(&rt, alloc, &three_routes(alloc)?, &THREE_ROUTES)?;
-    assert_rows_run(&rt, alloc, &small(alloc)?, &SMALL)?;
+    assert_rows_run(&rt, alloc, &small(alloc)?, &SMALL)
+}
+
+#[test]
+fn indexed_blocks(rt: HostRuntime) -> Result<(), Fail> {
+    let alloc = rt.alloc();
     let indexing = one_route(alloc, Policy::Indexing, Passing::Whole)?;
     assert_rows_run(&rt, alloc, &indexing, &INDEXING)
 }

@@ -29,11 +29,49 @@ fn events_of(alloc: Global, script: &str) -> Result<Vec<Event>, Fail> {
     Ok(read_script(alloc, script).map_err(|_| "a script")?)
 }
 
-/// Whether something of this length is cut at a place: at each, or, where it is longer than 2,000, behind its first hundred, at its end and the place before, and at
+/// Whether something of this length is cut at a place: at each, or, where it is longer than 2,000, behind its first hundred, at its end and two places before, and at
 /// every 1,021st, a prime, so that the cuts meet frames at other places each time; else a piece of 65,535 octets would be run through as often. Of so many events it is
-/// each such one whose octets are cut.
+/// each such one whose octets are cut: of the last two, too, of which one is the client's.
 fn is_cut(place: usize, length: usize) -> bool {
-    length <= 2000 || place <= 100 || place % 1021 == 0 || length.saturating_sub(place) < 2
+    length <= 2000 || place <= 100 || place % 1021 == 0 || length.saturating_sub(place) < 3
+}
+
+/// Long scripts.
+#[derive(Clone, Copy)]
+enum Long {
+    OneMoreThanAHundred,
+    AHundred,
+    LargeHead,
+    TenThousand,
+}
+
+/// All of them that go by one route.
+const LONG: [Long; 4] = [
+    Long::OneMoreThanAHundred,
+    Long::AHundred,
+    Long::LargeHead,
+    Long::TenThousand,
+];
+
+impl Long {
+    /// What a failed assertion calls it.
+    fn name(self) -> &'static str {
+        match self {
+            Long::OneMoreThanAHundred => "a hundred streams",
+            Long::AHundred => "a hundred requests",
+            Long::LargeHead => "a head in two frames",
+            Long::TenThousand => "ten thousand streams",
+        }
+    }
+
+    fn transcript(self, alloc: Global) -> Result<Transcript, AllocError> {
+        match self {
+            Long::OneMoreThanAHundred => one_more_than_a_hundred(alloc),
+            Long::AHundred => a_hundred_requests(alloc),
+            Long::LargeHead => large_head(alloc),
+            Long::TenThousand => ten_thousand_requests(alloc),
+        }
+    }
 }
 
 /// Where a part stands first in octets.

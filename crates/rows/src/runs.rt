@@ -1,6 +1,7 @@
 //! A gateway that is driven event by event, and what it put out, by where it went.
 
 ghost use Rattle.gateway.specs.Setups.{setup_of, IsServable};
+ghost use Rattle.std.specs.Prelude.{IfOk};
 ghost use Rattle.rows.specs.Driven.{IsDriven};
 
 use gateway::{Config, Event, Fault, Gateway, Output};
@@ -176,6 +177,14 @@ fn are_same(upstreams: &[Upstream], others: &[Upstream]) -> bool {
     true
 }
 
+/// A gateway to which nothing came.
+pub(crate) fn new_gateway(alloc: Global, config: &Config) -> Result<Gateway, AllocError>
+    requires { IsServable (setup_of config.now) }
+    ensures { IfOk result IsDriven }
+{
+    Gateway::new(alloc, config)
+}
+
 /// Takes an event, if it may come.
 fn take(alloc: Global, gateway: &mut Gateway, event: &Event, told: &mut Told) -> Result<(), Fault>
     requires { IsDriven gateway.old }
@@ -215,7 +224,7 @@ pub(crate) fn drive(
 ) -> Result<Told, Fault>
     requires { IsServable (setup_of config.now) }
 {
-    let Ok(mut gateway) = Gateway::new(alloc, config) else {
+    let Ok(mut gateway) = new_gateway(alloc, config) else {
         return Err(Fault::Memory);
     };
     let mut told = Told::new(alloc);

@@ -222,15 +222,26 @@ fn log_text(alloc: Global, log: &[(Event, Vec<Output>)]) -> io::Result<Vec<u8>> 
     Ok(text)
 }
 
+/// How serving a world, of which nothing was asked yet, by one route for this authority ends, within nine turns.
+fn served_world(
+    alloc: Global,
+    authority: &[u8],
+    world: &mut MemoryWorld,
+) -> Result<Result<Ended, ServeFault>, AllocError>
+    requires { (world.old.calls ≡ 0) × (world.old.failures ≡ 0) }
+{
+    let config = one_route(alloc, authority)?;
+    Ok(serve(alloc, &config, world, 9))
+}
+
 /// How serving a world that gives these events ends, and what is put out.
 fn served(
     alloc: Global,
     authority: &[u8],
     events: Vec<Event>,
 ) -> Result<(Result<Ended, ServeFault>, Vec<u8>), Fail> {
-    let config = one_route(alloc, authority)?;
     let mut world = MemoryWorld::new(alloc, events, None);
-    let ended = serve(alloc, &config, &mut world, 9);
+    let ended = served_world(alloc, authority, &mut world)?;
     Ok((ended, text_of(alloc, world.log())?))
 }
 
@@ -249,33 +260,58 @@ fn assert_puts_out(
     Ok(())
 }
 
+/// What is put out where the first upstream sends these pieces.
+fn assert_answered(
+    rt: &impl Abort,
+    alloc: Global,
+    pieces: &[&[u8]],
+    behind: &[u8],
+) -> Result<(), Fail> {
+    assert_puts_out(rt, alloc, exchange(alloc, pieces)?, behind)
+}
+
 #[test]
 fn responses_go_back_once_they_are_whole(rt: HostRuntime) -> Result<(), Fail> {
-    let alloc = rt.alloc();
-    assert_puts_out(&rt, alloc, exchange(alloc, &[])?, b"")?;
-    assert_puts_out(&rt, alloc, exchange(alloc, &[ANSWER])?, FRAMES)?;
-    assert_puts_out(&rt, alloc, exchange(alloc, &[SAME_LENGTHS])?, FRAMES)?;
-    assert_puts_out(&rt, alloc, exchange(alloc, &[TWO_LENGTHS])?, BAD_GATEWAY)?;
-    assert_puts_out(&rt, alloc, exchange(alloc, &[b"junk"])?, BAD_GATEWAY)?;
-    assert_puts_out(&rt, alloc, exchange(alloc, &CHUNKS)?, CHUNK_FRAMES)?;
-    assert_puts_out(&rt, alloc, exchange(alloc, &CHUNKS[..2])?, b"")?;
-    let mut short = exchange(alloc, &CHUNKS[..2])?;
+    let answers: [(&[&[u8]], &[u8]); 7] = [
+        (&[], b""),
+        (&[ANSWER], FRAMES),
+        (&[SAME_LENGTHS], FRAMES),
+        (&[TWO_LENGTHS], BAD_GATEWAY),
+        (&[b"junk"], BAD_GATEWAY),
+        (&CHUNKS, CHUNK_FRAMES),
+        (&CHUNKS[..2], b""),
+    ];
+    for (pieces, behind) in &answers {
+        assert_answered(&rt, rt.alloc(), pieces, behind)?;
+    }
+    Ok(())
+}
+
+#[test]
+fn a_response_that_ends_short_is_a_bad_gateway(rt: HostRuntime) -> Result<(), Fail> {
+    let mut short = exchange(rt.alloc(), &CHUNKS[..2])?;
     short.push(Event::UpEnd(1))?;
-    assert_puts_out(&rt, alloc, short, BAD_GATEWAY)
+    assert_puts_out(&rt, rt.alloc(), short, BAD_GATEWAY)
+}
+
+/// What is handed at each turn of an exchange: how many events had come, and the rooms.
+static HANDED: [(usize, &[(u32, usize)]); 3] = [(0, &[]), (1, &[(1, 65536)]), (2, &[])];
+
+/// Just that was handed.
+fn assert_handed(rt: &impl Abort, handed: &[(usize, Vec<(u32, usize)>)]) {
+    assert_eq!(rt; handed.len(), HANDED.len());
+    for ((steps, rooms), (wanted_steps, wanted_rooms)) in handed.iter().zip(&HANDED) {
+        assert_eq!(rt; *steps, *wanted_steps);
+        assert_eq!(rt; rooms.as_slice(), *wanted_rooms);
+    }
 }
 
 #[test]
 fn each_turn_is_handed_the_open_connections(rt: HostRuntime) -> Result<(), Fail> {
     let alloc = rt.alloc();
-    let config = one_route(alloc, b"")?;
     let mut world = MemoryWorld::new(alloc, exchange(alloc, &[ANSWER])?, None);
-    assert_eq!(rt; serve(alloc, &config, &mut world, 9), Ok(Ended::Over));
-    let wanted: [(usize, &[(u32, usize)]); 3] = [(0, &[]), (1, &[(1, 65536)]), (2, &[])];
-    assert_eq!(rt; world.handed().len(), wanted.len());
-    for ((steps, rooms), (wanted_steps, wanted_rooms)) in world.handed().iter().zip(&wanted) {
-        assert_eq!(rt; *steps, *wanted_steps);
-        assert_eq!(rt; rooms.as_slice(), *wanted_rooms);
-    }
+    assert_eq!(rt; served_world(alloc, b"", &mut world)?, Ok(Ended::Over));
+    assert_handed(&rt, world.handed());
     Ok(())
 }
 
@@ -309,9 +345,8 @@ fn served_failing(
     alloc: Global,
     fail_at: u64,
 ) -> Result<(Result<Ended, ServeFault>, Vec<u8>), Fail> {
-    let config = one_route(alloc, b"")?;
     let mut world = MemoryWorld::new(alloc, exchange(alloc, &[ANSWER])?, Some(fail_at));
-    let ended = serve(alloc, &config, &mut world, 9);
+    let ended = served_world(alloc, b"", &mut world)?;
     Ok((ended, log_text(alloc, world.log())?))
 }
 
@@ -324,17 +359,28 @@ fn whole_log(alloc: Global) -> Result<Vec<u8>, AllocError> {
     Ok(text)
 }
 
+/// Where the call with this number fails, a front of the whole log stands there; all of it where it is the last, which would have said that nothing comes any more.
+fn assert_fails(rt: &impl Abort, alloc: Global, fail_at: u64, whole: &[u8]) -> Result<(), Fail> {
+    let (ended, text) = served_failing(alloc, fail_at)?;
+    assert_eq!(rt; ended, Err(ServeFault::World));
+    assert!(rt; whole.starts_with(&text));
+    assert_eq!(rt; text.len() == whole.len(), fail_at == CALLS - 1);
+    Ok(())
+}
+
 #[test]
 fn each_call_fails_in_turn(rt: HostRuntime) -> Result<(), Fail> {
-    let (ended, whole) = served_failing(rt.alloc(), CALLS)?;
-    assert_eq!(rt; ended, Ok(Ended::Over));
-    assert_eq!(rt; whole.as_slice(), whole_log(rt.alloc())?.as_slice());
+    let whole = whole_log(rt.alloc())?;
     for fail_at in 0..CALLS {
-        let (ended, text) = served_failing(rt.alloc(), fail_at)?;
-        assert_eq!(rt; ended, Err(ServeFault::World));
-        assert!(rt; whole.starts_with(&text));
-        // All stands there where the last call fails, which would have said that nothing comes any more.
-        assert_eq!(rt; text.len() == whole.len(), fail_at + 1 == CALLS);
+        assert_fails(&rt, rt.alloc(), fail_at, &whole)?;
     }
+    Ok(())
+}
+
+#[test]
+fn no_call_fails(rt: HostRuntime) -> Result<(), Fail> {
+    let (ended, text) = served_failing(rt.alloc(), CALLS)?;
+    assert_eq!(rt; ended, Ok(Ended::Over));
+    assert_eq!(rt; text.as_slice(), whole_log(rt.alloc())?.as_slice());
     Ok(())
 }

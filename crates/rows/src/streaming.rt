@@ -1,6 +1,6 @@
 //! Bodies that are passed on as they come.
 
-use crate::configurations::{ROUTE, assert_rows_run, one_route};
+use crate::configurations::{ROUTE, assert_all_run, assert_rows_run, one_route};
 use crate::transcripts::{REQUEST, Row, START, assert_rows_by};
 use crate::windows::{IN_TURN, WAITING};
 use gateway::{Passing, Policy};
@@ -163,10 +163,13 @@ pub static INDEXED_AS_IT_COMES: [Row; 1] = [Row {
 fn bodies_as_they_come(rt: HostRuntime) -> Result<(), Fail> {
     let alloc = rt.alloc();
     let plain = one_route(alloc, Policy::Plain, Passing::Streaming)?;
-    assert_rows_run(&rt, alloc, &plain, &PASSED_AS_IT_COMES)?;
-    assert_rows_run(&rt, alloc, &plain, &UNTAKEN)?;
-    assert_rows_run(&rt, alloc, &plain, &WAITING)?;
-    assert_rows_run(&rt, alloc, &plain, &IN_TURN)?;
+    let tables: [&[Row]; 4] = [&PASSED_AS_IT_COMES, &UNTAKEN, &WAITING, &IN_TURN];
+    assert_all_run(&rt, alloc, &plain, &tables)
+}
+
+#[test]
+fn indexed_bodies_as_they_come(rt: HostRuntime) -> Result<(), Fail> {
+    let alloc = rt.alloc();
     let indexing = one_route(alloc, Policy::Indexing, Passing::Streaming)?;
     assert_rows_run(&rt, alloc, &indexing, &INDEXED_AS_IT_COMES)
 }

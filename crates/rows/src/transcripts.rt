@@ -135,12 +135,22 @@ fn assert_row(
     Ok(())
 }
 
-/// Each row prints what it says.
-pub(crate) fn assert_rows(rt: &impl Abort, alloc: Global, rows: &[Row]) -> Result<(), AllocError> {
+/// Each row prints what it says, by the configuration of a text or by the default.
+fn assert_each(
+    rt: &impl Abort,
+    alloc: Global,
+    config: Option<&str>,
+    rows: &[Row],
+) -> Result<(), AllocError> {
     for row in rows {
-        assert_row(rt, alloc, None, row)?;
+        assert_row(rt, alloc, config, row)?;
     }
     Ok(())
+}
+
+/// Each row prints what it says by the default configuration.
+pub(crate) fn assert_rows(rt: &impl Abort, alloc: Global, rows: &[Row]) -> Result<(), AllocError> {
+    assert_each(rt, alloc, None, rows)
 }
 
 /// Each row prints what it says by the configuration of this text.
@@ -150,8 +160,5 @@ pub(crate) fn assert_rows_by(
     config: &str,
     rows: &[Row],
 ) -> Result<(), AllocError> {
-    for row in rows {
-        assert_row(rt, alloc, Some(config), row)?;
-    }
-    Ok(())
+    assert_each(rt, alloc, Some(config), rows)
 }

@@ -184,19 +184,42 @@ fn assert_rows_left_well(
     Ok(())
 }
 
+/// The same of the rows of all these tables.
+fn assert_all_left_well(
+    rt: &impl Abort,
+    alloc: Global,
+    config: &Config,
+    tables: &[&[Row]],
+) -> Result<(), Fail>
+    requires { IsServable (setup_of config.now) }
+{
+    for rows in tables {
+        assert_rows_left_well(rt, alloc, config, rows)?;
+    }
+    Ok(())
+}
+
 #[test]
 fn client_goes_away(rt: HostRuntime) -> Result<(), Fail> {
     let alloc = rt.alloc();
     let plain = one_route(alloc, Policy::Plain, Passing::Whole)?;
-    assert_rows_left_well(&rt, alloc, &plain, &PASSED_ON)?;
-    assert_rows_left_well(&rt, alloc, &plain, &MALFORMED)?;
-    assert_rows_left_well(&rt, alloc, &plain, &ANSWERED)?;
-    assert_rows_left_well(&rt, alloc, &plain, &PASSED_BACK)?;
-    assert_rows_left_well(&rt, alloc, &plain, &BROKEN)?;
-    assert_rows_left_well(&rt, alloc, &plain, &ENDED)?;
-    assert_rows_left_well(&rt, alloc, &plain, &GOES_ON)?;
-    assert_rows_left_well(&rt, alloc, &plain, &WAITING)?;
-    assert_rows_left_well(&rt, alloc, &plain, &IN_TURN)?;
+    let tables: [&[Row]; 9] = [
+        &PASSED_ON,
+        &MALFORMED,
+        &ANSWERED,
+        &PASSED_BACK,
+        &BROKEN,
+        &ENDED,
+        &GOES_ON,
+        &WAITING,
+        &IN_TURN,
+    ];
+    assert_all_left_well(&rt, alloc, &plain, &tables)
+}
+
+#[test]
+fn client_goes_away_from_indexed_blocks(rt: HostRuntime) -> Result<(), Fail> {
+    let alloc = rt.alloc();
     let indexing = one_route(alloc, Policy::Indexing, Passing::Whole)?;
     assert_rows_left_well(&rt, alloc, &indexing, &INDEXING)
 }
@@ -213,12 +236,20 @@ fn client_goes_away_by_other_configurations(rt: HostRuntime) -> Result<(), Fail>
 fn client_goes_away_as_bodies_come(rt: HostRuntime) -> Result<(), Fail> {
     let alloc = rt.alloc();
     let plain = one_route(alloc, Policy::Plain, Passing::Streaming)?;
-    assert_rows_left_well(&rt, alloc, &plain, &PASSED_AS_IT_COMES)?;
-    assert_rows_left_well(&rt, alloc, &plain, &UNTAKEN)?;
-    assert_rows_left_well(&rt, alloc, &plain, &PASSED_ON)?;
-    assert_rows_left_well(&rt, alloc, &plain, &MALFORMED)?;
-    assert_rows_left_well(&rt, alloc, &plain, &ANSWERED)?;
-    assert_rows_left_well(&rt, alloc, &plain, &IN_TURN)?;
+    let tables: [&[Row]; 6] = [
+        &PASSED_AS_IT_COMES,
+        &UNTAKEN,
+        &PASSED_ON,
+        &MALFORMED,
+        &ANSWERED,
+        &IN_TURN,
+    ];
+    assert_all_left_well(&rt, alloc, &plain, &tables)
+}
+
+#[test]
+fn client_goes_away_from_indexed_blocks_as_bodies_come(rt: HostRuntime) -> Result<(), Fail> {
+    let alloc = rt.alloc();
     let indexing = one_route(alloc, Policy::Indexing, Passing::Streaming)?;
     assert_rows_left_well(&rt, alloc, &indexing, &INDEXED_AS_IT_COMES)
 }
@@ -227,14 +258,16 @@ fn client_goes_away_as_bodies_come(rt: HostRuntime) -> Result<(), Fail> {
 fn client_of_a_long_script_goes_away(rt: HostRuntime) -> Result<(), Fail> {
     let alloc = rt.alloc();
     let plain = one_route(alloc, Policy::Plain, Passing::Whole)?;
-    let transcript = one_more_than_a_hundred(alloc)?;
-    assert_left_well(&rt, alloc, &plain, "a hundred streams", &transcript)?;
-    let transcript = a_hundred_requests(alloc)?;
-    assert_left_well(&rt, alloc, &plain, "a hundred requests", &transcript)?;
-    let transcript = large_head(alloc)?;
-    assert_left_well(&rt, alloc, &plain, "a head in two frames", &transcript)?;
-    let transcript = ten_thousand_requests(alloc)?;
-    assert_left_well(&rt, alloc, &plain, "ten thousand streams", &transcript)?;
+    for long in LONG {
+        let transcript = long.transcript(alloc)?;
+        assert_left_well(&rt, alloc, &plain, long.name(), &transcript)?;
+    }
+    Ok(())
+}
+
+#[test]
+fn client_without_a_route_goes_away(rt: HostRuntime) -> Result<(), Fail> {
+    let alloc = rt.alloc();
     let transcript = ten_thousand_without_a_route(alloc)?;
     assert_left_well(&rt, alloc, &unrouted(alloc), "no route", &transcript)
 }

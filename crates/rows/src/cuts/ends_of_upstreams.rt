@@ -223,33 +223,70 @@ fn assert_rows_ended_well(
     Ok(())
 }
 
+/// The same of the rows of all these tables.
+fn assert_all_ended_well(
+    rt: &impl Abort,
+    alloc: Global,
+    config: &Config,
+    tables: &[&[Row]],
+) -> Result<(), Fail>
+    requires { IsServable (setup_of config.now) }
+{
+    for rows in tables {
+        assert_rows_ended_well(rt, alloc, config, rows)?;
+    }
+    Ok(())
+}
+
 #[test]
 fn upstreams_go_away(rt: HostRuntime) -> Result<(), Fail> {
     let alloc = rt.alloc();
     let plain = one_route(alloc, Policy::Plain, Passing::Whole)?;
-    assert_rows_ended_well(&rt, alloc, &plain, &PASSED_BACK)?;
-    assert_rows_ended_well(&rt, alloc, &plain, &BROKEN)?;
-    assert_rows_ended_well(&rt, alloc, &plain, &ENDED)?;
-    assert_rows_ended_well(&rt, alloc, &plain, &WAITING)?;
-    assert_rows_ended_well(&rt, alloc, &plain, &IN_TURN)?;
+    let tables: [&[Row]; 5] = [&PASSED_BACK, &BROKEN, &ENDED, &WAITING, &IN_TURN];
+    assert_all_ended_well(&rt, alloc, &plain, &tables)
+}
+
+#[test]
+fn upstreams_go_away_by_other_configurations(rt: HostRuntime) -> Result<(), Fail> {
+    let alloc = rt.alloc();
     assert_rows_ended_well(&rt, alloc, &small(alloc)?, &SMALL)?;
-    let transcript = large_head(alloc)?;
-    assert_ended_well(&rt, alloc, &plain, "a head in two frames", &transcript)?;
-    let transcript = ten_thousand_requests(alloc)?;
-    assert_ended_well(&rt, alloc, &plain, "ten thousand streams", &transcript)?;
     let indexing = one_route(alloc, Policy::Indexing, Passing::Whole)?;
     assert_rows_ended_well(&rt, alloc, &indexing, &INDEXING)
+}
+
+#[test]
+fn upstream_of_a_large_head_goes_away(rt: HostRuntime) -> Result<(), Fail> {
+    let alloc = rt.alloc();
+    let plain = one_route(alloc, Policy::Plain, Passing::Whole)?;
+    let transcript = large_head(alloc)?;
+    assert_ended_well(&rt, alloc, &plain, "a head in two frames", &transcript)
+}
+
+#[test]
+fn upstream_of_the_last_stream_goes_away(rt: HostRuntime) -> Result<(), Fail> {
+    let alloc = rt.alloc();
+    let plain = one_route(alloc, Policy::Plain, Passing::Whole)?;
+    let transcript = ten_thousand_requests(alloc)?;
+    assert_ended_well(&rt, alloc, &plain, "ten thousand streams", &transcript)
 }
 
 #[test]
 fn upstreams_go_away_as_bodies_come(rt: HostRuntime) -> Result<(), Fail> {
     let alloc = rt.alloc();
     let plain = one_route(alloc, Policy::Plain, Passing::Streaming)?;
-    assert_rows_ended_well(&rt, alloc, &plain, &PASSED_AS_IT_COMES)?;
-    assert_rows_ended_well(&rt, alloc, &plain, &PASSED_BACK)?;
-    assert_rows_ended_well(&rt, alloc, &plain, &BROKEN)?;
-    assert_rows_ended_well(&rt, alloc, &plain, &WAITING)?;
-    assert_rows_ended_well(&rt, alloc, &plain, &IN_TURN)?;
+    let tables: [&[Row]; 5] = [
+        &PASSED_AS_IT_COMES,
+        &PASSED_BACK,
+        &BROKEN,
+        &WAITING,
+        &IN_TURN,
+    ];
+    assert_all_ended_well(&rt, alloc, &plain, &tables)
+}
+
+#[test]
+fn upstreams_of_indexed_blocks_go_away_as_bodies_come(rt: HostRuntime) -> Result<(), Fail> {
+    let alloc = rt.alloc();
     let indexing = one_route(alloc, Policy::Indexing, Passing::Streaming)?;
     assert_rows_ended_well(&rt, alloc, &indexing, &INDEXED_AS_IT_COMES)
 }

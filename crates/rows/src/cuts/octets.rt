@@ -94,6 +94,21 @@ fn assert_alike(rt: &impl Abort, alloc: Global, config: &Config, rows: &[Row]) -
     Ok(())
 }
 
+/// The same at the rows of all these tables.
+fn assert_all_alike(
+    rt: &impl Abort,
+    alloc: Global,
+    config: &Config,
+    tables: &[&[Row]],
+) -> Result<(), Fail>
+    requires { IsServable (setup_of config.now) }
+{
+    for rows in tables {
+        assert_alike(rt, alloc, config, rows)?;
+    }
+    Ok(())
+}
+
 /// Adds a frame, but for where DATA is cut: behind DATA of the same stream its octets alone. Says of which stream it was DATA that goes on.
 fn push_joined(
     view: View<'_>,
@@ -201,15 +216,23 @@ fn one_by_one(rt: HostRuntime) -> Result<(), Fail> {
     let alloc = rt.alloc();
     assert_request_by_octets(&rt, alloc)?;
     let plain = one_route(alloc, Policy::Plain, Passing::Whole)?;
-    assert_alike(&rt, alloc, &plain, &PASSED_ON)?;
-    assert_alike(&rt, alloc, &plain, &MALFORMED)?;
-    assert_alike(&rt, alloc, &plain, &ANSWERED)?;
-    assert_alike(&rt, alloc, &plain, &PASSED_BACK)?;
-    assert_alike(&rt, alloc, &plain, &BROKEN)?;
-    assert_alike(&rt, alloc, &plain, &ENDED)?;
-    assert_alike(&rt, alloc, &plain, &GOES_ON)?;
-    assert_alike(&rt, alloc, &plain, &WAITING)?;
-    assert_alike(&rt, alloc, &plain, &IN_TURN)?;
+    let tables: [&[Row]; 9] = [
+        &PASSED_ON,
+        &MALFORMED,
+        &ANSWERED,
+        &PASSED_BACK,
+        &BROKEN,
+        &ENDED,
+        &GOES_ON,
+        &WAITING,
+        &IN_TURN,
+    ];
+    assert_all_alike(&rt, alloc, &plain, &tables)
+}
+
+#[test]
+fn one_by_one_with_indexed_blocks(rt: HostRuntime) -> Result<(), Fail> {
+    let alloc = rt.alloc();
     let indexing = one_route(alloc, Policy::Indexing, Passing::Whole)?;
     assert_alike(&rt, alloc, &indexing, &INDEXING)
 }
@@ -226,14 +249,16 @@ fn one_by_one_by_other_configurations(rt: HostRuntime) -> Result<(), Fail> {
 fn long_scripts_one_by_one(rt: HostRuntime) -> Result<(), Fail> {
     let alloc = rt.alloc();
     let plain = one_route(alloc, Policy::Plain, Passing::Whole)?;
-    let transcript = one_more_than_a_hundred(alloc)?;
-    assert_script_alike(&rt, alloc, &plain, "a hundred streams", &transcript)?;
-    let transcript = a_hundred_requests(alloc)?;
-    assert_script_alike(&rt, alloc, &plain, "a hundred requests", &transcript)?;
-    let transcript = large_head(alloc)?;
-    assert_script_alike(&rt, alloc, &plain, "a head in two frames", &transcript)?;
-    let transcript = ten_thousand_requests(alloc)?;
-    assert_script_alike(&rt, alloc, &plain, "ten thousand streams", &transcript)?;
+    for long in LONG {
+        let transcript = long.transcript(alloc)?;
+        assert_script_alike(&rt, alloc, &plain, long.name(), &transcript)?;
+    }
+    Ok(())
+}
+
+#[test]
+fn ten_thousand_answers_one_by_one(rt: HostRuntime) -> Result<(), Fail> {
+    let alloc = rt.alloc();
     let transcript = ten_thousand_without_a_route(alloc)?;
     assert_script_alike(&rt, alloc, &unrouted(alloc), "no route", &transcript)
 }
@@ -243,7 +268,12 @@ fn one_by_one_as_bodies_come(rt: HostRuntime) -> Result<(), Fail> {
     let alloc = rt.alloc();
     let plain = one_route(alloc, Policy::Plain, Passing::Streaming)?;
     assert_alike_streaming(&rt, alloc, &plain, &PASSED_AS_IT_COMES)?;
-    assert_alike_streaming(&rt, alloc, &plain, &WAITING)?;
+    assert_alike_streaming(&rt, alloc, &plain, &WAITING)
+}
+
+#[test]
+fn one_by_one_with_indexed_blocks_as_bodies_come(rt: HostRuntime) -> Result<(), Fail> {
+    let alloc = rt.alloc();
     let indexing = one_route(alloc, Policy::Indexing, Passing::Streaming)?;
     assert_alike_streaming(&rt, alloc, &indexing, &INDEXED_AS_IT_COMES)
 }

@@ -129,7 +129,6 @@ fn first_row_that_differs(rows: &[Row<'_>]) -> Option<usize> {
 
 #[test]
 fn padding_and_priority_are_taken_off(rt: HostRuntime) {
-    let padded = [4u8, 0, 0, 0, 0, 15, 0x82, 0, 0];
     let rows: [Row<'_>; 7] = [
         (
             1,
@@ -137,8 +136,13 @@ fn padding_and_priority_are_taken_off(rt: HostRuntime) {
             &[2, 0, 0, 0, 0, 15, 0x82, 0, 0],
             Ok(Frame::Headers(&[0x82])),
         ),
-        (1, 0x28, &padded, Err(FrameFault::Protocol)),
-        (1, 0x20, &padded[..4], Err(FrameFault::Size)),
+        (
+            1,
+            0x28,
+            &[4, 0, 0, 0, 0, 15, 0x82, 0, 0],
+            Err(FrameFault::Protocol),
+        ),
+        (1, 0x20, &[4, 0, 0, 0], Err(FrameFault::Size)),
         (0, 0x08, &[], Err(FrameFault::Size)),
         (0, 0x09, b"\x02hi\0\0", Ok(Frame::Data(b"hi"))),
         (0, 0x08, &[1], Err(FrameFault::Protocol)),

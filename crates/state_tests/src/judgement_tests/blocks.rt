@@ -66,8 +66,10 @@ const ALL_PADDING: &[u8] = &[0x03, 0x00, 0x00, 0x00];
 
 const TOO_MUCH_PADDING: &[u8] = &[0x04, 0x00, 0x00, 0x00];
 
-/// The octet of `:method: GET`, 400 times.
+/// The octet of `:method: GET`, 400 times, and as often as the longest payload takes it.
 static METHODS: [u8; 400] = [0x82; 400];
+
+static LONG: [u8; 16384] = [0x82; 16384];
 
 /// What comes of a frame, the parts of a head aside.
 #[derive(Clone, Copy, PartialEq, Eq)]
@@ -97,60 +99,50 @@ fn told_of(judged: BlockJudged) -> Told {
     }
 }
 
-/// A connection, and where its requests may go.
-#[derive(Drop)]
-struct Side {
-    connection: Connection,
-    routes: Vec<Route>,
-}
-
-/// A connection on which settings came, with a route for the paths with this front.
-fn routed(alloc: Global, prefix: &[u8]) -> Result<Side, AllocError> {
-    let mut routes = Vec::new(alloc);
-    routes.push(Route {
-        authority: Vec::new(alloc),
-        prefix: Vec::from_slice(alloc, prefix)?,
-    })?;
-    let mut connection = Connection::new(alloc);
-    let settings = View {
-        kind: 4,
-        flags: 0,
-        id: 0,
-        payload: &[],
-    };
-    connection.judge(settings, MOST);
-    Ok(Side { connection, routes })
-}
-
-/// What comes of a frame of any type.
-fn told_any(side: &mut Side, view: View<'_>) -> Result<Told, AllocError> {
-    if view.payload.len() > 16384 || side.routes.len() > 9 {
-        return Ok(Told::NoSuchFrame);
-    }
-    let terms = Terms {
-        routes: &side.routes,
-        max_body: MOST,
-    };
-    Ok(match side.connection.judge_frame(view, terms)? {
+/// What comes of a frame of any type, as it is told.
+fn told_of_any(judged: FrameJudged<'_>) -> Told {
+    match judged {
         FrameJudged::Plain(Judged::Failed(fault)) => Told::Failed(fault),
         FrameJudged::Plain(_) => Told::Plain,
         FrameJudged::OfBlock(judged) => told_of(judged),
-    })
+    }
 }
 
-/// What comes of HEADERS or CONTINUATION.
-fn told_of_fragment(side: &mut Side, view: View<'_>) -> Result<Told, AllocError> {
+/// Judges a frame of any type.
+fn told_any(
+    connection: &mut Connection,
+    routes: &[Route],
+    view: View<'_>,
+) -> Result<Told, AllocError> {
+    if view.payload.len() > 16384 || routes.len() > 9 {
+        return Ok(Told::NoSuchFrame);
+    }
+    let terms = Terms {
+        routes,
+        max_body: MOST,
+    };
+    let judged = connection.judge_frame(view, terms)?;
+    Ok(told_of_any(judged))
+}
+
+/// Judges HEADERS or CONTINUATION.
+fn told_of_fragment(
+    connection: &mut Connection,
+    routes: &[Route],
+    view: View<'_>,
+) -> Result<Told, AllocError> {
     if view.payload.len() > 16384
-        || side.routes.len() > 9
+        || routes.len() > 9
         || (view.kind != HEADERS && view.kind != CONTINUATION)
     {
         return Ok(Told::NoSuchFrame);
     }
     let terms = Terms {
-        routes: &side.routes,
+        routes,
         max_body: MOST,
     };
-    Ok(told_of(side.connection.judge_fragment(view, terms)?))
+    let judged = connection.judge_fragment(view, terms)?;
+    Ok(told_of(judged))
 }
 
 fn view_of<'a>(row: &Row<'a>) -> View<'a> {
@@ -163,30 +155,155 @@ fn view_of<'a>(row: &Row<'a>) -> View<'a> {
     }
 }
 
+/// Whether what should comes of a frame with a fragment.
+fn is_as_told(
+    connection: &mut Connection,
+    routes: &[Route],
+    row: &Row<'_>,
+) -> Result<bool, AllocError> {
+    let told = told_of_fragment(connection, routes, view_of(row))?;
+    Ok(told == row.4)
+}
+
 /// The first of these frames, which are judged in turn, of which something else comes.
-fn first_that_differs(side: &mut Side, rows: &[Row<'_>]) -> Result<Option<usize>, AllocError> {
+fn first_that_differs(
+    connection: &mut Connection,
+    routes: &[Route],
+    rows: &[Row<'_>],
+) -> Result<Option<usize>, AllocError> {
     for (place, row) in rows.iter().enumerate() {
-        if told_of_fragment(side, view_of(row))? != row.4 {
+        if !is_as_told(connection, routes, row)? {
             return Ok(Some(place));
         }
     }
     Ok(None)
-}
-
-/// The same, with a route for all paths.
-fn first_of(alloc: Global, rows: &[Row<'_>]) -> Result<Option<usize>, AllocError> {
-    first_that_differs(&mut routed(alloc, b"/")?, rows)
 }
 
 /// The same, as frames of any type.
-fn first_of_any(alloc: Global, rows: &[Row<'_>]) -> Result<Option<usize>, AllocError> {
-    let mut side = routed(alloc, b"/")?;
+fn first_of_any(
+    connection: &mut Connection,
+    routes: &[Route],
+    rows: &[Row<'_>],
+) -> Result<Option<usize>, AllocError> {
     for (place, row) in rows.iter().enumerate() {
-        if told_any(&mut side, view_of(row))? != row.4 {
+        if told_any(connection, routes, view_of(row))? != row.4 {
             return Ok(Some(place));
         }
     }
     Ok(None)
+}
+
+/// Ends stream 1 with a response's head, where it is active.
+fn respond(connection: &mut Connection) {
+    if connection.streams().find(1).is_some() {
+        connection.sent_head(1, true, true);
+    }
+}
+
+/// A request that its client ends.
+static ENDED: Row<'static> = (HEADERS, ALL, 1, GET, Told::Begins(0));
+
+/// The first of these frames behind a request that its client ends, and behind the response to it. Where no request begins, it is one behind all.
+fn first_behind_a_response(
+    connection: &mut Connection,
+    routes: &[Route],
+    rows: &[Row<'_>],
+) -> Result<Option<usize>, AllocError> {
+    if !is_as_told(connection, routes, &ENDED)? {
+        return Ok(Some(rows.len()));
+    }
+    respond(connection);
+    first_that_differs(connection, routes, rows)
+}
+
+/// Whether requests begin on the first hundred streams.
+fn a_hundred_begin(connection: &mut Connection, routes: &[Route]) -> Result<bool, AllocError> {
+    for place in 0u32..100 {
+        let row = (HEADERS, WHOLE, 2 * place + 1, GET, Told::Begins(0));
+        if !is_as_told(connection, routes, &row)? {
+            return Ok(false);
+        }
+    }
+    Ok(true)
+}
+
+/// The first of these frames behind requests on a hundred streams. Where one of them doesn't begin, it is one behind all.
+fn first_behind_a_hundred(
+    connection: &mut Connection,
+    routes: &[Route],
+    rows: &[Row<'_>],
+) -> Result<Option<usize>, AllocError> {
+    if !a_hundred_begin(connection, routes)? {
+        return Ok(Some(rows.len()));
+    }
+    first_that_differs(connection, routes, rows)
+}
+
+/// How the frames of a table are taken.
+#[derive(Clone, Copy)]
+enum Taken {
+    /// Each as one that has a fragment.
+    AsFragments,
+    /// Each as one of any type.
+    AsAny,
+    /// As fragments, behind a request and the response that ends its stream.
+    BehindAResponse,
+    /// As fragments, behind requests on a hundred streams.
+    BehindAHundred,
+}
+
+/// The first of these frames of which something else comes, on a connection that is lent.
+fn first_on(
+    connection: &mut Connection,
+    routes: &[Route],
+    taken: Taken,
+    rows: &[Row<'_>],
+) -> Result<Option<usize>, AllocError> {
+    match taken {
+        Taken::AsFragments => first_that_differs(connection, routes, rows),
+        Taken::AsAny => first_of_any(connection, routes, rows),
+        Taken::BehindAResponse => first_behind_a_response(connection, routes, rows),
+        Taken::BehindAHundred => first_behind_a_hundred(connection, routes, rows),
+    }
+}
+
+/// A route for the paths with this front.
+fn route_of(alloc: Global, prefix: &[u8]) -> Result<Route, AllocError> {
+    let prefix = Vec::from_slice(alloc, prefix)?;
+    Ok(Route {
+        authority: Vec::new(alloc),
+        prefix,
+    })
+}
+
+/// A connection on which settings came.
+fn settled(alloc: Global) -> Connection {
+    let mut connection = Connection::new(alloc);
+    let settings = View {
+        kind: 4,
+        flags: 0,
+        id: 0,
+        payload: &[],
+    };
+    connection.judge(settings, MOST);
+    connection
+}
+
+/// The first of these frames of which something else comes, with a route for the paths with this front.
+fn first_by(
+    alloc: Global,
+    prefix: &[u8],
+    taken: Taken,
+    rows: &[Row<'_>],
+) -> Result<Option<usize>, AllocError> {
+    let routes = [route_of(alloc, prefix)?];
+    let mut connection = settled(alloc);
+    first_on(&mut connection, &routes, taken, rows)
+}
+
+/// The same, with a route for all paths.
+fn first_of(alloc: Global, taken: Taken, rows: &[Row<'_>]) -> Result<Option<usize>, AllocError> {
+    first_by(alloc, b"/", taken, rows)
 }
 
 static ANY: [Row<'static>; 4] = [
@@ -204,7 +321,7 @@ static ANY: [Row<'static>; 4] = [
 
 #[test]
 fn frames_of_any_type_are_judged(rt: HostRuntime) -> Result<(), Fail> {
-    assert_eq!(rt; first_of_any(rt.alloc(), &ANY)?, None);
+    assert_eq!(rt; first_of(rt.alloc(), Taken::AsAny, &ANY)?, None);
     Ok(())
 }
 
@@ -218,7 +335,7 @@ static REQUESTS: [Row<'static>; 5] = [
 
 #[test]
 fn a_request_begins_and_ends(rt: HostRuntime) -> Result<(), Fail> {
-    assert_eq!(rt; first_of(rt.alloc(), &REQUESTS)?, None);
+    assert_eq!(rt; first_of(rt.alloc(), Taken::AsFragments, &REQUESTS)?, None);
     Ok(())
 }
 
@@ -238,7 +355,7 @@ static FRAGMENTS: [Row<'static>; 5] = [
 
 #[test]
 fn a_block_comes_in_fragments(rt: HostRuntime) -> Result<(), Fail> {
-    assert_eq!(rt; first_of(rt.alloc(), &FRAGMENTS)?, None);
+    assert_eq!(rt; first_of(rt.alloc(), Taken::AsFragments, &FRAGMENTS)?, None);
     Ok(())
 }
 
@@ -272,30 +389,18 @@ static PAYLOADS: [Row<'static>; 6] = [
 
 #[test]
 fn payloads_hold_their_fragments(rt: HostRuntime) -> Result<(), Fail> {
-    assert_eq!(rt; first_of(rt.alloc(), &PAYLOADS)?, None);
+    assert_eq!(rt; first_of(rt.alloc(), Taken::AsFragments, &PAYLOADS)?, None);
     Ok(())
 }
 
-/// The first of these frames of which something else comes, behind three on stream 1 with 16,384 octets of a block each.
-fn first_behind_long(alloc: Global, rows: &[Row<'_>]) -> Result<Option<usize>, AllocError> {
-    let long = vec![in alloc; 0x82; 16384]?;
-    let mut side = routed(alloc, b"/")?;
-    let begun: [Row<'_>; 3] = [
-        (HEADERS, 0, 1, &long, Told::GoesOn),
-        (CONTINUATION, 0, 1, &long, Told::GoesOn),
-        (CONTINUATION, 0, 1, &long, Told::GoesOn),
-    ];
-    if first_that_differs(&mut side, &begun)?.is_some() {
-        return Ok(Some(rows.len()));
-    }
-    first_that_differs(&mut side, rows)
-}
-
+/// Four frames with 16,384 octets of a block each, and a fifth that makes it longer than blocks may be.
 #[test]
 fn blocks_have_a_length(rt: HostRuntime) -> Result<(), Fail> {
-    let last = vec![in rt.alloc(); 0x82; 16384]?;
-    let rows: [Row<'_>; 2] = [
-        (CONTINUATION, 0, 1, &last, Told::GoesOn),
+    let rows: [Row<'_>; 5] = [
+        (HEADERS, 0, 1, &LONG, Told::GoesOn),
+        (CONTINUATION, 0, 1, &LONG, Told::GoesOn),
+        (CONTINUATION, 0, 1, &LONG, Told::GoesOn),
+        (CONTINUATION, 0, 1, &LONG, Told::GoesOn),
         (
             CONTINUATION,
             WHOLE,
@@ -304,15 +409,26 @@ fn blocks_have_a_length(rt: HostRuntime) -> Result<(), Fail> {
             Told::Failed(Fault::Connection(11)),
         ),
     ];
-    assert_eq!(rt; first_behind_long(rt.alloc(), &rows)?, None);
-    let rows: [Row<'_>; 1] = [(
-        CONTINUATION,
-        WHOLE,
-        1,
-        &last,
-        Told::Answered(Cause::LargeFields),
-    )];
-    assert_eq!(rt; first_behind_long(rt.alloc(), &rows)?, None);
+    assert_eq!(rt; first_of(rt.alloc(), Taken::AsFragments, &rows)?, None);
+    Ok(())
+}
+
+/// Four such frames are a whole block, whose fields are too large together.
+#[test]
+fn the_longest_block_is_read(rt: HostRuntime) -> Result<(), Fail> {
+    let rows: [Row<'_>; 4] = [
+        (HEADERS, 0, 1, &LONG, Told::GoesOn),
+        (CONTINUATION, 0, 1, &LONG, Told::GoesOn),
+        (CONTINUATION, 0, 1, &LONG, Told::GoesOn),
+        (
+            CONTINUATION,
+            WHOLE,
+            1,
+            &LONG,
+            Told::Answered(Cause::LargeFields),
+        ),
+    ];
+    assert_eq!(rt; first_of(rt.alloc(), Taken::AsFragments, &rows)?, None);
     Ok(())
 }
 
@@ -330,7 +446,7 @@ static ENDINGS: [Row<'static>; 8] = [
 
 #[test]
 fn trailers_end_a_request(rt: HostRuntime) -> Result<(), Fail> {
-    assert_eq!(rt; first_of(rt.alloc(), &ENDINGS)?, None);
+    assert_eq!(rt; first_of(rt.alloc(), Taken::AsFragments, &ENDINGS)?, None);
     Ok(())
 }
 
@@ -347,9 +463,7 @@ static BEHIND_A_RESET: [Row<'static>; 3] = [
     ),
 ];
 
-/// A request that its client ends, and HEADERS behind it once the response has ended too.
-static ENDED: [Row<'static>; 1] = [(HEADERS, ALL, 1, GET, Told::Begins(0))];
-
+/// HEADERS on a stream that its client ended, and then the response.
 static BEHIND_ITS_END: [Row<'static>; 1] = [(
     HEADERS,
     ALL,
@@ -360,13 +474,11 @@ static BEHIND_ITS_END: [Row<'static>; 1] = [(
 
 #[test]
 fn nothing_follows_on_a_closed_stream(rt: HostRuntime) -> Result<(), Fail> {
-    assert_eq!(rt; first_of_any(rt.alloc(), &BEHIND_A_RESET)?, None);
-    let mut side = routed(rt.alloc(), b"/")?;
-    assert_eq!(rt; first_that_differs(&mut side, &ENDED)?, None);
-    if side.connection.streams().find(1).is_some() {
-        side.connection.sent_head(1, true, true);
-    }
-    assert_eq!(rt; first_that_differs(&mut side, &BEHIND_ITS_END)?, None);
+    assert_eq!(rt; first_of(rt.alloc(), Taken::AsAny, &BEHIND_A_RESET)?, None);
+    assert_eq!(rt;
+        first_of(rt.alloc(), Taken::BehindAResponse, &BEHIND_ITS_END)?,
+        None
+    );
     Ok(())
 }
 
@@ -386,13 +498,12 @@ static NO_HEADS: [Row<'static>; 4] = [
 
 #[test]
 fn heads_that_are_none(rt: HostRuntime) -> Result<(), Fail> {
-    assert_eq!(rt; first_of(rt.alloc(), &NO_HEADS)?, None);
+    assert_eq!(rt; first_of(rt.alloc(), Taken::AsFragments, &NO_HEADS)?, None);
     Ok(())
 }
 
 #[test]
 fn the_gateway_answers_itself(rt: HostRuntime) -> Result<(), Fail> {
-    let mut side = routed(rt.alloc(), b"/a")?;
     let rows: [Row<'_>; 4] = [
         (HEADERS, WHOLE, 1, GET, Told::Answered(Cause::NoRoute)),
         (HEADERS, ALL, 1, TRAILERS, Told::Ignored),
@@ -405,20 +516,11 @@ fn the_gateway_answers_itself(rt: HostRuntime) -> Result<(), Fail> {
             Told::Answered(Cause::LargeFields),
         ),
     ];
-    assert_eq!(rt; first_that_differs(&mut side, &rows)?, None);
+    assert_eq!(rt;
+        first_by(rt.alloc(), b"/a", Taken::AsFragments, &rows)?,
+        None
+    );
     Ok(())
-}
-
-/// The first of so many streams on which no request begins.
-fn first_without_request(side: &mut Side, count: u32) -> Result<Option<u32>, AllocError> {
-    for place in 0..count.min(1000) {
-        let id = 2 * place + 1;
-        let row = [(HEADERS, WHOLE, id, GET, Told::Begins(0))];
-        if first_that_differs(side, &row)?.is_some() {
-            return Ok(Some(id));
-        }
-    }
-    Ok(None)
 }
 
 static REFUSED: [Row<'static>; 2] = [
@@ -428,8 +530,9 @@ static REFUSED: [Row<'static>; 2] = [
 
 #[test]
 fn the_101st_stream_is_refused(rt: HostRuntime) -> Result<(), Fail> {
-    let mut side = routed(rt.alloc(), b"/")?;
-    assert_eq!(rt; first_without_request(&mut side, 100)?, None);
-    assert_eq!(rt; first_that_differs(&mut side, &REFUSED)?, None);
+    assert_eq!(rt;
+        first_of(rt.alloc(), Taken::BehindAHundred, &REFUSED)?,
+        None
+    );
     Ok(())
 }

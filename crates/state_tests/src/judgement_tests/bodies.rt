@@ -2,8 +2,9 @@
 
 use super::plain::{
     DISCARDED, FLOW_CONTROL_ERROR, FRAME_SIZE_ERROR, PROTOCOL_ERROR, Row, STREAM_CLOSED,
-    first_that_differs, opened, opened_with,
+    first_that_differs, is_as_told, open_all,
 };
+use crate::streams_seen::BEGUN;
 use judgement::{Connection, Fault, Judged};
 use std::alloc::Global;
 use std::test::*;
@@ -18,10 +19,31 @@ static LESS: [u8; 16382] = [7; 16382];
 
 static LAST: [u8; 7232] = [7; 7232];
 
-/// The first of these frames of which something else comes where these streams are open.
+/// The first of these frames of which something else comes, once these streams are opened with requests of this course.
+fn first_behind_opening(
+    connection: &mut Connection,
+    ids: &[u32],
+    course: Course,
+    rows: &[Row<'_>],
+) -> Result<Option<usize>, Fail> {
+    open_all(connection, ids, course)?;
+    Ok(first_that_differs(connection, rows))
+}
+
+/// The same, on a connection of its own.
+fn first_with(
+    alloc: Global,
+    ids: &[u32],
+    course: Course,
+    rows: &[Row<'_>],
+) -> Result<Option<usize>, Fail> {
+    let mut connection = Connection::new(alloc);
+    first_behind_opening(&mut connection, ids, course, rows)
+}
+
+/// The same, with requests that declare nothing.
 fn first_on(alloc: Global, ids: &[u32], rows: &[Row<'_>]) -> Result<Option<usize>, Fail> {
-    let mut connection = opened(alloc, ids)?;
-    Ok(first_that_differs(&mut connection, rows))
+    first_with(alloc, ids, BEGUN, rows)
 }
 
 static PADDED: [Row<'static>; 7] = [
@@ -56,59 +78,74 @@ fn content_keeps_to_the_connections_window(rt: HostRuntime) -> Result<(), Fail> 
     Ok(())
 }
 
-/// Gives an octet back to the connection alone, and tells what comes of one more on stream 1, if it isn't this.
-fn differs_past_window(connection: &mut Connection, wanted: Judged<'static>) -> Option<usize> {
-    if connection.room() > 1000000 {
-        return Some(0);
+/// Gives an octet back to the connection alone.
+fn give_back_one(connection: &mut Connection) {
+    if connection.room() < 1000000 {
+        connection.gave_back(1);
     }
-    connection.gave_back(1);
-    first_that_differs(connection, &[(0, 0, 1, b"a", wanted)])
 }
 
-/// A connection on whose stream 1 all came that the windows take, but for 16,383 octets. The gateway replies itself, as that is past the most
-/// octets of a body.
-fn filled(alloc: Global) -> Result<Connection, Fail> {
+/// The frames on stream 1 with all that the windows take, but for 16,383 octets. The gateway replies itself, as that is past the most octets of a
+/// body.
+fn fill(connection: &mut Connection) -> Result<(), Fail> {
     let rows: [Row<'_>; 3] = [
         (0, 0, 1, &WHOLE, Judged::Content(&WHOLE, false)),
         (0, 0, 1, &WHOLE, Judged::Content(&WHOLE, false)),
         (0, 0, 1, &WHOLE, Judged::LargeBody),
     ];
-    let mut connection = opened(alloc, &[1])?;
-    if first_that_differs(&mut connection, &rows).is_some() {
+    if first_behind_opening(connection, &[1], BEGUN, &rows)?.is_some() {
         return Err(Fail::from("the windows aren't filled"));
     }
-    Ok(connection)
+    Ok(())
+}
+
+/// One octet on stream 1 for which it has no room.
+static PAST: Row<'static> = (0, 0, 1, b"a", Judged::Failed(Fault::Stream(3)));
+
+/// The first of these frames of which something else comes, once the windows are filled. Behind them an octet is given back to the connection, and
+/// one more comes on stream 1, for which there is no room.
+fn first_before_the_last(
+    connection: &mut Connection,
+    rows: &[Row<'_>],
+) -> Result<Option<usize>, Fail> {
+    fill(connection)?;
+    if let Some(place) = first_that_differs(connection, rows) {
+        return Ok(Some(place));
+    }
+    give_back_one(connection);
+    if is_as_told(connection, &PAST) {
+        return Ok(None);
+    }
+    Ok(Some(rows.len()))
 }
 
 #[test]
 fn content_keeps_to_its_streams_window(rt: HostRuntime) -> Result<(), Fail> {
-    let mut connection = filled(rt.alloc())?;
     let rows: [Row<'_>; 1] = [(0, 0, 1, &REST, Judged::Content(&REST, false))];
-    assert_eq!(rt; first_that_differs(&mut connection, &rows), None);
-    let past = Judged::Failed(Fault::Stream(3));
-    assert_eq!(rt; differs_past_window(&mut connection, past), None);
+    let mut connection = Connection::new(rt.alloc());
+    assert_eq!(rt; first_before_the_last(&mut connection, &rows)?, None);
     Ok(())
 }
 
 /// Behind its request's end, octets for which the stream has no room are an error of flow control first.
 #[test]
 fn windows_go_before_ends(rt: HostRuntime) -> Result<(), Fail> {
-    let mut connection = filled(rt.alloc())?;
     let rows: [Row<'_>; 1] = [(0, 1, 1, &REST, Judged::Content(&REST, true))];
-    assert_eq!(rt; first_that_differs(&mut connection, &rows), None);
-    let past = Judged::Failed(Fault::Stream(3));
-    assert_eq!(rt; differs_past_window(&mut connection, past), None);
+    let mut connection = Connection::new(rt.alloc());
+    assert_eq!(rt; first_before_the_last(&mut connection, &rows)?, None);
     Ok(())
 }
 
 #[test]
 fn ends_are_ends_within_windows(rt: HostRuntime) -> Result<(), Fail> {
-    let mut connection = filled(rt.alloc())?;
-    let rows: [Row<'_>; 2] = [
+    let rows: [Row<'_>; 5] = [
+        (0, 0, 1, &WHOLE, Judged::Content(&WHOLE, false)),
+        (0, 0, 1, &WHOLE, Judged::Content(&WHOLE, false)),
+        (0, 0, 1, &WHOLE, Judged::LargeBody),
         (0, 1, 1, &LESS, Judged::Content(&LESS, true)),
         (0, 0, 1, b"a", Judged::Failed(Fault::Stream(5))),
     ];
-    assert_eq!(rt; first_that_differs(&mut connection, &rows), None);
+    assert_eq!(rt; first_on(rt.alloc(), &[1], &rows)?, None);
     Ok(())
 }
 
@@ -155,8 +192,8 @@ static DECLARED: [Row<'static>; 6] = [
 #[test]
 fn bodies_have_their_declared_lengths(rt: HostRuntime) -> Result<(), Fail> {
     let course = Course::new().with_block(Some(5), false);
-    let mut connection = opened_with(rt.alloc(), &[1, 3, 5, 7], course)?;
-    assert_eq!(rt; first_that_differs(&mut connection, &DECLARED), None);
+    let first = first_with(rt.alloc(), &[1, 3, 5, 7], course, &DECLARED)?;
+    assert_eq!(rt; first, None);
     Ok(())
 }
 

@@ -6,6 +6,7 @@ use frames::View;
 use judgement::{Connection, Fault, Judged};
 use settings::Change;
 use std::alloc::Global;
+use std::process::Abort;
 use std::test::*;
 use stream_state::{Kind, Verdict};
 use streams_kept::Course;
@@ -56,23 +57,35 @@ const BY_ONE: Change = Change {
 pub const SETTINGS: Row<'static> = (4, 0, 0, b"", Judged::Settings(UNCHANGED));
 
 /// Judges a frame that has no fragment of a header block; nothing comes of another.
-fn judged<'a>(connection: &mut Connection, view: View<'a>) -> Option<Judged<'a>> {
-    if view.kind == 1 || view.kind == 9 || view.payload.len() > 16384 {
+fn judged<'a>(
+    connection: &mut Connection,
+    kind: u8,
+    flags: u8,
+    id: u32,
+    payload: &'a [u8],
+) -> Option<Judged<'a>> {
+    if kind == 1 || kind == 9 || payload.len() > 16384 {
         return None;
     }
+    let view = View {
+        kind,
+        flags,
+        id,
+        payload,
+    };
     Some(connection.judge(view, MOST))
+}
+
+/// Whether what should comes of a frame.
+pub(crate) fn is_as_told(connection: &mut Connection, row: &Row<'_>) -> bool {
+    let (kind, flags, id, payload, wanted) = *row;
+    judged(connection, kind, flags, id, payload) == Some(wanted)
 }
 
 /// The first of these frames, which a connection takes in turn, of which something else comes.
 pub(crate) fn first_that_differs(connection: &mut Connection, rows: &[Row<'_>]) -> Option<usize> {
-    for (place, (kind, flags, id, payload, wanted)) in rows.iter().enumerate() {
-        let view = View {
-            kind: *kind,
-            flags: *flags,
-            id: *id,
-            payload,
-        };
-        if judged(connection, view) != Some(*wanted) {
+    for (place, row) in rows.iter().enumerate() {
+        if !is_as_told(connection, row) {
             return Some(place);
         }
     }
@@ -84,23 +97,21 @@ fn first_that_differs_at_first(alloc: Global, rows: &[Row<'_>]) -> Option<usize>
     first_that_differs(&mut Connection::new(alloc), rows)
 }
 
-/// A connection on which settings came, and these streams were opened with requests of this course.
-pub(crate) fn opened_with(alloc: Global, ids: &[u32], course: Course) -> Result<Connection, Fail> {
-    let mut connection = Connection::new(alloc);
-    if first_that_differs(&mut connection, &[SETTINGS]).is_some() {
+/// Takes settings, and opens these streams with requests of this course.
+pub(crate) fn open_all(
+    connection: &mut Connection,
+    ids: &[u32],
+    course: Course,
+) -> Result<(), Fail> {
+    if !is_as_told(connection, &SETTINGS) {
         return Err(Fail::from("settings aren't taken"));
     }
     for id in ids {
-        if !open_if_idle(&mut connection, *id, course, false)? {
+        if !open_if_idle(connection, *id, course, false)? {
             return Err(Fail::from("a stream isn't opened"));
         }
     }
-    Ok(connection)
-}
-
-/// The same, with requests that declare nothing.
-pub(crate) fn opened(alloc: Global, ids: &[u32]) -> Result<Connection, Fail> {
-    opened_with(alloc, ids, BEGUN)
+    Ok(())
 }
 
 #[test]
@@ -223,13 +234,20 @@ static GRANTS: [Row<'static>; 16] = [
     (8, 0, 9, &[0, 0, 0, 0], DISCARDED),
 ];
 
-#[test]
-fn streams_are_granted_to_and_reset(rt: HostRuntime) -> Result<(), Fail> {
-    let mut connection = opened(rt.alloc(), &[3, 5, 9, 11])?;
-    assert_eq!(rt; first_that_differs(&mut connection, &GRANTS), None);
+/// Settings that none of the windows of streams is in the way of any more.
+static LARGER: [Row<'static>; 1] = [(4, 0, 0, &[0, 4, 0, 1, 0, 0], Judged::Settings(BY_ONE))];
+
+/// What comes of frames on streams that are granted to and reset.
+fn assert_granted_and_reset(rt: &impl Abort, connection: &mut Connection) -> Result<(), Fail> {
+    open_all(connection, &[3, 5, 9, 11], BEGUN)?;
+    assert_eq!(rt; first_that_differs(connection, &GRANTS), None);
     assert_eq!(rt; connection.verdict(3, Kind::Data), Verdict::Discard);
     assert_eq!(rt; connection.verdict(9, Kind::Data), Verdict::Connection(5));
-    let rows: [Row<'_>; 1] = [(4, 0, 0, &[0, 4, 0, 1, 0, 0], Judged::Settings(BY_ONE))];
-    assert_eq!(rt; first_that_differs(&mut connection, &rows), None);
+    assert_eq!(rt; first_that_differs(connection, &LARGER), None);
     Ok(())
+}
+
+#[test]
+fn streams_are_granted_to_and_reset(rt: HostRuntime) -> Result<(), Fail> {
+    assert_granted_and_reset(&rt, &mut Connection::new(rt.alloc()))
 }

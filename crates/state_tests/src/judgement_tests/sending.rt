@@ -1,10 +1,11 @@
 //! What goes out, and what is left of the connection behind it.
 
 use super::open_if_idle;
-use crate::streams_seen::{BEGUN, Fact, Seen, are_so};
+use crate::streams_seen::{self, BEGUN, Fact, Seen};
 use frames::View;
 use judgement::Connection;
 use std::alloc::AllocError;
+use std::process::Abort;
 use std::test::*;
 use stream_state::{Standing, State};
 use streams_kept::{Cause, Course, Reply};
@@ -36,10 +37,7 @@ fn sends_data(connection: &mut Connection, octets: u32, ends: bool) -> bool {
         return false;
     };
     let count = i64::from(octets);
-    if count > 0 && count > connection.window() {
-        return false;
-    }
-    if count > 0 && count > connection.window_on(live) {
+    if count > connection.window() || count > connection.window_on(live) {
         return false;
     }
     connection.sent_data(1, octets, ends);
@@ -139,24 +137,51 @@ fn is_so(connection: &Connection, seen: Of<'_>) -> bool {
         Of::Room(octets) => connection.room() == octets,
         Of::Served(id, is) => connection.is_served(id) == is,
         Of::Spent(is) => connection.is_spent() == is,
-        Of::Streams(facts) => are_so(connection.streams(), facts),
+        Of::Streams(facts) => streams_seen::are_so(connection.streams(), facts),
     }
 }
 
 /// What is done, whether it may be done, and what is seen behind it.
 type Row<'a> = (Act<'a>, bool, &'a [Of<'a>]);
 
-fn is_as_told(connection: &mut Connection, row: &Row<'_>) -> bool {
-    let (act, wanted, seen) = *row;
-    if does(connection, act) != wanted {
-        return false;
-    }
+/// Whether all of this is seen of the connection.
+fn are_so(connection: &Connection, seen: &[Of<'_>]) -> bool {
     for one in seen {
         if !is_so(connection, *one) {
             return false;
         }
     }
     true
+}
+
+fn is_as_told(connection: &mut Connection, row: &Row<'_>) -> bool {
+    let (act, wanted, seen) = *row;
+    if does(connection, act) != wanted {
+        return false;
+    }
+    are_so(connection, seen)
+}
+
+/// The first of these rows that goes otherwise on a connection that is lent.
+fn first_on(connection: &mut Connection, rows: &[Row<'_>]) -> Option<usize> {
+    for (place, row) in rows.iter().enumerate() {
+        if !is_as_told(connection, row) {
+            return Some(place);
+        }
+    }
+    None
+}
+
+/// The same, once stream 1 is opened there.
+fn first_behind_opening(
+    connection: &mut Connection,
+    ended: bool,
+    rows: &[Row<'_>],
+) -> Result<Option<usize>, Fail> {
+    if !open_if_idle(connection, 1, BEGUN, ended)? {
+        return Err(Fail::from("the stream isn't opened"));
+    }
+    Ok(first_on(connection, rows))
 }
 
 /// The first of these rows that goes otherwise on a connection with one active stream, 1, which its client has ended or not.
@@ -166,15 +191,7 @@ fn first_that_differs(
     rows: &[Row<'_>],
 ) -> Result<Option<usize>, Fail> {
     let mut connection = Connection::new(rt.alloc());
-    if !open_if_idle(&mut connection, 1, BEGUN, ended)? {
-        return Err(Fail::from("the stream isn't opened"));
-    }
-    for (place, row) in rows.iter().enumerate() {
-        if !is_as_told(&mut connection, row) {
-            return Ok(Some(place));
-        }
-    }
-    Ok(None)
+    first_behind_opening(&mut connection, ended, rows)
 }
 
 static HEADS: [Row<'static>; 2] = [
@@ -304,15 +321,18 @@ fn answers_fail(rt: HostRuntime) -> Result<(), Fail> {
     Ok(())
 }
 
-/// Opens a stream that its client has ended, and sends a response's final head on it, which ends it or doesn't; says whether it was opened.
-fn serves(connection: &mut Connection, id: u32, ends: bool) -> Result<bool, AllocError> {
-    if !open_if_idle(connection, id, BEGUN, true)? {
-        return Ok(false);
-    }
+/// Sends a response's final head on a stream where it is active, which ends it or doesn't.
+fn respond(connection: &mut Connection, id: u32, ends: bool) {
     if connection.streams().find(id).is_some() {
         connection.sent_head(id, true, ends);
     }
-    Ok(true)
+}
+
+/// Opens a stream that its client has ended, and sends a response's final head on it, which ends it or doesn't; says whether it was opened.
+fn serves(connection: &mut Connection, id: u32, ends: bool) -> Result<bool, AllocError> {
+    let opened = open_if_idle(connection, id, BEGUN, true)?;
+    respond(connection, id, ends);
+    Ok(opened)
 }
 
 /// The first place at which a connection is spent, or on which no stream is opened: of 10,000, all but the last of which are over.
@@ -332,13 +352,20 @@ fn reset(connection: &mut Connection, id: u32) {
     }
 }
 
+/// What is seen where the last of 10,000 streams is still active.
+static COUNTED: [Of<'static>; 2] = [Of::Streams(&[Fact::Count(10000)]), Of::Spent(false)];
+
+/// A connection is spent once 10,000 streams were served and none is active any more.
+fn assert_is_spent(rt: &impl Abort, connection: &mut Connection) -> Result<(), AllocError> {
+    assert_eq!(rt; first_unserved(connection)?, None);
+    assert!(rt; are_so(connection, &COUNTED));
+    reset(connection, 19999);
+    assert!(rt; connection.is_spent());
+    Ok(())
+}
+
 #[test]
 fn connections_are_spent(rt: HostRuntime) -> Result<(), Fail> {
-    let mut connection = Connection::new(rt.alloc());
-    assert_eq!(rt; first_unserved(&mut connection)?, None);
-    let counted = [Of::Streams(&[Fact::Count(10000)]), Of::Spent(false)];
-    assert!(rt; is_as_told(&mut connection, &(Act::Nothing, true, &counted)));
-    reset(&mut connection, 19999);
-    assert!(rt; connection.is_spent());
+    assert_is_spent(&rt, &mut Connection::new(rt.alloc()))?;
     Ok(())
 }

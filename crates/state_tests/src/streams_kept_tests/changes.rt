@@ -3,6 +3,7 @@
 use super::open_if_idle;
 use crate::streams_seen::{BEGUN, Fact, Seen, are_so};
 use std::alloc::{AllocError, Global};
+use std::process::Abort;
 use std::test::*;
 use stream_state::{Kind, Standing, State, Verdict};
 use streams_kept::{Cause, Course, Reply, Streams};
@@ -108,15 +109,27 @@ fn does(streams: &mut Streams, id: u32, act: Act) -> Result<bool, AllocError> {
 /// A stream, what is done to it, whether it may be done, and what is seen of the streams behind it.
 type Row<'a> = (u32, Act, bool, &'a [Fact]);
 
-/// The first of these rows that goes otherwise where nothing was opened before.
-fn first_that_differs(alloc: Global, rows: &[Row<'_>]) -> Result<Option<usize>, AllocError> {
-    let mut streams = Streams::new(alloc);
-    for (place, (id, act, wanted, facts)) in rows.iter().enumerate() {
-        if does(&mut streams, *id, *act)? != *wanted || !are_so(&streams, facts) {
+/// Whether a row goes as it should.
+fn is_as_told(streams: &mut Streams, row: &Row<'_>) -> Result<bool, AllocError> {
+    let (id, act, wanted, facts) = *row;
+    let done = does(streams, id, act)?;
+    Ok(done == wanted && are_so(streams, facts))
+}
+
+/// The first of these rows that goes otherwise on streams that are lent.
+fn first_on(streams: &mut Streams, rows: &[Row<'_>]) -> Result<Option<usize>, AllocError> {
+    for (place, row) in rows.iter().enumerate() {
+        if !is_as_told(streams, row)? {
             return Ok(Some(place));
         }
     }
     Ok(None)
+}
+
+/// The first of these rows that goes otherwise where nothing was opened before.
+fn first_that_differs(alloc: Global, rows: &[Row<'_>]) -> Result<Option<usize>, AllocError> {
+    let mut streams = Streams::new(alloc);
+    first_on(&mut streams, rows)
 }
 
 static OPENED: [Row<'static>; 7] = [
@@ -380,10 +393,15 @@ static CLOSED: [Fact; 5] = [
     Fact::Stands(10003, Standing::Opened(State::Closed)),
 ];
 
+/// Ten thousand streams are opened and closed.
+fn assert_ten_thousand(rt: &impl Abort, streams: &mut Streams) -> Result<(), AllocError> {
+    assert_eq!(rt; first_refused(streams)?, None);
+    assert!(rt; are_so(streams, &CLOSED));
+    Ok(())
+}
+
 #[test]
 fn ten_thousand_are_opened(rt: HostRuntime) -> Result<(), Fail> {
-    let mut streams = Streams::new(rt.alloc());
-    assert_eq!(rt; first_refused(&mut streams)?, None);
-    assert!(rt; are_so(&streams, &CLOSED));
+    assert_ten_thousand(&rt, &mut Streams::new(rt.alloc()))?;
     Ok(())
 }

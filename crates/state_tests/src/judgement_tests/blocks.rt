@@ -4,6 +4,7 @@ use causes::{Cause, Route};
 use frames::View;
 use judgement::{BlockJudged, Connection, Fault, FrameJudged, Judged, Terms};
 use std::alloc::{AllocError, Global};
+use std::slice;
 use std::test::*;
 
 /// Types of frames (RFC 9113, section 6).
@@ -296,9 +297,9 @@ fn first_by(
     taken: Taken,
     rows: &[Row<'_>],
 ) -> Result<Option<usize>, AllocError> {
-    let routes = [route_of(alloc, prefix)?];
+    let route = route_of(alloc, prefix)?;
     let mut connection = settled(alloc);
-    first_on(&mut connection, &routes, taken, rows)
+    first_on(&mut connection, slice::from_ref(&route), taken, rows)
 }
 
 /// The same, with a route for all paths.

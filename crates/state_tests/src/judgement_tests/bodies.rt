@@ -85,31 +85,16 @@ fn give_back_one(connection: &mut Connection) {
     }
 }
 
-/// The frames on stream 1 with all that the windows take, but for 16,383 octets. The gateway replies itself, as that is past the most octets of a
-/// body.
-fn fill(connection: &mut Connection) -> Result<(), Fail> {
-    let rows: [Row<'_>; 3] = [
-        (0, 0, 1, &WHOLE, Judged::Content(&WHOLE, false)),
-        (0, 0, 1, &WHOLE, Judged::Content(&WHOLE, false)),
-        (0, 0, 1, &WHOLE, Judged::LargeBody),
-    ];
-    if first_behind_opening(connection, &[1], BEGUN, &rows)?.is_some() {
-        return Err(Fail::from("the windows aren't filled"));
-    }
-    Ok(())
-}
-
 /// One octet on stream 1 for which it has no room.
 static PAST: Row<'static> = (0, 0, 1, b"a", Judged::Failed(Fault::Stream(3)));
 
-/// The first of these frames of which something else comes, once the windows are filled. Behind them an octet is given back to the connection, and
-/// one more comes on stream 1, for which there is no room.
+/// The first of these frames of which something else comes, once stream 1 is opened. Behind them an octet is given back to the connection, and one
+/// more comes on the stream, for which that has no room. If it has, that is one behind all.
 fn first_before_the_last(
     connection: &mut Connection,
     rows: &[Row<'_>],
 ) -> Result<Option<usize>, Fail> {
-    fill(connection)?;
-    if let Some(place) = first_that_differs(connection, rows) {
+    if let Some(place) = first_behind_opening(connection, &[1], BEGUN, rows)? {
         return Ok(Some(place));
     }
     give_back_one(connection);
@@ -119,20 +104,35 @@ fn first_before_the_last(
     Ok(Some(rows.len()))
 }
 
+/// The same, on a connection of its own.
+fn first_within_window(alloc: Global, rows: &[Row<'_>]) -> Result<Option<usize>, Fail> {
+    let mut connection = Connection::new(alloc);
+    first_before_the_last(&mut connection, rows)
+}
+
+/// The first three frames fill the windows but for 16,383 octets. The gateway replies itself, as that is past the most octets of a body.
 #[test]
 fn content_keeps_to_its_streams_window(rt: HostRuntime) -> Result<(), Fail> {
-    let rows: [Row<'_>; 1] = [(0, 0, 1, &REST, Judged::Content(&REST, false))];
-    let mut connection = Connection::new(rt.alloc());
-    assert_eq!(rt; first_before_the_last(&mut connection, &rows)?, None);
+    let rows: [Row<'_>; 4] = [
+        (0, 0, 1, &WHOLE, Judged::Content(&WHOLE, false)),
+        (0, 0, 1, &WHOLE, Judged::Content(&WHOLE, false)),
+        (0, 0, 1, &WHOLE, Judged::LargeBody),
+        (0, 0, 1, &REST, Judged::Content(&REST, false)),
+    ];
+    assert_eq!(rt; first_within_window(rt.alloc(), &rows)?, None);
     Ok(())
 }
 
 /// Behind its request's end, octets for which the stream has no room are an error of flow control first.
 #[test]
 fn windows_go_before_ends(rt: HostRuntime) -> Result<(), Fail> {
-    let rows: [Row<'_>; 1] = [(0, 1, 1, &REST, Judged::Content(&REST, true))];
-    let mut connection = Connection::new(rt.alloc());
-    assert_eq!(rt; first_before_the_last(&mut connection, &rows)?, None);
+    let rows: [Row<'_>; 4] = [
+        (0, 0, 1, &WHOLE, Judged::Content(&WHOLE, false)),
+        (0, 0, 1, &WHOLE, Judged::Content(&WHOLE, false)),
+        (0, 0, 1, &WHOLE, Judged::LargeBody),
+        (0, 1, 1, &REST, Judged::Content(&REST, true)),
+    ];
+    assert_eq!(rt; first_within_window(rt.alloc(), &rows)?, None);
     Ok(())
 }
 

@@ -1,6 +1,6 @@
 //! Responses as they are read, in any cuts.
 
-use crate::lines::{Line, are_fields, push_fields};
+use crate::lines::{Line, are_fields};
 use h1_reader::{Ended, Piece, Reader, ResponseFault, ResponseHead};
 use std::alloc::{AllocError, Global};
 use std::test::*;

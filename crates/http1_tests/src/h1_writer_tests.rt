@@ -1,22 +1,20 @@
 //! Requests as they are written.
 
-use crate::lines::{Line as AnyLine, push_fields};
+use crate::lines::push_fields;
 use h1_writer::Sender;
 use request_rules::{RequestHead, check_head};
 use std::alloc::{AllocError, Global};
 use std::test::*;
 
-type Line = AnyLine<'static>;
-
 /// The head of a request, if it keeps the rules.
-fn head_of(alloc: Global, lines: &[Line], ended: bool) -> Result<Option<RequestHead>, AllocError> {
+fn head_of(alloc: Global, lines: &[u8], ended: bool) -> Result<Option<RequestHead>, AllocError> {
     let mut fields = Vec::new(alloc);
     push_fields(alloc, &mut fields, lines)?;
     Ok(check_head(alloc, &fields, ended).ok())
 }
 
 /// Starts a request whose body goes on.
-fn started(alloc: Global, lines: &[Line], out: &mut Vec<u8>) -> Result<Option<Sender>, AllocError> {
+fn started(alloc: Global, lines: &[u8], out: &mut Vec<u8>) -> Result<Option<Sender>, AllocError> {
     let Some(head) = head_of(alloc, lines, false)? else {
         return Ok(None);
     };
@@ -41,16 +39,6 @@ fn finishes(sender: &mut Sender, out: &mut Vec<u8>) -> Result<bool, AllocError> 
     Ok(true)
 }
 
-const GET: Line = (b":method", b"GET");
-
-const POST: Line = (b":method", b"POST");
-
-const SCHEME: Line = (b":scheme", b"http");
-
-const PATH: Line = (b":path", b"/");
-
-const AUTHORITY: Line = (b":authority", b"www.example.com");
-
 /// Whether octets are pushed, and these are all that was added.
 fn adds(
     sender: &mut Sender,
@@ -65,9 +53,9 @@ fn adds(
 /// Octets of a body, and what is added for them.
 type Piece = (&'static [u8], &'static [u8]);
 
-/// A request: its lines, its head's text, the pieces of its body, and its last octets.
+/// A request: the text of its fields, its head, the pieces of its body, and its last octets.
 type Row = (
-    &'static [Line],
+    &'static [u8],
     &'static [u8],
     &'static [Piece],
     &'static [u8],
@@ -105,19 +93,19 @@ fn first_written_otherwise(alloc: Global, rows: &[Row]) -> Result<Option<usize>,
 /// A declared body keeps its last octet, a declared empty body keeps the head open, and an undeclared one goes in chunks.
 static STEPS: [Row; 3] = [
     (
-        &[POST, SCHEME, PATH, AUTHORITY, (b"content-length", b"005")],
+        b":method=POST|:scheme=http|:path=/|:authority=www.example.com|content-length=005",
         b"POST / HTTP/1.1\r\nhost: www.example.com\r\nvia: 2.0 h2gw\r\ncontent-length: 5\r\nconnection: close\r\n\r\n",
         &[(b"he", b"he"), (b"llo", b"ll"), (b"", b"")],
         b"o",
     ),
     (
-        &[POST, SCHEME, PATH, AUTHORITY, (b"content-length", b"0")],
+        b":method=POST|:scheme=http|:path=/|:authority=www.example.com|content-length=0",
         b"POST / HTTP/1.1\r\nhost: www.example.com\r\nvia: 2.0 h2gw\r\ncontent-length: 0\r\nconnection: close\r\n\r",
         &[],
         b"\n",
     ),
     (
-        &[POST, SCHEME, PATH, AUTHORITY],
+        b":method=POST|:scheme=http|:path=/|:authority=www.example.com",
         b"POST / HTTP/1.1\r\nhost: www.example.com\r\nvia: 2.0 h2gw\r\ntransfer-encoding: chunked\r\nconnection: close\r\n\r\n",
         &[
             (b"hi", b"2\r\nhi\r\n"),
@@ -136,8 +124,8 @@ fn bodies_go_out_as_they_come(rt: HostRuntime) -> Result<(), Fail> {
     Ok(())
 }
 
-/// A request: its head, the pieces of its body, and the whole text.
-type Whole = (&'static [Line], &'static [&'static [u8]], &'static [u8]);
+/// A request: the text of its fields, the pieces of its body, and the whole text.
+type Whole = (&'static [u8], &'static [&'static [u8]], &'static [u8]);
 
 /// Whether a request whose body comes in these pieces has this text.
 fn is_sent(alloc: Global, row: Whole) -> Result<bool, AllocError> {
@@ -166,32 +154,32 @@ fn first_sent_otherwise(alloc: Global, rows: &[Whole]) -> Result<Option<usize>, 
 
 static WHOLE_REQUESTS: [Whole; 6] = [
     (
-        &[POST, SCHEME, PATH, AUTHORITY],
+        b":method=POST|:scheme=http|:path=/|:authority=www.example.com",
         &[],
         b"POST / HTTP/1.1\r\nhost: www.example.com\r\nvia: 2.0 h2gw\r\ntransfer-encoding: chunked\r\nconnection: close\r\n\r\n0\r\n\r\n",
     ),
     (
-        &[POST, SCHEME, PATH, AUTHORITY],
+        b":method=POST|:scheme=http|:path=/|:authority=www.example.com",
         &[b"hi"],
         b"POST / HTTP/1.1\r\nhost: www.example.com\r\nvia: 2.0 h2gw\r\ntransfer-encoding: chunked\r\nconnection: close\r\n\r\n2\r\nhi\r\n0\r\n\r\n",
     ),
     (
-        &[POST, SCHEME, PATH, AUTHORITY],
+        b":method=POST|:scheme=http|:path=/|:authority=www.example.com",
         &[b"", b"0123456789", b"0123456789abcdef", b"a"],
         b"POST / HTTP/1.1\r\nhost: www.example.com\r\nvia: 2.0 h2gw\r\ntransfer-encoding: chunked\r\nconnection: close\r\n\r\na\r\n0123456789\r\n10\r\n0123456789abcdef\r\n1\r\na\r\n0\r\n\r\n",
     ),
     (
-        &[POST, SCHEME, PATH, AUTHORITY, (b"content-length", b"5")],
+        b":method=POST|:scheme=http|:path=/|:authority=www.example.com|content-length=5",
         &[b"hello"],
         b"POST / HTTP/1.1\r\nhost: www.example.com\r\nvia: 2.0 h2gw\r\ncontent-length: 5\r\nconnection: close\r\n\r\nhello",
     ),
     (
-        &[POST, SCHEME, PATH, AUTHORITY, (b"content-length", b"0012")],
+        b":method=POST|:scheme=http|:path=/|:authority=www.example.com|content-length=0012",
         &[b"he", b"", b"llo, world"],
         b"POST / HTTP/1.1\r\nhost: www.example.com\r\nvia: 2.0 h2gw\r\ncontent-length: 12\r\nconnection: close\r\n\r\nhello, world",
     ),
     (
-        &[POST, SCHEME, PATH, AUTHORITY, (b"content-length", b"0")],
+        b":method=POST|:scheme=http|:path=/|:authority=www.example.com|content-length=0",
         &[b""],
         b"POST / HTTP/1.1\r\nhost: www.example.com\r\nvia: 2.0 h2gw\r\ncontent-length: 0\r\nconnection: close\r\n\r\n",
     ),
@@ -203,8 +191,8 @@ fn requests_with_bodies(rt: HostRuntime) -> Result<(), Fail> {
     Ok(())
 }
 
-/// A head that ends its stream, and its text.
-type HeadRow = (&'static [Line], &'static [u8]);
+/// The text of the fields of a head that ends its stream, and what is written.
+type HeadRow = (&'static [u8], &'static [u8]);
 
 /// What is written of a request whose head ends its stream and declares no body.
 fn whole_sender(head: &RequestHead, out: &mut Vec<u8>) -> Result<Option<Sender>, AllocError> {
@@ -215,7 +203,7 @@ fn whole_sender(head: &RequestHead, out: &mut Vec<u8>) -> Result<Option<Sender>,
 }
 
 /// Whether the text of such a head is this one, and nothing may be added to it.
-fn is_whole(alloc: Global, lines: &[Line], text: &[u8]) -> Result<bool, AllocError> {
+fn is_whole(alloc: Global, lines: &[u8], text: &[u8]) -> Result<bool, AllocError> {
     let Some(head) = head_of(alloc, lines, true)? else {
         return Ok(false);
     };
@@ -238,83 +226,35 @@ fn first_head_that_differs(alloc: Global, rows: &[HeadRow]) -> Result<Option<usi
 
 static HEADS: [HeadRow; 8] = [
     (
-        &[GET, SCHEME, PATH, AUTHORITY],
+        b":method=GET|:scheme=http|:path=/|:authority=www.example.com",
         b"GET / HTTP/1.1\r\nhost: www.example.com\r\nvia: 2.0 h2gw\r\nconnection: close\r\n\r\n",
     ),
     (
-        &[
-            GET,
-            SCHEME,
-            PATH,
-            (b":authority", b"h"),
-            (b"a", b""),
-            (b"cookie", b"a=1"),
-            (b"cookie", b"b=2"),
-            (b"host", b"H"),
-        ],
+        b":method=GET|:scheme=http|:path=/|:authority=h|a=|cookie=a=1|cookie=b=2|host=H",
         b"GET / HTTP/1.1\r\nhost: h\r\na: \r\ncookie: a=1; b=2\r\nvia: 2.0 h2gw\r\nconnection: close\r\n\r\n",
     ),
     (
-        &[
-            GET,
-            SCHEME,
-            PATH,
-            AUTHORITY,
-            (b"cache-control", b"no-cache"),
-        ],
+        b":method=GET|:scheme=http|:path=/|:authority=www.example.com|cache-control=no-cache",
         b"GET / HTTP/1.1\r\nhost: www.example.com\r\ncache-control: no-cache\r\nvia: 2.0 h2gw\r\nconnection: close\r\n\r\n",
     ),
     (
-        &[(b":method", b"HEAD"), PATH, SCHEME, (b":authority", b"h")],
+        b":method=HEAD|:path=/|:scheme=http|:authority=h",
         b"HEAD / HTTP/1.1\r\nhost: h\r\nvia: 2.0 h2gw\r\nconnection: close\r\n\r\n",
     ),
     (
-        &[
-            GET,
-            SCHEME,
-            PATH,
-            (b":authority", b"h"),
-            (b"cookie", b"a=1"),
-            (b"cookie", b"b=2"),
-            (b"cookie", b""),
-            (b"host", b"H"),
-        ],
+        b":method=GET|:scheme=http|:path=/|:authority=h|cookie=a=1|cookie=b=2|cookie=|host=H",
         b"GET / HTTP/1.1\r\nhost: h\r\ncookie: a=1; b=2\r\nvia: 2.0 h2gw\r\nconnection: close\r\n\r\n",
     ),
     (
-        &[
-            GET,
-            SCHEME,
-            PATH,
-            (b"cookie", b""),
-            (b"a", b"1"),
-            (b"cookie", b"a=1"),
-            (b"b", b"2"),
-            (b"cookie", b"b=2"),
-            (b"host", b"H"),
-        ],
+        b":method=GET|:scheme=http|:path=/|cookie=|a=1|cookie=a=1|b=2|cookie=b=2|host=H",
         b"GET / HTTP/1.1\r\nhost: H\r\na: 1\r\ncookie: a=1; b=2\r\nb: 2\r\nvia: 2.0 h2gw\r\nconnection: close\r\n\r\n",
     ),
     (
-        &[
-            GET,
-            SCHEME,
-            PATH,
-            (b":authority", b"h"),
-            (b"cookie", b""),
-            (b"te", b"trailers"),
-            (b"via", b"1.1 a"),
-        ],
+        b":method=GET|:scheme=http|:path=/|:authority=h|cookie=|te=trailers|via=1.1 a",
         b"GET / HTTP/1.1\r\nhost: h\r\nvia: 1.1 a\r\nvia: 2.0 h2gw\r\nconnection: close\r\n\r\n",
     ),
     (
-        &[
-            (b":method", b"OPTIONS"),
-            SCHEME,
-            (b":path", b"*"),
-            (b":authority", b"h:80"),
-            (b"content-length", b"00"),
-        ],
+        b":method=OPTIONS|:scheme=http|:path=*|:authority=h:80|content-length=00",
         b"OPTIONS * HTTP/1.1\r\nhost: h:80\r\nvia: 2.0 h2gw\r\ncontent-length: 0\r\nconnection: close\r\n\r\n",
     ),
 ];

@@ -65,12 +65,12 @@ fn first_within_a_name(alloc: Global) -> Result<Option<u8>, AllocError> {
 }
 
 static NAMES: [Told; 6] = [
-    (b"", b"1", Some(Rule::Name)),
-    (b"X", b"1", Some(Rule::Name)),
-    (b"x ", b"1", Some(Rule::Name)),
-    (b"Host", b"h", Some(Rule::Name)),
-    (b"Connection", b"close", Some(Rule::Name)),
-    (b"x", b"", None),
+    (b"=1", Some(Rule::Name)),
+    (b"X=1", Some(Rule::Name)),
+    (b"x =1", Some(Rule::Name)),
+    (b"Host=h", Some(Rule::Name)),
+    (b"Connection=close", Some(Rule::Name)),
+    (b"x=", None),
 ];
 
 #[test]
@@ -91,11 +91,11 @@ fn first_within_a_method(alloc: Global) -> Result<Option<u8>, AllocError> {
 }
 
 static METHODS: [Told; 5] = [
-    (b":method", b"", Some(Rule::Method)),
-    (b":method", b" GET", Some(Rule::Value)),
-    (b":method", b"GET ", Some(Rule::Value)),
-    (b":method", b"get", None),
-    (b":method", b"connect", None),
+    (b":method=", Some(Rule::Method)),
+    (b":method= GET", Some(Rule::Value)),
+    (b":method=GET ", Some(Rule::Value)),
+    (b":method=get", None),
+    (b":method=connect", None),
 ];
 
 #[test]
@@ -153,9 +153,9 @@ fn first_in_a_value(alloc: Global) -> Result<Option<u8>, AllocError> {
 }
 
 static VALUES: [Told; 3] = [
-    (b"x", b"", None),
-    (b"x", b"1\r\n", Some(Rule::Value)),
-    (b"x", b"1\r\n 2", Some(Rule::Value)),
+    (b"x=", None),
+    (b"x=1\r\n", Some(Rule::Value)),
+    (b"x=1\r\n 2", Some(Rule::Value)),
 ];
 
 #[test]

@@ -3,17 +3,17 @@
 use super::*;
 
 static SCHEMES: [Told; 11] = [
-    (b":scheme", b"http", None),
-    (b":scheme", b"https", None),
-    (b":scheme", b"HTTP", Some(Rule::Scheme)),
-    (b":scheme", b"Https", Some(Rule::Scheme)),
-    (b":scheme", b"ftp", Some(Rule::Scheme)),
-    (b":scheme", b"", Some(Rule::Scheme)),
-    (b":scheme", b"htt", Some(Rule::Scheme)),
-    (b":scheme", b"httpss", Some(Rule::Scheme)),
-    (b":scheme", b"http:", Some(Rule::Scheme)),
-    (b":scheme", b"ht tp", Some(Rule::Scheme)),
-    (b":scheme", b"http ", Some(Rule::Value)),
+    (b":scheme=http", None),
+    (b":scheme=https", None),
+    (b":scheme=HTTP", Some(Rule::Scheme)),
+    (b":scheme=Https", Some(Rule::Scheme)),
+    (b":scheme=ftp", Some(Rule::Scheme)),
+    (b":scheme=", Some(Rule::Scheme)),
+    (b":scheme=htt", Some(Rule::Scheme)),
+    (b":scheme=httpss", Some(Rule::Scheme)),
+    (b":scheme=http:", Some(Rule::Scheme)),
+    (b":scheme=ht tp", Some(Rule::Scheme)),
+    (b":scheme=http ", Some(Rule::Value)),
 ];
 
 #[test]
@@ -22,61 +22,73 @@ fn schemes_are_two(rt: HostRuntime) -> Result<(), Fail> {
     Ok(())
 }
 
-const OPTIONS: Line = (b":method", b"OPTIONS");
-
-const STAR: Line = (b":path", b"*");
-
 static PATHS: [Told; 21] = [
-    (b":path", b"/", None),
-    (b":path", b"//", None),
-    (b":path", b"/a?b=c", None),
-    (b":path", b"/!", None),
-    (b":path", b"/~", None),
-    (b":path", b"/#", None),
-    (b":path", b"", Some(Rule::Path)),
-    (b":path", b"a", Some(Rule::Path)),
-    (b":path", b"?a", Some(Rule::Path)),
-    (b":path", b"http://h/", Some(Rule::Path)),
-    (b":path", b"/a b", Some(Rule::Path)),
-    (b":path", b"/ HTTP/1.1", Some(Rule::Path)),
-    (b":path", b"/a\tb", Some(Rule::Path)),
-    (b":path", b"/\x80", Some(Rule::Path)),
-    (b":path", b"/\xff", Some(Rule::Path)),
-    (b":path", b"*", Some(Rule::Path)),
-    (b":path", b"/\x7f", Some(Rule::Value)),
-    (b":path", b"/\x1f", Some(Rule::Value)),
-    (b":path", b"/\r\n", Some(Rule::Value)),
-    (b":path", b"/ ", Some(Rule::Value)),
-    (b":path", b" /", Some(Rule::Value)),
+    (b":path=/", None),
+    (b":path=//", None),
+    (b":path=/a?b=c", None),
+    (b":path=/!", None),
+    (b":path=/~", None),
+    (b":path=/#", None),
+    (b":path=", Some(Rule::Path)),
+    (b":path=a", Some(Rule::Path)),
+    (b":path=?a", Some(Rule::Path)),
+    (b":path=http://h/", Some(Rule::Path)),
+    (b":path=/a b", Some(Rule::Path)),
+    (b":path=/ HTTP/1.1", Some(Rule::Path)),
+    (b":path=/a\tb", Some(Rule::Path)),
+    (b":path=/\x80", Some(Rule::Path)),
+    (b":path=/\xff", Some(Rule::Path)),
+    (b":path=*", Some(Rule::Path)),
+    (b":path=/\x7f", Some(Rule::Value)),
+    (b":path=/\x1f", Some(Rule::Value)),
+    (b":path=/\r\n", Some(Rule::Value)),
+    (b":path=/ ", Some(Rule::Value)),
+    (b":path= /", Some(Rule::Value)),
 ];
 
 static STARS: [Row; 9] = [
-    (&[OPTIONS, SCHEME, STAR, AUTHORITY], true, None),
-    (&[STAR, OPTIONS, SCHEME, AUTHORITY], true, None),
-    (&[OPTIONS, SCHEME, PATH, AUTHORITY], true, None),
-    (&[METHOD, SCHEME, STAR, AUTHORITY], true, Some(Rule::Path)),
     (
-        &[OPTIONS, SCHEME, (b":path", b""), AUTHORITY],
+        b":method=OPTIONS|:scheme=http|:path=*|:authority=h",
+        true,
+        None,
+    ),
+    (
+        b":path=*|:method=OPTIONS|:scheme=http|:authority=h",
+        true,
+        None,
+    ),
+    (
+        b":method=OPTIONS|:scheme=http|:path=/|:authority=h",
+        true,
+        None,
+    ),
+    (
+        b":method=GET|:scheme=http|:path=*|:authority=h",
         true,
         Some(Rule::Path),
     ),
     (
-        &[OPTIONS, SCHEME, (b":path", b"**"), AUTHORITY],
+        b":method=OPTIONS|:scheme=http|:path=|:authority=h",
         true,
         Some(Rule::Path),
     ),
     (
-        &[OPTIONS, SCHEME, (b":path", b"*/"), AUTHORITY],
+        b":method=OPTIONS|:scheme=http|:path=**|:authority=h",
         true,
         Some(Rule::Path),
     ),
     (
-        &[(b":method", b"options"), SCHEME, STAR, AUTHORITY],
+        b":method=OPTIONS|:scheme=http|:path=*/|:authority=h",
         true,
         Some(Rule::Path),
     ),
     (
-        &[(b":method", b"OPTION"), SCHEME, STAR, AUTHORITY],
+        b":method=options|:scheme=http|:path=*|:authority=h",
+        true,
+        Some(Rule::Path),
+    ),
+    (
+        b":method=OPTION|:scheme=http|:path=*|:authority=h",
         true,
         Some(Rule::Path),
     ),
@@ -85,34 +97,34 @@ static STARS: [Row; 9] = [
 #[test]
 fn paths_are_visible_from_a_slash_on(rt: HostRuntime) -> Result<(), Fail> {
     assert_eq!(rt; first_told_otherwise(rt.alloc(), &PATHS)?, None);
-    assert_eq!(rt; first_that_differs(rt.alloc(), &[], &STARS)?, None);
+    assert_eq!(rt; first_that_differs(rt.alloc(), b"", &STARS)?, None);
     Ok(())
 }
 
 static AUTHORITIES: [Told; 23] = [
-    (b":authority", b"h", None),
-    (b":authority", b"h:80", None),
-    (b":authority", b"[::1]:80", None),
-    (b":authority", b"h!", None),
-    (b":authority", b"h\"", None),
-    (b":authority", b"h~", None),
-    (b":authority", b"h$.0>A[]", None),
-    (b":authority", b"", Some(Rule::Authority)),
-    (b":authority", b"user@h", Some(Rule::Authority)),
-    (b":authority", b"h@", Some(Rule::Authority)),
-    (b":authority", b"h/", Some(Rule::Authority)),
-    (b":authority", b"h?", Some(Rule::Authority)),
-    (b":authority", b"h#", Some(Rule::Authority)),
-    (b":authority", b"h\\", Some(Rule::Authority)),
-    (b":authority", b"/h", Some(Rule::Authority)),
-    (b":authority", b"h h", Some(Rule::Authority)),
-    (b":authority", b"h\th", Some(Rule::Authority)),
-    (b":authority", b"h\x80", Some(Rule::Authority)),
-    (b":authority", b"h\xff", Some(Rule::Authority)),
-    (b":authority", b"h\x7f", Some(Rule::Value)),
-    (b":authority", b"h\r\nx: y", Some(Rule::Value)),
-    (b":authority", b" h", Some(Rule::Value)),
-    (b":authority", b"h ", Some(Rule::Value)),
+    (b":authority=h", None),
+    (b":authority=h:80", None),
+    (b":authority=[::1]:80", None),
+    (b":authority=h!", None),
+    (b":authority=h\"", None),
+    (b":authority=h~", None),
+    (b":authority=h$.0>A[]", None),
+    (b":authority=", Some(Rule::Authority)),
+    (b":authority=user@h", Some(Rule::Authority)),
+    (b":authority=h@", Some(Rule::Authority)),
+    (b":authority=h/", Some(Rule::Authority)),
+    (b":authority=h?", Some(Rule::Authority)),
+    (b":authority=h#", Some(Rule::Authority)),
+    (b":authority=h\\", Some(Rule::Authority)),
+    (b":authority=/h", Some(Rule::Authority)),
+    (b":authority=h h", Some(Rule::Authority)),
+    (b":authority=h\th", Some(Rule::Authority)),
+    (b":authority=h\x80", Some(Rule::Authority)),
+    (b":authority=h\xff", Some(Rule::Authority)),
+    (b":authority=h\x7f", Some(Rule::Value)),
+    (b":authority=h\r\nx: y", Some(Rule::Value)),
+    (b":authority= h", Some(Rule::Value)),
+    (b":authority=h ", Some(Rule::Value)),
 ];
 
 #[test]
@@ -121,157 +133,115 @@ fn authorities_are_of_their_octets(rt: HostRuntime) -> Result<(), Fail> {
     Ok(())
 }
 
-const HOST: Line = (b"host", b"h");
-
 static HOSTS: [Row; 23] = [
-    (&[HOST], true, None),
-    (&[ANY, HOST, ANY], true, None),
-    (&[AUTHORITY, HOST], true, None),
-    (&[AUTHORITY, (b"host", b"H")], true, None),
-    (&[(b":authority", b"AZ"), (b"host", b"az")], true, None),
-    (&[(b":authority", b"az"), (b"host", b"AZ")], true, None),
-    (
-        &[(b":authority", b"h["), (b"host", b"h{")],
-        true,
-        Some(Rule::Authority),
-    ),
-    (
-        &[(b":authority", b"h^"), (b"host", b"h~")],
-        true,
-        Some(Rule::Authority),
-    ),
-    (
-        &[(b":authority", b"h`"), (b"host", b"h@")],
-        true,
-        Some(Rule::Authority),
-    ),
-    (&[AUTHORITY, (b"host", b"x")], true, Some(Rule::Authority)),
-    (&[AUTHORITY, (b"host", b"")], true, Some(Rule::Authority)),
-    (&[AUTHORITY, (b"host", b"hh")], true, Some(Rule::Authority)),
-    (
-        &[AUTHORITY, (b"host", b"h:80")],
-        true,
-        Some(Rule::Authority),
-    ),
-    (&[(b":authority", b""), HOST], true, Some(Rule::Authority)),
-    (
-        &[(b":authority", b""), (b"host", b"")],
-        true,
-        Some(Rule::Authority),
-    ),
-    (&[AUTHORITY, HOST, HOST], true, Some(Rule::Authority)),
-    (&[HOST, HOST], true, Some(Rule::Authority)),
-    (&[HOST, (b"host", b"x")], true, Some(Rule::Authority)),
-    (&[], true, Some(Rule::Authority)),
-    (&[(b"host", b"")], true, Some(Rule::Authority)),
-    (&[(b"host", b"u@h")], true, Some(Rule::Authority)),
-    (&[(b"host", b"h/")], true, Some(Rule::Authority)),
-    (&[(b"host", b"h x")], true, Some(Rule::Authority)),
+    (b"host=h", true, None),
+    (b"a=|host=h|a=", true, None),
+    (b":authority=h|host=h", true, None),
+    (b":authority=h|host=H", true, None),
+    (b":authority=AZ|host=az", true, None),
+    (b":authority=az|host=AZ", true, None),
+    (b":authority=h[|host=h{", true, Some(Rule::Authority)),
+    (b":authority=h^|host=h~", true, Some(Rule::Authority)),
+    (b":authority=h`|host=h@", true, Some(Rule::Authority)),
+    (b":authority=h|host=x", true, Some(Rule::Authority)),
+    (b":authority=h|host=", true, Some(Rule::Authority)),
+    (b":authority=h|host=hh", true, Some(Rule::Authority)),
+    (b":authority=h|host=h:80", true, Some(Rule::Authority)),
+    (b":authority=|host=h", true, Some(Rule::Authority)),
+    (b":authority=|host=", true, Some(Rule::Authority)),
+    (b":authority=h|host=h|host=h", true, Some(Rule::Authority)),
+    (b"host=h|host=h", true, Some(Rule::Authority)),
+    (b"host=h|host=x", true, Some(Rule::Authority)),
+    (b"", true, Some(Rule::Authority)),
+    (b"host=", true, Some(Rule::Authority)),
+    (b"host=u@h", true, Some(Rule::Authority)),
+    (b"host=h/", true, Some(Rule::Authority)),
+    (b"host=h x", true, Some(Rule::Authority)),
 ];
 
 #[test]
 fn the_host_says_the_authority(rt: HostRuntime) -> Result<(), Fail> {
     assert_eq!(rt;
-        first_that_differs(rt.alloc(), &[METHOD, SCHEME, PATH], &HOSTS)?,
+        first_that_differs(rt.alloc(), b":method=GET|:scheme=http|:path=/", &HOSTS)?,
         None
     );
     Ok(())
 }
 
-const EXAMPLE: Line = (b":authority", b"www.example.com");
-
-const POST: Line = (b":method", b"POST");
-
 /// Heads that clients send, right and wrong.
 static WHOLE_HEADS: [Row; 15] = [
-    (&[METHOD, SCHEME, PATH, EXAMPLE], true, None),
-    (&[POST, SCHEME, PATH, EXAMPLE], false, None),
     (
-        &[
-            METHOD,
-            SCHEME,
-            PATH,
-            EXAMPLE,
-            (b"cache-control", b"no-cache"),
-        ],
+        b":method=GET|:scheme=http|:path=/|:authority=www.example.com",
         true,
         None,
     ),
     (
-        &[(b":method", b"HEAD"), PATH, SCHEME, AUTHORITY],
-        true,
-        None,
-    ),
-    (
-        &[POST, SCHEME, PATH, EXAMPLE, (b"content-length", b"5")],
-        false,
-        None,
-    ),
-    (&[POST, SCHEME, PATH, EXAMPLE, NONE], false, None),
-    (
-        &[POST, SCHEME, PATH, EXAMPLE, (b"expect", b"100-continue")],
+        b":method=POST|:scheme=http|:path=/|:authority=www.example.com",
         false,
         None,
     ),
     (
-        &[
-            METHOD,
-            SCHEME,
-            PATH,
-            AUTHORITY,
-            (b"cookie", b"a=1"),
-            (b"cookie", b"b=2"),
-            (b"host", b"H"),
-        ],
+        b":method=GET|:scheme=http|:path=/|:authority=www.example.com|cache-control=no-cache",
         true,
         None,
     ),
     (
-        &[
-            METHOD,
-            SCHEME,
-            PATH,
-            AUTHORITY,
-            (b"cookie", b"a=1"),
-            (b"cookie", b"b=2"),
-            (b"host", b"x"),
-        ],
+        b":method=HEAD|:path=/|:scheme=http|:authority=h",
+        true,
+        None,
+    ),
+    (
+        b":method=POST|:scheme=http|:path=/|:authority=www.example.com|content-length=5",
+        false,
+        None,
+    ),
+    (
+        b":method=POST|:scheme=http|:path=/|:authority=www.example.com|content-length=0",
+        false,
+        None,
+    ),
+    (
+        b":method=POST|:scheme=http|:path=/|:authority=www.example.com|expect=100-continue",
+        false,
+        None,
+    ),
+    (
+        b":method=GET|:scheme=http|:path=/|:authority=h|cookie=a=1|cookie=b=2|host=H",
+        true,
+        None,
+    ),
+    (
+        b":method=GET|:scheme=http|:path=/|:authority=h|cookie=a=1|cookie=b=2|host=x",
         true,
         Some(Rule::Authority),
     ),
     (
-        &[METHOD, SCHEME, PATH, EXAMPLE, (b"x-a", b"1\r\n")],
+        b":method=GET|:scheme=http|:path=/|:authority=www.example.com|x-a=1\r\n",
         true,
         Some(Rule::Value),
     ),
     (
-        &[METHOD, SCHEME, (b":path", b"/ HTTP/1.1"), AUTHORITY],
+        b":method=GET|:scheme=http|:path=/ HTTP/1.1|:authority=h",
         true,
         Some(Rule::Path),
     ),
     (
-        &[
-            METHOD,
-            SCHEME,
-            PATH,
-            EXAMPLE,
-            (b"transfer-encoding", b"chunked"),
-        ],
+        b":method=GET|:scheme=http|:path=/|:authority=www.example.com|transfer-encoding=chunked",
         true,
         Some(Rule::ConnectionField),
     ),
     (
-        &[METHOD, SCHEME, PATH, EXAMPLE, NONE, NONE],
+        b":method=GET|:scheme=http|:path=/|:authority=www.example.com|content-length=0|content-length=0",
         true,
         Some(Rule::ContentLength),
     ),
     (
-        &[METHOD, SCHEME, PATH, EXAMPLE, (b"X", b"1")],
+        b":method=GET|:scheme=http|:path=/|:authority=www.example.com|X=1",
         true,
         Some(Rule::Name),
     ),
     (
-        &[METHOD, SCHEME, PATH, EXAMPLE, (b"te", b"gzip")],
+        b":method=GET|:scheme=http|:path=/|:authority=www.example.com|te=gzip",
         true,
         Some(Rule::Te),
     ),
@@ -279,51 +249,43 @@ static WHOLE_HEADS: [Row; 15] = [
 
 #[test]
 fn whole_heads_are_judged(rt: HostRuntime) -> Result<(), Fail> {
-    assert_eq!(rt; first_that_differs(rt.alloc(), &[], &WHOLE_HEADS)?, None);
+    assert_eq!(rt; first_that_differs(rt.alloc(), b"", &WHOLE_HEADS)?, None);
     Ok(())
 }
 
 /// Heads that break several rules: of each two that follow one another the first is told, where both are broken.
 static FIRST_BROKEN: [Row; 9] = [
-    (&[PATH, (b"X", b"")], true, Some(Rule::PseudoField)),
-    (&[(b"X", b" "), (b"te", b"x")], true, Some(Rule::Name)),
-    (&[(b"x", b" "), (b"te", b"x")], true, Some(Rule::Value)),
-    (
-        &[(b"te", b"x"), (b"upgrade", b"x")],
-        true,
-        Some(Rule::ConnectionField),
-    ),
-    (&[(b"te", b"x")], true, Some(Rule::Te)),
-    (&[(b"host", b"x")], true, Some(Rule::Authority)),
-    (
-        &[(b"content-length", b"x")],
-        true,
-        Some(Rule::ContentLength),
-    ),
-    (&[(b"content-length", b"1")], true, Some(Rule::Length)),
-    (&[(b"content-length", b"1")], false, None),
+    (b":path=/|X=", true, Some(Rule::PseudoField)),
+    (b"X= |te=x", true, Some(Rule::Name)),
+    (b"x= |te=x", true, Some(Rule::Value)),
+    (b"te=x|upgrade=x", true, Some(Rule::ConnectionField)),
+    (b"te=x", true, Some(Rule::Te)),
+    (b"host=x", true, Some(Rule::Authority)),
+    (b"content-length=x", true, Some(Rule::ContentLength)),
+    (b"content-length=1", true, Some(Rule::Length)),
+    (b"content-length=1", false, None),
 ];
 
 /// The same of heads that have other pseudo-fields.
 static FIRST_BROKEN_OF_HEADS: [Row; 3] = [
     (
-        &[(b":method", b"G T"), SCHEME, PATH, AUTHORITY],
+        b":method=G T|:scheme=http|:path=/|:authority=h",
         true,
         Some(Rule::Method),
     ),
     (
-        &[METHOD, (b":scheme", b"ftp"), STAR, AUTHORITY],
+        b":method=GET|:scheme=ftp|:path=*|:authority=h",
         true,
         Some(Rule::Scheme),
     ),
-    (&[METHOD, SCHEME, STAR], true, Some(Rule::Path)),
+    (b":method=GET|:scheme=http|:path=*", true, Some(Rule::Path)),
 ];
 
 #[test]
 fn the_first_broken_rule_is_told(rt: HostRuntime) -> Result<(), Fail> {
-    assert_eq!(rt; first_that_differs(rt.alloc(), &HEAD, &FIRST_BROKEN)?, None);
+    assert_eq!(rt; first_that_differs(rt.alloc(), HEAD, &FIRST_BROKEN)?, None);
     assert_eq!(rt;
-        first_that_differs(rt.alloc(), &[], &FIRST_BROKEN_OF_HEADS)?,
+        first_that_differs(rt.alloc(), b"", &FIRST_BROKEN_OF_HEADS)?,
         None
     );
     Ok(())
@@ -332,19 +294,7 @@ fn the_first_broken_rule_is_told(rt: HostRuntime) -> Result<(), Fail> {
 /// A head with cookies that are joined and a tunnel, which has no path.
 static WITH_PARTS: [Parts; 2] = [
     Parts {
-        lines: &[
-            METHOD,
-            SCHEME,
-            PATH,
-            AUTHORITY,
-            (b"cookie", b""),
-            (b"accept", b"*/*"),
-            (b"cookie", b"a=1"),
-            (b"host", b"H"),
-            (b"cookie", b"b=2"),
-            (b"te", b"trailers"),
-            (b"content-length", b"007"),
-        ],
+        head: b":method=GET|:scheme=http|:path=/|:authority=h|cookie=|accept=*/*|cookie=a=1|host=H|cookie=b=2|te=trailers|content-length=007",
         method: b"GET",
         path: b"/",
         authority: b"h",
@@ -352,7 +302,7 @@ static WITH_PARTS: [Parts; 2] = [
         fields: &[(b"accept", b"*/*"), (b"cookie", b"a=1; b=2")],
     },
     Parts {
-        lines: &[(b":method", b"CONNECT"), (b":authority", b"h:80")],
+        head: b":method=CONNECT|:authority=h:80",
         method: b"CONNECT",
         path: b"",
         authority: b"h:80",

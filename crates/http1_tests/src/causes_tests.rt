@@ -4,14 +4,12 @@ ghost use Rattle.std.specs.Prelude.{◌≤◌, IfOk};
 ghost use Rattle.model.specs.Tables.{total_size};
 ghost use Rattle.model.specs.Causes.{largest_fields};
 
-use crate::lines::Line as AnyLine;
+use crate::lines::{Line, line_of};
 use causes::{Cause, Opening, Route, are_malformed_trailers, judge_head};
 use hpack_table::Field;
 use request_rules::RequestHead;
 use std::alloc::{AllocError, Global};
 use std::test::*;
-
-type Line = AnyLine<'static>;
 
 /// What a head comes to, its parts aside.
 #[derive(Clone, Copy, PartialEq, Eq)]
@@ -24,36 +22,15 @@ enum Told {
 /// The most octets of a body in these tests.
 const MOST: u64 = 10;
 
-const METHOD: Line = (b":method", b"GET");
-
-const OPTIONS: Line = (b":method", b"OPTIONS");
-
-const CONNECT: Line = (b":method", b"CONNECT");
-
-const SCHEME: Line = (b":scheme", b"http");
-
-const PATH: Line = (b":path", b"/a");
-
-const AUTHORITY: Line = (b":authority", b"h");
-
-const EXPECTS: Line = (b"expect", b"100-continue");
-
-const LARGE: Line = (b"content-length", b"11");
-
-/// A route for all requests.
-const ANY: Line = (b"", b"/");
-
-/// A route for other requests.
-const ELSEWHERE: Line = (b"elsewhere", b"/");
-
-/// The fields of these lines, whose sizes sum to at most 16,384.
-fn fields_of(alloc: Global, lines: &[AnyLine<'_>]) -> Result<Vec<Field>, Fail>
+/// The fields of a text, whose sizes sum to at most 16,384.
+fn fields_of(alloc: Global, text: &[u8]) -> Result<Vec<Field>, Fail>
     ensures { IfOk result (λ fields. total_size fields.items ≤ largest_fields) }
 {
     let mut fields = Vec::new(alloc);
     let mut room: usize = 16384;
-    for line in lines {
-        let field = Field::of(alloc, line.0, line.1)?;
+    for line in text.split(|octet| *octet == b'|') {
+        let (name, value) = line_of(line);
+        let field = Field::of(alloc, name, value)?;
         let Some(rest) = field.room_behind(room) else {
             return Err(Fail::from("the fields are too large"));
         };
@@ -63,27 +40,30 @@ fn fields_of(alloc: Global, lines: &[AnyLine<'_>]) -> Result<Vec<Field>, Fail>
     Ok(fields)
 }
 
-/// The routes of these authorities and prefixes.
-fn routes_of(alloc: Global, lines: &[Line]) -> Result<Vec<Route>, AllocError> {
+/// The route of this authority and prefix.
+fn route_of(alloc: Global, line: Line<'_>) -> Result<Route, AllocError> {
+    Ok(Route {
+        authority: Vec::from_slice(alloc, line.0)?,
+        prefix: Vec::from_slice(alloc, line.1)?,
+    })
+}
+
+/// The routes of a text. It has bars between them, and nothing where there is none.
+fn routes_of(alloc: Global, text: &[u8]) -> Result<Vec<Route>, AllocError> {
     let mut routes = Vec::new(alloc);
-    for line in lines {
-        routes.push(Route {
-            authority: Vec::from_slice(alloc, line.0)?,
-            prefix: Vec::from_slice(alloc, line.1)?,
-        })?;
+    if text.is_empty() {
+        return Ok(routes);
+    }
+    for part in text.split(|octet| *octet == b'|') {
+        routes.push(route_of(alloc, line_of(part))?)?;
     }
     Ok(routes)
 }
 
-/// What the head of these lines comes to.
-fn opening(
-    alloc: Global,
-    routes: &[Line],
-    lines: &[AnyLine<'_>],
-    ended: bool,
-) -> Result<Opening, Fail> {
+/// What the head of these fields comes to.
+fn opening(alloc: Global, routes: &[u8], text: &[u8], ended: bool) -> Result<Opening, Fail> {
     let routes = routes_of(alloc, routes)?;
-    let fields = fields_of(alloc, lines)?;
+    let fields = fields_of(alloc, text)?;
     if routes.len() > 9 {
         return Err(Fail::from("too many routes"));
     }
@@ -98,13 +78,14 @@ fn told_of(opening: &Opening) -> Told {
     }
 }
 
-/// Routes, the lines of a head, whether it ends its stream, and what it comes to.
-type Row = (&'static [Line], &'static [Line], bool, Told);
+/// A text of routes, each an authority, an equals sign and a prefix, a text of a head's fields, whether it ends its stream, and what
+/// it comes to.
+type Row = (&'static [u8], &'static [u8], bool, Told);
 
 /// The first row that comes to something else.
 fn first_that_differs(alloc: Global, rows: &[Row]) -> Result<Option<usize>, Fail> {
-    for (place, (routes, lines, ended, wanted)) in rows.iter().enumerate() {
-        if told_of(&opening(alloc, routes, lines, *ended)?) != *wanted {
+    for (place, (routes, text, ended, wanted)) in rows.iter().enumerate() {
+        if told_of(&opening(alloc, routes, text, *ended)?) != *wanted {
             return Ok(Some(place));
         }
     }
@@ -140,44 +121,49 @@ fn causes_have_their_replies(rt: HostRuntime) {
 fn has_parts(head: &RequestHead, method: &[u8], path: &[u8], length: Option<u64>) -> bool {
     head.method() == method
         && head.path() == path
-        && head.authority() == AUTHORITY.1
+        && head.authority() == b"h".as_slice()
         && head.length() == length
+}
+
+/// Whether a head goes on by the second route, with its parts.
+fn goes_on(opening: &Opening) -> bool {
+    match opening {
+        Opening::Forwarded { head, route } => {
+            *route == 1 && has_parts(head, b"GET", b"/a", Some(10))
+        }
+        _ => false,
+    }
 }
 
 #[test]
 fn a_head_goes_on_with_its_parts(rt: HostRuntime) -> Result<(), Fail> {
-    let lines = [METHOD, SCHEME, PATH, AUTHORITY, (b"content-length", b"10")];
-    let Opening::Forwarded { head, route } = opening(rt.alloc(), &[ELSEWHERE, ANY], &lines, false)?
-    else {
-        return Err(Fail::from("it doesn't go on"));
-    };
-    assert_eq!(rt; route, 1);
-    assert!(rt; has_parts(&head, b"GET", b"/a", Some(10)));
+    let text = b":method=GET|:scheme=http|:path=/a|:authority=h|content-length=10";
+    assert!(rt; goes_on(&opening(rt.alloc(), b"elsewhere=/|=/", text, false)?));
     Ok(())
 }
 
 static CAUSES: [Row; 4] = [
     (
-        &[ANY],
-        &[CONNECT, AUTHORITY],
+        b"=/",
+        b":method=CONNECT|:authority=h",
         false,
         Told::Answered(Cause::Tunnel, None),
     ),
     (
-        &[ANY],
-        &[METHOD, SCHEME, PATH, AUTHORITY, EXPECTS],
+        b"=/",
+        b":method=GET|:scheme=http|:path=/a|:authority=h|expect=100-continue",
         false,
         Told::Answered(Cause::Expects, None),
     ),
     (
-        &[ANY],
-        &[METHOD, SCHEME, PATH, AUTHORITY, LARGE],
+        b"=/",
+        b":method=GET|:scheme=http|:path=/a|:authority=h|content-length=11",
         false,
         Told::Answered(Cause::LargeBody, Some(11)),
     ),
     (
-        &[ELSEWHERE],
-        &[METHOD, SCHEME, PATH, AUTHORITY],
+        b"elsewhere=/",
+        b":method=GET|:scheme=http|:path=/a|:authority=h",
         true,
         Told::Answered(Cause::NoRoute, None),
     ),
@@ -191,38 +177,38 @@ fn each_cause_is_told(rt: HostRuntime) -> Result<(), Fail> {
 
 static TWO_CAUSES: [Row; 6] = [
     (
-        &[ANY],
-        &[CONNECT, AUTHORITY, EXPECTS],
+        b"=/",
+        b":method=CONNECT|:authority=h|expect=100-continue",
         false,
         Told::Answered(Cause::Tunnel, None),
     ),
     (
-        &[ANY],
-        &[CONNECT, AUTHORITY, LARGE],
+        b"=/",
+        b":method=CONNECT|:authority=h|content-length=11",
         false,
         Told::Answered(Cause::Tunnel, Some(11)),
     ),
     (
-        &[ELSEWHERE],
-        &[CONNECT, AUTHORITY],
+        b"elsewhere=/",
+        b":method=CONNECT|:authority=h",
         false,
         Told::Answered(Cause::Tunnel, None),
     ),
     (
-        &[ANY],
-        &[METHOD, SCHEME, PATH, AUTHORITY, LARGE, EXPECTS],
+        b"=/",
+        b":method=GET|:scheme=http|:path=/a|:authority=h|content-length=11|expect=100-continue",
         false,
         Told::Answered(Cause::Expects, Some(11)),
     ),
     (
-        &[ELSEWHERE],
-        &[METHOD, SCHEME, PATH, AUTHORITY, EXPECTS],
+        b"elsewhere=/",
+        b":method=GET|:scheme=http|:path=/a|:authority=h|expect=100-continue",
         false,
         Told::Answered(Cause::Expects, None),
     ),
     (
-        &[ELSEWHERE],
-        &[METHOD, SCHEME, PATH, AUTHORITY, LARGE],
+        b"elsewhere=/",
+        b":method=GET|:scheme=http|:path=/a|:authority=h|content-length=11",
         false,
         Told::Answered(Cause::LargeBody, Some(11)),
     ),
@@ -235,20 +221,30 @@ fn the_first_of_two_causes_is_told(rt: HostRuntime) -> Result<(), Fail> {
 }
 
 static MALFORMED: [Row; 4] = [
-    (&[ANY], &[CONNECT, PATH, AUTHORITY], false, Told::Malformed),
     (
-        &[ANY],
-        &[METHOD, SCHEME, PATH, AUTHORITY, EXPECTS, (b"Upper", b"")],
+        b"=/",
+        b":method=CONNECT|:path=/a|:authority=h",
         false,
         Told::Malformed,
     ),
     (
-        &[ANY],
-        &[METHOD, SCHEME, PATH, AUTHORITY, LARGE],
+        b"=/",
+        b":method=GET|:scheme=http|:path=/a|:authority=h|expect=100-continue|Upper=",
+        false,
+        Told::Malformed,
+    ),
+    (
+        b"=/",
+        b":method=GET|:scheme=http|:path=/a|:authority=h|content-length=11",
         true,
         Told::Malformed,
     ),
-    (&[ELSEWHERE], &[METHOD, SCHEME, PATH], true, Told::Malformed),
+    (
+        b"elsewhere=/",
+        b":method=GET|:scheme=http|:path=/a",
+        true,
+        Told::Malformed,
+    ),
 ];
 
 #[test]
@@ -257,71 +253,97 @@ fn what_is_malformed_is_not_answered(rt: HostRuntime) -> Result<(), Fail> {
     Ok(())
 }
 
-/// Routes, the authority and the path of a request, and what it comes to.
-type RouteRow = (&'static [Line], &'static [u8], &'static [u8], Told);
-
-/// The first row that comes to something else.
-fn first_routed_otherwise(alloc: Global, rows: &[RouteRow]) -> Result<Option<usize>, Fail> {
-    for (place, (routes, authority, path, wanted)) in rows.iter().enumerate() {
-        let lines: [AnyLine<'_>; 4] = [
-            OPTIONS,
-            SCHEME,
-            (b":path", path),
-            (b":authority", authority),
-        ];
-        if told_of(&opening(alloc, routes, &lines, true)?) != *wanted {
-            return Ok(Some(place));
-        }
-    }
-    Ok(None)
-}
-
 const NO_ROUTE: Told = Told::Answered(Cause::NoRoute, None);
 
-const FOUR: &[Line] = &[
-    (b"One.Example", b"/a/"),
-    (b"one.example", b"/"),
-    (b"", b"/a/"),
-    (b"two.example", b"/b"),
-];
+const FOUR: &[u8] = b"One.Example=/a/|one.example=/|=/a/|two.example=/b";
 
-static MATCHING: [RouteRow; 6] = [
-    (FOUR, b"oNE.eXAMPLE", b"/a/b?c", Told::Forwarded(0)),
-    (FOUR, b"one.example", b"/a", Told::Forwarded(1)),
-    (FOUR, b"two.example", b"/a/", Told::Forwarded(2)),
-    (FOUR, b"TWO.EXAMPLE", b"/bc", Told::Forwarded(3)),
-    (FOUR, b"two.example", b"/A/", NO_ROUTE),
-    (FOUR, b"one.example:80", b"/", NO_ROUTE),
+static MATCHING: [Row; 6] = [
+    (
+        FOUR,
+        b":method=OPTIONS|:scheme=http|:path=/a/b?c|:authority=oNE.eXAMPLE",
+        true,
+        Told::Forwarded(0),
+    ),
+    (
+        FOUR,
+        b":method=OPTIONS|:scheme=http|:path=/a|:authority=one.example",
+        true,
+        Told::Forwarded(1),
+    ),
+    (
+        FOUR,
+        b":method=OPTIONS|:scheme=http|:path=/a/|:authority=two.example",
+        true,
+        Told::Forwarded(2),
+    ),
+    (
+        FOUR,
+        b":method=OPTIONS|:scheme=http|:path=/bc|:authority=TWO.EXAMPLE",
+        true,
+        Told::Forwarded(3),
+    ),
+    (
+        FOUR,
+        b":method=OPTIONS|:scheme=http|:path=/A/|:authority=two.example",
+        true,
+        NO_ROUTE,
+    ),
+    (
+        FOUR,
+        b":method=OPTIONS|:scheme=http|:path=/|:authority=one.example:80",
+        true,
+        NO_ROUTE,
+    ),
 ];
 
 #[test]
 fn the_first_route_that_matches_is_taken(rt: HostRuntime) -> Result<(), Fail> {
-    assert_eq!(rt; first_routed_otherwise(rt.alloc(), &MATCHING)?, None);
+    assert_eq!(rt; first_that_differs(rt.alloc(), &MATCHING)?, None);
     Ok(())
 }
 
-const THREE: &[Line] = &[(b"", b"/a"), (b"h", b"/"), (b"", b"*")];
+const THREE: &[u8] = b"=/a|h=/|=*";
 
-static WHOLE_SERVER: [RouteRow; 4] = [
-    (THREE, b"h", b"*", Told::Forwarded(1)),
-    (THREE, b"i", b"*", Told::Forwarded(2)),
-    (&[(b"", b"/a")], b"h", b"*", NO_ROUTE),
-    (&[], b"h", b"/", NO_ROUTE),
+static WHOLE_SERVER: [Row; 4] = [
+    (
+        THREE,
+        b":method=OPTIONS|:scheme=http|:path=*|:authority=h",
+        true,
+        Told::Forwarded(1),
+    ),
+    (
+        THREE,
+        b":method=OPTIONS|:scheme=http|:path=*|:authority=i",
+        true,
+        Told::Forwarded(2),
+    ),
+    (
+        b"=/a",
+        b":method=OPTIONS|:scheme=http|:path=*|:authority=h",
+        true,
+        NO_ROUTE,
+    ),
+    (
+        b"",
+        b":method=OPTIONS|:scheme=http|:path=/|:authority=h",
+        true,
+        NO_ROUTE,
+    ),
 ];
 
 #[test]
 fn the_whole_server_goes_with_all_paths(rt: HostRuntime) -> Result<(), Fail> {
-    assert_eq!(rt; first_routed_otherwise(rt.alloc(), &WHOLE_SERVER)?, None);
+    assert_eq!(rt; first_that_differs(rt.alloc(), &WHOLE_SERVER)?, None);
     Ok(())
 }
 
-/// Trailers, whether they end the stream, the declared length, the octets that came, and whether they are malformed.
-type TrailersRow = (&'static [Line], bool, Option<u64>, u64, bool);
+/// A text of trailers, whether they end the stream, the declared length, the octets that came, and whether they are malformed.
+type TrailersRow = (&'static [u8], bool, Option<u64>, u64, bool);
 
 /// The first trailers that are judged in another way.
 fn first_trailers_that_differ(alloc: Global, rows: &[TrailersRow]) -> Result<Option<usize>, Fail> {
-    for (place, (lines, ended, declared, octets, wanted)) in rows.iter().enumerate() {
-        let fields = fields_of(alloc, lines)?;
+    for (place, (text, ended, declared, octets, wanted)) in rows.iter().enumerate() {
+        let fields = fields_of(alloc, text)?;
         if are_malformed_trailers(&fields, *ended, *declared, *octets) != *wanted {
             return Ok(Some(place));
         }
@@ -329,16 +351,14 @@ fn first_trailers_that_differ(alloc: Global, rows: &[TrailersRow]) -> Result<Opt
     Ok(None)
 }
 
-const CHECKSUM: Line = (b"checksum", b"1");
-
 static TRAILERS: [TrailersRow; 7] = [
-    (&[CHECKSUM], true, None, 7, false),
-    (&[CHECKSUM], true, Some(7), 7, false),
-    (&[CHECKSUM], false, None, 7, true),
-    (&[CHECKSUM], true, Some(7), 6, true),
-    (&[CHECKSUM], true, Some(7), 8, true),
-    (&[PATH], true, None, 0, true),
-    (&[(b"upgrade", b"h2c")], true, None, 0, true),
+    (b"checksum=1", true, None, 7, false),
+    (b"checksum=1", true, Some(7), 7, false),
+    (b"checksum=1", false, None, 7, true),
+    (b"checksum=1", true, Some(7), 6, true),
+    (b"checksum=1", true, Some(7), 8, true),
+    (b":path=/a", true, None, 0, true),
+    (b"upgrade=h2c", true, None, 0, true),
 ];
 
 #[test]

@@ -22,6 +22,21 @@ fn fault_at(reader: &mut Reader, octets: &[u8], pieces: &mut Vec<Piece>) -> Opti
     reader.feed(octets, pieces).err()
 }
 
+/// Reads texts one after another up to the first that has a fault, and tells that, if there is one.
+fn first_fault(
+    reader: &mut Reader,
+    texts: &[&[u8]],
+    pieces: &mut Vec<Piece>,
+) -> Option<ResponseFault> {
+    for text in texts {
+        let fault = fault_at(reader, text, pieces);
+        if fault.is_some() {
+            return fault;
+        }
+    }
+    None
+}
+
 const CHUNKED: &[u8] = b"HTTP/1.1 200 OK\r\nTransfer-Encoding: chunked\r\n\r\n";
 
 #[test]

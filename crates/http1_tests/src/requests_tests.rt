@@ -1,30 +1,31 @@
 //! Requests that wait for their ends or go out as they come, with ample memory.
 
-use hpack_table::Field;
+use crate::lines::push_fields;
 use request_rules::{RequestHead, check_head};
 use requests::{Begun, begin};
 use std::alloc::{AllocError, Global};
 use std::process::Abort;
 use std::test::*;
 
-/// The head of a request on `/` of `h`, by its method.
+const GET: &[u8] = b":method=GET|:scheme=http|:path=/|:authority=h";
+
+const POST: &[u8] = b":method=POST|:scheme=http|:path=/|:authority=h";
+
+/// The head of a request of these fields.
 fn head_of(
     alloc: Global,
     rt: &impl Abort,
-    method: &[u8],
+    text: &[u8],
     ended: bool,
 ) -> Result<RequestHead, AllocError> {
     let mut fields = Vec::new(alloc);
-    fields.push(Field::of(alloc, b":method", method)?)?;
-    fields.push(Field::of(alloc, b":scheme", b"http")?)?;
-    fields.push(Field::of(alloc, b":path", b"/")?)?;
-    fields.push(Field::of(alloc, b":authority", b"h")?)?;
+    push_fields(alloc, &mut fields, text)?;
     Ok(check_head(alloc, &fields, ended).expect(rt, "a head"))
 }
 
 #[test]
 fn a_request_without_a_body_is_whole(rt: HostRuntime) -> Result<(), Fail> {
-    let head = head_of(rt.alloc(), &rt, b"GET", true)?;
+    let head = head_of(rt.alloc(), &rt, GET, true)?;
     assert!(rt; head.length().is_none());
     match begin(rt.alloc(), &head, true, 7)? {
         Begun::Whole(text) => assert_eq!(rt;
@@ -38,7 +39,7 @@ fn a_request_without_a_body_is_whole(rt: HostRuntime) -> Result<(), Fail> {
 
 #[test]
 fn a_body_is_written_in_one_piece(rt: HostRuntime) -> Result<(), Fail> {
-    let head = head_of(rt.alloc(), &rt, b"POST", false)?;
+    let head = head_of(rt.alloc(), &rt, POST, false)?;
     assert!(rt; head.length().is_none());
     let Begun::Waits(mut request) = begin(rt.alloc(), &head, false, 7)? else {
         return Err(Fail::from("whole"));
@@ -54,11 +55,23 @@ fn a_body_is_written_in_one_piece(rt: HostRuntime) -> Result<(), Fail> {
     Ok(())
 }
 
+/// The text of a request whose body is 255 octets and another one, in one chunk.
+fn in_one_chunk(alloc: Global) -> Result<Vec<u8>, AllocError> {
+    let mut wanted =
+        b"POST / HTTP/1.1\r\nhost: h\r\nvia: 2.0 h2gw\r\ntransfer-encoding: chunked\r\nconnection: close\r\n\r\n100\r\n".to_vec(
+            alloc,
+        )?;
+    wanted.extend_from_slice(&[b'a'; 255])?;
+    wanted.extend_from_slice(b"b\r\n0\r\n\r\n")?;
+    Ok(wanted)
+}
+
 #[test]
 fn a_body_of_several_frames_stands_behind_the_line_with_its_size(
     rt: HostRuntime,
 ) -> Result<(), Fail> {
-    let head = head_of(rt.alloc(), &rt, b"POST", false)?;
+    let wanted = in_one_chunk(rt.alloc())?;
+    let head = head_of(rt.alloc(), &rt, POST, false)?;
     assert!(rt; head.length().is_none());
     let Begun::Waits(mut request) = begin(rt.alloc(), &head, false, 7)? else {
         return Err(Fail::from("whole"));
@@ -69,19 +82,13 @@ fn a_body_of_several_frames_stands_behind_the_line_with_its_size(
     request.gather(b"b")?;
     assert_eq!(rt; request.len(), 256);
     let text = request.finish(b"")?;
-    let mut wanted =
-        b"POST / HTTP/1.1\r\nhost: h\r\nvia: 2.0 h2gw\r\ntransfer-encoding: chunked\r\nconnection: close\r\n\r\n100\r\n".to_vec(
-            rt.alloc(),
-        )?;
-    wanted.extend_from_slice(&[b'a'; 255])?;
-    wanted.extend_from_slice(b"b\r\n0\r\n\r\n")?;
     assert_eq!(rt; text.as_slice(), wanted.as_slice());
     Ok(())
 }
 
 #[test]
 fn a_body_of_empty_frames_is_the_last_chunk_alone(rt: HostRuntime) -> Result<(), Fail> {
-    let head = head_of(rt.alloc(), &rt, b"POST", false)?;
+    let head = head_of(rt.alloc(), &rt, POST, false)?;
     assert!(rt; head.length().is_none());
     let Begun::Waits(mut request) = begin(rt.alloc(), &head, false, 7)? else {
         return Err(Fail::from("whole"));
@@ -96,24 +103,13 @@ fn a_body_of_empty_frames_is_the_last_chunk_alone(rt: HostRuntime) -> Result<(),
     Ok(())
 }
 
-/// The head of a request on `/` of `h` that declares this length.
-fn head_of_length(
-    alloc: Global,
-    rt: &impl Abort,
-    length: &[u8],
-) -> Result<RequestHead, AllocError> {
-    let mut fields = Vec::new(alloc);
-    fields.push(Field::of(alloc, b":method", b"PUT")?)?;
-    fields.push(Field::of(alloc, b":scheme", b"http")?)?;
-    fields.push(Field::of(alloc, b":path", b"/")?)?;
-    fields.push(Field::of(alloc, b":authority", b"h")?)?;
-    fields.push(Field::of(alloc, b"content-length", length)?)?;
-    Ok(check_head(alloc, &fields, false).expect(rt, "a head"))
-}
+const FIVE: &[u8] = b":method=PUT|:scheme=http|:path=/|:authority=h|content-length=5";
+
+const NONE: &[u8] = b":method=PUT|:scheme=http|:path=/|:authority=h|content-length=0";
 
 #[test]
 fn a_body_goes_out_in_chunks_as_it_comes(rt: HostRuntime) -> Result<(), Fail> {
-    let head = head_of(rt.alloc(), &rt, b"POST", false)?;
+    let head = head_of(rt.alloc(), &rt, POST, false)?;
     assert!(rt; head.length().is_none());
     let Begun::Waits(request) = begin(rt.alloc(), &head, false, 7)? else {
         return Err(Fail::from("whole"));
@@ -132,7 +128,7 @@ fn a_body_goes_out_in_chunks_as_it_comes(rt: HostRuntime) -> Result<(), Fail> {
 
 #[test]
 fn the_last_octet_is_held_back_until_the_end(rt: HostRuntime) -> Result<(), Fail> {
-    let head = head_of_length(rt.alloc(), &rt, b"5")?;
+    let head = head_of(rt.alloc(), &rt, FIVE, false)?;
     assert_eq!(rt; head.length(), Some(5));
     let Begun::Waits(request) = begin(rt.alloc(), &head, false, 7)? else {
         return Err(Fail::from("whole"));
@@ -148,7 +144,7 @@ fn the_last_octet_is_held_back_until_the_end(rt: HostRuntime) -> Result<(), Fail
 
 #[test]
 fn a_head_that_declares_no_octets_is_whole_with_the_end(rt: HostRuntime) -> Result<(), Fail> {
-    let head = head_of_length(rt.alloc(), &rt, b"0")?;
+    let head = head_of(rt.alloc(), &rt, NONE, false)?;
     assert_eq!(rt; head.length(), Some(0));
     let Begun::Waits(request) = begin(rt.alloc(), &head, false, 7)? else {
         return Err(Fail::from("whole"));

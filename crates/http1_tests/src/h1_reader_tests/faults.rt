@@ -1,5 +1,6 @@
 //! Texts that are refused, each at the octet at which it can't go on.
 
+use super::limits::{Row as Repeated, text_of};
 use super::*;
 
 /// How many octets are taken one by one, and the fault at the next.
@@ -70,6 +71,11 @@ fn is_refused(alloc: Global, text: &[u8], fault: ResponseFault) -> Result<bool, 
 /// A text whose last octet is the bad one, and the fault.
 type Row<'a> = (&'a [u8], ResponseFault);
 
+/// Whether a text behind a front is refused at its last octet.
+fn is_refused_behind(alloc: Global, front: &[u8], row: Row<'_>) -> Result<bool, AllocError> {
+    is_refused(alloc, &joined(alloc, front, row.0)?, row.1)
+}
+
 /// The first row that isn't refused so behind some front: the front, and the row.
 fn first_that_differs(
     alloc: Global,
@@ -77,8 +83,8 @@ fn first_that_differs(
     rows: &[Row<'_>],
 ) -> Result<Option<(usize, usize)>, AllocError> {
     for (at, front) in fronts.iter().enumerate() {
-        for (place, (text, fault)) in rows.iter().enumerate() {
-            if !is_refused(alloc, &joined(alloc, front, text)?, *fault)? {
+        for (place, row) in rows.iter().enumerate() {
+            if !is_refused_behind(alloc, front, *row)? {
                 return Ok(Some((at, place)));
             }
         }
@@ -149,53 +155,88 @@ fn heads(rt: HostRuntime) -> Result<(), Fail> {
     Ok(())
 }
 
-/// A text so many times.
-fn repeated(alloc: Global, text: &[u8], count: usize) -> Result<Vec<u8>, AllocError> {
-    let mut whole = Vec::new(alloc);
-    for _ in 0..count {
-        whole.extend_from_slice(text)?;
-    }
-    Ok(whole)
-}
+const CHUNKS_BEHIND_A_LENGTH: &[u8] =
+    b"HTTP/1.1 200 OK\r\nContent-Length: x\r\nTransfer-Encoding: chunked\r\n\r\n";
 
-/// A change of protocols with 101 fields.
-fn with_many_fields(alloc: Global) -> Result<Vec<u8>, AllocError> {
-    let fields = repeated(alloc, b"A:\r\n", 101)?;
-    let head = joined(alloc, b"HTTP/1.1 101 OK\r\n", &fields)?;
-    joined(alloc, &head, b"\r\n")
-}
-
-/// Behind eight interim heads: a change of protocols before the lines of framing, and a ninth interim head.
-static BEHIND_EIGHT: [Row<'static>; 2] = [
-    (
-        b"HTTP/1.1 101 OK\r\nContent-Length: x\r\n\r\n",
-        ResponseFault::Upgrade,
-    ),
-    (INTERIM, ResponseFault::TooLong),
-];
-
-/// A coding before the lengths.
-static CODINGS: [Row<'static>; 2] = [
-    (
-        b"HTTP/1.1 200 OK\r\nContent-Length: x\r\nTransfer-Encoding: chunked\r\n\r\n",
-        ResponseFault::Coding,
-    ),
-    (
-        b"HTTP/1.0 200 OK\r\nContent-Length: 1\r\nContent-Length: 2\r\nTransfer-Encoding: y\r\n\r\n",
-        ResponseFault::Coding,
-    ),
-];
+const CODING_BEHIND_LENGTHS: &[u8] =
+    b"HTTP/1.0 200 OK\r\nContent-Length: 1\r\nContent-Length: 2\r\nTransfer-Encoding: y\r\n\r\n";
 
 /// Heads that could be refused for two reasons: too many fields before all else, a change of protocols before its place behind
-/// eight interim heads and before the lines of framing, and a coding before the lengths.
+/// eight interim heads and before the lines of framing, a ninth interim head, and a coding before the lengths.
+static OF_TWO_REASONS: [Repeated<'static>; 7] = [
+    Repeated {
+        front: b"HTTP/1.1 101 OK\r\n",
+        part: b"A:\r\n",
+        count: 101,
+        back: b"\r\n",
+        fault: Some(ResponseFault::Head),
+    },
+    Repeated {
+        front: b"",
+        part: INTERIM,
+        count: 8,
+        back: b"HTTP/1.1 101 OK\r\nContent-Length: x\r\n\r\n",
+        fault: Some(ResponseFault::Upgrade),
+    },
+    Repeated {
+        front: b"",
+        part: INTERIM,
+        count: 8,
+        back: INTERIM,
+        fault: Some(ResponseFault::TooLong),
+    },
+    Repeated {
+        front: b"",
+        part: INTERIM,
+        count: 0,
+        back: CHUNKS_BEHIND_A_LENGTH,
+        fault: Some(ResponseFault::Coding),
+    },
+    Repeated {
+        front: b"",
+        part: INTERIM,
+        count: 0,
+        back: CODING_BEHIND_LENGTHS,
+        fault: Some(ResponseFault::Coding),
+    },
+    Repeated {
+        front: b"",
+        part: INTERIM,
+        count: 8,
+        back: CHUNKS_BEHIND_A_LENGTH,
+        fault: Some(ResponseFault::Coding),
+    },
+    Repeated {
+        front: b"",
+        part: INTERIM,
+        count: 8,
+        back: CODING_BEHIND_LENGTHS,
+        fault: Some(ResponseFault::Coding),
+    },
+];
+
+/// Whether the text of a row is refused at its last octet with the row's fault.
+fn has_its_fault(alloc: Global, row: &Repeated<'_>) -> Result<bool, AllocError> {
+    let text = text_of(alloc, row)?;
+    match row.fault {
+        Some(fault) => is_refused(alloc, &text, fault),
+        None => Ok(false),
+    }
+}
+
+/// The first row whose text isn't refused so.
+fn first_of_two_reasons_that_differs(alloc: Global) -> Result<Option<usize>, AllocError> {
+    for (place, row) in OF_TWO_REASONS.iter().enumerate() {
+        if !has_its_fault(alloc, row)? {
+            return Ok(Some(place));
+        }
+    }
+    Ok(None)
+}
+
 #[test]
 fn the_first_of_two(rt: HostRuntime) -> Result<(), Fail> {
-    let alloc = rt.alloc();
-    let many = with_many_fields(alloc)?;
-    assert!(rt; is_refused(alloc, &many, ResponseFault::Head)?);
-    let eight = repeated(alloc, INTERIM, 8)?;
-    assert_eq!(rt; first_that_differs(alloc, &[&eight], &BEHIND_EIGHT)?, None);
-    assert_eq!(rt; first_that_differs(alloc, &[b"", &eight], &CODINGS)?, None);
+    assert_eq!(rt; first_of_two_reasons_that_differs(rt.alloc())?, None);
     Ok(())
 }
 
@@ -222,13 +263,16 @@ static CHUNKS: [Row<'static>; 19] = [
     (b"0\r\nA ", ResponseFault::Chunk),
 ];
 
+/// Where a body of chunks goes on: at its start, behind one chunk and two, and the same behind an interim head.
+static IN_CHUNKS: [&[u8]; 4] = [
+    CHUNKED,
+    b"HTTP/1.1 200 OK\r\nTransfer-Encoding: chunked\r\n\r\n2\r\nhi\r\n",
+    b"HTTP/1.1 200 OK\r\nTransfer-Encoding: chunked\r\n\r\n2\r\nhi\r\n1;a\r\n!\r\n",
+    b"HTTP/1.1 103 Early Hints\r\nlink: a\r\n\r\nHTTP/1.1 200 OK\r\nTransfer-Encoding: chunked\r\n\r\n2\r\nhi\r\n1;a\r\n!\r\n",
+];
+
 #[test]
 fn chunks(rt: HostRuntime) -> Result<(), Fail> {
-    let alloc = rt.alloc();
-    let one = joined(alloc, CHUNKED, b"2\r\nhi\r\n")?;
-    let two = joined(alloc, &one, b"1;a\r\n!\r\n")?;
-    let behind = joined(alloc, INTERIM, &two)?;
-    let fronts = [CHUNKED, &one, &two, &behind];
-    assert_eq!(rt; first_that_differs(alloc, &fronts, &CHUNKS)?, None);
+    assert_eq!(rt; first_that_differs(rt.alloc(), &IN_CHUNKS, &CHUNKS)?, None);
     Ok(())
 }

@@ -2,22 +2,6 @@
 
 use super::*;
 
-/// Reads texts one after another, and tells the last fault, if there is one.
-fn last_fault(
-    reader: &mut Reader,
-    texts: &[&[u8]],
-    pieces: &mut Vec<Piece>,
-) -> Option<ResponseFault> {
-    let mut last = None;
-    for text in texts {
-        let fault = fault_at(reader, text, pieces);
-        if fault.is_some() {
-            last = fault;
-        }
-    }
-    last
-}
-
 /// Shows a head: of which kind it is, its status and its fields.
 fn show_head(shown: &mut Vec<u8>, kind: &[u8], head: &ResponseHead) -> Result<(), AllocError> {
     shown.extend_from_slice(kind)?;
@@ -45,25 +29,45 @@ fn show_piece(shown: &mut Vec<u8>, body: &mut Vec<u8>, piece: &Piece) -> Result<
     Ok(())
 }
 
+/// Shows pieces, the octets of the body apart from all else.
+fn show_pieces(
+    shown: &mut Vec<u8>,
+    body: &mut Vec<u8>,
+    pieces: &[Piece],
+) -> Result<(), AllocError> {
+    for piece in pieces {
+        show_piece(shown, body, piece)?;
+    }
+    Ok(())
+}
+
+/// What is shown of the end of the connection.
+fn name_of(ended: Ended) -> &'static [u8] {
+    match ended {
+        Ended::Complete => b"|Complete",
+        Ended::Short => b"|Short",
+    }
+}
+
+/// What is shown of all pieces, the body behind all else, and of the end of the connection behind it.
+fn shown_of(alloc: Global, pieces: &[Piece], ended: Ended) -> Result<Vec<u8>, AllocError> {
+    let mut shown = Vec::new(alloc);
+    let mut body = Vec::new(alloc);
+    show_pieces(&mut shown, &mut body, pieces)?;
+    body.extend_from_slice(name_of(ended))?;
+    shown.extend_from_slice(&body)?;
+    Ok(shown)
+}
+
 /// What is told of texts that have no fault: each head with its fields, the body, `done`, and what the end of the connection
 /// makes of it. Nothing where there is a fault.
 fn told(alloc: Global, to_head: bool, texts: &[&[u8]]) -> Result<Vec<u8>, AllocError> {
     let mut reader = Reader::new(alloc, to_head);
     let mut pieces = Vec::new(alloc);
-    let mut shown = Vec::new(alloc);
-    let mut body = Vec::new(alloc);
-    if last_fault(&mut reader, texts, &mut pieces).is_some() {
-        return Ok(shown);
+    if first_fault(&mut reader, texts, &mut pieces).is_some() {
+        return Ok(Vec::new(alloc));
     }
-    for piece in &pieces {
-        show_piece(&mut shown, &mut body, piece)?;
-    }
-    shown.extend_from_slice(&body)?;
-    shown.extend_from_slice(match reader.end() {
-        Ended::Complete => b"|Complete",
-        Ended::Short => b"|Short",
-    })?;
-    Ok(shown)
+    shown_of(alloc, &pieces, reader.end())
 }
 
 /// Whether the front of a text has no fault, and the end of the connection makes it whole or short.
@@ -98,20 +102,41 @@ fn first_cut_that_differs(
     to_head: bool,
     row: Row,
 ) -> Result<Option<usize>, AllocError> {
-    let (needed, more, wanted) = row;
-    let text = joined(alloc, needed, more)?;
+    first_cut_of(alloc, to_head, &joined(alloc, row.0, row.1)?, row)
+}
+
+/// Whether a response may be cut here.
+fn may_be_cut(
+    alloc: Global,
+    to_head: bool,
+    text: &[u8],
+    cut: usize,
+    row: Row,
+) -> Result<bool, AllocError> {
+    let (front, back) = text.split_at(cut.min(text.len()));
+    Ok(
+        ends(alloc, to_head, front, cut >= row.0.len())
+            && told(alloc, to_head, &[front, back])?.as_slice() == row.2,
+    )
+}
+
+/// The same of a response with this text, which is what it needs and what may follow.
+fn first_cut_of(
+    alloc: Global,
+    to_head: bool,
+    text: &[u8],
+    row: Row,
+) -> Result<Option<usize>, AllocError> {
     for cut in 0..text.len() + 1 {
-        let (front, back) = text.split_at(cut.min(text.len()));
-        if told(alloc, to_head, &[front, back])?.as_slice() != wanted
-            || !ends(alloc, to_head, front, cut >= needed.len())
-        {
+        if !may_be_cut(alloc, to_head, text, cut, row)? {
             return Ok(Some(cut));
         }
     }
-    if !is_told_by_octets(alloc, to_head, &text, wanted)? {
-        return Ok(Some(text.len()));
-    }
-    Ok(None)
+    Ok(if is_told_by_octets(alloc, to_head, text, row.2)? {
+        None
+    } else {
+        Some(text.len())
+    })
 }
 
 /// The first row of which some cut is told in another way, and the cut.
@@ -229,14 +254,28 @@ const HINTS: &[u8] = b"HTTP/1.1 103 Early Hints\r\nlink: a\r\n\r\n";
 
 const EMPTY: &[u8] = b"HTTP/1.1 204 No Content\r\n\r\n";
 
-/// Responses as they come to the gateway, in their pieces.
+/// Responses as they come to the gateway, in their pieces, and what is told of them.
+static IN_PIECES: [(&[&[u8]], &[u8]); 3] = [
+    (
+        &[HALF_A_SIZE, CHUNK, b"0\r\n\r\n"],
+        b"head200|0123456789abcdef|done|Complete",
+    ),
+    (&[HALF_A_SIZE, CHUNK], b"head200|0123456789abcdef|Short"),
+    (&[HINTS, EMPTY], b"interim103 link=a|head204||done|Complete"),
+];
+
+/// The first response of which something else is told.
+fn first_told_otherwise(alloc: Global) -> Result<Option<usize>, AllocError> {
+    for (place, (texts, wanted)) in IN_PIECES.iter().enumerate() {
+        if !is_told(alloc, texts, wanted)? {
+            return Ok(Some(place));
+        }
+    }
+    Ok(None)
+}
+
 #[test]
 fn in_pieces(rt: HostRuntime) -> Result<(), Fail> {
-    let wanted = b"head200|0123456789abcdef|done|Complete";
-    assert!(rt; is_told(rt.alloc(), &[HALF_A_SIZE, CHUNK, b"0\r\n\r\n"], wanted)?);
-    let wanted = b"head200|0123456789abcdef|Short";
-    assert!(rt; is_told(rt.alloc(), &[HALF_A_SIZE, CHUNK], wanted)?);
-    let wanted = b"interim103 link=a|head204||done|Complete";
-    assert!(rt; is_told(rt.alloc(), &[HINTS, EMPTY], wanted)?);
+    assert_eq!(rt; first_told_otherwise(rt.alloc())?, None);
     Ok(())
 }

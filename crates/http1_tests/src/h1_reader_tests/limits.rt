@@ -4,15 +4,16 @@ use super::*;
 
 /// A text, another so many times behind it, and a third, and the fault of the whole, if it has one.
 #[derive(Clone, Copy)]
-struct Row<'a> {
-    front: &'a [u8],
-    part: &'a [u8],
-    count: usize,
-    back: &'a [u8],
-    fault: Option<ResponseFault>,
+pub(super) struct Row<'a> {
+    pub(super) front: &'a [u8],
+    pub(super) part: &'a [u8],
+    pub(super) count: usize,
+    pub(super) back: &'a [u8],
+    pub(super) fault: Option<ResponseFault>,
 }
 
-fn text_of(alloc: Global, row: &Row<'_>) -> Result<Vec<u8>, AllocError> {
+/// The text of a row.
+pub(super) fn text_of(alloc: Global, row: &Row<'_>) -> Result<Vec<u8>, AllocError> {
     let mut text = Vec::from_slice(alloc, row.front)?;
     for _ in 0..row.count {
         text.extend_from_slice(row.part)?;
@@ -23,22 +24,19 @@ fn text_of(alloc: Global, row: &Row<'_>) -> Result<Vec<u8>, AllocError> {
 
 /// The fault of texts, one after another.
 fn fault_of(alloc: Global, texts: &[&[u8]]) -> Option<ResponseFault> {
-    let mut reader = Reader::new(alloc, false);
-    for text in texts {
-        let fault = fault_at(&mut reader, text, &mut Vec::new(alloc));
-        if fault.is_some() {
-            return fault;
-        }
-    }
-    None
+    first_fault(&mut Reader::new(alloc, false), texts, &mut Vec::new(alloc))
+}
+
+/// Whether a text has this fault, also if its last octet comes by itself.
+fn has_fault(alloc: Global, text: &[u8], fault: Option<ResponseFault>) -> bool {
+    let (front, last) = text.split_at(text.len().saturating_sub(1));
+    fault_of(alloc, &[text]) == fault && fault_of(alloc, &[front, last]) == fault
 }
 
 /// The first row whose fault is another one, or whose text has another one if its last octet comes by itself.
 fn first_that_differs(alloc: Global, rows: &[Row<'_>]) -> Result<Option<usize>, AllocError> {
     for (place, row) in rows.iter().enumerate() {
-        let text = text_of(alloc, row)?;
-        let (front, last) = text.split_at(text.len().saturating_sub(1));
-        if fault_of(alloc, &[&text]) != row.fault || fault_of(alloc, &[front, last]) != row.fault {
+        if !has_fault(alloc, &text_of(alloc, row)?, row.fault) {
             return Ok(Some(place));
         }
     }

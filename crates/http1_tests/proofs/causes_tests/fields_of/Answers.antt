@@ -10,5 +10,5 @@ pub loop-line-preserved : goal.loop-line-preserved
 loop-line-preserved c =
     let more = total_last c.loop-line.fields.items c.in_ok-field.field in
     let all = ap total_size c.in_ok-push.ensures.items in
-    let rest = c.in-Some.ensures in
+    let rest = c.in-Some-room_behind.ensures in
     omega (arith, more, all, rest.0, rest.1, c.loop-line.invariant)

@@ -1,8 +1,12 @@
 //! Requests that wait for their ends or go out as they come, with ample memory.
 
+ghost use Rattle.std.specs.Prelude.{◌≡◌, None, false, IfOk};
+ghost use Rattle.request_rules.specs.Heads.{HeadParts};
+ghost use Rattle.requests.specs.Beginning.{IsBegun};
+
 use crate::lines::push_fields;
 use request_rules::{RequestHead, check_head};
-use requests::{Begun, begin};
+use requests::{Begun, Waiting, begin};
 use std::alloc::{AllocError, Global};
 use std::process::Abort;
 use std::test::*;
@@ -37,13 +41,21 @@ fn a_request_without_a_body_is_whole(rt: HostRuntime) -> Result<(), Fail> {
     Ok(())
 }
 
+/// A request that declares no length and waits for its body.
+fn waiting(alloc: Global, rt: &impl Abort) -> Result<Waiting, Fail>
+    ensures { IfOk result (λ request. (parts : HeadParts) × (parts.length ≡ None) × IsBegun parts false 7 (Begun.Waits request)) }
+{
+    let head = head_of(alloc, rt, POST, false)?;
+    assert!(rt; head.length().is_none());
+    match begin(alloc, &head, false, 7)? {
+        Begun::Waits(request) => Ok(request),
+        Begun::Whole(_) => Err(Fail::from("whole")),
+    }
+}
+
 #[test]
 fn a_body_is_written_in_one_piece(rt: HostRuntime) -> Result<(), Fail> {
-    let head = head_of(rt.alloc(), &rt, POST, false)?;
-    assert!(rt; head.length().is_none());
-    let Begun::Waits(mut request) = begin(rt.alloc(), &head, false, 7)? else {
-        return Err(Fail::from("whole"));
-    };
+    let mut request = waiting(rt.alloc(), &rt)?;
     assert_eq!(rt; (request.route(), request.len()), (7, 0));
     request.gather(b"hel")?;
     assert_eq!(rt; request.len(), 3);
@@ -71,11 +83,7 @@ fn a_body_of_several_frames_stands_behind_the_line_with_its_size(
     rt: HostRuntime,
 ) -> Result<(), Fail> {
     let wanted = in_one_chunk(rt.alloc())?;
-    let head = head_of(rt.alloc(), &rt, POST, false)?;
-    assert!(rt; head.length().is_none());
-    let Begun::Waits(mut request) = begin(rt.alloc(), &head, false, 7)? else {
-        return Err(Fail::from("whole"));
-    };
+    let mut request = waiting(rt.alloc(), &rt)?;
     request.gather(b"")?;
     assert_eq!(rt; request.len(), 0);
     request.gather(&[b'a'; 255])?;
@@ -88,11 +96,7 @@ fn a_body_of_several_frames_stands_behind_the_line_with_its_size(
 
 #[test]
 fn a_body_of_empty_frames_is_the_last_chunk_alone(rt: HostRuntime) -> Result<(), Fail> {
-    let head = head_of(rt.alloc(), &rt, POST, false)?;
-    assert!(rt; head.length().is_none());
-    let Begun::Waits(mut request) = begin(rt.alloc(), &head, false, 7)? else {
-        return Err(Fail::from("whole"));
-    };
+    let mut request = waiting(rt.alloc(), &rt)?;
     request.gather(b"")?;
     request.gather(b"")?;
     let text = request.finish(b"")?;

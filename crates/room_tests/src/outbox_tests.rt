@@ -2,7 +2,7 @@
 
 use h1_reader::{Piece, Reader};
 use outbox::{Outbox, Part};
-use std::alloc::Global;
+use std::alloc::{AllocError, Global};
 use std::test::*;
 
 /// A response with an interim head and a body of five octets.
@@ -48,18 +48,28 @@ enum Call<'a> {
     Begun(bool),
 }
 
-/// Puts all that stands in octets of a response on offer.
-fn come(alloc: Global, outbox: &mut Outbox, octets: &[u8]) -> Result<(), Fail> {
+/// All that stands in octets of a response.
+fn pieces_of(alloc: Global, octets: &[u8]) -> Result<Vec<Piece>, Fail> {
     let mut reader = Reader::new(alloc, false);
     let mut pieces = Vec::new(alloc);
     reader.feed(octets, &mut pieces)?;
-    for piece in pieces {
-        match piece {
-            Piece::Interim(head) => outbox.add_interim(head)?,
-            Piece::Head(head) => outbox.add(Some(head), Vec::new(alloc), false)?,
-            Piece::Body(body) => outbox.add(None, body, false)?,
-            Piece::Done => outbox.add(None, Vec::new(alloc), true)?,
-        }
+    Ok(pieces)
+}
+
+/// Puts a piece of a response on offer.
+fn add(alloc: Global, outbox: &mut Outbox, piece: Piece) -> Result<(), AllocError> {
+    match piece {
+        Piece::Interim(head) => outbox.add_interim(head),
+        Piece::Head(head) => outbox.add(Some(head), Vec::new(alloc), false),
+        Piece::Body(body) => outbox.add(None, body, false),
+        Piece::Done => outbox.add(None, Vec::new(alloc), true),
+    }
+}
+
+/// Puts all that stands in octets of a response on offer.
+fn come(alloc: Global, outbox: &mut Outbox, octets: &[u8]) -> Result<(), Fail> {
+    for piece in pieces_of(alloc, octets)? {
+        add(alloc, outbox, piece)?;
     }
     Ok(())
 }

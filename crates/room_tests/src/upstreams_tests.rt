@@ -1,5 +1,8 @@
 //! Requests that are held and connections to upstreams, with ample memory.
 
+ghost use Rattle.std.specs.Prelude.{◌≡◌, None};
+ghost use Rattle.upstreams.specs.Kept.{nothing};
+
 use answers::{Answer, Heard, Passing};
 use hpack_table::Field;
 use outbox::Outbox;
@@ -7,7 +10,29 @@ use request_rules::{RequestHead, check_head};
 use std::alloc::{AllocError, Global};
 use std::process::Abort;
 use std::test::*;
-use upstreams::{Connection, Due, Upstreams};
+use upstreams::{Connection, Due, Outgoing, Upstreams};
+
+/// The text of a request without a body.
+const GET: &[u8] = b"GET / HTTP/1.1\r\nhost: h\r\nvia: 2.0 h2gw\r\nconnection: close\r\n\r\n";
+
+/// The text of a request whose body of five octets is whole.
+const POST: &[u8] =
+    b"POST / HTTP/1.1\r\nhost: h\r\nvia: 2.0 h2gw\r\ntransfer-encoding: chunked\r\nconnection: close\r\n\r\n5\r\nhello\r\n0\r\n\r\n";
+
+/// The fields of the head of a request on `/` of `h`, by its method.
+fn fields_of(alloc: Global, method: &[u8]) -> Result<Vec<Field>, AllocError> {
+    let rows: [(&[u8], &[u8]); 4] = [
+        (b":method", method),
+        (b":scheme", b"http"),
+        (b":path", b"/"),
+        (b":authority", b"h"),
+    ];
+    let mut fields = Vec::new(alloc);
+    for (name, value) in rows {
+        fields.push(Field::of(alloc, name, value)?)?;
+    }
+    Ok(fields)
+}
 
 /// The head of a request on `/` of `h`, by its method.
 fn head_of(
@@ -16,11 +41,7 @@ fn head_of(
     method: &[u8],
     ended: bool,
 ) -> Result<RequestHead, AllocError> {
-    let mut fields = Vec::new(alloc);
-    fields.push(Field::of(alloc, b":method", method)?)?;
-    fields.push(Field::of(alloc, b":scheme", b"http")?)?;
-    fields.push(Field::of(alloc, b":path", b"/")?)?;
-    fields.push(Field::of(alloc, b":authority", b"h")?)?;
+    let fields = fields_of(alloc, method)?;
     Ok(check_head(alloc, &fields, ended).expect(rt, "a head"))
 }
 
@@ -42,57 +63,94 @@ fn is_nothing(due: &Due) -> bool {
     matches!(due, Due::Nothing)
 }
 
+/// What is due of a request that its head ends.
+fn due_at_once(upstreams: &mut Upstreams, head: &RequestHead) -> Result<Outgoing, Fail>
+    requires { head.now.length ≡ None }
+{
+    match upstreams.begin(1, 4, head, true, false)? {
+        Due::ToOpen(due) => Ok(due),
+        _ => Err(Fail::from("it waits")),
+    }
+}
+
 #[test]
 fn a_request_without_a_body_is_due_at_once(rt: HostRuntime) -> Result<(), Fail> {
-    let mut upstreams = Upstreams::new(rt.alloc());
     let head = head_of(rt.alloc(), &rt, b"GET", true)?;
     assert!(rt; head.length().is_none());
-    let Due::ToOpen(due) = upstreams.begin(1, 4, &head, true, false)? else {
-        return Err(Fail::from("it waits"));
-    };
+    let mut upstreams = Upstreams::new(rt.alloc());
+    let due = due_at_once(&mut upstreams, &head)?;
     assert_eq!(rt; (due.stream, due.route), (1, 4));
-    assert_eq!(rt;
-        due.text.as_slice(),
-        b"GET / HTTP/1.1\r\nhost: h\r\nvia: 2.0 h2gw\r\nconnection: close\r\n\r\n".as_slice()
-    );
+    assert_eq!(rt; due.text.as_slice(), GET);
     Ok(())
+}
+
+/// What is due of a request that waits for its end, once that came.
+fn due_behind(rt: &impl Abort, upstreams: &mut Upstreams, head: &RequestHead) -> Result<Due, Fail>
+    requires { head.now.length ≡ None }
+{
+    assert!(rt; is_nothing(&upstreams.begin(3, 7, head, false, false)?));
+    assert!(rt; is_nothing(&upstreams.take_body(3, b"hel", false)?));
+    Ok(upstreams.take_body(3, b"lo", true)?)
 }
 
 #[test]
 fn a_body_is_due_once_it_is_whole(rt: HostRuntime) -> Result<(), Fail> {
-    let mut upstreams = Upstreams::new(rt.alloc());
     let head = head_of(rt.alloc(), &rt, b"POST", false)?;
     assert!(rt; head.length().is_none());
-    assert!(rt; is_nothing(&upstreams.begin(3, 7, &head, false, false)?));
-    assert!(rt; is_nothing(&upstreams.take_body(3, b"hel", false)?));
-    let Due::ToOpen(due) = upstreams.take_body(3, b"lo", true)? else {
+    let mut upstreams = Upstreams::new(rt.alloc());
+    let Due::ToOpen(due) = due_behind(&rt, &mut upstreams, &head)? else {
         return Err(Fail::from("it isn't due"));
     };
     assert!(rt; due.rest.is_none());
     assert_eq!(rt; (due.stream, due.route), (3, 7));
-    assert_eq!(rt;
-        due.text.as_slice(),
-        b"POST / HTTP/1.1\r\nhost: h\r\nvia: 2.0 h2gw\r\ntransfer-encoding: chunked\r\nconnection: close\r\n\r\n5\r\nhello\r\n0\r\n\r\n".as_slice()
-    );
+    assert_eq!(rt; due.text.as_slice(), POST);
     Ok(())
+}
+
+/// Opens connections for two streams, where none was opened, and answers their numbers.
+fn open_two(upstreams: &mut Upstreams, first: u32, second: u32) -> Result<(u32, u32), AllocError>
+    requires { upstreams.old ≡ nothing }
+{
+    let one = upstreams.open(first, false, Passing::Streaming, None)?;
+    let other = upstreams.open(second, false, Passing::Streaming, None)?;
+    Ok((one, other))
+}
+
+/// What is seen of the connection with this number.
+fn found(upstreams: &Upstreams, k: u32) -> Option<(u32, u32, bool, u64)> {
+    facts_of(upstreams.find(k))
+}
+
+/// What is seen of the newest connection of a stream.
+fn found_of_stream(upstreams: &Upstreams, id: u32) -> Option<(u32, u32, bool, u64)> {
+    facts_of(upstreams.of_stream(id))
+}
+
+/// Whether the connection with this number passes its response on as it comes.
+fn is_streaming(upstreams: &Upstreams, k: u32) -> bool {
+    matches!(upstreams.find(k), Some(first) if first.passing() == Passing::Streaming)
+}
+
+/// Just the first connection, for stream 5, and the second, for stream 3, are open.
+fn assert_both_are_open(rt: &impl Abort, upstreams: &Upstreams) {
+    let open = upstreams.connections();
+    assert_eq!(rt; open.len(), 2);
+    assert_eq!(rt; facts_of(open.first()), Some((1, 5, false, 0)));
+    assert_eq!(rt; facts_of(open.last()), Some((2, 3, false, 0)));
 }
 
 #[test]
 fn connections_are_found_by_number_and_by_stream(rt: HostRuntime) -> Result<(), Fail> {
     let mut upstreams = Upstreams::new(rt.alloc());
-    assert_eq!(rt; upstreams.open(5, false, Passing::Streaming, None)?, 1);
-    assert_eq!(rt; upstreams.open(3, false, Passing::Streaming, None)?, 2);
-    assert_eq!(rt; facts_of(upstreams.find(1)), Some((1, 5, false, 0)));
-    assert_eq!(rt; facts_of(upstreams.of_stream(3)), Some((2, 3, false, 0)));
-    assert!(rt; matches!(upstreams.find(1), Some(first) if first.passing() == Passing::Streaming));
-    let open = upstreams.connections();
-    assert_eq!(rt; open.len(), 2);
-    assert_eq!(rt; facts_of(open.first()), Some((1, 5, false, 0)));
-    assert_eq!(rt; facts_of(open.last()), Some((2, 3, false, 0)));
+    assert_eq!(rt; open_two(&mut upstreams, 5, 3)?, (1, 2));
+    assert_eq!(rt; found(&upstreams, 1), Some((1, 5, false, 0)));
+    assert_eq!(rt; found_of_stream(&upstreams, 3), Some((2, 3, false, 0)));
+    assert!(rt; is_streaming(&upstreams, 1));
+    assert_both_are_open(&rt, &upstreams);
     upstreams.close(1);
-    assert_eq!(rt; facts_of(upstreams.find(1)), None);
-    assert_eq!(rt; facts_of(upstreams.of_stream(5)), None);
-    assert_eq!(rt; facts_of(upstreams.find(2)), Some((2, 3, false, 0)));
+    assert_eq!(rt; found(&upstreams, 1), None);
+    assert_eq!(rt; found_of_stream(&upstreams, 5), None);
+    assert_eq!(rt; found(&upstreams, 2), Some((2, 3, false, 0)));
     Ok(())
 }
 
@@ -112,39 +170,85 @@ fn octets_are_put_out_and_taken(rt: HostRuntime) -> Result<(), Fail> {
 #[test]
 fn a_response_becomes_whole(rt: HostRuntime) -> Result<(), Fail> {
     let mut upstreams = Upstreams::new(rt.alloc());
-    let first = upstreams.open(5, false, Passing::Streaming, None)?;
-    let second = upstreams.open(7, false, Passing::Streaming, None)?;
+    let (first, second) = open_two(&mut upstreams, 5, 7)?;
     upstreams.mark_whole(first);
-    assert_eq!(rt; facts_of(upstreams.find(first)), Some((1, 5, true, 0)));
-    assert_eq!(rt; facts_of(upstreams.find(second)), Some((2, 7, false, 0)));
+    assert_eq!(rt; found(&upstreams, first), Some((1, 5, true, 0)));
+    assert_eq!(rt; found(&upstreams, second), Some((2, 7, false, 0)));
+    Ok(())
+}
+
+/// One connection is open, whose number is 1.
+fn one(alloc: Global) -> Result<Upstreams, AllocError> {
+    let mut upstreams = Upstreams::new(alloc);
+    upstreams.open(5, false, Passing::Streaming, None)?;
+    Ok(upstreams)
+}
+
+/// Lends out the answer of a connection, for which an empty one takes its place.
+fn lend_out(upstreams: &mut Upstreams, alloc: Global, k: u32) -> Answer {
+    upstreams.replace_answer(k, Answer::new(alloc, false, Passing::Streaming))
+}
+
+/// Puts the answer of a connection back.
+fn put_back(upstreams: &mut Upstreams, k: u32, answer: Answer) {
+    let _empty = upstreams.replace_answer(k, answer);
+}
+
+/// Hears octets.
+fn hear(answer: &mut Answer, octets: &[u8], outbox: &mut Outbox) -> Result<Heard, Fail> {
+    Ok(answer.hear(octets, outbox)?)
+}
+
+/// Hears octets of a connection: its answer is lent out for that, and put back.
+fn hear_on(
+    upstreams: &mut Upstreams,
+    alloc: Global,
+    k: u32,
+    octets: &[u8],
+    outbox: &mut Outbox,
+) -> Result<Heard, Fail> {
+    let mut answer = lend_out(upstreams, alloc, k);
+    let heard = hear(&mut answer, octets, outbox);
+    put_back(upstreams, k, answer);
+    heard
+}
+
+/// The head of a response comes in two pieces, and it is whole with the second.
+fn assert_goes_on(
+    rt: &impl Abort,
+    alloc: Global,
+    upstreams: &mut Upstreams,
+    outbox: &mut Outbox,
+) -> Result<(), Fail> {
+    let first = hear_on(upstreams, alloc, 1, b"HTTP/1.1 204 No Content\r\n", outbox)?;
+    assert_eq!(rt; first, Heard::GoesOn);
+    let second = hear_on(upstreams, alloc, 1, b"\r\n", outbox)?;
+    assert_eq!(rt; second, Heard::Whole);
     Ok(())
 }
 
 #[test]
 fn an_answer_is_lent_out_and_put_back(rt: HostRuntime) -> Result<(), Fail> {
-    let mut upstreams = Upstreams::new(rt.alloc());
+    let mut upstreams = one(rt.alloc())?;
     let mut outbox = Outbox::new(rt.alloc());
-    let k = upstreams.open(5, false, Passing::Streaming, None)?;
-    let empty = Answer::new(rt.alloc(), false, Passing::Streaming);
-    let mut answer = upstreams.replace_answer(k, empty);
-    assert_eq!(rt;
-        answer.hear(b"HTTP/1.1 204 No Content\r\n", &mut outbox)?,
-        Heard::GoesOn
-    );
-    let _empty = upstreams.replace_answer(k, answer);
-    let mut rest = upstreams.replace_answer(k, Answer::new(rt.alloc(), false, Passing::Streaming));
-    assert_eq!(rt; rest.hear(b"\r\n", &mut outbox)?, Heard::Whole);
-    Ok(())
+    assert_goes_on(&rt, rt.alloc(), &mut upstreams, &mut outbox)
+}
+
+/// What is due of a request that waits for its end, once that came, where nothing is held of another any more.
+fn due_beside(rt: &impl Abort, upstreams: &mut Upstreams, head: &RequestHead) -> Result<Due, Fail>
+    requires { head.now.length ≡ None }
+{
+    assert!(rt; is_nothing(&upstreams.begin(3, 7, head, false, false)?));
+    upstreams.forget(5);
+    Ok(upstreams.take_body(3, b"y", true)?)
 }
 
 #[test]
 fn only_the_stream_that_is_told_is_forgotten(rt: HostRuntime) -> Result<(), Fail> {
-    let mut upstreams = Upstreams::new(rt.alloc());
     let head = head_of(rt.alloc(), &rt, b"POST", false)?;
     assert!(rt; head.length().is_none());
-    assert!(rt; is_nothing(&upstreams.begin(3, 7, &head, false, false)?));
-    upstreams.forget(5);
-    let Due::ToOpen(due) = upstreams.take_body(3, b"y", true)? else {
+    let mut upstreams = Upstreams::new(rt.alloc());
+    let Due::ToOpen(due) = due_beside(&rt, &mut upstreams, &head)? else {
         return Err(Fail::from("it isn't due"));
     };
     assert_eq!(rt; due.stream, 3);
@@ -152,12 +256,16 @@ fn only_the_stream_that_is_told_is_forgotten(rt: HostRuntime) -> Result<(), Fail
     Ok(())
 }
 
-#[test]
-fn a_body_goes_out_as_it_comes(rt: HostRuntime) -> Result<(), Fail> {
-    let mut upstreams = Upstreams::new(rt.alloc());
-    let head = head_of(rt.alloc(), &rt, b"POST", false)?;
-    assert!(rt; head.length().is_none());
-    let Due::ToOpen(request) = upstreams.begin(3, 7, &head, false, true)? else {
+/// A request goes out, and its body as it comes.
+fn assert_goes_out(
+    rt: &impl Abort,
+    upstreams: &mut Upstreams,
+    head: &RequestHead,
+) -> Result<(), Fail>
+    requires first { upstreams.old ≡ nothing }
+    requires undeclared { head.now.length ≡ None }
+{
+    let Due::ToOpen(request) = upstreams.begin(3, 7, head, false, true)? else {
         return Err(Fail::from("it waits"));
     };
     let k = upstreams.open(request.stream, false, Passing::Streaming, request.rest)?;
@@ -177,11 +285,22 @@ fn a_body_goes_out_as_it_comes(rt: HostRuntime) -> Result<(), Fail> {
 }
 
 #[test]
-fn what_comes_behind_a_close_goes_nowhere(rt: HostRuntime) -> Result<(), Fail> {
-    let mut upstreams = Upstreams::new(rt.alloc());
+fn a_body_goes_out_as_it_comes(rt: HostRuntime) -> Result<(), Fail> {
     let head = head_of(rt.alloc(), &rt, b"POST", false)?;
     assert!(rt; head.length().is_none());
-    let Due::ToOpen(request) = upstreams.begin(3, 7, &head, false, true)? else {
+    let mut upstreams = Upstreams::new(rt.alloc());
+    assert_goes_out(&rt, &mut upstreams, &head)
+}
+
+/// A request goes out as it comes, and the rest of it comes behind the close of its connection.
+fn assert_goes_nowhere(
+    rt: &impl Abort,
+    upstreams: &mut Upstreams,
+    head: &RequestHead,
+) -> Result<(), Fail>
+    requires { upstreams.old ≡ nothing }
+{
+    let Due::ToOpen(request) = upstreams.begin(3, 7, head, false, true)? else {
         return Err(Fail::from("it waits"));
     };
     let k = upstreams.open(request.stream, false, Passing::Streaming, request.rest)?;
@@ -189,4 +308,12 @@ fn what_comes_behind_a_close_goes_nowhere(rt: HostRuntime) -> Result<(), Fail> {
     assert!(rt; is_nothing(&upstreams.take_body(3, b"hel", false)?));
     assert!(rt; is_nothing(&upstreams.take_body(3, b"lo", true)?));
     Ok(())
+}
+
+#[test]
+fn what_comes_behind_a_close_goes_nowhere(rt: HostRuntime) -> Result<(), Fail> {
+    let head = head_of(rt.alloc(), &rt, b"POST", false)?;
+    assert!(rt; head.length().is_none());
+    let mut upstreams = Upstreams::new(rt.alloc());
+    assert_goes_nowhere(&rt, &mut upstreams, &head)
 }

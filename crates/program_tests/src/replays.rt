@@ -41,25 +41,44 @@ fn written(alloc: Global, config: Option<&str>, script: &str) -> Outcome {
     Outcome { status, out, err }
 }
 
-/// The script is run, and the lines are written.
-fn assert_runs(rt: &impl Abort, outcome: Outcome, lines: &str) {
+/// The replay writes these texts on its two writers, and this is its status.
+fn assert_outcome(rt: &impl Abort, outcome: Outcome, lines: &str, reason: &str, wanted: u8) {
     let Outcome { status, out, err } = outcome;
     assert_eq!(rt; str::from_utf8(&out).ok(), Some(lines));
-    assert_eq!(rt; str::from_utf8(&err).ok(), Some(""));
-    assert_eq!(rt; status, 0);
+    assert_eq!(rt; str::from_utf8(&err).ok(), Some(reason));
+    assert_eq!(rt; status, wanted);
+}
+
+/// The script is run, and the lines are written.
+fn assert_runs(rt: &impl Abort, outcome: Outcome, lines: &str) {
+    assert_outcome(rt, outcome, lines, "", 0);
 }
 
 /// The replay is refused for this reason.
 fn assert_stops(rt: &impl Abort, outcome: Outcome, reason: &str) {
-    let Outcome { status, out, err } = outcome;
-    assert_eq!(rt; str::from_utf8(&err).ok(), Some(reason));
-    assert_eq!(rt; str::from_utf8(&out).ok(), Some(""));
-    assert_eq!(rt; status, 1);
+    assert_outcome(rt, outcome, "", reason, 1);
 }
 
-/// The script is run without a configuration.
-fn assert_prints(rt: &impl Abort, alloc: Global, script: &str, lines: &str) {
-    assert_runs(rt, written(alloc, None, script), lines);
+/// The text that these parts are, one behind another.
+fn joined(alloc: Global, parts: &[&str]) -> Result<String, AllocError> {
+    let mut text = String::new(alloc);
+    for part in parts {
+        text.push_str(part)?;
+    }
+    Ok(text)
+}
+
+/// The script of these parts is run without a configuration, and the lines of those are written.
+fn assert_prints(
+    rt: &impl Abort,
+    alloc: Global,
+    script: &[&str],
+    lines: &[&str],
+) -> Result<(), Fail> {
+    let script = joined(alloc, script)?;
+    let lines = joined(alloc, lines)?;
+    assert_runs(rt, written(alloc, None, &script), &lines);
+    Ok(())
 }
 
 /// The script is refused for this reason.
@@ -69,28 +88,40 @@ fn assert_refuses(rt: &impl Abort, alloc: Global, script: &str, reason: &str) {
 
 #[test]
 fn request_in_one_piece(rt: HostRuntime) -> Result<(), Fail> {
-    let alloc = rt.alloc();
-    let script = format!(in alloc; "C {PREFACE}{SETTINGS}{REQUEST}\n")?;
-    let lines = format!(in alloc; "C {OWN_SETTINGS}{ACK}\nO 1 0\nU 1 {GET}\n")?;
-    assert_prints(&rt, rt.alloc(), &script, &lines);
-    Ok(())
+    assert_prints(
+        &rt,
+        rt.alloc(),
+        &["C ", PREFACE, SETTINGS, REQUEST, "\n"],
+        &["C ", OWN_SETTINGS, ACK, "\nO 1 0\nU 1 ", GET, "\n"],
+    )
+}
+
+/// Adds an octet of a request to a script, and to the lines what is printed behind the octet at this place.
+fn add_octet(
+    script: &mut String,
+    lines: &mut String,
+    place: usize,
+    octet: u8,
+) -> Result<(), AllocError> {
+    writeln!(script, "C {octet:02x}")?;
+    match place {
+        0 => writeln!(lines, "C {OWN_SETTINGS}"),
+        32 => writeln!(lines, "C {ACK}"),
+        61 => writeln!(lines, "O 1 0\nU 1 {GET}"),
+        _ => Ok(()),
+    }
 }
 
 #[test]
 fn request_in_single_octets(rt: HostRuntime) -> Result<(), Fail> {
     let alloc = rt.alloc();
-    let text = format!(in alloc; "{PREFACE}{SETTINGS}{REQUEST}")?;
+    let text = joined(alloc, &[PREFACE, SETTINGS, REQUEST])?;
+    let octets = hex::decode(alloc, &text)?;
     let mut script = String::new(alloc);
     let mut lines = String::new(alloc);
-    for (place, octet) in hex::decode(alloc, &text)?.iter().enumerate() {
-        writeln!(script, "C {octet:02x}")?;
-        match place {
-            0 => writeln!(lines, "C {OWN_SETTINGS}")?,
-            32 => writeln!(lines, "C {ACK}")?,
-            61 => writeln!(lines, "O 1 0\nU 1 {GET}")?,
-            _ => {}
-        }
-        assert_prints(&rt, rt.alloc(), &script, &lines);
+    for (place, octet) in octets.iter().enumerate() {
+        add_octet(&mut script, &mut lines, place, *octet)?;
+        assert_runs(&rt, written(alloc, None, &script), &lines);
     }
     Ok(())
 }
@@ -98,51 +129,64 @@ fn request_in_single_octets(rt: HostRuntime) -> Result<(), Fail> {
 #[test]
 fn wrong_preface(rt: HostRuntime) -> Result<(), Fail> {
     let goaway = "0000080700000000000000000000000001";
-    let lines = format!(in rt.alloc(); "C {OWN_SETTINGS}{goaway}\nXC\n")?;
-    assert_prints(&rt, rt.alloc(), "C 47\n", &lines);
-    Ok(())
+    assert_prints(
+        &rt,
+        rt.alloc(),
+        &["C 47\n"],
+        &["C ", OWN_SETTINGS, goaway, "\nXC\n"],
+    )
 }
 
 #[test]
 fn client_ends_at_once(rt: HostRuntime) -> Result<(), Fail> {
-    let lines = format!(in rt.alloc(); "C {OWN_SETTINGS}\nXC\n")?;
-    assert_prints(&rt, rt.alloc(), "CE\n", &lines);
-    Ok(())
+    assert_prints(&rt, rt.alloc(), &["CE\n"], &["C ", OWN_SETTINGS, "\nXC\n"])
 }
 
 #[test]
 fn frame_too_long(rt: HostRuntime) -> Result<(), Fail> {
-    let alloc = rt.alloc();
-    let script = format!(in alloc; "C {PREFACE}{SETTINGS}\nC 004001000000000001\n")?;
     let goaway = "0000080700000000000000000000000006";
-    let lines = format!(in alloc; "C {OWN_SETTINGS}{ACK}\nC {goaway}\nXC\n")?;
-    assert_prints(&rt, rt.alloc(), &script, &lines);
-    Ok(())
+    assert_prints(
+        &rt,
+        rt.alloc(),
+        &["C ", PREFACE, SETTINGS, "\nC 004001000000000001\n"],
+        &["C ", OWN_SETTINGS, ACK, "\nC ", goaway, "\nXC\n"],
+    )
 }
 
 // The blocks of RFC 7541, appendices C.4.1 and C.4.2.
 #[test]
 fn blocks_share_a_table(rt: HostRuntime) -> Result<(), Fail> {
-    let alloc = rt.alloc();
     let first = "000011010500000001828684418cf1e3c2e5f23a6ba0ab90f4ff";
     let second = "00000c010500000003828684be5886a8eb10649cbf";
     let text =
         "474554202f20485454502f312e310d0a686f73743a207777772e6578616d706c652e636f6d0d0a63616368652d636f6e74726f6c3a206e6f2d63616368650d0a7669613a20322e3020683267770d0a636f6e6e656374696f6e3a20636c6f73650d0a0d0a";
-    let script = format!(in alloc; "C {PREFACE}{SETTINGS}{first}\nC {second}\n")?;
-    let lines = format!(in alloc; "C {OWN_SETTINGS}{ACK}\nO 1 0\nU 1 {GET}\nO 2 0\nU 2 {text}\n")?;
-    assert_prints(&rt, rt.alloc(), &script, &lines);
-    Ok(())
+    assert_prints(
+        &rt,
+        rt.alloc(),
+        &["C ", PREFACE, SETTINGS, first, "\nC ", second, "\n"],
+        &[
+            "C ",
+            OWN_SETTINGS,
+            ACK,
+            "\nO 1 0\nU 1 ",
+            GET,
+            "\nO 2 0\nU 2 ",
+            text,
+            "\n",
+        ],
+    )
 }
 
 #[test]
 fn an_index_without_an_entry_ends_the_connection(rt: HostRuntime) -> Result<(), Fail> {
-    let alloc = rt.alloc();
     let headers = "000001010500000001be";
-    let script = format!(in alloc; "C {PREFACE}{SETTINGS}\nC {headers}\n")?;
     let goaway = "0000080700000000000000000000000009";
-    let lines = format!(in alloc; "C {OWN_SETTINGS}{ACK}\nC {goaway}\nXC\n")?;
-    assert_prints(&rt, rt.alloc(), &script, &lines);
-    Ok(())
+    assert_prints(
+        &rt,
+        rt.alloc(),
+        &["C ", PREFACE, SETTINGS, "\nC ", headers, "\n"],
+        &["C ", OWN_SETTINGS, ACK, "\nC ", goaway, "\nXC\n"],
+    )
 }
 
 /// A response with a body of two octets.
@@ -151,48 +195,51 @@ const RESPONSE: &[u8] = b"HTTP/1.1 200 OK\r\nContent-Length: 2\r\n\r\nhi";
 /// Its connection is closed, and it goes back as HEADERS, and DATA with END_STREAM.
 const PASSED: &str = "X 1\nC 000005010400000001880f0d01320000020001000000016869\n";
 
-/// Octets in hex.
-fn hex_of(alloc: Global, octets: &[u8]) -> Result<String, Fail> {
-    let mut text = String::new(alloc);
+/// Adds octets in hex.
+fn add_hex(text: &mut String, octets: &[u8]) -> Result<(), AllocError> {
     for octet in octets {
         write!(text, "{octet:02x}")?;
     }
-    Ok(text)
+    Ok(())
 }
 
-/// The script of a first request, and what it prints.
-fn first_request(alloc: Global) -> Result<(String, String), Fail> {
-    let script = format!(in alloc; "C {PREFACE}{SETTINGS}{REQUEST}\n")?;
-    let lines = format!(in alloc; "C {OWN_SETTINGS}{ACK}\nO 1 0\nU 1 {GET}\n")?;
-    Ok((script, lines))
+/// Octets in hex.
+fn hex_of(alloc: Global, octets: &[u8]) -> Result<String, AllocError> {
+    let mut text = String::new(alloc);
+    add_hex(&mut text, octets)?;
+    Ok(text)
 }
 
 /// Behind a first request these lines of a script print those.
 fn assert_answers(rt: &impl Abort, alloc: Global, more: &str, wanted: &str) -> Result<(), Fail> {
-    let (mut script, mut lines) = first_request(alloc)?;
-    script.push_str(more)?;
-    lines.push_str(wanted)?;
-    assert_prints(rt, alloc, &script, &lines);
-    Ok(())
+    assert_prints(
+        rt,
+        alloc,
+        &["C ", PREFACE, SETTINGS, REQUEST, "\n", more],
+        &["C ", OWN_SETTINGS, ACK, "\nO 1 0\nU 1 ", GET, "\n", wanted],
+    )
+}
+
+/// A first response, which comes in these two pieces, is passed on.
+fn assert_is_passed(rt: &impl Abort, alloc: Global, front: &[u8], back: &[u8]) -> Result<(), Fail> {
+    let front = hex_of(alloc, front)?;
+    let back = hex_of(alloc, back)?;
+    let more = joined(alloc, &["U 1 ", &front, "\nU 1 ", &back, "\n"])?;
+    assert_answers(rt, alloc, &more, PASSED)
 }
 
 #[test]
 fn response_in_one_piece(rt: HostRuntime) -> Result<(), Fail> {
-    let alloc = rt.alloc();
-    let octets = hex_of(alloc, RESPONSE)?;
-    let more = format!(in alloc; "U 1 {octets}\n")?;
+    let octets = hex_of(rt.alloc(), RESPONSE)?;
+    let more = joined(rt.alloc(), &["U 1 ", &octets, "\n"])?;
     assert_answers(&rt, rt.alloc(), &more, PASSED)
 }
 
 #[test]
 fn response_cut_at_each_octet(rt: HostRuntime) -> Result<(), Fail> {
-    let alloc = rt.alloc();
     for cut in 0..RESPONSE.len() {
         let (front, back) = RESPONSE.split_at(cut);
-        let front = hex_of(alloc, front)?;
-        let back = hex_of(alloc, back)?;
-        let more = format!(in alloc; "U 1 {front}\nU 1 {back}\n")?;
-        assert_answers(&rt, rt.alloc(), &more, PASSED)?;
+        assert_is_passed(&rt, rt.alloc(), front, back)?;
     }
     Ok(())
 }
@@ -207,41 +254,53 @@ fn response_in_single_octets(rt: HostRuntime) -> Result<(), Fail> {
     assert_answers(&rt, rt.alloc(), &more, PASSED)
 }
 
-#[test]
-fn responses_without_a_body(rt: HostRuntime) -> Result<(), Fail> {
-    let alloc = rt.alloc();
+/// A response whose length is 0 goes back as HEADERS with END_STREAM.
+fn assert_ends_with_head(rt: &impl Abort, alloc: Global) -> Result<(), Fail> {
     let empty = hex_of(alloc, b"HTTP/1.1 200 OK\r\nContent-Length: 0\r\n\r\n")?;
-    let more = format!(in alloc; "U 1 {empty}\n")?;
+    let more = joined(alloc, &["U 1 ", &empty, "\n"])?;
     let wanted = "X 1\nC 000005010500000001880f0d0130\n";
-    assert_answers(&rt, rt.alloc(), &more, wanted)?;
-    let head = "C 00000b0105000000010204484541448684410168\n";
-    let script = format!(in alloc; "C {PREFACE}{SETTINGS}\n{head}")?;
+    assert_answers(rt, alloc, &more, wanted)
+}
+
+/// So does a response to HEAD, whatever its length.
+fn assert_head_has_no_body(rt: &impl Abort, alloc: Global) -> Result<(), Fail> {
     let answer = hex_of(alloc, b"HTTP/1.1 200 OK\r\nContent-Length: 5\r\n\r\n")?;
-    let script = format!(in alloc; "{script}U 1 {answer}\n")?;
     let text = hex_of(
         alloc,
         b"HEAD / HTTP/1.1\r\nhost: h\r\nvia: 2.0 h2gw\r\nconnection: close\r\n\r\n",
     )?;
-    let lines = format!(in alloc;
-        "C {OWN_SETTINGS}{ACK}\nO 1 0\nU 1 {text}\nX 1\nC 000005010500000001880f0d0135\n"
-    )?;
-    assert_prints(&rt, rt.alloc(), &script, &lines);
-    Ok(())
+    let head = "\nC 00000b0105000000010204484541448684410168\n";
+    let passed = "\nX 1\nC 000005010500000001880f0d0135\n";
+    assert_prints(
+        rt,
+        alloc,
+        &["C ", PREFACE, SETTINGS, head, "U 1 ", &answer, "\n"],
+        &["C ", OWN_SETTINGS, ACK, "\nO 1 0\nU 1 ", &text, passed],
+    )
 }
 
 #[test]
-fn each_stream_has_its_own_response(rt: HostRuntime) -> Result<(), Fail> {
-    let alloc = rt.alloc();
-    let second = "C 000004010500000003828684be\n";
+fn responses_without_a_body(rt: HostRuntime) -> Result<(), Fail> {
+    assert_ends_with_head(&rt, rt.alloc())?;
+    assert_head_has_no_body(&rt, rt.alloc())
+}
+
+/// The lines of a script on which a second request comes, and then its response, and that to the first.
+fn second_request(alloc: Global) -> Result<String, Fail> {
     let other = hex_of(
         alloc,
         b"HTTP/1.1 404 Not Found\r\nx-a: 1\r\nContent-Length: 1\r\n\r\n!",
     )?;
     let first = hex_of(alloc, RESPONSE)?;
-    let more = format!(in alloc; "{second}U 2 {other}\nU 1 {first}\n")?;
-    let wanted = format!(in alloc;
-        "O 2 0\nU 2 {GET}\nX 2\nC 00000c0104000000038d0003782d6101310f0d013100000100010000000321\n{PASSED}"
-    )?;
+    let request = "C 000004010500000003828684be\nU 2 ";
+    Ok(joined(alloc, &[request, &other, "\nU 1 ", &first, "\n"])?)
+}
+
+#[test]
+fn each_stream_has_its_own_response(rt: HostRuntime) -> Result<(), Fail> {
+    let more = second_request(rt.alloc())?;
+    let passed = "\nX 2\nC 00000c0104000000038d0003782d6101310f0d013100000100010000000321\n";
+    let wanted = joined(rt.alloc(), &["O 2 0\nU 2 ", GET, passed, PASSED])?;
     assert_answers(&rt, rt.alloc(), &more, &wanted)
 }
 
@@ -251,8 +310,7 @@ fn refused_scripts(rt: HostRuntime) -> Result<(), Fail> {
     assert_refuses(&rt, rt.alloc(), "Z", "line 1: not a line\n");
     assert_refuses(&rt, rt.alloc(), "CT 1\nZ\n", "line 2: not a line\n");
     assert_refuses(&rt, rt.alloc(), "CE\nCE", "line 2: not admitted\n");
-    assert_prints(&rt, rt.alloc(), "", "");
-    Ok(())
+    assert_prints(&rt, rt.alloc(), &[], &[])
 }
 
 #[test]
@@ -283,11 +341,31 @@ fn routes_are_those_of_the_configuration(rt: HostRuntime) -> Result<(), Fail> {
     let alloc = rt.alloc();
     let config =
         "[[route]]\nauthority = \"a.example\"\nprefix = \"/\"\nupstream = \"127.0.0.1:80\"\n";
-    let script = format!(in alloc; "C {PREFACE}{SETTINGS}{REQUEST}\n")?;
+    let script = joined(alloc, &["C ", PREFACE, SETTINGS, REQUEST, "\n"])?;
     let not_found = "0000050105000000018d0f0d0130";
-    let lines = format!(in alloc; "C {OWN_SETTINGS}{ACK}{not_found}\n")?;
+    let lines = joined(alloc, &["C ", OWN_SETTINGS, ACK, not_found, "\n"])?;
     assert_runs(&rt, written(alloc, Some(config), &script), &lines);
     assert_runs(&rt, written(alloc, Some(""), &script), &lines);
+    Ok(())
+}
+
+/// By this configuration a first response is passed on so.
+fn assert_is_passed_by(
+    rt: &impl Abort,
+    alloc: Global,
+    config: &str,
+    passed: &str,
+) -> Result<(), Fail> {
+    let octets = hex_of(alloc, RESPONSE)?;
+    let script = joined(
+        alloc,
+        &["C ", PREFACE, SETTINGS, REQUEST, "\nU 1 ", &octets, "\n"],
+    )?;
+    let lines = joined(
+        alloc,
+        &["C ", OWN_SETTINGS, ACK, "\nO 1 0\nU 1 ", GET, "\n", passed],
+    )?;
+    assert_runs(rt, written(alloc, Some(config), &script), &lines);
     Ok(())
 }
 
@@ -296,35 +374,43 @@ fn routes_are_those_of_the_configuration(rt: HostRuntime) -> Result<(), Fail> {
 fn the_policy_is_that_of_the_configuration(rt: HostRuntime) -> Result<(), Fail> {
     let alloc = rt.alloc();
     let route = "[[route]]\nprefix = \"/\"\nupstream = \"127.0.0.1:80\"\n";
-    let config = format!(in alloc; "policy = \"indexing\"\n{route}")?;
-    let (script, first) = first_request(alloc)?;
-    let octets = hex_of(alloc, RESPONSE)?;
-    let script = format!(in alloc; "{script}U 1 {octets}\n")?;
+    let indexing = joined(alloc, &["policy = \"indexing\"\n", route])?;
     let passed = "X 1\nC 000004010400000001885c01320000020001000000016869\n";
-    let lines = format!(in alloc; "{first}{passed}")?;
-    assert_runs(&rt, written(alloc, Some(&config), &script), &lines);
-    let lines = format!(in alloc; "{first}{PASSED}")?;
-    assert_runs(&rt, written(alloc, Some(route), &script), &lines);
-    Ok(())
+    assert_is_passed_by(&rt, alloc, &indexing, passed)?;
+    assert_is_passed_by(&rt, alloc, route, PASSED)
 }
 
-/// The events as a script has them, but for a `;` behind each.
+/// Adds a word, a number and a `;`.
+fn show_number(text: &mut String, word: &str, number: u64) -> Result<(), AllocError> {
+    write!(text, "{word} {number};")
+}
+
+/// Adds an event as a script has it, but for a `;` behind it.
+fn show(text: &mut String, event: &Event) -> Result<(), AllocError> {
+    match event {
+        Event::Client(piece) => {
+            text.push_str("C ")?;
+            add_hex(text, piece.as_slice())?;
+            text.push_str(";")
+        }
+        Event::ClientEnd => text.push_str("CE;"),
+        Event::ClientTook(count) => show_number(text, "CT", *count),
+        Event::Up(k, piece) => {
+            write!(text, "U {k} ")?;
+            add_hex(text, piece.as_slice())?;
+            text.push_str(";")
+        }
+        Event::UpEnd(k) => show_number(text, "UE", u64::from(*k)),
+        Event::UpFailed(k) => show_number(text, "UF", u64::from(*k)),
+        Event::UpTook(k, count) => write!(text, "UT {k} {count};"),
+    }
+}
+
+/// Events as a script has them, but for a `;` behind each.
 fn shown(alloc: Global, events: &[Event]) -> Result<String, AllocError> {
     let mut text = String::new(alloc);
     for event in events {
-        match event {
-            Event::Client(piece) => write!(text, "C {};", hex::encode(alloc, piece.as_slice())?)?,
-            Event::ClientEnd => write!(text, "CE;")?,
-            Event::ClientTook(count) => write!(text, "CT {count};")?,
-            Event::Up(k, piece) => write!(
-                text,
-                "U {k} {};",
-                hex::encode(alloc, piece.as_slice())?
-            )?,
-            Event::UpEnd(k) => write!(text, "UE {k};")?,
-            Event::UpFailed(k) => write!(text, "UF {k};")?,
-            Event::UpTook(k, count) => write!(text, "UT {k} {count};")?,
-        }
+        show(&mut text, event)?;
     }
     Ok(text)
 }
@@ -338,6 +424,14 @@ fn reads_scripts(rt: HostRuntime) -> Result<(), Fail> {
     assert_eq!(rt; shown(alloc, &events)?.as_str(), lines);
     let ended = read_script(alloc, "CE\n").map_err(|_| "a script")?;
     assert_eq!(rt; shown(alloc, &ended)?.as_str(), "CE;");
+    Ok(())
+}
+
+/// The second line of a script is refused.
+fn assert_is_no_line(rt: &impl Abort, alloc: Global, line: &str) -> Result<(), Fail> {
+    let script = joined(alloc, &["CE\n", line, "\nZ\n"])?;
+    let fault = read_script(alloc, &script).err().ok_or("a fault")?;
+    assert_eq!(rt; fault, ScriptFault::NotALine(2), "at {line}");
     Ok(())
 }
 
@@ -371,9 +465,7 @@ fn refuses_lines(rt: HostRuntime) -> Result<(), Fail> {
         "X 1",
     ];
     for line in wrong {
-        let script = format!(in rt.alloc(); "CE\n{line}\nZ\n")?;
-        let fault = read_script(rt.alloc(), &script).err().ok_or("a fault")?;
-        assert_eq!(rt; fault, ScriptFault::NotALine(2), "at {line}");
+        assert_is_no_line(&rt, rt.alloc(), line)?;
     }
     Ok(())
 }

@@ -12,3 +12,4 @@ pub mod Running
 pub mod Sizes
 pub mod Rooms
 pub mod Joined
+pub mod Octets

@@ -1,6 +1,6 @@
 -- What octets of the client come to: frames are read off their front, and each is taken whole.
-use Rattle.std.specs.Prelude.{◌≡◌, ℕ, ◌⊎◌, List, [], ◌∷◌, ◌++◌, drop, map, reverse, Option, Some, None}
-use Rattle.model.specs.Frames.{Frame, Reading, IsTooLong}
+use Rattle.std.specs.Prelude.{◌≡◌, ℕ, ◌+◌, ◌-◌, ◌⊎◌, List, [], ◌∷◌, ◌++◌, length, min, drop, map, reverse, Option, Some, None}
+use Rattle.model.specs.Frames.{Frame, Reading, IsTooLong, length_field}
 use Rattle.model.specs.Logs.{Output}
 use Rattle.model.specs.Setup.{Setup}
 use Rattle.model.specs.Tapes as model
@@ -12,6 +12,13 @@ use Rattle.steps.specs.Comings.{ComesFrom}
 use Rattle.steps.specs.Resting.{IsSettled}
 use Rattle.gateway.specs.declared.reading.Read.{Read}
 use Rattle.gateway.specs.declared.reading.Read.TheVariants as read
+
+-- ---- where a piece is cut
+
+-- How many octets of a piece complete the frame that begins with those that wait, its header and as many behind that as it says (RFC 9113, section 4.1): all of the
+-- piece where there are fewer.
+abbrev pub completing_in : List ℕ → List ℕ → ℕ
+completing_in waiting piece = min (9 + length_field (waiting ++ piece) - length waiting) (length piece)
 
 -- ---- frames, for each setup that the gateway serves by
 

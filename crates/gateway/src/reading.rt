@@ -1,11 +1,11 @@
 //! Frames, read off the front of a text.
 
-ghost use Rattle.std.specs.Prelude.{◌≤◌, length, IfOk};
+ghost use Rattle.std.specs.Prelude.{◌≡◌, ◌≤◌, ◌++◌, length, slice_index, IfOk};
 ghost use Rattle.model.specs.Setup.{Setup};
 ghost use Rattle.relay.specs.View.{square};
 ghost use Rattle.relay.specs.Rest.{Reached};
 ghost use Rattle.steps.specs.Resting.{IsSettled, IsServed};
-ghost use Rattle.gateway.specs.Reading.{Reads, used_in, RestsIn};
+ghost use Rattle.gateway.specs.Reading.{Reads, completing_in, used_in, RestsIn};
 
 use frames::{Split, split};
 use outputs::Outputs;
@@ -17,8 +17,10 @@ use steps::{Breach, Service, Went, leave_at, take_frame};
 const HEADER: usize = 9;
 
 /// The octet at a place of two texts, one behind the other; 0 behind both.
+#[tactic(auto, using(crate::proofs::Octets::in_front, crate::proofs::Octets::behind))]
 fn octet_at(waiting: &[u8], piece: &[u8], place: usize) -> usize
-    ensures { result ≤ 255 }
+    ensures octet { result ≡ slice_index (waiting.now ++ piece.now) place }
+    ensures within { result ≤ 255 }
 {
     let octet = match waiting.get(place) {
         Some(octet) => Some(octet),
@@ -30,7 +32,7 @@ fn octet_at(waiting: &[u8], piece: &[u8], place: usize) -> usize
 /// How many octets of a piece complete the frame that begins with those that wait (RFC 9113, section 4.1), or its header, or all of the piece where they are
 /// fewer. How a piece is cut means nothing: what stands behind the cut can be read where it lies.
 pub fn completing(waiting: &[u8], piece: &[u8]) -> usize
-    ensures { result ≤ length piece.now }
+    ensures { result ≡ completing_in waiting.now piece.now }
 {
     let length = octet_at(waiting, piece, 0) * 65536
         + octet_at(waiting, piece, 1) * 256

@@ -195,21 +195,6 @@ const RESPONSE: &[u8] = b"HTTP/1.1 200 OK\r\nContent-Length: 2\r\n\r\nhi";
 /// Its connection is closed, and it goes back as HEADERS, and DATA with END_STREAM.
 const PASSED: &str = "X 1\nC 000005010400000001880f0d01320000020001000000016869\n";
 
-/// Adds octets in hex.
-fn add_hex(text: &mut String, octets: &[u8]) -> Result<(), AllocError> {
-    for octet in octets {
-        write!(text, "{octet:02x}")?;
-    }
-    Ok(())
-}
-
-/// Octets in hex.
-fn hex_of(alloc: Global, octets: &[u8]) -> Result<String, AllocError> {
-    let mut text = String::new(alloc);
-    add_hex(&mut text, octets)?;
-    Ok(text)
-}
-
 /// Behind a first request these lines of a script print those.
 fn assert_answers(rt: &impl Abort, alloc: Global, more: &str, wanted: &str) -> Result<(), Fail> {
     assert_prints(
@@ -222,15 +207,15 @@ fn assert_answers(rt: &impl Abort, alloc: Global, more: &str, wanted: &str) -> R
 
 /// A first response, which comes in these two pieces, is passed on.
 fn assert_is_passed(rt: &impl Abort, alloc: Global, front: &[u8], back: &[u8]) -> Result<(), Fail> {
-    let front = hex_of(alloc, front)?;
-    let back = hex_of(alloc, back)?;
+    let front = hex::encode(alloc, front)?;
+    let back = hex::encode(alloc, back)?;
     let more = joined(alloc, &["U 1 ", &front, "\nU 1 ", &back, "\n"])?;
     assert_answers(rt, alloc, &more, PASSED)
 }
 
 #[test]
 fn response_in_one_piece(rt: HostRuntime) -> Result<(), Fail> {
-    let octets = hex_of(rt.alloc(), RESPONSE)?;
+    let octets = hex::encode(rt.alloc(), RESPONSE)?;
     let more = joined(rt.alloc(), &["U 1 ", &octets, "\n"])?;
     assert_answers(&rt, rt.alloc(), &more, PASSED)
 }
@@ -256,7 +241,7 @@ fn response_in_single_octets(rt: HostRuntime) -> Result<(), Fail> {
 
 /// A response whose length is 0 goes back as HEADERS with END_STREAM.
 fn assert_ends_with_head(rt: &impl Abort, alloc: Global) -> Result<(), Fail> {
-    let empty = hex_of(alloc, b"HTTP/1.1 200 OK\r\nContent-Length: 0\r\n\r\n")?;
+    let empty = hex::encode(alloc, b"HTTP/1.1 200 OK\r\nContent-Length: 0\r\n\r\n")?;
     let more = joined(alloc, &["U 1 ", &empty, "\n"])?;
     let wanted = "X 1\nC 000005010500000001880f0d0130\n";
     assert_answers(rt, alloc, &more, wanted)
@@ -264,8 +249,8 @@ fn assert_ends_with_head(rt: &impl Abort, alloc: Global) -> Result<(), Fail> {
 
 /// So does a response to HEAD, whatever its length.
 fn assert_head_has_no_body(rt: &impl Abort, alloc: Global) -> Result<(), Fail> {
-    let answer = hex_of(alloc, b"HTTP/1.1 200 OK\r\nContent-Length: 5\r\n\r\n")?;
-    let text = hex_of(
+    let answer = hex::encode(alloc, b"HTTP/1.1 200 OK\r\nContent-Length: 5\r\n\r\n")?;
+    let text = hex::encode(
         alloc,
         b"HEAD / HTTP/1.1\r\nhost: h\r\nvia: 2.0 h2gw\r\nconnection: close\r\n\r\n",
     )?;
@@ -287,11 +272,11 @@ fn responses_without_a_body(rt: HostRuntime) -> Result<(), Fail> {
 
 /// The lines of a script on which a second request comes, and then its response, and that to the first.
 fn second_request(alloc: Global) -> Result<String, Fail> {
-    let other = hex_of(
+    let other = hex::encode(
         alloc,
         b"HTTP/1.1 404 Not Found\r\nx-a: 1\r\nContent-Length: 1\r\n\r\n!",
     )?;
-    let first = hex_of(alloc, RESPONSE)?;
+    let first = hex::encode(alloc, RESPONSE)?;
     let request = "C 000004010500000003828684be\nU 2 ";
     Ok(joined(alloc, &[request, &other, "\nU 1 ", &first, "\n"])?)
 }
@@ -356,7 +341,7 @@ fn assert_is_passed_by(
     config: &str,
     passed: &str,
 ) -> Result<(), Fail> {
-    let octets = hex_of(alloc, RESPONSE)?;
+    let octets = hex::encode(alloc, RESPONSE)?;
     let script = joined(
         alloc,
         &["C ", PREFACE, SETTINGS, REQUEST, "\nU 1 ", &octets, "\n"],
@@ -389,16 +374,14 @@ fn show_number(text: &mut String, word: &str, number: u64) -> Result<(), AllocEr
 fn show(text: &mut String, event: &Event) -> Result<(), AllocError> {
     match event {
         Event::Client(piece) => {
-            text.push_str("C ")?;
-            add_hex(text, piece.as_slice())?;
-            text.push_str(";")
+            let octets = hex::encode(*text.allocator(), piece)?;
+            write!(text, "C {octets};")
         }
         Event::ClientEnd => text.push_str("CE;"),
         Event::ClientTook(count) => show_number(text, "CT", *count),
         Event::Up(k, piece) => {
-            write!(text, "U {k} ")?;
-            add_hex(text, piece.as_slice())?;
-            text.push_str(";")
+            let octets = hex::encode(*text.allocator(), piece)?;
+            write!(text, "U {k} {octets};")
         }
         Event::UpEnd(k) => show_number(text, "UE", u64::from(*k)),
         Event::UpFailed(k) => show_number(text, "UF", u64::from(*k)),

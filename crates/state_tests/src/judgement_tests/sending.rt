@@ -37,7 +37,8 @@ fn sends_data(connection: &mut Connection, octets: u32, ends: bool) -> bool {
         return false;
     };
     let count = i64::from(octets);
-    if count > connection.window() || count > connection.window_on(live) {
+    // What has no octets takes no window (RFC 9113, section 6.9).
+    if count > 0 && (count > connection.window() || count > connection.window_on(live)) {
         return false;
     }
     connection.sent_data(1, octets, ends);

@@ -6,14 +6,14 @@ use Rattle.std.proofs.lemmas.List.Folds.{list_any-append}
 use Rattle.model.specs.ResponseHeads.{Head}
 use Rattle.model.specs.Setup.{Passing}
 use Rattle.model.specs.Setup.Passing.{Whole, Streaming}
-use Rattle.offering.specs.Outbox.{Outbox, News, first_head, grown}
+use Rattle.offering.specs.Outbox.{End, Outbox, News, first_head, first_end, grown}
 use Rattle.offering.specs.Outbox.Outbox.{Before, Behind, Over}
 use Rattle.h1_reader.specs.Parts.{Part}
 use Rattle.h1_reader.specs.Views.{part_of, parts_of}
 use Rattle.h1_reader.specs.Standing.{is_end, is_done}
 use Rattle.h1_reader.specs.declared.piece.Piece.{Piece}
-use Rattle.read_answers.specs.Telling.{interims_of, head_of, body_of}
-use Rattle.read_answers.proofs.Reading.{interims_more, head_more, body_more}
+use Rattle.read_answers.specs.Telling.{interims_of, head_of, body_of, trailers_of}
+use Rattle.read_answers.proofs.Reading.{interims_more, head_more, body_more, trailers_more}
 use Rattle.answers.specs.Waiting.{Answer, waiting, news_at_once, passing_in}
 
 -- ---- a piece more
@@ -68,22 +68,26 @@ first_twice : (a b c : Option Head) → first_head (first_head a b) c ≡ first_
 first_twice None b c = refl
 first_twice (Some head) b c = refl
 
-or_twice : (a b c : Bool) → ((a || b) || c) ≡ (a || (b || c))
-or_twice true b c = refl
-or_twice false b c = refl
+end_twice : (a b c : End) → first_end (first_end a b) c ≡ first_end a (first_end b c)
+end_twice None b c = refl
+end_twice (Some trailers) b c = refl
+
+end_none : (end : End) → end ≡ first_end end None
+end_none None = refl
+end_none (Some trailers) = refl
 
 -- news and news behind them
 abbrev pub both : News → News → News
-both a b = record { interims = a.interims ++ b.interims; head = first_head a.head b.head; body = a.body ++ b.body; ends = a.ends || b.ends }
+both a b = record { interims = a.interims ++ b.interims; head = first_head a.head b.head; body = a.body ++ b.body; ends = first_end a.ends b.ends }
 
 pub grown_twice : (box : Outbox) (a b : News) → grown (grown box a) b ≡ grown box (both a b)
 grown_twice (Before interims head body whole) a b =
-    ap (λ hs. Before hs (first_head (first_head head a.head) b.head) ((body ++ a.body) ++ b.body) ((whole || a.ends) || b.ends)) (append_assoc interims a.interims b.interims)
-    ∙ ap (λ h. Before (interims ++ (a.interims ++ b.interims)) h ((body ++ a.body) ++ b.body) ((whole || a.ends) || b.ends)) (first_twice head a.head b.head)
-    ∙ ap (λ os. Before (interims ++ (a.interims ++ b.interims)) (first_head head (first_head a.head b.head)) os ((whole || a.ends) || b.ends)) (append_assoc body a.body b.body)
-    ∙ ap (λ e. Before (interims ++ (a.interims ++ b.interims)) (first_head head (first_head a.head b.head)) (body ++ (a.body ++ b.body)) e) (or_twice whole a.ends b.ends)
+    ap (λ hs. Before hs (first_head (first_head head a.head) b.head) ((body ++ a.body) ++ b.body) (first_end (first_end whole a.ends) b.ends)) (append_assoc interims a.interims b.interims)
+    ∙ ap (λ h. Before (interims ++ (a.interims ++ b.interims)) h ((body ++ a.body) ++ b.body) (first_end (first_end whole a.ends) b.ends)) (first_twice head a.head b.head)
+    ∙ ap (λ os. Before (interims ++ (a.interims ++ b.interims)) (first_head head (first_head a.head b.head)) os (first_end (first_end whole a.ends) b.ends)) (append_assoc body a.body b.body)
+    ∙ ap (λ e. Before (interims ++ (a.interims ++ b.interims)) (first_head head (first_head a.head b.head)) (body ++ (a.body ++ b.body)) e) (end_twice whole a.ends b.ends)
 grown_twice (Behind body whole) a b =
-    ap (λ os. Behind os ((whole || a.ends) || b.ends)) (append_assoc body a.body b.body) ∙ ap (λ e. Behind (body ++ (a.body ++ b.body)) e) (or_twice whole a.ends b.ends)
+    ap (λ os. Behind os (first_end (first_end whole a.ends) b.ends)) (append_assoc body a.body b.body) ∙ ap (λ e. Behind (body ++ (a.body ++ b.body)) e) (end_twice whole a.ends b.ends)
 grown_twice Over a b = refl
 
 -- nothing new
@@ -94,28 +98,20 @@ grown_none (Before interims head body whole) passing = cases passing
     first_none None = refl
     first_none (Some x) = refl
 
-    or_none : (b : Bool) → b ≡ (b || false)
-    or_none true = refl
-    or_none false = refl
-
-    same : Before interims head body whole ≡ Before (interims ++ []) (first_head head None) (body ++ []) (whole || false)
+    same : Before interims head body whole ≡ Before (interims ++ []) (first_head head None) (body ++ []) (first_end whole None)
     same =
         ap (λ hs. Before hs head body whole) (sym (append-nil interims))
         ∙ ap (λ h. Before (interims ++ []) h body whole) (first_none head)
         ∙ ap (λ os. Before (interims ++ []) (first_head head None) os whole) (sym (append-nil body))
-        ∙ ap (λ e. Before (interims ++ []) (first_head head None) (body ++ []) e) (or_none whole)
+        ∙ ap (λ e. Before (interims ++ []) (first_head head None) (body ++ []) e) (end_none whole)
 
     cases : (p : Passing) → Before interims head body whole ≡ grown (Before interims head body whole) (news_at_once p [])
     cases Whole = same
     cases Streaming = same
 grown_none (Behind body whole) passing = cases passing
   where
-    or_none : (b : Bool) → b ≡ (b || false)
-    or_none true = refl
-    or_none false = refl
-
-    same : Behind body whole ≡ Behind (body ++ []) (whole || false)
-    same = ap (λ os. Behind os whole) (sym (append-nil body)) ∙ ap (λ e. Behind (body ++ []) e) (or_none whole)
+    same : Behind body whole ≡ Behind (body ++ []) (first_end whole None)
+    same = ap (λ os. Behind os whole) (sym (append-nil body)) ∙ ap (λ e. Behind (body ++ []) e) (end_none whole)
 
     cases : (p : Passing) → Behind body whole ≡ grown (Behind body whole) (news_at_once p [])
     cases Whole = same
@@ -124,36 +120,38 @@ grown_none Over passing = refl
 
 -- pieces and one more
 pub once_more : (passing : Passing) (parts added : List Part) → both (news_at_once passing parts) (news_at_once passing added) ≡ news_at_once passing (parts ++ added)
-once_more Whole parts added = ap (λ hs. let n : News = record { interims = hs; head = None; body = []; ends = false } in n) (sym (interims_more parts added))
+once_more Whole parts added = ap (λ hs. let n : News = record { interims = hs; head = None; body = []; ends = None } in n) (sym (interims_more parts added))
 once_more Streaming parts added =
-    ap (λ hs. let n : News = record { interims = hs; head = first_head (head_of parts) (head_of added); body = body_of parts ++ body_of added; ends = false } in n) (sym (interims_more parts added))
-    ∙ ap (λ h. let n : News = record { interims = interims_of (parts ++ added); head = h; body = body_of parts ++ body_of added; ends = false } in n) (sym (head_more parts added))
-    ∙ ap (λ os. let n : News = record { interims = interims_of (parts ++ added); head = head_of (parts ++ added); body = os; ends = false } in n) (sym (body_more parts added))
+    ap (λ hs. let n : News = record { interims = hs; head = first_head (head_of parts) (head_of added); body = body_of parts ++ body_of added; ends = None } in n) (sym (interims_more parts added))
+    ∙ ap (λ h. let n : News = record { interims = interims_of (parts ++ added); head = h; body = body_of parts ++ body_of added; ends = None } in n) (sym (head_more parts added))
+    ∙ ap (λ os. let n : News = record { interims = interims_of (parts ++ added); head = head_of (parts ++ added); body = os; ends = None } in n) (sym (body_more parts added))
 
 pub offers_more : (passing : Passing) (box now next : Outbox) (parts added : List Part) → now ≡ grown box (news_at_once passing parts) → next ≡ grown now (news_at_once passing added) → next ≡ grown box (news_at_once passing (parts ++ added))
 offers_more passing box now next parts added is more =
     more ∙ ap (λ b. grown b (news_at_once passing added)) is ∙ grown_twice box (news_at_once passing parts) (news_at_once passing added) ∙ ap (grown box) (once_more passing parts added)
 
-pub waits_none : (passing : Passing) (a : Answer) → a ≡ waiting passing a None []
-waits_none Whole a = waits_first a.head
+pub waits_none : (passing : Passing) (a : Answer) → a ≡ waiting passing a None [] None
+waits_none Whole a =
+    ap (λ h. let r : Answer = record { reader = a.reader; way = a.way; head = h; body = a.body; trailers = a.trailers } in r) (first_none a.head)
+    ∙ ap (λ os. let r : Answer = record { reader = a.reader; way = a.way; head = first_head a.head None; body = os; trailers = a.trailers } in r) (sym (append-nil a.body))
+    ∙ ap (λ t. let r : Answer = record { reader = a.reader; way = a.way; head = first_head a.head None; body = a.body ++ []; trailers = t } in r) (end_none a.trailers)
   where
-    waits_first : (h : Option Head) → a ≡ waiting Whole a None []
-    waits_first h = same_head ∙ ap (λ os. let r : Answer = record { reader = a.reader; way = a.way; head = first_head a.head None; body = os } in r) (sym (append-nil a.body))
-      where
-        first_none : (x : Option Head) → x ≡ first_head x None
-        first_none None = refl
-        first_none (Some x) = refl
+    first_none : (x : Option Head) → x ≡ first_head x None
+    first_none None = refl
+    first_none (Some x) = refl
+waits_none Streaming a = ap (λ t. let r : Answer = record { reader = a.reader; way = a.way; head = a.head; body = a.body; trailers = t } in r) (end_none a.trailers)
 
-        same_head : a ≡ record a { head = first_head a.head None }
-        same_head = ap (λ x. let r : Answer = record { reader = a.reader; way = a.way; head = x; body = a.body } in r) (first_none a.head)
-waits_none Streaming a = refl
-
-pub waits_more : (passing : Passing) (a now next : Answer) (parts added : List Part) → passing_in now.way ≡ passing → now ≡ waiting passing a (head_of parts) (body_of parts) → next ≡ waiting (passing_in now.way) now (head_of added) (body_of added) → next ≡ waiting passing a (head_of (parts ++ added)) (body_of (parts ++ added))
+pub waits_more : (passing : Passing) (a now next : Answer) (parts added : List Part) → passing_in now.way ≡ passing → now ≡ waiting passing a (head_of parts) (body_of parts) (trailers_of parts)
+    → next ≡ waiting (passing_in now.way) now (head_of added) (body_of added) (trailers_of added) → next ≡ waiting passing a (head_of (parts ++ added)) (body_of (parts ++ added)) (trailers_of (parts ++ added))
 waits_more passing a now next parts added way is more =
-    more ∙ ap (λ p. waiting p now (head_of added) (body_of added)) way ∙ ap (λ n. waiting passing n (head_of added) (body_of added)) is ∙ joined passing
+    more ∙ ap (λ p. waiting p now (head_of added) (body_of added) (trailers_of added)) way ∙ ap (λ n. waiting passing n (head_of added) (body_of added) (trailers_of added)) is ∙ joined passing
   where
-    joined : (p : Passing) → waiting p (waiting p a (head_of parts) (body_of parts)) (head_of added) (body_of added) ≡ waiting p a (head_of (parts ++ added)) (body_of (parts ++ added))
+    told : first_end (first_end a.trailers (trailers_of parts)) (trailers_of added) ≡ first_end a.trailers (trailers_of (parts ++ added))
+    told = end_twice a.trailers (trailers_of parts) (trailers_of added) ∙ ap (first_end a.trailers) (sym (trailers_more parts added))
+
+    joined : (p : Passing) → waiting p (waiting p a (head_of parts) (body_of parts) (trailers_of parts)) (head_of added) (body_of added) (trailers_of added) ≡ waiting p a (head_of (parts ++ added)) (body_of (parts ++ added)) (trailers_of (parts ++ added))
     joined Whole =
-        ap (λ h. let r : Answer = record { reader = a.reader; way = a.way; head = h; body = (a.body ++ body_of parts) ++ body_of added } in r) (first_twice a.head (head_of parts) (head_of added) ∙ ap (first_head a.head) (sym (head_more parts added)))
-        ∙ ap (λ os. let r : Answer = record { reader = a.reader; way = a.way; head = first_head a.head (head_of (parts ++ added)); body = os } in r) (append_assoc a.body (body_of parts) (body_of added) ∙ ap (λ os. a.body ++ os) (sym (body_more parts added)))
-    joined Streaming = refl
+        ap (λ h. let r : Answer = record { reader = a.reader; way = a.way; head = h; body = (a.body ++ body_of parts) ++ body_of added; trailers = first_end (first_end a.trailers (trailers_of parts)) (trailers_of added) } in r) (first_twice a.head (head_of parts) (head_of added) ∙ ap (first_head a.head) (sym (head_more parts added)))
+        ∙ ap (λ os. let r : Answer = record { reader = a.reader; way = a.way; head = first_head a.head (head_of (parts ++ added)); body = os; trailers = first_end (first_end a.trailers (trailers_of parts)) (trailers_of added) } in r) (append_assoc a.body (body_of parts) (body_of added) ∙ ap (λ os. a.body ++ os) (sym (body_more parts added)))
+        ∙ ap (λ t. let r : Answer = record { reader = a.reader; way = a.way; head = first_head a.head (head_of (parts ++ added)); body = a.body ++ body_of (parts ++ added); trailers = t } in r) told
+    joined Streaming = ap (λ t. let r : Answer = record { reader = a.reader; way = a.way; head = a.head; body = a.body; trailers = t } in r) told

@@ -2,11 +2,12 @@
 use Rattle.std.proofs.Common.{◌≡◌, ℕ, ◌<◌, ◌≤◌, true, false, if◌then◌else◌, List, [], ◌++◌, length, Option, Some, None, refl, sym, ◌∙◌, ap, subst, append-nil}
 use Rattle.model.specs.ResponseHeads.{Head, longest_section}
 use Rattle.model.specs.Setup.Passing.{Whole, Streaming}
-use Rattle.offering.specs.Outbox.{Outbox, News, first_head, grown}
+use Rattle.offering.specs.Outbox.{End, trailers_at, Outbox, News, first_head, first_end, grown}
+use Rattle.h1_reader.specs.HeadSizes.{field_octets}
 use Rattle.h1_reader.specs.Parts.{Part}
 use Rattle.h1_reader.specs.Standing.{State as Reader, Hears, is_done}
-use Rattle.read_answers.specs.Telling.{interims_of, head_of, body_of, news_of, news_at_end}
-use Rattle.read_answers.proofs.Reading.{head_more, body_more}
+use Rattle.read_answers.specs.Telling.{interims_of, head_of, body_of, trailers_of, end_of, news_of, news_at_end}
+use Rattle.read_answers.proofs.Reading.{head_more, body_more, trailers_more}
 use Rattle.answers.specs.Waiting.{Answer, passing_in, limit_in, Waits, waiting, news_at_once, IsPast, IsWithin}
 use Rattle.answers.specs.Hearing.{Tells, IsTooLong}
 use Rattle.answers.specs.declared.answer.Passing.{Passing as Way}
@@ -34,38 +35,43 @@ too_long a octets added r hears long = let p = past a.way a added long in record
 
 -- ---- the response goes on
 
-waits_on : (w : Way) (a n : Answer) (added parts : List Part) → n.head ≡ (waiting (passing_in w) a (head_of added) (body_of added)).head → n.body ≡ (waiting (passing_in w) a (head_of added) (body_of added)).body → Waits (passing_in w) parts a → Waits (passing_in w) (parts ++ added) n
-waits_on (way.Whole limit) a n added parts head body waits =
-    (head ∙ ap (λ h. first_head h (head_of added)) waits.0 ∙ sym (head_more parts added), body ∙ ap (λ os. os ++ body_of added) waits.1 ∙ sym (body_more parts added))
-waits_on way.Streaming a n added parts head body waits = (head ∙ waits.0, body ∙ waits.1)
+waits_on : (w : Way) (a n : Answer) (added parts : List Part) → n.head ≡ (waiting (passing_in w) a (head_of added) (body_of added) (trailers_of added)).head → n.body ≡ (waiting (passing_in w) a (head_of added) (body_of added) (trailers_of added)).body
+    → n.trailers ≡ (waiting (passing_in w) a (head_of added) (body_of added) (trailers_of added)).trailers → Waits (passing_in w) parts a → Waits (passing_in w) (parts ++ added) n
+waits_on (way.Whole limit) a n added parts head body trailers waits = (
+  head ∙ ap (λ h. first_head h (head_of added)) waits.0 ∙ sym (head_more parts added),
+  body ∙ ap (λ os. os ++ body_of added) waits.1 ∙ sym (body_more parts added),
+  trailers ∙ ap (λ t. first_end t (trailers_of added)) waits.2 ∙ sym (trailers_more parts added),
+)
+waits_on way.Streaming a n added parts head body trailers waits = (head ∙ waits.0, body ∙ waits.1, trailers ∙ ap (λ t. first_end t (trailers_of added)) waits.2 ∙ sym (trailers_more parts added))
 
 offers_on : (w : Way) (added parts : List Part) → is_done added ≡ false → news_at_once (passing_in w) added ≡ news_of (passing_in w) parts added
 offers_on (way.Whole limit) added parts on =
-    sym (ap (λ b. if b then (let n : News = record { interims = interims_of added; head = head_of (parts ++ added); body = body_of (parts ++ added); ends = true } in n) else (let n : News = record { interims = interims_of added; head = None; body = []; ends = false } in n)) on)
-offers_on way.Streaming added parts on = sym (ap (λ b. let n : News = record { interims = interims_of added; head = head_of added; body = body_of added; ends = b } in n) on)
+    sym (ap (λ b. if b then (let n : News = record { interims = interims_of added; head = head_of (parts ++ added); body = body_of (parts ++ added); ends = Some (trailers_at (trailers_of (parts ++ added))) } in n) else (let n : News = record { interims = interims_of added; head = None; body = []; ends = None } in n)) on)
+offers_on way.Streaming added parts on = sym (ap (λ b. let n : News = record { interims = interims_of added; head = head_of added; body = body_of added; ends = end_of b (trailers_of (parts ++ added)) } in n) on)
 
 -- an answer that read more, and of which nothing else changed
 abbrev pub reading : Answer → Reader → Answer
-reading a r = record { reader = r; way = a.way; head = a.head; body = a.body }
+reading a r = record { reader = r; way = a.way; head = a.head; body = a.body; trailers = a.trailers }
 
 -- of such an answer, with what waits then
-pub waited : (w : Way) (a n : Answer) (r : Reader) (head : Option Head) (body : List ℕ) → n ≡ waiting (passing_in w) (reading a r) head body
-    → (n.reader ≡ r) × (n.way ≡ a.way) × (n.head ≡ (waiting (passing_in w) a head body).head) × (n.body ≡ (waiting (passing_in w) a head body).body)
-waited (way.Whole limit) a n r head body is = (ap (λ (x : Answer). x.reader) is, ap (λ (x : Answer). x.way) is, ap (λ (x : Answer). x.head) is, ap (λ (x : Answer). x.body) is)
-waited way.Streaming a n r head body is = (ap (λ (x : Answer). x.reader) is, ap (λ (x : Answer). x.way) is, ap (λ (x : Answer). x.head) is, ap (λ (x : Answer). x.body) is)
+pub waited : (w : Way) (a n : Answer) (r : Reader) (head : Option Head) (body : List ℕ) (trailers : End) → n ≡ waiting (passing_in w) (reading a r) head body trailers
+    → (n.reader ≡ r) × (n.way ≡ a.way) × (n.head ≡ (waiting (passing_in w) a head body trailers).head) × (n.body ≡ (waiting (passing_in w) a head body trailers).body) × (n.trailers ≡ (waiting (passing_in w) a head body trailers).trailers)
+waited (way.Whole limit) a n r head body trailers is = (ap (λ (x : Answer). x.reader) is, ap (λ (x : Answer). x.way) is, ap (λ (x : Answer). x.head) is, ap (λ (x : Answer). x.body) is, ap (λ (x : Answer). x.trailers) is)
+waited way.Streaming a n r head body trailers is = (ap (λ (x : Answer). x.reader) is, ap (λ (x : Answer). x.way) is, ap (λ (x : Answer). x.head) is, ap (λ (x : Answer). x.body) is, ap (λ (x : Answer). x.trailers) is)
 
-pub goes_on : (a n : Answer) (octets : List ℕ) (added : List Part) (r : Reader) (box box' : Outbox) → Hears a.reader octets added r → length r.held ≤ longest_section → IsWithin a.way (a.body ++ body_of added) → is_done added ≡ false
-    → n ≡ waiting (passing_in a.way) (reading a r) (head_of added) (body_of added) → box' ≡ grown box (news_at_once (passing_in a.way) added) → Tells a octets box false n box'
-goes_on a n octets added r box box' hears short within on is offers =
-    let w = waited a.way a n r (head_of added) (body_of added) is in
+pub goes_on : (a n : Answer) (octets : List ℕ) (added : List Part) (r : Reader) (box box' : Outbox) → Hears a.reader octets added r → length r.held.octets ≤ longest_section → field_octets r.held.connections ≤ longest_section → IsWithin a.way (a.body ++ body_of added) → is_done added ≡ false
+    → n ≡ waiting (passing_in a.way) (reading a r) (head_of added) (body_of added) (trailers_of added) → box' ≡ grown box (news_at_once (passing_in a.way) added) → Tells a octets box false n box'
+goes_on a n octets added r box box' hears short named within on is offers =
+    let w = waited a.way a n r (head_of added) (body_of added) (trailers_of added) is in
     record {
       added = added;
       hears = subst (λ s. Hears a.reader octets added s) (sym w.0) hears;
-      short = subst (λ (s : Reader). length s.held ≤ longest_section) (sym w.0) short;
+      short = subst (λ (s : Reader). length s.held.octets ≤ longest_section) (sym w.0) short;
+      few_named = subst (λ (s : Reader). field_octets s.held.connections ≤ longest_section) (sym w.0) named;
       same = w.1;
       ends = on;
       fits = λ parts most waits limit. fits a.way a added parts most within waits limit;
-      waits = λ parts waits done. waits_on a.way a n added parts w.2 w.3 waits;
+      waits = λ parts waits done. waits_on a.way a n added parts w.2 w.3 w.4 waits;
       offers = λ parts waits. offers ∙ ap (grown box) (offers_on a.way added parts on);
     }
 
@@ -73,40 +79,43 @@ goes_on a n octets added r box box' hears short within on is offers =
 
 -- what waits, and the end
 abbrev pub rest_news : Answer → News
-rest_news n = record { interims = []; head = n.head; body = n.body; ends = true }
+rest_news n = record { interims = []; head = n.head; body = n.body; ends = Some (trailers_at n.trailers) }
 
 whole_news : (w : Way) (a n : Answer) (added parts : List Part) → is_done added ≡ true → Waits (passing_in w) parts a → Waits (passing_in w) (parts ++ added) n → both (news_at_once (passing_in w) added) (rest_news n) ≡ news_of (passing_in w) parts added
 whole_news (way.Whole limit) a n added parts done before waits =
-    ap (λ hs. let m : News = record { interims = hs; head = n.head; body = n.body; ends = true } in m) (append-nil (interims_of added))
-    ∙ ap (λ h. let m : News = record { interims = interims_of added; head = h; body = n.body; ends = true } in m) waits.0
-    ∙ ap (λ os. let m : News = record { interims = interims_of added; head = head_of (parts ++ added); body = os; ends = true } in m) waits.1
-    ∙ sym (ap (λ b. if b then (let m : News = record { interims = interims_of added; head = head_of (parts ++ added); body = body_of (parts ++ added); ends = true } in m) else (let m : News = record { interims = interims_of added; head = None; body = []; ends = false } in m)) done)
+    ap (λ hs. let m : News = record { interims = hs; head = n.head; body = n.body; ends = Some (trailers_at n.trailers) } in m) (append-nil (interims_of added))
+    ∙ ap (λ h. let m : News = record { interims = interims_of added; head = h; body = n.body; ends = Some (trailers_at n.trailers) } in m) waits.0
+    ∙ ap (λ os. let m : News = record { interims = interims_of added; head = head_of (parts ++ added); body = os; ends = Some (trailers_at n.trailers) } in m) waits.1
+    ∙ ap (λ t. let m : News = record { interims = interims_of added; head = head_of (parts ++ added); body = body_of (parts ++ added); ends = Some (trailers_at t) } in m) waits.2
+    ∙ sym (ap (λ b. if b then (let m : News = record { interims = interims_of added; head = head_of (parts ++ added); body = body_of (parts ++ added); ends = Some (trailers_at (trailers_of (parts ++ added))) } in m) else (let m : News = record { interims = interims_of added; head = None; body = []; ends = None } in m)) done)
 whole_news way.Streaming a n added parts done before waits =
-    ap (λ hs. let m : News = record { interims = hs; head = first_head (head_of added) n.head; body = body_of added ++ n.body; ends = true } in m) (append-nil (interims_of added))
-    ∙ ap (λ h. let m : News = record { interims = interims_of added; head = first_head (head_of added) h; body = body_of added ++ n.body; ends = true } in m) waits.0
-    ∙ ap (λ h. let m : News = record { interims = interims_of added; head = h; body = body_of added ++ n.body; ends = true } in m) (first_none (head_of added))
-    ∙ ap (λ os. let m : News = record { interims = interims_of added; head = head_of added; body = body_of added ++ os; ends = true } in m) waits.1
-    ∙ ap (λ os. let m : News = record { interims = interims_of added; head = head_of added; body = os; ends = true } in m) (append-nil (body_of added))
-    ∙ sym (ap (λ b. let m : News = record { interims = interims_of added; head = head_of added; body = body_of added; ends = b } in m) done)
+    ap (λ hs. let m : News = record { interims = hs; head = first_head (head_of added) n.head; body = body_of added ++ n.body; ends = Some (trailers_at n.trailers) } in m) (append-nil (interims_of added))
+    ∙ ap (λ h. let m : News = record { interims = interims_of added; head = first_head (head_of added) h; body = body_of added ++ n.body; ends = Some (trailers_at n.trailers) } in m) waits.0
+    ∙ ap (λ h. let m : News = record { interims = interims_of added; head = h; body = body_of added ++ n.body; ends = Some (trailers_at n.trailers) } in m) (first_none (head_of added))
+    ∙ ap (λ os. let m : News = record { interims = interims_of added; head = head_of added; body = body_of added ++ os; ends = Some (trailers_at n.trailers) } in m) waits.1
+    ∙ ap (λ os. let m : News = record { interims = interims_of added; head = head_of added; body = os; ends = Some (trailers_at n.trailers) } in m) (append-nil (body_of added))
+    ∙ ap (λ t. let m : News = record { interims = interims_of added; head = head_of added; body = body_of added; ends = Some (trailers_at t) } in m) waits.2
+    ∙ sym (ap (λ b. let m : News = record { interims = interims_of added; head = head_of added; body = body_of added; ends = end_of b (trailers_of (parts ++ added)) } in m) done)
   where
     first_none : (h : Option Head) → first_head h None ≡ h
     first_none None = refl
     first_none (Some head) = refl
 
-pub is_whole : (a n last : Answer) (octets : List ℕ) (added : List Part) (r : Reader) (box between box' : Outbox) → Hears a.reader octets added r → length r.held ≤ longest_section → IsWithin a.way (a.body ++ body_of added) → is_done added ≡ true
-    → n ≡ waiting (passing_in a.way) (reading a r) (head_of added) (body_of added) → between ≡ grown box (news_at_once (passing_in a.way) added) → box' ≡ grown between (rest_news n) → last.reader ≡ n.reader → last.way ≡ n.way → Tells a octets box true last box'
-is_whole a n last octets added r box between box' hears short within done is offers more reader_same way_same =
-    let w = waited a.way a n r (head_of added) (body_of added) is in
+pub is_whole : (a n last : Answer) (octets : List ℕ) (added : List Part) (r : Reader) (box between box' : Outbox) → Hears a.reader octets added r → length r.held.octets ≤ longest_section → field_octets r.held.connections ≤ longest_section → IsWithin a.way (a.body ++ body_of added) → is_done added ≡ true
+    → n ≡ waiting (passing_in a.way) (reading a r) (head_of added) (body_of added) (trailers_of added) → between ≡ grown box (news_at_once (passing_in a.way) added) → box' ≡ grown between (rest_news n) → last.reader ≡ n.reader → last.way ≡ n.way → Tells a octets box true last box'
+is_whole a n last octets added r box between box' hears short named within done is offers more reader_same way_same =
+    let w = waited a.way a n r (head_of added) (body_of added) (trailers_of added) is in
     record {
       added = added;
       hears = subst (λ s. Hears a.reader octets added s) (sym (reader_same ∙ w.0)) hears;
-      short = subst (λ (s : Reader). length s.held ≤ longest_section) (sym (reader_same ∙ w.0)) short;
+      short = subst (λ (s : Reader). length s.held.octets ≤ longest_section) (sym (reader_same ∙ w.0)) short;
+      few_named = subst (λ (s : Reader). field_octets s.held.connections ≤ longest_section) (sym (reader_same ∙ w.0)) named;
       same = way_same ∙ w.1;
       ends = done;
       fits = λ parts most waits limit. fits a.way a added parts most within waits limit;
       waits = λ parts waits on. absurd (let no : true ≡ false = on in cc);
       offers = λ parts waits. more ∙ ap (λ b. grown b (rest_news n)) offers ∙ grown_twice box (news_at_once (passing_in a.way) added) (rest_news n)
-          ∙ ap (grown box) (whole_news a.way a n added parts done waits (waits_on a.way a n added parts w.2 w.3 waits));
+          ∙ ap (grown box) (whole_news a.way a n added parts done waits (waits_on a.way a n added parts w.2 w.3 w.4 waits));
     }
 
 -- ---- the end of the connection
@@ -115,5 +124,11 @@ pub at_end : (a : Answer) (parts : List Part) → Waits (passing_in a.way) parts
 at_end a parts waits = cases a.way waits
   where
     cases : (w : Way) → Waits (passing_in w) parts a → rest_news a ≡ news_at_end (passing_in w) parts
-    cases (way.Whole limit) w = ap (λ h. let m : News = record { interims = []; head = h; body = a.body; ends = true } in m) w.0 ∙ ap (λ os. let m : News = record { interims = []; head = head_of parts; body = os; ends = true } in m) w.1
-    cases way.Streaming w = ap (λ h. let m : News = record { interims = []; head = h; body = a.body; ends = true } in m) w.0 ∙ ap (λ os. let m : News = record { interims = []; head = None; body = os; ends = true } in m) w.1
+    cases (way.Whole limit) w =
+        ap (λ h. let m : News = record { interims = []; head = h; body = a.body; ends = Some (trailers_at a.trailers) } in m) w.0
+        ∙ ap (λ os. let m : News = record { interims = []; head = head_of parts; body = os; ends = Some (trailers_at a.trailers) } in m) w.1
+        ∙ ap (λ t. let m : News = record { interims = []; head = head_of parts; body = body_of parts; ends = Some (trailers_at t) } in m) w.2
+    cases way.Streaming w =
+        ap (λ h. let m : News = record { interims = []; head = h; body = a.body; ends = Some (trailers_at a.trailers) } in m) w.0
+        ∙ ap (λ os. let m : News = record { interims = []; head = None; body = os; ends = Some (trailers_at a.trailers) } in m) w.1
+        ∙ ap (λ t. let m : News = record { interims = []; head = None; body = []; ends = Some (trailers_at t) } in m) w.2

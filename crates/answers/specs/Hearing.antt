@@ -2,6 +2,7 @@
 use Rattle.std.specs.Prelude.{◌≡◌, ℕ, ◌<◌, ◌≤◌, ◌⊎◌, Bool, true, false, List, ◌++◌, length, Some}
 use Rattle.model.specs.ResponseHeads.{longest_section}
 use Rattle.offering.specs.Outbox.{Outbox, grown}
+use Rattle.h1_reader.specs.HeadSizes.{field_octets}
 use Rattle.h1_reader.specs.Parts.{Part}
 use Rattle.h1_reader.specs.Standing.{State as Reader, Hears, Breaks, IsEnd, is_done}
 use Rattle.h1_reader.specs.declared.reader.Ended.TheVariants as reader
@@ -14,11 +15,12 @@ use Rattle.answers.specs.declared.answer.Ended.TheVariants.{Complete, Short}
 
 -- The octets tell more of the response, which is whole with them or isn't: what is news of that is on offer behind them, and what waits
 -- is what waits of all that was told. A body that is passed on whole has no more octets than it may, and the reader holds no more of them unread
--- than a head may have.
+-- than a head may have, and no longer fields Connection of its head.
 pub record Tells (old : Answer) (octets : List ℕ) (box : Outbox) (done : Bool) (new : Answer) (box' : Outbox) : Type 0 where
   pub added : List Part
   pub hears : Hears old.reader octets added new.reader
-  pub short : length new.reader.held ≤ longest_section
+  pub short : length new.reader.held.octets ≤ longest_section
+  pub few_named : field_octets new.reader.held.connections ≤ longest_section
   pub same : new.way ≡ old.way
   pub ends : is_done added ≡ done
   pub fits : (parts : List Part) (most : ℕ) → Waits (passing_in old.way) parts old → limit_in old.way ≡ Some most → length (body_of (parts ++ added)) ≤ most

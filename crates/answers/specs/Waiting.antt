@@ -3,19 +3,20 @@ use Rattle.std.specs.Prelude.{◌≡◌, ℕ, ◌<◌, ◌≤◌, false, List, [
 use Rattle.model.specs.ResponseHeads.{Head}
 use Rattle.model.specs.Setup.{Passing}
 use Rattle.model.specs.Setup.Passing.{Whole, Streaming}
-use Rattle.offering.specs.Outbox.{News, first_head}
+use Rattle.offering.specs.Outbox.{End, News, first_head, first_end}
 use Rattle.h1_reader.specs.Parts.{Part}
 use Rattle.h1_reader.specs.Standing.{State as Reader}
-use Rattle.read_answers.specs.Telling.{interims_of, head_of, body_of}
+use Rattle.read_answers.specs.Telling.{interims_of, head_of, body_of, trailers_of}
 use Rattle.answers.specs.declared.answer.Passing.{Passing as Way}
 use Rattle.answers.specs.declared.answer.Passing.TheVariants as way
 
--- An answer: its reader, how it is passed on, and the head and the octets of the body that wait for its end.
+-- An answer: its reader, how it is passed on, and the head, the octets of the body and the trailers that wait for its end.
 pub record Answer : Type 0 where
   pub reader : Reader
   pub way : Way
   pub head : Option Head
   pub body : List ℕ
+  pub trailers : End
 
 -- how responses are passed on
 abbrev pub passing_in : Way → Passing
@@ -27,20 +28,20 @@ abbrev pub limit_in : Way → Option ℕ
 limit_in (way.Whole most) = Some most
 limit_in way.Streaming = None
 
--- What waits, once these parts were told: of a response that is passed on whole its head and its body, of another nothing.
+-- What waits, once these parts were told: of a response that is passed on whole its head and its body, of another neither; and its trailers.
 abbrev pub Waits : Passing → List Part → Answer → Type 0
-Waits Whole parts answer = (answer.head ≡ head_of parts) × (answer.body ≡ body_of parts)
-Waits Streaming parts answer = (answer.head ≡ None) × (answer.body ≡ [])
+Waits Whole parts answer = (answer.head ≡ head_of parts) × (answer.body ≡ body_of parts) × (answer.trailers ≡ trailers_of parts)
+Waits Streaming parts answer = (answer.head ≡ None) × (answer.body ≡ []) × (answer.trailers ≡ trailers_of parts)
 
--- what waits once a head and a body are told
-abbrev pub waiting : Passing → Answer → Option Head → List ℕ → Answer
-waiting Whole answer head body = record answer { head = first_head answer.head head; body = answer.body ++ body }
-waiting Streaming answer head body = answer
+-- what waits once a head, a body and trailers are told
+abbrev pub waiting : Passing → Answer → Option Head → List ℕ → End → Answer
+waiting Whole answer head body trailers = record answer { head = first_head answer.head head; body = answer.body ++ body; trailers = first_end answer.trailers trailers }
+waiting Streaming answer head body trailers = record answer { trailers = first_end answer.trailers trailers }
 
 -- what goes on offer at once of parts of a response that isn't whole yet
 abbrev pub news_at_once : Passing → List Part → News
-news_at_once Whole parts = record { interims = interims_of parts; head = None; body = []; ends = false }
-news_at_once Streaming parts = record { interims = interims_of parts; head = head_of parts; body = body_of parts; ends = false }
+news_at_once Whole parts = record { interims = interims_of parts; head = None; body = []; ends = None }
+news_at_once Streaming parts = record { interims = interims_of parts; head = head_of parts; body = body_of parts; ends = None }
 
 -- A body has more octets than one that is passed on whole may have.
 abbrev pub IsPast : Way → List ℕ → Type 0

@@ -1,16 +1,16 @@
 //! The answer of an upstream.
 
 ghost use Rattle.std.specs.Prelude.{◌≡◌, ◌+◌, ◌<◌, ◌≤◌, [], ◌++◌, ◌∷◌, true, false, None, Some, length, OnOk, IfOk};
-ghost use Rattle.offering.specs.Outbox.{grown};
+ghost use Rattle.offering.specs.Outbox.{trailers_at, grown};
 ghost use Rattle.h1_reader.specs.Standing.{is_end, is_done, Stands};
 ghost use Rattle.h1_reader.specs.Parts.Part.{Final, Body};
 ghost use Rattle.h1_reader.specs.Views.{part_of, parts_of};
 ghost use Rattle.h1_reader.specs.declared.reader.Place.TheVariants as place;
-ghost use Rattle.read_answers.specs.Telling.{head_of, body_of};
+ghost use Rattle.read_answers.specs.Telling.{head_of, body_of, trailers_of};
 ghost use Rattle.answers.specs.Waiting.{passing_in, waiting, news_at_once, IsPast, IsWithin};
 ghost use Rattle.answers.specs.Hearing.{IsHeard, IsEnded};
 
-use h1_reader::{Piece, Reader, ResponseFault, ResponseHead};
+use h1_reader::{Piece, Reader, ResponseFault, ResponseHead, Trailers};
 use outbox::Outbox;
 use std::alloc::{AllocError, Global};
 use std::marker::Model;
@@ -53,6 +53,7 @@ pub struct Answer {
     passing: Passing,
     head: Option<ResponseHead>,
     body: Vec<u8>,
+    trailers: Option<Trailers>,
 }
 
 impl Model for Answer {
@@ -60,7 +61,7 @@ impl Model for Answer {
 
     ghost Value = { Answer };
 
-    ghost view = { λ a. record { reader = a.reader; way = a.passing; head = a.head; body = a.body.items } };
+    ghost view = { λ a. record { reader = a.reader; way = a.passing; head = a.head; body = a.body.items; trailers = a.trailers } };
 }
 
 /// Whether a piece says that the response is whole.
@@ -111,7 +112,7 @@ fn are_past(pieces: &[Piece], most: u64) -> bool
 impl Answer {
     /// Nothing has come of the response to a request, whose method is HEAD or isn't.
     pub fn new(alloc: Global, to_head: bool, passing: Passing) -> Answer
-        ensures is { result ≡ record { reader = record { to_head = to_head; place = place.Head 0; held = [] }; way = passing; head = None; body = [] } }
+        ensures is { result ≡ record { reader = record { to_head = to_head; place = place.Head 0; held = record { octets = []; connections = [] } }; way = passing; head = None; body = []; trailers = None } }
         ensures stands { Stands [] [] result.reader }
     {
         Answer {
@@ -120,6 +121,7 @@ impl Answer {
             passing,
             head: None,
             body: Vec::new(alloc),
+            trailers: None,
         }
     }
 
@@ -186,13 +188,14 @@ impl Answer {
 
     /// Takes a piece: what waits of it, and what goes on offer at once.
     fn take(&mut self, piece: Piece, outbox: &mut Outbox) -> Result<(), AllocError>
-        ensures waits { OnOk result (self.new ≡ waiting (passing_in self.old.way) self.old (head_of (part_of piece ∷ [])) (body_of (part_of piece ∷ []))) }
+        ensures waits { OnOk result (self.new ≡ waiting (passing_in self.old.way) self.old (head_of (part_of piece ∷ [])) (body_of (part_of piece ∷ [])) (trailers_of (part_of piece ∷ []))) }
         ensures offers { OnOk result (outbox.new ≡ grown outbox.old (news_at_once (passing_in self.old.way) (part_of piece ∷ []))) }
     {
         match piece {
             Piece::Interim(head) => outbox.add_interim(head)?,
             Piece::Head(head) => self.take_head(head, outbox)?,
             Piece::Body(octets) => self.take_body(octets, outbox)?,
+            Piece::Trailers(trailers) => self.take_trailers(trailers),
             Piece::Done => {}
         }
         Ok(())
@@ -200,7 +203,7 @@ impl Answer {
 
     /// Takes the final head.
     fn take_head(&mut self, head: ResponseHead, outbox: &mut Outbox) -> Result<(), AllocError>
-        ensures waits { OnOk result (self.new ≡ waiting (passing_in self.old.way) self.old (Some head) []) }
+        ensures waits { OnOk result (self.new ≡ waiting (passing_in self.old.way) self.old (Some head) [] None) }
         ensures offers { OnOk result (outbox.new ≡ grown outbox.old (news_at_once (passing_in self.old.way) (Final head ∷ []))) }
     {
         match self.passing {
@@ -210,13 +213,13 @@ impl Answer {
                 }
                 Ok(())
             }
-            Passing::Streaming => outbox.add(Some(head), Vec::new(self.alloc), false),
+            Passing::Streaming => outbox.add(Some(head), Vec::new(self.alloc), None),
         }
     }
 
     /// Takes octets of the body.
     fn take_body(&mut self, octets: Vec<u8>, outbox: &mut Outbox) -> Result<(), AllocError>
-        ensures waits { OnOk result (self.new ≡ waiting (passing_in self.old.way) self.old None octets.items) }
+        ensures waits { OnOk result (self.new ≡ waiting (passing_in self.old.way) self.old None octets.items None) }
         ensures offers { OnOk result (outbox.new ≡ grown outbox.old (news_at_once (passing_in self.old.way) (Body octets.items ∷ []))) }
     {
         match self.passing {
@@ -227,13 +230,22 @@ impl Answer {
                 }
                 self.body.extend_from_slice(&octets)
             }
-            Passing::Streaming => outbox.add(None, octets, false),
+            Passing::Streaming => outbox.add(None, octets, None),
+        }
+    }
+
+    /// Takes trailers, which wait for the end.
+    fn take_trailers(&mut self, trailers: Trailers)
+        ensures { self.new ≡ waiting (passing_in self.old.way) self.old None [] (Some trailers) }
+    {
+        if self.trailers.is_none() {
+            self.trailers = Some(trailers);
         }
     }
 
     /// Takes pieces in their order.
     fn take_all(&mut self, pieces: Vec<Piece>, outbox: &mut Outbox) -> Result<(), AllocError>
-        ensures waits { OnOk result (self.new ≡ waiting (passing_in self.old.way) self.old (head_of (parts_of pieces.items)) (body_of (parts_of pieces.items))) }
+        ensures waits { OnOk result (self.new ≡ waiting (passing_in self.old.way) self.old (head_of (parts_of pieces.items)) (body_of (parts_of pieces.items)) (trailers_of (parts_of pieces.items))) }
         ensures offers { OnOk result (outbox.new ≡ grown outbox.old (news_at_once (passing_in self.old.way) (parts_of pieces.items))) }
     {
         for piece in pieces {
@@ -242,12 +254,12 @@ impl Answer {
         Ok(())
     }
 
-    /// What waited goes on offer, with the end.
+    /// What waited goes on offer, with the end and the trailers that were told.
     fn release(&mut self, outbox: &mut Outbox) -> Result<(), AllocError>
-        ensures offers { OnOk result (outbox.new ≡ grown outbox.old (record { interims = []; head = self.old.head; body = self.old.body; ends = true })) }
+        ensures offers { OnOk result (outbox.new ≡ grown outbox.old (record { interims = []; head = self.old.head; body = self.old.body; ends = Some (trailers_at self.old.trailers) })) }
         ensures same { (self.new.reader ≡ self.old.reader) × (self.new.way ≡ self.old.way) }
     {
         let body = mem::replace(&mut self.body, Vec::new(self.alloc));
-        outbox.add(self.head.take(), body, true)
+        outbox.add(self.head.take(), body, Some(self.trailers.take()))
     }
 }

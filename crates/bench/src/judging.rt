@@ -167,7 +167,7 @@ fn number_of_block(judged: BlockJudged) -> u8 {
         BlockJudged::GoesOn => 8,
         BlockJudged::Begins { .. } => 9,
         BlockJudged::Answered(_) => 10,
-        BlockJudged::Trailers => 11,
+        BlockJudged::Trailers(_) => 11,
         BlockJudged::Ignored => 12,
     }
 }

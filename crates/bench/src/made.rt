@@ -61,6 +61,7 @@ fn hash_pieces(sum: u64, pieces: &[Piece]) -> u64 {
         sum = match piece {
             Piece::Interim(head) | Piece::Head(head) => hash_fields(sum, head.fields()),
             Piece::Body(octets) => hash(sum, octets),
+            Piece::Trailers(trailers) => hash_fields(sum, trailers.fields()),
             Piece::Done => sum,
         };
     }

@@ -9,7 +9,7 @@ ghost use Rattle.model.specs.Causes.{largest_fields};
 ghost use Rattle.causes.specs.Openings.{behind_head};
 
 use hpack_table::Field;
-use request_rules::check_trailers;
+use request_rules::are_trailers;
 
 /// Whether a header block behind a request's head is no trailers that end the request (RFC 9113, section 8.1); `ended` where it ends
 /// its stream. The sizes of its fields (RFC 7541, section 4.1) sum to at most 16,384. The head declared this length of the body in
@@ -23,7 +23,7 @@ pub fn are_malformed_trailers(
     requires { total_size fields.now ≤ largest_fields }
     ensures { (waits : Bool) → result ≡ is_bad_block (behind_head declared octets waits) ended (Fields fields.now) }
 {
-    !ended || !has_length(declared, octets) || check_trailers(fields).is_err()
+    !ended || !has_length(declared, octets) || !are_trailers(fields)
 }
 
 /// Whether so many octets are as many as were declared, where some were.

@@ -3,6 +3,7 @@ use Rattle.std.proofs.Common.{◌≡◌, ℕ, ◌+◌, ◌<◌, Bool, List, [], 
 use Rattle.httparse.specs.Grammar.{ReadsSection, HasNoSection}
 use Rattle.httparse.proofs.GrammarLemmas.{ReadsSection-append}
 use Rattle.model.specs.Octets.{Joined}
+use Rattle.model.specs.Messages.{Field}
 use Rattle.model.specs.Http1.{crlf}
 use Rattle.model.specs.ResponseHeads as model
 use Rattle.model.specs.ResponseHeads.Framing.{Chunks as IsChunks}
@@ -31,24 +32,24 @@ pub chunk_grouped : (line octets past : List ℕ) → (line ++ octets ++ crlf) +
 chunk_grouped line octets past = simp (append_assoc, cons-append)
 
 -- chunks of one text are those of the other, where none begins what follows them
-pub not_chunked : (front behind rest body : List ℕ) (chunks : List (List ℕ)) → Joined IsChunk front chunks → NoBody behind → front ++ behind ≡ rest → Chunked rest body → ⊥
-not_chunked front behind rest body chunks joined none e q =
-    let whole : front ++ behind ≡ q.front ++ (q.line ++ (q.trailers ++ q.past)) = e ∙ q.is ∙ last_grouped q.front q.line q.trailers q.past in
-    let fronts = one_joined IsChunk one_response_chunk front q.front behind (q.line ++ (q.trailers ++ q.past)) chunks q.chunks joined q.are_chunks
-    none.no_chunk (none_at_last q.line (q.trailers ++ q.past) q.is_last) whole in
-    none.no_end q.line q.trailers q.past q.is_last q.are_trailers (same_rest front q.front behind (q.line ++ (q.trailers ++ q.past)) fronts.0 whole)
+pub not_chunked : (named : List (List ℕ)) (front behind rest body : List ℕ) (trailers : List Field) (chunks : List (List ℕ)) → Joined IsChunk front chunks → NoBody behind → front ++ behind ≡ rest → Chunked named rest body trailers → ⊥
+not_chunked named front behind rest body trailers chunks joined none e q =
+    let whole : front ++ behind ≡ q.front ++ (q.line ++ (q.section ++ q.past)) = e ∙ q.is ∙ last_grouped q.front q.line q.section q.past in
+    let fronts = one_joined IsChunk one_response_chunk front q.front behind (q.line ++ (q.section ++ q.past)) chunks q.chunks joined q.are_chunks
+    none.no_chunk (none_at_last q.line (q.section ++ q.past) q.is_last) whole in
+    none.no_end q.line q.section q.past q.is_last q.are_trailers (same_rest front q.front behind (q.line ++ (q.section ++ q.past)) fronts.0 whole)
 
-in_chunks : (framing : model.Framing) (ended : Bool) (rest body : List ℕ) → IsChunks ≡ framing → HasBody framing ended rest body → Chunked rest body
-in_chunks framing ended rest body e w = subst (λ (f : model.Framing). HasBody f ended rest body) (sym e) w
+in_chunks : (named : List (List ℕ)) (framing : model.Framing) (ended : Bool) (rest body : List ℕ) (trailers : List Field) → IsChunks named ≡ framing → HasBody framing ended rest body trailers → Chunked named rest body trailers
+in_chunks named framing ended rest body trailers e w = subst (λ (f : model.Framing). HasBody f ended rest body trailers) (sym e) w
 
 -- no response is whole
-pub chunked_short : (ended to_head : Bool) (behind next text : List ℕ) (parts : List Part) → InChunked to_head behind next text parts → NoBody behind → IsComplete text ended to_head → ⊥
-chunked_short ended to_head behind next text parts c none whole =
+pub chunked_short : {named : List (List ℕ)} (ended to_head : Bool) (behind next text : List ℕ) (parts : List Part) → InChunked named to_head behind next text parts → NoBody behind → IsComplete text ended to_head → ⊥
+chunked_short {named} ended to_head behind next text parts c none whole =
     let b = c.body in
     let p = whole.1 in
-    let same = one_front to_head b.front p.front b.head_text p.head_text (c.front ++ behind) p.rest b.interims whole.0.interims b.head whole.0.head IsChunks p.framing
+    let same = one_front to_head b.front p.front b.head_text p.head_text (c.front ++ behind) p.rest b.interims whole.0.interims b.head whole.0.head (IsChunks named) p.framing
     b.are_interims p.are_interims b.is_final p.is_final (sym b.is ∙ p.is) in
-    not_chunked c.front behind p.rest whole.0.body c.chunks c.are_chunks none same.final.rest (in_chunks p.framing ended p.rest whole.0.body same.final.framing p.body)
+    not_chunked named c.front behind p.rest whole.0.body whole.0.trailers c.chunks c.are_chunks none same.final.rest (in_chunks named p.framing ended p.rest whole.0.body whole.0.trailers same.final.framing p.body)
 
 -- ---- what stands at each place is no body
 
@@ -105,33 +106,33 @@ no_trailers_there held none trailers past are e =
 pub line_no_body : (line : LinePlace) (text : List ℕ) → IsLinePart line text → NoBody text
 line_no_body line text p = no_line_body text (none_in_line text (line_begun line text p))
 
-pub chunk_no_body : (to_head : Bool) (left : ℕ) (text : List ℕ) (parts : List Part) (b : InChunk to_head left text parts) → NoBody (b.line ++ b.next)
-chunk_no_body to_head left text parts b =
+pub chunk_no_body : {named : List (List ℕ)} (to_head : Bool) (left : ℕ) (text : List ℕ) (parts : List Part) (b : InChunk named to_head left text parts) → NoBody (b.line ++ b.next)
+chunk_no_body {named} to_head left text parts b =
     let sum : length b.next + left ≡ b.size = b.has_size in
     let some : 0 < left = b.some in
     octets_no_body b.line b.next b.size b.is_line (omega arith)
 
-pub end_body_none : (to_head : Bool) (end text : List ℕ) (parts : List Part) → length end < 2 → (b : BehindChunk to_head end text parts) → NoBody (b.line ++ b.next ++ end)
-end_body_none to_head end text parts few b =
+pub end_body_none : {named : List (List ℕ)} (to_head : Bool) (end text : List ℕ) (parts : List Part) → length end < 2 → (b : BehindChunk named to_head end text parts) → NoBody (b.line ++ b.next ++ end)
+end_body_none {named} to_head end text parts few b =
     subst NoBody (sym (append_assoc b.line b.next end))
     (end_no_body b.line b.next end b.is_line b.some (λ more e. let lengths : length end ≡ length {A = ℕ} (13 ∷ (10 ∷ more)) = ap length e in absurd (omega arith)))
 
-pub held_no_body : (to_head : Bool) (held text : List ℕ) (parts : List Part) (b : InTrailers to_head held text parts) → NoBody (b.line ++ held)
-held_no_body to_head held text parts b = trailers_no_body b.line held b.is_last (no_trailers_there held b.no_trailers)
+pub held_no_body : {named : List (List ℕ)} (to_head : Bool) (held text : List ℕ) (parts : List Part) (b : InTrailers named to_head held text parts) → NoBody (b.line ++ held)
+held_no_body {named} to_head held text parts b = trailers_no_body b.line held b.is_last (no_trailers_there held b.no_trailers)
 
 -- ---- no response is whole at these places
 
-pub line_short : (ended to_head : Bool) (line : LinePlace) (text : List ℕ) (parts : List Part) → InLine to_head line text parts → IsComplete text ended to_head → ⊥
-line_short ended to_head line text parts b whole = chunked_short ended to_head b.behind [] text parts b.chunked (line_no_body line b.behind b.is_part) whole
+pub line_short : {named : List (List ℕ)} (ended to_head : Bool) (line : LinePlace) (text : List ℕ) (parts : List Part) → InLine named to_head line text parts → IsComplete text ended to_head → ⊥
+line_short {named} ended to_head line text parts b whole = chunked_short ended to_head b.behind [] text parts b.chunked (line_no_body line b.behind b.is_part) whole
 
-pub chunk_short : (ended to_head : Bool) (left : ℕ) (text : List ℕ) (parts : List Part) → InChunk to_head left text parts → IsComplete text ended to_head → ⊥
-chunk_short ended to_head left text parts b whole = chunked_short ended to_head (b.line ++ b.next) b.next text parts b.chunked (chunk_no_body to_head left text parts b) whole
+pub chunk_short : {named : List (List ℕ)} (ended to_head : Bool) (left : ℕ) (text : List ℕ) (parts : List Part) → InChunk named to_head left text parts → IsComplete text ended to_head → ⊥
+chunk_short {named} ended to_head left text parts b whole = chunked_short ended to_head (b.line ++ b.next) b.next text parts b.chunked (chunk_no_body to_head left text parts b) whole
 
-pub end_short : (ended to_head : Bool) (end text : List ℕ) (parts : List Part) → length end < 2 → BehindChunk to_head end text parts → IsComplete text ended to_head → ⊥
-end_short ended to_head end text parts few b whole = chunked_short ended to_head (b.line ++ b.next ++ end) b.next text parts b.chunked (end_body_none to_head end text parts few b) whole
+pub end_short : {named : List (List ℕ)} (ended to_head : Bool) (end text : List ℕ) (parts : List Part) → length end < 2 → BehindChunk named to_head end text parts → IsComplete text ended to_head → ⊥
+end_short {named} ended to_head end text parts few b whole = chunked_short ended to_head (b.line ++ b.next ++ end) b.next text parts b.chunked (end_body_none to_head end text parts few b) whole
 
-pub trailers_short : (ended to_head : Bool) (held text : List ℕ) (parts : List Part) → InTrailers to_head held text parts → IsComplete text ended to_head → ⊥
-trailers_short ended to_head held text parts b whole = chunked_short ended to_head (b.line ++ held) [] text parts b.chunked (held_no_body to_head held text parts b) whole
+pub trailers_short : {named : List (List ℕ)} (ended to_head : Bool) (held text : List ℕ) (parts : List Part) → InTrailers named to_head held text parts → IsComplete text ended to_head → ⊥
+trailers_short {named} ended to_head held text parts b whole = chunked_short ended to_head (b.line ++ held) [] text parts b.chunked (held_no_body to_head held text parts b) whole
 
 pub no_octets : length {A = ℕ} [] < 2
 no_octets = omega arith

@@ -5,61 +5,63 @@ use Rattle.std.proofs.lemmas.List.{append-nil}
 use Rattle.httparse.specs.Grammar.{HasNoSection, MayBecomeSection}
 use Rattle.model.specs.Http1.{crlf}
 use Rattle.model.specs.ResponseHeads.Framing.{Chunks as IsChunks}
-use Rattle.model.specs.Responses.{ChunkLine, Chunk as IsChunk, IsTrailers}
-use Rattle.h1_reader.specs.Parts.{Part}
-use Rattle.h1_reader.specs.Parts.Part.{Body, Done}
+use Rattle.model.specs.Responses.{ChunkLine, Chunk as IsChunk}
+use Rattle.model.specs.Messages.{Field}
+use Rattle.h1_reader.specs.Parts.{Part, ends_with}
+use Rattle.h1_reader.specs.Parts.Part.{Body}
+use Rattle.h1_reader.specs.Trailers.{ArePassed}
 use Rattle.h1_reader.specs.ChunkLines.{IsLinePart}
-use Rattle.h1_reader.specs.Standing.{State, InBody, InChunked, StandsAt, Stands, Hears}
+use Rattle.h1_reader.specs.Standing.{Held, names_held, State, InBody, InChunked, StandsAt, Stands, Hears}
 use Rattle.h1_reader.specs.declared.chunk_line.LinePlace.{LinePlace}
 use Rattle.h1_reader.specs.declared.chunk_line.LinePlace.TheVariants.{Size}
 use Rattle.h1_reader.specs.declared.reader.Place.{Place}
 use Rattle.h1_reader.specs.declared.reader.Place.TheVariants.{Line, Chunk, ChunkEnd, ChunkReturn, Trailers, Past}
-use Rattle.h1_reader.proofs.Steps.{at, state_of, arrives, body_step, past_step, end_step, joined_more, one_concat}
+use Rattle.h1_reader.proofs.Steps.{at, state_of, with_octets, arrives, body_step, past_step, end_step, joined_more, one_concat}
 
 -- ---- behind whole chunks
 
 -- octets that aren't told
-pub chunked_on : (to_head : Bool) (behind next text xs : List ℕ) (parts : List Part) → InChunked to_head behind next text parts → InChunked to_head (behind ++ xs) next (text ++ xs) parts
-chunked_on to_head behind next text xs parts c = record {
+pub chunked_on : {named : List (List ℕ)} (to_head : Bool) (behind next text xs : List ℕ) (parts : List Part) → InChunked named to_head behind next text parts → InChunked named to_head (behind ++ xs) next (text ++ xs) parts
+chunked_on {named} to_head behind next text xs parts c = record {
   chunks = c.chunks;
   front = c.front;
-  body = subst (λ (o : List ℕ). InBody to_head IsChunks (text ++ xs) o (concat c.chunks ++ next) parts []) (append_assoc c.front behind xs)
-      (past_step to_head IsChunks text (c.front ++ behind) (concat c.chunks ++ next) xs parts [] c.body);
+  body = subst (λ (o : List ℕ). InBody to_head (IsChunks named) (text ++ xs) o (concat c.chunks ++ next) parts []) (append_assoc c.front behind xs)
+      (past_step to_head (IsChunks named) text (c.front ++ behind) (concat c.chunks ++ next) xs parts [] c.body);
   are_chunks = c.are_chunks;
 }
 
 -- octets of the chunk
-pub chunked_told : (to_head : Bool) (behind next text xs : List ℕ) (parts : List Part) → InChunked to_head behind next text parts
-    → InChunked to_head (behind ++ xs) (next ++ xs) (text ++ xs) (parts ++ Body xs ∷ [])
-chunked_told to_head behind next text xs parts c =
-    let told = body_step to_head IsChunks text (c.front ++ behind) (concat c.chunks ++ next) xs parts c.body in
-    let there = subst (λ (o : List ℕ). InBody to_head IsChunks (text ++ xs) o ((concat c.chunks ++ next) ++ xs) (parts ++ Body xs ∷ []) []) (append_assoc c.front behind xs) told in
+pub chunked_told : {named : List (List ℕ)} (to_head : Bool) (behind next text xs : List ℕ) (parts : List Part) → InChunked named to_head behind next text parts
+    → InChunked named to_head (behind ++ xs) (next ++ xs) (text ++ xs) (parts ++ Body xs ∷ [])
+chunked_told {named} to_head behind next text xs parts c =
+    let told = body_step to_head (IsChunks named) text (c.front ++ behind) (concat c.chunks ++ next) xs parts c.body in
+    let there = subst (λ (o : List ℕ). InBody to_head (IsChunks named) (text ++ xs) o ((concat c.chunks ++ next) ++ xs) (parts ++ Body xs ∷ []) []) (append_assoc c.front behind xs) told in
     record {
       chunks = c.chunks;
       front = c.front;
-      body = subst (λ (o : List ℕ). InBody to_head IsChunks (text ++ xs) (c.front ++ (behind ++ xs)) o (parts ++ Body xs ∷ []) []) (append_assoc (concat c.chunks) next xs) there;
+      body = subst (λ (o : List ℕ). InBody to_head (IsChunks named) (text ++ xs) (c.front ++ (behind ++ xs)) o (parts ++ Body xs ∷ []) []) (append_assoc (concat c.chunks) next xs) there;
       are_chunks = c.are_chunks;
     }
 
 -- a chunk is whole
-pub chunked_whole : (to_head : Bool) (behind next text : List ℕ) (parts : List Part) → InChunked to_head behind next text parts → IsChunk behind next → InChunked to_head [] [] text parts
-chunked_whole to_head behind next text parts c p =
-    let rest = subst (λ (o : List ℕ). InBody to_head IsChunks text o (concat c.chunks ++ next) parts []) (sym (append-nil (c.front ++ behind))) c.body in
+pub chunked_whole : {named : List (List ℕ)} (to_head : Bool) (behind next text : List ℕ) (parts : List Part) → InChunked named to_head behind next text parts → IsChunk behind next → InChunked named to_head [] [] text parts
+chunked_whole {named} to_head behind next text parts c p =
+    let rest = subst (λ (o : List ℕ). InBody to_head (IsChunks named) text o (concat c.chunks ++ next) parts []) (sym (append-nil (c.front ++ behind))) c.body in
     let octets : concat c.chunks ++ next ≡ concat (c.chunks ++ next ∷ []) ++ [] = sym (one_concat c.chunks next) ∙ sym (append-nil (concat (c.chunks ++ next ∷ []))) in
     record {
       chunks = c.chunks ++ next ∷ [];
       front = c.front ++ behind;
-      body = subst (λ (o : List ℕ). InBody to_head IsChunks text ((c.front ++ behind) ++ []) o parts []) octets rest;
+      body = subst (λ (o : List ℕ). InBody to_head (IsChunks named) text ((c.front ++ behind) ++ []) o parts []) octets rest;
       are_chunks = joined_more IsChunk c.front behind c.chunks next c.are_chunks p;
     }
 
-pub chunked_same : (to_head : Bool) (a b next text : List ℕ) (parts : List Part) → a ≡ b → InChunked to_head a next text parts → InChunked to_head b next text parts
-chunked_same to_head a b next text parts e c = subst (λ (o : List ℕ). InChunked to_head o next text parts) e c
+pub chunked_same : {named : List (List ℕ)} (to_head : Bool) (a b next text : List ℕ) (parts : List Part) → a ≡ b → InChunked named to_head a next text parts → InChunked named to_head b next text parts
+chunked_same {named} to_head a b next text parts e c = subst (λ (o : List ℕ). InChunked named to_head o next text parts) e c
 
 -- ---- steps
 
 -- the reader goes to a place and tells nothing
-silent : (new : State) (to_head : Bool) (place : Place) (held text : List ℕ) (parts : List Part) → new ≡ state_of to_head place held → StandsAt place to_head held text parts
+silent : (new : State) (to_head : Bool) (place : Place) (held : Held) (text : List ℕ) (parts : List Part) → new ≡ state_of to_head place held → StandsAt place to_head held text parts
     → Stands text (parts ++ []) new
 silent new to_head place held text parts e s = subst (λ (o : List Part). Stands text o new) (sym (append-nil parts)) (arrives new to_head place held text parts e s)
 
@@ -95,13 +97,13 @@ hears_size old new line size octet e goes some is = record {
 
 -- the last line is whole
 pub hears_last : (old new : State) (line : LinePlace) (octet : ℕ) → old.place ≡ Line line → ((text : List ℕ) → IsLinePart line text → ChunkLine (text ++ octet ∷ []) 0)
-    → HasNoSection [] → MayBecomeSection [] → new ≡ state_of old.to_head Trailers [] → Hears old (octet ∷ []) [] new
+    → HasNoSection [] → MayBecomeSection [] → new ≡ state_of old.to_head Trailers (with_octets [] old.held) → Hears old (octet ∷ []) [] new
 hears_last old new line octet e goes none may is = record {
   same = ap (λ (n : State). n.to_head) is;
   stands = λ text before s.
       let b = at (Line line) old text before e s in
       let on = chunked_on old.to_head b.behind [] text (octet ∷ []) before b.chunked in
-      silent new old.to_head Trailers [] (text ++ octet ∷ []) before is (record {
+      silent new old.to_head Trailers (with_octets [] old.held) (text ++ octet ∷ []) before is (record {
         line = b.behind ++ octet ∷ [];
         chunked = chunked_same old.to_head (b.behind ++ octet ∷ []) ((b.behind ++ octet ∷ []) ++ []) [] (text ++ octet ∷ []) before (sym (append-nil (b.behind ++ octet ∷ []))) on;
         is_last = goes b.behind b.is_part;
@@ -185,42 +187,45 @@ hears_feed old new octet e same is = record {
 }
 
 -- octets of trailers
-pub hears_trailers : (old new : State) (xs held : List ℕ) → old.place ≡ Trailers → held ≡ old.held ++ xs → HasNoSection held → MayBecomeSection held → length held ≤ 16384
-    → new ≡ state_of old.to_head Trailers held → Hears old xs [] new
+pub hears_trailers : (old new : State) (xs held : List ℕ) → old.place ≡ Trailers → held ≡ old.held.octets ++ xs → HasNoSection held → MayBecomeSection held → length held ≤ 16384
+    → new ≡ state_of old.to_head Trailers (with_octets held old.held) → Hears old xs [] new
 hears_trailers old new xs held e longer none may short is = record {
   same = ap (λ (n : State). n.to_head) is;
   stands = λ text before s.
       let b = at Trailers old text before e s in
-      let on = chunked_on old.to_head (b.line ++ old.held) [] text xs before b.chunked in
-      let there : (b.line ++ old.held) ++ xs ≡ b.line ++ held = append_assoc b.line old.held xs ∙ ap (λ (o : List ℕ). b.line ++ o) (sym longer) in
-      silent new old.to_head Trailers held (text ++ xs) before is
+      let on = chunked_on old.to_head (b.line ++ old.held.octets) [] text xs before b.chunked in
+      let there : (b.line ++ old.held.octets) ++ xs ≡ b.line ++ held = append_assoc b.line old.held.octets xs ∙ ap (λ (o : List ℕ). b.line ++ o) (sym longer) in
+      silent new old.to_head Trailers (with_octets held old.held) (text ++ xs) before is
       (record { line = b.line; chunked = chunked_same old.to_head _ _ [] (text ++ xs) before there on; is_last = b.is_last; no_trailers = none; may_become = may; short = short });
 }
 
 -- the end of trailers
-pub hears_end : (old new : State) (xs held : List ℕ) → old.place ≡ Trailers → IsTrailers (old.held ++ xs) → new ≡ state_of old.to_head Past held → Hears old xs (Done ∷ []) new
-hears_end old new xs held e are is = record {
+pub hears_end : (old new : State) (xs : List ℕ) (held : Held) (trailers : List Field) → old.place ≡ Trailers → ArePassed (names_held old.held) (old.held.octets ++ xs) trailers → new ≡ state_of old.to_head Past held
+    → Hears old xs (ends_with trailers) new
+hears_end old new xs held trailers e are is = record {
   same = ap (λ (n : State). n.to_head) is;
   stands = λ text before s.
       let b = at Trailers old text before e s in
-      let on = chunked_on old.to_head (b.line ++ old.held) [] text xs before b.chunked in
-      let there : on.front ++ ((b.line ++ old.held) ++ xs) ≡ on.front ++ b.line ++ (old.held ++ xs) ++ [] = regrouped on.front b.line old.held xs in
-      arrives new old.to_head Past held (text ++ xs) (before ++ Done ∷ []) is (record {
-        framing = IsChunks;
-        rest = on.front ++ ((b.line ++ old.held) ++ xs);
+      let on = chunked_on old.to_head (b.line ++ old.held.octets) [] text xs before b.chunked in
+      let there : on.front ++ ((b.line ++ old.held.octets) ++ xs) ≡ on.front ++ b.line ++ (old.held.octets ++ xs) ++ [] = regrouped on.front b.line old.held.octets xs in
+      arrives new old.to_head Past held (text ++ xs) (before ++ ends_with trailers) is (record {
+        framing = IsChunks (names_held old.held);
+        rest = on.front ++ ((b.line ++ old.held.octets) ++ xs);
         octets = concat on.chunks ++ [];
-        body = end_step old.to_head IsChunks (text ++ xs) (on.front ++ ((b.line ++ old.held) ++ xs)) (concat on.chunks ++ []) before on.body;
+        trailers = trailers;
+        body = end_step old.to_head (IsChunks (names_held old.held)) (text ++ xs) (on.front ++ ((b.line ++ old.held.octets) ++ xs)) (concat on.chunks ++ []) before trailers on.body;
         whole = record {
           chunks = on.chunks;
           front = on.front;
           line = b.line;
-          trailers = old.held ++ xs;
+          section = old.held.octets ++ xs;
           past = [];
           is = there;
           are_chunks = on.are_chunks;
           is_last = b.is_last;
-          are_trailers = are;
+          are_trailers = are.are;
           is_body = append-nil (concat on.chunks);
+          passes = are.is;
         };
       });
 }

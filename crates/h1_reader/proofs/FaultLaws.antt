@@ -204,10 +204,10 @@ behind_spoils f text to_head q more ended whole =
     let p = whole.1 in
     let parts : (q.front ++ q.head_text) ++ (q.chunks_text ++ (q.rest ++ more)) ≡ (p.front ++ p.head_text) ++ p.rest =
     sym (behind_grouped q.front q.head_text q.chunks_text q.rest more) ∙ ap (λ (o : List ℕ). o ++ more) (sym q.is) ∙ p.is in
-    let same = one_front to_head q.front p.front q.head_text p.head_text (q.chunks_text ++ (q.rest ++ more)) p.rest q.interims whole.0.interims q.head whole.0.head IsChunks p.framing
+    let same = one_front to_head q.front p.front q.head_text p.head_text (q.chunks_text ++ (q.rest ++ more)) p.rest q.interims whole.0.interims q.head whole.0.head (IsChunks q.named) p.framing
     q.are_interims p.are_interims q.is_final p.is_final parts in
-    not_chunked q.chunks_text (q.rest ++ more) p.rest whole.0.body q.chunks q.are_chunks (fault_no_body f q.rest more q.is_fault) same.final.rest
-    (subst (λ (w : model.Framing). HasBody w ended p.rest whole.0.body) (sym same.final.framing) p.body)
+    not_chunked q.named q.chunks_text (q.rest ++ more) p.rest whole.0.body whole.0.trailers q.chunks q.are_chunks (fault_no_body f q.rest more q.is_fault) same.final.rest
+    (subst (λ (w : model.Framing). HasBody w ended p.rest whole.0.body whole.0.trailers) (sym same.final.framing) p.body)
 
 pub spoils : (f : ResponseFault) (text : List ℕ) (to_head : Bool) → FaultStands f text to_head → IsSpoilt text to_head
 spoils f text to_head (inl p) more ended whole =

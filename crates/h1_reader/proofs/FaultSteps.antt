@@ -32,7 +32,7 @@ behind_some fault.Memory to_head before text h = h
 behind_held : (text front held xs : List ℕ) → text ≡ front ++ held → text ++ xs ≡ front ++ (held ++ xs)
 behind_held text front held xs e = ap (λ (o : List ℕ). o ++ xs) e ∙ append_assoc front held xs
 
-pub fails_head : (old : State) (count : ℕ) (f : ResponseFault) (xs : List ℕ) → old.place ≡ Head count → HeadFault f old.to_head 0 (old.held ++ xs) → Fails old xs f
+pub fails_head : (old : State) (count : ℕ) (f : ResponseFault) (xs : List ℕ) → old.place ≡ Head count → HeadFault f old.to_head 0 (old.held.octets ++ xs) → Fails old xs f
 fails_head old count f xs e h text before s =
     let b = at (Head count) old text before e s in
     let counted : count ≡ length b.interims = b.has_count in
@@ -40,35 +40,35 @@ fails_head old count f xs e h text before s =
     inl (record {
       interims = b.interims;
       front = b.front;
-      rest = old.held ++ xs;
-      is = behind_held text b.front old.held xs b.is;
+      rest = old.held.octets ++ xs;
+      is = behind_held text b.front old.held.octets xs b.is;
       are_interims = b.are_interims;
       few_interims = omega arith;
-      is_fault = behind_some f old.to_head (length b.interims) (old.held ++ xs) h;
+      is_fault = behind_some f old.to_head (length b.interims) (old.held.octets ++ xs) h;
     })
 
-pub fails_ninth : (old : State) (count used : ℕ) (xs : List ℕ) (head : model.Head) → old.place ≡ Head count → 8 ≤ count → model.Interim (old.held ++ take used xs) head → Fails old xs fault.TooLong
+pub fails_ninth : (old : State) (count used : ℕ) (xs : List ℕ) (head : model.Head) → old.place ≡ Head count → 8 ≤ count → model.Interim (old.held.octets ++ take used xs) head → Fails old xs fault.TooLong
 fails_ninth old count used xs head e many i text before s =
     let b = at (Head count) old text before e s in
     let counted : count ≡ length b.interims = b.has_count in
     let few : count ≤ 8 = b.few in
-    let cut : old.held ++ xs ≡ (old.held ++ take used xs) ++ drop used xs =
-    ap (λ (o : List ℕ). old.held ++ o) (sym (take-append-drop used xs)) ∙ sym (append_assoc old.held (take used xs) (drop used xs)) in
+    let cut : old.held.octets ++ xs ≡ (old.held.octets ++ take used xs) ++ drop used xs =
+    ap (λ (o : List ℕ). old.held.octets ++ o) (sym (take-append-drop used xs)) ∙ sym (append_assoc old.held.octets (take used xs) (drop used xs)) in
     inl (record {
       interims = b.interims;
       front = b.front;
-      rest = old.held ++ xs;
-      is = behind_held text b.front old.held xs b.is;
+      rest = old.held.octets ++ xs;
+      is = behind_held text b.front old.held.octets xs b.is;
       are_interims = b.are_interims;
       few_interims = omega arith;
-      is_fault = inr (record { many = omega arith; head_text = old.held ++ take used xs; past = drop used xs; head = head; is = cut; is_interim = i });
+      is_fault = inr (record { many = omega arith; head_text = old.held.octets ++ take used xs; past = drop used xs; head = head; is = cut; is_interim = i });
     })
 
 -- ---- chunks
 
 -- a fault behind chunks is one of the response
-fails_chunked : (f : ResponseFault) (to_head : Bool) (behind next text xs : List ℕ) (parts : List Part) → InChunked to_head behind next text parts → ChunkFault f (behind ++ xs) → FaultStands f (text ++ xs) to_head
-fails_chunked f to_head behind next text xs parts c h =
+fails_chunked : {named : List (List ℕ)} (f : ResponseFault) (to_head : Bool) (behind next text xs : List ℕ) (parts : List Part) → InChunked named to_head behind next text parts → ChunkFault f (behind ++ xs) → FaultStands f (text ++ xs) to_head
+fails_chunked {named} f to_head behind next text xs parts c h =
     let b = c.body in
     inr (record {
       interims = b.interims;
@@ -78,6 +78,7 @@ fails_chunked f to_head behind next text xs parts c h =
       chunks = c.chunks;
       chunks_text = c.front;
       rest = behind ++ xs;
+      named = named;
       is = ap (λ (o : List ℕ). o ++ xs) b.is ∙ regrouped b.front b.head_text c.front behind xs;
       are_interims = b.are_interims;
       few_interims = b.few;
@@ -102,8 +103,8 @@ fails_line old line octet e never rest text before s =
           (sym (append_assoc (b.behind ++ octet ∷ []) rest f.rest) ∙ ap (λ (o : List ℕ). o ++ f.rest) (sym (next_octet b.behind octet rest)) ∙ sym f.is ∙ sym (append-nil other));
     }))
 
-fails_end : (old : State) (end xs text : List ℕ) (before : List Part) → BehindChunk old.to_head end text before → (IsFront (end ++ xs) crlf → ⊥) → (IsFront crlf (end ++ xs) → ⊥) → FaultStands fault.Chunk (text ++ xs) old.to_head
-fails_end old end xs text before b no_part no_end =
+fails_end : {named : List (List ℕ)} (old : State) (end xs text : List ℕ) (before : List Part) → BehindChunk named old.to_head end text before → (IsFront (end ++ xs) crlf → ⊥) → (IsFront crlf (end ++ xs) → ⊥) → FaultStands fault.Chunk (text ++ xs) old.to_head
+fails_end {named} old end xs text before b no_part no_end =
     fails_chunked fault.Chunk old.to_head (b.line ++ b.next ++ end) b.next text xs before b.chunked
     (inr (inl (record {
       line = b.line;
@@ -137,11 +138,11 @@ trailers_chunk fault.Coding line tail l t = t
 trailers_chunk fault.Upgrade line tail l t = t
 trailers_chunk fault.Memory line tail l t = t
 
-pub fails_trailers : (old : State) (f : ResponseFault) (xs : List ℕ) → old.place ≡ Trailers → TrailerFault f (old.held ++ xs) → Fails old xs f
+pub fails_trailers : (old : State) (f : ResponseFault) (xs : List ℕ) → old.place ≡ Trailers → TrailerFault f (old.held.octets ++ xs) → Fails old xs f
 fails_trailers old f xs e t text before s =
     let b = at Trailers old text before e s in
-    fails_chunked f old.to_head (b.line ++ old.held) [] text xs before b.chunked
-    (subst (λ (o : List ℕ). ChunkFault f o) (sym (append_assoc b.line old.held xs)) (trailers_chunk f b.line (old.held ++ xs) b.is_last t))
+    fails_chunked f old.to_head (b.line ++ old.held.octets) [] text xs before b.chunked
+    (subst (λ (o : List ℕ). ChunkFault f o) (sym (append_assoc b.line old.held.octets xs)) (trailers_chunk f b.line (old.held.octets ++ xs) b.is_last t))
 
 -- ---- steps
 

@@ -5,16 +5,18 @@ use Rattle.std.specs.List.{flat_map}
 use Rattle.std.proofs.lemmas.List.{length-reverse, length-map}
 use Rattle.std.proofs.lemmas.List.Elements.{All-append, All-cons, All-nil}
 use Rattle.httparse.specs.Grammar as grammar
-use Rattle.httparse.specs.Grammar.{skip_ows, trim_ows, is_ows, print_field, print_end, print_response}
+use Rattle.httparse.specs.Grammar.{skip_ows, trim_ows, is_ows, print_field, print_end, print_section, print_response}
 use Rattle.model.specs.Messages.{Field}
 use Rattle.model.specs.Http1.{without}
 use Rattle.model.specs.Octets.{Joined}
 use Rattle.model.specs.ResponseHeads as model
-use Rattle.model.specs.ResponseHeads.{meant, without_framing, with_one, never_has_body, head_of, IsTaken}
-use Rattle.h1_reader.specs.Parts.{Part}
-use Rattle.h1_reader.specs.Parts.Part.{Interim, Final, Body, Done}
+use Rattle.model.specs.ResponseHeads.{meant, without_framing, with_one, never_has_body, head_of, trailers_passed, IsTaken}
+use Rattle.model.specs.ResponseHeads.Framing.{Bodiless as IsBodiless, Chunks as IsChunks, Sized as IsSized, UntilEnd as IsUntilEnd}
+use Rattle.model.specs.Responses.{IsTrailers, HasBody}
+use Rattle.h1_reader.specs.Parts.{Part, ends_with}
+use Rattle.h1_reader.specs.Parts.Part.{Interim, Final, Body, Trailing, Done}
 use Rattle.h1_reader.specs.HeadSizes.{field_octets, head_octets, HeadsAreShort}
-use Rattle.h1_reader.specs.Standing.{State, InBody, StandsAt, Stands}
+use Rattle.h1_reader.specs.Standing.{Held, State, InBody, StandsAt, Stands}
 use Rattle.h1_reader.specs.declared.reader.Place.{Place}
 use Rattle.h1_reader.specs.declared.reader.Place.TheVariants.{Head, Sized, UntilEnd, Line, Chunk, ChunkEnd, ChunkReturn, Trailers, Past, Broken}
 
@@ -93,6 +95,15 @@ head_of_size spelled =
     let lines : field_octets fields ≤ length (flat_map print_field spelled.fields) = lines_size spelled.fields in
     simp length-append (omega arith)
 
+-- so have all fields of a head
+pub lines_taken : (text : List ℕ) (spelled : grammar.ResponseHead) → IsTaken text spelled → field_octets (map meant spelled.fields) ≤ length text
+unfolding print_response
+lines_taken text spelled taken =
+    let lines : field_octets (map meant spelled.fields) ≤ length (flat_map print_field spelled.fields) = lines_size spelled.fields in
+    let parts : field_octets (map meant spelled.fields) ≤ length (print_response spelled) = simp length-append (omega arith) in
+    let whole : length text ≡ length (print_response spelled) + 0 = ap length taken.reads.1 ∙ length-append (print_response spelled) [] in
+    omega (arith, parts, whole)
+
 pub taken_size : (text : List ℕ) (spelled : grammar.ResponseHead) → IsTaken text spelled → field_octets (head_of spelled).fields ≤ length text
 taken_size text spelled taken =
     let head = head_of_size spelled in
@@ -134,10 +145,30 @@ behind_short to_head framing text rest octets parts ends b e =
 no_end_short : HeadsAreShort []
 no_end_short = All-nil is_short
 
-end_short : HeadsAreShort (Done ∷ [])
-end_short = All-cons is_short Done [] (omega arith) (All-nil is_short)
+end_short : (trailers : List Field) → field_octets trailers ≤ 16384 → HeadsAreShort (ends_with trailers)
+end_short [] short = All-cons is_short Done [] (omega arith) (All-nil is_short)
+end_short (field ∷ fields) short = All-cons is_short (Trailing (field ∷ fields)) (Done ∷ []) short (All-cons is_short Done [] (omega arith) (All-nil is_short))
 
-short_at : (place : Place) (to_head : Bool) (held text : List ℕ) (parts : List Part) → StandsAt place to_head held text parts → HeadsAreShort parts
+-- the trailers that are passed back have no more octets than their section
+pub section_size : (named : List (List ℕ)) (text : List ℕ) (are : IsTrailers text) → field_octets (trailers_passed named are.lines) ≤ length text
+section_size named text are =
+    let fields = map meant are.lines in
+    let kept : field_octets (trailers_passed named are.lines) ≤ field_octets fields = filtered_size _ fields in
+    let lines : field_octets fields ≤ length (flat_map print_field are.lines) = lines_size are.lines in
+    let whole : length text ≡ length (print_section are.lines are.last) + 0 = ap length are.reads.1 ∙ length-append (print_section are.lines are.last) [] in
+    let parts : length (print_section are.lines are.last) ≡ length (flat_map print_field are.lines) + length (print_end are.last) = length-append (flat_map print_field are.lines) (print_end are.last) in
+    omega (arith, kept, lines, whole, parts)
+
+trailers_short : (framing : model.Framing) (rest octets : List ℕ) (trailers : List Field) → HasBody framing false rest octets trailers → field_octets trailers ≤ 16384
+trailers_short IsBodiless rest octets trailers w = rw w.1 (omega arith)
+trailers_short (IsChunks named) rest octets trailers w =
+    let size : field_octets (trailers_passed named w.are_trailers.lines) ≤ length w.section = section_size named w.section w.are_trailers in
+    let short : length w.section ≤ 16384 = w.are_trailers.is_short in
+    rw w.passes (omega (arith, size, short))
+trailers_short (IsSized count) rest octets trailers w = rw w.1 (omega arith)
+trailers_short IsUntilEnd rest octets trailers w = rw w.2 (omega arith)
+
+short_at : (place : Place) (to_head : Bool) (held : Held) (text : List ℕ) (parts : List Part) → StandsAt place to_head held text parts → HeadsAreShort parts
 short_at (Head count) to_head held text parts b = subst HeadsAreShort (sym b.told) (interims_short b.front b.interims b.are_interims)
 short_at (Line line) to_head held text parts b = behind_short to_head _ text _ _ parts [] b.chunked.body no_end_short
 short_at (Chunk left) to_head held text parts b = behind_short to_head _ text _ _ parts [] b.chunked.body no_end_short
@@ -146,7 +177,7 @@ short_at ChunkReturn to_head held text parts b = behind_short to_head _ text _ _
 short_at Trailers to_head held text parts b = behind_short to_head _ text _ _ parts [] b.chunked.body no_end_short
 short_at (Sized left) to_head held text parts b = behind_short to_head _ text b.octets b.octets parts [] b.body no_end_short
 short_at UntilEnd to_head held text parts b = behind_short to_head _ text b.octets b.octets parts [] b.body no_end_short
-short_at Past to_head held text parts b = behind_short to_head b.framing text b.rest b.octets parts (Done ∷ []) b.body end_short
+short_at Past to_head held text parts b = behind_short to_head b.framing text b.rest b.octets parts (ends_with b.trailers) b.body (end_short b.trailers (trailers_short b.framing b.rest b.octets b.trailers b.whole))
 short_at (Broken fault) to_head held text parts b = absurd b
 
 pub told_short : (text : List ℕ) (parts : List Part) (state : State) → Stands text parts state → HeadsAreShort parts

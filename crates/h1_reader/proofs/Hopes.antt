@@ -9,7 +9,7 @@ use Rattle.model.specs.ResponseHeads.Framing.{Chunks as IsChunks, Sized as IsSiz
 use Rattle.model.specs.Responses.{ChunkLine, IsTrailers, IsComplete, IsSpoilt}
 use Rattle.h1_reader.specs.Parts.{Part}
 use Rattle.h1_reader.specs.Parts.Part.{Body}
-use Rattle.h1_reader.specs.Standing.{State, InChunked, InSized, StandsAt, Stands, IsInBody}
+use Rattle.h1_reader.specs.Standing.{Held, State, InChunked, InSized, StandsAt, Stands, IsInBody}
 use Rattle.h1_reader.specs.declared.reader.Place.{Place}
 use Rattle.h1_reader.specs.declared.reader.Place.TheVariants.{Head, Sized, UntilEnd, Line, Chunk, ChunkEnd, ChunkReturn, Trailers, Past, Broken}
 use Rattle.h1_reader.proofs.ChunkLineLemmas.{line_begun}
@@ -34,20 +34,22 @@ empty_trailers =
     record { lines = []; last = grammar.LineEnd.crlf; reads = (All-nil grammar.IsField, refl); is_short = short; has_few = few; values = refl }
 
 -- behind the last line the empty line makes it whole
-last_line : (to_head : Bool) (line text : List ℕ) (parts : List Part) → InChunked to_head line [] text parts → ChunkLine line 0 → IsComplete (text ++ crlf) false to_head
-last_line to_head line text parts c l =
+last_line : {named : List (List ℕ)} (to_head : Bool) (line text : List ℕ) (parts : List Part) → InChunked named to_head line [] text parts → ChunkLine line 0 → IsComplete (text ++ crlf) false to_head
+unfolding empty_trailers
+last_line {named} to_head line text parts c l =
     let on = chunked_on to_head line [] text crlf parts c in
-    whole_response to_head false IsChunks (text ++ crlf) (on.front ++ (line ++ crlf)) (concat on.chunks ++ []) parts [] on.body (record {
+    whole_response to_head false (IsChunks named) (text ++ crlf) (on.front ++ (line ++ crlf)) (concat on.chunks ++ []) [] parts [] on.body (record {
       chunks = on.chunks;
       front = on.front;
       line = line;
-      trailers = crlf;
+      section = crlf;
       past = [];
       is = regrouped on.front line;
       are_chunks = on.are_chunks;
       is_last = l;
       are_trailers = empty_trailers;
       is_body = append-nil (concat on.chunks);
+      passes = refl;
     })
   where
     regrouped : (front line : List ℕ) → front ++ (line ++ crlf) ≡ front ++ line ++ crlf ++ []
@@ -71,23 +73,23 @@ on_hope : (to_head : Bool) (text more : List ℕ) → (IsSpoilt (text ++ more) t
 on_hope to_head text more hope spoilt = hope (λ rest ended whole. spoilt (more ++ rest) ended (subst (λ (o : List ℕ). IsComplete o ended to_head) (append_assoc text more rest) whole))
 
 -- behind whole chunks
-chunks_hope : (to_head : Bool) (text : List ℕ) (parts : List Part) → InChunked to_head [] [] text parts → IsSpoilt text to_head → ⊥
-chunks_hope to_head text parts c =
+chunks_hope : {named : List (List ℕ)} (to_head : Bool) (text : List ℕ) (parts : List Part) → InChunked named to_head [] [] text parts → IsSpoilt text to_head → ⊥
+chunks_hope {named} to_head text parts c =
     on_hope to_head text last (no_hope to_head (text ++ last) crlf (last_line to_head last (text ++ last) parts (chunked_on to_head [] [] text last parts c) is_last))
 
 -- behind the octets of a chunk
-end_hope : (to_head : Bool) (line next end more text : List ℕ) (parts : List Part) → end ++ more ≡ crlf → InChunked to_head (line ++ next ++ end) next text parts → ChunkLine line (length next) → 0 < length next
+end_hope : {named : List (List ℕ)} (to_head : Bool) (line next end more text : List ℕ) (parts : List Part) → end ++ more ≡ crlf → InChunked named to_head (line ++ next ++ end) next text parts → ChunkLine line (length next) → 0 < length next
     → IsSpoilt text to_head → ⊥
-end_hope to_head line next end more text parts e c l some =
+end_hope {named} to_head line next end more text parts e c l some =
     let on = chunked_on to_head (line ++ next ++ end) next text more parts c in
     let whole : (line ++ next ++ end) ++ more ≡ line ++ next ++ crlf = append_assoc (line ++ next) end more ∙ ap (λ (o : List ℕ). line ++ next ++ o) e in
     on_hope to_head text more (chunks_hope to_head (text ++ more) parts
     (chunked_whole to_head (line ++ next ++ crlf) next (text ++ more) parts (chunked_same to_head _ _ next (text ++ more) parts whole on) (record { line = line; is = refl; has_line = l; is_not_last = some })))
 
 -- in a chunk
-chunk_hope : (to_head : Bool) (line next text : List ℕ) (left size : ℕ) (parts : List Part) → InChunked to_head (line ++ next) next text parts → ChunkLine line size → length next + left ≡ size → 0 < size
+chunk_hope : {named : List (List ℕ)} (to_head : Bool) (line next text : List ℕ) (left size : ℕ) (parts : List Part) → InChunked named to_head (line ++ next) next text parts → ChunkLine line size → length next + left ≡ size → 0 < size
     → IsSpoilt text to_head → ⊥
-chunk_hope to_head line next text left size parts c l sum some =
+chunk_hope {named} to_head line next text left size parts c l sum some =
     let more = some_octets left in
     let told = chunked_told to_head (line ++ next) next text more parts c in
     let there : (line ++ next) ++ more ≡ line ++ (next ++ more) ++ [] = append_assoc line next more ∙ sym (append-nil (line ++ (next ++ more))) in
@@ -97,9 +99,9 @@ chunk_hope to_head line next text left size parts c l sum some =
     on_hope to_head text more (end_hope to_head line (next ++ more) [] crlf (text ++ more) (parts ++ Body more ∷ []) refl
     (chunked_same to_head _ _ (next ++ more) (text ++ more) (parts ++ Body more ∷ []) there told) (subst (λ n. ChunkLine line n) sized l) (omega arith))
 
-line_hope : (to_head : Bool) (line text : List ℕ) (size : ℕ) (parts : List Part) → InChunked to_head line [] text parts → ChunkLine line size → IsSpoilt text to_head → ⊥
-line_hope to_head line text zero parts c l = no_hope to_head text crlf (last_line to_head line text parts c l)
-line_hope to_head line text (suc size) parts c l =
+line_hope : {named : List (List ℕ)} (to_head : Bool) (line text : List ℕ) (size : ℕ) (parts : List Part) → InChunked named to_head line [] text parts → ChunkLine line size → IsSpoilt text to_head → ⊥
+line_hope {named} to_head line text zero parts c l = no_hope to_head text crlf (last_line to_head line text parts c l)
+line_hope {named} to_head line text (suc size) parts c l =
     chunk_hope to_head line [] text (suc size) (suc size) parts (chunked_same to_head line (line ++ []) [] text parts (sym (append-nil line)) c) l (omega arith) (omega arith)
 
 sized_hope : (to_head : Bool) (left : ℕ) (text : List ℕ) (parts : List Part) → InSized to_head left text parts → IsSpoilt text to_head → ⊥
@@ -109,10 +111,10 @@ sized_hope to_head left text parts b =
     let longer : length (b.octets ++ more) ≡ length b.octets + length more = length-append b.octets more in
     let sum : length b.octets + left ≡ b.count = b.has_count in
     let whole : length (b.octets ++ more) ≡ b.count = omega arith in
-    no_hope to_head text more (whole_response to_head false (IsSized b.count) (text ++ more) (b.octets ++ more) (b.octets ++ more) (parts ++ Body more ∷ []) []
-    (body_step to_head (IsSized b.count) text b.octets b.octets more parts b.body) (record { past = []; is = sym (append-nil (b.octets ++ more)); has_count = whole }))
+    no_hope to_head text more (whole_response to_head false (IsSized b.count) (text ++ more) (b.octets ++ more) (b.octets ++ more) [] (parts ++ Body more ∷ []) []
+    (body_step to_head (IsSized b.count) text b.octets b.octets more parts b.body) (record { past = []; is = sym (append-nil (b.octets ++ more)); has_count = whole }, refl))
 
-hope_at : (place : Place) (to_head : Bool) (held text : List ℕ) (parts : List Part) → StandsAt place to_head held text parts → IsInBody place → IsSpoilt text to_head → ⊥
+hope_at : (place : Place) (to_head : Bool) (held : Held) (text : List ℕ) (parts : List Part) → StandsAt place to_head held text parts → IsInBody place → IsSpoilt text to_head → ⊥
 hope_at (Head count) to_head held text parts b none spoilt = none
 hope_at (Sized left) to_head held text parts b some spoilt = sized_hope to_head left text parts b spoilt
 hope_at UntilEnd to_head held text parts b some spoilt =

@@ -134,8 +134,8 @@ map_last : (others : List (List ℕ)) (u : List ℕ) → map Body (others ++ u �
 map_last [] u = refl
 map_last (other ∷ others) u = ap (λ (o : List Part). Body other ∷ o) (map_last others u)
 
-chunked_joined : (to_head : Bool) (behind next text : List ℕ) (before : List Part) (u w : List ℕ) → InChunked to_head behind next text (before ++ Body u ∷ Body w ∷ []) → InChunked to_head behind next text (before ++ Body (u ++ w) ∷ [])
-chunked_joined to_head behind next text before u w c =
+chunked_joined : {named : List (List ℕ)} (to_head : Bool) (behind next text : List ℕ) (before : List Part) (u w : List ℕ) → InChunked named to_head behind next text (before ++ Body u ∷ Body w ∷ []) → InChunked named to_head behind next text (before ++ Body (u ++ w) ∷ [])
+chunked_joined {named} to_head behind next text before u w c =
     let b = c.body in
     let told : before ++ Body u ∷ Body w ∷ [] ≡ map Interim b.interims ++ (Final b.head ∷ map Body b.bodies) =
     b.told ∙ ap (λ (o : List Part). map Interim b.interims ++ (Final b.head ∷ o)) (append-nil (map Body b.bodies)) in

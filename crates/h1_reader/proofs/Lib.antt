@@ -22,3 +22,4 @@ pub mod FaultSteps
 pub mod FaultLaws
 pub mod OneFault
 pub mod ToldLaws
+pub mod Trailing

@@ -6,6 +6,7 @@ use Rattle.httparse.specs.Grammar as grammar
 use Rattle.httparse.specs.Grammar.{ReadsResponse, HasNoResponse, MayBecomeResponse, NeverHasResponse, ReadsSection, HasNoSection, MayBecomeSection, LineEnd}
 use Rattle.httparse.proofs.GrammarLemmas.{section_unique, ReadsSection-append}
 use Rattle.model.specs.Octets.{Joined, IsFront}
+use Rattle.model.specs.Messages.{Field}
 use Rattle.model.specs.Http1.{crlf}
 use Rattle.model.specs.ResponseHeads as model
 use Rattle.model.specs.ResponseHeads.Framing.{Chunks as IsChunks, Sized as IsSized, UntilEnd as IsUntilEnd}
@@ -15,7 +16,7 @@ use Rattle.model.proofs.Http1Runs.{same_front, same_rest, BeginsNone, one_joined
 use Rattle.model.proofs.ResponseHeadReadings.{one_spelled, one_interim, none_at_final, none_without_head, one_front, spelled_reads}
 use Rattle.model.proofs.ResponseBodies.{one_chunk_line, one_response_chunk, none_at_last}
 use Rattle.h1_reader.specs.Parts.{Part}
-use Rattle.h1_reader.specs.Standing.{State, InBody, InChunked, BehindChunk, StandsAt, Stands}
+use Rattle.h1_reader.specs.Standing.{Held, State, InBody, InChunked, BehindChunk, StandsAt, Stands}
 use Rattle.h1_reader.specs.declared.reader.Place.{Place}
 use Rattle.h1_reader.specs.declared.reader.Place.TheVariants.{Head, Sized, UntilEnd, Line, Chunk, ChunkEnd, ChunkReturn, Trailers, Past, Broken}
 use Rattle.h1_reader.proofs.Steps.{joined_longer}
@@ -146,25 +147,25 @@ bad_chunk : (to_head : Bool) (framing : model.Framing) (text rest octets front b
     → rest ≡ front ++ behind → Joined IsChunk front chunks → BeginsNone IsChunk behind → PlainlyBehind text to_head → IsBadChunk behind
 bad_chunk to_head framing text rest octets front behind chunks parts ends b is joined none p =
     let grouped : text ≡ (p.front ++ p.head_text) ++ (p.chunks_text ++ p.rest) = p.is ∙ append_assoc (p.front ++ p.head_text) p.chunks_text p.rest in
-    let same = one_front to_head b.front p.front b.head_text p.head_text rest (p.chunks_text ++ p.rest) b.interims p.interims b.head p.head framing IsChunks
+    let same = one_front to_head b.front p.front b.head_text p.head_text rest (p.chunks_text ++ p.rest) b.interims p.interims b.head p.head framing (IsChunks p.named)
     b.are_interims p.are_interims b.is_final p.is_final (sym b.is ∙ grouped) in
     let whole : front ++ behind ≡ p.chunks_text ++ p.rest = sym is ∙ same.final.rest in
     let fronts = one_joined IsChunk one_response_chunk front p.chunks_text behind p.rest chunks p.chunks joined p.are_chunks none (chunk_begins_none p.rest p.is_bad) whole in
     subst IsBadChunk (sym (same_rest front p.chunks_text behind p.rest fronts.0 whole)) p.is_bad
 
 -- only a body in chunks has chunks
-framed_in_chunks : (to_head : Bool) (framing : model.Framing) (text rest octets : List ℕ) (parts ends : List Part) → InBody to_head framing text rest octets parts ends → PlainlyBehind text to_head → framing ≡ IsChunks
+framed_in_chunks : (to_head : Bool) (framing : model.Framing) (text rest octets : List ℕ) (parts ends : List Part) → InBody to_head framing text rest octets parts ends → (p : PlainlyBehind text to_head) → framing ≡ IsChunks p.named
 framed_in_chunks to_head framing text rest octets parts ends b p =
     let grouped : text ≡ (p.front ++ p.head_text) ++ (p.chunks_text ++ p.rest) = p.is ∙ append_assoc (p.front ++ p.head_text) p.chunks_text p.rest in
-    (one_front to_head b.front p.front b.head_text p.head_text rest (p.chunks_text ++ p.rest) b.interims p.interims b.head p.head framing IsChunks
+    (one_front to_head b.front p.front b.head_text p.head_text rest (p.chunks_text ++ p.rest) b.interims p.interims b.head p.head framing (IsChunks p.named)
     b.are_interims p.are_interims b.is_final p.is_final (sym b.is ∙ grouped)).final.framing
 
-chunked_not_bad : (to_head : Bool) (behind next text : List ℕ) (parts : List Part) (c : InChunked to_head behind next text parts) → NoBody behind → (IsBadChunk behind → ⊥) → PlainlyBehind text to_head → ⊥
-chunked_not_bad to_head behind next text parts c none good p =
-    good (bad_chunk to_head IsChunks text (c.front ++ behind) _ c.front behind c.chunks parts [] c.body refl c.are_chunks none.no_chunk p)
+chunked_not_bad : {named : List (List ℕ)} (to_head : Bool) (behind next text : List ℕ) (parts : List Part) (c : InChunked named to_head behind next text parts) → NoBody behind → (IsBadChunk behind → ⊥) → PlainlyBehind text to_head → ⊥
+chunked_not_bad {named} to_head behind next text parts c none good p =
+    good (bad_chunk to_head (IsChunks named) text (c.front ++ behind) _ c.front behind c.chunks parts [] c.body refl c.are_chunks none.no_chunk p)
 
-end_not_bad : (to_head : Bool) (end text : List ℕ) (parts : List Part) → length end < 2 → IsFront end crlf → BehindChunk to_head end text parts → PlainlyBehind text to_head → ⊥
-end_not_bad to_head end text parts few part b p =
+end_not_bad : {named : List (List ℕ)} (to_head : Bool) (end text : List ℕ) (parts : List Part) → length end < 2 → IsFront end crlf → BehindChunk named to_head end text parts → PlainlyBehind text to_head → ⊥
+end_not_bad {named} to_head end text parts few part b p =
     chunked_not_bad to_head (b.line ++ b.next ++ end) b.next text parts b.chunked (end_body_none to_head end text parts few b)
     (λ bad. chunk_not_bad b.line (b.next ++ end) (length b.next) b.is_line b.some
     (λ octets other e l no_part.
@@ -172,29 +173,29 @@ end_not_bad to_head end text parts few part b p =
     no_part (subst (λ (o : List ℕ). IsFront o crlf) (same_rest b.next octets end other same e) part))
     (subst IsBadChunk (append_assoc b.line b.next end) bad)) p
 
-past_not_bad : (to_head : Bool) (framing : model.Framing) (text rest octets : List ℕ) (parts ends : List Part) → InBody to_head framing text rest octets parts ends → HasBody framing false rest octets
+past_not_bad : (to_head : Bool) (framing : model.Framing) (text rest octets : List ℕ) (trailers : List Field) (parts ends : List Part) → InBody to_head framing text rest octets parts ends → HasBody framing false rest octets trailers
     → PlainlyBehind text to_head → ⊥
-past_not_bad to_head framing text rest octets parts ends b w p =
-    let q : Chunked rest octets = subst (λ (f : model.Framing). HasBody f false rest octets) (framed_in_chunks to_head framing text rest octets parts ends b p) w in
-    let grouped : q.front ++ q.line ++ q.trailers ++ q.past ≡ q.front ++ (q.line ++ (q.trailers ++ q.past)) = regrouped q.front q.line q.trailers q.past in
-    last_not_bad q.line (q.trailers ++ q.past) q.is_last (whole_not_bad q.trailers q.past q.are_trailers)
-    (bad_chunk to_head framing text rest octets q.front (q.line ++ (q.trailers ++ q.past)) q.chunks parts ends b (q.is ∙ grouped) q.are_chunks (none_at_last q.line (q.trailers ++ q.past) q.is_last) p)
+past_not_bad to_head framing text rest octets trailers parts ends b w p =
+    let q : Chunked p.named rest octets trailers = subst (λ (f : model.Framing). HasBody f false rest octets trailers) (framed_in_chunks to_head framing text rest octets parts ends b p) w in
+    let grouped : q.front ++ q.line ++ q.section ++ q.past ≡ q.front ++ (q.line ++ (q.section ++ q.past)) = regrouped q.front q.line q.section q.past in
+    last_not_bad q.line (q.section ++ q.past) q.is_last (whole_not_bad q.section q.past q.are_trailers)
+    (bad_chunk to_head framing text rest octets q.front (q.line ++ (q.section ++ q.past)) q.chunks parts ends b (q.is ∙ grouped) q.are_chunks (none_at_last q.line (q.section ++ q.past) q.is_last) p)
   where
-    regrouped : (front line trailers past : List ℕ) → front ++ line ++ trailers ++ past ≡ front ++ (line ++ (trailers ++ past))
-    regrouped front line trailers past = simp append_assoc
+    regrouped : (front line section past : List ℕ) → front ++ line ++ section ++ past ≡ front ++ (line ++ (section ++ past))
+    regrouped front line section past = simp append_assoc
 
-no_sized : (count : ℕ) → ◌≡◌ {A = model.Framing} (IsSized count) IsChunks → ⊥
-no_sized count e = cc
+no_sized : (count : ℕ) (named : List (List ℕ)) → ◌≡◌ {A = model.Framing} (IsSized count) (IsChunks named) → ⊥
+no_sized count named e = cc
 
-no_rest : ◌≡◌ {A = model.Framing} IsUntilEnd IsChunks → ⊥
-no_rest e = cc
+no_rest : (named : List (List ℕ)) → ◌≡◌ {A = model.Framing} IsUntilEnd (IsChunks named) → ⊥
+no_rest named e = cc
 
 -- before its head ends nothing is behind it
 none_behind : (to_head : Bool) (held text front : List ℕ) (interims : List model.Head) → Joined model.Interim front interims → HasNoResponse held → text ≡ front ++ held → PlainlyBehind text to_head → ⊥
 none_behind to_head held text front interims joined none is p =
     let grouped : front ++ held ≡ p.front ++ (p.head_text ++ (p.chunks_text ++ p.rest)) = sym is ∙ p.is ∙ regrouped p.front p.head_text p.chunks_text p.rest in
     let fronts = one_joined model.Interim one_interim front p.front held (p.head_text ++ (p.chunks_text ++ p.rest)) interims p.interims joined p.are_interims
-    (none_without_head held none) (none_at_final to_head p.head_text (p.chunks_text ++ p.rest) p.head IsChunks p.is_final) grouped in
+    (none_without_head held none) (none_at_final to_head p.head_text (p.chunks_text ++ p.rest) p.head (IsChunks p.named) p.is_final) grouped in
     none p.is_final.spelled (p.chunks_text ++ p.rest)
     (subst (λ (o : List ℕ). ReadsResponse o p.is_final.spelled (p.chunks_text ++ p.rest)) (sym (same_rest front p.front held (p.head_text ++ (p.chunks_text ++ p.rest)) fronts.0 grouped))
     (spelled_reads p.head_text (p.chunks_text ++ p.rest) p.is_final.spelled p.is_final.taken.reads))
@@ -208,17 +209,17 @@ none_before to_head framing text rest octets parts ends b p =
     bad_there to_head text b.front (b.head_text ++ rest) b.interims b.are_interims b.few (none_at_final to_head b.head_text rest b.head framing b.is_final) (b.is ∙ append_assoc b.front b.head_text rest) p in
     final_not_bad to_head (length p.interims) b.head_text rest b.head framing b.is_final (subst (λ (o : List ℕ). IsBadHead to_head (length p.interims) o) there p.is_bad)
 
-not_bad_at : (place : Place) (to_head : Bool) (held text : List ℕ) (parts : List Part) → StandsAt place to_head held text parts → IsPlainlyBad text to_head → ⊥
+not_bad_at : (place : Place) (to_head : Bool) (held : Held) (text : List ℕ) (parts : List Part) → StandsAt place to_head held text parts → IsPlainlyBad text to_head → ⊥
 not_bad_at (Head count) to_head held text parts b (inl p) =
     let counted : count ≡ length b.interims = b.has_count in
     let few : count ≤ 8 = b.few in
-    let there : p.rest ≡ held = bad_there to_head text b.front held b.interims b.are_interims (omega arith) (none_without_head held b.no_head) b.is p in
-    held_not_bad to_head (length p.interims) held b.no_head b.may_become b.short (subst (λ (o : List ℕ). IsBadHead to_head (length p.interims) o) there p.is_bad)
-not_bad_at (Head count) to_head held text parts b (inr p) = none_behind to_head held text b.front b.interims b.are_interims b.no_head b.is p
+    let there : p.rest ≡ held.octets = bad_there to_head text b.front held.octets b.interims b.are_interims (omega arith) (none_without_head held.octets b.no_head) b.is p in
+    held_not_bad to_head (length p.interims) held.octets b.no_head b.may_become b.short (subst (λ (o : List ℕ). IsBadHead to_head (length p.interims) o) there p.is_bad)
+not_bad_at (Head count) to_head held text parts b (inr p) = none_behind to_head held.octets text b.front b.interims b.are_interims b.no_head b.is p
 not_bad_at (Sized left) to_head held text parts b (inl p) = none_before to_head _ text b.octets b.octets parts [] b.body p
-not_bad_at (Sized left) to_head held text parts b (inr p) = no_sized b.count (framed_in_chunks to_head _ text b.octets b.octets parts [] b.body p)
+not_bad_at (Sized left) to_head held text parts b (inr p) = no_sized b.count p.named (framed_in_chunks to_head _ text b.octets b.octets parts [] b.body p)
 not_bad_at UntilEnd to_head held text parts b (inl p) = none_before to_head _ text b.octets b.octets parts [] b.body p
-not_bad_at UntilEnd to_head held text parts b (inr p) = no_rest (framed_in_chunks to_head _ text b.octets b.octets parts [] b.body p)
+not_bad_at UntilEnd to_head held text parts b (inr p) = no_rest p.named (framed_in_chunks to_head _ text b.octets b.octets parts [] b.body p)
 not_bad_at (Line line) to_head held text parts b (inl p) = none_before to_head _ text _ _ parts [] b.chunked.body p
 not_bad_at (Line line) to_head held text parts b (inr p) =
     chunked_not_bad to_head b.behind [] text parts b.chunked (line_no_body line b.behind b.is_part) (part_not_bad b.behind (line_begun line b.behind b.is_part)) p
@@ -236,10 +237,10 @@ not_bad_at ChunkReturn to_head held text parts b (inl p) = none_before to_head _
 not_bad_at ChunkReturn to_head held text parts b (inr p) = end_not_bad to_head (13 ∷ []) text parts one_octet (record { rest = 10 ∷ []; is = refl }) b p
 not_bad_at Trailers to_head held text parts b (inl p) = none_before to_head _ text _ _ parts [] b.chunked.body p
 not_bad_at Trailers to_head held text parts b (inr p) =
-    chunked_not_bad to_head (b.line ++ held) [] text parts b.chunked (held_no_body to_head held text parts b)
-    (last_not_bad b.line held b.is_last (trailers_not_bad held b.no_trailers b.may_become b.short)) p
+    chunked_not_bad to_head (b.line ++ held.octets) [] text parts b.chunked (held_no_body to_head held.octets text parts b)
+    (last_not_bad b.line held.octets b.is_last (trailers_not_bad held.octets b.no_trailers b.may_become b.short)) p
 not_bad_at Past to_head held text parts b (inl p) = none_before to_head b.framing text b.rest b.octets parts _ b.body p
-not_bad_at Past to_head held text parts b (inr p) = past_not_bad to_head b.framing text b.rest b.octets parts _ b.body b.whole p
+not_bad_at Past to_head held text parts b (inr p) = past_not_bad to_head b.framing text b.rest b.octets b.trailers parts _ b.body b.whole p
 not_bad_at (Broken fault) to_head held text parts b bad = b
 
 pub not_bad : (text : List ℕ) (parts : List Part) (state : State) → Stands text parts state → IsPlainlyBad text state.to_head → ⊥

@@ -242,7 +242,7 @@ behind_behind : (f g : ResponseFault) (text : List ℕ) (to_head : Bool) → Fau
 behind_behind f g text to_head p q =
     let whole : (p.front ++ p.head_text) ++ (p.chunks_text ++ p.rest) ≡ (q.front ++ q.head_text) ++ (q.chunks_text ++ q.rest) =
     sym (grouped p.front p.head_text p.chunks_text p.rest) ∙ sym p.is ∙ q.is ∙ grouped q.front q.head_text q.chunks_text q.rest in
-    let same = one_front to_head p.front q.front p.head_text q.head_text (p.chunks_text ++ p.rest) (q.chunks_text ++ q.rest) p.interims q.interims p.head q.head IsChunks IsChunks
+    let same = one_front to_head p.front q.front p.head_text q.head_text (p.chunks_text ++ p.rest) (q.chunks_text ++ q.rest) p.interims q.interims p.head q.head (IsChunks p.named) (IsChunks q.named)
     p.are_interims q.are_interims p.is_final q.is_final whole in
     let fronts = one_joined IsChunk one_response_chunk p.chunks_text q.chunks_text p.rest q.rest p.chunks q.chunks p.are_chunks q.are_chunks
     (begins_no_chunk f p.rest p.is_fault) (begins_no_chunk g q.rest q.is_fault) same.final.rest in
@@ -251,7 +251,7 @@ behind_behind f g text to_head p q =
 
 before_behind : (f g : ResponseFault) (text : List ℕ) (to_head : Bool) → FaultBefore f text to_head → FaultBehind g text to_head → ⊥
 before_behind f g text to_head p q =
-    before_no_final f text [] q.front q.head_text (q.chunks_text ++ q.rest) to_head q.interims q.head IsChunks p q.are_interims q.few_interims q.is_final
+    before_no_final f text [] q.front q.head_text (q.chunks_text ++ q.rest) to_head q.interims q.head (IsChunks q.named) p q.are_interims q.few_interims q.is_final
     (append-nil text ∙ q.is ∙ grouped q.front q.head_text q.chunks_text q.rest ∙ append_assoc q.front q.head_text (q.chunks_text ++ q.rest))
 
 pub one_fault : (f g : ResponseFault) (text : List ℕ) (to_head : Bool) → FaultStands f text to_head → FaultStands g text to_head → f ≡ g

@@ -12,15 +12,17 @@ use Rattle.model.specs.ResponseHeads.Framing.{Bodiless as IsBodiless, Chunks as 
 use Rattle.model.specs.Responses.{HasBody}
 use Rattle.model.proofs.Http1Runs.{same_rest, BeginsNone}
 use Rattle.model.proofs.ResponseHeadReadings.{one_interim}
-use Rattle.h1_reader.specs.Parts.{Part}
+use Rattle.model.specs.Messages.{Field}
+use Rattle.h1_reader.specs.Parts.{Part, ends_with}
 use Rattle.h1_reader.specs.Parts.Part.{Interim, Final, Body, Done}
+use Rattle.h1_reader.specs.HeadSizes.{field_octets}
 use Rattle.h1_reader.specs.Views.{framing_view}
 use Rattle.h1_reader.specs.Begins.{Begins, place_behind, told_behind}
 use Rattle.h1_reader.specs.declared.framing.Framing.{Framing}
 use Rattle.h1_reader.specs.declared.framing.Framing.TheVariants as ways
 use Rattle.h1_reader.proofs.FrontLemmas.{none_in_nothing, nothing_may_become, nothing_is_short}
 use Rattle.h1_reader.specs.declared.chunk_line.LinePlace.TheVariants.{Size}
-use Rattle.h1_reader.specs.Standing.{State, BeforeHead, InBody, InSized, InRest, InLine, IsPast, IsKept, StandsAt, Stands, Hears}
+use Rattle.h1_reader.specs.Standing.{Held, names_held, State, BeforeHead, InBody, InSized, InRest, InLine, IsPast, IsKept, StandsAt, Stands, Hears}
 use Rattle.h1_reader.specs.declared.reader.Place.{Place}
 use Rattle.h1_reader.specs.declared.reader.Place.TheVariants.{Head, Sized, UntilEnd, Past}
 
@@ -56,10 +58,10 @@ body_step to_head framing text rest octets xs parts b = record {
       ∙ body_told (map Interim b.interims) (Final b.head) b.bodies xs;
 }
 
--- the end is told
-pub end_step : (to_head : Bool) (framing : model.Framing) (text rest octets : List ℕ) (parts : List Part)
-    → InBody to_head framing text rest octets parts [] → InBody to_head framing text rest octets (parts ++ Done ∷ []) (Done ∷ [])
-end_step to_head framing text rest octets parts b = record {
+-- the end is told, with trailers where there are some
+pub end_step : (to_head : Bool) (framing : model.Framing) (text rest octets : List ℕ) (parts : List Part) (trailers : List Field)
+    → InBody to_head framing text rest octets parts [] → InBody to_head framing text rest octets (parts ++ ends_with trailers) (ends_with trailers)
+end_step to_head framing text rest octets parts trailers b = record {
   interims = b.interims;
   head = b.head;
   front = b.front;
@@ -70,7 +72,7 @@ end_step to_head framing text rest octets parts b = record {
   few = b.few;
   is_final = b.is_final;
   has_octets = b.has_octets;
-  told = ap (λ (o : List Part). o ++ Done ∷ []) b.told ∙ ends_told (map Interim b.interims) (Final b.head ∷ map Body b.bodies) (Done ∷ []);
+  told = ap (λ (o : List Part). o ++ ends_with trailers) b.told ∙ ends_told (map Interim b.interims) (Final b.head ∷ map Body b.bodies) (ends_with trailers);
 }
 
 -- octets past the end
@@ -94,22 +96,24 @@ false_true : ◌≡◌ {A = Bool} false true → ⊥
 false_true e = cc
 
 -- a whole body is whole whatever follows
-whole_longer : (framing : model.Framing) (rest octets xs : List ℕ) → HasBody framing false rest octets → HasBody framing false (rest ++ xs) octets
-whole_longer IsBodiless rest octets xs w = w
-whole_longer IsChunks rest octets xs w = record {
+whole_longer : (framing : model.Framing) (rest octets xs : List ℕ) (trailers : List Field) → HasBody framing false rest octets trailers → HasBody framing false (rest ++ xs) octets trailers
+whole_longer IsBodiless rest octets xs trailers w = w
+whole_longer (IsChunks named) rest octets xs trailers w = record {
   chunks = w.chunks;
   front = w.front;
   line = w.line;
-  trailers = w.trailers;
+  section = w.section;
   past = w.past ++ xs;
-  is = ap (λ (o : List ℕ). o ++ xs) w.is ∙ append_assoc (w.front ++ w.line ++ w.trailers) w.past xs;
+  is = ap (λ (o : List ℕ). o ++ xs) w.is ∙ append_assoc (w.front ++ w.line ++ w.section) w.past xs;
   are_chunks = w.are_chunks;
   is_last = w.is_last;
   are_trailers = w.are_trailers;
   is_body = w.is_body;
+  passes = w.passes;
 }
-whole_longer (IsSized count) rest octets xs w = record { past = w.past ++ xs; is = ap (λ (o : List ℕ). o ++ xs) w.is ∙ append_assoc octets w.past xs; has_count = w.has_count }
-whole_longer IsUntilEnd rest octets xs w = absurd (false_true w.0)
+whole_longer (IsSized count) rest octets xs trailers w =
+    (record { past = w.0.past ++ xs; is = ap (λ (o : List ℕ). o ++ xs) w.0.is ∙ append_assoc octets w.0.past xs; has_count = w.0.has_count }, w.1)
+whole_longer IsUntilEnd rest octets xs trailers w = absurd (false_true w.0)
 
 -- ---- interim heads
 
@@ -134,11 +138,15 @@ joined_longer s t x y (h ∷ hs) (k ∷ ks) p q none e =
 pub at : (place : Place) (state : State) (text : List ℕ) (parts : List Part) → state.place ≡ place → Stands text parts state → StandsAt place state.to_head state.held text parts
 at place state text parts e s = subst (λ (p : Place). StandsAt p state.to_head state.held text parts) e s
 
-abbrev pub state_of : Bool → Place → List ℕ → State
+abbrev pub state_of : Bool → Place → Held → State
 state_of to_head place held = record { to_head = to_head; place = place; held = held }
 
--- the reader goes to a place, holding these octets
-pub arrives : (new : State) (to_head : Bool) (place : Place) (held text : List ℕ) (parts : List Part) → new ≡ state_of to_head place held → StandsAt place to_head held text parts → Stands text parts new
+-- these octets are held, and the fields that were
+abbrev pub with_octets : List ℕ → Held → Held
+with_octets octets held = record { octets = octets; connections = held.connections }
+
+-- the reader goes to a place, holding this
+pub arrives : (new : State) (to_head : Bool) (place : Place) (held : Held) (text : List ℕ) (parts : List Part) → new ≡ state_of to_head place held → StandsAt place to_head held text parts → Stands text parts new
 arrives new to_head place held text parts e s = subst (λ (n : State). Stands text parts n) (sym e) s
 
 pub hears_rest : (old : State) (xs : List ℕ) → old.place ≡ UntilEnd → Hears old xs (Body xs ∷ []) old
@@ -160,8 +168,9 @@ hears_past old xs e = record {
         framing = b.framing;
         rest = b.rest ++ xs;
         octets = b.octets;
-        body = past_step old.to_head b.framing text b.rest b.octets xs before (Done ∷ []) b.body;
-        whole = whole_longer b.framing b.rest b.octets xs b.whole;
+        trailers = b.trailers;
+        body = past_step old.to_head b.framing text b.rest b.octets xs before (ends_with b.trailers) b.body;
+        whole = whole_longer b.framing b.rest b.octets xs b.trailers b.whole;
       } in subst (λ (o : List Part). IsPast old.to_head (text ++ xs) o) (sym (append-nil before)) whole);
 }
 
@@ -185,29 +194,30 @@ hears_sized_all old new left xs e all is = record {
       let b = at (Sized left) old text before e s in
       let sum : length b.octets + left ≡ b.count = b.has_count in
       let longer : length (b.octets ++ xs) ≡ length b.octets + length xs = length-append b.octets xs in
-      let body = end_step old.to_head (IsSized b.count) (text ++ xs) (b.octets ++ xs) (b.octets ++ xs) (before ++ Body xs ∷ []) (body_step old.to_head (IsSized b.count) text b.octets b.octets xs before b.body) in
+      let body = end_step old.to_head (IsSized b.count) (text ++ xs) (b.octets ++ xs) (b.octets ++ xs) (before ++ Body xs ∷ []) [] (body_step old.to_head (IsSized b.count) text b.octets b.octets xs before b.body) in
       let whole : IsPast old.to_head (text ++ xs) ((before ++ Body xs ∷ []) ++ Done ∷ []) = record {
         framing = IsSized b.count;
         rest = b.octets ++ xs;
         octets = b.octets ++ xs;
+        trailers = [];
         body = body;
-        whole = record { past = []; is = sym (append-nil (b.octets ++ xs)); has_count = omega arith };
+        whole = (record { past = []; is = sym (append-nil (b.octets ++ xs)); has_count = omega arith }, refl);
       } in
       arrives new old.to_head Past old.held (text ++ xs) (before ++ Body xs ∷ Done ∷ []) is
       (subst (λ (o : List Part). IsPast old.to_head (text ++ xs) o) (append_assoc before (Body xs ∷ []) (Done ∷ [])) whole);
 }
 
-pub hears_more : (old new : State) (count : ℕ) (xs held : List ℕ) → old.place ≡ Head count → held ≡ old.held ++ xs → HasNoResponse held → MayBecomeResponse held → length held ≤ 16384
-    → new ≡ record { to_head = old.to_head; place = Head count; held = held }
+pub hears_more : (old new : State) (count : ℕ) (xs held : List ℕ) → old.place ≡ Head count → held ≡ old.held.octets ++ xs → HasNoResponse held → MayBecomeResponse held → length held ≤ 16384
+    → new ≡ record { to_head = old.to_head; place = Head count; held = with_octets held old.held }
     → Hears old xs [] new
 hears_more old new count xs held e longer none may short is = record {
   same = ap (λ (n : State). n.to_head) is;
   stands = λ text before s.
       let b = at (Head count) old text before e s in
-      arrives new old.to_head (Head count) held (text ++ xs) (before ++ []) is (record {
+      arrives new old.to_head (Head count) (with_octets held old.held) (text ++ xs) (before ++ []) is (record {
         interims = b.interims;
         front = b.front;
-        is = ap (λ (o : List ℕ). o ++ xs) b.is ∙ append_assoc b.front old.held xs ∙ ap (λ (o : List ℕ). b.front ++ o) (sym longer);
+        is = ap (λ (o : List ℕ). o ++ xs) b.is ∙ append_assoc b.front old.held.octets xs ∙ ap (λ (o : List ℕ). b.front ++ o) (sym longer);
         are_interims = b.are_interims;
         has_count = b.has_count;
         few = b.few;
@@ -218,19 +228,19 @@ hears_more old new count xs held e longer none may short is = record {
       });
 }
 
-pub hears_interim : (old new : State) (count : ℕ) (xs : List ℕ) (head : model.Head) → old.place ≡ Head count → count < 8 → model.Interim (old.held ++ xs) head
-    → new ≡ record { to_head = old.to_head; place = Head (count + 1); held = [] } → Hears old xs (Interim head ∷ []) new
+pub hears_interim : (old new : State) (count : ℕ) (xs : List ℕ) (head : model.Head) → old.place ≡ Head count → count < 8 → model.Interim (old.held.octets ++ xs) head
+    → new ≡ record { to_head = old.to_head; place = Head (count + 1); held = with_octets [] old.held } → Hears old xs (Interim head ∷ []) new
 hears_interim old new count xs head e less p is = record {
   same = ap (λ (n : State). n.to_head) is;
   stands = λ text before s.
       let b = at (Head count) old text before e s in
       let counted : count ≡ length b.interims = b.has_count in
       let longer : length (b.interims ++ head ∷ []) ≡ length b.interims + 1 = length-append b.interims (head ∷ []) in
-      arrives new old.to_head (Head (count + 1)) [] (text ++ xs) (before ++ Interim head ∷ []) is (record {
+      arrives new old.to_head (Head (count + 1)) (with_octets [] old.held) (text ++ xs) (before ++ Interim head ∷ []) is (record {
         interims = b.interims ++ head ∷ [];
-        front = b.front ++ (old.held ++ xs);
-        is = ap (λ (o : List ℕ). o ++ xs) b.is ∙ append_assoc b.front old.held xs ∙ sym (append-nil (b.front ++ (old.held ++ xs)));
-        are_interims = joined_more model.Interim b.front (old.held ++ xs) b.interims head b.are_interims p;
+        front = b.front ++ (old.held.octets ++ xs);
+        is = ap (λ (o : List ℕ). o ++ xs) b.is ∙ append_assoc b.front old.held.octets xs ∙ sym (append-nil (b.front ++ (old.held.octets ++ xs)));
+        are_interims = joined_more model.Interim b.front (old.held.octets ++ xs) b.interims head b.are_interims p;
         has_count = omega arith;
         few = omega arith;
         no_head = none_in_nothing;
@@ -241,8 +251,8 @@ hears_interim old new count xs head e less p is = record {
 }
 
 -- a final head is told, and nothing of its body is there yet
-pub final_step : (old : State) (count : ℕ) (xs text : List ℕ) (before : List Part) (head : model.Head) (framing : model.Framing) → model.Final old.to_head (old.held ++ xs) head framing
-    → BeforeHead count old.held text before → InBody old.to_head framing (text ++ xs) [] [] (before ++ Final head ∷ []) []
+pub final_step : (old : State) (count : ℕ) (xs text : List ℕ) (before : List Part) (head : model.Head) (framing : model.Framing) → model.Final old.to_head (old.held.octets ++ xs) head framing
+    → BeforeHead count old.held.octets text before → InBody old.to_head framing (text ++ xs) [] [] (before ++ Final head ∷ []) []
 final_step old count xs text before head framing p b =
     let counted : count ≡ length b.interims = b.has_count in
     let few : count ≤ 8 = b.few in
@@ -250,9 +260,9 @@ final_step old count xs text before head framing p b =
       interims = b.interims;
       head = head;
       front = b.front;
-      head_text = old.held ++ xs;
+      head_text = old.held.octets ++ xs;
       bodies = [];
-      is = ap (λ (o : List ℕ). o ++ xs) b.is ∙ append_assoc b.front old.held xs ∙ sym (append-nil (b.front ++ (old.held ++ xs)));
+      is = ap (λ (o : List ℕ). o ++ xs) b.is ∙ append_assoc b.front old.held.octets xs ∙ sym (append-nil (b.front ++ (old.held.octets ++ xs)));
       are_interims = b.are_interims;
       few = omega arith;
       is_final = p;
@@ -286,25 +296,26 @@ all_taken a b xs p h =
     subst (λ (o : List ℕ). Hears a o p b) (sym all) h
 
 -- nothing is held
-pub nothing_held : (held : List ℕ) → held ≡ [] → (length held ≤ 16384) × HasNoResponse held
-nothing_held held e = (rw e (omega arith), subst HasNoResponse (sym e) none_in_nothing)
+pub nothing_held : (held : List ℕ) (connections : List Field) → field_octets connections ≤ 16384 → held ≡ [] → (length held ≤ 16384) × (field_octets connections ≤ 16384) × HasNoResponse held
+nothing_held held connections few e = (rw e (omega arith), few, subst HasNoResponse (sym e) none_in_nothing)
 
-pub kept_head : (place : Place) (count : ℕ) (held : List ℕ) → place ≡ Head count → held ≡ [] → (length held ≤ 16384) × IsKept place held
-kept_head place count held e none =
-    let kept : IsKept (Head count) held = (nothing_held held none).1 in
-    ((nothing_held held none).0, subst (λ (p : Place). IsKept p held) (sym e) kept)
+pub kept_head : (place : Place) (count : ℕ) (held : List ℕ) (connections : List Field) → field_octets connections ≤ 16384 → place ≡ Head count → held ≡ [] → (length held ≤ 16384) × (field_octets connections ≤ 16384) × IsKept place held
+kept_head place count held connections few e none =
+    let kept : IsKept (Head count) held = (nothing_held held connections few none).2 in
+    ((nothing_held held connections few none).0, few, subst (λ (p : Place). IsKept p held) (sym e) kept)
 
 -- where a reader stands behind a final head
-stands_behind : (framing : Framing) (to_head : Bool) (held text : List ℕ) (parts : List Part) → InBody to_head (framing_view framing) text [] [] parts []
+stands_behind : (framing : Framing) (to_head : Bool) (held : Held) (text : List ℕ) (parts : List Part) → InBody to_head (framing_view (names_held held) framing) text [] [] parts []
     → StandsAt (place_behind framing) to_head held text (parts ++ told_behind framing)
-stands_behind ways.Bodiless to_head held text parts b = record { framing = IsBodiless; rest = []; octets = []; body = end_step to_head IsBodiless text [] [] parts b; whole = refl }
+stands_behind ways.Bodiless to_head held text parts b =
+    record { framing = IsBodiless; rest = []; octets = []; trailers = []; body = end_step to_head IsBodiless text [] [] parts [] b; whole = (refl, refl) }
 stands_behind ways.Chunks to_head held text parts b =
     let same : parts ≡ parts ++ [] = sym (append-nil parts) in
     let few : 0 ≤ 8 = omega arith in
-    subst (λ (o : List Part). InLine to_head (Size 0 0) text o) same
+    subst (λ (o : List Part). InLine (names_held held) to_head (Size 0 0) text o) same
     (record { behind = []; chunked = record { chunks = []; front = []; body = b; are_chunks = refl }; is_part = record { are_digits = refl; has_count = refl; few = few; has_size = refl } })
 stands_behind (ways.Sized zero) to_head held text parts b =
-    record { framing = IsSized 0; rest = []; octets = []; body = end_step to_head (IsSized 0) text [] [] parts b; whole = record { past = []; is = refl; has_count = refl } }
+    record { framing = IsSized 0; rest = []; octets = []; trailers = []; body = end_step to_head (IsSized 0) text [] [] parts [] b; whole = (record { past = []; is = refl; has_count = refl }, refl) }
 stands_behind (ways.Sized (suc count)) to_head held text parts b =
     let same : parts ≡ parts ++ [] = sym (append-nil parts) in
     subst (λ (o : List Part). InSized to_head (suc count) text o) same (record { octets = []; count = suc count; body = b; has_count = omega arith; some = omega arith })
@@ -313,7 +324,7 @@ stands_behind ways.UntilEnd to_head held text parts b =
     subst (λ (o : List Part). InRest to_head text o) same (record { octets = []; body = b })
 
 pub hears_final : (old mid new : State) (count : ℕ) (xs : List ℕ) (head : model.Head) (framing : Framing) (t0 t1 t2 : List Part) → old.place ≡ Head count
-    → model.Final old.to_head (old.held ++ xs) head (framing_view framing) → mid.to_head ≡ old.to_head → Begins framing mid new t1 t2 → t1 ≡ t0 ++ Final head ∷ []
+    → model.Final old.to_head (old.held.octets ++ xs) head (framing_view (names_held mid.held) framing) → mid.to_head ≡ old.to_head → Begins framing mid new t1 t2 → t1 ≡ t0 ++ Final head ∷ []
     → (added : List Part) × (t2 ≡ t0 ++ added) × Hears old xs added new
 hears_final old mid new count xs head framing t0 t1 t2 e p same begins told = (
   Final head ∷ told_behind framing,
@@ -321,7 +332,7 @@ hears_final old mid new count xs head framing t0 t1 t2 e p same begins told = (
   record {
     same = ap (λ (n : State). n.to_head) begins.is ∙ same;
     stands = λ text before s.
-        let b = final_step old count xs text before head (framing_view framing) p (at (Head count) old text before e s) in
+        let b = final_step old count xs text before head (framing_view (names_held mid.held) framing) p (at (Head count) old text before e s) in
         let there = stands_behind framing old.to_head mid.held (text ++ xs) (before ++ Final head ∷ []) b in
         let is : new ≡ record { to_head = old.to_head; place = place_behind framing; held = mid.held } = begins.is ∙ (λ i. record { to_head = same i; place = place_behind framing; held = mid.held }) in
         let stands : Stands (text ++ xs) ((before ++ Final head ∷ []) ++ told_behind framing) new =
@@ -335,7 +346,7 @@ nil_of [] e = refl
 nil_of (x ∷ xs) e = let none : length (x ∷ xs) ≡ 0 = eqb-true (length (x ∷ xs)) 0 e in absurd (omega arith)
 
 -- a new reader stands for nothing
-pub stands_new : (to_head : Bool) (held : List ℕ) → held ≡ [] → Stands [] [] (record { to_head = to_head; place = Head 0; held = held })
+pub stands_new : (to_head : Bool) (held : Held) → held.octets ≡ [] → Stands [] [] (record { to_head = to_head; place = Head 0; held = held })
 stands_new to_head held e =
     let b : BeforeHead 0 [] [] [] = record { interims = []; front = []; is = refl; are_interims = refl; has_count = refl; few = omega arith; no_head = none_in_nothing; may_become = nothing_may_become; short = nothing_is_short; told = refl } in
     subst (λ (o : List ℕ). BeforeHead 0 o [] []) (sym e) b

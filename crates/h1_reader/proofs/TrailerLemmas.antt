@@ -1,5 +1,5 @@
 -- What the parser's answer says of trailers.
-use Rattle.std.proofs.Common.{suc, ◌≡◌, ℕ, ◌+◌, ◌<◌, ◌≤◌, List, [], ◌∷◌, ◌++◌, length, get_or, take, drop, refl, sym, ap, ◌∙◌, subst, append_assoc, length-append, length-take-le, arith}
+use Rattle.std.proofs.Common.{suc, ◌≡◌, ℕ, ◌+◌, ◌<◌, ◌≤◌, List, [], ◌∷◌, ◌++◌, length, get_or, take, drop, map, refl, sym, ap, ◌∙◌, subst, append_assoc, length-append, length-take-le, arith}
 use Rattle.std.proofs.lemmas.List.{append-nil}
 use Rattle.std.proofs.lemmas.List.Elements.{All-nil}
 use Rattle.std.proofs.Math.Seq.{take-append_seam}
@@ -9,8 +9,13 @@ use Rattle.httparse.specs.declared.spans.HeaderSpan.{HeaderSpan}
 use Rattle.httparse.specs.Spans.{IsSectionOf, IsSectionWithin}
 use Rattle.httparse.proofs.GrammarLemmas.{ReadsSection-append}
 use Rattle.model.specs.Responses.{IsTrailers}
-use Rattle.h1_reader.specs.Trailers.{NeverTrailers}
-use Rattle.h1_reader.proofs.HeadLemmas.{count_is}
+use Rattle.model.specs.Messages.{Field}
+use Rattle.model.specs.Http1.{without}
+use Rattle.model.specs.Http2.{names_not_in_trailers}
+use Rattle.model.specs.ResponseHeads.{named_by_connection, names_of_connection}
+use Rattle.h1_reader.specs.Heads.{field_from}
+use Rattle.h1_reader.specs.Trailers.{NeverTrailers, ArePassed}
+use Rattle.h1_reader.proofs.HeadLemmas.{count_is, meant_at}
 use Rattle.h1_reader.proofs.Values.{values_of}
 use Rattle.h1_reader.proofs.FrontLemmas.{EndsIn, ends_any, front_of_longer}
 
@@ -19,8 +24,10 @@ pub trailers_read : (trailers past : List ℕ) (are : IsTrailers trailers) → R
 trailers_read trailers past are = ReadsSection-append trailers are.lines are.last [] past are.reads
 
 pub whole_trailers : (text : List ℕ) (spans : List HeaderSpan) (used count : ℕ) → IsSectionWithin text spans used count → IsSectionOf text 0 spans (used, count) → count ≤ 100
-    → length text ≤ 16384 → ((k : ℕ) → get_or text k 0 < 256) → (used ≤ length text) × IsTrailers (take used text)
-whole_trailers text spans used count within of few short octets =
+    → length text ≤ 16384 → ((k : ℕ) → get_or text k 0 < 256) → (connections fields kept : List Field) → fields ≡ map (field_from text) (take count spans)
+    → kept ≡ without (names_not_in_trailers ++ names_of_connection ++ named_by_connection connections ++ named_by_connection fields) fields
+    → (used ≤ length text) × ArePassed (named_by_connection connections) (take used text) kept
+whole_trailers text spans used count within of few short octets connections fields kept fields_are kept_is =
     let counted : count ≡ length of.0 = count_is text spans count of.0 within.count_fits of.2.fields_are in
     let fits : used ≤ length text = within.len_fits in
     let front : length (take used text) ≡ used = length-take-le used text fits in
@@ -30,12 +37,17 @@ whole_trailers text spans used count within of few short octets =
     ∙ sym (append-nil (print_section of.0 of.1)) in (
       fits,
       record {
-        lines = of.0;
-        last = of.1;
-        reads = (of.2.reads.0, is);
-        is_short = omega arith;
-        has_few = omega arith;
-        values = values_of of.0 of.1 text (drop used text) of.2.reads.0 of.2.reads.1 octets;
+        are = record {
+          lines = of.0;
+          last = of.1;
+          reads = (of.2.reads.0, is);
+          is_short = omega arith;
+          has_few = omega arith;
+          values = values_of of.0 of.1 text (drop used text) of.2.reads.0 of.2.reads.1 octets;
+        };
+        is = kept_is
+            ∙ ap (λ (fs : List Field). without (names_not_in_trailers ++ names_of_connection ++ named_by_connection connections ++ named_by_connection fs) fs)
+            (fields_are ∙ meant_at text spans count of.0 of.2.fields_are);
       },
     )
 

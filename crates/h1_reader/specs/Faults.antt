@@ -136,10 +136,11 @@ pub record FaultBehind (fault : ResponseFault) (text : List ℕ) (to_head : Bool
   pub chunks : List (List ℕ)
   pub chunks_text : List ℕ
   pub rest : List ℕ
+  pub named : List (List ℕ)
   pub is : text ≡ front ++ head_text ++ chunks_text ++ rest
   pub are_interims : Joined Interim front interims
   pub few_interims : length interims ≤ most_interims
-  pub is_final : Final to_head head_text head Chunks
+  pub is_final : Final to_head head_text head (Chunks named)
   pub are_chunks : Joined IsChunk chunks_text chunks
   pub is_fault : ChunkFault fault rest
 

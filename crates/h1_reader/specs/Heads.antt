@@ -6,6 +6,8 @@ use Rattle.httparse.specs.Spans.{span_bytes}
 use Rattle.model.specs.Octets.{lower}
 use Rattle.model.specs.Messages.{Field}
 use Rattle.model.specs.ResponseHeads as model
+use Rattle.model.specs.ResponseHeads.{named_by_connection}
+use Rattle.h1_reader.specs.HeadSizes.{field_octets}
 use Rattle.h1_reader.specs.Views.{framing_view}
 use Rattle.h1_reader.specs.declared.fault.ResponseFault.{ResponseFault}
 use Rattle.h1_reader.specs.declared.fault.ResponseFault.TheVariants.{Length, Coding}
@@ -27,7 +29,8 @@ field_from text line = record { name = lower (span_bytes text line.name); value 
 abbrev pub IsHeadRead : Bool → List ℕ → HeadRead → Type 0
 IsHeadRead to_head text More = HasNoResponse text × MayBecomeResponse text
 IsHeadRead to_head text (Interim head used) = (used ≤ length text) × model.Interim (take used text) head
-IsHeadRead to_head text (Final head framing used) = (used ≤ length text) × model.Final to_head (take used text) head (framing_view framing)
+IsHeadRead to_head text (Final head framing connections used) =
+    (used ≤ length text) × model.Final to_head (take used text) head (framing_view (named_by_connection connections.items) framing) × (field_octets connections.items ≤ 16384)
 
 -- Whatever follows the octets, they begin with no interim head and with no final one.
 pub record HasNoHead (to_head : Bool) (text : List ℕ) : Type 0 where
@@ -38,4 +41,6 @@ pub record HasNoHead (to_head : Bool) (text : List ℕ) : Type 0 where
 abbrev pub IsFrontRead : Bool → List ℕ → List ℕ → FrontRead → Type 0
 IsFrontRead to_head held octets (OnGoing text) = (text.items ≡ held ++ octets) × (length text.items ≤ 16384) × HasNoResponse text.items × MayBecomeResponse text.items
 IsFrontRead to_head held octets (InterimAt head used) = (0 < used) × (used ≤ length octets) × model.Interim (held ++ take used octets) head
-IsFrontRead to_head held octets (FinalAt head framing used) = (0 < used) × (used ≤ length octets) × model.Final to_head (held ++ take used octets) head (framing_view framing)
+IsFrontRead to_head held octets (FinalAt head framing connections used) =
+    (0 < used) × (used ≤ length octets) × model.Final to_head (held ++ take used octets) head (framing_view (named_by_connection connections.items) framing)
+    × (field_octets connections.items ≤ 16384)

@@ -4,11 +4,12 @@ use Rattle.std.specs.List.{concat, list_any}
 use Rattle.httparse.specs.Grammar.{HasNoResponse, MayBecomeResponse, HasNoSection, MayBecomeSection}
 use Rattle.model.specs.Octets.{Joined}
 use Rattle.model.specs.ResponseHeads as model
-use Rattle.model.specs.ResponseHeads.{longest_section}
+use Rattle.model.specs.Messages.{Field}
+use Rattle.model.specs.ResponseHeads.{longest_section, named_by_connection}
 use Rattle.model.specs.ResponseHeads.Framing.{Chunks as IsChunks, Sized as IsSized, UntilEnd as IsUntilEnd}
 use Rattle.model.specs.Responses.{most_interims, Response, H1Response, ChunkLine, Chunk as IsChunk, HasBody, IsComplete, IsSpoilt, Seen}
 use Rattle.h1_reader.specs.ChunkLines.{IsLinePart, IsInRange}
-use Rattle.h1_reader.specs.Parts.{Part}
+use Rattle.h1_reader.specs.Parts.{Part, ends_with}
 use Rattle.h1_reader.specs.Parts.Part.{Interim, Final, Body, Done}
 use Rattle.h1_reader.specs.declared.chunk_line.LinePlace.{LinePlace}
 use Rattle.h1_reader.specs.declared.reader.Place.{Place}
@@ -16,11 +17,20 @@ use Rattle.h1_reader.specs.declared.reader.Ended.{Ended}
 use Rattle.h1_reader.specs.declared.reader.Ended.TheVariants.{Complete, Short}
 use Rattle.h1_reader.specs.declared.reader.Place.TheVariants.{Head, Sized, UntilEnd, Line, Chunk, ChunkEnd, ChunkReturn, Trailers, Past, Broken}
 
--- A reader's value: whether the response answers HEAD, its place, and the octets that begin no head yet.
+-- What is held: the octets that begin no head or no trailers yet, and the fields Connection of the final head.
+pub record Held : Type 0 where
+  pub octets : List ℕ
+  pub connections : List Field
+
+-- the names that these fields gave (RFC 9110, section 7.6.1)
+abbrev pub names_held : Held → List (List ℕ)
+names_held held = named_by_connection held.connections
+
+-- A reader's value: whether the response answers HEAD, its place, and what is held.
 pub record State : Type 0 where
   pub to_head : Bool
   pub place : Place
-  pub held : List ℕ
+  pub held : Held
 
 -- Whole interim heads were told, and the rest of the octets, which is held, begins with no head and may become one.
 pub record BeforeHead (count : ℕ) (held text : List ℕ) (parts : List Part) : Type 0 where
@@ -63,52 +73,53 @@ pub record InRest (to_head : Bool) (text : List ℕ) (parts : List Part) : Type 
   pub body : InBody to_head IsUntilEnd text octets octets parts []
 
 -- Whole chunks stand behind the head, and behind them this text; their octets were told, and the next ones.
-pub record InChunked (to_head : Bool) (behind next text : List ℕ) (parts : List Part) : Type 0 where
+pub record InChunked (named : List (List ℕ)) (to_head : Bool) (behind next text : List ℕ) (parts : List Part) : Type 0 where
   pub chunks : List (List ℕ)
   pub front : List ℕ
-  pub body : InBody to_head IsChunks text (front ++ behind) (concat chunks ++ next) parts []
+  pub body : InBody to_head (IsChunks named) text (front ++ behind) (concat chunks ++ next) parts []
   pub are_chunks : Joined IsChunk front chunks
 
 -- A chunk's line was begun.
-pub record InLine (to_head : Bool) (line : LinePlace) (text : List ℕ) (parts : List Part) : Type 0 where
+pub record InLine (named : List (List ℕ)) (to_head : Bool) (line : LinePlace) (text : List ℕ) (parts : List Part) : Type 0 where
   pub behind : List ℕ
-  pub chunked : InChunked to_head behind [] text parts
+  pub chunked : InChunked named to_head behind [] text parts
   pub is_part : IsLinePart line behind
 
 -- So many octets of a chunk are to come.
-pub record InChunk (to_head : Bool) (left : ℕ) (text : List ℕ) (parts : List Part) : Type 0 where
+pub record InChunk (named : List (List ℕ)) (to_head : Bool) (left : ℕ) (text : List ℕ) (parts : List Part) : Type 0 where
   pub line : List ℕ
   pub size : ℕ
   pub next : List ℕ
-  pub chunked : InChunked to_head (line ++ next) next text parts
+  pub chunked : InChunked named to_head (line ++ next) next text parts
   pub is_line : ChunkLine line size
   pub has_size : length next + left ≡ size
   pub some : 0 < left
 
 -- All octets of a chunk were told, and this is there of its end.
-pub record BehindChunk (to_head : Bool) (end text : List ℕ) (parts : List Part) : Type 0 where
+pub record BehindChunk (named : List (List ℕ)) (to_head : Bool) (end text : List ℕ) (parts : List Part) : Type 0 where
   pub line : List ℕ
   pub next : List ℕ
-  pub chunked : InChunked to_head (line ++ next ++ end) next text parts
+  pub chunked : InChunked named to_head (line ++ next ++ end) next text parts
   pub is_line : ChunkLine line (length next)
   pub some : 0 < length next
 
 -- Behind the line of the last chunk stand octets, which are held, that are no trailers and may become ones.
-pub record InTrailers (to_head : Bool) (held text : List ℕ) (parts : List Part) : Type 0 where
+pub record InTrailers (named : List (List ℕ)) (to_head : Bool) (held text : List ℕ) (parts : List Part) : Type 0 where
   pub line : List ℕ
-  pub chunked : InChunked to_head (line ++ held) [] text parts
+  pub chunked : InChunked named to_head (line ++ held) [] text parts
   pub is_last : ChunkLine line 0
   pub no_trailers : HasNoSection held
   pub may_become : MayBecomeSection held
   pub short : length held ≤ longest_section
 
--- The whole body was told, wherever the octets end.
+-- The whole body was told, and the trailers, wherever the octets end.
 pub record IsPast (to_head : Bool) (text : List ℕ) (parts : List Part) : Type 0 where
   pub framing : model.Framing
   pub rest : List ℕ
   pub octets : List ℕ
-  pub body : InBody to_head framing text rest octets parts (Done ∷ [])
-  pub whole : HasBody framing false rest octets
+  pub trailers : List Field
+  pub body : InBody to_head framing text rest octets parts (ends_with trailers)
+  pub whole : HasBody framing false rest octets trailers
 
 -- What is held begins with no head or with no trailers, and where octets of a known number are to come, one or more are.
 abbrev pub IsKept : Place → List ℕ → Type 0
@@ -126,15 +137,15 @@ IsInBody Trailers = ⊥
 IsInBody (Broken fault) = ⊥
 IsInBody _ = Unit {0}
 
-abbrev pub StandsAt : Place → Bool → List ℕ → List ℕ → List Part → Type 0
-StandsAt (Head count) to_head held text parts = BeforeHead count held text parts
+abbrev pub StandsAt : Place → Bool → Held → List ℕ → List Part → Type 0
+StandsAt (Head count) to_head held text parts = BeforeHead count held.octets text parts
 StandsAt (Sized left) to_head held text parts = InSized to_head left text parts
 StandsAt UntilEnd to_head held text parts = InRest to_head text parts
-StandsAt (Line line) to_head held text parts = InLine to_head line text parts
-StandsAt (Chunk left) to_head held text parts = InChunk to_head left text parts
-StandsAt ChunkEnd to_head held text parts = BehindChunk to_head [] text parts
-StandsAt ChunkReturn to_head held text parts = BehindChunk to_head (13 ∷ []) text parts
-StandsAt Trailers to_head held text parts = InTrailers to_head held text parts
+StandsAt (Line line) to_head held text parts = InLine (names_held held) to_head line text parts
+StandsAt (Chunk left) to_head held text parts = InChunk (names_held held) to_head left text parts
+StandsAt ChunkEnd to_head held text parts = BehindChunk (names_held held) to_head [] text parts
+StandsAt ChunkReturn to_head held text parts = BehindChunk (names_held held) to_head (13 ∷ []) text parts
+StandsAt Trailers to_head held text parts = InTrailers (names_held held) to_head held.octets text parts
 StandsAt Past to_head held text parts = IsPast to_head text parts
 StandsAt (Broken fault) to_head held text parts = ⊥
 
@@ -170,7 +181,8 @@ pub record TellsBefore (text : List ℕ) (to_head : Bool) (parts : List Part) : 
   pub seen : Seen text to_head interims None []
   pub told : parts ≡ map Interim interims
 
--- A final head stands in the text; it was told, and the octets of its body that stand there, and perhaps that it is whole.
+-- A final head stands in the text; it was told, and the octets of its body that stand there, and perhaps its trailers and that it is
+-- whole.
 pub record TellsBehind (text : List ℕ) (to_head : Bool) (parts : List Part) : Type 0 where
   pub interims : List model.Head
   pub head : model.Head
@@ -178,7 +190,7 @@ pub record TellsBehind (text : List ℕ) (to_head : Bool) (parts : List Part) : 
   pub ends : List Part
   pub seen : Seen text to_head interims (Some head) (concat bodies)
   pub told : parts ≡ map Interim interims ++ (Final head ∷ map Body bodies ++ ends)
-  pub ends_are : (ends ≡ []) ⊎ (ends ≡ Done ∷ [])
+  pub ends_are : (ends ≡ []) ⊎ ((trailers : List Field) × (ends ≡ ends_with trailers))
 
 -- The pieces tell what stands in the text.
 abbrev pub Tells : List ℕ → Bool → List Part → Type 0
@@ -190,4 +202,4 @@ pub record TellsWhole (text : List ℕ) (to_head : Bool) (parts : List Part) : T
   pub is_whole : H1Response text false to_head response
   pub bodies : List (List ℕ)
   pub has_body : response.body ≡ concat bodies
-  pub told : parts ≡ map Interim response.interims ++ (Final response.head ∷ map Body bodies ++ Done ∷ [])
+  pub told : parts ≡ map Interim response.interims ++ (Final response.head ∷ map Body bodies ++ ends_with response.trailers)

@@ -1,9 +1,10 @@
 -- What was told, put together.
 use Rattle.std.specs.Prelude.{◌≡◌, ℕ, Bool, List, [], ◌∷◌, ◌++◌, Option, Some, None}
+use Rattle.model.specs.Messages.{Field}
 use Rattle.model.specs.ResponseHeads.{Head}
 use Rattle.model.specs.Responses.{H1Response}
 use Rattle.h1_reader.specs.Parts.{Part}
-use Rattle.h1_reader.specs.Parts.Part.{Interim, Final, Body}
+use Rattle.h1_reader.specs.Parts.Part.{Interim, Final, Body, Trailing}
 
 -- the interim heads
 abbrev pub interims_of : List Part → List Head
@@ -23,8 +24,14 @@ body_of [] = []
 body_of (Body octets ∷ parts) = octets ++ body_of parts
 body_of (_ ∷ parts) = body_of parts
 
+-- the trailers
+abbrev pub trailers_of : List Part → List Field
+trailers_of [] = []
+trailers_of (Trailing fields ∷ parts) = fields
+trailers_of (_ ∷ parts) = trailers_of parts
+
 -- What was told is the whole response of the text, whose server ended the connection or didn't.
 pub record IsWholeOf (text : List ℕ) (ended to_head : Bool) (parts : List Part) : Type 0 where
   pub head : Head
   pub has_head : head_of parts ≡ Some head
-  pub is_whole : H1Response text ended to_head (record { interims = interims_of parts; head = head; body = body_of parts })
+  pub is_whole : H1Response text ended to_head (record { interims = interims_of parts; head = head; body = body_of parts; trailers = trailers_of parts })

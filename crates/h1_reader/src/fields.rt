@@ -1,8 +1,10 @@
 //! What the fields of a response's head say.
 
-ghost use Rattle.std.specs.Prelude.{◌≡◌, ◌++◌, not, ◌&&◌, ◌||◌, [], ◌∷◌, codes, bytes_eq, filter, length, IfOk, OnOk};
+ghost use Rattle.std.specs.Prelude.{◌≡◌, ◌≤◌, ◌++◌, not, ◌&&◌, ◌||◌, [], ◌∷◌, codes, bytes_eq, filter, length, IfOk, OnOk};
 ghost use Rattle.std.specs.List.{list_any};
 ghost use Rattle.model.specs.Http1.{values_of, without};
+ghost use Rattle.model.specs.Http2.{names_not_in_trailers};
+ghost use Rattle.h1_reader.specs.HeadSizes.{field_octets};
 ghost use Rattle.model.specs.ResponseHeads.{names_in, named_by_connection, names_of_connection, never_has_body, without_framing, passed, with_one};
 
 use crate::octets;
@@ -71,8 +73,9 @@ fn is_passed(connections: &[Field], field: &Field) -> bool
 }
 
 /// The fields Connection among fields.
-fn connections(alloc: Global, fields: &[Field]) -> Result<Vec<Field>, AllocError>
-    ensures { IfOk result (λ found. named_by_connection found.items ≡ named_by_connection fields.now) }
+pub fn connections(alloc: Global, fields: &[Field]) -> Result<Vec<Field>, AllocError>
+    ensures names { IfOk result (λ found. named_by_connection found.items ≡ named_by_connection fields.now) }
+    ensures few { IfOk result (λ found. field_octets found.items ≤ field_octets fields.now) }
 {
     let mut found = Vec::new(alloc);
     for field in fields {
@@ -161,12 +164,62 @@ fn without_framing(alloc: Global, status: u16, fields: Vec<Field>) -> Result<Vec
     Ok(kept)
 }
 
-/// The fields of a head that are passed back (RFC 9110, section 7.6.1).
-pub fn passed_back(alloc: Global, status: u16, fields: Vec<Field>) -> Result<Vec<Field>, AllocError>
+/// The fields of a head that are passed back (RFC 9110, section 7.6.1), by those of them that are Connection.
+pub fn passed_back(
+    alloc: Global,
+    status: u16,
+    fields: Vec<Field>,
+    connections: &[Field],
+) -> Result<Vec<Field>, AllocError>
+    requires { named_by_connection connections.now ≡ named_by_connection fields.items }
     ensures { IfOk result (λ kept. kept.items ≡ passed fields.items (without_framing status fields.items)) }
 {
-    let connections = connections(alloc, &fields)?;
     let mut kept = without_framing(alloc, status, fields)?;
-    keep_passed(&connections, &mut kept);
+    keep_passed(connections, &mut kept);
+    Ok(kept)
+}
+
+/// Whether no trailers pass on a field of this name (RFC 9110, section 6.5.1).
+fn is_kept_back(field: &Field) -> bool
+    ensures { result ≡ list_any (bytes_eq field.now.name) names_not_in_trailers }
+{
+    is_named(field, b"host")
+        || is_named(field, b"content-length")
+        || is_named(field, b"te")
+        || is_named(field, b"trailer")
+        || is_named(field, b"expect")
+        || is_named(field, b"cookie")
+        || is_named(field, b"set-cookie")
+        || is_named(field, b"authorization")
+}
+
+/// Whether a field of trailers is passed back, by the fields Connection of their head and their own.
+fn is_trailing(connections: &[Field], own: &[Field], field: &Field) -> bool
+    ensures { result ≡ not (list_any (bytes_eq field.now.name) (names_not_in_trailers ++ names_of_connection ++ named_by_connection connections.now ++ named_by_connection own.now)) }
+{
+    !is_kept_back(field)
+        && !is_of_connection(field)
+        && !is_named_by_connection(connections, field.name())
+        && !is_named_by_connection(own, field.name())
+}
+
+/// Drops the fields that aren't passed back, by the fields Connection of the head and those of the trailers.
+fn keep_trailing(connections: &[Field], own: &[Field], fields: &mut Vec<Field>)
+    ensures { fields.new.items ≡ without (names_not_in_trailers ++ names_of_connection ++ named_by_connection connections.now ++ named_by_connection own.now) fields.old.items }
+{
+    fields.retain(|field| is_trailing(connections, own, field));
+}
+
+/// The fields of trailers that are passed back, by the fields Connection of their head.
+pub fn trailing(
+    alloc: Global,
+    connections_of_head: &[Field],
+    fields: Vec<Field>,
+) -> Result<Vec<Field>, AllocError>
+    ensures { IfOk result (λ kept. kept.items ≡ without (names_not_in_trailers ++ names_of_connection ++ named_by_connection connections_of_head.now ++ named_by_connection fields.items) fields.items) }
+{
+    let own = connections(alloc, &fields)?;
+    let mut kept = fields;
+    keep_trailing(connections_of_head, &own, &mut kept);
     Ok(kept)
 }

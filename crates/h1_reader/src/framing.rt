@@ -6,7 +6,7 @@ ghost use Rattle.std.specs.Str.Parse.{digits_value};
 ghost use Rattle.model.specs.Octets.{lower};
 ghost use Rattle.model.specs.ResponseHeads.Framing.{Sized};
 ghost use Rattle.model.specs.Http1.{values_of};
-ghost use Rattle.model.specs.ResponseHeads.{is_length, framed_by, framing_for};
+ghost use Rattle.model.specs.ResponseHeads.{is_length, named_by_connection, framed_by, framing_for};
 ghost use Rattle.h1_reader.specs.Views.{framing_view};
 ghost use Rattle.h1_reader.specs.Heads.{framing_fault};
 
@@ -80,7 +80,7 @@ fn is_chunked(minor: u8, coding: &[u8]) -> bool
 
 /// What the lines content-length say (RFC 9112, section 6.3), of which one has these digits.
 fn sized(fields: &[Field], digits: &[u8]) -> Result<Framing, ResponseFault>
-    ensures { MatchResult result (λ framing. (is_length digits.now && list_all (bytes_eq digits.now) (values_of (codes "content-length") fields.now) ≡ true) × (framing_view framing ≡ Sized (digits_value 10 digits.now))) (λ fault. (is_length digits.now && list_all (bytes_eq digits.now) (values_of (codes "content-length") fields.now) ≡ false) × (fault ≡ ResponseFault.Length)) }
+    ensures { MatchResult result (λ framing. (is_length digits.now && list_all (bytes_eq digits.now) (values_of (codes "content-length") fields.now) ≡ true) × ((named : List (List ℕ)) → framing_view named framing ≡ Sized (digits_value 10 digits.now))) (λ fault. (is_length digits.now && list_all (bytes_eq digits.now) (values_of (codes "content-length") fields.now) ≡ false) × (fault ≡ ResponseFault.Length)) }
 {
     if !is_length(digits) {
         return Err(ResponseFault::Length);
@@ -94,7 +94,7 @@ fn sized(fields: &[Field], digits: &[u8]) -> Result<Framing, ResponseFault>
 /// What the lines content-length and transfer-encoding say of the body, in HTTP/1.0 or HTTP/1.1 (RFC 9112, sections 6.1 to
 /// 6.3).
 fn framed_by(minor: u8, fields: &[Field]) -> Result<Framing, ResponseFault>
-    ensures { MatchResult result (λ framing. framed_by minor (values_of (codes "content-length") fields.now) (values_of (codes "transfer-encoding") fields.now) ≡ Some (framing_view framing)) (λ fault. (framed_by minor (values_of (codes "content-length") fields.now) (values_of (codes "transfer-encoding") fields.now) ≡ None) × (fault ≡ framing_fault (values_of (codes "transfer-encoding") fields.now))) }
+    ensures { MatchResult result (λ framing. framed_by (named_by_connection fields.now) minor (values_of (codes "content-length") fields.now) (values_of (codes "transfer-encoding") fields.now) ≡ Some (framing_view (named_by_connection fields.now) framing)) (λ fault. (framed_by (named_by_connection fields.now) minor (values_of (codes "content-length") fields.now) (values_of (codes "transfer-encoding") fields.now) ≡ None) × (fault ≡ framing_fault (values_of (codes "transfer-encoding") fields.now))) }
 {
     let codings = count(fields, b"transfer-encoding");
     let coding = first_value(fields, b"transfer-encoding");
@@ -123,7 +123,7 @@ pub fn framing_of(
     status: u16,
     fields: &[Field],
 ) -> Result<Framing, ResponseFault>
-    ensures { MatchResult result (λ framing. framing_for to_head minor status fields.now ≡ Some (framing_view framing)) (λ fault. (framing_for to_head minor status fields.now ≡ None) × (fault ≡ framing_fault (values_of (codes "transfer-encoding") fields.now))) }
+    ensures { MatchResult result (λ framing. framing_for to_head minor status fields.now ≡ Some (framing_view (named_by_connection fields.now) framing)) (λ fault. (framing_for to_head minor status fields.now ≡ None) × (fault ≡ framing_fault (values_of (codes "transfer-encoding") fields.now))) }
 {
     if status == 204 {
         return Ok(Framing::Bodiless);

@@ -10,6 +10,7 @@ use crate::framing::Framing;
 use crate::head::{HeadRead, read_head};
 use crate::piece::ResponseHead;
 use crate::room::{ALL_FIELDS, SOME_FIELDS, make_room};
+use hpack_table::Field;
 use httparse::spans::HeaderSpan;
 use std::alloc::Global;
 
@@ -23,8 +24,8 @@ pub enum FrontRead {
     OnGoing(Vec<u8>),
     /// An interim head.
     InterimAt(ResponseHead, usize),
-    /// A final head, and how its body is framed.
-    FinalAt(ResponseHead, Framing, usize),
+    /// A final head, how its body is framed, and its fields Connection.
+    FinalAt(ResponseHead, Framing, Vec<Field>, usize),
 }
 
 /// Reads the head at the front of at most 16,384 octets, with room for some fields, and for all where these are too few.
@@ -67,7 +68,9 @@ fn read_there(
             Ok(FrontRead::OnGoing(Vec::from_slice(alloc, text)?))
         }
         Ok(HeadRead::Interim(head, used)) => Ok(FrontRead::InterimAt(head, used)),
-        Ok(HeadRead::Final(head, framing, used)) => Ok(FrontRead::FinalAt(head, framing, used)),
+        Ok(HeadRead::Final(head, framing, connections, used)) => {
+            Ok(FrontRead::FinalAt(head, framing, connections, used))
+        }
         Err(fault) => Err(fault),
     }
 }
@@ -96,8 +99,8 @@ fn read_behind(
             Ok(FrontRead::OnGoing(text))
         }
         Ok(HeadRead::Interim(head, used)) => Ok(FrontRead::InterimAt(head, used - before)),
-        Ok(HeadRead::Final(head, framing, used)) => {
-            Ok(FrontRead::FinalAt(head, framing, used - before))
+        Ok(HeadRead::Final(head, framing, connections, used)) => {
+            Ok(FrontRead::FinalAt(head, framing, connections, used - before))
         }
         Err(fault) => Err(fault),
     }

@@ -24,8 +24,8 @@ pub enum HeadRead {
     More,
     /// An interim head.
     Interim(ResponseHead, usize),
-    /// A final head, and how its body is framed.
-    Final(ResponseHead, Framing, usize),
+    /// A final head, how its body is framed, and its fields Connection.
+    Final(ResponseHead, Framing, Vec<Field>, usize),
 }
 
 /// The field of a line.
@@ -39,7 +39,7 @@ fn field_at(alloc: Global, text: &[u8], line: HeaderSpan) -> Result<Field, Alloc
 }
 
 /// The fields of lines.
-fn fields_at(alloc: Global, text: &[u8], lines: &[HeaderSpan]) -> Result<Vec<Field>, AllocError>
+pub fn fields_at(alloc: Global, text: &[u8], lines: &[HeaderSpan]) -> Result<Vec<Field>, AllocError>
     requires { All (IsHeaderWithin (length text.now)) lines.now }
     ensures { IfOk result (λ fields. fields.items ≡ map (field_from text.now) lines.now) }
 {
@@ -94,8 +94,9 @@ fn take_head(
         return Err(ResponseFault::Upgrade);
     }
     let all = fields_at(alloc, text, &spans[..found.headers])?;
+    let connections = fields::connections(alloc, &all)?;
     if found.code < 200 {
-        let passed = fields::passed_back(alloc, found.code, all)?;
+        let passed = fields::passed_back(alloc, found.code, all, &connections)?;
         let head = ResponseHead::new(found.code, passed);
         return Ok(HeadRead::Interim(head, found.len));
     }
@@ -103,7 +104,7 @@ fn take_head(
         Ok(framing) => framing,
         Err(fault) => return Err(fault),
     };
-    let passed = fields::passed_back(alloc, found.code, all)?;
+    let passed = fields::passed_back(alloc, found.code, all, &connections)?;
     let head = ResponseHead::new(found.code, passed);
-    Ok(HeadRead::Final(head, framing, found.len))
+    Ok(HeadRead::Final(head, framing, connections, found.len))
 }

@@ -15,5 +15,5 @@ mod room;
 mod trailers;
 
 pub use crate::fault::ResponseFault;
-pub use crate::piece::{Piece, ResponseHead};
+pub use crate::piece::{Piece, ResponseHead, Trailers};
 pub use crate::reader::{Ended, Reader};

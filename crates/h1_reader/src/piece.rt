@@ -1,8 +1,10 @@
 //! What a response is told in.
 
-ghost use Rattle.std.specs.Prelude.{◌≡◌, ◌++◌, ◌∷◌, [], OnOk, OnErr};
-ghost use Rattle.h1_reader.specs.HeadSizes.{CanBePassedBack};
-ghost use Rattle.h1_reader.specs.Parts.Part.{Interim, Final, Body, Done};
+ghost use Rattle.std.specs.Prelude.{◌≡◌, ◌≤◌, ◌++◌, ◌∷◌, [], OnOk, OnErr};
+ghost use Rattle.h1_reader.specs.HeadSizes.{field_octets, CanBePassedBack, CanTrail};
+ghost use Rattle.model.specs.Http2.{pseudo_fields};
+ghost use Rattle.h1_reader.specs.Parts.{ends_with};
+ghost use Rattle.h1_reader.specs.Parts.Part.{Interim, Final, Body, Trailing, Done};
 ghost use Rattle.h1_reader.specs.Views.{parts_of};
 ghost use Rattle.h1_reader.specs.GoesOn.{IsJoined};
 
@@ -64,6 +66,52 @@ impl ResponseHead {
     }
 }
 
+/// Trailers as they are passed back, of which there are some, with names in lower case. None of them is a pseudo-field, and their names and
+/// values have at most 16,384 octets.
+#[derive(Drop)]
+pub struct Trailers {
+    lines: Vec<Field>,
+}
+
+impl Model for Trailers {
+    ghost use Rattle.std.specs.Prelude.{List};
+    ghost use Rattle.model.specs.Messages.{Field};
+
+    ghost Value = { List Field };
+
+    ghost view = { λ trailers. trailers.lines.items };
+
+    ghost use Rattle.h1_reader.specs.HeadSizes.{CanTrail};
+
+    ghost invariant = { λ trailers. CanTrail trailers.lines.items };
+}
+
+impl Trailers {
+    /// These fields, of which there are some, none is a pseudo-field, and whose names and values have at most 16,384 octets.
+    pub fn new(lines: Vec<Field>) -> Self
+        requires { CanTrail lines.items }
+        ensures { result ≡ lines.items }
+    {
+        Trailers { lines }
+    }
+
+    /// The fields in their order.
+    pub fn fields(&self) -> &[Field]
+        ensures are { result.now ≡ self.now }
+        ensures passed { CanTrail self.now }
+    {
+        &self.lines
+    }
+
+    /// The fields in their order, taken out.
+    pub fn into_fields(self) -> Vec<Field>
+        ensures are { result.items ≡ self }
+        ensures passed { CanTrail self }
+    {
+        self.lines
+    }
+}
+
 /// A part of a response, in the order in which they come.
 #[derive(Drop)]
 pub enum Piece {
@@ -73,6 +121,8 @@ pub enum Piece {
     Head(ResponseHead),
     /// Octets of the body.
     Body(Vec<u8>),
+    /// Its trailers, where some are left.
+    Trailers(Trailers),
     /// The response is whole.
     Done,
 }
@@ -178,6 +228,26 @@ impl Told {
     {
         self.items.push(Piece::Done)?;
         Ok(())
+    }
+
+    /// Adds trailers.
+    fn trailers(&mut self, trailers: Trailers) -> Result<(), AllocError>
+        ensures { OnOk result (self.new ≡ self.old ++ Trailing trailers ∷ []) }
+    {
+        self.items.push(Piece::Trailers(trailers))?;
+        Ok(())
+    }
+
+    /// Adds the trailers, where there are some, and that the response is whole.
+    pub(crate) fn end(&mut self, fields: Vec<Field>) -> Result<(), AllocError>
+        requires plain { pseudo_fields fields.items ≡ [] }
+        requires short { field_octets fields.items ≤ 16384 }
+        ensures { OnOk result (self.new ≡ self.old ++ ends_with fields.items) }
+    {
+        if !fields.is_empty() {
+            self.trailers(Trailers::new(fields))?;
+        }
+        self.done()
     }
 
     /// Moves the pieces behind others.

@@ -2,6 +2,7 @@
 
 ghost use Rattle.std.specs.Prelude.{◌≡◌, ◌≢◌, ◌<◌, ◌≤◌, ◌++◌, ◌∷◌, [], ℕ, List, Err, length, take, OnOk, OnErr, IfOk, IfErr};
 ghost use Rattle.h1_reader.specs.Parts.{Part};
+ghost use Rattle.h1_reader.specs.HeadSizes.{field_octets};
 ghost use Rattle.h1_reader.specs.Views.{parts_of};
 ghost use Rattle.h1_reader.specs.ChunkLines.{IsInRange};
 ghost use Rattle.h1_reader.specs.Standing.{Stands, Hears, Breaks, IsEnd};
@@ -15,6 +16,7 @@ use crate::framing::Framing;
 use crate::front::{FrontRead, read_front};
 use crate::piece::{Piece, Told};
 use crate::trailers::{TrailersRead, read_trailers};
+use hpack_table::Field;
 use httparse::spans::HeaderSpan;
 use std::alloc::Global;
 use std::marker::Model;
@@ -64,6 +66,7 @@ pub struct Reader {
     to_head: bool,
     place: Place,
     held: Vec<u8>,
+    connections: Vec<Field>,
     spans: Vec<HeaderSpan>,
 }
 
@@ -72,18 +75,19 @@ impl Model for Reader {
 
     ghost Value = { State };
 
-    ghost view = { λ r. record { to_head = r.to_head; place = r.place; held = r.held.items } };
+    ghost view = { λ r. record { to_head = r.to_head; place = r.place; held = record { octets = r.held.items; connections = r.connections.items } } };
 
     ghost use Rattle.std.specs.Prelude.{◌≤◌, length};
+    ghost use Rattle.h1_reader.specs.HeadSizes.{field_octets};
     ghost use Rattle.h1_reader.specs.Standing.{IsKept};
 
-    ghost invariant = { λ r. (length r.held.items ≤ 16384) × IsKept r.place r.held.items };
+    ghost invariant = { λ r. (length r.held.items ≤ 16384) × (field_octets r.connections.items ≤ 16384) × IsKept r.place r.held.items };
 }
 
 impl Reader {
     /// A reader of the response to a request whose method is HEAD or isn't. It takes no memory.
     pub fn new(alloc: Global, to_head: bool) -> Self
-        ensures is { result ≡ record { to_head = to_head; place = Place.Head 0; held = [] } }
+        ensures is { result ≡ record { to_head = to_head; place = Place.Head 0; held = record { octets = []; connections = [] } } }
         ensures stands { Stands [] [] result }
     {
         Reader {
@@ -91,6 +95,7 @@ impl Reader {
             to_head,
             place: Place::Head(0),
             held: Vec::new(alloc),
+            connections: Vec::new(alloc),
             spans: Vec::new(alloc),
         }
     }
@@ -106,7 +111,8 @@ impl Reader {
         ensures unchanged { OnErr result (pieces.new.items ≡ pieces.old.items) }
         ensures broken { IfErr result (λ fault. self.new.place ≡ Place.Broken fault) }
         ensures again { (fault : ResponseFault) → self.old.place ≡ Place.Broken fault → result ≡ Err fault }
-        ensures held { length self.new.held ≤ 16384 }
+        ensures held { length self.new.held.octets ≤ 16384 }
+        ensures connections { field_octets self.new.held.connections ≤ 16384 }
     {
         if let Place::Broken(fault) = self.place {
             return Err(fault);
@@ -292,13 +298,19 @@ impl Reader {
         ensures fault { IfErr result (λ fault. fault ≢ ResponseFault.Memory → Fails self.old octets.now fault) }
     {
         let held = mem::replace(&mut self.held, Vec::new(self.alloc));
-        match read_trailers(self.alloc, held, octets, &mut self.spans) {
+        match read_trailers(
+            self.alloc,
+            &self.connections,
+            held,
+            octets,
+            &mut self.spans,
+        ) {
             Ok(TrailersRead::OnGoing(text)) => {
                 self.held = text;
                 Ok(octets.len())
             }
-            Ok(TrailersRead::WholeAt(used)) => {
-                told.done()?;
+            Ok(TrailersRead::WholeAt(trailers, used)) => {
+                told.end(trailers)?;
                 self.place = Place::Past;
                 Ok(used)
             }
@@ -332,8 +344,9 @@ impl Reader {
                 self.place = Place::Head(interims + 1);
                 Ok(used)
             }
-            Ok(FrontRead::FinalAt(head, framing, used)) => {
+            Ok(FrontRead::FinalAt(head, framing, connections, used)) => {
                 told.head(head)?;
+                self.connections = connections;
                 self.begin_body(framing, told)?;
                 Ok(used)
             }

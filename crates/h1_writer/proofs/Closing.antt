@@ -7,6 +7,7 @@ use Rattle.std.proofs.lemmas.List.{length-map, length-drop}
 use Rattle.std.proofs.Math.Seq.{drop-append_seam}
 use Rattle.std.proofs.Math.ListN.{drop_of_length-le}
 use Rattle.std.proofs.lemmas.List.{append-nil, take_all}
+use Rattle.model.specs.Messages.{Field}
 use Rattle.model.specs.Http1.{crlf}
 use Rattle.h1_writer.specs.Sending.{hex_digit, hex_size, chunk_text, last_chunk}
 
@@ -25,12 +26,12 @@ front_length head line =
     omega (arith, one, two)
 
 -- what stands before a body, the body, and what is written behind it
-pub closed : (head line body : List ℕ) → (((head ++ line) ++ crlf) ++ body) ++ codes "\r\n0\r\n\r\n" ≡ head ++ ((((line ++ crlf) ++ body) ++ crlf) ++ last_chunk)
-closed head line body =
-    ap (λ (os : List ℕ). (os ++ body) ++ (crlf ++ last_chunk)) (append_assoc head line crlf)
-    ∙ ap (λ (os : List ℕ). os ++ (crlf ++ last_chunk)) (append_assoc head (line ++ crlf) body)
-    ∙ append_assoc head ((line ++ crlf) ++ body) (crlf ++ last_chunk)
-    ∙ ap (λ (os : List ℕ). head ++ os) (sym (append_assoc ((line ++ crlf) ++ body) crlf last_chunk))
+pub closed : (head line body : List ℕ) (trailers : List Field) → (((head ++ line) ++ crlf) ++ body) ++ (crlf ++ last_chunk trailers) ≡ head ++ ((((line ++ crlf) ++ body) ++ crlf) ++ last_chunk trailers)
+closed head line body trailers =
+    ap (λ (os : List ℕ). (os ++ body) ++ (crlf ++ last_chunk trailers)) (append_assoc head line crlf)
+    ∙ ap (λ (os : List ℕ). os ++ (crlf ++ last_chunk trailers)) (append_assoc head (line ++ crlf) body)
+    ∙ append_assoc head ((line ++ crlf) ++ body) (crlf ++ last_chunk trailers)
+    ∙ ap (λ (os : List ℕ). head ++ os) (sym (append_assoc ((line ++ crlf) ++ body) crlf (last_chunk trailers)))
 
 -- what is written before a body fits in the room that was left
 pub fits_before : (head items front : List ℕ) (body : ℕ) → front ≡ (head ++ hex_size (length items - body)) ++ crlf → length items < 2 ^ 64 → length head + 18 ≤ body → length front ≤ body
@@ -40,17 +41,17 @@ fits_before head items front body is small room =
     omega (arith, few, count, room)
 
 -- a text that is laid before its body, from its beginning on
-pub laid : (items front new final : List ℕ) (head body start : ℕ) → front ≡ (take head items ++ hex_size (length items - body)) ++ crlf → length front ≤ body → body ≤ length items → start ≡ body - length front
-    → new ≡ take (body - length front) items ++ (front ++ drop body items) → final ≡ new ++ codes "\r\n0\r\n\r\n" → drop start final ≡ take head items ++ (chunk_text (drop body items) ++ last_chunk)
-laid items front new final head body start front_is fits within start_is new_is final_is =
+pub laid : (items front new final : List ℕ) (head body start : ℕ) (trailers : List Field) → front ≡ (take head items ++ hex_size (length items - body)) ++ crlf → length front ≤ body → body ≤ length items → start ≡ body - length front
+    → new ≡ take (body - length front) items ++ (front ++ drop body items) → final ≡ new ++ (crlf ++ last_chunk trailers) → drop start final ≡ take head items ++ (chunk_text (drop body items) ++ last_chunk trailers)
+laid items front new final head body start trailers front_is fits within start_is new_is final_is =
     let before : List ℕ = take (body - length front) items in
     let rest : List ℕ = drop body items in
     let count : length before ≡ start = length-take-le (body - length front) items (omega (arith, within)) ∙ sym start_is in
-    let whole : final ≡ before ++ ((front ++ rest) ++ codes "\r\n0\r\n\r\n") = final_is ∙ ap (λ (os : List ℕ). os ++ codes "\r\n0\r\n\r\n") new_is ∙ append_assoc before (front ++ rest) (codes "\r\n0\r\n\r\n") in
-    ap (λ (n : ℕ). drop n final) (sym count) ∙ ap (λ (os : List ℕ). drop (length before) os) whole ∙ drop-append_seam before ((front ++ rest) ++ codes "\r\n0\r\n\r\n")
-    ∙ ap (λ (os : List ℕ). (os ++ rest) ++ codes "\r\n0\r\n\r\n") front_is
-    ∙ closed (take head items) (hex_size (length items - body)) rest
-    ∙ ap (λ (n : ℕ). take head items ++ ((((hex_size n ++ crlf) ++ rest) ++ crlf) ++ last_chunk)) (sym (length-drop body items))
+    let whole : final ≡ before ++ ((front ++ rest) ++ (crlf ++ last_chunk trailers)) = final_is ∙ ap (λ (os : List ℕ). os ++ (crlf ++ last_chunk trailers)) new_is ∙ append_assoc before (front ++ rest) ((crlf ++ last_chunk trailers)) in
+    ap (λ (n : ℕ). drop n final) (sym count) ∙ ap (λ (os : List ℕ). drop (length before) os) whole ∙ drop-append_seam before ((front ++ rest) ++ (crlf ++ last_chunk trailers))
+    ∙ ap (λ (os : List ℕ). (os ++ rest) ++ (crlf ++ last_chunk trailers)) front_is
+    ∙ closed (take head items) (hex_size (length items - body)) rest trailers
+    ∙ ap (λ (n : ℕ). take head items ++ ((((hex_size n ++ crlf) ++ rest) ++ crlf) ++ last_chunk trailers)) (sym (length-drop body items))
 
 -- what is written over a whole list is all of it
 pub all_new : (items new : List ℕ) (count : ℕ) → length new ≡ length items → count ≡ length items → take count (new ++ drop (length new) items) ≡ new

@@ -6,6 +6,7 @@ use Rattle.std.proofs.lemmas.Bool.{and_parts, and_from}
 use Rattle.std.proofs.lemmas.List.{append-nil, take_more, take_all, length-drop}
 use Rattle.std.proofs.lemmas.List.Concat.{flat_map-append}
 use Rattle.model.specs.Octets.{is_empty}
+use Rattle.model.specs.Messages.{Field}
 use Rattle.request_rules.specs.Heads.{HeadParts}
 use Rattle.h1_writer.specs.Sending.{Stage, Sending, SentWhole, SentCounting, SentHolding, SentChunking, Continues, MayPush, piece_of, chunk_text, last_chunk, content_of, head_of}
 use Rattle.h1_writer.specs.Sending.Stage.{Whole, Counting, Holding, Chunking}
@@ -86,37 +87,55 @@ push_chunked parts ended text octets pieces some s = record {
 }
 
 -- a stage that is known stands for the value
-pub counts_on : (stage : Stage) (left : ℕ) (octets : List ℕ) → stage ≡ Counting left → length octets < left → Continues stage octets octets (Counting (left - length octets))
+pub counts_on : (stage : Stage) (left : ℕ) (octets : List ℕ) → stage ≡ Counting left → length octets < left → Continues stage octets octets [] (Counting (left - length octets))
 counts_on stage left octets e short parts ended text pieces s =
-    push_counting parts ended text octets pieces left short (subst (λ (t : Stage). Sending parts ended text pieces t) e s)
+    push_counting parts ended text octets pieces left short (subst (λ (t : Stage). Sending parts ended text pieces [] t) e s)
 
 pub holds_last : (stage : Stage) (left : ℕ) (octets : List ℕ) → stage ≡ Counting left → 0 < length octets → left ≤ length octets → MayPush stage (length octets)
-    → Continues stage (take (length octets - 1) octets) octets (Holding (get_or octets (length octets - 1) 0))
+    → Continues stage (take (length octets - 1) octets) octets [] (Holding (get_or octets (length octets - 1) 0))
 holds_last stage left octets e some long may parts ended text pieces s =
     let most : length octets ≤ left = subst (λ (t : Stage). MayPush t (length octets)) e may in
-    push_last parts ended text octets pieces left some (omega arith) (subst (λ (t : Stage). Sending parts ended text pieces t) e s)
+    push_last parts ended text octets pieces left some (omega arith) (subst (λ (t : Stage). Sending parts ended text pieces [] t) e s)
 
-pub adds_chunk : (stage : Stage) (octets : List ℕ) → stage ≡ Chunking → 0 < length octets → Continues stage (chunk_text octets) octets stage
+pub adds_chunk : (stage : Stage) (octets : List ℕ) → stage ≡ Chunking → 0 < length octets → Continues stage (chunk_text octets) octets [] stage
 adds_chunk stage octets e some parts ended text pieces s =
-    subst (λ (t : Stage). Sending parts ended (text ++ chunk_text octets) (pieces ++ piece_of octets) t) (sym e)
-    (push_chunked parts ended text octets pieces some (subst (λ (t : Stage). Sending parts ended text pieces t) e s))
+    subst (λ (t : Stage). Sending parts ended (text ++ chunk_text octets) (pieces ++ piece_of octets) [] t) (sym e)
+    (push_chunked parts ended text octets pieces some (subst (λ (t : Stage). Sending parts ended text pieces [] t) e s))
 
 -- the last chunk ends a text of chunks
-ends_chunks : (parts : HeadParts) (ended : Bool) (text : List ℕ) (pieces : List (List ℕ)) → SentChunking parts ended text pieces → SentWhole parts ended (text ++ last_chunk) pieces
-ends_chunks parts ended text pieces s = record {
+ends_chunks : (parts : HeadParts) (ended : Bool) (text : List ℕ) (pieces : List (List ℕ)) (trailers : List Field) → SentChunking parts ended text pieces → SentWhole parts ended (text ++ last_chunk trailers) pieces trailers
+ends_chunks parts ended text pieces trailers s = record {
   none_ended = λ e. absurd (let clash : true ≡ false = sym e ∙ s.not_ended in cc);
   full = s.full;
   has_length = subst (λ (o : Option ℕ). HasLength o (concat pieces)) (sym s.undeclared) tt;
-  is = ap (λ (t : List ℕ). t ++ last_chunk) s.is ∙ append_assoc (head_of parts false) (flat_map chunk_text pieces) last_chunk
-      ∙ ap (λ (b : Bool). head_of parts b ++ content_of None b pieces) (sym s.not_ended)
-      ∙ ap (λ (o : Option ℕ). head_of parts ended ++ content_of o ended pieces) (sym s.undeclared);
+  is = ap (λ (t : List ℕ). t ++ last_chunk trailers) s.is ∙ append_assoc (head_of parts false) (flat_map chunk_text pieces) (last_chunk trailers)
+      ∙ ap (λ (b : Bool). head_of parts b ++ content_of None b pieces trailers) (sym s.not_ended)
+      ∙ ap (λ (o : Option ℕ). head_of parts ended ++ content_of o ended pieces trailers) (sym s.undeclared);
 }
 
 -- a body in one chunk ends it
-pub closes : (stage : Stage) (octets : List ℕ) → stage ≡ Chunking → 0 < length octets → Continues stage (chunk_text octets ++ last_chunk) octets Whole
-closes stage octets e some parts ended text pieces s =
-    subst (λ (t : List ℕ). SentWhole parts ended t (pieces ++ piece_of octets)) (append_assoc text (chunk_text octets) last_chunk)
-    (ends_chunks parts ended (text ++ chunk_text octets) (pieces ++ piece_of octets) (push_chunked parts ended text octets pieces some (subst (λ (t : Stage). Sending parts ended text pieces t) e s)))
+pub closes : (stage : Stage) (octets : List ℕ) (trailers : List Field) → stage ≡ Chunking → 0 < length octets → Continues stage (chunk_text octets ++ last_chunk trailers) octets trailers Whole
+closes stage octets trailers e some parts ended text pieces s =
+    subst (λ (t : List ℕ). SentWhole parts ended t (pieces ++ piece_of octets) trailers) (append_assoc text (chunk_text octets) (last_chunk trailers))
+    (ends_chunks parts ended (text ++ chunk_text octets) (pieces ++ piece_of octets) trailers (push_chunked parts ended text octets pieces some (subst (λ (t : Stage). Sending parts ended text pieces [] t) e s)))
+
+-- so do chunks that were written before, with the last one
+pub ends : (stage : Stage) (trailers : List Field) → stage ≡ Chunking → Continues stage (last_chunk trailers) [] trailers Whole
+ends stage trailers e parts ended text pieces s =
+    subst (λ (ps : List (List ℕ)). SentWhole parts ended (text ++ last_chunk trailers) ps trailers) (sym (append-nil pieces))
+    (ends_chunks parts ended text pieces trailers (subst (λ (t : Stage). Sending parts ended text pieces [] t) e s))
+
+-- beside a declared length no trailers are written
+pub releases : (stage : Stage) (octet : ℕ) (trailers : List Field) → stage ≡ Holding octet → Continues stage (octet ∷ []) [] trailers Whole
+releases stage octet trailers e parts ended text pieces s =
+    let held : SentHolding parts ended text pieces octet = subst (λ (t : Stage). Sending parts ended text pieces [] t) e s in
+    subst (λ (ps : List (List ℕ)). SentWhole parts ended (text ++ octet ∷ []) ps trailers) (sym (append-nil pieces)) (record {
+      none_ended = λ e. absurd (let clash : true ≡ false = sym e ∙ held.not_ended in cc);
+      full = held.full;
+      has_length = subst (λ (o : Option ℕ). HasLength o (concat pieces)) (sym held.declared) refl;
+      is = held.is ∙ ap (λ (o : Option ℕ). head_of parts false ++ content_of o false pieces trailers) (sym held.declared)
+          ∙ ap (λ (b : Bool). head_of parts b ++ content_of parts.length b pieces trailers) (sym held.not_ended);
+    })
 
 -- some octets stand behind a place within
 pub some_left : (items : List ℕ) (place : ℕ) → place < length items → 0 < length (drop place items)

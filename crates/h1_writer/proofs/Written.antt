@@ -15,10 +15,10 @@ use Rattle.std.proofs.Math.Nat.{pow-le-pow_right}
 use Rattle.model.specs.Octets.{some_of, is_digit, is_hex_digit, is_visible, is_value, is_empty, Joined}
 use Rattle.model.specs.Messages.{Field}
 use Rattle.model.specs.Http1.{crlf, Chunk, Chunked}
-use Rattle.model.specs.Http1Text.{framing_of}
+use Rattle.model.specs.Http1Text.{lines_text, framing_of}
 use Rattle.model.specs.Http2.{promised, LengthFieldHolds, declared_length}
 use Rattle.model.proofs.Http1Runs.{run_of_some, run_weaker}
-use Rattle.model.proofs.Http1Texts.{Frames, has_line, visible_is_value}
+use Rattle.model.proofs.Http1Texts.{Frames, has_line, lines_read, visible_is_value}
 use Rattle.h1_writer.specs.Sending.{hex_digit, hex_size, chunk_text, last_chunk}
 use Rattle.h1_writer.proofs.Stages.{are_full}
 
@@ -43,7 +43,7 @@ digit_is_visible c p =
     and_from (nat_le 33 c) (nat_le c 126) (le-leb 33 c (omega arith)) (le-leb c 126 (omega arith))
 
 -- a declared length frames a body of so many octets
-pub length_frames : (n : ℕ) (ended : Bool) (body : List ℕ) → n < 2 ^ 64 → length body ≡ n → Frames (framing_of (Some n) ended) body body
+pub length_frames : (n : ℕ) (ended : Bool) (body : List ℕ) → n < 2 ^ 64 → length body ≡ n → Frames (framing_of (Some n) ended) body body []
 length_frames n ended body fits is =
     let numeral = decimal_is_IsNumeral n fits in
     let digits = digits_are (decimal n) numeral.0.1 in
@@ -53,7 +53,7 @@ length_frames n ended body fits is =
       no_host = refl;
       no_option = refl;
       not_kept = refl;
-      framed = record { are_digits = some_from is_digit (decimal n) numeral.0.0 digits; has_length = is ∙ sym numeral.1; is = refl };
+      framed = (record { are_digits = some_from is_digit (decimal n) numeral.0.0 digits; has_length = is ∙ sym numeral.1; is = refl }, refl);
     }
 
 digit_below : (c : ℕ) → is_digit c ≡ true → digit_value c < 10
@@ -141,18 +141,26 @@ chunks_read (piece ∷ pieces) p =
     let parts = and_parts (not (is_empty piece)) (are_full pieces) p in
     (chunk_text piece, flat_map chunk_text pieces, chunk_read piece (full_length piece parts.0), refl, chunks_read pieces parts.1)
 
-pub chunked_read : (pieces : List (List ℕ)) → are_full pieces ≡ true → Chunked (flat_map chunk_text pieces ++ last_chunk) (concat pieces)
-chunked_read pieces p = record {
+last_regrouped : (front last lines : List ℕ) → front ++ (last ++ crlf ++ lines ++ crlf) ≡ front ++ last ++ crlf ++ lines ++ crlf
+last_regrouped front last lines = simp append_assoc
+
+pub chunked_read : (pieces : List (List ℕ)) (trailers : List Field) → are_full pieces ≡ true → list_all has_line trailers ≡ true
+    → Chunked (flat_map chunk_text pieces ++ last_chunk trailers) (concat pieces) trailers
+chunked_read pieces trailers p lines = record {
   chunks = pieces;
   front = flat_map chunk_text pieces;
   last_size = codes "0";
-  is = sym (append_assoc (flat_map chunk_text pieces ++ codes "0") crlf crlf ∙ append_assoc (flat_map chunk_text pieces) (codes "0") (crlf ++ crlf));
+  lines = lines_text trailers;
+  is = last_regrouped (flat_map chunk_text pieces) (codes "0") (lines_text trailers);
   are_chunks = chunks_read pieces p;
   is_size = refl;
   is_last = refl;
   is_body = refl;
+  are_lines = lines_read trailers lines;
 }
 
--- chunks frame a body whose length isn't declared
-pub chunk_frames : (pieces : List (List ℕ)) → are_full pieces ≡ true → Frames (framing_of None false) (flat_map chunk_text pieces ++ last_chunk) (concat pieces)
-chunk_frames pieces p = record { lines = refl; no_host = refl; no_option = refl; not_kept = refl; framed = (refl, chunked_read pieces p) }
+-- chunks frame a body whose length isn't declared, and trailers
+pub chunk_frames : (pieces : List (List ℕ)) (trailers : List Field) → are_full pieces ≡ true → list_all has_line trailers ≡ true
+    → Frames (framing_of None false) (flat_map chunk_text pieces ++ last_chunk trailers) (concat pieces) trailers
+chunk_frames pieces trailers p lines =
+    record { lines = refl; no_host = refl; no_option = refl; not_kept = refl; framed = (refl, chunked_read pieces trailers p lines) }

@@ -4,7 +4,8 @@ use Rattle.std.specs.List.{concat, flat_map, list_all}
 use Rattle.std.specs.Int.Digits.{digits_of}
 use Rattle.model.specs.Octets.{IsFront, IsStrictFront, is_empty}
 use Rattle.model.specs.Http1.{crlf, H1Request, forward}
-use Rattle.model.specs.Http1Text.{framing_of, head_text}
+use Rattle.model.specs.Messages.{Field}
+use Rattle.model.specs.Http1Text.{lines_text, framing_of, head_text}
 use Rattle.model.specs.Http2.{HasLength}
 use Rattle.request_rules.specs.Heads.{HeadParts, request_with}
 
@@ -31,26 +32,27 @@ hex_size size = map hex_digit (digits_of 16 size)
 abbrev pub chunk_text : List ℕ → List ℕ
 chunk_text piece = hex_size (length piece) ++ crlf ++ piece ++ crlf
 
--- the last chunk, without trailers
-abbrev pub last_chunk : List ℕ
-last_chunk = codes "0" ++ crlf ++ crlf
+-- the last chunk, with these trailers (RFC 9112, section 7.1.2)
+abbrev pub last_chunk : List Field → List ℕ
+last_chunk trailers = codes "0" ++ crlf ++ lines_text trailers ++ crlf
 
 -- the text of a head that ended its stream or didn't
 abbrev pub head_of : HeadParts → Bool → List ℕ
-head_of parts ended = head_text (request_with parts []) (framing_of parts.length ended)
+head_of parts ended = head_text (request_with parts [] []) (framing_of parts.length ended)
 
--- what follows a head, for a body that came in these pieces: chunks where no length was declared
-abbrev pub content_of : Option ℕ → Bool → List (List ℕ) → List ℕ
-content_of (Some declared) ended pieces = concat pieces
-content_of None true pieces = []
-content_of None false pieces = flat_map chunk_text pieces ++ last_chunk
+-- what follows a head, for a body that came in these pieces, and trailers: chunks, with the trailers behind them, where no length was
+-- declared, and else the body alone
+abbrev pub content_of : Option ℕ → Bool → List (List ℕ) → List Field → List ℕ
+content_of (Some declared) ended pieces trailers = concat pieces
+content_of None true pieces trailers = []
+content_of None false pieces trailers = flat_map chunk_text pieces ++ last_chunk trailers
 
--- The whole text was sent, for a body of these pieces.
-pub record SentWhole (parts : HeadParts) (ended : Bool) (text : List ℕ) (pieces : List (List ℕ)) : Type 0 where
-  pub none_ended : ended ≡ true → pieces ≡ []
+-- The whole text was sent, for a body of these pieces, and these trailers.
+pub record SentWhole (parts : HeadParts) (ended : Bool) (text : List ℕ) (pieces : List (List ℕ)) (trailers : List Field) : Type 0 where
+  pub none_ended : ended ≡ true → (pieces ≡ []) × (trailers ≡ [])
   pub full : list_all (λ piece. not (is_empty piece)) pieces ≡ true
   pub has_length : HasLength parts.length (concat pieces)
-  pub is : text ≡ head_of parts ended ++ content_of parts.length ended pieces
+  pub is : text ≡ head_of parts ended ++ content_of parts.length ended pieces trailers
 
 -- The head was sent and these pieces, and so many octets of the declared body are still to come.
 pub record SentCounting (parts : HeadParts) (ended : Bool) (text : List ℕ) (pieces : List (List ℕ)) (left : ℕ) : Type 0 where
@@ -74,12 +76,13 @@ pub record SentChunking (parts : HeadParts) (ended : Bool) (text : List ℕ) (pi
   pub undeclared : parts.length ≡ None
   pub is : text ≡ head_of parts false ++ flat_map chunk_text pieces
 
--- This text was sent for a head, which ended its stream or didn't, and the pieces of its body that came.
-abbrev pub Sending : HeadParts → Bool → List ℕ → List (List ℕ) → Stage → Type 0
-Sending parts ended text pieces Whole = SentWhole parts ended text pieces
-Sending parts ended text pieces (Counting left) = SentCounting parts ended text pieces left
-Sending parts ended text pieces (Holding octet) = SentHolding parts ended text pieces octet
-Sending parts ended text pieces Chunking = SentChunking parts ended text pieces
+-- This text was sent for a head, which ended its stream or didn't, the pieces of its body that came, and its trailers. These are written
+-- with the last of the text, so that one which isn't whole has none, whatever they will be.
+abbrev pub Sending : HeadParts → Bool → List ℕ → List (List ℕ) → List Field → Stage → Type 0
+Sending parts ended text pieces trailers Whole = SentWhole parts ended text pieces trailers
+Sending parts ended text pieces trailers (Counting left) = SentCounting parts ended text pieces left
+Sending parts ended text pieces trailers (Holding octet) = SentHolding parts ended text pieces octet
+Sending parts ended text pieces trailers Chunking = SentChunking parts ended text pieces
 
 -- This text of a head is sent, and then that is waited for.
 abbrev pub Begins : Option ℕ → Bool → List ℕ → List ℕ → Stage → Type 0
@@ -107,16 +110,16 @@ abbrev pub piece_of : List ℕ → List (List ℕ)
 piece_of [] = []
 piece_of (octet ∷ octets) = (octet ∷ octets) ∷ []
 
--- Whatever was sent and pushed before a call, with what it writes and is given it is so again.
-abbrev pub Continues : Stage → List ℕ → List ℕ → Stage → Type 0
-Continues old written octets new =
+-- Whatever was sent and pushed before a call, with what it writes and is given, octets and trailers, it is so again.
+abbrev pub Continues : Stage → List ℕ → List ℕ → List Field → Stage → Type 0
+Continues old written octets trailers new =
     (parts : HeadParts) (ended : Bool) (text : List ℕ) (pieces : List (List ℕ))
-    → Sending parts ended text pieces old → Sending parts ended (text ++ written) (pieces ++ piece_of octets) new
+    → Sending parts ended text pieces [] old → Sending parts ended (text ++ written) (pieces ++ piece_of octets) trailers new
 
--- A text goes on to a whole one, which reads as the forwarded request with this body: it is a strict front of it.
-pub record GoesOnTo (parts : HeadParts) (text body : List ℕ) : Type 0 where
+-- A text goes on to a whole one, which reads as the forwarded request with this body and these trailers: it is a strict front of it.
+pub record GoesOnTo (parts : HeadParts) (text body : List ℕ) (trailers : List Field) : Type 0 where
   pub whole : List ℕ
-  pub reads : H1Request whole (forward (request_with parts body))
+  pub reads : H1Request whole (forward (request_with parts body trailers))
   pub is_front : IsStrictFront text whole
 
 -- with so many octets more, the pieces are at most as long as declared

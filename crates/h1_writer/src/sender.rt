@@ -2,12 +2,13 @@
 
 ghost use Rattle.std.specs.Prelude.{◌≡◌, ◌<◌, ◌++◌, [], ◌∷◌, ℕ, List, true, false, OnOk, OnErr, IfOk, MatchBool, length, take, drop, ◌+◌, ◌≤◌};
 ghost use Rattle.model.specs.Http2.{HasLength};
-ghost use Rattle.h1_writer.specs.Sending.{Sending, Continues, MayPush, MayFinish, chunk_text, head_of, Begins};
+ghost use Rattle.h1_writer.specs.Sending.{Sending, Continues, MayPush, MayFinish, chunk_text, last_chunk, head_of, Begins};
 ghost use Rattle.h1_writer.specs.Views.{stage_of};
 ghost use Rattle.h1_writer.specs.Sending.Stage.{Whole, Chunking};
 
 use crate::text::{Text, close_chunk};
-use crate::{lines, numbers};
+use crate::{lines, numbers, text};
+use hpack_table::Field;
 use request_rules::RequestHead;
 use std::alloc::AllocError;
 use std::marker::Model;
@@ -113,13 +114,23 @@ fn push_chunk(octets: &[u8], out: &mut Vec<u8>) -> Result<(), AllocError>
     result
 }
 
+/// Adds the last chunk with trailers (RFC 9112, section 7.1.2), and nothing of a refused one.
+fn push_last(trailers: &[Field], out: &mut Vec<u8>) -> Result<(), AllocError>
+    ensures ok { OnOk result (out.new.items ≡ out.old.items ++ last_chunk trailers.now) }
+    ensures refused { OnErr result (out.new.items ≡ out.old.items) }
+{
+    let mut text = Vec::new(*out.allocator());
+    text::push_last(trailers, &mut text)?;
+    out.extend_from_slice(&text)
+}
+
 impl Sender {
     /// Adds the head of a request, and answers what sends the rest; `ended` where the head ended its stream, so that
     /// there is no body: then, and only then, the text is whole. Of a head that declares an empty body whose stream goes
     /// on, the last octet is held back. An error is refused memory; nothing is added then.
     pub fn start(head: &RequestHead, ended: bool, out: &mut Vec<u8>) -> Result<Self, AllocError>
         requires { ended ≡ true → HasLength head.now.length [] }
-        ensures ok { IfOk result (λ sender. (written : List ℕ) × (out.new.items ≡ out.old.items ++ written) × Sending head.now ended written [] sender) }
+        ensures ok { IfOk result (λ sender. (written : List ℕ) × (out.new.items ≡ out.old.items ++ written) × Sending head.now ended written [] [] sender) }
         ensures whole { IfOk result (λ sender. ended ≡ true → sender ≡ Whole) }
         ensures goes_on { IfOk result (λ sender. ended ≡ false → sender ≡ Whole → ⊥) }
         ensures refused { OnErr result (out.new.items ≡ out.old.items) }
@@ -136,7 +147,7 @@ impl Sender {
     /// stays as it was.
     pub fn push(&mut self, octets: &[u8], out: &mut Vec<u8>) -> Result<(), AllocError>
         requires { MayPush self.old (length octets.now) }
-        ensures ok { OnOk result ((written : List ℕ) × (out.new.items ≡ out.old.items ++ written) × Continues self.old written octets.now self.new) }
+        ensures ok { OnOk result ((written : List ℕ) × (out.new.items ≡ out.old.items ++ written) × Continues self.old written octets.now [] self.new) }
         ensures goes_on { self.new ≡ Whole → ⊥ }
         ensures refused { OnErr result ((out.new.items ≡ out.old.items) × (self.new ≡ self.old)) }
     {
@@ -160,17 +171,17 @@ impl Sender {
         }
     }
 
-    /// Ends the text: with the octet that was held back, or the last chunk. An error is refused memory; nothing is added
-    /// then, and the sender stays as it was.
-    pub fn finish(&mut self, out: &mut Vec<u8>) -> Result<(), AllocError>
+    /// Ends the text: with the octet that was held back, or the last chunk and these trailers, which are written behind chunks alone. An
+    /// error is refused memory; nothing is added then, and the sender stays as it was.
+    pub fn finish(&mut self, trailers: &[Field], out: &mut Vec<u8>) -> Result<(), AllocError>
         requires { MayFinish self.old }
-        ensures ok { OnOk result ((written : List ℕ) × (out.new.items ≡ out.old.items ++ written) × Continues self.old written [] self.new) }
+        ensures ok { OnOk result ((written : List ℕ) × (out.new.items ≡ out.old.items ++ written) × Continues self.old written [] trailers.now self.new) }
         ensures whole { OnOk result (self.new ≡ Whole) }
         ensures refused { OnErr result ((out.new.items ≡ out.old.items) × (self.new ≡ self.old)) }
     {
         match self.waiting {
             Waiting::End(octet) => out.push(octet)?,
-            Waiting::Chunks => out.extend_from_slice(b"0\r\n\r\n")?,
+            Waiting::Chunks => push_last(trailers, out)?,
             Waiting::Nothing | Waiting::Octets(_) => unreachable!(),
         }
         self.waiting = Waiting::Nothing;
@@ -179,14 +190,20 @@ impl Sender {
 
     /// The whole text, where octets of no declared length wait for their end: that of the head, which has so many octets, and behind it what is
     /// written for the body at once. The body stays where it stands, from the place `body` on, with room for its chunk's line between it and the
-    /// head. An `Err` says that memory was refused.
-    pub fn close(self, octets: Vec<u8>, head: usize, body: usize) -> Result<Text, AllocError>
+    /// head. These trailers stand behind it. An `Err` says that memory was refused.
+    pub fn close(
+        self,
+        octets: Vec<u8>,
+        head: usize,
+        body: usize,
+        trailers: &[Field],
+    ) -> Result<Text, AllocError>
         requires chunked { self ≡ Chunking }
         requires room { head + 18 ≤ body }
         requires some { body < length octets.items }
-        ensures { IfOk result (λ text. (written : List ℕ) × (text ≡ take head octets.items ++ written) × Continues self written (drop body octets.items) Whole) }
+        ensures { IfOk result (λ text. (written : List ℕ) × (text ≡ take head octets.items ++ written) × Continues self written (drop body octets.items) trailers.now Whole) }
     {
-        close_chunk(octets, head, body)
+        close_chunk(octets, head, body, trailers)
     }
 
     /// Whether so many octets may be pushed.

@@ -4,7 +4,8 @@ ghost use Rattle.std.specs.Prelude.{◌≡◌, ◌+◌, ◌-◌, ◌≤◌, ◌<
 ghost use Rattle.h1_writer.specs.Sending.{chunk_text, hex_size, last_chunk};
 ghost use Rattle.model.specs.Http1.{crlf};
 
-use crate::numbers;
+use crate::{lines, numbers};
+use hpack_table::Field;
 use std::alloc::{AllocError, Global};
 use std::marker::Model;
 
@@ -73,16 +74,32 @@ fn front_of(alloc: Global, head: &[u8], size: usize) -> Result<Vec<u8>, AllocErr
     Ok(front)
 }
 
-/// The text of a head, of so many octets, and behind it of a body in one chunk, with the last chunk (RFC 9112, section 7.1). The body stays where
+/// Adds the last chunk with trailers (RFC 9112, section 7.1.2).
+pub(crate) fn push_last(trailers: &[Field], out: &mut Vec<u8>) -> Result<(), AllocError>
+    ensures { OnOk result (out.new.items ≡ out.old.items ++ last_chunk trailers.now) }
+{
+    out.extend_from_slice(b"0\r\n")?;
+    lines::push_lines(trailers, out)?;
+    out.extend_from_slice(b"\r\n")?;
+    Ok(())
+}
+
+/// The text of a head, of so many octets, and behind it of a body in one chunk, with the last chunk and these trailers (RFC 9112, section 7.1). The body stays where
 /// it stands, from the place `body` on; between it and the head lies room for its line. An `Err` says that memory was refused.
-pub(crate) fn close_chunk(mut octets: Vec<u8>, head: usize, body: usize) -> Result<Text, AllocError>
+pub(crate) fn close_chunk(
+    mut octets: Vec<u8>,
+    head: usize,
+    body: usize,
+    trailers: &[Field],
+) -> Result<Text, AllocError>
     requires room { head + 18 ≤ body }
     requires some { body < length octets.items }
-    ensures { IfOk result (λ text. text ≡ take head octets.items ++ (chunk_text (drop body octets.items) ++ last_chunk)) }
+    ensures { IfOk result (λ text. text ≡ take head octets.items ++ (chunk_text (drop body octets.items) ++ last_chunk trailers.now)) }
 {
     let front = front_of(*octets.allocator(), &octets[..head], octets.len() - body)?;
     let start = body - front.len();
     set_before(&mut octets, &front, body);
-    octets.extend_from_slice(b"\r\n0\r\n\r\n")?;
+    octets.extend_from_slice(b"\r\n")?;
+    push_last(trailers, &mut octets)?;
     Ok(Text { octets, start })
 }

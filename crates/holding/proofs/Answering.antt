@@ -18,7 +18,7 @@ use Rattle.model.specs.Offers.{is_to_head}
 use Rattle.model.specs.Lifetimes.{is_active}
 use Rattle.model.proofs.DeliveryReadings.{one_connection}
 use Rattle.model.proofs.GivenLaws.{given_is}
-use Rattle.read_answers.specs.Telling.{head_of, body_of, all_told}
+use Rattle.read_answers.specs.Telling.{head_of, body_of, trailers_of, all_told}
 use Rattle.read_answers.proofs.Reading.{told_shown}
 use Rattle.answers.specs.Waiting.{Answer, Waits}
 use Rattle.offering.specs.Outbox.{Outbox, offered_by}
@@ -39,6 +39,7 @@ use Rattle.serving.proofs.Clauses.{none_done}
 use Rattle.serving.proofs.Closing.{found_live, same_live}
 use Rattle.relay.specs.Hearing.{IsHeard}
 use Rattle.holding.specs.Held.{head_waiting, octets_of}
+use Rattle.holding.proofs.Untold.{no_trailers}
 
 -- An open connection that isn't done with.
 pub record Answering (known : Known) (t : List Entry) (k : ℕ) (live : Live) : Type 0 where
@@ -111,7 +112,7 @@ short_head (Some head) short = short
 
 module _ (known : Known) (t : List Entry) (k : ℕ) (live : Live) (answer : Answer) (whole : known.setup.passing ≡ Whole) (n : Neighbours known t) (a : Answering known t k live) (h : IsHeard known t k answer) (fits : NoneTooLong known t) where
   -- what waits is what was told
-  waits : (answer.head ≡ head_of h.parts) × (answer.body ≡ body_of h.parts)
+  waits : (answer.head ≡ head_of h.parts) × (answer.body ≡ body_of h.parts) × (answer.trailers ≡ trailers_of h.parts)
   waits = subst (λ p. Waits p h.parts answer) (h.set_up.passing ∙ whole) h.waits
 
   -- that is what is shown of the answer, as if it were passed on as it comes
@@ -147,14 +148,22 @@ module _ (known : Known) (t : List Entry) (k : ℕ) (live : Live) (answer : Answ
           let same : length (body_of h.parts) ≡ length b.octets = ap (λ (d : Delivery). length d.body) b.says in
           omega (arith, short, same)
 
-  pub answer_small : octets_of answer ≤ known.setup.max_response + 2 * longest_section
-  answer_small = let unread = h.short in let head = head_short in let body = body_short in omega (arith, unread, head, body)
+  pub answer_small : octets_of answer ≤ known.setup.max_response + 3 * longest_section
+  answer_small =
+      let unread = h.short in
+      let named = h.few_named in
+      let head = head_short in
+      let body = body_short in
+      let none = no_trailers answer h.parts waits.2 (heard k t) answer.reader h.stands h.goes_on in
+      omega (arith, unread, named, head, body, none)
 
--- Where it is passed on as it comes nothing of it waits but what is unread.
-pub answer_streamed : (known : Known) (t : List Entry) (k : ℕ) (answer : Answer) → known.setup.passing ≡ Streaming → IsHeard known t k answer → octets_of answer ≤ longest_section
+-- Where it is passed on as it comes nothing of it waits but what is unread, and the fields Connection of its head.
+pub answer_streamed : (known : Known) (t : List Entry) (k : ℕ) (answer : Answer) → known.setup.passing ≡ Streaming → IsHeard known t k answer → octets_of answer ≤ 2 * longest_section
 answer_streamed known t k answer streaming h =
     let unread = h.short in
-    let waits : (answer.head ≡ None) × (answer.body ≡ []) = subst (λ p. Waits p h.parts answer) (h.set_up.passing ∙ streaming) h.waits in
+    let named = h.few_named in
+    let waits : (answer.head ≡ None) × (answer.body ≡ []) × (answer.trailers ≡ trailers_of h.parts) = subst (λ p. Waits p h.parts answer) (h.set_up.passing ∙ streaming) h.waits in
     let head : head_waiting answer.head ≡ 0 = ap head_waiting waits.0 in
     let body : length answer.body ≡ 0 = ap length waits.1 in
-    omega (arith, unread, head, body)
+    let none = no_trailers answer h.parts waits.2 (heard k t) answer.reader h.stands h.goes_on in
+    omega (arith, unread, named, head, body, none)

@@ -147,11 +147,11 @@ module _ (known : Known) (run : List Move) (k : IsKnown known run) (rests : Rest
         boxes : All (λ (x : Kept). offers.octets_in x.box ≤ offers.most_octets known.setup) s.offers.kept
         boxes = outboxes.all_held known (offers_of known.setup run) (offers_may known.setup run k.all) (offers_right known run k.knows k.all) (offers_told known run k.answered) limited
 
-        most : offers.most_octets known.setup ≤ known.setup.max_response + 212992
+        most : offers.most_octets known.setup ≤ known.setup.max_response + 229376
         most = outboxes.most_within known.setup
 
         -- what the outbox of a stream holds
-        box_small : (stream : ℕ) (x : Kept) → offering_state.find stream s.offers.kept ≡ Some x → offers.octets_in x.box ≤ known.setup.max_response + 212992
+        box_small : (stream : ℕ) (x : Kept) → offering_state.find stream s.offers.kept ≡ Some x → offers.octets_in x.box ≤ known.setup.max_response + 229376
         box_small stream x is = let small = box_at (λ (y : Kept). offers.octets_in y.box ≤ offers.most_octets known.setup) stream s.offers.kept x boxes is in omega (arith, small, most)
 
         module _ (stream : ℕ) (c : Connection) (found : find stream_of stream live ≡ Some c) where
@@ -168,37 +168,39 @@ module _ (known : Known) (run : List Move) (k : IsKnown known run) (rests : Rest
           told_of = heard c.live.k c there a.goes_on a.no_cause
 
           -- what the answer of its connection holds
-          answer_whole : known.setup.passing ≡ Whole → octets_of c.answer ≤ known.setup.max_response + 2 * longest_section
+          answer_whole : known.setup.passing ≡ Whole → octets_of c.answer ≤ known.setup.max_response + 3 * longest_section
           answer_whole whole = answer_small known t c.live.k c.live c.answer whole place.neighbours a told_of fits
 
-          answer_going : known.setup.passing ≡ Streaming → octets_of c.answer ≤ longest_section
+          answer_going : known.setup.passing ≡ Streaming → octets_of c.answer ≤ 2 * longest_section
           answer_going streaming = answer_streamed known t c.live.k c.answer streaming told_of
 
-          answer_either : (passing : Passing) → known.setup.passing ≡ passing → octets_of c.answer ≤ known.setup.max_response + 2 * longest_section
+          answer_either : (passing : Passing) → known.setup.passing ≡ passing → octets_of c.answer ≤ known.setup.max_response + 3 * longest_section
           answer_either Whole is = answer_whole is
           answer_either Streaming is = let less = answer_going is in omega (arith, less)
 
           -- of a body that is passed on whole its outbox holds nothing yet
-          box_bare : (x : Kept) → known.setup.passing ≡ Whole → offering_state.find stream s.offers.kept ≡ Some x → offers.octets_in x.box ≤ offers.most_heads * longest_section
+          box_bare : (x : Kept) → known.setup.passing ≡ Whole → offering_state.find stream s.offers.kept ≡ Some x → offers.octets_in x.box ≤ (offers.most_heads + 1) * longest_section
           box_bare x whole box =
               let is_kept : IsKeptIf known t c.live.stream (Some x) = subst (IsKeptIf known t c.live.stream) (ap (λ n. offering_state.find n s.offers.kept) own ∙ box) (place.offering.kept c.live.stream a.active) in
               let none = none_waits known t c.live.k c.live x.box whole place.neighbours a (is_kept.stands (rests.flushed.none_cut stream x box)) in
-              let some = outboxes.heads_sum x.box (box_at (λ (y : Kept). outboxes.FewWait y.box) stream s.offers.kept x heads box) in
-              omega (arith, none, some)
+              let few = box_at (λ (y : Kept). outboxes.FewWait y.box) stream s.offers.kept x heads box in
+              let some = outboxes.heads_sum x.box few in
+              let trailers = few.trailers in
+              omega (arith, none, some, trailers)
 
           -- both together
-          both_small : (x : Kept) → offering_state.find stream s.offers.kept ≡ Some x → offers.octets_in x.box + octets_of c.answer ≤ known.setup.max_response + 229376
+          both_small : (x : Kept) → offering_state.find stream s.offers.kept ≡ Some x → offers.octets_in x.box + octets_of c.answer ≤ known.setup.max_response + 262144
           both_small x box = by known.setup.passing refl
             where
-              by : (passing : Passing) → known.setup.passing ≡ passing → offers.octets_in x.box + octets_of c.answer ≤ known.setup.max_response + 229376
+              by : (passing : Passing) → known.setup.passing ≡ passing → offers.octets_in x.box + octets_of c.answer ≤ known.setup.max_response + 262144
               by Whole is = let bare = box_bare x is box in let answer = answer_whole is in omega (arith, bare, answer)
               by Streaming is = let small = box_small stream x box in let answer = answer_going is in omega (arith, small, answer)
 
         -- what is on offer for a stream, and what its connections' answers hold
-        pub pair : (stream : ℕ) → on_offer_for stream s.offers.kept + answers_for stream live ≤ known.setup.max_response + 229376
+        pub pair : (stream : ℕ) → on_offer_for stream s.offers.kept + answers_for stream live ≤ known.setup.max_response + 262144
         pair stream = by (find stream_of stream live) refl (offering_state.find stream s.offers.kept) refl
           where
-            by : (o : Option Connection) → find stream_of stream live ≡ o → (b : Option Kept) → offering_state.find stream s.offers.kept ≡ b → on_offer_for stream s.offers.kept + answers_for stream live ≤ known.setup.max_response + 229376
+            by : (o : Option Connection) → find stream_of stream live ≡ o → (b : Option Kept) → offering_state.find stream s.offers.kept ≡ b → on_offer_for stream s.offers.kept + answers_for stream live ≤ known.setup.max_response + 262144
             by None none None empty =
                 let answer = answers_none stream live none in
                 let box = offer_none stream s.offers.kept empty in
@@ -220,12 +222,12 @@ module _ (known : Known) (run : List Move) (k : IsKnown known run) (rests : Rest
                 omega (arith, answer, box, both)
 
         -- all outboxes and all answers
-        pub all_pairs : offers.octets_held s.offers + answers_in live ≤ length s.offers.kept * (known.setup.max_response + 229376)
+        pub all_pairs : offers.octets_held s.offers + answers_in live ≤ length s.offers.kept * (known.setup.max_response + 262144)
         all_pairs =
             let first = offers_by_stream s.offers.kept in
             let second = answers_by_stream s.offers.kept live with_boxes in
             let both = sums_both (λ n. on_offer_for n s.offers.kept) (λ n. answers_for n live) s.offers.kept in
-            let total = sums_most (λ n. on_offer_for n s.offers.kept + answers_for n live) (known.setup.max_response + 229376) s.offers.kept pair in
+            let total = sums_most (λ n. on_offer_for n s.offers.kept + answers_for n live) (known.setup.max_response + 262144) s.offers.kept pair in
             omega (arith, first, second, both, total)
 
   -- ---- what is kept of requests, and beside streams, while the connection goes on
@@ -269,12 +271,12 @@ module _ (known : Known) (run : List Move) (k : IsKnown known run) (rests : Rest
         omega (arith, block, decoding, encoding)
 
     module _ (range : known.setup.max_body < 2 ^ 64) where
-      pub request_small : (stream : ℕ) → requests.held_requests stream s.requests.held ≤ known.setup.max_body + 16504
+      pub request_small : (stream : ℕ) → requests.held_requests stream s.requests.held ≤ known.setup.max_body + 32888
       request_small stream =
           let all = waiting.held_by_body known (turns_of known.setup run) (turns_may known.setup run k.all) (turns_so known run k.knows k.all k.answered) range stream in
           omega (arith, all)
 
-      pub requests_small : requests.held_of_all s.requests.held ≤ 100 * (known.setup.max_body + 16504)
+      pub requests_small : requests.held_of_all s.requests.held ≤ 100 * (known.setup.max_body + 32888)
       requests_small =
           let all = waiting.all_by_body known (turns_of known.setup run) (turns_may known.setup run k.all) (turns_so known run k.knows k.all k.answered) range in
           let same = turns_same in
@@ -358,7 +360,7 @@ module _ (setup : Setup) (run : List Move) (kept : View) (s : State) (led : Lead
         let little = beside in
         let both = all_pairs known run is_known rests kept.upstreams.live live_same heard_there fit in
         let few_there = few_boxes known run is_known rests on in
-        let most = mul-le (length rule.offers.kept) (setup.max_response + 229376) 100 (setup.max_response + 229376) (omega (arith, few_there)) (omega arith) in
+        let most = mul-le (length rule.offers.kept) (setup.max_response + 262144) 100 (setup.max_response + 262144) (omega (arith, few_there)) (omega arith) in
         let request = requests_small known run is_known rests on range in
         let offer = ap (λ (x : offering_state.State). offers.octets_held x) offers_same in
         let held = ap requests.held_of_all held_same in

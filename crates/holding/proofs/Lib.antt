@@ -4,3 +4,4 @@ pub mod Left
 pub mod Waiting
 pub mod Holding
 pub mod Rooms
+pub mod Untold

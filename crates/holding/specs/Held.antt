@@ -5,6 +5,8 @@ use Rattle.model.specs.Setup.{Setup}
 use Rattle.model.specs.Tables.{total_size}
 use Rattle.model.specs.Windows.{first_window}
 use Rattle.conduct.specs.Held.{octets_begun}
+use Rattle.h1_reader.specs.HeadSizes.{field_octets}
+use Rattle.offering.specs.Outbox.{trailers_at}
 use Rattle.offering.specs.Held as offers
 use Rattle.serving.specs.Held as requests
 use Rattle.answers.specs.Waiting.{Answer}
@@ -19,9 +21,12 @@ abbrev pub head_waiting : Option Head → ℕ
 head_waiting None = 0
 head_waiting (Some head) = offers.head_octets head
 
--- the octets of an answer: those that its reader holds unread, its head and its body that wait for its end
+-- the octets of an answer: those that its reader holds unread, the fields Connection of its head, and its head, its body and its trailers
+-- that wait for its end
 abbrev pub octets_of : Answer → ℕ
-octets_of answer = length answer.reader.held + head_waiting answer.head + length answer.body
+octets_of answer =
+    length answer.reader.held.octets + field_octets answer.reader.held.connections + head_waiting answer.head + length answer.body
+    + offers.octets_of_fields (trailers_at answer.trailers)
 
 -- those of the answers of a stream's connections
 abbrev pub answers_for : ℕ → List Connection → ℕ

@@ -2,6 +2,7 @@
 
 use crate::lines::{Line, are_fields};
 use h1_reader::{Ended, Piece, Reader, ResponseFault, ResponseHead};
+use hpack_table::Field;
 use std::alloc::{AllocError, Global};
 use std::test::*;
 
@@ -68,7 +69,7 @@ fn is_head(head: &ResponseHead, status: u16, wanted: &[Line<'_>]) -> bool {
 #[test]
 fn heads_are_made(rt: HostRuntime) -> Result<(), Fail> {
     let mut fields = Vec::new(rt.alloc());
-    fields.push(hpack_table::Field::of(rt.alloc(), b"content-length", b"0")?)?;
+    fields.push(Field::of(rt.alloc(), b"content-length", b"0")?)?;
     let head = ResponseHead::new(404, fields);
     assert!(rt; is_head(&head, 404, &[(b"content-length", b"0")]));
     Ok(())

@@ -35,7 +35,7 @@ fn finishes(sender: &mut Sender, out: &mut Vec<u8>) -> Result<bool, AllocError> 
     if !sender.may_finish() {
         return Ok(false);
     }
-    sender.finish(out)?;
+    sender.finish(&[], out)?;
     Ok(true)
 }
 

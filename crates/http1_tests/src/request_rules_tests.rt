@@ -131,7 +131,7 @@ type TrailersRow = (&'static [u8], Option<Rule>);
 fn broken_by_trailers(alloc: Global, text: &[u8]) -> Result<Option<Rule>, AllocError> {
     let mut fields = Vec::new(alloc);
     push_fields(alloc, &mut fields, text)?;
-    Ok(check_trailers(&fields).err())
+    Ok(check_trailers(alloc, &fields).err())
 }
 
 /// The first trailers that are judged in another way.

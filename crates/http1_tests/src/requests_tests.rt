@@ -5,6 +5,7 @@ ghost use Rattle.request_rules.specs.Heads.{HeadParts};
 ghost use Rattle.requests.specs.Beginning.{IsBegun};
 
 use crate::lines::push_fields;
+use hpack_table::Field;
 use request_rules::{RequestHead, check_head};
 use requests::{Begun, Waiting, begin};
 use std::alloc::{AllocError, Global};
@@ -59,7 +60,7 @@ fn a_body_is_written_in_one_piece(rt: HostRuntime) -> Result<(), Fail> {
     assert_eq!(rt; (request.route(), request.len()), (7, 0));
     request.gather(b"hel")?;
     assert_eq!(rt; request.len(), 3);
-    let text = request.finish(b"lo")?;
+    let text = request.finish(b"lo", &[])?;
     assert_eq!(rt;
         text.as_slice(),
         b"POST / HTTP/1.1\r\nhost: h\r\nvia: 2.0 h2gw\r\ntransfer-encoding: chunked\r\nconnection: close\r\n\r\n5\r\nhello\r\n0\r\n\r\n".as_slice()
@@ -89,7 +90,7 @@ fn a_body_of_several_frames_stands_behind_the_line_with_its_size(
     request.gather(&[b'a'; 255])?;
     request.gather(b"b")?;
     assert_eq!(rt; request.len(), 256);
-    let text = request.finish(b"")?;
+    let text = request.finish(b"", &[])?;
     assert_eq!(rt; text.as_slice(), wanted.as_slice());
     Ok(())
 }
@@ -99,7 +100,7 @@ fn a_body_of_empty_frames_is_the_last_chunk_alone(rt: HostRuntime) -> Result<(),
     let mut request = waiting(rt.alloc(), &rt)?;
     request.gather(b"")?;
     request.gather(b"")?;
-    let text = request.finish(b"")?;
+    let text = request.finish(b"", &[])?;
     assert!(rt;
         text.as_slice()
             .ends_with(b"connection: close\r\n\r\n0\r\n\r\n")
@@ -123,9 +124,9 @@ fn a_body_goes_out_in_chunks_as_it_comes(rt: HostRuntime) -> Result<(), Fail> {
         text.as_slice(),
         b"POST / HTTP/1.1\r\nhost: h\r\nvia: 2.0 h2gw\r\ntransfer-encoding: chunked\r\nconnection: close\r\n\r\n".as_slice()
     );
-    let first = going.pass(rt.alloc(), b"hel", false)?;
+    let first = going.pass(rt.alloc(), b"hel", false, &[])?;
     assert_eq!(rt; first.as_slice(), b"3\r\nhel\r\n".as_slice());
-    let last = going.pass(rt.alloc(), b"lo", true)?;
+    let last = going.pass(rt.alloc(), b"lo", true, &[])?;
     assert_eq!(rt; last.as_slice(), b"2\r\nlo\r\n0\r\n\r\n".as_slice());
     Ok(())
 }
@@ -139,9 +140,9 @@ fn the_last_octet_is_held_back_until_the_end(rt: HostRuntime) -> Result<(), Fail
     };
     let (text, mut going) = request.go();
     assert!(rt; text.ends_with(b"content-length: 5\r\nconnection: close\r\n\r\n"));
-    let first = going.pass(rt.alloc(), b"hello", false)?;
+    let first = going.pass(rt.alloc(), b"hello", false, &[])?;
     assert_eq!(rt; first.as_slice(), b"hell".as_slice());
-    let last = going.pass(rt.alloc(), b"", true)?;
+    let last = going.pass(rt.alloc(), b"", true, &[])?;
     assert_eq!(rt; last.as_slice(), b"o".as_slice());
     Ok(())
 }
@@ -155,7 +156,29 @@ fn a_head_that_declares_no_octets_is_whole_with_the_end(rt: HostRuntime) -> Resu
     };
     let (text, mut going) = request.go();
     assert!(rt; text.ends_with(b"content-length: 0\r\nconnection: close\r\n\r"));
-    let last = going.pass(rt.alloc(), b"", true)?;
+    let last = going.pass(rt.alloc(), b"", true, &[])?;
     assert_eq!(rt; last.as_slice(), b"\n".as_slice());
+    Ok(())
+}
+
+#[test]
+fn trailers_stand_behind_chunks_alone(rt: HostRuntime) -> Result<(), Fail> {
+    let mut trailers = Vec::new(rt.alloc());
+    trailers.push(Field::of(rt.alloc(), b"x-a", b"1")?)?;
+    trailers.push(Field::of(rt.alloc(), b"x-b", b"")?)?;
+    let mut request = waiting(rt.alloc(), &rt)?;
+    request.gather(b"hel")?;
+    let text = request.finish(b"lo", &trailers)?;
+    assert!(rt; text.as_slice().ends_with(b"\r\n\r\n5\r\nhello\r\n0\r\nx-a: 1\r\nx-b: \r\n\r\n"));
+    let head = head_of(rt.alloc(), &rt, FIVE, false)?;
+    assert_eq!(rt; head.length(), Some(5));
+    let Begun::Waits(request) = begin(rt.alloc(), &head, false, 7)? else {
+        return Err(Fail::from("whole"));
+    };
+    let (_, mut going) = request.go();
+    let first = going.pass(rt.alloc(), b"hello", false, &[])?;
+    assert_eq!(rt; first.as_slice(), b"hell".as_slice());
+    let last = going.pass(rt.alloc(), b"", true, &trailers)?;
+    assert_eq!(rt; last.as_slice(), b"o".as_slice());
     Ok(())
 }

@@ -111,5 +111,5 @@ module _ (setup : Setup) (b : Book) (frame : Frame) (fields : List Field) (of : 
   judged_by none_out rows judged.GoesOn s = absurd s.says
   judged_by none_out rows (judged.Begins head route) s = record { faultless = fault_is ∙ s.faultless; left = book_taken s.faultless rows s.left; says = (block, fields, is_block, refl, s.says) }
   judged_by none_out rows (judged.Answered cause) s = record { faultless = fault_is ∙ s.faultless; left = book_taken s.faultless rows s.left; says = (block, fields, is_block, refl, s.says) }
-  judged_by none_out rows judged.Trailers s = record { faultless = fault_is ∙ s.faultless; left = book_taken s.faultless rows s.left; says = (block, fields, is_block, refl, s.says) }
+  judged_by none_out rows (judged.Trailers trailers) s = record { faultless = fault_is ∙ s.faultless; left = book_taken s.faultless rows s.left; says = (block, fields, is_block, refl, s.says) }
   judged_by none_out rows judged.Ignored s = record { faultless = fault_is ∙ s.faultless; left = book_taken s.faultless rows s.left; says = (block, fields, is_block, refl, s.says) }

@@ -40,7 +40,7 @@ table_left next (judged.Failed told.Discarded) = refl
 table_left next judged.GoesOn = refl
 table_left next (judged.Begins head route) = refl
 table_left next (judged.Answered cause) = refl
-table_left next judged.Trailers = refl
+table_left next (judged.Trailers trailers) = refl
 table_left next judged.Ignored = refl
 
 -- a frame that completes a block ends it

@@ -3,6 +3,7 @@ use Rattle.std.specs.Prelude.{◌≡◌, ◌≤◌, ◌⊎◌, ℕ, Bool, true, 
 use Rattle.model.specs.Messages.{Field}
 use Rattle.model.specs.Messages.Item.{Block}
 use Rattle.model.specs.Frames.{headers_kind, protocol_error}
+use Rattle.model.specs.Http2.{passed_trailers}
 use Rattle.model.specs.Setup.{Setup}
 use Rattle.model.specs.Tapes.Note.{Fields}
 use Rattle.model.specs.Errors as errors
@@ -58,7 +59,8 @@ SaysOf setup brief fields ends (judged.Failed found) = ⊥
 SaysOf setup brief fields ends judged.GoesOn = ⊥
 SaysOf setup brief fields ends (judged.Begins head route) = (brief.begun ≡ false) × (brief.over ≡ false) × GoesOn setup fields ends head route
 SaysOf setup brief fields ends (judged.Answered cause) = (brief.cause ≡ None) × (cause_of_block setup (carried_in brief) (Fields fields) ≡ Some (cause_of cause))
-SaysOf setup brief fields ends judged.Trailers = (brief.begun ≡ true) × (brief.over ≡ false) × (cause_of_block setup (carried_in brief) (Fields fields) ≡ None)
+SaysOf setup brief fields ends (judged.Trailers trailers) =
+    (brief.begun ≡ true) × (brief.over ≡ false) × (cause_of_block setup (carried_in brief) (Fields fields) ≡ None) × (trailers.items ≡ passed_trailers fields)
 SaysOf setup brief fields ends judged.Ignored = (brief.over ≡ true) × (first_of_both brief.cause (cause_of_block setup (carried_in brief) (Fields fields)) ≡ brief.cause)
 
 -- A block without a fault, and what it leaves.

@@ -1,6 +1,7 @@
 //! What comes of a frame.
 
 use causes::Cause;
+use header_blocks::Field;
 use request_rules::RequestHead;
 use settings::Change;
 
@@ -47,8 +48,8 @@ pub enum BlockJudged {
     Begins { head: RequestHead, route: u32 },
     /// The gateway answers the request itself from now on.
     Answered(Cause),
-    /// Trailers end the request.
-    Trailers,
+    /// Trailers end the request, of which these are passed on.
+    Trailers(Vec<Field>),
     /// Its block was read, and nothing comes of it: nothing more of the request is looked at.
     Ignored,
 }

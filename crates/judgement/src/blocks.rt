@@ -4,6 +4,8 @@ ghost use Rattle.std.specs.Prelude.{◌≡◌, ◌≤◌, Bool, List, length, tr
 ghost use Rattle.model.specs.Messages.{Field as Line};
 ghost use Rattle.model.specs.Setup.{Setup};
 ghost use Rattle.model.specs.Errors.Fault.{Stream as StreamFault};
+ghost use Rattle.model.specs.Http2.{passed_trailers};
+ghost use Rattle.model.specs.Malformed.{are_trailers};
 ghost use Rattle.model.specs.Tables.{total_size};
 ghost use Rattle.model.specs.Causes.{largest_fields};
 ghost use Rattle.model.specs.ErrorTable.{fault_of as fault_by};
@@ -26,7 +28,7 @@ use crate::codes::{PROTOCOL_ERROR, fault_of};
 use crate::terms::Terms;
 use causes::{Cause, Opening, are_malformed_trailers, judge_head};
 use header_blocks::{Decoded, Field};
-use request_rules::RequestHead;
+use request_rules::{RequestHead, Rule, check_trailers};
 use std::alloc::{AllocError, Global};
 use stream_state::Kind;
 use streams_kept::{Course, Live, Streams};
@@ -147,8 +149,21 @@ fn pass_over(
     Ok(BlockJudged::Ignored)
 }
 
+/// Those of a request's trailers that are passed on, where they keep the rules of trailers. An `Err` says that memory was refused.
+fn passed(alloc: Global, fields: &[Field]) -> Result<Vec<Field>, AllocError>
+    requires { are_trailers fields.now ≡ true }
+    ensures { IfOk result (λ trailers. trailers.items ≡ passed_trailers fields.now) }
+{
+    match check_trailers(alloc, fields) {
+        Ok(trailers) => Ok(trailers),
+        Err(Rule::Memory) => Err(AllocError),
+        Err(_) => unreachable!(),
+    }
+}
+
 /// Takes a block behind a request's head (RFC 9113, section 8.1).
 fn take_trailers(
+    alloc: Global,
     streams: &mut Streams,
     id: u32,
     ends: bool,
@@ -171,7 +186,8 @@ fn take_trailers(
     if course.over {
         return Ok(BlockJudged::Ignored);
     }
-    Ok(BlockJudged::Trailers)
+    let trailers = passed(alloc, fields)?;
+    Ok(BlockJudged::Trailers(trailers))
 }
 
 /// Begins a request with its head, for the route at this place.
@@ -251,7 +267,7 @@ fn take_fields(
     ensures kept { AreKept streams.new }
 {
     if before.course.begun {
-        return take_trailers(streams, id, ends, before.course, fields);
+        return take_trailers(alloc, streams, id, ends, before.course, fields);
     }
     take_head(alloc, streams, id, ends, before, fields, terms)
 }

@@ -70,7 +70,7 @@ final = record {
 }
 
 abbrev pub response : Response
-response = record { interims = []; head = head; body = codes "hi" }
+response = record { interims = []; head = head; body = codes "hi"; trailers = [] }
 
 pub answered : H1Response answer false false response
 answered = record {
@@ -82,7 +82,7 @@ answered = record {
   are_interims = refl;
   few_interims = omega arith;
   is_final = final;
-  body = record { past = []; is = refl; has_count = refl };
+  body = (record { past = []; is = refl; has_count = refl }, refl);
 }
 
 -- ---- it can't be given up
@@ -118,8 +118,8 @@ not_plain (inl b) =
     let none = no_front answer_head (codes "hi") b.front b.rest b.interims (Sized 2) head final b.are_interims b.is in
     bad_head b.rest (length b.interims) (b.is ∙ ap (λ x. x ++ b.rest) none.1) b.is_bad
 not_plain (inr b) =
-    let same = one_framing b.front b.head_text (b.chunks_text ++ b.rest) b.interims b.head Chunks b.are_interims b.is_final (b.is ∙ append_assoc (b.front ++ b.head_text) b.chunks_text b.rest) in
-    let clash : Chunks ≡ Sized 2 = same.0 in cc
+    let same = one_framing b.front b.head_text (b.chunks_text ++ b.rest) b.interims b.head (Chunks b.named) b.are_interims b.is_final (b.is ∙ append_assoc (b.front ++ b.head_text) b.chunks_text b.rest) in
+    let clash : Chunks b.named ≡ Sized 2 = same.0 in cc
 
 -- ---- what the client is sent of it
 

@@ -84,7 +84,7 @@ section_reads head small plain = record { digits = in_three head.status; is = re
 -- ---- the fields
 
 -- a part of fields that have no pseudo-field has none
-kept_plain : (test : Field → Bool) (fields : List Field) → pseudo_fields fields ≡ [] → pseudo_fields (filter test fields) ≡ []
+pub kept_plain : (test : Field → Bool) (fields : List Field) → pseudo_fields fields ≡ [] → pseudo_fields (filter test fields) ≡ []
 kept_plain test [] e = refl
 kept_plain test (f ∷ fs) e = elim (cases_Bool (is_pseudo f)) [
   | inl p ↦ absurd (let g : f ∷ pseudo_fields fs ≡ [] = sym (ap (λ b. if b then f ∷ pseudo_fields fs else pseudo_fields fs) p) ∙ e in cc)
@@ -122,7 +122,7 @@ no_colon f is = first f.name is.name.0 is.name.1
     first [] some all = absurd (omega arith)
     first (c ∷ name) some all = no_colon_octet c (All-head (λ b. IsTrue (is_token_byte b)) c name all)
 
-meant_plain : (fields : List grammar.Field) → All IsField fields → pseudo_fields (map meant fields) ≡ []
+pub meant_plain : (fields : List grammar.Field) → All IsField fields → pseudo_fields (map meant fields) ≡ []
 meant_plain [] all = refl
 meant_plain (f ∷ fs) all =
     ap (λ b. if b then meant f ∷ pseudo_fields (map meant fs) else pseudo_fields (map meant fs)) (no_colon f (All-head IsField f fs all)) ∙ meant_plain fs (All-tail IsField f fs all)

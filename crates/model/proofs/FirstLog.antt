@@ -151,7 +151,7 @@ decodes = (first_table, (first_table, refl, (refl, refl), refl), block_read, ref
 -- ---- the request, on both sides
 
 abbrev pub request : Request
-request = record { method = codes "GET"; target = codes "/"; authority = codes "a"; fields = []; body = [] }
+request = record { method = codes "GET"; target = codes "/"; authority = codes "a"; fields = []; body = []; trailers = [] }
 
 pub well_formed : WellFormedHead head
 well_formed = record {
@@ -206,7 +206,7 @@ reads = record {
   authority = refl;
   options = refl;
   fields = refl;
-  body = (refl, refl);
+  body = (refl, refl, refl);
 }
 
 pub nothing_begins_none : BeginsNoRequest []

@@ -4,10 +4,10 @@ use Rattle.std.specs.Prelude.{not, ◌==◌}
 use Rattle.std.specs.List.{list_all}
 use Rattle.std.proofs.lemmas.Bool.{false≢true, and_parts, and_from, not-true, or_cases, eqb-true}
 use Rattle.std.proofs.lemmas.List.{reverse-append, reverse-reverse, length-reverse, append_cancel_right}
-use Rattle.model.specs.Octets.{is_token_octet, is_space, is_value_octet, is_value, begins_with_space, ends_with_space, lower}
+use Rattle.model.specs.Octets.{some_of, is_token_octet, is_space, is_value_octet, is_value, begins_with_space, ends_with_space, lower}
 use Rattle.model.specs.Messages.{Field}
 use Rattle.model.specs.Http1.{Line, crlf}
-use Rattle.model.proofs.Http1Runs.{run_of_some, run-append, run_weaker, one_run, IsPrefixFree}
+use Rattle.model.proofs.Http1Runs.{run_of_some, run-append, run_weaker, not_in_run, one_run, IsPrefixFree, BeginsNone}
 
 -- the parts of a value's test
 pub record ValueParts (value : List ℕ) : Type 0 where
@@ -102,3 +102,14 @@ one_line s t x y f g p q e =
     let same_names : f.name ≡ g.name = p.is_named ∙ ap lower names.0 ∙ sym q.is_named in
     let rests : x ≡ y = cc (raws.1) in
     (append_cancel_right s t x (e ∙ ap (λ (o : List ℕ). t ++ o) (sym rests)), field_same f g same_names values)
+
+no_token : (name : List ℕ) (x y : List ℕ) → some_of is_token_octet name ≡ true → 13 ∷ x ≡ name ++ y → ⊥
+no_token [] x y p e = false≢true p
+no_token (octet ∷ name) x y p e = not_in_run is_token_octet 13 octet name p refl (cc)
+
+-- a line's end begins no field line
+pub end_begins_none : (more : List ℕ) → BeginsNone Line (13 ∷ more)
+end_begins_none more front rest field line e =
+    let whole : 13 ∷ more ≡ line.name ++ (58 ∷ line.before ++ (field.value ++ (line.after ++ (crlf ++ rest)))) =
+    e ∙ ap (λ (o : List ℕ). o ++ rest) line.is ∙ simp (append_assoc, cons-append) in
+    no_token line.name more _ line.is_token whole

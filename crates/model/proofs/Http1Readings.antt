@@ -6,22 +6,11 @@ use Rattle.std.proofs.lemmas.Slice.Eq.{bytes_eq-Decides}
 use Rattle.std.specs.List.{list_all}
 use Rattle.std.proofs.lemmas.List.{append_cancel_right, append-nil}
 use Rattle.model.specs.Octets.{some_of, begins_with, is_token_octet, is_visible, Joined}
-use Rattle.model.specs.Messages.{Request}
+use Rattle.model.specs.Messages.{Field, Request}
 use Rattle.model.specs.Http1.{crlf, Line, values_of, without, framing_names, Framed, Head, is_target, H1Head, H1Request, AreRequests, H1Requests, BeginsNoRequest}
 use Rattle.model.proofs.Http1Runs.{same_rest, run_of_some, not_in_run, one_run, IsPrefixFree, BeginsNone, one_joined}
-use Rattle.model.proofs.Http1Lines.{one_line}
+use Rattle.model.proofs.Http1Lines.{one_line, end_begins_none}
 use Rattle.model.proofs.Http1Bodies.{one_framed, cons-append, nil-append}
-
-no_token : (name : List ℕ) (x y : List ℕ) → some_of is_token_octet name ≡ true → 13 ∷ x ≡ name ++ y → ⊥
-no_token [] x y p e = false≢true p
-no_token (octet ∷ name) x y p e = not_in_run is_token_octet 13 octet name p refl (cc)
-
--- a line's end begins no field line
-pub end_begins_none : (more : List ℕ) → BeginsNone Line (13 ∷ more)
-end_begins_none more front rest field line e =
-    let whole : 13 ∷ more ≡ line.name ++ (58 ∷ line.before ++ (field.value ++ (line.after ++ (crlf ++ rest)))) =
-    e ∙ ap (λ (o : List ℕ). o ++ rest) line.is ∙ simp (append_assoc, cons-append) in
-    no_token line.name more _ line.is_token whole
 
 -- a head's text, cut where its parts end
 head_regrouped : (method target lines x : List ℕ)
@@ -51,12 +40,12 @@ one_head a b x y h k p q e =
     let rests : x ≡ y = cc (behind_lines) in
     (append_cancel_right a b x (e ∙ ap (λ (o : List ℕ). b ++ o) (sym rests)), head_same h k methods.0 targets.0 lines.1)
 
-pub request_same : (r s : Request) → r.method ≡ s.method → r.target ≡ s.target → r.authority ≡ s.authority → r.fields ≡ s.fields → r.body ≡ s.body → r ≡ s
-request_same r s m t a f b = λ i. record { method = m i; target = t i; authority = a i; fields = f i; body = b i }
+pub request_same : (r s : Request) → r.method ≡ s.method → r.target ≡ s.target → r.authority ≡ s.authority → r.fields ≡ s.fields → r.body ≡ s.body → r.trailers ≡ s.trailers → r ≡ s
+request_same r s m t a f b l = λ i. record { method = m i; target = t i; authority = a i; fields = f i; body = b i; trailers = l i }
 
 -- a body's framing by a head's lines
-abbrev pub FramedBy : Head → List ℕ → List ℕ → Type 0
-FramedBy head content body = Framed (values_of (codes "content-length") head.fields) (values_of (codes "transfer-encoding") head.fields) content body
+abbrev pub FramedBy : Head → List ℕ → List ℕ → List Field → Type 0
+FramedBy head content body trailers = Framed (values_of (codes "content-length") head.fields) (values_of (codes "transfer-encoding") head.fields) content body trailers
 
 pub one_request : IsPrefixFree H1Request
 one_request a b x y r s p q e =
@@ -64,21 +53,21 @@ one_request a b x y r s p q e =
     sym (append_assoc p.head_text p.content x) ∙ ap (λ (o : List ℕ). o ++ x) (sym p.is) ∙ e ∙ ap (λ (o : List ℕ). o ++ y) q.is ∙ append_assoc q.head_text q.content y in
     let heads = one_head p.head_text q.head_text _ _ p.head q.head p.has_head q.has_head whole in
     let behind : p.content ++ x ≡ q.content ++ y = same_rest p.head_text q.head_text _ _ heads.0 whole in
-    let bodies = one_framed _ _ p.content q.content x y r.body s.body p.body (subst (λ (head : Head). FramedBy head q.content s.body) (sym heads.1) q.body) behind in
+    let bodies = one_framed _ _ p.content q.content x y r.body s.body r.trailers s.trailers p.body (subst (λ (head : Head). FramedBy head q.content s.body s.trailers) (sym heads.1) q.body) behind in
     let rests : x ≡ y = same_rest p.content q.content x y bodies.0 behind in
     let hosts : r.authority ∷ [] ≡ s.authority ∷ [] = sym p.authority ∙ ap (λ (head : Head). values_of (codes "host") head.fields) heads.1 ∙ q.authority in
     let methods : r.method ≡ s.method = p.method ∙ ap (λ (head : Head). head.method) heads.1 ∙ sym q.method in
     let targets : r.target ≡ s.target = p.target ∙ ap (λ (head : Head). head.target) heads.1 ∙ sym q.target in
     let authorities : r.authority ≡ s.authority = cc in
     let fields : r.fields ≡ s.fields = p.fields ∙ ap (λ (head : Head). without framing_names head.fields) heads.1 ∙ sym q.fields in
-    (append_cancel_right a b x (e ∙ ap (λ (o : List ℕ). b ++ o) (sym rests)), request_same r s methods targets authorities fields bodies.1)
+    (append_cancel_right a b x (e ∙ ap (λ (o : List ℕ). b ++ o) (sym rests)), request_same r s methods targets authorities fields bodies.1 bodies.2)
 
 -- a text's head is known, and its lines frame no body: no beginning of the text is a request
-pub not_framed : (text rest : List ℕ) (head : Head) → H1Head text head → ((content body : List ℕ) → FramedBy head content body → ⊥) → BeginsNoRequest (text ++ rest)
+pub not_framed : (text rest : List ℕ) (head : Head) → H1Head text head → ((content body : List ℕ) (trailers : List Field) → FramedBy head content body trailers → ⊥) → BeginsNoRequest (text ++ rest)
 not_framed text rest head p none front more request q e =
     let whole : text ++ rest ≡ q.head_text ++ (q.content ++ more) = e ∙ ap (λ (o : List ℕ). o ++ more) q.is ∙ append_assoc q.head_text q.content more in
     let heads = one_head text q.head_text _ _ head q.head p q.has_head whole in
-    none q.content request.body (subst (λ (h : Head). FramedBy h q.content request.body) (sym heads.1) q.body)
+    none q.content request.body request.trailers (subst (λ (h : Head). FramedBy h q.content request.body request.trailers) (sym heads.1) q.body)
 
 -- a text's head is known, and hasn't one host: no beginning of the text is a request
 pub not_for_one_host : (text rest : List ℕ) (head : Head) → H1Head text head → ((authority : List ℕ) → values_of (codes "host") head.fields ≡ authority ∷ [] → ⊥) → BeginsNoRequest (text ++ rest)

@@ -134,13 +134,13 @@ pub record IsSendable (request : Request) : Type 0 where
   pub authority : is_value request.authority ≡ true
   pub fields : list_all can_send request.fields ≡ true
 
--- lines that frame these octets as this body, and say nothing else
-pub record Frames (framing : List Field) (content body : List ℕ) : Type 0 where
+-- lines that frame these octets as this body and trailers, and say nothing else
+pub record Frames (framing : List Field) (content body : List ℕ) (trailers : List Field) : Type 0 where
   pub lines : list_all has_line framing ≡ true
   pub no_host : values_of (codes "host") framing ≡ []
   pub no_option : values_of (codes "connection") framing ≡ []
   pub not_kept : without framing_names framing ≡ []
-  pub framed : Framed (values_of (codes "content-length") framing) (values_of (codes "transfer-encoding") framing) content body
+  pub framed : Framed (values_of (codes "content-length") framing) (values_of (codes "transfer-encoding") framing) content body trailers
 
 abbrev close : Field
 close = record { name = codes "connection"; value = codes "close" }
@@ -194,7 +194,7 @@ head_read request framing p q = record {
 }
 
 -- A head that is written, and octets that its framing makes this body, are the request with that body.
-pub text_read : (request : Request) (framing : List Field) (content : List ℕ) → IsSendable request → Frames framing content request.body
+pub text_read : (request : Request) (framing : List Field) (content : List ℕ) → IsSendable request → Frames framing content request.body request.trailers
     → H1Request (head_text request framing ++ content) (forward request)
 text_read request framing content p q =
     let host = others_apart (codes "host") request.fields framing refl refl (none_named (codes "host") request.fields (λ field a. a.host) p.fields) in
@@ -241,8 +241,8 @@ visible_is_value text p = value_from_parts text (record {
 })
 
 -- nothing frames no octets
-pub no_framing : Frames [] [] []
-no_framing = record { lines = refl; no_host = refl; no_option = refl; not_kept = refl; framed = (refl, refl) }
+pub no_framing : Frames [] [] [] []
+no_framing = record { lines = refl; no_host = refl; no_option = refl; not_kept = refl; framed = (refl, refl, refl) }
 
 -- the text of a request that has neither fields nor a body
 abbrev pub get_text : List ℕ → List ℕ → List ℕ → List ℕ
@@ -250,7 +250,7 @@ get_text method target authority =
     method ++ codes " " ++ target ++ codes " HTTP/1.1\r\nhost: " ++ authority ++ codes "\r\nvia: 2.0 h2gw\r\nconnection: close\r\n\r\n"
 
 abbrev pub bare_request : List ℕ → List ℕ → List ℕ → Request
-bare_request method target authority = record { method = method; target = target; authority = authority; fields = []; body = [] }
+bare_request method target authority = record { method = method; target = target; authority = authority; fields = []; body = []; trailers = [] }
 
 five_parts : (m b t c a f : List ℕ) → m ++ b ++ t ++ c ++ a ++ f ≡ m ++ (b ++ (t ++ (c ++ (a ++ f))))
 five_parts m b t c a f = simp append_assoc

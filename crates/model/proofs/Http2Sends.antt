@@ -8,7 +8,7 @@ use Rattle.std.proofs.lemmas.Slice.Eq.{bytes_eq-Decides}
 use Rattle.model.specs.Octets.{begins_with, is_empty, some_of, is_visible, is_value_octet, is_value, begins_with_space}
 use Rattle.model.specs.Messages.{Field}
 use Rattle.model.specs.Http1.{values_of, without, framing_names, is_target}
-use Rattle.model.specs.Http2.{first_of, regular_fields, method_of, path_of, authority_of, is_connect, is_name_octet, connection_names, is_path_for, is_authority_octet, WellFormedHead, NamesHold, ValuesHold, HasNoConnectionField, joined_by, is_cookie, is_empty_cookie, with_one_cookie, fields_of, request_of}
+use Rattle.model.specs.Http2.{first_of, regular_fields, method_of, path_of, authority_of, is_connect, is_name_octet, connection_names, is_path_for, is_authority_octet, WellFormedHead, NamesHold, ValuesHold, HasNoConnectionField, WellFormedTrailers, is_pseudo, pseudo_fields, passed_trailers, joined_by, is_cookie, is_empty_cookie, with_one_cookie, fields_of, request_of}
 use Rattle.model.proofs.Http1Runs.{run_of_some, run-append, run_weaker}
 use Rattle.model.proofs.Http1Lines.{value_parts, value_from_parts}
 use Rattle.model.proofs.Http1Texts.{has_line, can_send, IsSendable, visible_is_value, all_weaker}
@@ -191,9 +191,9 @@ first_passes test (text ∷ texts) e p = (and_parts (test text) (list_all test t
 authority_octet_is_visible : (octet : ℕ) → is_authority_octet octet ≡ true → is_visible octet ≡ true
 authority_octet_is_visible octet p = (and_parts (is_visible octet) _ p).0
 
--- The request that a well-formed head means with any body can be written, where it isn't CONNECT's.
-pub head_sendable : (head : List Field) (body : List ℕ) → WellFormedHead head → is_connect head ≡ false → IsSendable (request_of head body)
-head_sendable head body p connect =
+-- The request that a well-formed head means with any body and trailers can be written, where it isn't CONNECT's.
+pub head_sendable : (head : List Field) (body : List ℕ) (trailers : List Field) → WellFormedHead head → is_connect head ≡ false → IsSendable (request_of head body trailers)
+head_sendable head body trailers p connect =
     let paths : length (values_of (codes ":path") head) ≡ 1 = p.pseudo_fields_hold.path ∙ ap (λ (t : Bool). if t then 0 else 1) connect in
     record {
       method = p.method_holds;
@@ -202,3 +202,21 @@ head_sendable head body p connect =
           (run_weaker is_authority_octet is_visible authority_octet_is_visible (authority_of head) (run_of_some is_authority_octet (authority_of head) p.authority_holds.octets));
       fields = fields_sent head p.names_hold p.values_hold p.no_connection_field;
     }
+
+-- ---- trailers
+
+-- fields of which none is a pseudo-field are all regular
+pub all_regular : (fields : List Field) → pseudo_fields fields ≡ [] → regular_fields fields ≡ fields
+all_regular [] e = refl
+all_regular (f ∷ fs) e = elim (cases_Bool (is_pseudo f)) [
+  | inl p ↦ absurd (let g : f ∷ pseudo_fields fs ≡ [] = sym (ap (λ b. if b then f ∷ pseudo_fields fs else pseudo_fields fs) p) ∙ e in cc)
+  | inr p ↦ (let rest : pseudo_fields fs ≡ [] = sym (ap (λ b. if b then f ∷ pseudo_fields fs else pseudo_fields fs) p) ∙ e in
+      ap (λ b. if not b then f ∷ regular_fields fs else regular_fields fs) p ∙ ap (λ (l : List Field). f ∷ l) (all_regular fs rest))
+]
+
+-- Trailers that are passed on can be written as lines.
+pub trailers_have_lines : (trailers : List Field) → WellFormedTrailers trailers → list_all has_line (passed_trailers trailers) ≡ true
+trailers_have_lines trailers w =
+    let regular = regular_fields trailers in
+    let lines : list_all has_line regular ≡ true = both_hold _ _ regular w.names_hold (kept_still _ _ trailers w.values_hold) in
+    kept_still _ has_line trailers (subst (λ (fields : List Field). list_all has_line fields ≡ true) (all_regular trailers w.no_pseudo_field) lines)

@@ -38,3 +38,4 @@ pub mod HeadLaws
 pub mod LifeLaws
 pub mod ItemLaws
 pub mod AnswerTexts
+pub mod TrailerTexts

@@ -6,9 +6,12 @@ use Rattle.std.specs.Str.Parse.{digits_value}
 use Rattle.std.proofs.lemmas.Bool.{or_cases, eqb-true, and_parts, and_from}
 use Rattle.std.proofs.lemmas.List.{append_cancel_right}
 use Rattle.model.specs.Octets.{is_hex_digit, is_space}
+use Rattle.httparse.specs.Grammar.{ReadsSection}
+use Rattle.httparse.proofs.GrammarLemmas.{section_unique, ReadsSection-append}
+use Rattle.model.specs.Messages.{Field}
 use Rattle.model.specs.Http1.{crlf}
-use Rattle.model.specs.Responses.{ChunkLine, IsExtension, is_extension_octet, Chunk, Chunked, HasBody}
-use Rattle.model.specs.ResponseHeads.{Framing}
+use Rattle.model.specs.Responses.{ChunkLine, IsExtension, is_extension_octet, Chunk, IsTrailers, Chunked, HasBody}
+use Rattle.model.specs.ResponseHeads.{Framing, trailers_passed}
 use Rattle.model.specs.ResponseHeads.Framing.{Bodiless, Chunks, Sized, UntilEnd}
 use Rattle.model.proofs.Http1Runs.{same_front, same_rest, run_of_some, run-append, run_weaker, one_run, IsPrefixFree, BeginsNone, one_joined}
 
@@ -124,19 +127,32 @@ none_at_last line more last front past octets chunk e =
     let none : 0 ≡ length octets = lines.1 in
     absurd (omega arith)
 
-last_regrouped : (front line trailers past : List ℕ) → front ++ line ++ trailers ++ past ≡ front ++ (line ++ (trailers ++ past))
-last_regrouped front line trailers past = simp append_assoc
+last_regrouped : (front line section past : List ℕ) → front ++ line ++ section ++ past ≡ front ++ (line ++ (section ++ past))
+last_regrouped front line section past = simp append_assoc
 
-pub one_response_chunked : (text body other : List ℕ) → Chunked text body → Chunked text other → body ≡ other
-one_response_chunked text body other p q =
-    let whole : p.front ++ (p.line ++ (p.trailers ++ p.past)) ≡ q.front ++ (q.line ++ (q.trailers ++ q.past)) =
-    sym (last_regrouped p.front p.line p.trailers p.past) ∙ sym p.is ∙ q.is ∙ last_regrouped q.front q.line q.trailers q.past in
+-- trailers of the grammar end in one place, and have one list of lines
+pub one_section : (a b x y : List ℕ) (p : IsTrailers a) (q : IsTrailers b) → a ++ x ≡ b ++ y → p.lines ≡ q.lines
+one_section a b x y p q e =
+    let first : ReadsSection (a ++ x) p.lines p.last x = ReadsSection-append a p.lines p.last [] x p.reads in
+    let other : ReadsSection (a ++ x) q.lines q.last y = subst (λ (t : List ℕ). ReadsSection t q.lines q.last y) (sym e) (ReadsSection-append b q.lines q.last [] y q.reads) in
+    (section_unique (a ++ x) p.lines q.lines p.last q.last x y first other).0
+
+pub one_response_chunked : (named : List (List ℕ)) (text body other : List ℕ) (trailers others : List Field)
+    → Chunked named text body trailers → Chunked named text other others → (body ≡ other) × (trailers ≡ others)
+one_response_chunked named text body other trailers others p q =
+    let whole : p.front ++ (p.line ++ (p.section ++ p.past)) ≡ q.front ++ (q.line ++ (q.section ++ q.past)) =
+    sym (last_regrouped p.front p.line p.section p.past) ∙ sym p.is ∙ q.is ∙ last_regrouped q.front q.line q.section q.past in
     let fronts = one_joined Chunk one_response_chunk p.front q.front _ _ p.chunks q.chunks p.are_chunks q.are_chunks
     (none_at_last p.line _ p.is_last) (none_at_last q.line _ q.is_last) whole in
-    p.is_body ∙ ap concat fronts.1 ∙ sym q.is_body
+    let behind = same_rest p.front q.front _ _ fronts.0 whole in
+    let lasts = one_chunk_line p.line q.line _ _ 0 0 p.is_last q.is_last behind in
+    let lines = one_section p.section q.section p.past q.past p.are_trailers q.are_trailers (same_rest p.line q.line _ _ lasts.0 behind) in
+    (p.is_body ∙ ap concat fronts.1 ∙ sym q.is_body, p.passes ∙ ap (trailers_passed named) lines ∙ sym q.passes)
 
-pub one_body : (framing : Framing) (ended : Bool) (text body other : List ℕ) → HasBody framing ended text body → HasBody framing ended text other → body ≡ other
-one_body Bodiless ended text body other p q = p ∙ sym q
-one_body Chunks ended text body other p q = one_response_chunked text body other p q
-one_body (Sized count) ended text body other p q = same_front body other p.past q.past (p.has_count ∙ sym q.has_count) (sym p.is ∙ q.is)
-one_body UntilEnd ended text body other p q = sym p.1 ∙ q.1
+pub one_body : (framing : Framing) (ended : Bool) (text body other : List ℕ) (trailers others : List Field)
+    → HasBody framing ended text body trailers → HasBody framing ended text other others → (body ≡ other) × (trailers ≡ others)
+one_body Bodiless ended text body other trailers others p q = (p.0 ∙ sym q.0, p.1 ∙ sym q.1)
+one_body (Chunks named) ended text body other trailers others p q = one_response_chunked named text body other trailers others p q
+one_body (Sized count) ended text body other trailers others p q =
+    (same_front body other p.0.past q.0.past (p.0.has_count ∙ sym q.0.has_count) (sym p.0.is ∙ q.0.is), p.1 ∙ sym q.1)
+one_body UntilEnd ended text body other trailers others p q = (sym p.1 ∙ q.1, p.2 ∙ sym q.2)

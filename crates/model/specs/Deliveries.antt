@@ -1,6 +1,6 @@
--- What a client reads of one stream (RFC 9113, section 8.1): heads and a body, by the items that the gateway's frames bring
+-- What a client reads of one stream (RFC 9113, section 8.1): heads, a body and trailers, by the items that the gateway's frames bring
 -- it, the oldest first.
-use Rattle.std.specs.Prelude.{◌≡◌, ℕ, ◌<◌, ◌≤◌, Bool, true, false, List, [], ◌∷◌, ◌++◌, length, codes, Option, Some, None}
+use Rattle.std.specs.Prelude.{◌≡◌, ◌≢◌, ℕ, ◌<◌, ◌≤◌, Bool, true, false, List, [], ◌∷◌, ◌++◌, length, codes, Option, Some, None}
 use Rattle.std.specs.List.{list_all}
 use Rattle.std.specs.Str.Parse.{digits_value}
 use Rattle.model.specs.Octets.{IsFront, is_digit}
@@ -9,17 +9,18 @@ use Rattle.model.specs.Messages.Item.{Block, Content}
 use Rattle.model.specs.Http2.{pseudo_fields}
 use Rattle.model.specs.ResponseHeads.{Head}
 
--- What has come of a response: its interim heads, its head once that is there, octets of its body, and whether it ended with
--- them.
+-- What has come of a response: its interim heads, its head once that is there, octets of its body, its trailers, and whether it ended
+-- with them.
 pub record Delivery : Type 0 where
   pub interims : List Head
   pub head : Option Head
   pub body : List ℕ
+  pub trailers : List Field
   pub whole : Bool
 
 -- nothing has come yet
 abbrev pub nothing : Delivery
-nothing = record { interims = []; head = None; body = []; whole = false }
+nothing = record { interims = []; head = None; body = []; trailers = []; whole = false }
 
 -- The field section of a response's head (section 8.3.2): the status in three digits, which is its one pseudo-field, and
 -- behind it the fields.
@@ -48,23 +49,26 @@ AreInterims [] [] = Unit {0}
 AreInterims (Block fields false ∷ items) (head ∷ heads) = IsSection fields head × (head.status < 200) × AreInterims items heads
 AreInterims _ _ = ⊥
 
--- The items are a body's octets, in parts; the stream ends with the last part, or hasn't ended.
-abbrev pub AreContents : List Item → List ℕ → Bool → Type 0
-AreContents [] body whole = (body ≡ []) × (whole ≡ false)
-AreContents (Content octets true ∷ items) body whole = (items ≡ []) × (body ≡ octets) × (whole ≡ true)
-AreContents (Content octets false ∷ items) body whole = (rest : List ℕ) × (body ≡ octets ++ rest) × AreContents items rest whole
-AreContents (Block fields ends ∷ items) body whole = ⊥
+-- The items are a body's octets, in parts; the stream ends with the last part, or behind it with a block of trailers, or hasn't ended.
+abbrev pub AreContents : List Item → List ℕ → List Field → Bool → Type 0
+AreContents [] body trailers whole = (body ≡ []) × (trailers ≡ []) × (whole ≡ false)
+AreContents (Content octets true ∷ items) body trailers whole = (items ≡ []) × (body ≡ octets) × (trailers ≡ []) × (whole ≡ true)
+AreContents (Content octets false ∷ items) body trailers whole = (rest : List ℕ) × (body ≡ octets ++ rest) × AreContents items rest trailers whole
+AreContents (Block fields true ∷ items) body trailers whole =
+    (items ≡ []) × (body ≡ []) × (trailers ≡ fields) × (fields ≢ []) × (pseudo_fields fields ≡ []) × (whole ≡ true)
+AreContents (Block fields false ∷ items) body trailers whole = ⊥
 
--- The items are a final head, and the body behind it where the head doesn't end the stream.
-abbrev pub IsAnswer : List Item → Head → List ℕ → Bool → Type 0
-IsAnswer (Block fields true ∷ items) head body whole = IsSection fields head × (200 ≤ head.status) × (items ≡ []) × (body ≡ []) × (whole ≡ true)
-IsAnswer (Block fields false ∷ items) head body whole = IsSection fields head × (200 ≤ head.status) × AreContents items body whole
-IsAnswer _ head body whole = ⊥
+-- The items are a final head, and the body and trailers behind it where the head doesn't end the stream.
+abbrev pub IsAnswer : List Item → Head → List ℕ → List Field → Bool → Type 0
+IsAnswer (Block fields true ∷ items) head body trailers whole =
+    IsSection fields head × (200 ≤ head.status) × (items ≡ []) × (body ≡ []) × (trailers ≡ []) × (whole ≡ true)
+IsAnswer (Block fields false ∷ items) head body trailers whole = IsSection fields head × (200 ≤ head.status) × AreContents items body trailers whole
+IsAnswer _ head body trailers whole = ⊥
 
 -- The items are a final head and what stands behind it, or there is none yet.
-abbrev pub IsAnsweredBy : List Item → Option Head → List ℕ → Bool → Type 0
-IsAnsweredBy items None body whole = (items ≡ []) × (body ≡ []) × (whole ≡ false)
-IsAnsweredBy items (Some head) body whole = IsAnswer items head body whole
+abbrev pub IsAnsweredBy : List Item → Option Head → List ℕ → List Field → Bool → Type 0
+IsAnsweredBy items None body trailers whole = (items ≡ []) × (body ≡ []) × (trailers ≡ []) × (whole ≡ false)
+IsAnsweredBy items (Some head) body trailers whole = IsAnswer items head body trailers whole
 
 -- A client that was brought these items has read this of a response, and nothing else.
 pub record ReadsAs (items : List Item) (delivery : Delivery) : Type 0 where
@@ -72,14 +76,14 @@ pub record ReadsAs (items : List Item) (delivery : Delivery) : Type 0 where
   pub rest : List Item
   pub is : items ≡ interim_items ++ rest
   pub interims : AreInterims interim_items delivery.interims
-  pub answer : IsAnsweredBy rest delivery.head delivery.body delivery.whole
+  pub answer : IsAnsweredBy rest delivery.head delivery.body delivery.trailers delivery.whole
 
 -- A response begins with these parts, and where they are whole they are all of it.
 pub record IsPartBehind (part all : Delivery) (head : Head) : Type 0 where
   pub interims : part.interims ≡ all.interims
   pub head_is : all.head ≡ Some head
   pub body : IsFront part.body all.body
-  pub whole : part.whole ≡ true → (all.whole ≡ true) × (part.body ≡ all.body)
+  pub whole : part.whole ≡ true → (all.whole ≡ true) × (part.body ≡ all.body) × (part.trailers ≡ all.trailers)
 
 -- no more than interim heads of a response
 pub record IsPartBefore (part all : Delivery) : Type 0 where

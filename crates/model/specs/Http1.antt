@@ -47,16 +47,18 @@ pub record Chunk (text data_octets : List ℕ) : Type 0 where
   pub has_size : length data_octets ≡ digits_value 16 size
   pub is_not_last : 0 < length data_octets
 
--- A body in chunks (RFC 9112, section 7.1): chunks, the size 0 on its line, and an empty line.
-pub record Chunked (text body : List ℕ) : Type 0 where
+-- A body in chunks (RFC 9112, section 7.1): chunks, the size 0 on its line, the lines of trailers (section 7.1.2), and an empty line.
+pub record Chunked (text body : List ℕ) (trailers : List Field) : Type 0 where
   pub chunks : List (List ℕ)
   pub front : List ℕ
   pub last_size : List ℕ
-  pub is : text ≡ front ++ last_size ++ crlf ++ crlf
+  pub lines : List ℕ
+  pub is : text ≡ front ++ last_size ++ crlf ++ lines ++ crlf
   pub are_chunks : Joined Chunk front chunks
   pub is_size : some_of is_hex_digit last_size ≡ true
   pub is_last : digits_value 16 last_size ≡ 0
   pub is_body : body ≡ concat chunks
+  pub are_lines : Lines lines trailers
 
 -- A body of so many octets as decimal digits say (RFC 9112, section 6.2).
 pub record Counted (digits text body : List ℕ) : Type 0 where
@@ -66,12 +68,12 @@ pub record Counted (digits text body : List ℕ) : Type 0 where
 
 -- What stands after the head (RFC 9112, section 6.3), by the values of the lines content-length and transfer-encoding:
 -- without either there is no body; with one line of either it says where the body ends; any other lot of lines is no
--- request's.
-abbrev pub Framed : List (List ℕ) → List (List ℕ) → List ℕ → List ℕ → Type 0
-Framed [] [] text body = (text ≡ []) × (body ≡ [])
-Framed (digits ∷ []) [] text body = Counted digits text body
-Framed [] (coding ∷ []) text body = (lower coding ≡ codes "chunked") × Chunked text body
-Framed _ _ text body = ⊥
+-- request's. Trailers stand behind chunks alone.
+abbrev pub Framed : List (List ℕ) → List (List ℕ) → List ℕ → List ℕ → List Field → Type 0
+Framed [] [] text body trailers = (text ≡ []) × (body ≡ []) × (trailers ≡ [])
+Framed (digits ∷ []) [] text body trailers = Counted digits text body × (trailers ≡ [])
+Framed [] (coding ∷ []) text body trailers = (lower coding ≡ codes "chunked") × Chunked text body trailers
+Framed _ _ text body trailers = ⊥
 
 -- What the head of a request says: its request line, and all fields of its lines.
 pub record Head : Type 0 where
@@ -114,7 +116,7 @@ pub record H1Request (text : List ℕ) (request : Request) : Type 0 where
   pub authority : values_of (codes "host") head.fields ≡ request.authority ∷ []
   pub options : list_all is_close (values_of (codes "connection") head.fields) ≡ true
   pub fields : request.fields ≡ without framing_names head.fields
-  pub body : Framed (values_of (codes "content-length") head.fields) (values_of (codes "transfer-encoding") head.fields) content request.body
+  pub body : Framed (values_of (codes "content-length") head.fields) (values_of (codes "transfer-encoding") head.fields) content request.body request.trailers
 
 -- No beginning of these octets is a request.
 abbrev pub BeginsNoRequest : List ℕ → Type 0

@@ -147,6 +147,25 @@ pub record WellFormedTrailers (trailers : List Field) : Type 0 where
   pub values_hold : ValuesHold trailers
   pub no_connection_field : HasNoConnectionField trailers
 
+-- ---- the trailers that are sent on
+
+-- The names of fields that no trailers pass on (RFC 9110, section 6.5.1): those that say how a message is sent or framed, that are acted
+-- on before its body is read, or that say who asks.
+abbrev pub names_not_in_trailers : List (List ℕ)
+names_not_in_trailers =
+    codes "host" ∷ codes "content-length" ∷ codes "te" ∷ codes "trailer" ∷ codes "expect" ∷ codes "cookie" ∷ codes "set-cookie"
+    ∷ codes "authorization" ∷ []
+
+-- the trailers that may be passed on
+abbrev pub passed_trailers : List Field → List Field
+passed_trailers trailers = without names_not_in_trailers trailers
+
+-- the trailers of a request, by the length that its head declares: beside one none are sent, since they stand behind chunks alone (RFC
+-- 9112, section 7.1.2)
+abbrev pub trailers_beside : Option ℕ → List Field → List Field
+trailers_beside None trailers = trailers
+trailers_beside (Some declared) trailers = []
+
 -- ---- the fields that are sent on
 
 -- texts with a separator between each two
@@ -175,14 +194,15 @@ abbrev pub fields_of : List Field → List Field
 fields_of head =
     with_one_cookie (filter (λ field. not (is_empty_cookie field)) (without (codes "host" ∷ codes "te" ∷ codes "content-length" ∷ []) (regular_fields head)))
 
--- the request of a head and a body
-abbrev pub request_of : List Field → List ℕ → Request
-request_of head body = record {
+-- the request of a head, a body and trailers
+abbrev pub request_of : List Field → List ℕ → List Field → Request
+request_of head body trailers = record {
   method = method_of head;
   target = path_of head;
   authority = authority_of head;
   fields = fields_of head;
   body = body;
+  trailers = trailers_beside (declared_length head) (passed_trailers trailers);
 }
 
 -- ---- streams
@@ -197,6 +217,17 @@ abbrev pub body_of : List Item → List ℕ
 body_of [] = []
 body_of (Content octets ends ∷ items) = octets ++ body_of items
 body_of (Block fields ends ∷ items) = body_of items
+
+-- the fields of the first block among these items
+abbrev pub first_block : List Item → List Field
+first_block [] = []
+first_block (Content octets ends ∷ items) = first_block items
+first_block (Block fields ends ∷ items) = fields
+
+-- the trailers of a stream: the fields of the block behind its head, if there is one
+abbrev pub trailers_of : List Item → List Field
+trailers_of [] = []
+trailers_of (head ∷ items) = first_block items
 
 -- The last item ends the stream, and no earlier one does.
 abbrev pub EndsWithLast : List Item → Type 0
@@ -220,7 +251,7 @@ HasLength None body = Unit {0}
 HasLength (Some declared) body = length body ≡ declared
 
 -- The items of a stream are a request (section 8.1): a head, contents, perhaps trailers, and the stream's end. CONNECT is
--- no request here. Trailers aren't part of what is meant.
+-- no request here.
 pub record H2Request (items : List Item) (request : Request) : Type 0 where
   pub head : List Field
   pub has_head : HasHead items head
@@ -229,13 +260,15 @@ pub record H2Request (items : List Item) (request : Request) : Type 0 where
   pub contents : HasContents items
   pub ends : EndsWithLast items
   pub length_holds : HasLength (declared_length head) (body_of items)
-  pub is : request ≡ request_of head (body_of items)
+  pub is : request ≡ request_of head (body_of items) (trailers_of items)
 
--- The request is one that these items may still become, or are: it has their head, a body that begins with their octets, and the
--- declared length. Whether they ended isn't asked.
+-- The request is one that these items may still become, or are: it has their head, a body that begins with their octets, the
+-- declared length, and any trailers that may end a request. Whether they ended isn't asked.
 pub record MayBecome (items : List Item) (request : Request) : Type 0 where
   pub head : List Field
   pub has_head : HasHead items head
   pub begun : IsFront (body_of items) request.body
   pub length_holds : HasLength (declared_length head) request.body
-  pub is : request ≡ request_of head request.body
+  pub trailers : List Field
+  pub well_formed : WellFormedTrailers trailers
+  pub is : request ≡ request_of head request.body trailers

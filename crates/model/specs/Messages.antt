@@ -7,13 +7,14 @@ pub record Field : Type 0 where
   pub value : List ℕ
 
 -- A request: the target is the path with its query; the fields are those of the message beside the ones that the other
--- parts of the meaning hold.
+-- parts of the meaning hold; trailers are the fields that stand behind its body.
 pub record Request : Type 0 where
   pub method : List ℕ
   pub target : List ℕ
   pub authority : List ℕ
   pub fields : List Field
   pub body : List ℕ
+  pub trailers : List Field
 
 -- What a stream of HTTP/2 carries, in its order (RFC 9113, section 8.1): the fields of a header block, or octets of the
 -- body without padding, each with whether it ends the stream.

@@ -38,7 +38,7 @@ pub record IsNextBody (read offered : Delivery) : Type 0 where
   pub more : List ℕ
   pub is : offered.body ≡ read.body ++ octet ∷ more
 
--- The next part is the end alone.
+-- The next part is the end: trailers, or the end alone.
 pub record IsNextEnd (read offered : Delivery) : Type 0 where
   pub behind : IsBehindHead read offered
   pub same_body : offered.body ≡ read.body

@@ -8,7 +8,7 @@ use Rattle.httparse.specs.Grammar.{ReadsResponse, status_code, field_value, trim
 use Rattle.model.specs.Octets.{some_of, is_digit, is_value_octet, lower}
 use Rattle.model.specs.Messages.{Field}
 use Rattle.model.specs.Http1.{values_of, without}
-use Rattle.model.specs.Http2.{connection_names}
+use Rattle.model.specs.Http2.{connection_names, names_not_in_trailers}
 
 -- A head as it is passed back: its status, and its fields with names in lower case.
 pub record Head : Type 0 where
@@ -84,6 +84,12 @@ names_of_connection = codes "te" ∷ connection_names
 abbrev pub passed : List Field → List Field → List Field
 passed all fields = without (names_of_connection ++ named_by_connection all) fields
 
+-- The trailers that are passed back, where the Connection of the head named these: none of the names that no trailers pass on, none of
+-- the connection, and none that the trailers' own Connection names.
+abbrev pub trailers_passed : List (List ℕ) → List grammar.Field → List Field
+trailers_passed named lines =
+    let fields = map meant lines in without (names_not_in_trailers ++ names_of_connection ++ named ++ named_by_connection fields) fields
+
 -- what a head says, as it is passed back
 abbrev pub head_of : grammar.ResponseHead → Head
 head_of spelled =
@@ -94,8 +100,8 @@ head_of spelled =
 pub data Framing : Type 0 where
   -- there is none
   Bodiless : Framing
-  -- with the last of its chunks
-  Chunks : Framing
+  -- with the last of its chunks, and trailers, of which those aren't passed back that the head's Connection named
+  Chunks : (named : List (List ℕ)) → Framing
   -- behind so many octets
   Sized : (count : ℕ) → Framing
   -- where the server ends the connection
@@ -105,14 +111,14 @@ pub data Framing : Type 0 where
 abbrev pub is_length : List ℕ → Bool
 is_length text = some_of is_digit text && nat_le (length text) 18
 
--- What the lines content-length and transfer-encoding say, by the minor version (RFC 9112, sections 6.1 to 6.3): neither,
--- and the body goes on until the end; one coding, which is chunked, and not in HTTP/1.0; or lengths that are all the same.
--- Any other lot of lines says nothing, and the head is refused.
-abbrev pub framed_by : ℕ → List (List ℕ) → List (List ℕ) → Option Framing
-framed_by minor [] [] = Some UntilEnd
-framed_by minor [] (coding ∷ []) = if minor == 1 && bytes_eq (lower coding) (codes "chunked") then Some Chunks else None
-framed_by minor (digits ∷ others) [] = if is_length digits && list_all (bytes_eq digits) others then Some (Sized (digits_value 10 digits)) else None
-framed_by minor _ _ = None
+-- What the lines content-length and transfer-encoding say, where Connection named these, by the minor version (RFC 9112, sections 6.1
+-- to 6.3): neither, and the body goes on until the end; one coding, which is chunked, and not in HTTP/1.0; or lengths that are
+-- all the same. Any other lot of lines says nothing, and the head is refused.
+abbrev pub framed_by : List (List ℕ) → ℕ → List (List ℕ) → List (List ℕ) → Option Framing
+framed_by named minor [] [] = Some UntilEnd
+framed_by named minor [] (coding ∷ []) = if minor == 1 && bytes_eq (lower coding) (codes "chunked") then Some (Chunks named) else None
+framed_by named minor (digits ∷ others) [] = if is_length digits && list_all (bytes_eq digits) others then Some (Sized (digits_value 10 digits)) else None
+framed_by named minor _ _ = None
 
 -- a body that may not be there has no end to be found
 abbrev pub unless_bodiless : Bool → Option Framing → Option Framing
@@ -125,7 +131,7 @@ abbrev pub framing_for : Bool → ℕ → ℕ → List Field → Option Framing
 framing_for to_head minor status fields =
     if status == 204
     then Some Bodiless
-    else (unless_bodiless (to_head || status == 304) (framed_by minor (values_of (codes "content-length") fields) (values_of (codes "transfer-encoding") fields)))
+    else (unless_bodiless (to_head || status == 304) (framed_by (named_by_connection fields) minor (values_of (codes "content-length") fields) (values_of (codes "transfer-encoding") fields)))
 
 -- how the body of a final head is framed
 abbrev pub framing_of : Bool → grammar.ResponseHead → Option Framing

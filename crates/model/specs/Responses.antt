@@ -5,15 +5,17 @@ use Rattle.std.specs.Str.Parse.{digits_value}
 use Rattle.httparse.specs.Grammar as grammar
 use Rattle.httparse.specs.Grammar.{LineEnd, ReadsResponse, HasNoResponse, NeverHasResponse, ReadsSection, HasNoSection, NeverHasSection, MayBecomeSection}
 use Rattle.model.specs.Octets.{IsFront, IsStrictFront, some_of, is_hex_digit, is_space, Joined}
+use Rattle.model.specs.Messages.{Field}
 use Rattle.model.specs.Http1.{crlf}
-use Rattle.model.specs.ResponseHeads.{Head, Framing, longest_section, most_fields, values_hold, Interim, Final}
+use Rattle.model.specs.ResponseHeads.{Head, Framing, longest_section, most_fields, values_hold, trailers_passed, Interim, Final}
 use Rattle.model.specs.ResponseHeads.Framing.{Bodiless, Chunks, Sized, UntilEnd}
 
--- A response: the interim heads before it, its own head, and the octets of its body.
+-- A response: the interim heads before it, its own head, the octets of its body, and the trailers that are passed back.
 pub record Response : Type 0 where
   pub interims : List Head
   pub head : Head
   pub body : List ℕ
+  pub trailers : List Field
 
 -- the most interim heads of a response (this project's profile)
 abbrev pub most_interims : ℕ
@@ -51,7 +53,7 @@ pub record Chunk (text octets : List ℕ) : Type 0 where
   pub has_line : ChunkLine line (length octets)
   pub is_not_last : 0 < length octets
 
--- The text is a trailer section that is taken; what it says is dropped (RFC 9112, section 7.1.2).
+-- The text is a trailer section that is taken (RFC 9112, section 7.1.2).
 pub record IsTrailers (text : List ℕ) : Type 0 where
   pub lines : List grammar.Field
   pub last : LineEnd
@@ -60,18 +62,19 @@ pub record IsTrailers (text : List ℕ) : Type 0 where
   pub has_few : length lines ≤ most_fields
   pub values : values_hold lines ≡ true
 
--- The text begins with a body in chunks: chunks, the line of the last one, trailers.
-pub record Chunked (text body : List ℕ) : Type 0 where
+-- The text begins with a body in chunks: chunks, the line of the last one, a section of trailers. Those are passed back that may be.
+pub record Chunked (named : List (List ℕ)) (text body : List ℕ) (trailers : List Field) : Type 0 where
   pub chunks : List (List ℕ)
   pub front : List ℕ
   pub line : List ℕ
-  pub trailers : List ℕ
+  pub section : List ℕ
   pub past : List ℕ
-  pub is : text ≡ front ++ line ++ trailers ++ past
+  pub is : text ≡ front ++ line ++ section ++ past
   pub are_chunks : Joined Chunk front chunks
   pub is_last : ChunkLine line 0
-  pub are_trailers : IsTrailers trailers
+  pub are_trailers : IsTrailers section
   pub is_body : body ≡ concat chunks
+  pub passes : trailers ≡ trailers_passed named are_trailers.lines
 
 -- ---- whole responses
 
@@ -81,13 +84,13 @@ pub record BeginsWith (count : ℕ) (text octets : List ℕ) : Type 0 where
   pub is : text ≡ octets ++ past
   pub has_count : length octets ≡ count
 
--- The text behind a head begins with the whole text of a body (RFC 9112, section 6.3). What stands past its end doesn't
+-- The text behind a head begins with the whole text of a body, and of trailers behind chunks (RFC 9112, section 6.3). What stands past its end doesn't
 -- count; whether the server ended the connection counts where nothing else says where the body ends.
-abbrev pub HasBody : Framing → Bool → List ℕ → List ℕ → Type 0
-HasBody Bodiless ended text body = body ≡ []
-HasBody Chunks ended text body = Chunked text body
-HasBody (Sized count) ended text body = BeginsWith count text body
-HasBody UntilEnd ended text body = (ended ≡ true) × (text ≡ body)
+abbrev pub HasBody : Framing → Bool → List ℕ → List ℕ → List Field → Type 0
+HasBody Bodiless ended text body trailers = (body ≡ []) × (trailers ≡ [])
+HasBody (Chunks named) ended text body trailers = Chunked named text body trailers
+HasBody (Sized count) ended text body trailers = BeginsWith count text body × (trailers ≡ [])
+HasBody UntilEnd ended text body trailers = (ended ≡ true) × (text ≡ body) × (trailers ≡ [])
 
 -- All that a server sent, and then ended the connection or didn't, is this whole response to a request, whose method is
 -- HEAD or isn't (RFC 9112, sections 2.1 and 6.3).
@@ -100,7 +103,7 @@ pub record H1Response (text : List ℕ) (ended to_head : Bool) (response : Respo
   pub are_interims : Joined Interim front response.interims
   pub few_interims : length response.interims ≤ most_interims
   pub is_final : Final to_head head_text response.head framing
-  pub body : HasBody framing ended rest response.body
+  pub body : HasBody framing ended rest response.body response.trailers
 
 -- There is a whole response.
 abbrev pub IsComplete : List ℕ → Bool → Bool → Type 0
@@ -165,7 +168,7 @@ pub record InChunks (text octets : List ℕ) : Type 0 where
 -- These octets of a body stand in the text behind its head.
 abbrev pub StandsIn : Framing → List ℕ → List ℕ → Type 0
 StandsIn Bodiless text octets = octets ≡ []
-StandsIn Chunks text octets = InChunks text octets
+StandsIn (Chunks named) text octets = InChunks text octets
 StandsIn (Sized count) text octets = octets ≡ take count text
 StandsIn UntilEnd text octets = octets ≡ text
 
@@ -261,10 +264,11 @@ pub record PlainlyBehind (text : List ℕ) (to_head : Bool) : Type 0 where
   pub chunks : List (List ℕ)
   pub chunks_text : List ℕ
   pub rest : List ℕ
+  pub named : List (List ℕ)
   pub is : text ≡ front ++ head_text ++ chunks_text ++ rest
   pub are_interims : Joined Interim front interims
   pub few_interims : length interims ≤ most_interims
-  pub is_final : Final to_head head_text head Chunks
+  pub is_final : Final to_head head_text head (Chunks named)
   pub are_chunks : Joined Chunk chunks_text chunks
   pub is_bad : IsBadChunk rest
 

@@ -44,7 +44,7 @@ line_x = line_of (codes "X-A") (codes " ") (codes "1 2") [] refl refl refl refl
 line_empty : Line (codes "x:  \r\n") (record { name = codes "x"; value = [] })
 line_empty = line_of (codes "x") (codes " ") [] (codes " ") refl refl refl refl
 
-plain_request : H1Request (codes "GET / HTTP/1.1\r\nHOST: a\r\n\r\n") (record { method = codes "GET"; target = codes "/"; authority = codes "a"; fields = []; body = [] })
+plain_request : H1Request (codes "GET / HTTP/1.1\r\nHOST: a\r\n\r\n") (record { method = codes "GET"; target = codes "/"; authority = codes "a"; fields = []; body = []; trailers = [] })
 plain_request = record {
   head = record { method = codes "GET"; target = codes "/"; fields = host_a ∷ [] };
   head_text = codes "GET / HTTP/1.1\r\nHOST: a\r\n\r\n";
@@ -62,11 +62,11 @@ plain_request = record {
   authority = refl;
   options = refl;
   fields = refl;
-  body = (refl, refl);
+  body = (refl, refl, refl);
 }
 
 -- the host line stands last, with white space round its value
-other_order : H1Request (codes "GET / HTTP/1.1\r\nX-A: 1 2\r\nhost:\t  a \t\r\n\r\n") (record { method = codes "GET"; target = codes "/"; authority = codes "a"; fields = field_x ∷ []; body = [] })
+other_order : H1Request (codes "GET / HTTP/1.1\r\nX-A: 1 2\r\nhost:\t  a \t\r\n\r\n") (record { method = codes "GET"; target = codes "/"; authority = codes "a"; fields = field_x ∷ []; body = []; trailers = [] })
 other_order = record {
   head = record { method = codes "GET"; target = codes "/"; fields = field_x ∷ host_a ∷ [] };
   head_text = codes "GET / HTTP/1.1\r\nX-A: 1 2\r\nhost:\t  a \t\r\n\r\n";
@@ -84,15 +84,16 @@ other_order = record {
   authority = refl;
   options = refl;
   fields = refl;
-  body = (refl, refl);
+  body = (refl, refl, refl);
 }
 
 -- a size in upper case with zeros before it, and a last size of three zeros
-chunks_read : Chunked (codes "00A\r\n0123456789\r\n1\r\n!\r\n000\r\n\r\n") (codes "0123456789!")
+chunks_read : Chunked (codes "00A\r\n0123456789\r\n1\r\n!\r\n000\r\n\r\n") (codes "0123456789!") []
 chunks_read = record {
   chunks = codes "0123456789" ∷ codes "!" ∷ [];
   front = codes "00A\r\n0123456789\r\n1\r\n!\r\n";
   last_size = codes "000";
+  lines = [];
   is = refl;
   are_chunks = (
     codes "00A\r\n0123456789\r\n",
@@ -110,6 +111,7 @@ chunks_read = record {
   is_size = refl;
   is_last = refl;
   is_body = refl;
+  are_lines = refl;
 }
 
 chunked_line : Line (codes "Transfer-Encoding: Chunked\r\n") chunked_field
@@ -119,7 +121,7 @@ length_line : Line (codes "content-length: 02\r\n") length_field
 length_line = line_of (codes "content-length") (codes " ") (codes "02") [] refl refl refl refl
 
 chunked_request : H1Request (codes "PUT /x HTTP/1.1\r\nHost:a\r\nTransfer-Encoding: Chunked\r\n\r\n00A\r\n0123456789\r\n1\r\n!\r\n000\r\n\r\n")
-    (record { method = codes "PUT"; target = codes "/x"; authority = codes "a"; fields = []; body = codes "0123456789!" })
+    (record { method = codes "PUT"; target = codes "/x"; authority = codes "a"; fields = []; body = codes "0123456789!"; trailers = [] })
 chunked_request = record {
   head = record { method = codes "PUT"; target = codes "/x"; fields = host_a ∷ chunked_field ∷ [] };
   head_text = codes "PUT /x HTTP/1.1\r\nHost:a\r\nTransfer-Encoding: Chunked\r\n\r\n";
@@ -163,7 +165,7 @@ abbrev pub both_lines : List ℕ
 both_lines = codes "PUT /x HTTP/1.1\r\nHost:a\r\nTransfer-Encoding: Chunked\r\ncontent-length: 02\r\n\r\n"
 
 pub both_framings : (rest : List ℕ) → BeginsNoRequest (both_lines ++ rest)
-both_framings rest = not_framed _ rest _ both_head (λ content body framed. framed)
+both_framings rest = not_framed _ rest _ both_head (λ content body trailers framed. framed)
 
 -- two lengths, though they say one number
 lengths_head : H1Head (codes "PUT /x HTTP/1.1\r\nHost:a\r\ncontent-length: 02\r\ncontent-length: 02\r\n\r\n")
@@ -183,7 +185,7 @@ lengths_head = record {
 }
 
 two_lengths : (rest : List ℕ) → BeginsNoRequest (codes "PUT /x HTTP/1.1\r\nHost:a\r\ncontent-length: 02\r\ncontent-length: 02\r\n\r\n" ++ rest)
-two_lengths rest = not_framed _ rest _ lengths_head (λ content body framed. framed)
+two_lengths rest = not_framed _ rest _ lengths_head (λ content body trailers framed. framed)
 
 -- two host lines, though they are one
 hosts_head : H1Head (codes "GET / HTTP/1.1\r\nHost:a\r\nHOST: a\r\n\r\n") (record { method = codes "GET"; target = codes "/"; fields = host_a ∷ host_a ∷ [] })

@@ -57,7 +57,7 @@ long_head_holds = record {
 
 -- two contents, of which one is empty, and trailers
 long_request : H2Request (Block long_head false ∷ Content (codes "h") false ∷ Content [] false ∷ Content (codes "i") false ∷ Block (field (codes "x") (codes "1") ∷ []) true ∷ [])
-    (record { method = codes "GET"; target = codes "/"; authority = codes "h"; fields = field (codes "cookie") (codes "a=1; b=2") ∷ field (codes "x") [] ∷ []; body = codes "hi" })
+    (record { method = codes "GET"; target = codes "/"; authority = codes "h"; fields = field (codes "cookie") (codes "a=1; b=2") ∷ field (codes "x") [] ∷ []; body = codes "hi"; trailers = [] })
 long_request = record {
   head = long_head;
   has_head = refl;

@@ -16,5 +16,6 @@ mod ResponseRefusals
 mod RowTapes
 mod SendingRefusals
 mod ServingRefusals
+mod TrailerExamples
 mod TurnRefusals
 mod WindowExamples

@@ -141,18 +141,18 @@ has_five_head = record {
 }
 
 -- the request may still get five letters a
-may_get : MayBecome (Block five false ∷ []) (request_of five (codes "aaaaa"))
-may_get = record { head = five; has_head = refl; begun = record { rest = codes "aaaaa"; is = refl }; length_holds = refl; is = refl }
+may_get : MayBecome (Block five false ∷ []) (request_of five (codes "aaaaa") [])
+may_get = record { head = five; has_head = refl; begun = record { rest = codes "aaaaa"; is = refl }; length_holds = refl; trailers = []; well_formed = record { no_pseudo_field = refl; names_hold = refl; values_hold = refl; no_connection_field = refl }; is = refl }
 
 -- Its head is sent, and behind it an octet, though no DATA came.
 pub invents : IsSentInPart (five_text ++ codes "z") (Block five false ∷ []) → ⊥
 invents part =
-    let on = part.goes_on (request_of five (codes "aaaaa")) may_get in
+    let on = part.goes_on (request_of five (codes "aaaaa") []) may_get in
     let r = on.1 in
     let more : List ℕ = on.2.next ∷ on.2.rest in
     let whole : five_text ++ (codes "z" ++ more) ≡ r.head_text ++ r.content = sym on.2.is ∙ r.is in
     let same = one_head five_text r.head_text (codes "z" ++ more) r.content five_head r.head has_five_head r.has_head whole in
     let rest : codes "z" ++ more ≡ r.content = append_cancel_left r.head_text (codes "z" ++ more) r.content (ap (λ x. x ++ (codes "z" ++ more)) (sym same.0) ∙ whole) in
-    let framed : Framed (values_of (codes "content-length") five_head.fields) (values_of (codes "transfer-encoding") five_head.fields) r.content (codes "aaaaa") = subst (λ (h : Head). Framed (values_of (codes "content-length") h.fields) (values_of (codes "transfer-encoding") h.fields) r.content (codes "aaaaa")) (sym same.1) r.body in
-    let clash : 122 ≡ 97 = ap (λ (x : List ℕ). slice_index x 0) (rest ∙ framed.is) in
+    let framed : Framed (values_of (codes "content-length") five_head.fields) (values_of (codes "transfer-encoding") five_head.fields) r.content (codes "aaaaa") [] = subst (λ (h : Head). Framed (values_of (codes "content-length") h.fields) (values_of (codes "transfer-encoding") h.fields) r.content (codes "aaaaa") []) (sym same.1) r.body in
+    let clash : 122 ≡ 97 = ap (λ (x : List ℕ). slice_index x 0) (rest ∙ framed.0.is) in
     omega (arith, clash)

@@ -6,6 +6,7 @@ use Rattle.std.proofs.lemmas.List.{append-nil, length-take}
 use Rattle.std.proofs.lemmas.Bool.{cases_lt}
 use Rattle.std.proofs.Math.Seq.{take-append_seam}
 use Rattle.model.specs.Octets.{IsStrictFront, Joined}
+use Rattle.model.specs.Messages.{Field}
 use Rattle.model.specs.Http1.{crlf}
 use Rattle.model.specs.ResponseHeads.{Head, Framing, Interim}
 use Rattle.model.specs.ResponseHeads.Framing.{Bodiless, Chunks, Sized, UntilEnd}
@@ -43,7 +44,7 @@ in_chunks_within text octets c =
 
 stands_within : (framing : Framing) (text octets : List ℕ) → StandsIn framing text octets → length octets ≤ length text
 stands_within Bodiless text octets s = let none : length octets ≡ 0 = ap length s in omega (arith, none)
-stands_within Chunks text octets s = in_chunks_within text octets s
+stands_within (Chunks named) text octets s = in_chunks_within text octets s
 stands_within (Sized count) text octets s = let size : length octets ≡ min count (length text) = ap length s ∙ length-take count text in omega (arith, size)
 stands_within UntilEnd text octets s = let same : length octets ≡ length text = ap length s in omega (arith, same)
 
@@ -257,7 +258,7 @@ chunks_grow (chunk ∷ chunks) front behind next piece octets joined at now =
 
 stands_grow : (framing : Framing) (text piece before now : List ℕ) → StandsIn framing text before → StandsIn framing (text ++ piece) now → length now ≤ length before + length piece
 stands_grow Bodiless text piece before now p q = let none : length now ≡ 0 = ap length q in omega (arith, none)
-stands_grow Chunks text piece before now p q =
+stands_grow (Chunks named) text piece before now p q =
     let come = chunks_grow p.chunks p.front p.behind p.next piece now p.are_chunks p.behind_them (subst (λ x. InChunks x now) (ap (λ x. x ++ piece) p.is ∙ append_assoc p.front p.behind piece) q) in
     let all : length before ≡ length (concat p.chunks) + length p.next = ap length p.has_octets ∙ length-append (concat p.chunks) p.next in
     omega (arith, come, all)
@@ -299,20 +300,20 @@ seen_grows text piece to_head hs ks (Some h) (Some k) before now p q =
 
 -- ---- a whole response is seen
 
-body_stands : (framing : Framing) (ended : Bool) (text body : List ℕ) → HasBody framing ended text body → StandsIn framing text body
-body_stands Bodiless ended text body h = h
-body_stands Chunks ended text body h = record {
+body_stands : (framing : Framing) (ended : Bool) (text body : List ℕ) (trailers : List Field) → HasBody framing ended text body trailers → StandsIn framing text body
+body_stands Bodiless ended text body trailers h = h.0
+body_stands (Chunks named) ended text body trailers h = record {
   chunks = h.chunks;
   front = h.front;
-  behind = h.line ++ h.trailers ++ h.past;
+  behind = h.line ++ h.section ++ h.past;
   next = [];
-  is = h.is ∙ append_assoc (h.front ++ h.line) h.trailers h.past ∙ append_assoc h.front h.line (h.trailers ++ h.past) ∙ ap (λ x. h.front ++ x) (sym (append_assoc h.line h.trailers h.past));
+  is = h.is ∙ append_assoc (h.front ++ h.line) h.section h.past ∙ append_assoc h.front h.line (h.section ++ h.past) ∙ ap (λ x. h.front ++ x) (sym (append_assoc h.line h.section h.past));
   are_chunks = h.are_chunks;
-  behind_them = inl (refl, inr (inr (record { line = h.line; trailers = h.trailers; past = h.past; is = refl; is_last = h.is_last; are_trailers = h.are_trailers })));
+  behind_them = inl (refl, inr (inr (record { line = h.line; trailers = h.section; past = h.past; is = refl; is_last = h.is_last; are_trailers = h.are_trailers })));
   has_octets = h.is_body ∙ sym (append-nil (concat h.chunks));
 }
-body_stands (Sized count) ended text body h = sym (take-append_seam body h.past) ∙ ap (λ n. take n (body ++ h.past)) h.has_count ∙ ap (take count) (sym h.is)
-body_stands UntilEnd ended text body h = sym h.1
+body_stands (Sized count) ended text body trailers h = sym (take-append_seam body h.0.past) ∙ ap (λ n. take n (body ++ h.0.past)) h.0.has_count ∙ ap (take count) (sym h.0.is)
+body_stands UntilEnd ended text body trailers h = sym h.1
 
 -- What a whole response says is seen in its text.
 pub whole_seen : (text : List ℕ) (ended to_head : Bool) (response : Response) → H1Response text ended to_head response → Seen text to_head response.interims (Some response.head) response.body
@@ -325,5 +326,5 @@ whole_seen text ended to_head response w = record {
   are_interims = w.are_interims;
   few_interims = w.few_interims;
   is_final = w.is_final;
-  body = body_stands w.framing ended w.rest response.body w.body;
+  body = body_stands w.framing ended w.rest response.body response.trailers w.body;
 }

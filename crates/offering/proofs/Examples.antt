@@ -20,9 +20,9 @@ use Rattle.model.specs.Available.{items_on, IsIn}
 use Rattle.model.specs.Known.{Known}
 use Rattle.model.specs.Causes.{reply_head}
 use Rattle.model.specs.Causes.Cause.{NoRoute}
-use Rattle.offering.specs.Outbox.{silent, replied, left}
+use Rattle.offering.specs.Outbox.{silent, replied, left, part_of, can_go}
 use Rattle.offering.specs.Outbox.Outbox.{Before, Behind}
-use Rattle.offering.specs.Outbox.Part.{Early, Final, Octets}
+use Rattle.offering.specs.Outbox.Part.{Early, Final, Octets, Trailing}
 use Rattle.offering.specs.State.{Kept, State, Windows, Change, Move, find, can_turn, ready, entry_of, state_of}
 use Rattle.offering.specs.State.Move.{Takes, Goes, Sends}
 use Rattle.conduct.specs.Summary.{summary_of}
@@ -38,8 +38,8 @@ use Rattle.offering.proofs.Flushing.{clauses_hold}
 abbrev pub four : State
 four = record {
   kept = record { id = 1; box = replied NoRoute; cut = false }
-      ∷ record { id = 3; box = Behind (7 ∷ []) false; cut = false }
-      ∷ record { id = 5; box = Behind (7 ∷ 8 ∷ []) true; cut = false }
+      ∷ record { id = 3; box = Behind (7 ∷ []) None; cut = false }
+      ∷ record { id = 5; box = Behind (7 ∷ 8 ∷ []) (Some []); cut = false }
       ∷ record { id = 7; box = silent; cut = false }
       ∷ [];
   last = 1;
@@ -212,15 +212,26 @@ four_held = refl
 abbrev pub head : ℕ → Head
 head status = record { status = status; fields = field (codes "ab") (codes "c") ∷ [] }
 
--- Interim heads, the final one, and what is there of the body: all of them are held, and less once a part of them went.
-all_parts : octets_in (Before (head 100 ∷ head 103 ∷ []) (Some (head 200)) (7 ∷ 8 ∷ []) true) ≡ 3 + 3 + 3 + 2
+-- Interim heads, the final one, what is there of the body, and trailers: all of them are held, and less once a part of them went.
+all_parts : octets_in (Before (head 100 ∷ head 103 ∷ []) (Some (head 200)) (7 ∷ 8 ∷ []) (Some (field (codes "x") (codes "1") ∷ []))) ≡ 3 + 3 + 3 + 2 + 2
 all_parts = refl
 
-head_gone : octets_in (left (Before (head 100 ∷ head 103 ∷ []) (Some (head 200)) (7 ∷ 8 ∷ []) true) (Early (head 100))) ≡ 3 + 3 + 2
+head_gone : octets_in (left (Before (head 100 ∷ head 103 ∷ []) (Some (head 200)) (7 ∷ 8 ∷ []) (Some [])) (Early (head 100))) ≡ 3 + 3 + 2
 head_gone = refl
 
-octets_gone : octets_in (left (Behind (7 ∷ 8 ∷ 9 ∷ []) false) (Octets (7 ∷ 8 ∷ []) false)) ≡ 1
+octets_gone : octets_in (left (Behind (7 ∷ 8 ∷ 9 ∷ []) None) (Octets (7 ∷ 8 ∷ []) false)) ≡ 1
 octets_gone = refl
+
+-- behind the last octets trailers go, in a block that ends the stream: no octets that go before them do
+trailers_last : part_of 9 (Behind (7 ∷ []) (Some (field (codes "x") (codes "1") ∷ []))) ≡ Some (Octets (7 ∷ []) false)
+trailers_last = refl
+
+trailers_go : part_of 9 (left (Behind (7 ∷ []) (Some (field (codes "x") (codes "1") ∷ []))) (Octets (7 ∷ []) false)) ≡ Some (Trailing (field (codes "x") (codes "1") ∷ []))
+trailers_go = refl
+
+-- they need no window
+trailers_need_none : can_go false (Behind [] (Some (field (codes "x") (codes "1") ∷ []))) ≡ true
+trailers_need_none = refl
 
 -- DATA of two octets with one of padding, which is announced in one more: all four make room
 abbrev pub padded : Noted

@@ -7,17 +7,18 @@ use Rattle.std.proofs.lemmas.List.{length-reverse, length-map}
 use Rattle.std.proofs.lemmas.List.Sums.{sum_by-cons}
 use Rattle.std.proofs.lemmas.List.Elements.{All-cons, All-nil}
 use Rattle.httparse.specs.Grammar as grammar
-use Rattle.httparse.specs.Grammar.{skip_ows, trim_ows, is_ows, print_field, print_end, print_response}
+use Rattle.httparse.specs.Grammar.{skip_ows, trim_ows, is_ows, print_field, print_end, print_section, print_response}
 use Rattle.model.specs.Messages.{Field}
 use Rattle.model.specs.Http1.{without}
 use Rattle.model.specs.Octets.{Joined}
-use Rattle.model.specs.ResponseHeads.{Head, Framing, Interim, Final, meant, without_framing, with_one, never_has_body, head_of, IsTaken, longest_section}
-use Rattle.model.specs.Responses.{Seen, most_interims}
+use Rattle.model.specs.ResponseHeads.{Head, Framing, Interim, Final, meant, without_framing, with_one, never_has_body, head_of, trailers_passed, IsTaken, longest_section}
+use Rattle.model.specs.ResponseHeads.Framing.{Bodiless, Chunks, Sized, UntilEnd}
+use Rattle.model.specs.Responses.{IsTrailers, HasBody, Seen, most_interims}
 use Rattle.model.specs.Setup.{Passing}
 use Rattle.model.specs.Setup.Passing.{Whole, Streaming}
 use Rattle.model.specs.Deliveries.{Delivery}
 use Rattle.model.specs.Available.{shown, IsShown}
-use Rattle.offering.specs.Held.{head_octets}
+use Rattle.offering.specs.Held.{head_octets, octets_of_fields}
 
 -- the octets of all names and values
 abbrev pub field_octets : List Field → ℕ
@@ -125,6 +126,32 @@ interims_short : (text : List ℕ) (heads : List Head) → Joined Interim text h
 interims_short text [] joined = All-nil IsShort
 interims_short text (head ∷ heads) joined = All-cons IsShort head heads (interim_short joined.0 head joined.2) (interims_short joined.1 heads joined.4)
 
+-- ---- trailers
+
+-- those that are passed back have no more octets than their section
+section_size : (named : List (List ℕ)) (text : List ℕ) (are : IsTrailers text) → octets_of_fields (trailers_passed named are.lines) ≤ length text
+section_size named text are =
+    let fields = map meant are.lines in
+    let kept : field_octets (trailers_passed named are.lines) ≤ field_octets fields = filtered_size _ fields in
+    let lines : field_octets fields ≤ length (flat_map print_field are.lines) = lines_size are.lines in
+    let whole : length text ≡ length (print_section are.lines are.last) + 0 = ap length are.reads.1 ∙ length-append (print_section are.lines are.last) [] in
+    let parts : length (print_section are.lines are.last) ≡ length (flat_map print_field are.lines) + length (print_end are.last) = length-append (flat_map print_field are.lines) (print_end are.last) in
+    omega (arith, kept, lines, whole, parts)
+
+none_short : (trailers : List Field) → trailers ≡ [] → octets_of_fields trailers ≤ longest_section
+none_short [] e = omega arith
+none_short (field ∷ fields) e = cc
+
+trailers_short : (framing : Framing) (ended : Bool) (rest body : List ℕ) (trailers : List Field) → HasBody framing ended rest body trailers → octets_of_fields trailers ≤ longest_section
+trailers_short Bodiless ended rest body trailers w = none_short trailers w.1
+trailers_short (Chunks named) ended rest body trailers w =
+    let size = section_size named w.section w.are_trailers in
+    let short = w.are_trailers.is_short in
+    let same = ap octets_of_fields w.passes in
+    omega (arith, size, short, same)
+trailers_short (Sized count) ended rest body trailers w = none_short trailers w.1
+trailers_short UntilEnd ended rest body trailers w = none_short trailers w.2
+
 -- ---- what is shown of a response
 
 -- the head is short if it is there
@@ -132,21 +159,22 @@ abbrev pub IsShortIf : Option Head → Type 0
 IsShortIf None = Unit {0}
 IsShortIf (Some head) = IsShort head
 
--- Few interim heads, each short, and a short final head.
+-- Few interim heads, each short, a short final head, and short trailers.
 pub record HasFewHeads (delivery : Delivery) : Type 0 where
   pub few : length delivery.interims ≤ most_interims
   pub short : All IsShort delivery.interims
   pub final : IsShortIf delivery.head
+  pub trailers : octets_of_fields delivery.trailers ≤ longest_section
 
 seen_few : (passing : Passing) (text : List ℕ) (to_head : Bool) (interims : List Head) (head : Option Head) (octets : List ℕ) → Seen text to_head interims head octets → HasFewHeads (shown passing interims head octets)
-seen_few Whole text to_head interims None octets s = record { few = s.0.few_interims; short = interims_short s.0.front interims s.0.are_interims; final = tt }
-seen_few Whole text to_head interims (Some head) octets s = record { few = s.few_interims; short = interims_short s.front interims s.are_interims; final = tt }
-seen_few Streaming text to_head interims None octets s = record { few = s.0.few_interims; short = interims_short s.0.front interims s.0.are_interims; final = tt }
-seen_few Streaming text to_head interims (Some head) octets s = record { few = s.few_interims; short = interims_short s.front interims s.are_interims; final = final_short to_head s.head_text head s.framing s.is_final }
+seen_few Whole text to_head interims None octets s = record { few = s.0.few_interims; short = interims_short s.0.front interims s.0.are_interims; final = tt; trailers = omega arith }
+seen_few Whole text to_head interims (Some head) octets s = record { few = s.few_interims; short = interims_short s.front interims s.are_interims; final = tt; trailers = omega arith }
+seen_few Streaming text to_head interims None octets s = record { few = s.0.few_interims; short = interims_short s.0.front interims s.0.are_interims; final = tt; trailers = omega arith }
+seen_few Streaming text to_head interims (Some head) octets s = record { few = s.few_interims; short = interims_short s.front interims s.are_interims; final = final_short to_head s.head_text head s.framing s.is_final; trailers = omega arith }
 
 -- What is shown of an upstream's answer has few heads, and each is short.
 pub shown_few : (passing : Passing) (text : List ℕ) (ended to_head : Bool) (delivery : Delivery) → IsShown passing text ended to_head delivery → HasFewHeads delivery
 shown_few passing text ended to_head delivery (inl a) =
     let w = a.is_whole in
-    subst HasFewHeads (sym a.says) (record { few = w.few_interims; short = interims_short w.front a.response.interims w.are_interims; final = final_short to_head w.head_text a.response.head w.framing w.is_final })
+    subst HasFewHeads (sym a.says) (record { few = w.few_interims; short = interims_short w.front a.response.interims w.are_interims; final = final_short to_head w.head_text a.response.head w.framing w.is_final; trailers = trailers_short w.framing ended w.rest a.response.body a.response.trailers w.body })
 shown_few passing text ended to_head delivery (inr b) = subst HasFewHeads (sym b.says) (seen_few passing text to_head b.interims b.head b.octets b.seen)

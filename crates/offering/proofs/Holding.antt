@@ -30,15 +30,15 @@ use Rattle.model.specs.Failures.{AreJudged}
 use Rattle.model.specs.Lifetimes.{active}
 use Rattle.model.proofs.DeliveryReadings.{one_connection}
 use Rattle.model.proofs.GivenLaws.{given_is}
-use Rattle.offering.specs.Outbox.{Outbox, silent, replied, offered_by, Fits, Part, left, rest_of, News, grown}
+use Rattle.offering.specs.Outbox.{End, trailers_at, Outbox, silent, replied, offered_by, Fits, Part, left, rest_of, News, grown}
 use Rattle.offering.specs.Outbox.Outbox.{Before, Behind, Over}
-use Rattle.offering.specs.Outbox.Part.{Early, Final, Octets}
+use Rattle.offering.specs.Outbox.Part.{Early, Final, Octets, Trailing}
 use Rattle.offering.specs.State.{Kept, State, Move, find, change, without, unless_over, told, gone, answered_box, answered, answered_if, blank, with_new, kept_after, entry_of, state_of}
 use Rattle.offering.specs.State.Move.{Takes, Breaks, Notes, Hears, Fails, Goes, Sends, Acts}
 use Rattle.offering.specs.Policy.{Neighbours, MayHear, Holds}
 use Rattle.offering.specs.Sight.{Sight}
 use Rattle.offering.specs.Rule.{MayCome, Seen as Step, moves_of, tape_of, sight_of, AllMayCome, AreRight, AreTold}
-use Rattle.offering.specs.Held.{head_octets, heads_waiting, body_waiting, octets_in, octets_held, most_heads, most_streamed, most_of_body, most_octets, FitRooms, AreUnpadded, AreLimited}
+use Rattle.offering.specs.Held.{octets_of_fields, trailers_waiting, head_octets, heads_waiting, body_waiting, octets_in, octets_held, most_heads, most_streamed, most_of_body, most_octets, FitRooms, AreUnpadded, AreLimited}
 use Rattle.offering.proofs.Parts.{none_behind, news_join, fits_grown}
 use Rattle.offering.proofs.Standing.{Stands}
 use Rattle.offering.proofs.Entries.{cause_stays, none_unless_fails, items_stay}
@@ -175,50 +175,55 @@ module _ (known : Known) (t : List Entry) (s : State) (before behind : Sight) (n
 
 -- ---- heads
 
--- Few heads wait, and each is short.
+-- Few heads wait, and each is short, and so are trailers.
 pub record FewWait (box : Outbox) : Type 0 where
   pub few : length (heads_waiting box) ≤ most_heads
   pub short : All IsShort (heads_waiting box)
+  pub trailers : octets_of_fields (trailers_waiting box) ≤ longest_section
 
 short_behind : (xs ys : List Head) → All IsShort (xs ++ ys) → All IsShort ys
 short_behind [] ys all = all
 short_behind (x ∷ xs) ys all = short_behind xs ys (All-tail IsShort x (xs ++ ys) all)
 
 no_heads : FewWait Over
-no_heads = record { few = omega arith; short = All-nil IsShort }
+no_heads = record { few = omega arith; short = All-nil IsShort; trailers = omega arith }
 
 -- those that are offered, without those that were read
 few_offered : (read : Delivery) (box : Outbox) → HasFewHeads (offered_by read box) → FewWait box
 few_offered read (Before interims None body whole) h =
     let count : length (read.interims ++ interims) ≡ length read.interims + length interims = length-append read.interims interims in
     let few = h.few in
-    record { few = omega (arith, count, few); short = short_behind read.interims interims h.short }
+    record { few = omega (arith, count, few); short = short_behind read.interims interims h.short; trailers = h.trailers }
 few_offered read (Before interims (Some final) body whole) h =
     let count : length (read.interims ++ interims) ≡ length read.interims + length interims = length-append read.interims interims in
     let one : length (interims ++ final ∷ []) ≡ length interims + 1 = length-append interims (final ∷ []) in
     let few = h.few in
-    record { few = omega (arith, count, few, one); short = All-push IsShort interims final (short_behind read.interims interims h.short) h.final }
-few_offered read (Behind body whole) h = record { few = omega arith; short = All-nil IsShort }
+    record { few = omega (arith, count, few, one); short = All-push IsShort interims final (short_behind read.interims interims h.short) h.final; trailers = h.trailers }
+few_offered read (Behind body whole) h = record { few = omega arith; short = All-nil IsShort; trailers = h.trailers }
 few_offered read Over h = no_heads
 
 few_replied : (cause : Cause) → FewWait (replied cause)
-few_replied cause = record { few = omega arith; short = All-cons IsShort _ [] (omega arith) (All-nil IsShort) }
+few_replied cause = record { few = omega arith; short = All-cons IsShort _ [] (omega arith) (All-nil IsShort); trailers = omega arith }
 
-few_rest : (body : List ℕ) (whole ends : Bool) → FewWait (rest_of body whole ends)
-few_rest body whole true = no_heads
-few_rest body whole false = record { few = omega arith; short = All-nil IsShort }
+few_rest : (body : List ℕ) (whole : End) (ends : Bool) → octets_of_fields (trailers_at whole) ≤ longest_section → FewWait (rest_of body whole ends)
+few_rest body whole true t = no_heads
+few_rest body whole false t = record { few = omega arith; short = All-nil IsShort; trailers = t }
 
 few_left : (box : Outbox) (part : Part) → FewWait box → FewWait (left box part)
-few_left (Before (first ∷ interims) None body whole) (Early sent) f = let few = f.few in record { few = omega (arith, few); short = All-tail IsShort first interims f.short }
-few_left (Before (first ∷ interims) (Some final) body whole) (Early sent) f = let few = f.few in record { few = omega (arith, few); short = All-tail IsShort first (interims ++ final ∷ []) f.short }
+few_left (Before (first ∷ interims) None body whole) (Early sent) f = let few = f.few in record { few = omega (arith, few); short = All-tail IsShort first interims f.short; trailers = f.trailers }
+few_left (Before (first ∷ interims) (Some final) body whole) (Early sent) f = let few = f.few in record { few = omega (arith, few); short = All-tail IsShort first (interims ++ final ∷ []) f.short; trailers = f.trailers }
 few_left (Before (first ∷ interims) head body whole) (Final sent ends) f = f
 few_left (Before (first ∷ interims) head body whole) (Octets octets ends) f = f
 few_left (Before [] head body whole) (Early sent) f = f
-few_left (Before [] head body whole) (Final sent ends) f = few_rest body whole ends
+few_left (Before [] (Some final) body whole) (Final sent ends) f = few_rest body whole ends f.trailers
+few_left (Before [] None body whole) (Final sent ends) f = few_rest body whole ends f.trailers
+few_left (Before (first ∷ interims) head body whole) (Trailing fields) f = f
+few_left (Before [] head body whole) (Trailing fields) f = f
+few_left (Behind body whole) (Trailing fields) f = no_heads
 few_left (Before [] head body whole) (Octets octets ends) f = f
 few_left (Behind body whole) (Early sent) f = f
 few_left (Behind body whole) (Final sent ends) f = f
-few_left (Behind body whole) (Octets octets ends) f = few_rest (drop (length octets) body) whole ends
+few_left (Behind body whole) (Octets octets ends) f = few_rest (drop (length octets) body) whole ends f.trailers
 few_left Over part f = f
 
 -- ---- bodies
@@ -227,7 +232,7 @@ few_left Over part f = f
 abbrev pub IsWithin : ℕ → Outbox → Type 0
 IsWithin most box = length (body_waiting box) ≤ most
 
-within_rest : (most : ℕ) (body : List ℕ) (whole ends : Bool) → length body ≤ most → IsWithin most (rest_of body whole ends)
+within_rest : (most : ℕ) (body : List ℕ) (whole : End) (ends : Bool) → length body ≤ most → IsWithin most (rest_of body whole ends)
 within_rest most body whole true w = omega arith
 within_rest most body whole false w = w
 
@@ -243,6 +248,9 @@ within_left most (Behind body whole) (Final sent ends) w = w
 within_left most (Behind body whole) (Octets octets ends) w =
     let less : length (drop (length octets) body) ≡ length body - length octets = length-drop (length octets) body in
     within_rest most (drop (length octets) body) whole ends (omega (arith, less, w))
+within_left most (Before (first ∷ interims) head body whole) (Trailing fields) w = w
+within_left most (Before [] head body whole) (Trailing fields) w = w
+within_left most (Behind body whole) (Trailing fields) w = omega arith
 within_left most Over part w = w
 
 -- what waits is among what is offered
@@ -400,7 +408,7 @@ all_few known (x ∷ run) may right told =
     let old = placed known run may.0 right.0 told.0 in
     let new = placed known (x ∷ run) may right told in
     let s = state_of (moves_of run) in
-    all_behind FewWait (record { few = omega arith; short = All-nil IsShort }) few_replied few_left s.kept x.move
+    all_behind FewWait (record { few = omega arith; short = All-nil IsShort; trailers = omega arith }) few_replied few_left s.kept x.move
     (leaves_news known (tape_of run) s (sight_of run) x.sight old.1.neighbours old.1.offering FewWait x.move new.0.2 may.1
     (λ event stream news box is h p. few_offered h.read (grown box news) (shown_few known.setup.passing (heard h.o.k (Happened event ∷ tape_of run)) (has_ended h.o.k (Happened event ∷ tape_of run)) (is_to_head (items known stream (tape_of run))) (offered_by h.read (grown box news)) h.behind)))
     (all_few known run may.0 right.0 told.0)
@@ -454,7 +462,8 @@ pub all_held : (known : Known) (run : List Step) → AllMayCome run → AreRight
 all_held known run may right told limited = λ i d lt.
     let heads = heads_sum _ (all_few known run may right told i d lt) in
     let body = all_within known run may right told known.setup.passing refl limited i d lt in
-    omega (arith, heads, body)
+    let trailers = (all_few known run may right told i d lt).trailers in
+    omega (arith, heads, body, trailers)
 
 -- What they hold together.
 pub held_together : (known : Known) (run : List Step) → AllMayCome run → AreRight known run → AreTold known run → AreLimited known.setup.passing known (tape_of run)
@@ -466,9 +475,9 @@ held_together known run may right told limited =
     subst (λ n. octets_held (state_of (moves_of run)) ≤ n * most_octets known.setup) count sum
 
 -- The most of one outbox, by what may be kept of a response.
-pub most_within : (setup : Setup) → most_octets setup ≤ setup.max_response + 212992
+pub most_within : (setup : Setup) → most_octets setup ≤ setup.max_response + 229376
 most_within setup = by setup.passing
   where
-    by : (passing : Passing) → most_heads * longest_section + most_of_body passing setup ≤ setup.max_response + 212992
+    by : (passing : Passing) → most_heads * longest_section + longest_section + most_of_body passing setup ≤ setup.max_response + 229376
     by Whole = omega arith
     by Streaming = omega arith

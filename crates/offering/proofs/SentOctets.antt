@@ -6,7 +6,7 @@ use Rattle.std.specs.List.{list_all, list_any}
 use Rattle.std.proofs.lemmas.List.{length-take}
 use Rattle.std.proofs.lemmas.Bool.{and_parts, not-true}
 use Rattle.std.proofs.lemmas.Bool.Decides.{eqb_tells}
-use Rattle.model.specs.Messages.{Item}
+use Rattle.model.specs.Messages.{Field, Item}
 use Rattle.model.specs.Messages.Item.{Block, Content}
 use Rattle.model.specs.ResponseHeads.{Head}
 use Rattle.model.specs.Frames.{Frame, data_kind, headers_kind, continuation_kind, window_update_kind, ends_headers, ends_stream, has_flag, is_padded, has_priority, content_offset, pad_length, content}
@@ -43,30 +43,31 @@ interims_size (Block fields false ∷ items) (head ∷ heads) a = interims_size 
 interims_size (Block fields true ∷ items) heads a = absurd a
 interims_size (Content octets ends ∷ items) heads a = absurd a
 
-contents_size : (items : List Item) (body : List ℕ) (whole : Bool) → AreContents items body whole → content_size items ≡ length body
-contents_size [] body whole a = sym (ap length a.0)
-contents_size (Content octets true ∷ items) body whole a =
+contents_size : (items : List Item) (body : List ℕ) (trailers : List Field) (whole : Bool) → AreContents items body trailers whole → content_size items ≡ length body
+contents_size [] body trailers whole a = sym (ap length a.0)
+contents_size (Content octets true ∷ items) body trailers whole a =
     let none : content_size items ≡ 0 = ap content_size a.0 in
     let same : length body ≡ length octets = ap length a.1 in
     omega (arith, none, same)
-contents_size (Content octets false ∷ items) body whole a =
-    let more = contents_size items a.0 whole a.2 in
+contents_size (Content octets false ∷ items) body trailers whole a =
+    let more = contents_size items a.0 trailers whole a.2 in
     let all : length body ≡ length octets + length a.0 = ap length a.1 ∙ length-append octets a.0 in
     omega (arith, more, all)
-contents_size (Block fields ends ∷ items) body whole a = absurd a
+contents_size (Block fields true ∷ items) body trailers whole a = ap content_size a.0 ∙ sym (ap length a.1)
+contents_size (Block fields false ∷ items) body trailers whole a = absurd a
 
-answer_size : (items : List Item) (head : Option Head) (body : List ℕ) (whole : Bool) → IsAnsweredBy items head body whole → content_size items ≡ length body
-answer_size items None body whole a = ap content_size a.0 ∙ sym (ap length a.1)
-answer_size [] (Some head) body whole a = absurd a
-answer_size (Block fields true ∷ items) (Some head) body whole a = ap content_size a.2 ∙ sym (ap length a.3)
-answer_size (Block fields false ∷ items) (Some head) body whole a = contents_size items body whole a.2
-answer_size (Content octets ends ∷ items) (Some head) body whole a = absurd a
+answer_size : (items : List Item) (head : Option Head) (body : List ℕ) (trailers : List Field) (whole : Bool) → IsAnsweredBy items head body trailers whole → content_size items ≡ length body
+answer_size items None body trailers whole a = ap content_size a.0 ∙ sym (ap length a.1)
+answer_size [] (Some head) body trailers whole a = absurd a
+answer_size (Block fields true ∷ items) (Some head) body trailers whole a = ap content_size a.2 ∙ sym (ap length a.3)
+answer_size (Block fields false ∷ items) (Some head) body trailers whole a = contents_size items body trailers whole a.2
+answer_size (Content octets ends ∷ items) (Some head) body trailers whole a = absurd a
 
 -- The octets that items bring are those that were read.
 pub read_size : (items : List Item) (read : Delivery) → ReadsAs items read → content_size items ≡ length read.body
 read_size items read r =
     let before = interims_size r.interim_items read.interims r.interims in
-    let behind = answer_size r.rest read.head read.body read.whole r.answer in
+    let behind = answer_size r.rest read.head read.body read.trailers read.whole r.answer in
     let all : content_size items ≡ content_size r.interim_items + content_size r.rest = ap content_size r.is ∙ size_joined r.interim_items r.rest in
     omega (arith, before, behind, all)
 

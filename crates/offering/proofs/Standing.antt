@@ -175,7 +175,7 @@ stands_replied known t u stream cause box same now out heads none h =
         cause = cause;
         has_cause = now;
         head_not_out = out;
-        says = same_delivery (append-nil h.read.interims ∙ sym (heads_by_read (items_on stream (sent t)) h.read h.reads no_head) ∙ sym heads) refl refl refl;
+        says = same_delivery (append-nil h.read.interims ∙ sym (heads_by_read (items_on stream (sent t)) h.read h.reads no_head) ∙ sym heads) refl refl refl refl;
       }));
     }
   where
@@ -218,7 +218,7 @@ stands_new known u stream unsent no_cause no_connection = record {
 pub stands_new_replied : (known : Known) (u : List Entry) (stream : ℕ) (cause : Cause) → items_on stream (sent u) ≡ [] → (course known stream u).cause ≡ Some cause → (course known stream u).head_out ≡ false → (course known stream u).heads_out ≡ [] → Stands known u stream (replied cause)
 stands_new_replied known u stream cause unsent now out heads =
     let reads : ReadsAs (items_on stream (sent u)) nothing = subst (λ x. ReadsAs x nothing) (sym unsent) nothing_reads in
-    record { read = nothing; reads = reads; fits = refl; offer = inl (inl (record { cause = cause; has_cause = now; head_not_out = out; says = same_delivery (sym heads) refl refl refl })) }
+    record { read = nothing; reads = reads; fits = refl; offer = inl (inl (record { cause = cause; has_cause = now; head_not_out = out; says = same_delivery (sym heads) refl refl refl refl })) }
 
 -- ---- what was delivered
 

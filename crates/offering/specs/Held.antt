@@ -1,4 +1,4 @@
--- How many octets outboxes hold: names and values of the heads that wait, and what waits of bodies. And the most that there may
+-- How many octets outboxes hold: names and values of the heads and trailers that wait, and what waits of bodies. And the most that there may
 -- be.
 use Rattle.std.specs.Prelude.{◌≡◌, ℕ, ◌+◌, ◌*◌, false, ◌==◌, List, [], ◌∷◌, ◌++◌, length, Some, None, sum_by}
 use Rattle.std.specs.List.{list_any}
@@ -13,7 +13,7 @@ use Rattle.model.specs.Responses.{most_interims}
 use Rattle.model.specs.Known.{Known}
 use Rattle.model.specs.Rooms.{FitsRoom}
 use Rattle.model.specs.Failures.{AreJudged}
-use Rattle.offering.specs.Outbox.{Outbox}
+use Rattle.offering.specs.Outbox.{Outbox, trailers_at}
 use Rattle.offering.specs.Outbox.Outbox.{Before, Behind, Over}
 use Rattle.offering.specs.State.{Kept, State}
 
@@ -35,9 +35,19 @@ body_waiting (Before interims head body whole) = body
 body_waiting (Behind body whole) = body
 body_waiting Over = []
 
+-- the octets of fields: their names and values
+abbrev pub octets_of_fields : List Field → ℕ
+octets_of_fields fields = sum_by (λ (field : Field). length field.name + length field.value) fields
+
+-- the trailers that wait in it
+abbrev pub trailers_waiting : Outbox → List Field
+trailers_waiting (Before interims head body whole) = trailers_at whole
+trailers_waiting (Behind body whole) = trailers_at whole
+trailers_waiting Over = []
+
 -- all octets that an outbox holds
 abbrev pub octets_in : Outbox → ℕ
-octets_in box = sum_by head_octets (heads_waiting box) + length (body_waiting box)
+octets_in box = sum_by head_octets (heads_waiting box) + length (body_waiting box) + octets_of_fields (trailers_waiting box)
 
 -- all that the outboxes of a state hold
 abbrev pub octets_held : State → ℕ
@@ -60,7 +70,7 @@ most_of_body Streaming setup = most_streamed
 
 -- how many octets one outbox holds at most
 abbrev pub most_octets : Setup → ℕ
-most_octets setup = most_heads * longest_section + most_of_body setup.passing setup
+most_octets setup = most_heads * longest_section + longest_section + most_of_body setup.passing setup
 
 -- ---- what came, and how it went
 

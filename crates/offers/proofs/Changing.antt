@@ -3,8 +3,10 @@ use Rattle.std.proofs.Common.{◌≡◌, ℕ, ◌<◌, length, Bool, false, List
 use Rattle.std.specs.Prelude.{Option, Some, None, IfOk, IfSome, IfNone, is_some, option_and_then, remove}
 use Rattle.std.proofs.lemmas.List.{get_or_default, get_or-set_same}
 use Rattle.model.specs.Causes.{Cause}
+use Rattle.model.specs.Messages.{Field}
 use Rattle.model.specs.ResponseHeads.{Head}
 use Rattle.offering.specs.Outbox.{Outbox, Part, part_of}
+use Rattle.offering.specs.Outbox.Part.{Trailing}
 use Rattle.offering.specs.Outbox.Outbox.{Before, Behind, Over}
 use Rattle.offering.specs.State.{Kept, State, blank, find, change, gone, answered, answered_box}
 use Rattle.answers.specs.Waiting.{Answer}
@@ -14,7 +16,7 @@ use Rattle.answers.specs.declared.answer.Ended.{Ended}
 use Rattle.offers.specs.declared.offered.Offered.{Offered}
 use Rattle.offers.specs.Places.{at, AreRising, IsAt, is_offered, AreTold, IsToldBehind, AreSound}
 use Rattle.offers.specs.Asked.{is_kept, part_for}
-use Rattle.offers.specs.Changes.{with_box, refilled, IsHeardFor, IsEndedFor, IsHeadTaken, AreOctetsTaken, behind_turn, IsHeadGone, AreOctetsGone}
+use Rattle.offers.specs.Changes.{with_box, refilled, IsHeardFor, IsEndedFor, IsHeadTaken, AreOctetsTaken, AreTrailersTaken, behind_turn, IsHeadGone, AreOctetsGone, AreTrailersGone}
 use Rattle.offers.proofs.Rising.{find_at, change_at, without_at, rising_changed, rising_without}
 use Rattle.offers.proofs.OnOffer.{told_set, told_without}
 
@@ -102,3 +104,6 @@ module _ (s : State) (id place : ℕ) (rising : AreRising s.kept) (is : IsAt s.k
 
   pub octets_gone_to : (new : Kept) (most : ℕ) → AreOctetsTaken k most new → AreOctetsGone s id most (record { kept = set s.kept place new; last = id })
   octets_gone_to new most taken = record { part = taken.part; next = part_here most ∙ taken.next; is = gone_to new taken.part taken.is }
+
+  pub trailers_gone_to : (new : Kept) (trailers : List Field) → AreTrailersTaken k trailers new → AreTrailersGone s id trailers (record { kept = set s.kept place new; last = id })
+  trailers_gone_to new trailers taken = record { next = λ most. part_here most ∙ taken.next most; can_trail = taken.can_trail; is = gone_to new (Trailing trailers) taken.is }

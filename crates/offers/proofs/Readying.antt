@@ -22,8 +22,9 @@ goes_by_windows windows (Before (first ∷ interims) head body whole) = refl
 goes_by_windows windows (Before [] (Some head) body whole) = refl
 goes_by_windows windows (Before [] None body whole) = refl
 goes_by_windows windows (Behind (octet ∷ octets) whole) = refl
-goes_by_windows windows (Behind [] true) = refl
-goes_by_windows windows (Behind [] false) = refl
+goes_by_windows windows (Behind [] None) = refl
+goes_by_windows windows (Behind [] (Some [])) = refl
+goes_by_windows windows (Behind [] (Some (field ∷ fields))) = refl
 goes_by_windows windows Over = refl
 
 -- ---- a list in two parts

@@ -5,7 +5,7 @@ use Rattle.conduct.specs.Judging.{window_in}
 use Rattle.conduct.specs.Rows.{Row}
 use Rattle.conduct.specs.Rows as rows
 use Rattle.offering.specs.Outbox.{Part, part_of}
-use Rattle.offering.specs.Outbox.Part.{Early, Final, Octets}
+use Rattle.offering.specs.Outbox.Part.{Early, Final, Octets, Trailing}
 use Rattle.offering.specs.State.{Kept, Windows, find, is_ready}
 use Rattle.offering.specs.Held.{body_waiting}
 
@@ -49,6 +49,11 @@ is_head _ = false
 abbrev pub are_octets : Option Part → Bool
 are_octets (Some (Octets octets ends)) = true
 are_octets _ = false
+
+-- it is trailers
+abbrev pub are_trailers : Option Part → Bool
+are_trailers (Some (Trailing trailers)) = true
+are_trailers _ = false
 
 -- The windows, by what is kept of the streams, the first size that settings give them, and the connection's. How much the client hasn't
 -- taken is another's question.

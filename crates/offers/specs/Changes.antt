@@ -1,8 +1,11 @@
 -- How the streams that are kept change.
 use Rattle.std.specs.Prelude.{◌≡◌, ℕ, List, Some}
+use Rattle.model.specs.Messages.{Field}
 use Rattle.model.specs.ResponseHeads.{Head}
 use Rattle.offering.specs.Outbox.{Outbox, Part, part_of}
+use Rattle.offering.specs.Outbox.Part.{Trailing}
 use Rattle.offering.specs.State.{Kept, State, find, change, gone}
+use Rattle.h1_reader.specs.HeadSizes.{CanTrail}
 use Rattle.outbox.specs.Views.{IsHead}
 use Rattle.answers.specs.Waiting.{Answer}
 use Rattle.answers.specs.Hearing.{IsHeard, IsEnded}
@@ -47,6 +50,12 @@ pub record AreOctetsTaken (old : Kept) (most : ℕ) (new : Kept) : Type 0 where
   pub next : part_of most old.box ≡ Some part
   pub is : new ≡ gone part old
 
+-- The trailers are what goes next on it, and they went.
+pub record AreTrailersTaken (old : Kept) (trailers : List Field) (new : Kept) : Type 0 where
+  pub next : (most : ℕ) → part_of most old.box ≡ Some (Trailing trailers)
+  pub can_trail : CanTrail trailers
+  pub is : new ≡ gone (Trailing trailers) old
+
 -- the state where the next part of a stream went, which had its turn with it
 abbrev pub behind_turn : ℕ → Part → State → State
 behind_turn id part s = record { kept = change id (gone part) s.kept; last = id }
@@ -63,3 +72,9 @@ pub record AreOctetsGone (old : State) (id most : ℕ) (new : State) : Type 0 wh
   pub part : Part
   pub next : part_for most id old.kept ≡ Some part
   pub is : new ≡ behind_turn id part old
+
+-- The trailers are what goes next on this stream, and they went.
+pub record AreTrailersGone (old : State) (id : ℕ) (trailers : List Field) (new : State) : Type 0 where
+  pub next : (most : ℕ) → part_for most id old.kept ≡ Some (Trailing trailers)
+  pub can_trail : CanTrail trailers
+  pub is : new ≡ behind_turn id (Trailing trailers) old

@@ -7,15 +7,16 @@ ghost use Rattle.offering.specs.Held.{body_waiting};
 ghost use Rattle.outbox.specs.Views.{part_in};
 ghost use Rattle.answers.specs.Hearing.{IsHeard, IsEnded};
 ghost use Rattle.causes.specs.Views.{cause_of};
-ghost use Rattle.offers.specs.Asked.{is_head, are_octets, windows_over};
+ghost use Rattle.offers.specs.Asked.{is_head, are_octets, are_trailers, windows_over};
 ghost use Rattle.offers.specs.Places.{is_offered};
-ghost use Rattle.offers.specs.Changes.{IsHeadTaken, AreOctetsTaken};
+ghost use Rattle.offers.specs.Changes.{IsHeadTaken, AreOctetsTaken, AreTrailersTaken};
 
 use crate::reply::reply_head;
 use crate::turns::are_open;
 use answers::{Answer, Ended, Heard};
 use causes::Cause;
 use h1_reader::ResponseHead;
+use hpack_table::Field;
 use outbox::{Outbox, Part};
 use std::alloc::{AllocError, Global};
 use std::marker::Model;
@@ -143,6 +144,17 @@ impl Kept {
             unreachable!();
         };
         head
+    }
+
+    /// Takes the trailers that go next.
+    pub fn take_trailers(&mut self) -> Vec<Field>
+        requires { are_trailers (part_of 1 self.old.box) ≡ true }
+        ensures { AreTrailersTaken self.old result.items self.new }
+    {
+        let Some(trailers) = self.outbox.take_trailers() else {
+            unreachable!();
+        };
+        trailers
     }
 
     /// The octets that `next` answers for `most` were sent.

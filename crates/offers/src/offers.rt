@@ -5,8 +5,8 @@ ghost use Rattle.model.specs.Turns.{IsNextTurn};
 ghost use Rattle.offering.specs.State.{start, change, without, blank, answered, ready};
 ghost use Rattle.outbox.specs.Views.{part_in};
 ghost use Rattle.causes.specs.Views.{cause_of};
-ghost use Rattle.offers.specs.Asked.{is_kept, is_cut, held_for, is_above_all, is_head, are_octets, part_for, windows_over};
-ghost use Rattle.offers.specs.Changes.{IsHeardFor, IsEndedFor, IsHeadGone, AreOctetsGone};
+ghost use Rattle.offers.specs.Asked.{is_kept, is_cut, held_for, is_above_all, is_head, are_octets, are_trailers, part_for, windows_over};
+ghost use Rattle.offers.specs.Changes.{IsHeardFor, IsEndedFor, IsHeadGone, AreOctetsGone, AreTrailersGone};
 
 use crate::kept::Kept;
 use crate::offered::Offered;
@@ -15,6 +15,7 @@ use crate::turns::next_of;
 use answers::{Answer, Ended, Heard};
 use causes::Cause;
 use h1_reader::ResponseHead;
+use hpack_table::Field;
 use outbox::Part;
 use std::alloc::{AllocError, Global};
 use std::marker::Model;
@@ -132,10 +133,12 @@ impl Offers {
     }
 
     /// The part of a stream's response that goes next, where so many octets of its body may; it has the end where nothing is held behind
-    /// it. There is none where nothing can go, or the stream isn't active. Where it is a head, `take_head` may be called.
+    /// it. There is none where nothing can go, or the stream isn't active. Where it is a head, `take_head` may be called, and where it is
+    /// trailers `take_trailers`.
     pub fn part(&self, id: u32, most: usize) -> Option<Part<'_>>
         ensures is { option_map part_in result ≡ part_for most id self.now.kept }
         ensures head { is_head (option_map part_in result) ≡ is_head (part_for 1 id self.now.kept) }
+        ensures trailers { are_trailers (option_map part_in result) ≡ are_trailers (part_for 1 id self.now.kept) }
     {
         let Some(place) = place_of(&self.kept, id) else {
             return None;
@@ -156,6 +159,21 @@ impl Offers {
         let head = self.kept[place].take_head();
         self.offered = self.offered.behind(id, had, self.kept[place].is_offered());
         head
+    }
+
+    /// Takes the trailers that go next on a stream, as `part` answers them; the stream had its turn with them.
+    pub fn take_trailers(&mut self, id: u32) -> Vec<Field>
+        requires { are_trailers (part_for 1 id self.old.kept) ≡ true }
+        ensures { AreTrailersGone self.old id result.items self.new }
+    {
+        let Some(place) = place_of(&self.kept, id) else {
+            unreachable!();
+        };
+        self.last = id;
+        let had = self.kept[place].is_offered();
+        let trailers = self.kept[place].take_trailers();
+        self.offered = self.offered.behind(id, had, self.kept[place].is_offered());
+        trailers
     }
 
     /// The octets that `part` answers for `most` were sent on a stream, or the end without octets; the stream had its turn with them.

@@ -1,7 +1,7 @@
 -- The code's values as the rule of what is on offer has them.
-use Rattle.std.specs.Prelude.{◌≡◌, ◌≤◌, Bool, true, false, ◌++◌, length}
+use Rattle.std.specs.Prelude.{◌≡◌, ◌≤◌, Bool, true, false, Option, Some, None, is_some, ◌++◌, length}
 use Rattle.model.specs.ResponseHeads.{Head}
-use Rattle.offering.specs.Outbox.{Outbox}
+use Rattle.offering.specs.Outbox.{End, trailers_at, Outbox}
 use Rattle.offering.specs.Outbox as rule
 use Rattle.outbox.specs.Waiting.{Waiting}
 use Rattle.outbox.specs.declared.outbox.Place.{Place}
@@ -9,10 +9,15 @@ use Rattle.outbox.specs.declared.outbox.Place.TheVariants as place
 use Rattle.outbox.specs.declared.part.Part.{Part}
 use Rattle.outbox.specs.declared.part.Part.TheVariants as part
 
+-- how a response ends: with trailers, if there are some
+abbrev pub end_in : Option End → End
+end_in None = None
+end_in (Some trailers) = Some (trailers_at trailers)
+
 -- an outbox: the octets of the body behind those that were sent
 abbrev pub outbox_in : Place → Outbox
-outbox_in (place.Before interims head body whole) = rule.Outbox.Before interims.items head body.octets whole
-outbox_in (place.Behind body whole) = rule.Outbox.Behind body.octets whole
+outbox_in (place.Before interims head body whole) = rule.Outbox.Before interims.items head body.octets (end_in whole)
+outbox_in (place.Behind body whole) = rule.Outbox.Behind body.octets (end_in whole)
 outbox_in place.Over = rule.Outbox.Over
 
 -- Of octets that wait, no more stand before them that were sent.
@@ -22,7 +27,7 @@ IsShort waiting = waiting.sent ≤ length waiting.octets
 -- That is so as long as more may come.
 abbrev pub IsKept : Place → Type 0
 IsKept (place.Before interims head body whole) = IsShort body
-IsKept (place.Behind body whole) = whole ≡ false → IsShort body
+IsKept (place.Behind body whole) = is_some (end_in whole) ≡ false → IsShort body
 IsKept place.Over = Unit {0}
 
 -- the next part
@@ -30,12 +35,24 @@ abbrev pub part_in : Part → rule.Part
 part_in (part.Early head) = rule.Part.Early head.now
 part_in (part.Final head ends) = rule.Part.Final head.now ends
 part_in (part.Octets front back ends) = rule.Part.Octets (front.now ++ back.now) ends
+part_in (part.Trailing trailers) = rule.Part.Trailing trailers.now
 
 -- The part is this head.
 abbrev pub IsHead : Head → rule.Part → Type 0
 IsHead head (rule.Part.Early other) = head ≡ other
 IsHead head (rule.Part.Final other ends) = head ≡ other
-IsHead head (rule.Part.Octets octets ends) = ⊥
+IsHead head _ = ⊥
+
+-- The part stands behind the final head.
+abbrev pub IsBehindHead : rule.Part → Type 0
+IsBehindHead (rule.Part.Octets octets ends) = Unit {0}
+IsBehindHead (rule.Part.Trailing trailers) = Unit {0}
+IsBehindHead part = ⊥
+
+-- It isn't trailers.
+abbrev pub AreNoTrailers : rule.Part → Type 0
+AreNoTrailers (rule.Part.Trailing trailers) = ⊥
+AreNoTrailers part = Unit {0}
 
 -- The part is octets of the body.
 abbrev pub AreOctets : rule.Part → Type 0

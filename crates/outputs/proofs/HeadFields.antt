@@ -1,4 +1,4 @@
--- The fields of a head that can be passed back are its section, and an encoder takes each.
+-- The fields of a head that can be passed back are its section, and an encoder takes each; so it does each of trailers.
 use Rattle.std.proofs.Common.{◌≡◌, ◌≤◌, List, [], ◌∷◌, sym, ◌∙◌, subst, arith}
 use Rattle.std.specs.Prelude.{codes}
 use Rattle.std.specs.List.{All}
@@ -8,7 +8,7 @@ use Rattle.model.specs.ResponseHeads.{Head}
 use Rattle.model.specs.Deliveries.{IsSection}
 use Rattle.model.proofs.DeliveryLemmas.{section_reads}
 use Rattle.header_blocks.specs.Chosen.{HasShortStrings}
-use Rattle.h1_reader.specs.HeadSizes.{field_octets, CanBePassedBack}
+use Rattle.h1_reader.specs.HeadSizes.{field_octets, CanBePassedBack, CanTrail}
 use Rattle.outputs.specs.Sections.{three_digits, status_field, section_of}
 
 all_short : (fields : List Field) → field_octets fields ≤ 16384 → All HasShortStrings fields
@@ -23,6 +23,10 @@ pub is_short : (fields : List Field) (head : Head) → CanBePassedBack head → 
 is_short fields head passed is =
     subst (All HasShortStrings) (sym is)
     (All-cons HasShortStrings (status_field head.status) head.fields (record { name = omega arith; value = omega arith }) (all_short head.fields passed.short))
+
+-- An encoder takes each field of trailers that can be passed back.
+pub are_short : (fields : List Field) → CanTrail fields → All HasShortStrings fields
+are_short fields passed = all_short fields passed.short
 
 pub are_section : (fields rest : List Field) (status : Field) (head : Head) → fields ≡ status ∷ rest → status.name ≡ codes ":status" → status.value ≡ three_digits head.status → rest ≡ head.fields → fields ≡ section_of head
 are_section fields rest status head is name value others = is ∙ (λ i. record { name = name i; value = value i } ∷ others i)

@@ -148,6 +148,6 @@ module _ (known : Known) (run : List Move) (knows : AreKnown known (conducts run
         let offer_tape : length (active (offering.tape_of (offers_of known.setup run))) ≡ length (active (tape_of run)) = ap (λ (t : List Entry). length (active t)) (offers_tape known.setup run) in
         let request_tape : length (active (serving.tape_of (turns_of known.setup run))) ≡ length (active (tape_of run)) = ap (λ (t : List Entry). length (active t)) (requests_tape known.setup run) in
         let most = outboxes.most_within known.setup in
-        let offers_most = mul-le (length (active (offering.tape_of (offers_of known.setup run)))) (offers.most_octets known.setup) 100 (known.setup.max_response + 212992) (omega (arith, offer_tape, few)) most in
+        let offers_most = mul-le (length (active (offering.tape_of (offers_of known.setup run)))) (offers.most_octets known.setup) 100 (known.setup.max_response + 229376) (omega (arith, offer_tape, few)) most in
         let requests_most = mul-le (length (active (serving.tape_of (turns_of known.setup run)))) (known.setup.max_body + requests.most_beside) 100 (known.setup.max_body + requests.most_beside) (omega (arith, request_tape, few)) (omega arith) in
         omega (arith, connection, offer, request, offers_most, requests_most)

@@ -51,7 +51,7 @@ answer_head = record { status = 200; fields = sized ∷ [] }
 
 -- what is told of it: all of it
 abbrev pub news : News
-news = record { interims = []; head = Some answer_head; body = codes "hi"; ends = true }
+news = record { interims = []; head = Some answer_head; body = codes "hi"; ends = Some [] }
 
 -- the fields of its block, and the table that this leaves
 abbrev pub ok : Field
@@ -141,7 +141,7 @@ forwarded_leads = record { is = refl; goes_on = refl; allowed = forwarded_allowe
 
 -- what is kept of the response of stream 1
 abbrev pub waiting : Kept
-waiting = record { id = 1; box = Before [] (Some answer_head) (codes "hi") true; cut = false }
+waiting = record { id = 1; box = Before [] (Some answer_head) (codes "hi") (Some []); cut = false }
 
 abbrev pub at_heard : State
 at_heard = record at_forwarded {
@@ -158,7 +158,7 @@ at_closed = record at_heard {
 
 -- its head is out
 abbrev pub half_out : Kept
-half_out = record { id = 1; box = Behind (codes "hi") true; cut = false }
+half_out = record { id = 1; box = Behind (codes "hi") (Some []); cut = false }
 
 abbrev pub at_begun : State
 at_begun = record at_closed {

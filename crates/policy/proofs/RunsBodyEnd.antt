@@ -43,7 +43,7 @@ abbrev pub last_octet : Noted
 last_octet = plain (frame 0 1 3 (codes "y"))
 
 abbrev pub written : List ℕ
-written = chunk_text (codes "hey") ++ last_chunk
+written = chunk_text (codes "hey") ++ last_chunk []
 
 abbrev pub whole_text : List ℕ
 whole_text = post_text ++ written
@@ -112,16 +112,16 @@ at_ended = record at_goes_out {
 -- ---- the text
 
 -- the last chunk ends it
-pub text_ends : Continues Chunking last_chunk [] Whole
+pub text_ends : Continues Chunking (last_chunk []) [] [] Whole
 text_ends parts ended_head text pieces s = record {
   none_ended = λ e. absurd (let clash : true ≡ false = sym e ∙ s.not_ended in cc);
   full = subst (λ ps. list_all (λ piece. not (is_empty piece)) ps ≡ true) (sym (append-nil pieces)) s.full;
   has_length = subst (λ d. HasLength d (concat (pieces ++ []))) (sym s.undeclared) tt;
   is =
-      ap (λ x. x ++ last_chunk) s.is ∙ append_assoc (head_of parts false) (flat_map chunk_text pieces) last_chunk
-      ∙ ap (λ ps. head_of parts false ++ (flat_map chunk_text ps ++ last_chunk)) (sym (append-nil pieces))
-      ∙ ap (λ d. head_of parts false ++ content_of d false (pieces ++ [])) (sym s.undeclared)
-      ∙ ap (λ b. head_of parts b ++ content_of parts.length b (pieces ++ [])) (sym s.not_ended);
+      ap (λ x. x ++ last_chunk []) s.is ∙ append_assoc (head_of parts false) (flat_map chunk_text pieces) (last_chunk [])
+      ∙ ap (λ ps. head_of parts false ++ (flat_map chunk_text ps ++ last_chunk [])) (sym (append-nil pieces))
+      ∙ ap (λ d. head_of parts false ++ content_of d false (pieces ++ []) []) (sym s.undeclared)
+      ∙ ap (λ b. head_of parts b ++ content_of parts.length b (pieces ++ []) []) (sym s.not_ended);
 }
 
 -- ---- each may come
@@ -140,7 +140,7 @@ comes_may = record {
       record {
         serving = record { counted = omega arith; served = refl; goes_on = refl };
         found = refl;
-        gathered = (ends_behind Chunking Chunking Whole (chunk_text (codes "hey")) last_chunk (codes "hey") (adds_chunk Chunking (codes "hey") refl (omega arith)) text_ends, refl);
+        gathered = (ends_behind Chunking Chunking Whole (chunk_text (codes "hey")) (last_chunk []) (codes "hey") [] (adds_chunk Chunking (codes "hey") refl (omega arith)) text_ends, refl);
       },
     );
   };

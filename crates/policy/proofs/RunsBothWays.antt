@@ -46,10 +46,10 @@ abbrev pub begin_text : List ℕ
 begin_text = codes "HTTP/1.1 200 OK\r\nContent-Length: 2\r\n\r\nh"
 
 abbrev pub begin_news : News
-begin_news = record { interims = []; head = Some answer_head; body = codes "h"; ends = false }
+begin_news = record { interims = []; head = Some answer_head; body = codes "h"; ends = None }
 
 abbrev pub end_news : News
-end_news = record { interims = []; head = None; body = codes "i"; ends = true }
+end_news = record { interims = []; head = None; body = codes "i"; ends = Some [] }
 
 abbrev pub begin_deed : Deed
 begin_deed = Hears (Up 1 begin_text) 1 begin_news false
@@ -79,7 +79,7 @@ last_octet = plain (frame 0 1 1 (codes "y"))
 
 -- what is written for it
 abbrev pub written : List ℕ
-written = chunk_text (codes "y") ++ last_chunk
+written = chunk_text (codes "y") ++ last_chunk []
 
 abbrev pub last_deed : Deed
 last_deed = Takes last_octet decoded (Passes (Content (codes "y") true) 1 Chunking written Whole)
@@ -134,14 +134,14 @@ asked_all = record sent_one { ended_by_client = true; room = pos 65534; brief = 
 
 abbrev pub at_heard : State
 at_heard = record at_waits {
-  offers = record at_waits.offers { kept = boxed 1 (Before [] (Some answer_head) (codes "h") false) ∷ [] };
+  offers = record at_waits.offers { kept = boxed 1 (Before [] (Some answer_head) (codes "h") None) ∷ [] };
   windows = record at_waits.windows { settled = false };
 }
 
 abbrev pub at_begun : State
 at_begun = record at_heard {
   desk = desk_of (Live begun) 65533 65535 43;
-  offers = record { kept = boxed 1 (Behind (codes "h") false) ∷ []; last = 1 };
+  offers = record { kept = boxed 1 (Behind (codes "h") None) ∷ []; last = 1 };
   tables = record at_heard.tables { encoding = record at_heard.tables.encoding { table = encoded } };
   windows = at_heard.windows;
 }
@@ -149,7 +149,7 @@ at_begun = record at_heard {
 abbrev pub at_parted : State
 at_parted = record at_begun {
   desk = desk_of (Live sent_one) 65533 65534 53;
-  offers = record { kept = boxed 1 (Behind [] false) ∷ []; last = 1 };
+  offers = record { kept = boxed 1 (Behind [] None) ∷ []; last = 1 };
   windows = at_begun.windows;
 }
 
@@ -188,7 +188,7 @@ at_ended = next streaming at_put Settles
 
 abbrev pub at_whole : State
 at_whole = record at_ended {
-  offers = record at_ended.offers { kept = boxed 1 (Behind (codes "i") true) ∷ [] };
+  offers = record at_ended.offers { kept = boxed 1 (Behind (codes "i") (Some [])) ∷ [] };
   requests = record at_ended.requests { live = first_live true ∷ [] };
   windows = record at_ended.windows { settled = false };
 }
@@ -216,7 +216,7 @@ at_all_back = record at_over {
 parted_rest : Rests (told_by at_parted) at_parted
 parted_rest = record {
   conduct = record { nothing = refl; none_begun = refl; ended = λ e. never e };
-  flushed = record { none_cut = λ stream kept found. one_whole (1 == stream) (boxed 1 (Behind [] false)) kept refl found; none_ready = λ low. refl };
+  flushed = record { none_cut = λ stream kept found. one_whole (1 == stream) (boxed 1 (Behind [] None)) kept refl found; none_ready = λ low. refl };
   served = record { nothing = refl; none_done = refl; ended = λ e. never e };
   read = refl;
   given_back = λ open_yet. record { settled = refl; shared = refl; own = λ stream active goes_on. subst (λ (id : ℕ). (at_parted.windows.row id).debt ≡ 0) (eqb-true 1 stream (only_one (1 == stream) _ active)) refl };
@@ -225,7 +225,7 @@ parted_rest = record {
 returned_rest : Rests (told_by at_returned) at_returned
 returned_rest = record {
   conduct = record { nothing = refl; none_begun = refl; ended = λ e. never e };
-  flushed = record { none_cut = λ stream kept found. one_whole (1 == stream) (boxed 1 (Behind [] false)) kept refl found; none_ready = λ low. refl };
+  flushed = record { none_cut = λ stream kept found. one_whole (1 == stream) (boxed 1 (Behind [] None)) kept refl found; none_ready = λ low. refl };
   served = record { nothing = refl; none_done = refl; ended = λ e. never e };
   read = refl;
   given_back = λ open_yet. record { settled = refl; shared = refl; own = λ stream active goes_on. subst (λ (id : ℕ). (at_returned.windows.row id).debt ≡ 0) (eqb-true 1 stream (only_one (1 == stream) _ active)) refl };
@@ -235,7 +235,7 @@ returned_rest = record {
 ended_rest : Rests (told_by at_ended) at_ended
 ended_rest = record {
   conduct = record { nothing = refl; none_begun = refl; ended = λ e. never e };
-  flushed = record { none_cut = λ stream kept found. one_whole (1 == stream) (boxed 1 (Behind [] false)) kept refl found; none_ready = λ low. refl };
+  flushed = record { none_cut = λ stream kept found. one_whole (1 == stream) (boxed 1 (Behind [] None)) kept refl found; none_ready = λ low. refl };
   served = record { nothing = refl; none_done = refl; ended = λ e. never e };
   read = refl;
   given_back = λ open_yet. record { settled = refl; shared = refl; own = λ stream active goes_on. subst (λ (id : ℕ). (at_ended.windows.row id).debt ≡ 0) (eqb-true 1 stream (only_one (1 == stream) _ active)) refl };
@@ -263,7 +263,7 @@ head_may = record {
   conduct = record { allowed = record { open_yet = refl; turn = inr (record { nothing = refl; goes_on = refl; passing = refl; rightly = refl }) }; fit = refl };
   offer = (
     record {
-      kept = boxed 1 (Before [] (Some answer_head) (codes "h") false);
+      kept = boxed 1 (Before [] (Some answer_head) (codes "h") None);
       found = refl;
       not_cut = refl;
       next = (refl, tt);
@@ -275,7 +275,7 @@ head_may = record {
     record { active = refl; brings = refl },
   );
   in_turn = λ begins. record {
-    none_cut = λ stream kept found. one_whole (1 == stream) (boxed 1 (Before [] (Some answer_head) (codes "h") false)) kept refl found;
+    none_cut = λ stream kept found. one_whole (1 == stream) (boxed 1 (Before [] (Some answer_head) (codes "h") None)) kept refl found;
     turn = inl (record { is_ready = (0, omega arith, refl); above = omega arith; least = λ k lt some. some });
   };
   request = record { open_yet = refl; may = refl };
@@ -292,7 +292,7 @@ h_may = record {
   conduct = record { allowed = record { open_yet = refl; turn = inr (record { nothing = refl; goes_on = refl; passing = refl; rightly = refl }) }; fit = refl };
   offer = (
     record {
-      kept = boxed 1 (Behind (codes "h") false);
+      kept = boxed 1 (Behind (codes "h") None);
       found = refl;
       not_cut = refl;
       next = ([], refl, tt, λ e. absurd (let clash : codes "h" ≡ [] = e in cc));
@@ -304,7 +304,7 @@ h_may = record {
     record { active = refl; brings = refl },
   );
   in_turn = λ begins. record {
-    none_cut = λ stream kept found. one_whole (1 == stream) (boxed 1 (Behind (codes "h") false)) kept refl found;
+    none_cut = λ stream kept found. one_whole (1 == stream) (boxed 1 (Behind (codes "h") None)) kept refl found;
     turn = inr (record { is_ready = (0, omega arith, refl); none_above = λ k lt. let one = each_one k lt in omega (arith, one); least = λ k lt. let one = each_one k lt in omega (arith, one) });
   };
   request = record { open_yet = refl; may = refl };
@@ -366,7 +366,7 @@ last_may = record {
       record {
         serving = record { counted = omega arith; served = refl; goes_on = refl };
         found = refl;
-        continues = ends_behind Chunking Chunking Whole (chunk_text (codes "y")) last_chunk (codes "y") (adds_chunk Chunking (codes "y") refl (omega arith)) text_ends;
+        continues = ends_behind Chunking Chunking Whole (chunk_text (codes "y")) (last_chunk []) (codes "y") [] (adds_chunk Chunking (codes "y") refl (omega arith)) text_ends;
         whole = refl;
       },
     );
@@ -422,7 +422,7 @@ i_may = record {
   conduct = record { allowed = record { open_yet = refl; turn = inr (record { nothing = refl; goes_on = refl; passing = refl; rightly = refl }) }; fit = refl };
   offer = (
     record {
-      kept = boxed 1 (Behind (codes "i") true);
+      kept = boxed 1 (Behind (codes "i") (Some []));
       found = refl;
       not_cut = refl;
       next = ([], refl, (refl, refl), λ e. refl);
@@ -434,7 +434,7 @@ i_may = record {
     record { active = refl; brings = refl },
   );
   in_turn = λ begins. record {
-    none_cut = λ stream kept found. one_whole (1 == stream) (boxed 1 (Behind (codes "i") true)) kept refl found;
+    none_cut = λ stream kept found. one_whole (1 == stream) (boxed 1 (Behind (codes "i") (Some []))) kept refl found;
     turn = inr (record { is_ready = (0, omega arith, refl); none_above = λ k lt. let one = each_one k lt in omega (arith, one); least = λ k lt. let one = each_one k lt in omega (arith, one) });
   };
   request = record { open_yet = refl; may = refl };

@@ -68,23 +68,23 @@ not_plain rest (inl b) =
     let none = no_front b.front b.rest rest b.interims b.are_interims b.is in
     bad_head rest (length b.interims) (subst (λ (x : List ℕ). IsBadHead false (length b.interims) x) (sym (b.is ∙ ap (λ (x : List ℕ). x ++ b.rest) none)) b.is_bad)
 not_plain rest (inr b) =
-    let fronts = one_front false [] b.front texts.answer_head b.head_text rest (b.chunks_text ++ b.rest) [] b.interims texts.head b.head (Sized 2) Chunks refl b.are_interims final b.is_final (b.is ∙ append_assoc (b.front ++ b.head_text) b.chunks_text b.rest) in
-    let clash : Sized 2 ≡ Chunks = fronts.final.framing in cc
+    let fronts = one_front false [] b.front texts.answer_head b.head_text rest (b.chunks_text ++ b.rest) [] b.interims texts.head b.head (Sized 2) (Chunks b.named) refl b.are_interims final b.is_final (b.is ∙ append_assoc (b.front ++ b.head_text) b.chunks_text b.rest) in
+    let clash : Sized 2 ≡ Chunks b.named = fronts.final.framing in cc
 
 -- one octet behind it is no whole response
 not_whole : IsComplete begin_text false false → ⊥
 not_whole c =
     let r = c.1 in
     let fronts = one_front false [] r.front texts.answer_head r.head_text (codes "h") r.rest [] c.0.interims texts.head c.0.head (Sized 2) r.framing refl r.are_interims final r.is_final r.is in
-    let sized : HasBody (Sized 2) false r.rest c.0.body = subst (λ (f : Framing). HasBody f false r.rest c.0.body) (sym fronts.final.framing) r.body in
-    let short : 1 ≡ length c.0.body + length sized.past = ap length (fronts.final.rest ∙ sized.is) ∙ length-append c.0.body sized.past in
-    omega (arith, short, sized.has_count)
+    let sized : HasBody (Sized 2) false r.rest c.0.body c.0.trailers = subst (λ (f : Framing). HasBody f false r.rest c.0.body c.0.trailers) (sym fronts.final.framing) r.body in
+    let short : 1 ≡ length c.0.body + length sized.0.past = ap length (fronts.final.rest ∙ sized.0.is) ∙ length-append c.0.body sized.0.past in
+    omega (arith, short, sized.0.has_count)
 
 -- ---- the news
 
 -- what is on offer with the first part
 abbrev begun : Delivery
-begun = record { interims = []; head = Some texts.head; body = codes "h"; whole = false }
+begun = record { interims = []; head = Some texts.head; body = codes "h"; trailers = []; whole = false }
 
 begun_shown : IsShown Streaming begin_text false false begun
 begun_shown = inr (record {

@@ -66,7 +66,7 @@ asked_may = record {
       record {
         serving = record { counted = omega arith; served = refl; goes_on = refl };
         by_route = first_route;
-        sending = record { none_ended = λ e. refl; full = refl; has_length = tt; is = refl };
+        sending = record { none_ended = λ e. (refl, refl); full = refl; has_length = tt; is = refl };
         whole = refl;
       },
     );

@@ -62,7 +62,7 @@ abbrev pub early_head : Head
 early_head = record { status = 103; fields = [] }
 
 abbrev pub early_news : News
-early_news = record { interims = early_head ∷ []; head = None; body = []; ends = false }
+early_news = record { interims = early_head ∷ []; head = None; body = []; ends = None }
 
 -- the field of its block, and the tables that the blocks leave
 abbrev pub early : Field
@@ -162,13 +162,13 @@ boxed id box = record { id = id; box = box; cut = false }
 
 -- the response with its head, and what is left of it
 abbrev pub whole : Outbox
-whole = Before [] (Some answer_head) (codes "hi") true
+whole = Before [] (Some answer_head) (codes "hi") (Some [])
 
 abbrev pub body_left : Outbox
-body_left = Behind (codes "hi") true
+body_left = Behind (codes "hi") (Some [])
 
 abbrev pub last_left : Outbox
-last_left = Behind (codes "i") true
+last_left = Behind (codes "i") (Some [])
 
 -- the open connections
 abbrev pub first_live : Bool → Connection
@@ -216,7 +216,7 @@ at_both_asked = next setup at_put Settles
 
 abbrev pub at_told : State
 at_told = record at_both_asked {
-  offers = record at_both_asked.offers { kept = boxed 1 (Before (early_head ∷ []) None [] false) ∷ silent_one 3 ∷ [] };
+  offers = record at_both_asked.offers { kept = boxed 1 (Before (early_head ∷ []) None [] None) ∷ silent_one 3 ∷ [] };
   windows = record at_both_asked.windows { settled = false };
 }
 

@@ -138,7 +138,7 @@ asked_may = record {
       record {
         serving = record { counted = omega arith; served = refl; goes_on = refl };
         by_route = first_route;
-        sending = record { none_ended = λ e. refl; full = refl; has_length = tt; is = refl };
+        sending = record { none_ended = λ e. (refl, refl); full = refl; has_length = tt; is = refl };
         whole = refl;
       },
     );
@@ -194,7 +194,7 @@ early_may = record {
   conduct = record { allowed = record { open_yet = refl; turn = inr (record { nothing = refl; goes_on = refl; passing = refl; rightly = refl }) }; fit = refl };
   offer = (
     record {
-      kept = boxed 1 (Before (early_head ∷ []) None [] false);
+      kept = boxed 1 (Before (early_head ∷ []) None [] None);
       found = refl;
       not_cut = refl;
       next = refl;
@@ -206,7 +206,7 @@ early_may = record {
     record { active = refl; brings = refl },
   );
   in_turn = λ begins. record {
-    none_cut = λ stream kept found. none_cut_of (boxed 1 (Before (early_head ∷ []) None [] false) ∷ silent_one 3 ∷ []) refl stream kept found;
+    none_cut = λ stream kept found. none_cut_of (boxed 1 (Before (early_head ∷ []) None [] None) ∷ silent_one 3 ∷ []) refl stream kept found;
     turn = inl (record { is_ready = (0, omega arith, refl); above = omega arith; least = λ k lt some. some });
   };
   request = record { open_yet = refl; may = refl };

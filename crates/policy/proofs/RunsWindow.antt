@@ -111,14 +111,14 @@ at_acked = record at_lowered {
 
 -- what is kept of the response
 abbrev pub whole : Kept
-whole = record { id = 1; box = Before [] (Some answer_head) (codes "hi") true; cut = false }
+whole = record { id = 1; box = Before [] (Some answer_head) (codes "hi") (Some []); cut = false }
 
 abbrev pub behind_head : Kept
-behind_head = record { id = 1; box = Behind (codes "hi") true; cut = false }
+behind_head = record { id = 1; box = Behind (codes "hi") (Some []); cut = false }
 
 -- its last octet
 abbrev pub last_left : Kept
-last_left = record { id = 1; box = Behind (codes "i") true; cut = false }
+last_left = record { id = 1; box = Behind (codes "i") (Some []); cut = false }
 
 abbrev pub at_heard : State
 at_heard = record at_acked {

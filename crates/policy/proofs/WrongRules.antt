@@ -20,6 +20,7 @@ use Rattle.model.specs.Available.{heard_by, ended_by, items_on, IsIn, IsShown}
 use Rattle.model.specs.Causes.{Cause, reply_head}
 use Rattle.model.specs.Causes.Cause.{BadAnswer}
 use Rattle.model.specs.Courses.{items}
+use Rattle.model.specs.Http2.{pseudo_fields}
 use Rattle.model.specs.Offers.{is_to_head, IsOffered, WasOffered, IsDelivered}
 use Rattle.model.proofs.OfferLemmas.{OffersNothing, nothing_begun, nothing_offered}
 use Rattle.model.specs.ResponseClause.{ResponsesHold}
@@ -34,7 +35,7 @@ use Rattle.model.specs.Tapes.Note.{Fields}
 use Rattle.model.specs.Tapes.Entry.{Came, Breached, Happened, Sent, Did}
 use Rattle.model.specs.Known.{Known}
 use Rattle.conduct.specs.Summary.{Summary}
-use Rattle.offering.specs.Outbox.{Outbox, Part, IsNext, silent}
+use Rattle.offering.specs.Outbox.{End, Outbox, Part, IsNext, silent}
 use Rattle.offering.specs.Outbox.Outbox.{Before, Behind}
 use Rattle.offering.specs.Outbox.Part.{Final, Octets}
 use Rattle.offering.specs.Sight.{sight_in}
@@ -73,13 +74,13 @@ module _ (setup : Setup) (s u : Summary) (x : State) where
   -- ---- an end too early
 
   -- Octets don't end a stream whose response isn't whole.
-  pub no_early_end : (noted : Noted) (item : Item) (octets body : List ℕ) (table : Table) (k : Kept) → find noted.frame.id x.offers.kept ≡ Some k → k.box ≡ Behind body false → May (Goes noted item (Octets octets true) table) → ⊥
+  pub no_early_end : (noted : Noted) (item : Item) (octets body : List ℕ) (table : Table) (k : Kept) → find noted.frame.id x.offers.kept ≡ Some k → k.box ≡ Behind body None → May (Goes noted item (Octets octets true) table) → ⊥
   no_early_end noted item octets body table k found box may =
       let next = subst (λ (b : Outbox). IsNext b (Octets octets true)) box (fits noted item (Octets octets true) table k found may).next in
-      let clash : false ≡ true = next.2.1 in cc
+      let clash : ◌≡◌ {A = End} None (Some []) = next.2.1 in cc
 
   -- Nor does a head, nor does one go of which nothing came.
-  pub no_early_head : (noted : Noted) (item : Item) (head : Head) (ends : Bool) (body : List ℕ) (all : Bool) (table : Table) (k : Kept) → find noted.frame.id x.offers.kept ≡ Some k → k.box ≡ Before [] None body all → May (Goes noted item (Final head ends) table) → ⊥
+  pub no_early_head : (noted : Noted) (item : Item) (head : Head) (ends : Bool) (body : List ℕ) (all : End) (table : Table) (k : Kept) → find noted.frame.id x.offers.kept ≡ Some k → k.box ≡ Before [] None body all → May (Goes noted item (Final head ends) table) → ⊥
   no_early_head noted item head ends body all table k found box may =
       let next = subst (λ (b : Outbox). IsNext b (Final head ends)) box (fits noted item (Final head ends) table k found may).next in
       let clash : ◌≡◌ {A = Option Head} None (Some head) = next.0 in cc
@@ -93,7 +94,7 @@ module _ (setup : Setup) (s u : Summary) (x : State) where
   -- ---- a reply behind a head
 
   -- No head goes behind the final one: the stream is reset.
-  pub no_second_head : (noted : Noted) (item : Item) (head : Head) (ends : Bool) (body : List ℕ) (all : Bool) (table : Table) (k : Kept) → find noted.frame.id x.offers.kept ≡ Some k → k.box ≡ Behind body all → May (Goes noted item (Final head ends) table) → ⊥
+  pub no_second_head : (noted : Noted) (item : Item) (head : Head) (ends : Bool) (body : List ℕ) (all : End) (table : Table) (k : Kept) → find noted.frame.id x.offers.kept ≡ Some k → k.box ≡ Behind body all → May (Goes noted item (Final head ends) table) → ⊥
   no_second_head noted item head ends body all table k found box may = subst (λ (b : Outbox). IsNext b (Final head ends)) box (fits noted item (Final head ends) table k found may).next
 
   -- ---- a block dropped
@@ -170,9 +171,9 @@ none_offered source (inr passed) = of passed.o passed.given.is_opened passed.sho
 
 -- it says a head
 one_head : (delivery : Delivery) → ReadsAs (Block (bad ∷ empty ∷ []) true ∷ []) delivery → delivery.head ≡ None → ⊥
-one_head delivery r none = at r.interim_items r.rest delivery.interims r.is r.interims (subst (λ h. IsAnsweredBy r.rest h delivery.body delivery.whole) none r.answer)
+one_head delivery r none = at r.interim_items r.rest delivery.interims r.is r.interims (subst (λ h. IsAnsweredBy r.rest h delivery.body delivery.trailers delivery.whole) none r.answer)
   where
-    at : (front rest : List Item) (heads : List Head) → Block (bad ∷ empty ∷ []) true ∷ [] ≡ front ++ rest → AreInterims front heads → IsAnsweredBy rest None delivery.body delivery.whole → ⊥
+    at : (front rest : List Item) (heads : List Head) → Block (bad ∷ empty ∷ []) true ∷ [] ≡ front ++ rest → AreInterims front heads → IsAnsweredBy rest None delivery.body delivery.trailers delivery.whole → ⊥
     at [] rest heads e i a = let clash : Block (bad ∷ empty ∷ []) true ∷ [] ≡ (let none : List Item = [] in none) = e ∙ a.0 in cc
     at (Content octets ends ∷ front) rest heads e i a = cc
     at (Block fields true ∷ front) rest [] e i a = i
@@ -219,9 +220,9 @@ two_heads delivery r = at r.interim_items r.rest delivery.interims delivery.head
         let status : head.status ≡ 200 = section.status ∙ ap (digits_value 10) (sym digits) in
         omega (arith, status, low)
 
-    at : (front rest : List Item) (heads : List Head) (head : Option Head) → Block (ok ∷ sized ∷ []) false ∷ Block (bad ∷ empty ∷ []) true ∷ [] ≡ front ++ rest → AreInterims front heads → IsAnsweredBy rest head delivery.body delivery.whole → ⊥
+    at : (front rest : List Item) (heads : List Head) (head : Option Head) → Block (ok ∷ sized ∷ []) false ∷ Block (bad ∷ empty ∷ []) true ∷ [] ≡ front ++ rest → AreInterims front heads → IsAnsweredBy rest head delivery.body delivery.trailers delivery.whole → ⊥
     at [] rest heads None e i a = let clash : Block (ok ∷ sized ∷ []) false ∷ Block (bad ∷ empty ∷ []) true ∷ [] ≡ (let none : List Item = [] in none) = e ∙ a.0 in cc
-    at [] rest heads (Some head) e i a = let both = subst (λ (items : List Item). IsAnswer items head delivery.body delivery.whole) (sym e) a in both.2
+    at [] rest heads (Some head) e i a = let both = subst (λ (items : List Item). IsAnswer items head delivery.body delivery.trailers delivery.whole) (sym e) a in let plain : pseudo_fields (bad ∷ empty ∷ []) ≡ [] = both.2.4 in cc
     at (Content octets ends ∷ front) rest heads head e i a = cc
     at (Block fields true ∷ front) rest heads head e i a = cc
     at (Block fields false ∷ front) rest [] head e i a = i
@@ -264,7 +265,7 @@ bids_farewell_twice c = let clash : 4 ≡ 3 = ap length c.just_owed in omega (ar
 
 -- the early end
 pub early_refused : (u : Summary) → MayDo one_route (told_by at_forwarded) u at_forwarded (Goes reply_out (Block (bad ∷ empty ∷ []) true) (Final (reply_head BadAnswer) true) with_both) → ⊥
-early_refused u may = no_early_head one_route (told_by at_forwarded) u at_forwarded reply_out (Block (bad ∷ empty ∷ []) true) (reply_head BadAnswer) true [] false with_both (record { id = 1; box = silent; cut = false }) refl refl may
+early_refused u may = no_early_head one_route (told_by at_forwarded) u at_forwarded reply_out (Block (bad ∷ empty ∷ []) true) (reply_head BadAnswer) true [] None with_both (record { id = 1; box = silent; cut = false }) refl refl may
 
 -- DATA past the window
 pub overrun_refused : (u : Summary) → MayDo one_route (told_by window.at_begun) u window.at_begun (Goes (plain (frame 0 1 1 (codes "hi"))) (Content (codes "hi") true) (Octets (codes "hi") true) encoded) → ⊥
@@ -272,7 +273,7 @@ overrun_refused u may = no_overrun one_route (told_by window.at_begun) u window.
 
 -- the reply behind a head
 pub second_head_refused : (u : Summary) → MayDo one_route (told_by at_begun) u at_begun (Goes reply_out (Block (bad ∷ empty ∷ []) true) (Final (reply_head BadAnswer) true) with_both) → ⊥
-second_head_refused u may = no_second_head one_route (told_by at_begun) u at_begun reply_out (Block (bad ∷ empty ∷ []) true) (reply_head BadAnswer) true (codes "hi") true with_both half_out refl refl may
+second_head_refused u may = no_second_head one_route (told_by at_begun) u at_begun reply_out (Block (bad ∷ empty ∷ []) true) (reply_head BadAnswer) true (codes "hi") (Some []) with_both half_out refl refl may
 
 -- a farewell that isn't owed
 pub farewell_refused : (u : Summary) → MayDo one_route (told_by at_forwarded) u at_forwarded (Sends (plain (goaway 0 protocol_error)) encoded) → ⊥

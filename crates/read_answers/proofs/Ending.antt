@@ -1,5 +1,5 @@
 -- Where the upstream ends its connection and its response is whole with that, the reader's end is news of the offer.
-use Rattle.std.proofs.Common.{◌≡◌, ℕ, Bool, true, false, List, [], ◌∷◌, refl, sym, ap, ◌∙◌, subst, inl, if◌then◌else◌}
+use Rattle.std.proofs.Common.{◌≡◌, ℕ, Bool, true, false, List, [], ◌∷◌, ◌++◌, refl, sym, ap, ◌∙◌, subst, inl, if◌then◌else◌}
 use Rattle.std.specs.Prelude.{Option, Some, None, ◌||◌}
 use Rattle.std.proofs.lemmas.List.{append-nil}
 use Rattle.model.specs.ResponseHeads.Framing.{UntilEnd as IsUntilEnd}
@@ -9,47 +9,47 @@ use Rattle.model.specs.Setup.Passing.{Whole, Streaming}
 use Rattle.model.specs.Deliveries.{Delivery}
 use Rattle.model.specs.Available.{IsAnswered, IsShown}
 use Rattle.h1_reader.specs.Parts.{Part}
-use Rattle.h1_reader.specs.Standing.{State, StandsAt, Stands, IsPast, is_done}
+use Rattle.h1_reader.specs.Standing.{Held, State, StandsAt, Stands, IsPast, is_done}
 use Rattle.h1_reader.specs.declared.reader.Place.{Place}
 use Rattle.h1_reader.specs.declared.reader.Place.TheVariants.{Head, Sized, UntilEnd, Line, Chunk, ChunkEnd, ChunkReturn, Trailers, Past, Broken}
 use Rattle.h1_reader.proofs.ChunkEnds.{line_short, chunk_short, end_short, trailers_short, no_octets, one_octet}
 use Rattle.h1_reader.proofs.Ends.{head_short, sized_short, past_complete}
 use Rattle.h1_reader.proofs.Telling as telling
-use Rattle.offering.specs.Outbox.{first_head, with_news}
+use Rattle.offering.specs.Outbox.{trailers_at, first_head, with_news}
 use Rattle.offering.specs.Shown.{Tells}
 use Rattle.model.proofs.OfferLaws.{one_shown}
 use Rattle.offering.proofs.Parts.{same_delivery}
-use Rattle.read_answers.specs.Telling.{interims_of, head_of, body_of, all_told, begun, shown_of, news_at_end}
-use Rattle.read_answers.proofs.Reading.{told_behind, told_shown, not_whole}
+use Rattle.read_answers.specs.Telling.{interims_of, head_of, body_of, trailers_of, end_of, all_told, begun, shown_of, news_at_end}
+use Rattle.read_answers.proofs.Reading.{told_behind, none_told, told_shown, not_whole}
 
 -- all that was told, and that it is whole
 abbrev pub all_at_end : List Part → Delivery
-all_at_end parts = record { interims = interims_of parts; head = head_of parts; body = body_of parts; whole = true }
+all_at_end parts = record { interims = interims_of parts; head = head_of parts; body = body_of parts; trailers = trailers_at (trailers_of parts); whole = true }
 
 -- A response that its end completes is all that was told.
-whole_at_end : (place : Place) (to_head : Bool) (held text : List ℕ) (parts : List Part) → StandsAt place to_head held text parts → (IsPast to_head text parts → ⊥) → IsComplete text true to_head → IsAnswered text true to_head (all_at_end parts)
-whole_at_end (Head count) to_head held text parts b p w = absurd (head_short true to_head count held text parts b w)
+whole_at_end : (place : Place) (to_head : Bool) (held : Held) (text : List ℕ) (parts : List Part) → StandsAt place to_head held text parts → (IsPast to_head text parts → ⊥) → IsComplete text true to_head → IsAnswered text true to_head (all_at_end parts)
+whole_at_end (Head count) to_head held text parts b p w = absurd (head_short true to_head count held.octets text parts b w)
 whole_at_end (Sized left) to_head held text parts b p w = absurd (sized_short true to_head left text parts b w)
 whole_at_end (Line line) to_head held text parts b p w = absurd (line_short true to_head line text parts b w)
 whole_at_end (Chunk left) to_head held text parts b p w = absurd (chunk_short true to_head left text parts b w)
 whole_at_end ChunkEnd to_head held text parts b p w = absurd (end_short true to_head [] text parts no_octets b w)
 whole_at_end ChunkReturn to_head held text parts b p w = absurd (end_short true to_head (13 ∷ []) text parts one_octet b w)
-whole_at_end Trailers to_head held text parts b p w = absurd (trailers_short true to_head held text parts b w)
+whole_at_end Trailers to_head held text parts b p w = absurd (trailers_short true to_head held.octets text parts b w)
 whole_at_end UntilEnd to_head held text parts b p w =
     let r = b.body in
     let is = told_behind parts [] r.interims r.head r.bodies (inl refl) r.told in
     record {
-      response = record { interims = r.interims; head = r.head; body = b.octets };
-      is_whole = record { front = r.front; head_text = r.head_text; rest = b.octets; framing = IsUntilEnd; is = r.is; are_interims = r.are_interims; few_interims = r.few; is_final = r.is_final; body = (refl, refl) };
-      says = same_delivery is.0 is.1 (is.2 ∙ sym r.has_octets) refl;
+      response = record { interims = r.interims; head = r.head; body = b.octets; trailers = [] };
+      is_whole = record { front = r.front; head_text = r.head_text; rest = b.octets; framing = IsUntilEnd; is = r.is; are_interims = r.are_interims; few_interims = r.few; is_final = r.is_final; body = (refl, refl, refl) };
+      says = same_delivery is.0 is.1 (is.2 ∙ sym r.has_octets) (ap trailers_at (none_told parts r.interims r.head r.bodies r.told)) refl;
     }
 whole_at_end Past to_head held text parts b p w = absurd (p b)
 whole_at_end (Broken fault) to_head held text parts b p w = absurd b
 
 -- what is on offer with that
 with_end : (passing : Passing) (parts : List Part) → is_done parts ≡ false → with_news (shown_of passing parts) (news_at_end passing parts) ≡ all_at_end parts
-with_end Whole parts more = ap (λ b. with_news (if b then all_told parts else begun parts) (news_at_end Whole parts)) more ∙ same_delivery (append-nil (interims_of parts)) refl refl refl
-with_end Streaming parts more = same_delivery (append-nil (interims_of parts)) (no_other (head_of parts)) (append-nil (body_of parts)) (ap (λ b. b || true) more)
+with_end Whole parts more = ap (λ b. with_news (if b then all_told parts else begun parts) (news_at_end Whole parts)) more ∙ same_delivery (append-nil (interims_of parts)) refl refl refl refl
+with_end Streaming parts more = same_delivery (append-nil (interims_of parts)) (no_other (head_of parts)) (append-nil (body_of parts)) (ap (λ b. trailers_at (end_of b (trailers_of parts)) ++ trailers_at (trailers_of parts)) more) (ap (λ b. b || true) more)
   where
     no_other : (h : Option _) → first_head h None ≡ h
     no_other None = refl

@@ -5,21 +5,22 @@ use Rattle.std.specs.List.{concat}
 use Rattle.std.proofs.lemmas.List.{append-nil}
 use Rattle.std.proofs.lemmas.List.Folds.{list_any-append}
 use Rattle.std.proofs.lemmas.Bool.{cases_Bool}
+use Rattle.model.specs.Messages.{Field}
 use Rattle.model.specs.ResponseHeads.{Head}
 use Rattle.model.specs.Responses.{Seen}
 use Rattle.model.specs.Setup.{Passing}
 use Rattle.model.specs.Setup.Passing.{Whole, Streaming}
 use Rattle.model.specs.Deliveries.{Delivery}
 use Rattle.model.specs.Available.{shown, IsAnswered, IsBegun, IsShown}
-use Rattle.h1_reader.specs.Parts.{Part}
-use Rattle.h1_reader.specs.Parts.Part.{Interim, Final, Body, Done}
+use Rattle.h1_reader.specs.Parts.{Part, ends_with}
+use Rattle.h1_reader.specs.Parts.Part.{Interim, Final, Body, Trailing, Done}
 use Rattle.h1_reader.specs.Standing.{State, Stands, Hears, is_done, is_end}
 use Rattle.h1_reader.proofs.Telling as telling
-use Rattle.offering.specs.Outbox.{first_head, with_news}
+use Rattle.offering.specs.Outbox.{End, trailers_at, first_head, first_end, with_news}
 use Rattle.offering.specs.Shown.{Tells}
 use Rattle.offering.proofs.Parts.{same_delivery, none_more}
 use Rattle.model.proofs.OfferLaws.{one_shown}
-use Rattle.read_answers.specs.Telling.{interims_of, head_of, body_of, all_told, begun, shown_of, news_of}
+use Rattle.read_answers.specs.Telling.{interims_of, head_of, body_of, trailers_of, end_of, all_told, begun, shown_of, news_of}
 
 -- ---- parts in the form in which a reader tells them
 
@@ -37,16 +38,25 @@ body_behind (head ∷ heads) parts = body_behind heads parts
 
 -- parts behind the final head
 abbrev Ends : List Part → Type 0
-Ends ends = (ends ≡ []) ⊎ (ends ≡ Done ∷ [])
+Ends ends = (ends ≡ []) ⊎ ((trailers : List Field) × (ends ≡ ends_with trailers))
+
+-- of which none is an interim head, and none has octets of a body
+no_interims_at_end : (trailers : List Field) → interims_of (ends_with trailers) ≡ []
+no_interims_at_end [] = refl
+no_interims_at_end (field ∷ fields) = refl
+
+no_octets_at_end : (trailers : List Field) → body_of (ends_with trailers) ≡ []
+no_octets_at_end [] = refl
+no_octets_at_end (field ∷ fields) = refl
 
 no_interims : (bodies : List (List ℕ)) (ends : List Part) → Ends ends → interims_of (map Body bodies ++ ends) ≡ []
 no_interims [] ends (inl e) = ap interims_of e
-no_interims [] ends (inr e) = ap interims_of e
+no_interims [] ends (inr e) = ap interims_of e.1 ∙ no_interims_at_end e.0
 no_interims (body ∷ bodies) ends e = no_interims bodies ends e
 
 all_bodies : (bodies : List (List ℕ)) (ends : List Part) → Ends ends → body_of (map Body bodies ++ ends) ≡ concat bodies
 all_bodies [] ends (inl e) = ap body_of e
-all_bodies [] ends (inr e) = ap body_of e
+all_bodies [] ends (inr e) = ap body_of e.1 ∙ no_octets_at_end e.0
 all_bodies (body ∷ bodies) ends e = ap (λ x. body ++ x) (all_bodies bodies ends e)
 
 -- what was told behind a final head
@@ -57,6 +67,30 @@ told_behind parts ends interims head bodies e is = (
   ap head_of is ∙ head_behind interims (Final head ∷ (map Body bodies ++ ends)),
   ap body_of is ∙ body_behind interims (Final head ∷ (map Body bodies ++ ends)) ∙ all_bodies bodies ends e,
 )
+
+-- and of trailers
+trailers_behind_heads : (heads : List Head) (parts : List Part) → trailers_of (map Interim heads ++ parts) ≡ trailers_of parts
+trailers_behind_heads [] parts = refl
+trailers_behind_heads (head ∷ heads) parts = trailers_behind_heads heads parts
+
+trailers_behind_bodies : (bodies : List (List ℕ)) (parts : List Part) → trailers_of (map Body bodies ++ parts) ≡ trailers_of parts
+trailers_behind_bodies [] parts = refl
+trailers_behind_bodies (body ∷ bodies) parts = trailers_behind_bodies bodies parts
+
+last_trailers : (parts ends : List Part) (interims : List Head) (head : Head) (bodies : List (List ℕ)) → parts ≡ map Interim interims ++ (Final head ∷ map Body bodies ++ ends) → trailers_of parts ≡ trailers_of ends
+last_trailers parts ends interims head bodies is = ap trailers_of is ∙ trailers_behind_heads interims (Final head ∷ map Body bodies ++ ends) ∙ trailers_behind_bodies bodies ends
+
+-- no trailers were told
+pub none_told : (parts : List Part) (interims : List Head) (head : Head) (bodies : List (List ℕ)) → parts ≡ map Interim interims ++ (Final head ∷ map Body bodies ++ []) → trailers_of parts ≡ None
+none_told parts interims head bodies is = last_trailers parts [] interims head bodies is
+
+-- all of them were
+trailers_told : (parts : List Part) (interims : List Head) (head : Head) (bodies : List (List ℕ)) (trailers : List Field) → parts ≡ map Interim interims ++ (Final head ∷ map Body bodies ++ ends_with trailers) → trailers_at (trailers_of parts) ≡ trailers
+trailers_told parts interims head bodies trailers is = ap trailers_at (last_trailers parts (ends_with trailers) interims head bodies is) ∙ at trailers
+  where
+    at : (ts : List Field) → trailers_at (trailers_of (ends_with ts)) ≡ ts
+    at [] = refl
+    at (field ∷ fields) = refl
 
 told_before : (parts : List Part) (interims : List Head) → parts ≡ map Interim interims → (interims_of parts ≡ interims) × (head_of parts ≡ None) × (body_of parts ≡ [])
 told_before parts interims is =
@@ -69,8 +103,9 @@ told_before parts interims is =
 answered : (text : List ℕ) (parts : List Part) (state : State) → Stands text parts state → is_done parts ≡ true → IsAnswered text false state.to_head (all_told parts)
 answered text parts state s done =
     let w = telling.whole text parts state s done in
-    let is = told_behind parts (Done ∷ []) w.response.interims w.response.head w.bodies (inr refl) w.told in
-    record { response = w.response; is_whole = w.is_whole; says = same_delivery is.0 is.1 (is.2 ∙ sym w.has_body) done }
+    let is = told_behind parts (ends_with w.response.trailers) w.response.interims w.response.head w.bodies (inr (w.response.trailers, refl)) w.told in
+    let trailers = trailers_told parts w.response.interims w.response.head w.bodies w.response.trailers w.told in
+    record { response = w.response; is_whole = w.is_whole; says = same_delivery is.0 is.1 (is.2 ∙ sym w.has_body) (ap (λ b. trailers_at (end_of b (trailers_of parts))) done ∙ trailers) done }
 
 -- a beginning of one
 half : (passing : Passing) (text : List ℕ) (parts : List Part) (state : State) → Stands text parts state → is_done parts ≡ false → IsBegun passing text false state.to_head (shown passing (interims_of parts) (head_of parts) (body_of parts))
@@ -100,7 +135,7 @@ told_shown passing text parts state s = elim (cases_Bool (is_done parts)) [ inl 
 
     beginning : (p : Passing) → is_done parts ≡ false → IsBegun p text false state.to_head (shown_of p parts)
     beginning Whole more = subst (IsBegun Whole text false state.to_head) (sym (ap (λ b. if b then all_told parts else begun parts) more)) (half Whole text parts state s more)
-    beginning Streaming more = subst (IsBegun Streaming text false state.to_head) (same_delivery refl refl refl (sym more)) (half Streaming text parts state s more)
+    beginning Streaming more = subst (IsBegun Streaming text false state.to_head) (same_delivery refl refl refl (sym (ap (λ b. trailers_at (end_of b (trailers_of parts))) more)) (sym more)) (half Streaming text parts state s more)
 
 -- ---- news
 
@@ -109,6 +144,7 @@ interims_more [] b = refl
 interims_more (Interim head ∷ a) b = ap (λ x. head ∷ x) (interims_more a b)
 interims_more (Final head ∷ a) b = interims_more a b
 interims_more (Body octets ∷ a) b = interims_more a b
+interims_more (Trailing fields ∷ a) b = interims_more a b
 interims_more (Done ∷ a) b = interims_more a b
 
 pub head_more : (a b : List Part) → head_of (a ++ b) ≡ first_head (head_of a) (head_of b)
@@ -116,6 +152,7 @@ head_more [] b = refl
 head_more (Interim head ∷ a) b = head_more a b
 head_more (Final head ∷ a) b = refl
 head_more (Body octets ∷ a) b = head_more a b
+head_more (Trailing fields ∷ a) b = head_more a b
 head_more (Done ∷ a) b = head_more a b
 
 pub body_more : (a b : List Part) → body_of (a ++ b) ≡ body_of a ++ body_of b
@@ -123,21 +160,39 @@ body_more [] b = refl
 body_more (Interim head ∷ a) b = body_more a b
 body_more (Final head ∷ a) b = body_more a b
 body_more (Body octets ∷ a) b = ap (λ x. octets ++ x) (body_more a b) ∙ sym (append_assoc octets (body_of a) (body_of b))
+body_more (Trailing fields ∷ a) b = body_more a b
 body_more (Done ∷ a) b = body_more a b
+
+pub trailers_more : (a b : List Part) → trailers_of (a ++ b) ≡ first_end (trailers_of a) (trailers_of b)
+trailers_more [] b = refl
+trailers_more (Interim head ∷ a) b = trailers_more a b
+trailers_more (Final head ∷ a) b = trailers_more a b
+trailers_more (Body octets ∷ a) b = trailers_more a b
+trailers_more (Trailing fields ∷ a) b = refl
+trailers_more (Done ∷ a) b = trailers_more a b
+
+is_some_end : (done : Bool) (told : End) → is_some (end_of done told) ≡ done
+is_some_end true told = refl
+is_some_end false told = refl
 
 -- what is on offer with the news, where the response wasn't whole
 with_more : (passing : Passing) (parts added : List Part) → is_done parts ≡ false → with_news (shown_of passing parts) (news_of passing parts added) ≡ shown_of passing (parts ++ added)
-with_more Streaming parts added more = same_delivery (sym (interims_more parts added)) (sym (head_more parts added)) (sym (body_more parts added)) (sym (list_any-append is_end parts added))
+with_more Streaming parts added more =
+    let all : is_done (parts ++ added) ≡ is_done added = list_any-append is_end parts added ∙ ap (λ b. b || is_done added) more in
+    let told : End = trailers_of (parts ++ added) in
+    same_delivery (sym (interims_more parts added)) (sym (head_more parts added)) (sym (body_more parts added))
+    (ap (λ b. trailers_at (end_of b (trailers_of parts)) ++ trailers_at (end_of (is_done added) told)) more ∙ sym (ap (λ b. trailers_at (end_of b told)) all))
+    (ap (λ b. b || is_some (end_of (is_done added) told)) more ∙ is_some_end (is_done added) told ∙ sym all)
 with_more Whole parts added more =
     ap (λ b. with_news (if b then all_told parts else begun parts) (news_of Whole parts added)) more ∙ by (is_done added) refl
   where
-    by : (b : Bool) → is_done added ≡ b → with_news (begun parts) (if b then record { interims = interims_of added; head = head_of (parts ++ added); body = body_of (parts ++ added); ends = true } else record { interims = interims_of added; head = None; body = []; ends = false }) ≡ shown_of Whole (parts ++ added)
+    by : (b : Bool) → is_done added ≡ b → with_news (begun parts) (if b then record { interims = interims_of added; head = head_of (parts ++ added); body = body_of (parts ++ added); ends = Some (trailers_at (trailers_of (parts ++ added))) } else record { interims = interims_of added; head = None; body = []; ends = None }) ≡ shown_of Whole (parts ++ added)
     by true e =
         let done : is_done (parts ++ added) ≡ true = list_any-append is_end parts added ∙ ap (λ b. b || is_done added) more ∙ e in
-        same_delivery (sym (interims_more parts added)) refl refl (sym done) ∙ sym (ap (λ b. if b then all_told (parts ++ added) else begun (parts ++ added)) done)
+        same_delivery (sym (interims_more parts added)) refl refl (sym (ap (λ b. trailers_at (end_of b (trailers_of (parts ++ added)))) done)) (sym done) ∙ sym (ap (λ b. if b then all_told (parts ++ added) else begun (parts ++ added)) done)
     by false e =
         let still : is_done (parts ++ added) ≡ false = list_any-append is_end parts added ∙ ap (λ b. b || is_done added) more ∙ e in
-        same_delivery (sym (interims_more parts added)) refl refl refl ∙ sym (ap (λ b. if b then all_told (parts ++ added) else begun (parts ++ added)) still)
+        same_delivery (sym (interims_more parts added)) refl refl refl refl ∙ sym (ap (λ b. if b then all_told (parts ++ added) else begun (parts ++ added)) still)
 
 -- what is on offer isn't whole before the end was told
 pub not_whole : (passing : Passing) (parts : List Part) → is_done parts ≡ false → (shown_of passing parts).whole ≡ false

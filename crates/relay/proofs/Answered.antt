@@ -274,7 +274,7 @@ module _ (setup : Setup) (book : Book) (noted : Noted) (of : IsOfBlock noted.fra
     whole_gain block.GoesOn says = absurd says
     whole_gain (block.Begins head route) says = record { first = says.0; adds = adds_block says.1 (head_none (find book.rows noted.frame.id).brief says.0 says.2.no_cause) }
     whole_gain (block.Answered cause) says = none_replied setup told_then noted (cause_of cause) (caused_by ∙ says.1)
-    whole_gain block.Trailers says = adds_block says.1 says.2
+    whole_gain (block.Trailers trailers) says = adds_block says.1 says.2
     whole_gain block.Ignored says = none_behind setup told_then noted says.0
 
     -- what it calls for beside the farewell
@@ -285,7 +285,7 @@ module _ (setup : Setup) (book : Book) (noted : Noted) (of : IsOfBlock noted.fra
     whole_owes (block.Answered cause) says =
         block_owes faultless (reset_behind noted.frame.id (find book.rows noted.frame.id).head_out (cause_of cause))
         (a_reset setup told_then noted (cause_of cause) says.0 (caused_by ∙ says.1))
-    whole_owes block.Trailers says = uncaused says.2
+    whole_owes (block.Trailers trailers) says = uncaused says.2
     whole_owes block.Ignored says =
         block_owes faultless [] (same_cause setup told_then noted (ap (λ (c : Option Cause). first_of_both (find book.rows noted.frame.id).brief.cause c) caused_by ∙ says.1))
 

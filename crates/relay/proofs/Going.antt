@@ -22,7 +22,7 @@ use Rattle.conduct.specs.Rows.{Row, find, rows_after}
 use Rattle.conduct.specs.Book.{Book, summary_in}
 use Rattle.serving.specs.Told.{Told}
 use Rattle.serving.specs.State as serving
-use Rattle.serving.specs.Written.{octets_of}
+use Rattle.serving.specs.Written.{octets_of, trailers_in}
 use Rattle.serving.specs.State.{Way, Held, id_of, held_of, held_with, held_at, held_opened, kept, drop_from, Due, is_whole, goes_now, with_way}
 use Rattle.serving.specs.State.Way.{Waiting, Going, Dropped}
 use Rattle.serving.specs.State.Due.{Nothing, ToOpen, ToSend}
@@ -276,7 +276,7 @@ module _ (setup : Setup) (book : Book) (r : serving.State) (before : AllGoOn boo
           way : Way
           way = Waiting route text stage (body ++ octets_of item)
 
-          same_stage : (b : Bool) → b ≡ false → requests.IsGathered b old (body ++ octets_of item) written stage → stage ≡ old
+          same_stage : (b : Bool) → b ≡ false → requests.IsGathered b old (body ++ octets_of item) (trailers_in item) written stage → stage ≡ old
           same_stage false e g = g.1
           same_stage true e g = cc
 

@@ -20,6 +20,7 @@ use Rattle.model.specs.Failures.{IsJudged}
 use Rattle.model.specs.Offers.{is_to_head, IsGiven}
 use Rattle.model.proofs.DeliveryReadings.{one_connection, one_number}
 use Rattle.model.proofs.GivenLaws.{given_is}
+use Rattle.h1_reader.specs.HeadSizes.{field_octets}
 use Rattle.h1_reader.specs.Parts.{Part}
 use Rattle.h1_reader.specs.Standing.{Stands, Hears, Breaks, IsEnd, is_end, is_done}
 use Rattle.h1_reader.specs.declared.reader.Ended.TheVariants.{Complete, Short}
@@ -111,11 +112,12 @@ module _ (known : Known) (t : List Entry) (k stream : ℕ) (answer : Answer) (o 
     octets_judged fits = judging.goes_on known t k octets heard_so.parts added answer.reader new.reader heard_so.asked heard_so.stands hears fits
 
     -- what is kept then stands for all that was heard
-    pub octets_heard : length new.reader.held ≤ longest_section → is_done added ≡ false → new.way ≡ answer.way → Waits (passing_in new.way) (heard_so.parts ++ added) new → IsHeard known behind k new
-    octets_heard short goes_on same waits = record {
+    pub octets_heard : length new.reader.held.octets ≤ longest_section → field_octets new.reader.held.connections ≤ longest_section → is_done added ≡ false → new.way ≡ answer.way → Waits (passing_in new.way) (heard_so.parts ++ added) new → IsHeard known behind k new
+    octets_heard short named goes_on same waits = record {
       parts = heard_so.parts ++ added;
       stands = stands_now;
       short = short;
+      few_named = named;
       goes_on = done_behind heard_so.parts added heard_so.goes_on ∙ goes_on;
       waits = waits;
       asked = hears.same ∙ heard_so.asked ∙ ap is_to_head (sym (items_behind_event known t (Up k octets) (given k (opens t))));

@@ -4,7 +4,7 @@ use Rattle.std.specs.Prelude.{is_none}
 use Rattle.std.specs.List.{concat, list_any}
 use Rattle.std.proofs.lemmas.List.{nil_from_length}
 use Rattle.std.proofs.lemmas.Bool.{or_parts, eqb-true}
-use Rattle.model.specs.Messages.{Item}
+use Rattle.model.specs.Messages.{Field, Item}
 use Rattle.model.specs.Http2.{HasLength, declared_length, body_of}
 use Rattle.model.specs.Malformed.{declared, has_length, is_within}
 use Rattle.model.specs.Known.{Known}
@@ -134,23 +134,23 @@ part_of (Holding octet) not_so = refl
 part_of Chunking not_so = refl
 
 -- a text that isn't whole is of a head that didn't end its stream
-of_open_head : (parts : HeadParts) (ended : Bool) (text : List ℕ) (pieces : List (List ℕ)) (stage : Stage) → (stage ≡ Whole → ⊥) → Sending parts ended text pieces stage → Sending parts false text pieces stage
-of_open_head parts ended text pieces Whole part sending = absurd (part refl)
-of_open_head parts ended text pieces (Counting left) part sending = subst (λ b. SentCounting parts b text pieces left) sending.not_ended sending
-of_open_head parts ended text pieces (Holding octet) part sending = subst (λ b. SentHolding parts b text pieces octet) sending.not_ended sending
-of_open_head parts ended text pieces Chunking part sending = subst (λ b. SentChunking parts b text pieces) sending.not_ended sending
+of_open_head : (parts : HeadParts) (ended : Bool) (text : List ℕ) (pieces : List (List ℕ)) (trailers : List Field) (stage : Stage) → (stage ≡ Whole → ⊥) → Sending parts ended text pieces trailers stage → Sending parts false text pieces [] stage
+of_open_head parts ended text pieces trailers Whole part sending = absurd (part refl)
+of_open_head parts ended text pieces trailers (Counting left) part sending = subst (λ b. SentCounting parts b text pieces left) sending.not_ended sending
+of_open_head parts ended text pieces trailers (Holding octet) part sending = subst (λ b. SentHolding parts b text pieces octet) sending.not_ended sending
+of_open_head parts ended text pieces trailers Chunking part sending = subst (λ b. SentChunking parts b text pieces) sending.not_ended sending
 
 -- it may be ended behind octets with which it has the declared length
-ends_behind : (parts : HeadParts) (ended : Bool) (text : List ℕ) (pieces : List (List ℕ)) (stage : Stage) (octets : List ℕ) → (stage ≡ Whole → ⊥) → Sending parts ended text pieces stage
+ends_behind : (parts : HeadParts) (ended : Bool) (text : List ℕ) (pieces : List (List ℕ)) (trailers : List Field) (stage : Stage) (octets : List ℕ) → (stage ≡ Whole → ⊥) → Sending parts ended text pieces trailers stage
     → has_length parts.length (length (concat pieces) + length octets) ≡ true → MayEndBehind stage octets
-ends_behind parts ended text pieces Whole octets part sending long = part refl
-ends_behind parts ended text pieces (Counting left) octets part sending long =
+ends_behind parts ended text pieces trailers Whole octets part sending long = part refl
+ends_behind parts ended text pieces trailers (Counting left) octets part sending long =
     let is : length (concat pieces) + length octets ≡ length (concat pieces) + left = eqb-true (length (concat pieces) + length octets) (length (concat pieces) + left) (subst (λ (d : Option ℕ). has_length d (length (concat pieces) + length octets) ≡ true) sending.declared long) in
     omega arith
-ends_behind parts ended text pieces (Holding octet) octets part sending long =
+ends_behind parts ended text pieces trailers (Holding octet) octets part sending long =
     let is : length (concat pieces) + length octets ≡ length (concat pieces) = eqb-true (length (concat pieces) + length octets) (length (concat pieces)) (subst (λ (d : Option ℕ). has_length d (length (concat pieces) + length octets) ≡ true) sending.declared long) in
     nil_from_length octets (omega arith)
-ends_behind parts ended text pieces Chunking octets part sending long = tt
+ends_behind parts ended text pieces trailers Chunking octets part sending long = tt
 
 -- a request that waits, by its items
 waits_by : (items : List Item) (brief : Brief) (route : ℕ) (text : List ℕ) (stage : Stage) (body : List ℕ) → brief.declared ≡ declared items → brief.octets ≡ length (body_of items) → IsAwaited items text stage body → MayWait brief route text stage body
@@ -178,20 +178,23 @@ goes_by items brief text stage declared_is octets_is part w = record {
   parts = parts_of w.head;
   text = text;
   pieces = w.pieces;
-  sending = of_open_head (parts_of w.head) w.ended text w.pieces stage not_so w.sending;
+  sending = open_sending;
   counted = counted;
   declared = sent_declared;
   may_push = λ octets within.
-      room_to_push (parts_of w.head) w.ended text w.pieces stage (length octets) w.sending not_so
+      room_to_push (parts_of w.head) false text w.pieces stage (length octets) open_sending not_so
       (has_room (parts_of w.head).length w.pieces (length octets) (same is_within (length octets) ∙ within));
   full = λ octets long.
       told_length (parts_of w.head).length (concat w.pieces ++ octets)
       (ap (λ n. has_length (parts_of w.head).length n) (length-append (concat w.pieces) octets) ∙ same has_length (length octets) ∙ long);
-  may_end = λ octets long. ends_behind (parts_of w.head) w.ended text w.pieces stage octets not_so w.sending (same has_length (length octets) ∙ long);
+  may_end = λ octets long. ends_behind (parts_of w.head) false text w.pieces [] stage octets not_so open_sending (same has_length (length octets) ∙ long);
 }
   where
     not_so : stage ≡ Whole → ⊥
     not_so = not_whole stage part
+
+    open_sending : Sending (parts_of w.head) false text w.pieces [] stage
+    open_sending = of_open_head (parts_of w.head) w.ended text w.pieces _ stage not_so w.sending
 
     sent_declared : (parts_of w.head).length ≡ brief.declared
     sent_declared = sym (ap (λ (xs : List Item). declared xs) w.is) ∙ sym declared_is

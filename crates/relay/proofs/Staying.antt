@@ -129,6 +129,7 @@ heard_by_entry known t e k c unheard same begun is = record {
   parts = is.parts;
   stands = subst (λ x. Rattle.h1_reader.specs.Standing.Stands x is.parts c.answer.reader) (sym unheard) is.stands;
   short = is.short;
+  few_named = is.few_named;
   goes_on = is.goes_on;
   waits = is.waits;
   asked = is.asked ∙ head_stays known (given k (opens t)) t e begun ∙ ap (λ (os : List Opened). is_to_head (items known (given k os) (e ∷ t))) (sym same);

@@ -26,5 +26,5 @@ IsPlainGain setup s noted answer = added_in setup s noted ≡ []
 -- What one with a fragment gains: the head with which a request begins, or trailers, with the fields of the block; nothing by any other answer.
 abbrev pub IsBlockGain : Setup → Summary → Noted → List Field → Bool → BlockJudged → Type 0
 IsBlockGain setup s noted fields ends (block.Begins head route) = AddsHead setup s noted (Block fields ends)
-IsBlockGain setup s noted fields ends block.Trailers = Adds setup s noted (Block fields ends)
+IsBlockGain setup s noted fields ends (block.Trailers trailers) = Adds setup s noted (Block fields ends)
 IsBlockGain setup s noted fields ends answer = added_in setup s noted ≡ []

@@ -3,7 +3,7 @@ use Rattle.std.proofs.Common.{◌≡◌, ℕ, zero, suc, Bool, true, false, List
 use Rattle.std.specs.Prelude.{Option}
 use Rattle.std.proofs.lemmas.Bool.Decides.{nat_tests}
 use Rattle.model.specs.Messages.{Field}
-use Rattle.model.specs.Http2.{WellFormedHead, HasLength, declared_length}
+use Rattle.model.specs.Http2.{WellFormedHead, WellFormedTrailers, HasLength, declared_length}
 use Rattle.model.specs.Malformed.{is_well_formed, are_trailers, has_length, carried_by, is_malformed_block}
 use Rattle.model.proofs.MalformedLaws.{head_holds, head_told, trailers_hold}
 use Rattle.request_rules.specs.declared.rule.Rule.{Rule}
@@ -68,24 +68,31 @@ either_way false wrong h = refl
 pub head_fails : (r : Rule) (fields : List Field) (ends : Bool) → IsFirstBroken r fields ends → (r ≡ rule.Memory → ⊥) → is_malformed_block (carried_by [] false) fields ends ≡ true
 head_fails r fields ends h n = either_way (is_well_formed fields) (ends && not (has_length (declared_length fields) 0)) (λ e. broken r fields ends (head_holds fields e) n h)
 
-no_trailers : (r : Rule) (fields : List Field) → IsFirstBrokenByTrailers r fields → are_trailers fields ≡ true → ⊥
-no_trailers rule.PseudoField fields h e = h.broken (trailers_hold fields e).no_pseudo_field
-no_trailers rule.Name fields h e = h.broken (trailers_hold fields e).names_hold
-no_trailers rule.Value fields h e = h.broken (trailers_hold fields e).values_hold
-no_trailers rule.ConnectionField fields h e = h.broken (trailers_hold fields e).no_connection_field
-no_trailers rule.Te fields h e = h.broken tt
-no_trailers rule.Method fields h e = h.broken tt
-no_trailers rule.Scheme fields h e = h.broken tt
-no_trailers rule.Path fields h e = h.broken tt
-no_trailers rule.Authority fields h e = h.broken tt
-no_trailers rule.ContentLength fields h e = h.broken tt
-no_trailers rule.Length fields h e = h.broken tt
-no_trailers rule.Memory fields h e = h.broken tt
+no_trailers : (r : Rule) (fields : List Field) → IsFirstBrokenByTrailers r fields → (r ≡ rule.Memory → ⊥) → are_trailers fields ≡ true → ⊥
+no_trailers rule.PseudoField fields h n e = h.broken (trailers_hold fields e).no_pseudo_field
+no_trailers rule.Name fields h n e = h.broken (trailers_hold fields e).names_hold
+no_trailers rule.Value fields h n e = h.broken (trailers_hold fields e).values_hold
+no_trailers rule.ConnectionField fields h n e = h.broken (trailers_hold fields e).no_connection_field
+no_trailers rule.Te fields h n e = h.broken tt
+no_trailers rule.Method fields h n e = h.broken tt
+no_trailers rule.Scheme fields h n e = h.broken tt
+no_trailers rule.Path fields h n e = h.broken tt
+no_trailers rule.Authority fields h n e = h.broken tt
+no_trailers rule.ContentLength fields h n e = h.broken tt
+no_trailers rule.Length fields h n e = h.broken tt
+no_trailers rule.Memory fields h n e = n refl
 
 is_false : (b : Bool) → (b ≡ true → ⊥) → b ≡ false
 is_false true n = absurd (n refl)
 is_false false n = refl
 
 -- trailers that break a rule are none
-pub trailers_fail : (r : Rule) (fields : List Field) → IsFirstBrokenByTrailers r fields → are_trailers fields ≡ false
-trailers_fail r fields h = is_false (are_trailers fields) (no_trailers r fields h)
+pub trailers_fail : (r : Rule) (fields : List Field) → IsFirstBrokenByTrailers r fields → (r ≡ rule.Memory → ⊥) → are_trailers fields ≡ false
+trailers_fail r fields h n = is_false (are_trailers fields) (no_trailers r fields h n)
+
+-- where nothing but memory is wrong they keep all rules
+pub trailers_kept : (fields : List Field) → WellFormedTrailers fields → IsFirstBrokenByTrailers rule.Memory fields
+trailers_kept fields w = record {
+  kept = (w.no_pseudo_field, (w.names_hold, (w.values_hold, (w.no_connection_field, (tt, (tt, (tt, (tt, (tt, (tt, (tt, tt)))))))))));
+  broken = λ e. e;
+}

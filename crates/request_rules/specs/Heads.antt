@@ -1,7 +1,7 @@
 -- What a checked head says.
 use Rattle.std.specs.Prelude.{◌≡◌, ℕ, false, List, Option}
 use Rattle.model.specs.Messages.{Field, Request}
-use Rattle.model.specs.Http2.{method_of, path_of, authority_of, fields_of, declared_length, is_connect, WellFormedHead}
+use Rattle.model.specs.Http2.{method_of, path_of, authority_of, fields_of, declared_length, trailers_beside, is_connect, WellFormedHead}
 
 -- the parts of a head that a request is made of, and the length that it declares
 pub record HeadParts : Type 0 where
@@ -28,12 +28,13 @@ pub record IsRequestHead (parts : HeadParts) : Type 0 where
   pub no_connect : is_connect head ≡ false
   pub is : parts ≡ parts_of head
 
--- the request of a head's parts and a body
-abbrev pub request_with : HeadParts → List ℕ → Request
-request_with parts body = record {
+-- the request of a head's parts, a body, and trailers that are passed on, which stand beside no declared length
+abbrev pub request_with : HeadParts → List ℕ → List Field → Request
+request_with parts body trailers = record {
   method = parts.method;
   target = parts.path;
   authority = parts.authority;
   fields = parts.fields;
   body = body;
+  trailers = trailers_beside parts.length trailers;
 }

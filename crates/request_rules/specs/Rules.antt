@@ -50,12 +50,14 @@ pub record IsFirstBroken (rule : Rule) (head : List Field) (ended : Bool) : Type
   pub kept : Keeps (take (place rule) in_order) head ended
   pub broken : Asks rule head ended → ⊥
 
--- What the rules ask of trailers: no pseudo-field, and the rules of names, values and the connection.
+-- What the rules ask of trailers: no pseudo-field, and the rules of names, values and the connection. Where memory is refused no trailers
+-- are right.
 abbrev pub AsksOfTrailers : Rule → List Field → Type 0
 AsksOfTrailers PseudoField trailers = pseudo_fields trailers ≡ []
 AsksOfTrailers Name trailers = NamesHold trailers
 AsksOfTrailers Value trailers = ValuesHold trailers
 AsksOfTrailers ConnectionField trailers = HasNoConnectionField trailers
+AsksOfTrailers Memory trailers = ⊥
 AsksOfTrailers _ trailers = Unit {0}
 
 -- trailers keep all of these rules

@@ -1,14 +1,14 @@
 //! The first rule that is broken.
 
 ghost use Rattle.std.specs.Prelude.{◌≡◌, true, false, [], MatchBool, MatchOption, take, IfOk, OnOk, IfErr, OnErr};
-ghost use Rattle.model.specs.Http2.{LengthFieldHolds, HasLength, declared_length, is_connect, WellFormedHead, WellFormedTrailers};
+ghost use Rattle.model.specs.Http2.{LengthFieldHolds, HasLength, declared_length, is_connect, WellFormedHead, WellFormedTrailers, passed_trailers};
 ghost use Rattle.model.specs.Malformed.{carried_by, is_malformed_block, are_trailers};
 ghost use Rattle.request_rules.specs.Heads.{parts_of, IsRequestHead};
 ghost use Rattle.request_rules.specs.Rules.{IsFirstBroken, IsFirstBrokenByTrailers, Keeps, in_order};
 
 use crate::head::RequestHead;
 use crate::rule::Rule;
-use crate::{fields, octets, rules};
+use crate::{fields, octets, rules, trailers};
 use hpack_table::Field;
 use std::alloc::Global;
 
@@ -107,25 +107,41 @@ pub fn check_head(alloc: Global, head: &[Field], ended: bool) -> Result<RequestH
     }
 }
 
-/// Checks the trailers of a request (RFC 9113, section 8.1). An error is the first rule, in the order of [`Rule`], that they
-/// break: one of pseudo-fields, names, values and fields of the connection.
-pub fn check_trailers(trailers: &[Field]) -> Result<(), Rule>
-    ensures ok { OnOk result (WellFormedTrailers trailers.now) }
+/// Checks the trailers of a request (RFC 9113, section 8.1), and answers those that are passed on. An error is the first rule, in the
+/// order of [`Rule`], that they break: one of pseudo-fields, names, values and fields of the connection; `Memory` comes where they
+/// break none.
+pub fn check_trailers(alloc: Global, trailers: &[Field]) -> Result<Vec<Field>, Rule>
+    ensures ok { IfOk result (λ fields. fields.items ≡ passed_trailers trailers.now) }
+    ensures kept { OnOk result (WellFormedTrailers trailers.now) }
     ensures refused { IfErr result (λ rule. IsFirstBrokenByTrailers rule trailers.now) }
 
     // The same by the test of trailers.
     ensures passes { OnOk result (are_trailers trailers.now ≡ true) }
-    ensures malformed { OnErr result (are_trailers trailers.now ≡ false) }
+    ensures malformed { IfErr result (λ rule. (rule ≡ Rule.Memory → ⊥) → are_trailers trailers.now ≡ false) }
+    ensures memory { IfErr result (λ rule. rule ≡ Rule.Memory → are_trailers trailers.now ≡ true) }
+{
+    if let Some(broken) = first_broken_by_trailers(trailers) {
+        return Err(broken);
+    }
+    match trailers::passed(alloc, trailers) {
+        Ok(passed) => Ok(passed),
+        Err(_) => Err(Rule::Memory),
+    }
+}
+
+/// Whether trailers keep the rules of a request's (RFC 9113, section 8.1).
+pub fn are_trailers(trailers: &[Field]) -> bool
+    ensures { result ≡ are_trailers trailers.now }
 {
     match first_broken_by_trailers(trailers) {
-        None => Ok(()),
-        Some(rule) => Err(rule),
+        None => true,
+        Some(_) => false,
     }
 }
 
 /// The first rule that trailers break.
 fn first_broken_by_trailers(trailers: &[Field]) -> Option<Rule>
-    ensures { MatchOption result (WellFormedTrailers trailers.now) (λ rule. IsFirstBrokenByTrailers rule trailers.now) }
+    ensures { MatchOption result (WellFormedTrailers trailers.now) (λ rule. IsFirstBrokenByTrailers rule trailers.now × (rule ≡ Rule.Memory → ⊥)) }
 {
     if !rules::has_no_pseudo_field(trailers) {
         return Some(Rule::PseudoField);

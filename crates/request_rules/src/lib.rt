@@ -8,8 +8,9 @@ mod head;
 mod octets;
 mod rule;
 mod rules;
+mod trailers;
 
 pub use crate::body_count::BodyCount;
-pub use crate::check::{check_head, check_trailers};
+pub use crate::check::{are_trailers, check_head, check_trailers};
 pub use crate::head::RequestHead;
 pub use crate::rule::Rule;

@@ -1,6 +1,7 @@
 -- A request that goes out as it comes, and what goes out for octets of its body.
-use Rattle.std.specs.Prelude.{◌≡◌, ℕ, Bool, true, false, List, ◌++◌, length}
+use Rattle.std.specs.Prelude.{◌≡◌, ℕ, Bool, true, false, List, [], ◌++◌, length}
 use Rattle.std.specs.List.{concat}
+use Rattle.model.specs.Messages.{Field}
 use Rattle.model.specs.Http2.{HasLength}
 use Rattle.request_rules.specs.Heads.{HeadParts}
 use Rattle.h1_writer.specs.Sending.{Stage, Sending, Continues, MayPush}
@@ -13,12 +14,12 @@ pub record MayGo (stage : Stage) (octets : List ℕ) (ends : Bool) : Type 0 wher
   pub ended : Bool
   pub text : List ℕ
   pub pieces : List (List ℕ)
-  pub sending : Sending parts ended text pieces stage
+  pub sending : Sending parts ended text pieces [] stage
   pub may_push : MayPush stage (length octets)
   pub has_length : ends ≡ true → HasLength parts.length (concat pieces ++ octets)
 
--- The text goes on with what is written for the octets, and is whole behind it just where they end the body.
-pub record GoesOn (old : Stage) (octets : List ℕ) (ends : Bool) (written : List ℕ) (new : Stage) : Type 0 where
-  pub continues : Continues old written octets new
+-- The text goes on with what is written for the octets, and is whole behind it, with these trailers, just where they end the body.
+pub record GoesOn (old : Stage) (octets : List ℕ) (trailers : List Field) (ends : Bool) (written : List ℕ) (new : Stage) : Type 0 where
+  pub continues : Continues old written octets trailers new
   pub whole : ends ≡ true → new ≡ Whole
   pub part : ends ≡ false → new ≡ Whole → ⊥

@@ -1,5 +1,6 @@
 -- A request that waits for its end, as the rule of requests has it, and what it may end with.
 use Rattle.std.specs.Prelude.{◌≡◌, ℕ, ◌+◌, ◌<◌, ◌≤◌, false, List, [], ◌++◌}
+use Rattle.model.specs.Messages.{Field}
 use Rattle.model.specs.Http2.{HasLength}
 use Rattle.request_rules.specs.Heads.{HeadParts}
 use Rattle.h1_writer.specs.Sending.{Stage, Sending, Continues, MayFinish}
@@ -23,23 +24,23 @@ pub record IsLaid (stage : Stage) (head body all : ℕ) : Type 0 where
 -- The request may end behind these octets: its body has the length that its head declares, if it declares one.
 pub record MayEnd (request : Request) (octets : List ℕ) : Type 0 where
   pub parts : HeadParts
-  pub sending : Sending parts false request.text [] request.stage
+  pub sending : Sending parts false request.text [] [] request.stage
   pub goes_on : request.stage ≡ Whole → ⊥
   pub has_length : HasLength parts.length (request.body ++ octets)
 
--- The text is that of its head, and behind it what is written for the whole body at once.
-pub record IsEnded (request : Request) (octets text : List ℕ) : Type 0 where
+-- The text is that of its head, and behind it what is written for the whole body at once, and for these trailers.
+pub record IsEnded (request : Request) (octets : List ℕ) (trailers : List Field) (text : List ℕ) : Type 0 where
   pub written : List ℕ
   pub is : text ≡ request.text ++ written
-  pub continues : Continues request.stage written (request.body ++ octets) Whole
+  pub continues : Continues request.stage written (request.body ++ octets) trailers Whole
 
 -- Nothing of this body was sent, whose octets came in any pieces: its length is the declared one, if one is, and the text may be ended behind it.
 pub record Ends (stage : Stage) (head body : List ℕ) : Type 0 where
   pub parts : HeadParts
-  pub sending : Sending parts false head [] stage
+  pub sending : Sending parts false head [] [] stage
   pub goes_on : stage ≡ Whole → ⊥
   pub has_length : HasLength parts.length body
 
--- The text is this head's, and behind it what is written for the whole body at once.
-abbrev pub IsEndedText : List ℕ → Stage → List ℕ → List ℕ → Type 0
-IsEndedText head stage body text = (written : List ℕ) × (text ≡ head ++ written) × Continues stage written body Whole
+-- The text is this head's, and behind it what is written for the whole body at once, and for these trailers.
+abbrev pub IsEndedText : List ℕ → Stage → List ℕ → List Field → List ℕ → Type 0
+IsEndedText head stage body trailers text = (written : List ℕ) × (text ≡ head ++ written) × Continues stage written body trailers Whole

@@ -6,6 +6,7 @@ ghost use Rattle.requests.specs.Going.{MayGo, GoesOn};
 
 use crate::waiting::CHUNK_ROOM;
 use h1_writer::Sender;
+use hpack_table::Field;
 use std::alloc::{AllocError, Global};
 use std::marker::Model;
 
@@ -38,18 +39,24 @@ impl Going {
         !self.sender.may_push(0)
     }
 
-    /// What goes out for these octets of its body, and with its end where they end it (RFC 9112, sections 6 and 7.1). An `Err` says that
-    /// memory was refused.
-    pub fn pass(&mut self, alloc: Global, octets: &[u8], ends: bool) -> Result<Vec<u8>, AllocError>
+    /// What goes out for these octets of its body, and with its end and these trailers where they end it (RFC 9112, sections 6 and 7.1). An
+    /// `Err` says that memory was refused.
+    pub fn pass(
+        &mut self,
+        alloc: Global,
+        octets: &[u8],
+        ends: bool,
+        trailers: &[Field],
+    ) -> Result<Vec<u8>, AllocError>
         requires { MayGo self.old octets.now ends }
-        ensures { IfOk result (λ text. GoesOn self.old octets.now ends text.items self.new) }
+        ensures { IfOk result (λ text. GoesOn self.old octets.now trailers.now ends text.items self.new) }
     {
         let mut text = Vec::with_capacity(alloc, octets.len().saturating_add(CHUNK_ROOM))?;
         self.sender.push(octets, &mut text)?;
         if !ends {
             return Ok(text);
         }
-        self.sender.finish(&mut text)?;
+        self.sender.finish(trailers, &mut text)?;
         Ok(text)
     }
 }

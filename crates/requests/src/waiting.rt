@@ -7,6 +7,7 @@ ghost use Rattle.requests.specs.Beginning.{IsBegun};
 
 use crate::going::Going;
 use h1_writer::{LINE_ROOM, Sender, Text};
+use hpack_table::Field;
 use request_rules::RequestHead;
 use std::alloc::{AllocError, Global};
 use std::marker::Model;
@@ -90,15 +91,21 @@ pub fn begin(
     }))
 }
 
-/// The whole text of a request whose head is this text, and which may be ended, where nothing of the body was sent: its head, and the body in one piece.
-fn end_text(mut sender: Sender, head: Vec<u8>, body: &[u8]) -> Result<Vec<u8>, AllocError>
+/// The whole text of a request whose head is this text, and which may be ended, where nothing of the body was sent: its head, the
+/// body in one piece, and these trailers.
+fn end_text(
+    mut sender: Sender,
+    head: Vec<u8>,
+    body: &[u8],
+    trailers: &[Field],
+) -> Result<Vec<u8>, AllocError>
     requires { Ends sender head.items body.now }
-    ensures { IfOk result (λ text. IsEndedText head.items sender body.now text.items) }
+    ensures { IfOk result (λ text. IsEndedText head.items sender body.now trailers.now text.items) }
 {
     let mut text = head;
     text.reserve(body.len().saturating_add(CHUNK_ROOM))?;
     sender.push(body, &mut text)?;
-    sender.finish(&mut text)?;
+    sender.finish(trailers, &mut text)?;
     Ok(text)
 }
 
@@ -145,11 +152,11 @@ impl Waiting {
         (octets, Going::by(sender))
     }
 
-    /// The whole text, where these octets end the body: that of the head, and the body in one piece (RFC 9112, sections 6 and 7.1). An `Err`
-    /// says that memory was refused.
-    pub fn finish(self, octets: &[u8]) -> Result<Text, AllocError>
+    /// The whole text, where these octets end the body: that of the head, the body in one piece, and behind chunks these trailers
+    /// (RFC 9112, sections 6 and 7.1). An `Err` says that memory was refused.
+    pub fn finish(self, octets: &[u8], trailers: &[Field]) -> Result<Text, AllocError>
         requires { MayEnd self octets.now }
-        ensures { IfOk result (IsEnded self octets.now) }
+        ensures { IfOk result (IsEnded self octets.now trailers.now) }
     {
         let Waiting {
             sender,
@@ -166,10 +173,10 @@ impl Waiting {
         if text.len() == body {
             // The body came in one frame.
             text.truncate(head);
-            let whole = end_text(sender, text, octets)?;
+            let whole = end_text(sender, text, octets, trailers)?;
             return Ok(Text::from_octets(whole));
         }
         text.extend_from_slice(octets)?;
-        sender.close(text, head, body)
+        sender.close(text, head, body, trailers)
     }
 }

@@ -19,6 +19,7 @@ enum Next {
     Early(u16),
     Final(u16, bool),
     Octets(usize, bool),
+    Trailers(usize),
 }
 
 /// What happens to an answer, and what that comes to: octets come, the connection ends, or what goes next goes.
@@ -47,6 +48,11 @@ fn send(outbox: &mut Outbox) -> Next {
             let status = head.status();
             let _head = outbox.take_head();
             Next::Final(status, ends)
+        }
+        Some(Part::Trailing(fields)) => {
+            let count = fields.len();
+            let _trailers = outbox.take_trailers();
+            Next::Trailers(count)
         }
     }
 }
@@ -168,6 +174,36 @@ fn the_end_makes_a_response_whole_or_cuts_it_short(rt: HostRuntime) -> Result<()
         Step::Ends(Ended::Short),
     ];
     let first = first_that_differs(rt.alloc(), Passing::Whole(100), &cut)?;
+    assert_eq!(rt; first, None);
+    Ok(())
+}
+
+/// A response in chunks, behind which two fields are passed back and one isn't.
+const TRAILING: &[u8] =
+    b"HTTP/1.1 200 OK\r\nTransfer-Encoding: chunked\r\n\r\n2\r\nhi\r\n0\r\nX-A: 1\r\nContent-Length: 2\r\nX-B: 3\r\n\r\n";
+
+#[test]
+fn trailers_go_behind_the_body(rt: HostRuntime) -> Result<(), Fail> {
+    let whole = [
+        Step::Hears(TRAILING, Heard::Whole),
+        Step::Sends(Next::Final(200, false)),
+        Step::Sends(Next::Octets(2, false)),
+        Step::Sends(Next::Trailers(2)),
+        Step::Sends(Next::Nothing),
+    ];
+    let first = first_that_differs(rt.alloc(), Passing::Whole(2), &whole)?;
+    assert_eq!(rt; first, None);
+    let (front, rest) = TRAILING.split_at(TRAILING.len() - 1);
+    let streamed = [
+        Step::Hears(front, Heard::GoesOn),
+        Step::Sends(Next::Final(200, false)),
+        Step::Sends(Next::Octets(2, false)),
+        Step::Sends(Next::Nothing),
+        Step::Hears(rest, Heard::Whole),
+        Step::Sends(Next::Trailers(2)),
+        Step::Sends(Next::Nothing),
+    ];
+    let first = first_that_differs(rt.alloc(), Passing::Streaming, &streamed)?;
     assert_eq!(rt; first, None);
     Ok(())
 }

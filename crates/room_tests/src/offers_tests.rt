@@ -22,6 +22,7 @@ enum Next {
     Early(u16),
     Final(u16, bool),
     Octets(usize, bool),
+    Trailers(usize),
 }
 
 /// What goes next on a stream, where so many octets may.
@@ -31,6 +32,7 @@ fn upcoming(offers: &Offers, id: u32, most: usize) -> Next {
         Some(Part::Early(head)) => Next::Early(head.status()),
         Some(Part::Final(head, ends)) => Next::Final(head.status(), ends),
         Some(Part::Octets(front, back, ends)) => Next::Octets(front.len() + back.len(), ends),
+        Some(Part::Trailing(fields)) => Next::Trailers(fields.len()),
     }
 }
 
@@ -45,6 +47,7 @@ fn send(offers: &mut Offers, id: u32, most: usize) -> Next {
         }
         Some(Part::Early(_)) => Next::Early(offers.take_head(id).status()),
         Some(Part::Final(_, ends)) => Next::Final(offers.take_head(id).status(), ends),
+        Some(Part::Trailing(_)) => Next::Trailers(offers.take_trailers(id).len()),
     }
 }
 

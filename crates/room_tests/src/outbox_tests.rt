@@ -60,9 +60,10 @@ fn pieces_of(alloc: Global, octets: &[u8]) -> Result<Vec<Piece>, Fail> {
 fn add(alloc: Global, outbox: &mut Outbox, piece: Piece) -> Result<(), AllocError> {
     match piece {
         Piece::Interim(head) => outbox.add_interim(head),
-        Piece::Head(head) => outbox.add(Some(head), Vec::new(alloc), false),
-        Piece::Body(body) => outbox.add(None, body, false),
-        Piece::Done => outbox.add(None, Vec::new(alloc), true),
+        Piece::Head(head) => outbox.add(Some(head), Vec::new(alloc), None),
+        Piece::Body(body) => outbox.add(None, body, None),
+        Piece::Trailers(trailers) => outbox.add(None, Vec::new(alloc), Some(Some(trailers))),
+        Piece::Done => outbox.add(None, Vec::new(alloc), Some(None)),
     }
 }
 
@@ -108,7 +109,11 @@ fn are_octets(part: Option<Part<'_>>, front: &[u8], back: &[u8], ends: bool) -> 
 fn answers(alloc: Global, outbox: &mut Outbox, call: Call<'_>) -> Result<bool, Fail> {
     match call {
         Call::Come(octets) => come(alloc, outbox, octets)?,
-        Call::Add(octets, ends) => outbox.add(None, Vec::from_slice(alloc, octets)?, ends)?,
+        Call::Add(octets, ends) => outbox.add(
+            None,
+            Vec::from_slice(alloc, octets)?,
+            if ends { Some(None) } else { None },
+        )?,
         Call::Reply(response) => return reply(alloc, outbox, response),
         Call::Nothing(most) => return Ok(outbox.next(most).is_none()),
         Call::Head(status, ends) => return Ok(is_head(outbox.next(1), status, ends)),

@@ -89,8 +89,8 @@ fn due_behind(rt: &impl Abort, upstreams: &mut Upstreams, head: &RequestHead) ->
     requires { head.now.length ≡ None }
 {
     assert!(rt; is_nothing(&upstreams.begin(3, 7, head, false, false)?));
-    assert!(rt; is_nothing(&upstreams.take_body(3, b"hel", false)?));
-    Ok(upstreams.take_body(3, b"lo", true)?)
+    assert!(rt; is_nothing(&upstreams.take_body(3, b"hel", false, &[])?));
+    Ok(upstreams.take_body(3, b"lo", true, &[])?)
 }
 
 #[test]
@@ -240,7 +240,7 @@ fn due_beside(rt: &impl Abort, upstreams: &mut Upstreams, head: &RequestHead) ->
 {
     assert!(rt; is_nothing(&upstreams.begin(3, 7, head, false, false)?));
     upstreams.forget(5);
-    Ok(upstreams.take_body(3, b"y", true)?)
+    Ok(upstreams.take_body(3, b"y", true, &[])?)
 }
 
 #[test]
@@ -269,18 +269,18 @@ fn assert_goes_out(
         return Err(Fail::from("it waits"));
     };
     let k = upstreams.open(request.stream, false, Passing::Streaming, request.rest)?;
-    let Due::ToSend { number, text } = upstreams.take_body(3, b"hel", false)? else {
+    let Due::ToSend { number, text } = upstreams.take_body(3, b"hel", false, &[])? else {
         return Err(Fail::from("nothing goes out"));
     };
     assert_eq!(rt; (number, text.as_slice()), (k, b"3\r\nhel\r\n".as_slice()));
-    let Due::ToSend { number, text } = upstreams.take_body(3, b"lo", true)? else {
+    let Due::ToSend { number, text } = upstreams.take_body(3, b"lo", true, &[])? else {
         return Err(Fail::from("nothing goes out"));
     };
     assert_eq!(rt;
         (number, text.as_slice()),
         (k, b"2\r\nlo\r\n0\r\n\r\n".as_slice())
     );
-    assert!(rt; is_nothing(&upstreams.take_body(3, b"", true)?));
+    assert!(rt; is_nothing(&upstreams.take_body(3, b"", true, &[])?));
     Ok(())
 }
 
@@ -305,8 +305,8 @@ fn assert_goes_nowhere(
     };
     let k = upstreams.open(request.stream, false, Passing::Streaming, request.rest)?;
     upstreams.close(k);
-    assert!(rt; is_nothing(&upstreams.take_body(3, b"hel", false)?));
-    assert!(rt; is_nothing(&upstreams.take_body(3, b"lo", true)?));
+    assert!(rt; is_nothing(&upstreams.take_body(3, b"hel", false, &[])?));
+    assert!(rt; is_nothing(&upstreams.take_body(3, b"lo", true, &[])?));
     Ok(())
 }
 

@@ -37,7 +37,7 @@ pub(crate) fn one_more_than_a_hundred(alloc: Global) -> Result<Transcript, Alloc
         C 000004 03 00 000000c9 00000007
         > C 000001 01 05 00000001 be
         O 100 0
-        U 100 {POST} 'transfer-encoding: chunked' {CLOSE} '0\r\n\r\n'
+        U 100 {POST} 'transfer-encoding: chunked' {CLOSE} '0\r\nx-a: 1\r\n\r\n'
     ",
     )?;
     Ok(transcript)

@@ -4,7 +4,7 @@ use crate::transcripts::{NOTHING, REQUEST, Row, START, assert_rows};
 use std::test::*;
 
 /// Requests that go upstream.
-pub static PASSED_ON: [Row; 10] = [
+pub static PASSED_ON: [Row; 11] = [
     Row {
         name: "a request in one piece",
         begins: NOTHING,
@@ -80,13 +80,25 @@ pub static PASSED_ON: [Row; 10] = [
         ",
     },
     Row {
-        name: "trailers are dropped",
+        name: "trailers are passed on",
         begins: START,
         goes_on: r"
             > C 000014 01 04 00000001 {B}
             > C 000007 01 05 00000001 4003782d610131
             O 1 0
-            U 1 {POST} 'transfer-encoding: chunked' {CLOSE} '0\r\n\r\n'
+            U 1 {POST} 'transfer-encoding: chunked' {CLOSE} '0\r\nx-a: 1\r\n\r\n'
+        ",
+    },
+    Row {
+        name: "a declared length, behind which trailers are dropped",
+        begins: START,
+        goes_on: r"
+            > C 000018 01 04 00000001 {B} 0f0d0132
+            > C 000002 00 00 00000001 'hi'
+            C 000004 08 00 00000000 00000002 000004 08 00 00000001 00000002
+            > C 000007 01 05 00000001 4003 'x-a' 0131
+            O 1 0
+            U 1 {POST} 'content-length: 2' {CLOSE} 'hi'
         ",
     },
     Row {

@@ -5,7 +5,7 @@ use std::alloc::{AllocError, Global};
 use std::test::*;
 
 /// Responses that go back.
-pub static PASSED_BACK: [Row; 12] = [
+pub static PASSED_BACK: [Row; 14] = [
     Row {
         name: "a response with a length",
         begins: REQUEST,
@@ -130,10 +130,28 @@ pub static PASSED_BACK: [Row; 12] = [
         ",
     },
     Row {
-        name: "a trailer section is dropped",
+        name: "trailers are passed back, but for a length",
         begins: REQUEST,
         goes_on: r"
-            > U 1 'HTTP/1.1 200 OK\r\nTransfer-Encoding: chunked\r\n\r\n2\r\nhi\r\n0\r\nX-B: 2\r\n\r\n'
+            > U 1 'HTTP/1.1 200 OK\r\nTransfer-Encoding: chunked\r\n\r\n2\r\nhi\r\n0\r\nX-B: 2\r\nContent-Length: 9\r\n\r\n'
+            X 1
+            C 000001 01 04 00000001 88 000002 00 00 00000001 'hi' 000007 01 05 00000001 0003 'x-b' 0132
+        ",
+    },
+    Row {
+        name: "trailers that are for the connection aren't passed back",
+        begins: REQUEST,
+        goes_on: r"
+            > U 1 'HTTP/1.1 200 OK\r\nTransfer-Encoding: chunked\r\nConnection: x-b\r\n\r\n0\r\nX-B: 2\r\nConnection: x-c\r\nX-C: 3\r\nX-D: 4\r\n\r\n'
+            X 1
+            C 000001 01 04 00000001 88 000007 01 05 00000001 0003 'x-d' 0134
+        ",
+    },
+    Row {
+        name: "a trailer section of which nothing is passed back",
+        begins: REQUEST,
+        goes_on: r"
+            > U 1 'HTTP/1.1 200 OK\r\nTransfer-Encoding: chunked\r\n\r\n2\r\nhi\r\n0\r\nContent-Length: 9\r\n\r\n'
             X 1
             C 000001 01 04 00000001 88 000002 00 01 00000001 'hi'
         ",

@@ -7,7 +7,7 @@ use gateway::{Passing, Policy};
 use std::test::*;
 
 /// Bodies of requests and of responses.
-pub static PASSED_AS_IT_COMES: [Row; 8] = [
+pub static PASSED_AS_IT_COMES: [Row; 9] = [
     Row {
         name: "a body longer than its declared length",
         begins: START,
@@ -99,7 +99,18 @@ pub static PASSED_AS_IT_COMES: [Row; 8] = [
             > UT 1 1
             C 000004 08 00 00000000 00000005 000004 08 00 00000001 00000005
             > C 000007 01 05 00000001 4003 'x-a' 0131
-            U 1 '0\r\n\r\n'
+            U 1 '0\r\nx-a: 1\r\n\r\n'
+        ",
+    },
+    Row {
+        name: "chunks of a response, and its trailers",
+        begins: REQUEST,
+        goes_on: r"
+            > U 1 'HTTP/1.1 200 OK\r\nTransfer-Encoding: chunked\r\n\r\n2\r\nhi\r\n'
+            C 000001 01 04 00000001 88 000002 00 00 00000001 'hi'
+            > U 1 '0\r\nX-B: 2\r\nContent-Length: 9\r\n\r\n'
+            X 1
+            C 000007 01 05 00000001 0003 'x-b' 0132
         ",
     },
     Row {

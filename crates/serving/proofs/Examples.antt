@@ -12,7 +12,7 @@ use Rattle.model.specs.Tapes.Entry.{Came}
 use Rattle.request_rules.specs.Heads.{parts_of}
 use Rattle.h1_writer.specs.Sending.{Sending, Continues, head_of, content_of, chunk_text, last_chunk}
 use Rattle.h1_writer.specs.Sending.Stage.{Whole, Chunking}
-use Rattle.h1_writer.proofs.Stages.{adds_chunk}
+use Rattle.h1_writer.proofs.Stages.{adds_chunk, ends}
 use Rattle.serving.specs.Told.{Told}
 use Rattle.serving.specs.State.{State, state_of, tape_of}
 use Rattle.serving.specs.State.Due.{Nothing}
@@ -39,32 +39,23 @@ a1 : AreAllowed known.setup m1
 a1 = (((tt, record { open_yet = refl; may = refl }), record { open_yet = refl; may = calm _ _ refl refl refl }), record { open_yet = refl; may = refl })
 
 -- the head of the POST, and each piece of its body
-pub post_begun : Sending (parts_of post) false (post_text []) [] Chunking
+pub post_begun : Sending (parts_of post) false (post_text []) [] [] Chunking
 post_begun = record { not_ended = refl; full = refl; undeclared = refl; is = refl }
 
-get_sent : Sending (parts_of get) true get_text [] Whole
-get_sent = record { none_ended = λ e. refl; full = refl; has_length = tt; is = refl }
+get_sent : Sending (parts_of get) true get_text [] [] Whole
+get_sent = record { none_ended = λ e. (refl, refl); full = refl; has_length = tt; is = refl }
 
 -- octets go as a chunk
-pub chunk_goes : (octets : List ℕ) → 0 < length octets → Continues Chunking (chunk_text octets) octets Chunking
+pub chunk_goes : (octets : List ℕ) → 0 < length octets → Continues Chunking (chunk_text octets) octets [] Chunking
 chunk_goes octets some = adds_chunk Chunking octets refl some
 
 -- the last chunk ends the text
-text_ends : Continues Chunking last_chunk [] Whole
-text_ends parts ended text pieces s = record {
-  none_ended = λ e. absurd (let clash : true ≡ false = sym e ∙ s.not_ended in cc);
-  full = subst (λ ps. list_all (λ piece. not (is_empty piece)) ps ≡ true) (sym (append-nil pieces)) s.full;
-  has_length = subst (λ d. HasLength d (concat (pieces ++ []))) (sym s.undeclared) tt;
-  is =
-      ap (λ x. x ++ last_chunk) s.is ∙ append_assoc (head_of parts false) (flat_map chunk_text pieces) last_chunk
-      ∙ ap (λ ps. head_of parts false ++ (flat_map chunk_text ps ++ last_chunk)) (sym (append-nil pieces))
-      ∙ ap (λ d. head_of parts false ++ content_of d false (pieces ++ [])) (sym s.undeclared)
-      ∙ ap (λ b. head_of parts b ++ content_of parts.length b (pieces ++ [])) (sym s.not_ended);
-}
+text_ends : Continues Chunking (last_chunk []) [] [] Whole
+text_ends = ends Chunking [] refl
 
 -- the whole body, and the end behind it
-body_ends : Continues Chunking body_text (codes "hello") Whole
-body_ends = ends_behind Chunking Chunking Whole (chunk_text (codes "hello")) last_chunk (codes "hello") (chunk_goes (codes "hello") (omega arith)) text_ends
+body_ends : Continues Chunking body_text (codes "hello") [] Whole
+body_ends = ends_behind Chunking Chunking Whole (chunk_text (codes "hello")) (last_chunk []) (codes "hello") [] (chunk_goes (codes "hello") (omega arith)) text_ends
 
 -- the frame's stream is served behind a move with these
 pub serving_on : (told : Told) (noted : Noted) → 0 < noted.frame.id → told.served noted.frame.id ≡ true → told.ends ≡ false → IsServing told noted

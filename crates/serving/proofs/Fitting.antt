@@ -21,6 +21,7 @@ use Rattle.h1_writer.specs.Sending.{Stage, HasRoom, MayPush, MayFinish}
 use Rattle.h1_writer.specs.Sending.Stage.{Whole}
 use Rattle.h1_writer.proofs.Wholes.{room_to_push, end_to_finish}
 use Rattle.serving.specs.Written.{IsWritten, IsAwaited, IsTaken}
+use Rattle.serving.proofs.Trailing.{bare}
 
 -- ---- no fault
 
@@ -127,7 +128,7 @@ module _ (items : List Item) (text : List ℕ) (stage : Stage) (w : IsWritten it
   pub content_fits : (octets : List ℕ) (ends : Bool) → is_malformed_content (carried_by items false) octets ends ≡ false → MayPush stage (length octets) × (ends ≡ true → HasLength (parts_of w.head).length (concat w.pieces ++ octets))
   content_fits octets ends good =
       let rules = content_rules w.head w.ended w.more octets ends (subst (λ xs. is_malformed_content (carried_by xs false) octets ends ≡ false) w.is good) in (
-        room_to_push (parts_of w.head) w.ended text w.pieces stage (length octets) w.sending part
+        room_to_push (parts_of w.head) w.ended text w.pieces stage (length octets) (bare items text stage w part) part
             (room_told (parts_of w.head).length w.pieces octets (ap (λ body. is_within (declared_length w.head) (length body + length octets)) w.body ∙ rules.0)),
         λ e. subst (λ body. HasLength (parts_of w.head).length (body ++ octets)) (sym w.body) (rules.1 e),
       )
@@ -136,7 +137,7 @@ module _ (items : List Item) (text : List ℕ) (stage : Stage) (w : IsWritten it
   pub trailers_fit : (fields : List Field) (ends : Bool) → is_malformed_block (carried_by items false) fields ends ≡ false → (ends ≡ true) × WellFormedTrailers fields × MayFinish stage
   trailers_fit fields ends good =
       let rules = trailers_rules w.head w.ended w.more fields ends (subst (λ xs. is_malformed_block (carried_by xs false) fields ends ≡ false) w.is good) in
-      (rules.0, rules.1, end_to_finish (parts_of w.head) w.ended text w.pieces stage w.sending part (subst (HasLength (parts_of w.head).length) (sym w.body) rules.2))
+      (rules.0, rules.1, end_to_finish (parts_of w.head) w.ended text w.pieces stage (bare items text stage w part) part (subst (HasLength (parts_of w.head).length) (sym w.body) rules.2))
 
 -- ---- of a request that waits
 

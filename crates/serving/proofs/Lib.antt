@@ -30,3 +30,4 @@ pub mod RunMoves
 pub mod Examples
 mod StreamedExample
 mod Refusals
+pub mod Trailing

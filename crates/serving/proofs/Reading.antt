@@ -26,7 +26,7 @@ use Rattle.model.specs.RequestClause.{IsSentWhole, IsSentInPart, MayBeServed}
 use Rattle.model.specs.ProgressClause.{is_first_end, was_cut, had_closed}
 use Rattle.model.proofs.DeliveryReadings.{one_connection, one_number}
 use Rattle.h1_writer.specs.Sending.{Stage}
-use Rattle.serving.specs.Written.{octets_of, IsWritten, IsAwaited}
+use Rattle.serving.specs.Written.{octets_of, trailers_in, IsWritten, IsAwaited}
 use Rattle.serving.specs.Told.{Told, IsTold}
 use Rattle.serving.specs.State.{Way, Held, held_of, held_with, waits_from, unless_whole, goes_now, is_streaming, is_whole, to_open, to_send, Live, live_of, Due, State, after}
 use Rattle.serving.specs.State.Way.{Waiting, Going, Dropped}
@@ -56,6 +56,8 @@ may_back false (Block fields ends ∷ xs) ys head request has may = record {
   has_head = may.has_head;
   begun = record { rest = body_of ys ++ may.begun.rest; is = may.begun.is ∙ ap (λ l. l ++ may.begun.rest) (body_append xs ys) ∙ append_assoc (body_of xs) (body_of ys) may.begun.rest };
   length_holds = may.length_holds;
+  trailers = may.trailers;
+  well_formed = may.well_formed;
   is = may.is;
 }
 
@@ -243,7 +245,7 @@ module _ (known : Known) (t : List Entry) (s : State) (h : Stands known t s) (to
       has_head : HasHead (items known id (e ∷ t)) w.head
       has_head = has_head_stays known t e id w.head w.has_head
 
-      by : (ends : Bool) → ends_with item ≡ ends → IsGathered ends old (body ++ octets_of item) written stage → Steps known t e s (waiting_or route w.head has_head w.by_route w.none_given text stage (body ++ octets_of item) (text ++ written) (is_whole stage))
+      by : (ends : Bool) → ends_with item ≡ ends → IsGathered ends old (body ++ octets_of item) (trailers_in item) written stage → Steps known t e s (waiting_or route w.head has_head w.by_route w.none_given text stage (body ++ octets_of item) (text ++ written) (is_whole stage))
       by true ends g =
           subst (λ goes. Steps known t e s (waiting_or route w.head has_head w.by_route w.none_given text stage (body ++ octets_of item) (text ++ written) goes)) (sym g.1)
           (opens_now route w.head has_head w.by_route w.none_given text stage (body ++ octets_of item) (text ++ written)

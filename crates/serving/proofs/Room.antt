@@ -1,7 +1,7 @@
 -- What is written, and waits, or is due to go out, stays within what there is room for.
 use Rattle.std.proofs.Common.{◌≡◌, ℕ, zero, suc, ◌+◌, ◌<◌, ◌≤◌, ◌^◌, Bool, true, false, ◌==◌, List, [], ◌∷◌, ◌++◌, length, map, refl, sym, ap, ◌∙◌, subst, inl, inr, if◌then◌else◌, arith, length-append, append-nil}
 use Rattle.std.specs.Prelude.{Option, Some, None, is_none, ◌-◌, drop}
-use Rattle.std.proofs.lemmas.Bool.{and_parts}
+use Rattle.std.proofs.lemmas.Bool.{and_parts, ltb-false}
 use Rattle.std.proofs.lemmas.List.{length-take, length-drop, reverse-append}
 use Rattle.std.proofs.lemmas.Bool.Decides.{eqb_tells}
 use Rattle.model.specs.Messages.{Field, Item, ends_with}
@@ -17,13 +17,18 @@ use Rattle.model.specs.Decoding.{Partial, completed}
 use Rattle.model.specs.Streams.{block_items, frame_items}
 use Rattle.model.specs.Known.{Known}
 use Rattle.model.specs.Lifetimes.{active, is_opened, is_active}
-use Rattle.model.specs.Causes.{Cause}
+use Rattle.model.specs.Setup.{Setup}
+use Rattle.model.specs.Tables.{total_size}
+use Rattle.model.specs.Malformed.{Carried, carried_by}
+use Rattle.model.specs.Causes.{Cause, largest_fields}
 use Rattle.model.specs.Courses.{items, cause}
 use Rattle.model.proofs.OpenedLaws.{none_zero}
 use Rattle.request_rules.specs.Heads.{parts_of}
 use Rattle.h1_writer.specs.Sending.{Stage, Sending, head_of, piece_of}
 use Rattle.h1_writer.specs.Sending.Stage.{Whole, Counting, Holding, Chunking}
-use Rattle.serving.specs.Written.{octets_of, IsAwaited}
+use Rattle.model.specs.Http1Text.{lines_text}
+use Rattle.serving.specs.Written.{octets_of, trailers_in, IsAwaited}
+use Rattle.serving.proofs.Trailing.{bare, lines_within}
 use Rattle.serving.specs.Told.{is_served, Told, IsTold}
 use Rattle.serving.specs.State.{Held, id_of, held_of, held_with, held_opened, waits_from, without, due_opened, Due, State, Move, entry_of, is_whole, goes_now, to_open, to_send, after, Turn, state_of, tape_of}
 use Rattle.serving.specs.State.Way.{Waiting, Going}
@@ -31,9 +36,9 @@ use Rattle.serving.specs.State.Due.{Nothing, ToOpen, ToSend}
 use Rattle.serving.specs.State.Move.{Takes, Begins, Gathers, Passes, Drops, Breaks, Notes, Hears, Fails, Sends, Acts}
 use Rattle.serving.specs.Rule.{IsServing, MayBegin, IsGathered, MayGather, MayPass, MayMove, told_of, AreAllowed}
 use Rattle.serving.specs.Meaning.{Brings, IsSo, AreSo}
-use Rattle.serving.specs.Held.{held_back, held_by, held_requests, held_of_all, most_head, most_beside, AreApart, FitFrames}
+use Rattle.serving.specs.Held.{held_back, held_by, held_requests, held_of_all, most_head, most_trailers, most_beside, AreApart, FitFrames}
 use Rattle.serving.proofs.Lists.{find_gone, find_other}
-use Rattle.serving.proofs.Bringing.{item_is}
+use Rattle.serving.proofs.Bringing.{IsGood, not_large, item_is, is_good}
 use Rattle.serving.proofs.Writing.{body_append}
 use Rattle.serving.proofs.Texts.{part_told, whole_told}
 use Rattle.serving.proofs.Calling.{head_fits}
@@ -173,15 +178,23 @@ waits_short known t stream text stage body some w =
 
 -- ---- what is due
 
+-- the lines of trailers that are good
+trailers_short : (setup : Setup) (carried : Carried) (item : Item) → IsGood setup carried item → length (lines_text (trailers_in item)) ≤ most_trailers
+trailers_short setup carried (Content octets ends) good = omega arith
+trailers_short setup carried (Block fields ends) good =
+    let size : total_size fields ≤ 16384 = ltb-false 16384 (total_size fields) (not_large setup carried fields good.0) in
+    let lines = lines_within fields in
+    omega (arith, size, lines)
+
 -- there is room for so many octets, beside what else a text has
 pub record HasRoom (most count : ℕ) : Type 0 where
   pub fits : count < 2 ^ 64
-  pub room : count + 27 ≤ most
+  pub room : count + most_trailers + 27 ≤ most
 
 -- there is room for what a move writes
 abbrev pub HasRoomFor : ℕ → Move → Type 0
-HasRoomFor most (Gathers noted item route text old body written stage) = is_whole stage ≡ true → (length (body ++ octets_of item) < 2 ^ 64) × (most_beside + length (body ++ octets_of item) ≤ most)
-HasRoomFor most (Passes noted item k old written stage) = HasRoom most (length (octets_of item))
+HasRoomFor most (Gathers noted item route text old body written stage) = is_whole stage ≡ true → (length (body ++ octets_of item) < 2 ^ 64) × (most_beside + length (body ++ octets_of item) ≤ most) × (length (lines_text (trailers_in item)) ≤ most_trailers)
+HasRoomFor most (Passes noted item k old written stage) = HasRoom most (length (octets_of item)) × (length (lines_text (trailers_in item)) ≤ most_trailers)
 HasRoomFor most m = Unit {0}
 
 -- What is due stays within the most, an octet left; and nothing else is held of a stream for which a connection is due.
@@ -207,7 +220,7 @@ module _ (known : Known) (t : List Entry) (s : State) (h : Stands known t s) (be
           let small = items_small known noted.frame.id may.serving.counted (Came noted ∷ t) in
           let good = head_fits known t noted head ended so.0 so.1 may.serving.counted (calm known t noted behind is_behind may.serving) in
           let size = head_short head ended good.well_formed (small.head head (subst (λ xs. HasHead xs head) (sym now) refl)) in
-          let all = one_piece (parts_of head) ended text [] stage (omega arith) may.sending in
+          let all = one_piece (parts_of head) ended text [] [] stage (omega arith) may.sending in
           omega (arith, size, all, base)
 
       by : (goes : Bool) → DueFits most (held_with noted.frame.id (waits_from goes (Waiting route text stage [])) s.held) (to_open goes noted.frame.id route text stage)
@@ -221,7 +234,7 @@ module _ (known : Known) (t : List Entry) (s : State) (h : Stands known t s) (be
       w : IsWaiting known t noted.frame.id route text old body
       w = h.held noted.frame.id (record { id = noted.frame.id; way = Waiting route text old body }) may.found
 
-      pieces_of : (ends : Bool) → IsGathered ends old (body ++ octets_of item) written stage → is_whole stage ≡ true → Sending (parts_of w.awaited.head) false (text ++ written) ([] ++ piece_of (body ++ octets_of item)) stage
+      pieces_of : (ends : Bool) → IsGathered ends old (body ++ octets_of item) (trailers_in item) written stage → is_whole stage ≡ true → Sending (parts_of w.awaited.head) false (text ++ written) ([] ++ piece_of (body ++ octets_of item)) (trailers_in item) stage
       pieces_of true g whole = g.0 (parts_of w.awaited.head) false text [] w.awaited.sending
       pieces_of false g whole = absurd (w.awaited.part (whole_told old (sym (ap is_whole g.1) ∙ whole)))
 
@@ -229,17 +242,18 @@ module _ (known : Known) (t : List Entry) (s : State) (h : Stands known t s) (be
       short whole =
           let rest = waits_short known t noted.frame.id text old body may.serving.counted w.awaited in
           let space = room whole in
-          let all = one_piece (parts_of w.awaited.head) false (text ++ written) (body ++ octets_of item) stage space.0 (pieces_of (ends_with item) may.gathered whole) in
+          let all = one_piece (parts_of w.awaited.head) false (text ++ written) (body ++ octets_of item) (trailers_in item) stage space.0 (pieces_of (ends_with item) may.gathered whole) in
           let head = rest.2 in
           let fits = space.1 in
-          omega (arith, head, all, fits)
+          let lines = space.2 in
+          omega (arith, head, all, fits, lines)
 
       by : (whole : Bool) → is_whole stage ≡ whole → DueFits most (held_with noted.frame.id (if whole then None else Some (Waiting route text stage (body ++ octets_of item))) s.held) (to_open whole noted.frame.id route (text ++ written) stage)
       by true whole = (short whole, find_gone id_of noted.frame.id s.held)
       by false part = tt
 
-  passes_fit : (noted : Noted) (item : Item) (k : ℕ) (old : Stage) (written : List ℕ) (stage : Stage) (hs : List Held) → MayPass behind s noted item k old written stage → HasRoom most (length (octets_of item)) → DueFits most hs (to_send k written)
-  passes_fit noted item k old written stage hs may space = by written short
+  passes_fit : (noted : Noted) (item : Item) (k : ℕ) (old : Stage) (written : List ℕ) (stage : Stage) (hs : List Held) → MayPass behind s noted item k old written stage → HasRoom most (length (octets_of item)) → length (lines_text (trailers_in item)) ≤ most_trailers → DueFits most hs (to_send k written)
+  passes_fit noted item k old written stage hs may space lines = by written short
     where
       w : IsGoing known t s noted.frame.id k old
       w = h.held noted.frame.id (record { id = noted.frame.id; way = Going k old }) may.found
@@ -247,10 +261,10 @@ module _ (known : Known) (t : List Entry) (s : State) (h : Stands known t s) (be
       short : length written + 1 ≤ most
       short =
           let sent = w.written in
-          let size = written_length (parts_of sent.head) sent.ended (text_of k t s.due) written (octets_of item) sent.pieces old stage space.fits sent.sending (part_told old w.part) (may.continues (parts_of sent.head) sent.ended (text_of k t s.due) sent.pieces sent.sending) in
+          let size = written_length (parts_of sent.head) sent.ended (text_of k t s.due) written (octets_of item) sent.pieces (trailers_in item) old stage space.fits (bare _ _ old sent (part_told old w.part)) (part_told old w.part) (may.continues (parts_of sent.head) sent.ended (text_of k t s.due) sent.pieces (bare _ _ old sent (part_told old w.part))) in
           let back = back_one old in
           let room = space.room in
-          omega (arith, size, back, room)
+          omega (arith, size, back, room, lines)
 
       by : (octets : List ℕ) → length octets + 1 ≤ most → DueFits most hs (to_send k octets)
       by [] fits = tt
@@ -260,7 +274,7 @@ module _ (known : Known) (t : List Entry) (s : State) (h : Stands known t s) (be
   due_behind before (Takes noted) so may is room = none_due most _ s.due may.nothing
   due_behind before (Begins noted head ended route text stage) so may is room = begins_fit before noted head ended route text stage is so may.1
   due_behind before (Gathers noted item route text old body written stage) so may is room = gathers_fit noted item route text old body written stage may.1 room
-  due_behind before (Passes noted item k old written stage) so may is room = passes_fit noted item k old written stage _ may.1 room
+  due_behind before (Passes noted item k old written stage) so may is room = passes_fit noted item k old written stage _ may.1 room.0 room.1
   due_behind before (Drops noted item) so may is room = none_due most _ s.due may.0.nothing
   due_behind before (Breaks breach) so may is room = none_due most _ s.due may.nothing
   due_behind before (Notes event) so may is room = none_due most _ s.due may.0.nothing
@@ -306,25 +320,29 @@ within_body known t noted item brings some =
 -- beside what is taken of a body
 pub room_by_body : (known : Known) → known.setup.max_body < 2 ^ 64 → (turns : List Turn) → AreAllowed known.setup turns → AreSo known turns → HasRoomForAll (known.setup.max_body + most_beside) turns
 room_by_body known fits [] all so = tt
-room_by_body known fits (turn ∷ turns) all so = (room_by_body known fits turns all.0 so.0, by turn.move so.1 all.1.may)
+room_by_body known fits (turn ∷ turns) all so = (room_by_body known fits turns all.0 so.0, by turn.move so.1 so.2 all.1.may)
   where
-    by : (m : Move) → IsSo known (tape_of turns) m → MayMove known.setup (told_of turns) turn.told (state_of known.setup turns) m → HasRoomFor (known.setup.max_body + most_beside) m
-    by (Gathers noted item route text old body written stage) is may =
+    by : (m : Move) → IsSo known (tape_of turns) m → IsTold known (entry_of m ∷ tape_of turns) turn.told → MayMove known.setup (told_of turns) turn.told (state_of known.setup turns) m → HasRoomFor (known.setup.max_body + most_beside) m
+    by (Gathers noted item route text old body written stage) is told may =
         let w : IsWaiting known (tape_of turns) noted.frame.id route text old body = (all_stand known turns all.0 so.0).held noted.frame.id (record { id = noted.frame.id; way = Waiting route text old body }) may.1.found in
         let body_size : length body ≡ length (body_of (items known noted.frame.id (tape_of turns))) = ap length (w.awaited.body_is ∙ sym (ap body_of w.awaited.is)) in
         let within = within_body known (tape_of turns) noted item is may.1.serving.counted in
         let both = length-append body (octets_of item) in
-        λ whole. (omega (arith, within, body_size, both, fits), omega (arith, within, body_size, both))
-    by (Passes noted item k old written stage) is may = let within = within_body known (tape_of turns) noted item is may.1.serving.counted in record { fits = omega (arith, within, fits); room = omega (arith, within) }
-    by (Takes noted) is may = tt
-    by (Begins noted head ended route text stage) is may = tt
-    by (Drops noted item) is may = tt
-    by (Breaks breach) is may = tt
-    by (Notes event) is may = tt
-    by (Hears event whole) is may = tt
-    by (Fails k) is may = tt
-    by (Sends noted) is may = tt
-    by (Acts act) is may = tt
+        let lines = trailers_short known.setup (carried_by (items known noted.frame.id (tape_of turns)) false) item (is_good known (tape_of turns) noted item is may.1.serving.counted (calm known (tape_of turns) noted turn.told told may.1.serving)) in
+        λ whole. (omega (arith, within, body_size, both, fits), omega (arith, within, body_size, both), lines)
+    by (Passes noted item k old written stage) is told may =
+        let within = within_body known (tape_of turns) noted item is may.1.serving.counted in
+        let lines = trailers_short known.setup (carried_by (items known noted.frame.id (tape_of turns)) false) item (is_good known (tape_of turns) noted item is may.1.serving.counted (calm known (tape_of turns) noted turn.told told may.1.serving)) in
+        (record { fits = omega (arith, within, fits); room = omega (arith, within) }, lines)
+    by (Takes noted) is told may = tt
+    by (Begins noted head ended route text stage) is told may = tt
+    by (Drops noted item) is told may = tt
+    by (Breaks breach) is told may = tt
+    by (Notes event) is told may = tt
+    by (Hears event whole) is told may = tt
+    by (Fails k) is told may = tt
+    by (Sends noted) is told may = tt
+    by (Acts act) is told may = tt
 
 -- a frame's content is no longer than its payload
 content_short : (noted : Noted) → length (content noted.frame) ≤ length noted.frame.payload
@@ -374,7 +392,8 @@ room_by_frame known streaming (turn ∷ turns) all so frames = (room_by_frame kn
     by (Passes noted item k old written stage) is told may f =
         let short = brought_short (completed (came (tape_of turns)) noted.frame) noted item (item_is known (tape_of turns) noted item is may.1.serving.counted (calm known (tape_of turns) noted turn.told told may.1.serving)) in
         let frame = f.0.payload in
-        record { fits = omega (arith, short, frame); room = omega (arith, short, frame) }
+        let lines = trailers_short known.setup (carried_by (items known noted.frame.id (tape_of turns)) false) item (is_good known (tape_of turns) noted item is may.1.serving.counted (calm known (tape_of turns) noted turn.told told may.1.serving)) in
+        (record { fits = omega (arith, short, frame); room = omega (arith, short, frame) }, lines)
     by (Takes noted) is told may f = tt
     by (Begins noted head ended route text stage) is told may f = tt
     by (Drops noted item) is told may f = tt

@@ -14,11 +14,12 @@ use Rattle.request_rules.specs.Heads.{parts_of}
 use Rattle.h1_writer.specs.Sending.{Stage, Sending, Continues, piece_of}
 use Rattle.h1_writer.specs.Sending.Stage.{Whole}
 use Rattle.h1_writer.proofs.Stages.{concat_more}
-use Rattle.serving.specs.Written.{is_content, octets_of, IsWritten, IsAwaited}
+use Rattle.serving.specs.Written.{is_content, octets_of, trailers_in, IsWritten, IsAwaited}
 use Rattle.serving.specs.State.{is_whole}
 use Rattle.serving.proofs.Texts.{part_told, part_tells, whole_told}
 use Rattle.serving.proofs.Fitting.{head_taken, trailers_fit, trailers_behind, not_not}
 use Rattle.serving.proofs.Bringing.{IsGood}
+use Rattle.serving.proofs.Trailing.{no_trailers, trailers_behind_contents, bare}
 
 -- ---- items behind items
 
@@ -59,7 +60,7 @@ octets_are (Block fields ends) = refl
 -- ---- what is written
 
 -- A head is written: it is whole where it ends the stream.
-pub begins : (head : List Field) (ended : Bool) (text : List ℕ) (stage : Stage) → WellFormedHead head → is_connect head ≡ false → Sending (parts_of head) ended text [] stage → (stage ≡ Whole → ended ≡ true) → ((stage ≡ Whole → ⊥) → ended ≡ false) → IsWritten (Block head ended ∷ []) text stage
+pub begins : (head : List Field) (ended : Bool) (text : List ℕ) (stage : Stage) → WellFormedHead head → is_connect head ≡ false → Sending (parts_of head) ended text [] [] stage → (stage ≡ Whole → ended ≡ true) → ((stage ≡ Whole → ⊥) → ended ≡ false) → IsWritten (Block head ended ∷ []) text stage
 begins head ended text stage well_formed no_connect sending whole part = record {
   head = head;
   ended = ended;
@@ -77,7 +78,7 @@ begins head ended text stage well_formed no_connect sending whole part = record 
 }
 
 -- An item is added: octets, or trailers; it is whole where that ends the stream.
-pub adds : (items : List Item) (text : List ℕ) (stage : Stage) (item : Item) (written : List ℕ) (new : Stage) → IsWritten items text stage → (stage ≡ Whole → ⊥) → Continues stage written (octets_of item) new → (new ≡ Whole → ends_with item ≡ true) → ((new ≡ Whole → ⊥) → (is_content item ≡ true) × (ends_with item ≡ false)) → AreContents (item ∷ [])
+pub adds : (items : List Item) (text : List ℕ) (stage : Stage) (item : Item) (written : List ℕ) (new : Stage) → IsWritten items text stage → (stage ≡ Whole → ⊥) → Continues stage written (octets_of item) (trailers_in item) new → (new ≡ Whole → ends_with item ≡ true) → ((new ≡ Whole → ⊥) → (is_content item ≡ true) × (ends_with item ≡ false)) → AreContents (item ∷ [])
     → IsWritten (items ++ item ∷ []) (text ++ written) new
 adds items text stage item written new w part continues whole goes are = record {
   head = w.head;
@@ -87,7 +88,8 @@ adds items text stage item written new w part continues whole goes are = record 
   is = ap (λ xs. xs ++ item ∷ []) w.is;
   well_formed = w.well_formed;
   no_connect = w.no_connect;
-  sending = continues (parts_of w.head) w.ended text w.pieces w.sending;
+  sending = subst (λ (fields : List Field). Sending (parts_of w.head) w.ended (text ++ written) (w.pieces ++ piece_of (octets_of item)) fields new) (sym (trailers_behind_contents w.more item (w.plain part)))
+      (continues (parts_of w.head) w.ended text w.pieces (bare items text stage w part));
   body = concat_more w.pieces (octets_of item) ∙ ap (λ b. b ++ octets_of item) w.body ∙ ap (λ b. body_of w.more ++ b) (sym (octets_are item)) ∙ sym (body_append w.more (item ∷ []));
   contents = contents_append w.more (item ∷ []) (w.plain part) are;
   ends = λ e. ends_append items item (w.goes_on part) (whole e);
@@ -100,13 +102,13 @@ body_more : (items : List Item) (text : List ℕ) (stage : Stage) (body : List �
 body_more items text stage body w item = ap (λ b. b ++ octets_of item) w.body_is ∙ ap (λ b. body_of w.more ++ b) (sym (octets_are item)) ∙ sym (body_append w.more (item ∷ []))
 
 -- A head that is good is written.
-pub head_written : (setup : Setup) (head : List Field) (ended : Bool) (text : List ℕ) (stage : Stage) → IsGood setup (carried_by [] false) (Block head ended) → Sending (parts_of head) ended text [] stage → is_whole stage ≡ ended → IsWritten (Block head ended ∷ []) text stage
+pub head_written : (setup : Setup) (head : List Field) (ended : Bool) (text : List ℕ) (stage : Stage) → IsGood setup (carried_by [] false) (Block head ended) → Sending (parts_of head) ended text [] [] stage → is_whole stage ≡ ended → IsWritten (Block head ended ∷ []) text stage
 head_written setup head ended text stage good sending whole =
     let taken = head_taken setup head ended good.0 good.1 in
     begins head ended text stage taken.well_formed taken.no_connect sending (λ e. sym whole ∙ ap is_whole e) (λ part. sym whole ∙ part_tells stage part)
 
 -- An item that is good is added.
-pub item_written : (setup : Setup) (items : List Item) (text : List ℕ) (stage : Stage) (item : Item) (written : List ℕ) (new : Stage) → IsWritten items text stage → is_whole stage ≡ false → IsGood setup (carried_by items false) item → Continues stage written (octets_of item) new → is_whole new ≡ ends_with item
+pub item_written : (setup : Setup) (items : List Item) (text : List ℕ) (stage : Stage) (item : Item) (written : List ℕ) (new : Stage) → IsWritten items text stage → is_whole stage ≡ false → IsGood setup (carried_by items false) item → Continues stage written (octets_of item) (trailers_in item) new → is_whole new ≡ ends_with item
     → IsWritten (items ++ item ∷ []) (text ++ written) new
 item_written setup items text stage (Content octets ends) written new w part good continues whole =
     adds items text stage (Content octets ends) written new w (part_told stage part) continues (λ e. sym whole ∙ ap is_whole e) (λ p. (refl, sym whole ∙ part_tells new p)) tt
@@ -117,7 +119,7 @@ item_written setup items text stage (Block fields ends) written new w part good 
 -- ---- what is written of a request that waits
 
 -- A head that doesn't end its stream is written, and waits.
-pub head_awaited : (setup : Setup) (head : List Field) (ended : Bool) (text : List ℕ) (stage : Stage) → IsGood setup (carried_by [] false) (Block head ended) → Sending (parts_of head) ended text [] stage → is_whole stage ≡ ended → is_whole stage ≡ false → IsAwaited (Block head ended ∷ []) text stage []
+pub head_awaited : (setup : Setup) (head : List Field) (ended : Bool) (text : List ℕ) (stage : Stage) → IsGood setup (carried_by [] false) (Block head ended) → Sending (parts_of head) ended text [] [] stage → is_whole stage ≡ ended → is_whole stage ≡ false → IsAwaited (Block head ended ∷ []) text stage []
 head_awaited setup head ended text stage good sending whole part =
     let taken = head_taken setup head ended good.0 good.1 in
     let goes_on : ended ≡ false = sym whole ∙ part in record {
@@ -126,7 +128,7 @@ head_awaited setup head ended text stage good sending whole part =
       is = ap (λ b. Block head b ∷ []) goes_on;
       well_formed = taken.well_formed;
       no_connect = taken.no_connect;
-      sending = subst (λ b. Sending (parts_of head) b text [] stage) goes_on sending;
+      sending = subst (λ b. Sending (parts_of head) b text [] [] stage) goes_on sending;
       part = part_told stage part;
       body_is = refl;
       plain = refl;
@@ -150,7 +152,7 @@ item_gathered setup items text stage body (Content octets ends) w good goes_on =
 }
 
 -- An item that is good ends the stream: its whole body is written.
-pub item_completes : (setup : Setup) (items : List Item) (text : List ℕ) (old : Stage) (body : List ℕ) (item : Item) (written : List ℕ) (stage : Stage) → IsAwaited items text old body → IsGood setup (carried_by items false) item → ends_with item ≡ true → Continues old written (body ++ octets_of item) stage → is_whole stage ≡ true
+pub item_completes : (setup : Setup) (items : List Item) (text : List ℕ) (old : Stage) (body : List ℕ) (item : Item) (written : List ℕ) (stage : Stage) → IsAwaited items text old body → IsGood setup (carried_by items false) item → ends_with item ≡ true → Continues old written (body ++ octets_of item) (trailers_in item) stage → is_whole stage ≡ true
     → IsWritten (items ++ item ∷ []) (text ++ written) stage
 item_completes setup items text old body item written stage w good ends continues whole = record {
   head = w.head;
@@ -160,7 +162,8 @@ item_completes setup items text old body item written stage w good ends continue
   is = ap (λ xs. xs ++ item ∷ []) w.is;
   well_formed = w.well_formed;
   no_connect = w.no_connect;
-  sending = continues (parts_of w.head) false text [] w.sending;
+  sending = subst (λ (fields : List Field). Sending (parts_of w.head) false (text ++ written) ([] ++ piece_of (body ++ octets_of item)) fields stage) (sym (trailers_behind_contents w.more item w.plain))
+      (continues (parts_of w.head) false text [] w.sending);
   body = concat_more [] (body ++ octets_of item) ∙ body_more items text old body w item;
   contents = contents_append w.more (item ∷ []) w.plain (are_contents item good);
   ends = λ e. ends_append items item w.goes_on ends;
@@ -173,10 +176,10 @@ item_completes setup items text old body item written stage w good ends continue
     are_contents (Block fields b) g = ((trailers_behind items text old body w fields b g.1).1, refl)
 
 -- Octets are pushed and then the text is ended: as one step.
-pub ends_behind : (old middle new : Stage) (first second octets : List ℕ) → Continues old first octets middle → Continues middle second [] new → Continues old (first ++ second) octets new
-ends_behind old middle new first second octets a b parts ended text pieces s =
-    subst (λ x. Sending parts ended x (pieces ++ piece_of octets) new) (append_assoc text first second)
-    (subst (λ x. Sending parts ended ((text ++ first) ++ second) x new) (append-nil (pieces ++ piece_of octets)) (b parts ended (text ++ first) (pieces ++ piece_of octets) (a parts ended text pieces s)))
+pub ends_behind : (old middle new : Stage) (first second octets : List ℕ) (trailers : List Field) → Continues old first octets [] middle → Continues middle second [] trailers new → Continues old (first ++ second) octets trailers new
+ends_behind old middle new first second octets trailers a b parts ended text pieces s =
+    subst (λ x. Sending parts ended x (pieces ++ piece_of octets) trailers new) (append_assoc text first second)
+    (subst (λ x. Sending parts ended ((text ++ first) ++ second) x trailers new) (append-nil (pieces ++ piece_of octets)) (b parts ended (text ++ first) (pieces ++ piece_of octets) (a parts ended text pieces s)))
 
 -- ---- what items may still become
 
@@ -196,7 +199,7 @@ exact_within (Some n) count e = let same = eqb-true count n e in le-leb count n 
 becomes : (fields : List Field) (ends : Bool) (more : List Item) → is_within (declared_length fields) (length (body_of more)) ≡ true → (request : Request) × MayBecome (Block fields ends ∷ more) request
 becomes fields ends more within =
     let rest = filled (declared_length fields) (body_of more) within in
-    (request_of fields (body_of more ++ rest.0), record { head = fields; has_head = refl; begun = record { rest = rest.0; is = refl }; length_holds = rest.1; is = refl })
+    (request_of fields (body_of more ++ rest.0) [], record { head = fields; has_head = refl; begun = record { rest = rest.0; is = refl }; length_holds = rest.1; trailers = []; well_formed = no_trailers; is = refl })
 
 -- Behind an item that is good the items may still become a request.
 pub may_go_on : (setup : Setup) (items : List Item) (head : List Field) (item : Item) → HasHead items head → IsGood setup (carried_by items false) item → (request : Request) × MayBecome (items ++ item ∷ []) request

@@ -63,10 +63,14 @@ held_octets s = held_of_all s.held + due_octets s.due
 abbrev pub most_head : ℕ
 most_head = largest_fields + 94
 
--- the most octets beside a request's body: its head's text, the size of a chunk and the ends of its lines, the last chunk, and an octet
--- that is held back
+-- the most octets of the lines of trailers: those of a list of fields that isn't too large
+abbrev pub most_trailers : ℕ
+most_trailers = largest_fields
+
+-- the most octets beside a request's body: its head's text, the size of a chunk and the ends of its lines, the last chunk, the trailers'
+-- lines, and an octet that is held back
 abbrev pub most_beside : ℕ
-most_beside = most_head + 26
+most_beside = most_head + most_trailers + 26
 
 -- No stream is held twice.
 abbrev pub AreApart : List Held → Type 0

@@ -11,7 +11,7 @@ use Rattle.model.specs.Tapes.{Noted}
 use Rattle.model.specs.Courses.{upstream_of}
 use Rattle.request_rules.specs.Heads.{parts_of}
 use Rattle.h1_writer.specs.Sending.{Stage, Sending, Continues}
-use Rattle.serving.specs.Written.{octets_of}
+use Rattle.serving.specs.Written.{octets_of, trailers_in}
 use Rattle.serving.specs.Told.{Told, nothing_told}
 use Rattle.serving.specs.State.{held_of, Live, live_of, State, Move, Turn, is_whole, state_of}
 use Rattle.serving.specs.State.Way.{Waiting, Going, Dropped}
@@ -40,25 +40,26 @@ pub record IsServing (behind : Told) (noted : Noted) : Type 0 where
 pub record MayBegin (setup : Setup) (behind : Told) (noted : Noted) (head : List Field) (ended : Bool) (route : ℕ) (text : List ℕ) (stage : Stage) : Type 0 where
   pub serving : IsServing behind noted
   pub by_route : IsFirstMatch setup.routes (authority_of head) (path_of head) route
-  pub sending : Sending (parts_of head) ended text [] stage
+  pub sending : Sending (parts_of head) ended text [] [] stage
   pub whole : is_whole stage ≡ ended
 
--- What is written where an item comes of a request that waits: the whole body where the item ends it, and nothing before.
-abbrev pub IsGathered : Bool → Stage → List ℕ → List ℕ → Stage → Type 0
-IsGathered true old body written stage = Continues old written body stage × (is_whole stage ≡ true)
-IsGathered false old body written stage = (written ≡ []) × (stage ≡ old)
+-- What is written where an item comes of a request that waits: the whole body and the trailers where the item ends it, and nothing
+-- before.
+abbrev pub IsGathered : Bool → Stage → List ℕ → List Field → List ℕ → Stage → Type 0
+IsGathered true old body trailers written stage = Continues old written body trailers stage × (is_whole stage ≡ true)
+IsGathered false old body trailers written stage = (written ≡ []) × (stage ≡ old)
 
 -- An item has come of a request that waits with this text and these octets of its body: its octets come behind them.
 pub record MayGather (behind : Told) (s : State) (noted : Noted) (item : Item) (route : ℕ) (text : List ℕ) (old : Stage) (body written : List ℕ) (stage : Stage) : Type 0 where
   pub serving : IsServing behind noted
   pub found : held_of noted.frame.id s.held ≡ Some (record { id = noted.frame.id; way = Waiting route text old body })
-  pub gathered : IsGathered (ends_with item) old (body ++ octets_of item) written stage
+  pub gathered : IsGathered (ends_with item) old (body ++ octets_of item) (trailers_in item) written stage
 
 -- An item has come of a request that goes out on this connection: what was written goes on with it, and is whole where it ends the stream.
 pub record MayPass (behind : Told) (s : State) (noted : Noted) (item : Item) (k : ℕ) (old : Stage) (written : List ℕ) (stage : Stage) : Type 0 where
   pub serving : IsServing behind noted
   pub found : held_of noted.frame.id s.held ≡ Some (record { id = noted.frame.id; way = Going k old })
-  pub continues : Continues old written (octets_of item) stage
+  pub continues : Continues old written (octets_of item) (trailers_in item) stage
   pub whole : is_whole stage ≡ ends_with item
 
 -- An item has come of a request whose connection is closed.

@@ -3,7 +3,7 @@ use Rattle.std.specs.Prelude.{◌≡◌, ℕ, Bool, true, false, List, [], ◌�
 use Rattle.std.specs.List.{concat, list_any, list_all}
 use Rattle.model.specs.Messages.{Field, Item, ends_with}
 use Rattle.model.specs.Messages.Item.{Block, Content}
-use Rattle.model.specs.Http2.{WellFormedHead, HasLength, is_connect, declared_length, body_of, AreContents, EndsWithLast}
+use Rattle.model.specs.Http2.{WellFormedHead, HasLength, is_connect, declared_length, body_of, first_block, passed_trailers, AreContents, EndsWithLast}
 use Rattle.model.specs.Setup.{Setup}
 use Rattle.model.specs.Causes.{is_routed}
 use Rattle.request_rules.specs.Heads.{parts_of}
@@ -20,6 +20,11 @@ abbrev pub octets_of : Item → List ℕ
 octets_of (Content octets ends) = octets
 octets_of (Block fields ends) = []
 
+-- the trailers that an item brings, as far as they are passed on
+abbrev pub trailers_in : Item → List Field
+trailers_in (Content octets ends) = []
+trailers_in (Block fields ends) = passed_trailers fields
+
 -- This text was written for the items, and that is waited for: it is whole just where they come to the stream's end.
 pub record IsWritten (items : List Item) (text : List ℕ) (stage : Stage) : Type 0 where
   pub head : List Field
@@ -29,7 +34,7 @@ pub record IsWritten (items : List Item) (text : List ℕ) (stage : Stage) : Typ
   pub is : items ≡ Block head ended ∷ more
   pub well_formed : WellFormedHead head
   pub no_connect : is_connect head ≡ false
-  pub sending : Sending (parts_of head) ended text pieces stage
+  pub sending : Sending (parts_of head) ended text pieces (passed_trailers (first_block more)) stage
   pub body : concat pieces ≡ body_of more
   pub contents : AreContents more
   pub ends : stage ≡ Whole → EndsWithLast items
@@ -43,7 +48,7 @@ pub record IsAwaited (items : List Item) (text : List ℕ) (stage : Stage) (body
   pub is : items ≡ Block head false ∷ more
   pub well_formed : WellFormedHead head
   pub no_connect : is_connect head ≡ false
-  pub sending : Sending (parts_of head) false text [] stage
+  pub sending : Sending (parts_of head) false text [] [] stage
   pub part : stage ≡ Whole → ⊥
   pub body_is : body ≡ body_of more
   pub plain : list_all is_content more ≡ true

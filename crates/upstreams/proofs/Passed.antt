@@ -1,5 +1,6 @@
 -- What goes on of a request that goes out, as the rule of requests has it.
 use Rattle.std.proofs.Common.{◌≡◌, ℕ, true, false, List, Some, None, refl, sym, ap}
+use Rattle.model.specs.Messages.{Field}
 use Rattle.requests.specs.Going.{GoesOn}
 use Rattle.h1_writer.specs.Sending.{Stage}
 use Rattle.h1_writer.specs.Sending.Stage.{Whole, Counting, Holding, Chunking}
@@ -23,9 +24,9 @@ held_part (Counting left) way part = refl
 held_part (Holding octet) way part = refl
 held_part Chunking way part = refl
 
-module _ (octets : List ℕ) (k : ℕ) (old new : Stage) (text : List ℕ) (due : Due) where
+module _ (octets : List ℕ) (trailers : List Field) (k : ℕ) (old new : Stage) (text : List ℕ) (due : Due) where
   -- it goes on
-  pub passes : GoesOn old octets false text new → due ≡ to_send k text → IsPassed octets false k old due (Some (Going k new))
+  pub passes : GoesOn old octets trailers false text new → due ≡ to_send k text → IsPassed octets trailers false k old due (Some (Going k new))
   passes on is = record {
     written = text;
     stage = new;
@@ -36,7 +37,7 @@ module _ (octets : List ℕ) (k : ℕ) (old new : Stage) (text : List ℕ) (due 
   }
 
   -- it ends
-  pub passes_last : GoesOn old octets true text new → due ≡ to_send k text → IsPassed octets true k old due None
+  pub passes_last : GoesOn old octets trailers true text new → due ≡ to_send k text → IsPassed octets trailers true k old due None
   passes_last on is = record {
     written = text;
     stage = new;

@@ -3,6 +3,7 @@ use Rattle.std.proofs.Common.{◌≡◌, ℕ, ◌<◌, ◌≤◌, Bool, true, fa
 use Rattle.std.specs.Prelude.{Option, zero, suc, reverse, option_map}
 use Rattle.std.specs.List.{remove}
 use Rattle.std.proofs.lemmas.List.{reverse-append, map-append, set-get_or}
+use Rattle.model.specs.Messages.{Field}
 use Rattle.serving.specs.State.{Way, Held, Due, id_of, held_of, held_at, held_with, with_way, without, drop_from}
 use Rattle.serving.specs.State.Way.{Waiting, Going, Dropped}
 use Rattle.serving.specs.State.Due.{Nothing}
@@ -50,20 +51,20 @@ module _ (hs : List Held) (apart : AreApart (reverse hs)) (id place : ℕ) where
     may_there octets ends may = subst (MayTakeOf octets ends) found may
 
     -- it stays as it is, where it is dropped
-    pub stays_there : (octets : List ℕ) (ends : Bool) → it.way ≡ Dropped → Takes id octets ends (reverse hs) (held_of id (reverse hs)) Nothing (reverse hs)
-    stays_there octets ends e =
-        subst (λ (o : Option Held). Takes id octets ends (reverse hs) o Nothing (reverse hs)) (sym found)
-        (subst (λ (way : Way). TakesBy id octets ends (reverse hs) way Nothing (reverse hs)) (sym e) (refl, refl))
+    pub stays_there : (octets : List ℕ) (trailers : List Field) (ends : Bool) → it.way ≡ Dropped → Takes id octets trailers ends (reverse hs) (held_of id (reverse hs)) Nothing (reverse hs)
+    stays_there octets trailers ends e =
+        subst (λ (o : Option Held). Takes id octets trailers ends (reverse hs) o Nothing (reverse hs)) (sym found)
+        (subst (λ (way : Way). TakesBy id octets trailers ends (reverse hs) way Nothing (reverse hs)) (sym e) (refl, refl))
 
     -- more of its body came
-    pub goes_there : (octets : List ℕ) (ends : Bool) (due : Due) (x : Held) → ends ≡ false → x.id ≡ it.id → GoesBy it.id octets false it.way due (Some x.way)
-        → Takes id octets ends (reverse hs) (held_of id (reverse hs)) due (reverse (set hs place x))
-    goes_there octets ends due x e same goes =
-        subst (λ b. Takes id octets b (reverse hs) (held_of id (reverse hs)) due (reverse (set hs place x))) (sym e)
-        (subst (λ (o : Option Held). Takes id octets false (reverse hs) o due (reverse (set hs place x))) (sym found)
-        (by it.way refl (subst (λ n. GoesBy n octets false it.way due (Some x.way)) is.has_key goes)))
+    pub goes_there : (octets : List ℕ) (trailers : List Field) (ends : Bool) (due : Due) (x : Held) → ends ≡ false → x.id ≡ it.id → GoesBy it.id octets trailers false it.way due (Some x.way)
+        → Takes id octets trailers ends (reverse hs) (held_of id (reverse hs)) due (reverse (set hs place x))
+    goes_there octets trailers ends due x e same goes =
+        subst (λ b. Takes id octets trailers b (reverse hs) (held_of id (reverse hs)) due (reverse (set hs place x))) (sym e)
+        (subst (λ (o : Option Held). Takes id octets trailers false (reverse hs) o due (reverse (set hs place x))) (sym found)
+        (by it.way refl (subst (λ n. GoesBy n octets trailers false it.way due (Some x.way)) is.has_key goes)))
       where
-        by : (way : Way) → it.way ≡ way → GoesBy id octets false way due (Some x.way) → TakesBy id octets false (reverse hs) way due (reverse (set hs place x))
+        by : (way : Way) → it.way ≡ way → GoesBy id octets trailers false way due (Some x.way) → TakesBy id octets trailers false (reverse hs) way due (reverse (set hs place x))
         by (Waiting route text old body) e g = (Some x.way, g, held_on x same)
         by (Going k old) e g = (Some x.way, g, held_on x same)
         by Dropped e g =
@@ -76,15 +77,15 @@ module _ (hs : List Held) (apart : AreApart (reverse hs)) (id place : ℕ) where
             )
 
     -- its body ended
-    pub ends_there : (octets : List ℕ) (ends : Bool) (due : Due) (left : List Held) → ends ≡ true → left ≡ remove hs place → (it.way ≡ Dropped → ⊥) → GoesBy it.id octets true it.way due None
-        → Takes id octets ends (reverse hs) (held_of id (reverse hs)) due (reverse left)
-    ends_there octets ends due left e same on goes =
-        subst (λ ys. Takes id octets ends (reverse hs) (held_of id (reverse hs)) due (reverse ys)) (sym same)
-        (subst (λ b. Takes id octets b (reverse hs) (held_of id (reverse hs)) due (reverse (remove hs place))) (sym e)
-        (subst (λ (o : Option Held). Takes id octets true (reverse hs) o due (reverse (remove hs place))) (sym found)
-        (by it.way refl (subst (λ n. GoesBy n octets true it.way due None) is.has_key goes))))
+    pub ends_there : (octets : List ℕ) (trailers : List Field) (ends : Bool) (due : Due) (left : List Held) → ends ≡ true → left ≡ remove hs place → (it.way ≡ Dropped → ⊥) → GoesBy it.id octets trailers true it.way due None
+        → Takes id octets trailers ends (reverse hs) (held_of id (reverse hs)) due (reverse left)
+    ends_there octets trailers ends due left e same on goes =
+        subst (λ ys. Takes id octets trailers ends (reverse hs) (held_of id (reverse hs)) due (reverse ys)) (sym same)
+        (subst (λ b. Takes id octets trailers b (reverse hs) (held_of id (reverse hs)) due (reverse (remove hs place))) (sym e)
+        (subst (λ (o : Option Held). Takes id octets trailers true (reverse hs) o due (reverse (remove hs place))) (sym found)
+        (by it.way refl (subst (λ n. GoesBy n octets trailers true it.way due None) is.has_key goes))))
       where
-        by : (way : Way) → it.way ≡ way → GoesBy id octets true way due None → TakesBy id octets true (reverse hs) way due (reverse (remove hs place))
+        by : (way : Way) → it.way ≡ way → GoesBy id octets trailers true way due None → TakesBy id octets trailers true (reverse hs) way due (reverse (remove hs place))
         by (Waiting route text old body) e g = (None, g, sym taken_out)
         by (Going k old) e g = (None, g, sym taken_out)
         by Dropped e g = absurd (on e)
@@ -101,8 +102,8 @@ module _ (hs : List Held) (id : ℕ) (none : IsHeldNowhere hs id) where
   pub held_new : (way : Way) → reverse (hs ++ record { id = id; way = way } ∷ []) ≡ held_with id (Some way) (reverse hs)
   held_new way = reverse-append hs (record { id = id; way = way } ∷ []) ∙ ap (λ o. held_at id way o (reverse hs)) (sym not_found)
 
-  pub none_there : (octets : List ℕ) (ends : Bool) → Takes id octets ends (reverse hs) (held_of id (reverse hs)) Nothing (reverse hs)
-  none_there octets ends = subst (λ (o : Option Held). Takes id octets ends (reverse hs) o Nothing (reverse hs)) (sym not_found) (refl, refl)
+  pub none_there : (octets : List ℕ) (trailers : List Field) (ends : Bool) → Takes id octets trailers ends (reverse hs) (held_of id (reverse hs)) Nothing (reverse hs)
+  none_there octets trailers ends = subst (λ (o : Option Held). Takes id octets trailers ends (reverse hs) o Nothing (reverse hs)) (sym not_found) (refl, refl)
 
 -- ---- where a connection is closed
 

@@ -29,7 +29,7 @@ lives cs = map (λ (c : Connection). c.live) cs
 abbrev pub opened : ℕ → ℕ → Bool → Passing → Connection
 opened k stream to_head passing = record {
   live = record { k = k; stream = stream; whole = false };
-  answer = record { reader = record { to_head = to_head; place = place.Head 0; held = [] }; way = passing; head = None; body = [] };
+  answer = record { reader = record { to_head = to_head; place = place.Head 0; held = record { octets = []; connections = [] } }; way = passing; head = None; body = []; trailers = None };
   out = 0;
   took = 0;
 }

@@ -40,7 +40,7 @@ opened_for stream to_head passing stage s = record {
 pub record Begins (old : State) (id route : ℕ) (parts : HeadParts) (ended at_once : Bool) (due : Due) (new : State) : Type 0 where
   pub text : List ℕ
   pub stage : Stage
-  pub sending : Sending parts ended text [] stage
+  pub sending : Sending parts ended text [] [] stage
   pub whole : is_whole stage ≡ ended
   pub due_is : due ≡ to_open (at_once || ended) id route text stage
   pub kept : new ≡ record old { held = held_with id (waits_from (at_once || ended) (Waiting route text stage [])) old.held }

@@ -1,5 +1,6 @@
 -- Requests that aren't whole, and what is due for them.
 use Rattle.std.specs.Prelude.{◌≡◌, ℕ, Bool, true, false, List, ◌++◌, Option, Some, None}
+use Rattle.model.specs.Messages.{Field}
 use Rattle.requests.specs.Waits.{MayEnd}
 use Rattle.requests.specs.Going.{MayGo}
 use Rattle.h1_writer.specs.Sending.{Stage, Continues}
@@ -41,42 +42,43 @@ abbrev pub MayTakeOf : List ℕ → Bool → Option Held → Type 0
 MayTakeOf octets ends None = Unit {0}
 MayTakeOf octets ends (Some h) = MayTake octets ends h.way
 
--- A request that waits is whole with them: its text is due, and behind that of the head what is written for the whole body at once.
-pub record IsEnded (id : ℕ) (octets : List ℕ) (route : ℕ) (text : List ℕ) (old : Stage) (body : List ℕ) (due : serving.Due) : Type 0 where
+-- A request that waits is whole with them: its text is due, and behind that of the head what is written for the whole body at once, and for these trailers.
+pub record IsEnded (id : ℕ) (octets : List ℕ) (trailers : List Field) (route : ℕ) (text : List ℕ) (old : Stage) (body : List ℕ) (due : serving.Due) : Type 0 where
   pub written : List ℕ
-  pub continues : Continues old written (body ++ octets) Whole
+  pub continues : Continues old written (body ++ octets) trailers Whole
   pub due_is : due ≡ ToOpen id route (text ++ written) Whole
 
--- A request goes out on a connection: what is written for them is due there, and it is whole with them just where they end its body.
-pub record IsPassed (octets : List ℕ) (ends : Bool) (k : ℕ) (old : Stage) (due : serving.Due) (next : Option Way) : Type 0 where
+-- A request goes out on a connection: what is written for them is due there, and it is whole with them just where they end its body; then
+-- these trailers stand behind it.
+pub record IsPassed (octets : List ℕ) (trailers : List Field) (ends : Bool) (k : ℕ) (old : Stage) (due : serving.Due) (next : Option Way) : Type 0 where
   pub written : List ℕ
   pub stage : Stage
-  pub continues : Continues old written octets stage
+  pub continues : Continues old written octets trailers stage
   pub whole : is_whole stage ≡ ends
   pub due_is : due ≡ to_send k written
   pub next_is : next ≡ unless_whole stage (Going k stage)
 
 -- What is due for them of a request that waits, and its way then, if it is on one: they are held, too, unless they end its body.
-abbrev pub Gathers : ℕ → List ℕ → Bool → ℕ → List ℕ → Stage → List ℕ → serving.Due → Option Way → Type 0
-Gathers id octets true route text old body due next = IsEnded id octets route text old body due × (next ≡ None)
-Gathers id octets false route text old body due next = (due ≡ Nothing) × (next ≡ Some (Waiting route text old (body ++ octets)))
+abbrev pub Gathers : ℕ → List ℕ → List Field → Bool → ℕ → List ℕ → Stage → List ℕ → serving.Due → Option Way → Type 0
+Gathers id octets trailers true route text old body due next = IsEnded id octets trailers route text old body due × (next ≡ None)
+Gathers id octets trailers false route text old body due next = (due ≡ Nothing) × (next ≡ Some (Waiting route text old (body ++ octets)))
 
 -- The same of a request on any way.
-abbrev pub GoesBy : ℕ → List ℕ → Bool → Way → serving.Due → Option Way → Type 0
-GoesBy id octets ends (Waiting route text old body) due next = Gathers id octets ends route text old body due next
-GoesBy id octets ends (Going k old) due next = IsPassed octets ends k old due next
-GoesBy id octets ends Dropped due next = (due ≡ Nothing) × (next ≡ Some Dropped)
+abbrev pub GoesBy : ℕ → List ℕ → List Field → Bool → Way → serving.Due → Option Way → Type 0
+GoesBy id octets trailers ends (Waiting route text old body) due next = Gathers id octets trailers ends route text old body due next
+GoesBy id octets trailers ends (Going k old) due next = IsPassed octets trailers ends k old due next
+GoesBy id octets trailers ends Dropped due next = (due ≡ Nothing) × (next ≡ Some Dropped)
 
 -- What is due for them of a stream's request, and what is held behind them; of one that is dropped all stays as it is.
-abbrev pub TakesBy : ℕ → List ℕ → Bool → List Held → Way → serving.Due → List Held → Type 0
-TakesBy id octets ends hs (Waiting route text old body) due new = (next : Option Way) × Gathers id octets ends route text old body due next × (new ≡ held_with id next hs)
-TakesBy id octets ends hs (Going k old) due new = (next : Option Way) × IsPassed octets ends k old due next × (new ≡ held_with id next hs)
-TakesBy id octets ends hs Dropped due new = (due ≡ Nothing) × (new ≡ hs)
+abbrev pub TakesBy : ℕ → List ℕ → List Field → Bool → List Held → Way → serving.Due → List Held → Type 0
+TakesBy id octets trailers ends hs (Waiting route text old body) due new = (next : Option Way) × Gathers id octets trailers ends route text old body due next × (new ≡ held_with id next hs)
+TakesBy id octets trailers ends hs (Going k old) due new = (next : Option Way) × IsPassed octets trailers ends k old due next × (new ≡ held_with id next hs)
+TakesBy id octets trailers ends hs Dropped due new = (due ≡ Nothing) × (new ≡ hs)
 
 -- The same where this is held of the stream; where nothing is, all stays as it is.
-abbrev pub Takes : ℕ → List ℕ → Bool → List Held → Option Held → serving.Due → List Held → Type 0
-Takes id octets ends hs None due new = (due ≡ Nothing) × (new ≡ hs)
-Takes id octets ends hs (Some h) due new = TakesBy id octets ends hs h.way due new
+abbrev pub Takes : ℕ → List ℕ → List Field → Bool → List Held → Option Held → serving.Due → List Held → Type 0
+Takes id octets trailers ends hs None due new = (due ≡ Nothing) × (new ≡ hs)
+Takes id octets trailers ends hs (Some h) due new = TakesBy id octets trailers ends hs h.way due new
 
 -- ---- where it is held
 

@@ -8,6 +8,7 @@ ghost use Rattle.upstreams.specs.Ways.{way_of};
 ghost use Rattle.upstreams.specs.Requests.{stage_of, due_by, MayTake, MayTakeOf, GoesBy, Takes, IsHeldAt, IsHeldNowhere};
 
 use h1_writer::Text;
+use hpack_table::Field;
 use requests::{Going, Waiting};
 use std::alloc::{AllocError, Global};
 use std::marker::Model;
@@ -95,10 +96,15 @@ fn to_send(number: u32, text: Vec<u8>) -> Due
 }
 
 impl Held {
-    /// More octets of its body come, which goes on behind them. An `Err` says that memory was refused.
-    fn go_on(&mut self, alloc: Global, octets: &[u8]) -> Result<Due, AllocError>
+    /// More octets of its body come, which goes on behind them, so that trailers don't count yet. An `Err` says that memory was refused.
+    fn go_on(
+        &mut self,
+        alloc: Global,
+        octets: &[u8],
+        trailers: &[Field],
+    ) -> Result<Due, AllocError>
         requires { MayTake octets.now false self.old.way }
-        ensures goes { IfOk result (λ due. GoesBy self.old.id octets.now false self.old.way (due_by due) (Some self.new.way)) }
+        ensures goes { IfOk result (λ due. GoesBy self.old.id octets.now trailers.now false self.old.way (due_by due) (Some self.new.way)) }
         ensures same { self.new.id ≡ self.old.id }
     {
         match &mut self.way {
@@ -107,24 +113,29 @@ impl Held {
                 Ok(Due::Nothing)
             }
             Way::Going(number, going) => {
-                let text = going.pass(alloc, octets, false)?;
+                let text = going.pass(alloc, octets, false, trailers)?;
                 Ok(to_send(*number, text))
             }
             Way::Dropped => Ok(Due::Nothing),
         }
     }
 
-    /// The last octets of its body come; it isn't dropped. An `Err` says that memory was refused.
-    fn finish(self, alloc: Global, octets: &[u8]) -> Result<Due, AllocError>
+    /// The last octets of its body come, with these trailers; it isn't dropped. An `Err` says that memory was refused.
+    fn finish(
+        self,
+        alloc: Global,
+        octets: &[u8],
+        trailers: &[Field],
+    ) -> Result<Due, AllocError>
         requires may { MayTake octets.now true self.way }
         requires on { self.way ≡ Dropped → ⊥ }
-        ensures { IfOk result (λ due. GoesBy self.id octets.now true self.way (due_by due) None) }
+        ensures { IfOk result (λ due. GoesBy self.id octets.now trailers.now true self.way (due_by due) None) }
     {
         let Held { id, way } = self;
         match way {
             Way::Waiting(request) => {
                 let route = request.route();
-                let text = request.finish(octets)?;
+                let text = request.finish(octets, trailers)?;
                 Ok(Due::ToOpen(Outgoing {
                     stream: id,
                     route,
@@ -133,7 +144,7 @@ impl Held {
                 }))
             }
             Way::Going(number, mut going) => {
-                let text = going.pass(alloc, octets, true)?;
+                let text = going.pass(alloc, octets, true, trailers)?;
                 Ok(to_send(number, text))
             }
             Way::Dropped => unreachable!(),
@@ -207,29 +218,31 @@ pub fn hold_rest(
     hold(held, id, Way::Going(k, going))
 }
 
-/// Octets of the body of a stream's request come, and end it or don't: what is due behind them. An `Err` says that memory was refused.
+/// Octets of the body of a stream's request come, and end it, with these trailers, or don't: what is due behind them. An `Err` says that
+/// memory was refused.
 pub fn take_body(
     alloc: Global,
     held: &mut Vec<Held>,
     id: u32,
     octets: &[u8],
     ends: bool,
+    trailers: &[Field],
 ) -> Result<Due, AllocError>
     requires apart { AreApart (reverse held.old.items) }
     requires may { MayTakeOf octets.now ends (held_of id (reverse held.old.items)) }
-    ensures takes { IfOk result (λ due. Takes id octets.now ends (reverse held.old.items) (held_of id (reverse held.old.items)) (due_by due) (reverse held.new.items)) }
+    ensures takes { IfOk result (λ due. Takes id octets.now trailers.now ends (reverse held.old.items) (held_of id (reverse held.old.items)) (due_by due) (reverse held.new.items)) }
     ensures apart { AreApart (reverse held.new.items) }
 {
     let Some(place) = place_of(held, id) else {
         return Ok(Due::Nothing);
     };
     if !ends {
-        return held[place].go_on(alloc, octets);
+        return held[place].go_on(alloc, octets, trailers);
     }
     if held[place].is_dropped() {
         return Ok(Due::Nothing);
     }
-    held.remove(place).finish(alloc, octets)
+    held.remove(place).finish(alloc, octets, trailers)
 }
 
 /// What goes out on a connection that is closed is dropped.

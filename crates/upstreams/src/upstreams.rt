@@ -15,6 +15,7 @@ use crate::connections;
 use crate::held::{self, Due, Held, Outgoing, Way};
 use answers::{Answer, Passing};
 use h1_writer::Text;
+use hpack_table::Field;
 use request_rules::RequestHead;
 use requests::{Begun, Going, Waiting};
 use std::alloc::{AllocError, Global};
@@ -105,14 +106,21 @@ impl Upstreams {
         }
     }
 
-    /// Octets of the body of a stream's request came, and end it or don't; trailers end it with none. What is due behind them is the answer: a
+    /// Octets of the body of a stream's request came, and end it or don't; trailers end it with none, and those that
+    /// are passed on stand behind it. What is due behind them is the answer: a
     /// request that waits is due with its end, and one that goes out goes on. An `Err` says that memory was refused.
-    pub fn take_body(&mut self, id: u32, octets: &[u8], ends: bool) -> Result<Due, AllocError>
+    pub fn take_body(
+        &mut self,
+        id: u32,
+        octets: &[u8],
+        ends: bool,
+        trailers: &[Field],
+    ) -> Result<Due, AllocError>
         requires { MayTakeOf octets.now ends (held_of id self.old.held) }
-        ensures takes { IfOk result (λ due. Takes id octets.now ends self.old.held (held_of id self.old.held) (due_by due) self.new.held) }
+        ensures takes { IfOk result (λ due. Takes id octets.now trailers.now ends self.old.held (held_of id self.old.held) (due_by due) self.new.held) }
         ensures rest { self.new ≡ record self.old { held = self.new.held } }
     {
-        held::take_body(self.alloc, &mut self.held, id, octets, ends)
+        held::take_body(self.alloc, &mut self.held, id, octets, ends, trailers)
     }
 
     /// Nothing is held of a stream any more.

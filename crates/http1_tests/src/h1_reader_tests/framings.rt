@@ -2,18 +2,24 @@
 
 use super::*;
 
+/// Shows fields in their order.
+fn show_fields(shown: &mut Vec<u8>, fields: &[Field]) -> Result<(), AllocError> {
+    for field in fields {
+        shown.push(b' ')?;
+        shown.extend_from_slice(field.name())?;
+        shown.push(b'=')?;
+        shown.extend_from_slice(field.value())?;
+    }
+    Ok(())
+}
+
 /// Shows a head: of which kind it is, its status and its fields.
 fn show_head(shown: &mut Vec<u8>, kind: &[u8], head: &ResponseHead) -> Result<(), AllocError> {
     shown.extend_from_slice(kind)?;
     for place in [100, 10, 1] {
         shown.push(b'0' + (head.status() / place % 10) as u8)?;
     }
-    for field in head.fields() {
-        shown.push(b' ')?;
-        shown.extend_from_slice(field.name())?;
-        shown.push(b'=')?;
-        shown.extend_from_slice(field.value())?;
-    }
+    show_fields(shown, head.fields())?;
     shown.push(b'|')?;
     Ok(())
 }
@@ -24,6 +30,7 @@ fn show_piece(shown: &mut Vec<u8>, body: &mut Vec<u8>, piece: &Piece) -> Result<
         Piece::Interim(head) => show_head(shown, b"interim", head)?,
         Piece::Head(head) => show_head(shown, b"head", head)?,
         Piece::Body(octets) => body.extend_from_slice(octets)?,
+        Piece::Trailers(trailers) => show_fields(body, trailers.fields())?,
         Piece::Done => body.extend_from_slice(b"|done")?,
     }
     Ok(())
@@ -154,8 +161,9 @@ fn first_that_differs(
 }
 
 /// Each framing, with the octets that it needs and what may follow: a length, two equal ones, one of 0, none in either version,
-/// chunks, the last chunk alone, chunks with spaces, extensions and trailers.
-static FRAMINGS: [Row; 10] = [
+/// chunks, the last chunk alone, chunks with spaces, extensions and trailers, trailers of which some are for the connection, and none that
+/// are left.
+static FRAMINGS: [Row; 12] = [
     (
         b"HTTP/1.1 200 OK\r\nContent-Length: 2\r\n\r\nhi",
         b"",
@@ -186,7 +194,17 @@ static FRAMINGS: [Row; 10] = [
     (
         b"HTTP/1.1 200 OK\r\nTransfer-Encoding: CHUNKED\r\n\r\n2 \t;a=\"b\"\r\nhi\r\n000a;\r\n0123456789\r\n1\t\r\n!\r\n00 \r\nX-A: b\r\nX-B:\r\n\r\n",
         b"more",
-        b"head200|hi0123456789!|done|Complete",
+        b"head200|hi0123456789! x-a=b x-b=|done|Complete",
+    ),
+    (
+        b"HTTP/1.1 200 OK\r\nTransfer-Encoding: chunked\r\nConnection: x-a\r\n\r\n2\r\nhi\r\n0\r\nX-A: 1\r\nX-B: 2\r\nContent-Length: 9\r\nConnection: x-c\r\nX-C: 3\r\nX-B: 4\r\n\r\n",
+        b"",
+        b"head200|hi x-b=2 x-b=4|done|Complete",
+    ),
+    (
+        b"HTTP/1.1 200 OK\r\nTransfer-Encoding: chunked\r\n\r\n0\r\nContent-Length: 9\r\n\r\n",
+        b"more",
+        b"head200||done|Complete",
     ),
     (
         b"HTTP/1.1 103 Early Hints\r\nlink: a\r\n\r\nHTTP/1.1 100 Continue\r\nContent-Length: 7\r\n\r\nHTTP/1.1 200 OK\r\nContent-Length: 2\r\n\r\nhi",

@@ -62,13 +62,19 @@ fn declared(text: &[u8]) -> Option<usize> {
     str::from_utf8(value.get(..end)?).ok()?.parse().ok()
 }
 
-/// Whether a text is a whole request: behind its head stand chunks up to the last, or as many octets as it declares, or none.
+/// Whether the last chunk stands in a body, of which no chunk has a line of a single zero.
+fn has_last_chunk(body: &[u8]) -> bool {
+    body.starts_with(b"0\r\n") || place_of(body, b"\r\n0\r\n").is_some()
+}
+
+/// Whether a text is a whole request: behind its head stand chunks up to the last, with the end of the trailers, or as many octets as it
+/// declares, or none.
 fn is_whole_request(text: &[u8]) -> bool {
     let Some(body) = body_of(text) else {
         return false;
     };
     if place_of(text, b"\r\ntransfer-encoding: chunked\r\n").is_some() {
-        return body.ends_with(b"0\r\n\r\n");
+        return has_last_chunk(body) && body.ends_with(b"\r\n\r\n");
     }
     body.len() == declared(text).unwrap_or(0)
 }

@@ -81,7 +81,7 @@ enum Told {
     GoesOn,
     Begins(u32),
     Answered(Cause),
-    Trailers,
+    Trailers(usize),
     Ignored,
 }
 
@@ -95,7 +95,7 @@ fn told_of(judged: BlockJudged) -> Told {
         BlockJudged::GoesOn => Told::GoesOn,
         BlockJudged::Begins { route, .. } => Told::Begins(route),
         BlockJudged::Answered(cause) => Told::Answered(cause),
-        BlockJudged::Trailers => Told::Trailers,
+        BlockJudged::Trailers(fields) => Told::Trailers(fields.len()),
         BlockJudged::Ignored => Told::Ignored,
     }
 }
@@ -436,7 +436,7 @@ fn the_longest_block_is_read(rt: HostRuntime) -> Result<(), Fail> {
 /// Trailers that end their request, that don't, that come before all octets that the head declares, and that have a pseudo-field.
 static ENDINGS: [Row<'static>; 8] = [
     (HEADERS, WHOLE, 1, GET, Told::Begins(0)),
-    (HEADERS, ALL, 1, TRAILERS, Told::Trailers),
+    (HEADERS, ALL, 1, TRAILERS, Told::Trailers(1)),
     (HEADERS, WHOLE, 3, GET, Told::Begins(0)),
     (HEADERS, WHOLE, 3, TRAILERS, Told::Failed(Fault::Stream(1))),
     (HEADERS, WHOLE, 5, POST, Told::Begins(0)),

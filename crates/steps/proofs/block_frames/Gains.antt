@@ -4,6 +4,7 @@ use Rattle.std.specs.Prelude.{is_none, is_some}
 use Rattle.std.proofs.lemmas.Bool.{or_parts, eqb-false}
 use Rattle.model.specs.Messages.{Field}
 use Rattle.model.specs.Messages.Item.{Block}
+use Rattle.model.specs.Http2.{passed_trailers}
 use Rattle.model.specs.Frames.{Frame}
 use Rattle.model.specs.Logs.{Output}
 use Rattle.model.specs.Malformed.{is_malformed_block, are_trailers, has_length}
@@ -112,7 +113,7 @@ module _ (setup : Setup) (old : View) (rest : IsAtRest old) (noted : Noted) (nex
           record {
             serving = serving_now gained_by run s leads;
             by_route = goes.by_route;
-            sending = subst (λ (p : Rattle.request_rules.specs.Heads.HeadParts). Rattle.h1_writer.specs.Sending.Sending p ends begun.text [] begun.stage) goes.parts begun.sending;
+            sending = subst (λ (p : Rattle.request_rules.specs.Heads.HeadParts). Rattle.h1_writer.specs.Sending.Sending p ends begun.text [] [] begun.stage) goes.parts begun.sending;
             whole = begun.whole;
           },
         )
@@ -154,7 +155,7 @@ module _ (setup : Setup) (old : View) (rest : IsAtRest old) (noted : Noted) (nex
         (leads_there setup old rest run s leads noted next of mild is_noted read gain is_so owed due old.offers (upstream_then hs) refl owes (followed_there run s leads ∙ stays) requests outputs)
 
     ended_waiting : (route : ℕ) (text : List ℕ) (stage : Stage) (body : List ℕ) → held_of id s.requests.held ≡ Some (record { id = id; way = Waiting route text stage body })
-        → (due : Due) (after : Option Way) (hs : List Held) → Gathers id [] true route text stage body due after → hs ≡ held_with id after old.upstreams.held
+        → (due : Due) (after : Option Way) (hs : List Held) → Gathers id [] (passed_trailers fields) true route text stage body due after → hs ≡ held_with id after old.upstreams.held
         → Course setup run s outputs (Came noted) (record behind_view { upstreams = upstream_then hs }) (record square { owed = owed; due = due }) outputs
     ended_waiting route text stage body found due after hs gathers held_then =
         ends_by due hs gain_now
@@ -166,7 +167,7 @@ module _ (setup : Setup) (old : View) (rest : IsAtRest old) (noted : Noted) (nex
         gain_now = Gain.Gathers (Block fields true) route text stage body gathers.0.written Whole
 
     ended_going : (number : ℕ) (stage : Stage) → held_of id s.requests.held ≡ Some (record { id = id; way = Going number stage })
-        → (due : Due) (after : Option Way) (hs : List Held) → IsPassed [] true number stage due after → hs ≡ held_with id after old.upstreams.held
+        → (due : Due) (after : Option Way) (hs : List Held) → IsPassed [] (passed_trailers fields) true number stage due after → hs ≡ held_with id after old.upstreams.held
         → Course setup run s outputs (Came noted) (record behind_view { upstreams = upstream_then hs }) (record square { owed = owed; due = due }) outputs
     ended_going number stage found due after hs passed held_then =
         ends_by due hs gain_now
@@ -183,11 +184,11 @@ module _ (setup : Setup) (old : View) (rest : IsAtRest old) (noted : Noted) (nex
         ends_by due hs (Gain.Drops (Block fields true)) (adds_there, record { serving = serving_now (Gain.Drops (Block fields true)) run s leads; found = found })
         (ap (λ (hs : List Held). with_due (upstream_then hs) Nothing) (sym same) ∙ ap (λ (d : Due). with_due (upstream_then hs) d) (sym nothing))
 
-    pub brings_ended : (due : Due) (hs : List Held) → TakesOf id [] true old.upstreams.held (held_of id old.upstreams.held) due hs
+    pub brings_ended : (due : Due) (hs : List Held) → TakesOf id [] (passed_trailers fields) true old.upstreams.held (held_of id old.upstreams.held) due hs
         → Course setup run s outputs (Came noted) (record behind_view { upstreams = upstream_then hs }) (record square { owed = owed; due = due }) outputs
-    brings_ended due hs takes = by held.way (ap (λ (xs : List Held). held_of id xs) held_there ∙ held.found) (subst (λ (o : Option Held). TakesOf id [] true old.upstreams.held o due hs) held.found takes)
+    brings_ended due hs takes = by held.way (ap (λ (xs : List Held). held_of id xs) held_there ∙ held.found) (subst (λ (o : Option Held). TakesOf id [] (passed_trailers fields) true old.upstreams.held o due hs) held.found takes)
       where
-        by : (way : Way) → held_of id s.requests.held ≡ Some (record { id = id; way = way }) → TakesBy id [] true old.upstreams.held way due hs
+        by : (way : Way) → held_of id s.requests.held ≡ Some (record { id = id; way = way }) → TakesBy id [] (passed_trailers fields) true old.upstreams.held way due hs
             → Course setup run s outputs (Came noted) (record behind_view { upstreams = upstream_then hs }) (record square { owed = owed; due = due }) outputs
         by (Waiting route text stage body) found takes = ended_waiting route text stage body found due takes.0 hs takes.1 takes.2
         by (Going number stage) found takes = ended_going number stage found due takes.0 hs takes.1 takes.2

@@ -107,7 +107,7 @@ module _ (setup : Setup) (old : View) (rest : IsAtRest old) (run : List Move) (s
     newest judged.GoesOn is = newest_taken judged.GoesOn is (ap is_fatal is.judged.faultless) (left_is setup old.inbound mid (record { frame = frame; note = is.note }) is.next is.judged.left is.stays is.table)
     newest (judged.Begins head route) is = newest_taken (judged.Begins head route) is (ap is_fatal is.judged.faultless) (left_is setup old.inbound mid (record { frame = frame; note = is.note }) is.next is.judged.left is.stays is.table)
     newest (judged.Answered why) is = newest_taken (judged.Answered why) is (ap is_fatal is.judged.faultless) (left_is setup old.inbound mid (record { frame = frame; note = is.note }) is.next is.judged.left is.stays is.table)
-    newest judged.Trailers is = newest_taken judged.Trailers is (ap is_fatal is.judged.faultless) (left_is setup old.inbound mid (record { frame = frame; note = is.note }) is.next is.judged.left is.stays is.table)
+    newest (judged.Trailers trailers) is = newest_taken (judged.Trailers trailers) is (ap is_fatal is.judged.faultless) (left_is setup old.inbound mid (record { frame = frame; note = is.note }) is.next is.judged.left is.stays is.table)
     newest judged.Ignored is = newest_taken judged.Ignored is (ap is_fatal is.judged.faultless) (left_is setup old.inbound mid (record { frame = frame; note = is.note }) is.next is.judged.left is.stays is.table)
 
     -- The answer may be acted on.
@@ -126,7 +126,7 @@ module _ (setup : Setup) (old : View) (rest : IsAtRest old) (run : List Move) (s
         let says = is.judged.says in
         let same = left_is setup old.inbound mid (record { frame = frame; note = is.note }) is.next is.judged.left is.stays is.table in
         ap (λ (i : Inbound). is_active i.rows id) same ∙ active setup old rest frame mid of rows_are few_are outputs small half calm (judged.Answered why) is is.judged.faultless says.0 says.2 says.1 says.3
-    may_act judged.Trailers is = may_end_then setup old rest frame mid of rows_are few_are outputs small half calm is run s leads
+    may_act (judged.Trailers trailers) is = may_end_then setup old rest frame mid of rows_are few_are outputs small half calm trailers is run s leads
 
     -- ---- what comes of it, for any setup
 
@@ -137,6 +137,6 @@ module _ (setup : Setup) (old : View) (rest : IsAtRest old) (run : List Move) (s
     all_taken judging passes judged.GoesOn is result new put_out acted = part_taken judging old rest frame mid of rows_are few_are outputs small at_once is result new put_out acted
     all_taken judging passes judged.Ignored is result new put_out acted = ignored_taken judging old rest frame mid of rows_are few_are outputs small at_once is result new put_out acted
     all_taken judging passes (judged.Begins head route) is result new put_out acted = begun_taken judging old rest frame mid of rows_are few_are outputs small half calm at_once passes head route is result new put_out acted
-    all_taken judging passes judged.Trailers is result new put_out acted = ended_taken judging old rest frame mid of rows_are few_are outputs small half calm is result new put_out acted
+    all_taken judging passes (judged.Trailers trailers) is result new put_out acted = ended_taken judging old rest frame mid of rows_are few_are outputs small half calm trailers is result new put_out acted
     all_taken judging passes (judged.Answered why) is result new put_out acted =
         replied_taken judging old rest frame mid of rows_are few_are outputs small half calm why is (none_cut_own judging why is.judged.says.1 is.judged.says.4.0 is.judged.says.4.1) result new put_out acted

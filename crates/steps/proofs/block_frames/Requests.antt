@@ -1,5 +1,7 @@
 -- A request begins, or ends with trailers, as the judgement says: all that comes of it.
 use Rattle.std.proofs.Common.{◌≡◌, ℕ, ◌<◌, ◌≤◌, ◌+◌, Bool, true, false, ◌&&◌, ◌||◌, ◌==◌, List, [], append-nil, length, Option, Some, None, refl, sym, ◌∙◌, ap, subst}
+use Rattle.std.specs.declared.vec.Vec.{Vec}
+use Rattle.std.specs.declared.alloc.Global.{Global}
 use Rattle.std.proofs.lemmas.Bool.{eq-eqb}
 use Rattle.model.specs.Messages.{Field}
 use Rattle.model.specs.Messages.Item.{Block}
@@ -33,7 +35,7 @@ use Rattle.judgement.specs.declared.answers.BlockJudged.TheVariants as judged
 use Rattle.upstreams.specs.Kept as upstreams
 use Rattle.upstreams.specs.Kept.{Begins}
 use Rattle.upstreams.specs.Connections.{lives}
-use Rattle.upstreams.specs.Requests.{due_by, MayTake, MayTakeOf}
+use Rattle.upstreams.specs.Requests.{due_by, MayTake, MayTakeOf, Takes as TakesOf}
 use Rattle.policy.specs.Moves.{Move}
 use Rattle.policy.specs.State.{State}
 use Rattle.policy.specs.Rule.{Adds}
@@ -152,14 +154,14 @@ module _ (setup : Setup) (old : View) (rest : IsAtRest old) (frame : Frame) (mid
       (held_for setup run s leads.stands leads.so (ap (λ (b : Book). b.closed) leads.keeps.book) (ap (λ (r : serving.State). r.due) leads.keeps.requests) id
       (subst (λ (b : Book). (find b.rows id).brief.begun ≡ true) (sym leads.keeps.book) begun) (subst (λ (b : Book). (find b.rows id).brief.over ≡ false) (sym leads.keeps.book) over)))
 
-  module _ (is : IsFragmentJudged setup no_outside old.inbound frame mid judged.Trailers) where
+  module _ (trailers : Vec Field Global) (is : IsFragmentJudged setup no_outside old.inbound frame mid (judged.Trailers trailers)) where
     abbrev noted_then : Noted
     noted_then = record { frame = frame; note = is.note }
 
     abbrev behind_then : Inbound
     behind_then = inbound_behind setup old.inbound noted_then is.next
 
-    says_then : (block : Partial) × (fields : List Field) × (completed_in old.inbound.block frame ≡ Some block) × (is.note ≡ Fields fields) × SaysOf setup (find old.inbound.rows id).brief fields block.ends judged.Trailers
+    says_then : (block : Partial) × (fields : List Field) × (completed_in old.inbound.block frame ≡ Some block) × (is.note ≡ Fields fields) × SaysOf setup (find old.inbound.rows id).brief fields block.ends (judged.Trailers trailers)
     says_then = is.judged.says
 
     -- trailers end the stream, behind as many octets as are declared
@@ -189,7 +191,7 @@ module _ (setup : Setup) (old : View) (rest : IsAtRest old) (frame : Frame) (mid
         }
         by serving.Way.Dropped goes = tt
 
-    pub ended_taken : (result : BlockTaken) (new : View) (put_out : List Output) → HasEnded id last (record old { inbound = mid }) outputs result new put_out → IsBlockTaken setup old outputs frame result new put_out
+    pub ended_taken : (result : BlockTaken) (new : View) (put_out : List Output) → HasEnded id trailers.items last (record old { inbound = mid }) outputs result new put_out → IsBlockTaken setup old outputs frame result new put_out
     ended_taken (taken.Fatal code) new put_out acted = absurd acted.goes
     ended_taken (taken.Goes due farewell_left dropped) new put_out acted = record {
       note = is.note;
@@ -200,16 +202,16 @@ module _ (setup : Setup) (old : View) (rest : IsAtRest old) (frame : Frame) (mid
           (subst (λ (l : Option ℕ). Brings setup old square outputs (Came noted_then) (record old { inbound = behind_then; upstreams = record old.upstreams { held = new.upstreams.held } }) (record square { owed = farewell_frames l; due = acted.due; shared = dropped }) outputs) (sym acted.goes.1)
           (subst (λ n. Brings setup old square outputs (Came noted_then) (record old { inbound = behind_then; upstreams = record old.upstreams { held = new.upstreams.held } }) (record square { owed = farewell_frames last; due = acted.due; shared = n }) outputs) (sym acted.goes.2)
           (λ run s leads.
-          brings_ended setup old rest noted_then is.next of (ap is_fatal is.judged.faultless) is.is_noted is.read (of_stream judged.Trailers is is.judged.faultless says_then.0 says_then.2 says_then.1 says_then.3) (active judged.Trailers is is.judged.faultless says_then.0 says_then.2 says_then.1 says_then.3)
-          (no_reply judged.Trailers is is.judged.faultless says_then.0 says_then.2 says_then.1 says_then.3 says_then.4.1 says_then.4.2) says_then.1
-          (subst (λ b. Adds setup told noted_then (Block says_then.1 b)) ends_so.0 (whole_gain setup book noted_then of few_rows is.judged.faultless says_then.0 says_then.2 says_then.1 says_then.3 judged.Trailers says_then.4))
+          brings_ended setup old rest noted_then is.next of (ap is_fatal is.judged.faultless) is.is_noted is.read (of_stream (judged.Trailers trailers) is is.judged.faultless says_then.0 says_then.2 says_then.1 says_then.3) (active (judged.Trailers trailers) is is.judged.faultless says_then.0 says_then.2 says_then.1 says_then.3)
+          (no_reply (judged.Trailers trailers) is is.judged.faultless says_then.0 says_then.2 says_then.1 says_then.3 says_then.4.1 says_then.4.2) says_then.1
+          (subst (λ b. Adds setup told noted_then (Block says_then.1 b)) ends_so.0 (whole_gain setup book noted_then of few_rows is.judged.faultless says_then.0 says_then.2 says_then.1 says_then.3 (judged.Trailers trailers) says_then.4))
           (begun_active old.inbound.rows kept id says_then.4.0) run s leads (held_so run s leads says_then.4.0 says_then.4.1)
           (farewell_frames last)
-          (whole_owes setup book noted_then of few_rows is.judged.faultless says_then.0 says_then.2 says_then.1 says_then.3 judged.Trailers says_then.4 ∙ append-nil _ ∙ farewell setup old rest frame mid of kept few_rows outputs small judged.Trailers is (ap (λ (i : Inbound). ids_of i.rows) same))
-          outputs acted.due new.upstreams.held acted.takes)))));
+          (whole_owes setup book noted_then of few_rows is.judged.faultless says_then.0 says_then.2 says_then.1 says_then.3 (judged.Trailers trailers) says_then.4 ∙ append-nil _ ∙ farewell setup old rest frame mid of kept few_rows outputs small (judged.Trailers trailers) is (ap (λ (i : Inbound). ids_of i.rows) same))
+          outputs acted.due new.upstreams.held (subst (λ (xs : List Field). TakesOf id [] xs true old.upstreams.held (held_of id old.upstreams.held) acted.due new.upstreams.held) says_then.4.3 acted.takes))))));
       none_cut = subst (λ (v : View). NoneCut v.offers) (sym acted.kept) rest.none_cut;
-      about = about_so setup old rest frame mid of kept few_rows outputs small judged.Trailers is (ap is_fatal is.judged.faultless) new (ap (λ (v : View). v.inbound.rows) acted.kept ∙ ap (λ (i : Inbound). i.rows) same) (ap (λ (v : View). lives v.upstreams.live) acted.kept);
-      ids = λ other found. opened_so setup old rest frame mid of kept few_rows outputs small judged.Trailers is new.inbound.rows (ap (λ (v : View). ids_of v.inbound.rows) acted.kept ∙ ap (λ (i : Inbound). ids_of i.rows) same) other found;
+      about = about_so setup old rest frame mid of kept few_rows outputs small (judged.Trailers trailers) is (ap is_fatal is.judged.faultless) new (ap (λ (v : View). v.inbound.rows) acted.kept ∙ ap (λ (i : Inbound). i.rows) same) (ap (λ (v : View). lives v.upstreams.live) acted.kept);
+      ids = λ other found. opened_so setup old rest frame mid of kept few_rows outputs small (judged.Trailers trailers) is new.inbound.rows (ap (λ (v : View). ids_of v.inbound.rows) acted.kept ∙ ap (λ (i : Inbound). ids_of i.rows) same) other found;
     }
       where
         same : mid ≡ behind_then

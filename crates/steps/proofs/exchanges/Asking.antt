@@ -79,7 +79,7 @@ module _ (head : List Field) (token : some_of is_token_octet (method_of head) �
   head_goes ended more =
       and_more (method_of head) _ more
       (and_more (method_of head) _ crlf
-      (and_more (method_of head) _ (lines_text (written_fields (request_with (parts_of head) []) (framing_of (parts_of head).length ended)))
+      (and_more (method_of head) _ (lines_text (written_fields (request_with (parts_of head) [] []) (framing_of (parts_of head).length ended)))
       (and_more (method_of head) _ crlf (line_goes (method_of head) (path_of head)))))
 
   asks : (ended : Bool) (more : List ℕ) → is_front_of (codes "HEAD ") (head_of (parts_of head) ended ++ more) ≡ bytes_eq (method_of head) (codes "HEAD")
@@ -88,11 +88,11 @@ module _ (head : List Field) (token : some_of is_token_octet (method_of head) �
       ap (λ x. is_front_of (codes "HEAD ") x) g.is ∙ front_is (codes "HEAD") (method_of head) g.rest refl (all_of (method_of head) token)
 
   -- A request's text begins with HEAD and a space just where its method is HEAD, whether it is whole or not.
-  pub asked_is : (ended : Bool) (text : List ℕ) (pieces : List (List ℕ)) (stage : Stage) → Sending (parts_of head) ended text pieces stage → is_front_of (codes "HEAD ") text ≡ bytes_eq (method_of head) (codes "HEAD")
-  asked_is ended text pieces Whole sent = ap (λ x. is_front_of (codes "HEAD ") x) sent.is ∙ asks ended (content_of (parts_of head).length ended pieces)
-  asked_is ended text pieces (Counting left) sent = ap (λ x. is_front_of (codes "HEAD ") x) sent.is ∙ asks false (concat pieces)
-  asked_is ended text pieces Chunking sent = ap (λ x. is_front_of (codes "HEAD ") x) sent.is ∙ asks false (flat_map chunk_text pieces)
-  asked_is ended text pieces (Holding octet) sent =
+  pub asked_is : (ended : Bool) (text : List ℕ) (pieces : List (List ℕ)) (trailers : List Field) (stage : Stage) → Sending (parts_of head) ended text pieces trailers stage → is_front_of (codes "HEAD ") text ≡ bytes_eq (method_of head) (codes "HEAD")
+  asked_is ended text pieces trailers Whole sent = ap (λ x. is_front_of (codes "HEAD ") x) sent.is ∙ asks ended (content_of (parts_of head).length ended pieces trailers)
+  asked_is ended text pieces trailers (Counting left) sent = ap (λ x. is_front_of (codes "HEAD ") x) sent.is ∙ asks false (concat pieces)
+  asked_is ended text pieces trailers Chunking sent = ap (λ x. is_front_of (codes "HEAD ") x) sent.is ∙ asks false (flat_map chunk_text pieces)
+  asked_is ended text pieces trailers (Holding octet) sent =
       let g = head_goes false (concat pieces) in
       let five : length (codes "HEAD ") ≡ 5 = refl in
       let low = g.long in

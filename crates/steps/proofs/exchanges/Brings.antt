@@ -85,7 +85,7 @@ module _ (setup : Setup) (kept : View) (rest : IsAtRest kept) (run : List Move) 
           let it = same_parts known same knows in
           let o = coming.given_here setup kept rest run s leads k c found in
           hearing.octets_heard known (tape_of run) k c.live.stream c.answer o.0 o.1 o.2 o.3 stand.numbered stand.apart it (coming.not_ended setup kept rest run s leads k c found) octets tells.added new tells.hears
-          tells.short (tells.ends ∙ on) tells.same (subst (λ way. Waits (passing_in way) (base.parts ++ tells.added) new) (sym tells.same) (tells.waits base.parts base.waits on))
+          tells.short tells.few_named (tells.ends ∙ on) tells.same (subst (λ way. Waits (passing_in way) (base.parts ++ tells.added) new) (sym tells.same) (tells.waits base.parts base.waits on))
 
       pub octets_bring : Course setup run s outputs (Happened (Up k octets)) (record kept { offers = refilled c.live.stream box kept.offers; upstreams = record kept.upstreams { live = hears.heard_lives w k new kept.upstreams.live } }) square outputs
       octets_bring =

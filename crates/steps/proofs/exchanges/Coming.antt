@@ -145,7 +145,7 @@ module _ (setup : Setup) (kept : View) (rest : IsAtRest kept) (run : List Move) 
   abbrev pub heard_here : (known : Known) → known.setup ≡ setup → AreKnown known (conducts run) → IsHeard known t k c.answer
   heard_here known same knows =
       let is = leads.heard known same knows k c found not_whole (calm known same knows) in
-      record { parts = heard_own.parts; stands = heard_own.stands; short = heard_own.short; goes_on = heard_own.goes_on; waits = heard_own.waits; asked = is.asked; set_up = is.set_up }
+      record { parts = heard_own.parts; stands = heard_own.stands; short = heard_own.short; few_named = heard_own.few_named; goes_on = heard_own.goes_on; waits = heard_own.waits; asked = is.asked; set_up = is.set_up }
 
   -- answers of the others stand for what was heard behind the event
   pub heard_beside : (event : Event) → upstream_of event ≡ k → (known : Known) → known.setup ≡ setup → AreKnown known (conducts run) → (j : ℕ) (x : Connection) → (j ≡ k → ⊥) → find number_of j kept.upstreams.live ≡ Some x → x.live.whole ≡ false → (course known x.live.stream (Happened event ∷ t)).cause ≡ None → IsHeard known (Happened event ∷ t) j x.answer
@@ -155,6 +155,7 @@ module _ (setup : Setup) (kept : View) (rest : IsAtRest kept) (run : List Move) 
         parts = is.parts;
         stands = subst (λ y. Reads y is.parts x.answer.reader) (sym (heard_same t (Happened event) j (λ e. apart (e ∙ of)))) is.stands;
         short = is.short;
+        few_named = is.few_named;
         goes_on = is.goes_on;
         waits = is.waits;
         asked = is.asked ∙ ap is_to_head (sym (items_behind_event known t event (given j (opens t))));

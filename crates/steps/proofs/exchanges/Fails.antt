@@ -383,6 +383,7 @@ module _ (setup : Setup) (kept : View) (rest : IsAtRest kept) (run : List Move) 
           parts = was.parts;
           stands = was.stands;
           short = was.short;
+          few_named = was.few_named;
           goes_on = was.goes_on;
           waits = was.waits;
           asked = was.asked ∙ head_stays known (given j (opens (tape_of run))) (Happened event ∷ tape_of run) (Did (Close k)) (begun_one known same knows.0.0 j x (found_before k j kept.upstreams.live x is));

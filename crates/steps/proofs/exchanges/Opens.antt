@@ -4,6 +4,7 @@ use Rattle.std.specs.Prelude.{is_none, is_some, option_map, nat_lt}
 use Rattle.std.specs.List.{list_any}
 use Rattle.std.proofs.lemmas.Bool.{eq-eqb, eqb-true, ltb-true, ne_eqb, and_parts}
 use Rattle.std.proofs.lemmas.Bool.Decides.{eqb_tells}
+use Rattle.model.specs.Http2.{first_block, passed_trailers}
 use Rattle.model.specs.Frames.{Frame}
 use Rattle.model.specs.Logs.{Output}
 use Rattle.model.specs.Logs.Act.{Open, ToUp}
@@ -86,7 +87,7 @@ use Rattle.relay.proofs.Where.{led_to, own, own_led, right_here, stands_here, wi
 asks_as_text : (known : Known) (t : List Entry) (stream route : ℕ) (text : List ℕ) (stage : Stage) → IsOpening known t stream route text stage → is_front_of (codes "HEAD ") text ≡ is_to_head (items known stream t)
 asks_as_text known t stream route text stage due =
     let w = due.written in
-    asked_is w.head w.well_formed.method_holds w.ended text w.pieces stage w.sending ∙ sym (ap is_to_head w.is)
+    asked_is w.head w.well_formed.method_holds w.ended text w.pieces (passed_trailers (first_block w.more)) stage w.sending ∙ sym (ap is_to_head w.is)
 
 -- ---- what is kept of DATA that waits
 
@@ -339,8 +340,8 @@ module _ (setup : Setup) (kept : View) (owed : List Frame) (fresh back stream ro
 
       -- nothing waits of its answer
       none_waits : (p : Way) → Waits p [] new_connection.answer
-      none_waits WholePassing = (refl, refl)
-      none_waits Streaming = (refl, refl)
+      none_waits WholePassing = (refl, refl, refl)
+      none_waits Streaming = (refl, refl, refl)
 
       -- the new answer stands for nothing
       heard_new : (known : Known) → known.setup ≡ setup → AreKnown known (conducts run) → IsHeard known opened_tape number new_connection.answer
@@ -351,6 +352,7 @@ module _ (setup : Setup) (kept : View) (owed : List Frame) (fresh back stream ro
             parts = [];
             stands = subst (λ x. Reads x [] new_connection.answer.reader) (sym new.unheard) reads;
             short = omega arith;
+            few_named = omega arith;
             goes_on = refl;
             waits = none_waits (passing_in passing);
             asked =
@@ -369,6 +371,7 @@ module _ (setup : Setup) (kept : View) (owed : List Frame) (fresh back stream ro
         parts = is.parts;
         stands = is.stands;
         short = is.short;
+        few_named = is.few_named;
         goes_on = is.goes_on;
         waits = is.waits;
         asked =

@@ -8,6 +8,7 @@ use Rattle.conduct.specs.Summary.{Stream as Conducted}
 use Rattle.conduct.specs.Rows.{find as find_row, slot_of}
 use Rattle.conduct.specs.Rows.Slot.{Over}
 use Rattle.offering.specs.Outbox.{Part}
+use Rattle.offering.specs.Outbox.Part.{Trailing}
 use Rattle.offering.specs.State.{Kept, find, change, without, gone}
 use Rattle.header_blocks.specs.Encoding.{Encoding}
 use Rattle.streams_kept.specs.Asked.{has, is_active}
@@ -106,7 +107,8 @@ sent_stays u outputs id ends v put_out sent = by ends (first sent)
   where
     first : IsPartSent u outputs id ends v put_out → Stays u v
     first (inl (is_final, h)) = subst (Stays u) (sym h.kept) (part_stays u id h.part (head_sent is_final ends (find_row u.inbound.rows id)) u.inbound.window (record u.encoding { table = h.table; limits = None }) (octets_of_frames (block_frames id ends h.block)) (block_octets (filled_before h.block) 1 (if ends then 1 else 0) id h.block))
-    first (inr h) = subst (Stays u) (sym h.kept) (part_stays u id h.part (data_sent (length h.octets) ends (find_row u.inbound.rows id)) (u.inbound.window -ℤ pos (length h.octets)) u.encoding (length (spell (data_frame id ends h.octets))) (omega arith))
+    first (inr (inr (last, h))) = subst (Stays u) (sym h.kept) (part_stays u id (Trailing h.trailers) (head_sent false true (find_row u.inbound.rows id)) u.inbound.window (record u.encoding { table = h.table; limits = None }) (octets_of_frames (block_frames id true h.block)) (block_octets (filled_before h.block) 1 1 id h.block))
+    first (inr (inl h)) = subst (Stays u) (sym h.kept) (part_stays u id h.part (data_sent (length h.octets) ends (find_row u.inbound.rows id)) (u.inbound.window -ℤ pos (length h.octets)) u.encoding (length (spell (data_frame id ends h.octets))) (omega arith))
 
     by : (b : Bool) → Stays u v → Stays u (if b then ended id v else v)
     by true stays = ended_stays u v id stays
@@ -127,12 +129,14 @@ sent_about u outputs id ends v put_out sent = about_then id u v (ended id v) (fi
   where
     first : IsPartSent u outputs id ends v put_out → IsAbout id u v
     first (inl (is_final, h)) = about_changed id (slot_of (head_sent is_final ends (find_row u.inbound.rows id))) u v (ap (λ (w : View). w.inbound.rows) h.kept) (ap (λ (w : View). lives w.upstreams.live) h.kept)
-    first (inr h) = about_changed id (slot_of (data_sent (length h.octets) ends (find_row u.inbound.rows id))) u v (ap (λ (w : View). w.inbound.rows) h.kept) (ap (λ (w : View). lives w.upstreams.live) h.kept)
+    first (inr (inr (last, h))) = about_changed id (slot_of (head_sent false true (find_row u.inbound.rows id))) u v (ap (λ (w : View). w.inbound.rows) h.kept) (ap (λ (w : View). lives w.upstreams.live) h.kept)
+    first (inr (inl h)) = about_changed id (slot_of (data_sent (length h.octets) ends (find_row u.inbound.rows id))) u v (ap (λ (w : View). w.inbound.rows) h.kept) (ap (λ (w : View). lives w.upstreams.live) h.kept)
 
 -- A part that goes changes nothing of what waits.
 pub sent_waits : (u : View) (outputs : List Output) (id : ℕ) (ends : Bool) (v : View) (put_out : List Output) → IsPartSent u outputs id ends v put_out → waiting_for id v ≡ waiting_for id u
 sent_waits u outputs id ends v put_out (inl (is_final, h)) = ap (λ (w : View). waiting_for id w) h.kept
-sent_waits u outputs id ends v put_out (inr h) = ap (λ (w : View). waiting_for id w) h.kept
+sent_waits u outputs id ends v put_out (inr (inr (last, h))) = ap (λ (w : View). waiting_for id w) h.kept
+sent_waits u outputs id ends v put_out (inr (inl h)) = ap (λ (w : View). waiting_for id w) h.kept
 
 -- Behind one that doesn't end its stream no connection is done with, if none was before.
 pub sent_none_done : (u : View) (outputs : List Output) (id : ℕ) (v : View) (put_out : List Output) → is_active u.inbound.rows id ≡ true → IsPartSent u outputs id false v put_out → NoneDone u → NoneDone v
@@ -140,7 +144,8 @@ sent_none_done u outputs id v put_out active (inl (is_final, h)) none =
     none_stays u v
     (λ other. ap (λ (w : View). is_served w.inbound.rows other) h.kept ∙ served_same id (head_sent is_final false (find_row u.inbound.rows id)) u.inbound.rows active refl refl other)
     (ap (λ (w : View). lives w.upstreams.live) h.kept) none
-sent_none_done u outputs id v put_out active (inr h) none =
+sent_none_done u outputs id v put_out active (inr (inr (last, h))) none = absurd (let clash : false ≡ true = last in cc)
+sent_none_done u outputs id v put_out active (inr (inl h)) none =
     none_stays u v
     (λ other. ap (λ (w : View). is_served w.inbound.rows other) h.kept ∙ served_same id (data_sent (length h.octets) false (find_row u.inbound.rows id)) u.inbound.rows active refl refl other)
     (ap (λ (w : View). lives w.upstreams.live) h.kept) none

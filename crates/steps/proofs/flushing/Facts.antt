@@ -4,7 +4,7 @@ use Rattle.std.specs.Prelude.{◌⊎◌, is_some}
 use Rattle.std.specs.List.{list_any}
 use Rattle.std.proofs.lemmas.Bool.{cases_Bool, eqb-true}
 use Rattle.std.proofs.lemmas.List.Folds.{list_any-append}
-use Rattle.model.specs.Messages.{Item, ends_with}
+use Rattle.model.specs.Messages.{Field, Item, ends_with}
 use Rattle.model.specs.Messages.Item.{Block, Content}
 use Rattle.model.specs.Frames.{data_kind, ends_stream, content}
 use Rattle.model.specs.ResponseHeads.{Head}
@@ -132,26 +132,27 @@ interims_go_on (Block fields true ∷ items) heads are = absurd are
 interims_go_on (Content octets ends ∷ items) heads are = absurd are
 interims_go_on (Block fields false ∷ items) [] are = absurd are
 
-contents_go_on : (items : List Item) (body : List ℕ) (whole : Bool) → AreContents items body whole → whole ≡ false → list_any ends_with items ≡ false
-contents_go_on [] body whole are not_whole = refl
-contents_go_on (Content octets true ∷ items) body whole are not_whole = absurd (let clash : true ≡ false = sym are.2 ∙ not_whole in cc)
-contents_go_on (Content octets false ∷ items) body whole are not_whole = contents_go_on items are.0 whole are.2 not_whole
-contents_go_on (Block fields ends ∷ items) body whole are not_whole = absurd are
+contents_go_on : (items : List Item) (body : List ℕ) (trailers : List Field) (whole : Bool) → AreContents items body trailers whole → whole ≡ false → list_any ends_with items ≡ false
+contents_go_on [] body trailers whole are not_whole = refl
+contents_go_on (Content octets true ∷ items) body trailers whole are not_whole = absurd (let clash : true ≡ false = sym are.3 ∙ not_whole in cc)
+contents_go_on (Content octets false ∷ items) body trailers whole are not_whole = contents_go_on items are.0 trailers whole are.2 not_whole
+contents_go_on (Block fields true ∷ items) body trailers whole are not_whole = absurd (let clash : true ≡ false = sym are.5 ∙ not_whole in cc)
+contents_go_on (Block fields false ∷ items) body trailers whole are not_whole = absurd are
 
-answer_goes_on : (items : List Item) (head : Option Head) (body : List ℕ) (whole : Bool) → IsAnsweredBy items head body whole → (head ≡ None) ⊎ (whole ≡ false) → list_any ends_with items ≡ false
-answer_goes_on items None body whole is not_yet = ap (λ (xs : List Item). list_any ends_with xs) is.0
-answer_goes_on items (Some head) body whole is (inl none) = absurd (let clash : ◌≡◌ {A = Option Head} (Some head) None = none in cc)
-answer_goes_on (Block fields true ∷ items) (Some head) body whole is (inr not_whole) = absurd (let clash : true ≡ false = sym is.4 ∙ not_whole in cc)
-answer_goes_on (Block fields false ∷ items) (Some head) body whole is (inr not_whole) = contents_go_on items body whole is.2 not_whole
-answer_goes_on [] (Some head) body whole is (inr not_whole) = absurd is
-answer_goes_on (Content octets ends ∷ items) (Some head) body whole is (inr not_whole) = absurd is
+answer_goes_on : (items : List Item) (head : Option Head) (body : List ℕ) (trailers : List Field) (whole : Bool) → IsAnsweredBy items head body trailers whole → (head ≡ None) ⊎ (whole ≡ false) → list_any ends_with items ≡ false
+answer_goes_on items None body trailers whole is not_yet = ap (λ (xs : List Item). list_any ends_with xs) is.0
+answer_goes_on items (Some head) body trailers whole is (inl none) = absurd (let clash : ◌≡◌ {A = Option Head} (Some head) None = none in cc)
+answer_goes_on (Block fields true ∷ items) (Some head) body trailers whole is (inr not_whole) = absurd (let clash : true ≡ false = sym is.5 ∙ not_whole in cc)
+answer_goes_on (Block fields false ∷ items) (Some head) body trailers whole is (inr not_whole) = contents_go_on items body trailers whole is.2 not_whole
+answer_goes_on [] (Some head) body trailers whole is (inr not_whole) = absurd is
+answer_goes_on (Content octets ends ∷ items) (Some head) body trailers whole is (inr not_whole) = absurd is
 
 items_go_on : (items : List Item) (read : Delivery) → ReadsAs items read → (read.head ≡ None) ⊎ (read.whole ≡ false) → list_any ends_with items ≡ false
 items_go_on items read reads not_yet =
     ap (λ (xs : List Item). list_any ends_with xs) reads.is
     ∙ list_any-append ends_with reads.interim_items reads.rest
     ∙ ap (λ b. b || list_any ends_with reads.rest) (interims_go_on reads.interim_items read.interims reads.interims)
-    ∙ answer_goes_on reads.rest read.head read.body read.whole reads.answer not_yet
+    ∙ answer_goes_on reads.rest read.head read.body read.trailers read.whole reads.answer not_yet
 
 -- behind an outbox of which something can go the response isn't whole
 not_yet_whole : (read : Delivery) (windows : Bool) (box : Outbox) → Fits read box → can_go windows box ≡ true → (read.head ≡ None) ⊎ (read.whole ≡ false)

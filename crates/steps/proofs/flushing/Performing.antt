@@ -1,5 +1,5 @@
 -- A part of the stream whose turn it is goes: this performs.
-use Rattle.std.proofs.Common.{◌≡◌, ℕ, ◌<◌, ◌≤◌, Bool, true, false, not, ◌||◌, if◌then◌else◌, List, [], ◌∷◌, ◌++◌, length, length-append, Option, Some, None, refl, sym, ◌∙◌, ap, subst, inl, inr, arith}
+use Rattle.std.proofs.Common.{◌≡◌, ◌≢◌, ℕ, ◌<◌, ◌≤◌, Bool, true, false, not, ◌||◌, if◌then◌else◌, List, [], ◌∷◌, ◌++◌, length, length-append, Option, Some, None, refl, sym, ◌∙◌, ap, subst, inl, inr, arith}
 use Rattle.std.specs.Prelude.{nat_le, option_and_then, ◌-ℤ◌, pos}
 use Rattle.std.proofs.lemmas.Bool.{and_parts, le-leb, leb-true}
 use Rattle.model.proofs.BlockLaws.{field_some}
@@ -24,7 +24,7 @@ use Rattle.conduct.specs.Rows.{find as find_row, Row}
 use Rattle.conduct.specs.Book.{Book, summary_in}
 use Rattle.offering.specs.Outbox.{Outbox, Part, IsNext, IsItemOf, can_go, part_of}
 use Rattle.offering.specs.Outbox.Outbox.{Before, Behind, Over}
-use Rattle.offering.specs.Outbox.Part.{Early, Final, Octets}
+use Rattle.offering.specs.Outbox.Part.{Early, Final, Octets, Trailing}
 use Rattle.offering.specs.State.{Kept, Windows, find, are_open, is_ready, is_ready_if, can_turn, ready}
 use Rattle.offering.proofs.Deciding.{chosen_next}
 use Rattle.offering.proofs.Listing.{filter_out}
@@ -43,10 +43,10 @@ use Rattle.policy.specs.State.{State}
 use Rattle.relay.specs.View.{View, square, Leads, Pending, waiting_for}
 use Rattle.relay.specs.Rest.{NoneCut}
 use Rattle.relay.specs.Bringing.{OwnSegment, PerformsOwn}
-use Rattle.steps.specs.flushing.Changes.{part_gone, ended, put_at_end, octets_of_frames, IsHeadPart, AreOctetsPart, IsHeadSent, AreOctetsSent, IsPartSent}
+use Rattle.steps.specs.flushing.Changes.{part_gone, ended, put_at_end, octets_of_frames, IsHeadPart, AreOctetsPart, IsHeadSent, AreOctetsSent, AreTrailersSent, IsPartSent}
 use Rattle.steps.proofs.flushing.Rows.{not_flip}
 use Rattle.steps.proofs.flushing.Facts.{ready_active, ready_unended}
-use Rattle.steps.proofs.flushing.Statuses.{HasStatuses, statuses_right, final_told, IsLate}
+use Rattle.steps.proofs.flushing.Statuses.{HasStatuses, statuses_right, final_told, never_final, IsLate}
 use Rattle.steps.proofs.flushing.Placed.{At, led_at, owing, back_on}
 use Rattle.steps.proofs.flushing.Paths.{path_performs}
 use Rattle.steps.proofs.flushing.Sending.{MaySend}
@@ -106,6 +106,7 @@ item_right (Before [] late body whole) (Final sent last) f ends head fields next
       final_told fields head ends section ∙ le-leb 200 head.status high ∙ sym says.0,
     )
 item_right box (Octets octets last) f ends head fields next statuses says is_head section = absurd says
+item_right box (Trailing trailers) f ends head fields next statuses says is_head section = absurd says
 item_right (Before (first ∷ interims) late body whole) (Final sent last) f ends head fields next statuses says is_head section = absurd next
 item_right (Before [] late body whole) (Early sent) f ends head fields next statuses says is_head section = absurd next
 item_right (Behind body whole) (Early sent) f ends head fields next statuses says is_head section = absurd next
@@ -128,6 +129,10 @@ section_some : (fields : List Field) (head : Head) (encoding : Encoding) (table 
 section_some fields head encoding table block section written =
     let is_block : blocks.IsBlock encoding.table block written.maxima _ table = subst (λ (xs : List Field). blocks.IsBlock encoding.table block written.maxima xs table) section.is written.is_block in
     block_some encoding.table table written.maxima block _ head.fields is_block
+
+trailers_some : (fields : List Field) (encoding : Encoding) (table : Table) (block : List ℕ) → fields ≢ [] → IsWrittenBy encoding fields table block → 0 < length block
+trailers_some [] encoding table block some written = absurd (some refl)
+trailers_some (field ∷ fields) encoding table block some written = block_some encoding.table table written.maxima block field fields written.is_block
 
 -- ---- the part performs
 
@@ -204,6 +209,7 @@ module _ (u : View) (id : ℕ) (none_cut : NoneCut u.offers) (turn : IsNextTurn 
       octets_part (Octets octets last) sent e are = ap (λ xs. Octets xs last) (sym are.0) ∙ ap (λ b. Octets sent b) (sym are.1)
       octets_part (Early head) sent e are = absurd are
       octets_part (Final head last) sent e are = absurd are
+      octets_part (Trailing trailers) sent e are = absurd are
 
       -- octets go, or the end does
       some_go : (box : Outbox) (octets : List ℕ) (last : Bool) → IsNext box (Octets octets last) → (not (is_empty octets) || last) ≡ true
@@ -213,11 +219,34 @@ module _ (u : View) (id : ℕ) (none_cut : NoneCut u.offers) (turn : IsNextTurn 
       some_go (Before [] head body whole) octets last next = absurd next
       some_go Over octets last next = absurd next
 
-  -- So does a part of either kind.
+  -- So do trailers, and the stream is over.
+  pub trailers_perform : (setup : Setup) (outputs : List Output) (v : View) (put_out : List Output) → AreTrailersSent u outputs id v put_out
+      → PerformsOwn setup u square outputs (ended id v) (behind true) (put_at_end id v put_out)
+  trailers_perform setup outputs v put_out h run s leads =
+      let may = may_send setup run s leads in
+      let part : Part = Trailing h.trailers in
+      let next = chosen_next 1 it.stream.box part (omega arith) (part_here 1 id u.offers.kept it.stream part it.found h.next) in
+      let block : Partial = record { id = id; ends = true; fragments = h.block } in
+      let path = block_path setup s.desk.book.given s.tables s.windows block h.trailers h.table part it.stream (block_frames id true h.block) run u None (at setup run s leads) may
+      (record { found = it.found; next = next; is = (refl, refl, h.can_trail.plain); written = h.written }) (λ none. in_time)
+      (block_completes id true h.block small (trailers_some h.trailers u.encoding h.table h.block h.can_trail.some h.written)) outputs in
+      let gone : Bool → View = λ f. part_gone id part (head_sent f true (find_row u.inbound.rows id)) u.inbound.window (record u.encoding { table = h.table; limits = None }) (octets_of_frames (block_frames id true h.block)) u in
+      let told : Bool = is_final (Block h.trailers true) in
+      let out : List Output = put_frames outputs (block_frames id true h.block) in
+      let whole = end_path setup s.desk.book.given s.tables s.windows run u None id may.active may.unended small part (head_sent told true (find_row u.inbound.rows id)) u.inbound.window (record u.encoding { table = h.table; limits = None }) (octets_of_frames (block_frames id true h.block)) true refl outputs out path in
+      subst (λ (w : View). OwnSegment setup run s outputs (ended id w) (behind true) (put_at_end id w put_out)) (sym h.kept)
+      (subst (λ f. OwnSegment setup run s outputs (ended id (gone f)) (behind true) (put_at_end id (gone f) put_out)) (never_final h.trailers true h.can_trail.plain)
+      (subst (λ (o : List Output). OwnSegment setup run s outputs (ended id (gone told)) (behind true) (put_at_end id (gone told) o)) (sym h.puts)
+      (subst (λ n. OwnSegment setup run s outputs (ended id (gone told)) (owing [] n) (put_at_end id (gone told) out)) (back_then setup run s leads true)
+      (path_performs setup run s u (ended id (gone told)) [] [] outputs (put_at_end id (gone told) out) 0 (back_on (waiting_for id u) s.windows) leads whole))))
+
+  -- So does a part of any kind.
   pub part_performs : (setup : Setup) (outputs : List Output) (ends : Bool) (v : View) (put_out : List Output) → IsPartSent u outputs id ends v put_out
       → PerformsOwn setup u square outputs (if ends then ended id v else v) (behind ends) (if ends then put_at_end id v put_out else put_out)
   part_performs setup outputs ends v put_out (inl head) = head_performs setup outputs head.0 ends v put_out head.1
-  part_performs setup outputs ends v put_out (inr octets) = octets_perform setup outputs ends v put_out octets
+  part_performs setup outputs ends v put_out (inr (inl octets)) = octets_perform setup outputs ends v put_out octets
+  part_performs setup outputs ends v put_out (inr (inr (last, trailers))) =
+      subst (λ b. PerformsOwn setup u square outputs (if b then ended id v else v) (behind b) (if b then put_at_end id v put_out else put_out)) (sym last) (trailers_perform setup outputs v put_out trailers)
 
   -- The last part went, and the stream ended: what waited of it goes back.
   pub ends_then : (setup : Setup) (outputs : List Output) (v : View) (put_out : List Output) → IsPartSent u outputs id true v put_out

@@ -1,10 +1,12 @@
 -- Heads that are on offer have the statuses of their places: interim heads are below 200, and final ones aren't.
 use Rattle.std.proofs.Common.{◌≡◌, ℕ, ◌<◌, ◌≤◌, Bool, true, false, ◌==◌, if◌then◌else◌, List, [], ◌∷◌, ◌++◌, Option, Some, None, refl, sym, ◌∙◌, ap, subst, inl, inr, arith}
 use Rattle.std.proofs.lemmas.List.Elements.{All-nil, All-head, All-tail}
-use Rattle.std.specs.Prelude.{nat_le, codes}
+use Rattle.std.specs.Prelude.{nat_le, codes, bytes_eq}
+use Rattle.std.proofs.lemmas.Bool.{cases_Bool}
+use Rattle.std.proofs.lemmas.Slice.Eq.{bytes_eq-Decides}
 use Rattle.std.specs.Str.Parse.{digits_value}
-use Rattle.model.specs.Octets.{Joined}
-use Rattle.model.specs.Http2.{first_of}
+use Rattle.model.specs.Octets.{Joined, begins_with}
+use Rattle.model.specs.Http2.{first_of, is_pseudo, pseudo_fields}
 use Rattle.model.specs.Messages.{Field}
 use Rattle.model.specs.Messages.Item.{Block}
 use Rattle.model.specs.Http1.{values_of}
@@ -23,9 +25,9 @@ use Rattle.model.specs.Causes.Cause.{LargeFields, Tunnel, Expects, LargeBody, No
 use Rattle.model.specs.Courses.{items, is_final}
 use Rattle.conduct.specs.Rule.{known_of}
 use Rattle.conduct.proofs.Knowing.{known_so}
-use Rattle.offering.specs.Outbox.{Outbox, replied, Part, left, rest_of, offered_by, grown}
+use Rattle.offering.specs.Outbox.{End, Outbox, replied, Part, left, rest_of, offered_by, grown}
 use Rattle.offering.specs.Outbox.Outbox.{Before, Behind, Over}
-use Rattle.offering.specs.Outbox.Part.{Early, Final as Last, Octets}
+use Rattle.offering.specs.Outbox.Part.{Early, Final as Last, Octets, Trailing}
 use Rattle.offering.specs.State.{Kept, find}
 use Rattle.offering.specs.State as offering
 use Rattle.offering.specs.Rule.{Seen as Step, moves_of, tape_of, sight_of, AllMayCome, AreRight, AreTold}
@@ -101,7 +103,7 @@ replied_statuses LargeBody = (tt, omega arith)
 replied_statuses NoRoute = (tt, omega arith)
 replied_statuses BadAnswer = (tt, omega arith)
 
-rest_statuses : (body : List ℕ) (whole ends : Bool) → HasStatuses (rest_of body whole ends)
+rest_statuses : (body : List ℕ) (whole : End) (ends : Bool) → HasStatuses (rest_of body whole ends)
 rest_statuses body whole true = tt
 rest_statuses body whole false = tt
 
@@ -109,12 +111,15 @@ left_statuses : (box : Outbox) (part : Part) → HasStatuses box → HasStatuses
 left_statuses (Before (first ∷ interims) head body whole) (Early sent) h = (h.0.1, h.1)
 left_statuses (Before (first ∷ interims) head body whole) (Last sent ends) h = h
 left_statuses (Before (first ∷ interims) head body whole) (Octets octets ends) h = h
+left_statuses (Before (first ∷ interims) head body whole) (Trailing trailers) h = h
 left_statuses (Before [] head body whole) (Early sent) h = h
 left_statuses (Before [] head body whole) (Last sent ends) h = rest_statuses body whole ends
 left_statuses (Before [] head body whole) (Octets octets ends) h = h
+left_statuses (Before [] head body whole) (Trailing trailers) h = h
 left_statuses (Behind body whole) (Early sent) h = h
 left_statuses (Behind body whole) (Last sent ends) h = h
 left_statuses (Behind body whole) (Octets octets ends) h = rest_statuses _ whole ends
+left_statuses (Behind body whole) (Trailing trailers) h = tt
 left_statuses Over part h = h
 
 -- Behind runs by the rule those of all outboxes are.
@@ -155,3 +160,19 @@ pub final_told : (fields : List Field) (head : Head) (ends : Bool) → IsSection
 final_told fields head ends section =
     ap (λ (xs : List Field). nat_le 200 (digits_value 10 (first_of (values_of (codes ":status") xs)))) section.is
     ∙ ap (λ n. nat_le 200 n) (sym section.status)
+
+-- fields without a pseudo-field have no status
+no_status : (fields : List Field) → pseudo_fields fields ≡ [] → values_of (codes ":status") fields ≡ []
+no_status [] plain = refl
+no_status (field ∷ fields) plain = elim (cases_Bool (is_pseudo field)) [
+  | inl on ↦ absurd (let clash : field ∷ pseudo_fields fields ≡ [] = sym (ap (λ b. if b then field ∷ pseudo_fields fields else pseudo_fields fields) on) ∙ plain in cc)
+  | inr off ↦ (let rest : pseudo_fields fields ≡ [] = sym (ap (λ b. if b then field ∷ pseudo_fields fields else pseudo_fields fields) off) ∙ plain in
+      elim (cases_Bool (bytes_eq field.name (codes ":status"))) [
+        | inl same ↦ absurd (let clash : true ≡ false = sym (ap (λ (n : List ℕ). begins_with 58 n) ((bytes_eq-Decides field.name (codes ":status")).0 same)) ∙ off in cc)
+        | inr other ↦ ap (λ b. if b then field.value ∷ values_of (codes ":status") fields else values_of (codes ":status") fields) other ∙ no_status fields rest
+      ])
+]
+
+-- so a block of them is no final head
+pub never_final : (fields : List Field) (ends : Bool) → pseudo_fields fields ≡ [] → is_final (Block fields ends) ≡ false
+never_final fields ends plain = ap (λ (xs : List (List ℕ)). nat_le 200 (digits_value 10 (first_of xs))) (no_status fields plain)

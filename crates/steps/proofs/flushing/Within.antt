@@ -7,7 +7,7 @@ use Rattle.conduct.specs.Judging.{window_in}
 use Rattle.conduct.specs.Rows.{find as find_row}
 use Rattle.offering.specs.Outbox.{Outbox, Part, can_go, part_of, octets_of}
 use Rattle.offering.specs.Outbox.Outbox.{Before, Behind, Over}
-use Rattle.offering.specs.Outbox.Part.{Early, Octets}
+use Rattle.offering.specs.Outbox.Part.{Early, Octets, Trailing}
 use Rattle.offering.specs.State.{Kept, State, Windows, find, are_open, can_turn}
 use Rattle.offering.proofs.Deciding.{chosen_few}
 use Rattle.judgement.specs.Inbound.{Inbound}
@@ -31,14 +31,15 @@ open_for windows most (Before (first ∷ interims) head body whole) octets ends 
 open_for windows most (Before [] (Some head) body whole) octets ends part can some = cc
 open_for windows most (Before [] None body whole) octets ends part can some = cc
 open_for windows most (Behind (octet ∷ rest) whole) octets ends part can some = can
-open_for windows most (Behind [] true) octets ends part can some =
+open_for windows most (Behind [] (Some [])) octets ends part can some =
     let none : octets_of (Octets octets ends) ≡ [] = ap (λ (o : Option Part). octets_if o) (sym part) in
     absurd (let clash : true ≡ false = sym (ap (λ (xs : List ℕ). length xs == 0) none) ∙ some in cc)
   where
     octets_if : Option Part → List ℕ
     octets_if None = []
     octets_if (Some p) = octets_of p
-open_for windows most (Behind [] false) octets ends part can some = cc
+open_for windows most (Behind [] (Some (field ∷ fields))) octets ends part can some = (let clash : ◌≡◌ {A = Option Part} (Some (Trailing (field ∷ fields))) (Some (Octets octets ends)) = part in cc)
+open_for windows most (Behind [] None) octets ends part can some = cc
 open_for windows most Over octets ends part can some = cc
 
 below : (count most : ℕ) (window : ℤ) → count ≤ most → pos most ≤ℤ window → pos count ≤ℤ window

@@ -243,7 +243,7 @@ module _ (setup : Setup) (old : View) (rest : IsAtRest old) (frame : Frame) (pla
         -- ---- it waits
 
         waiting_passes : (route : ℕ) (text : List ℕ) (stage : Stage) (body : List ℕ) → is_whole stage ≡ false → held_of frame.id s.requests.held ≡ Some (record { id = frame.id; way = Waiting route text stage body })
-            → (last : Bool) → ends ≡ last → (due : Due) (next : Option Way) (hs : List Held) → Gathers frame.id octets last route text stage body due next → hs ≡ held_with frame.id next old.upstreams.held
+            → (last : Bool) → ends ≡ last → (due : Due) (next : Option Way) (hs : List Held) → Gathers frame.id octets [] last route text stage body due next → hs ≡ held_with frame.id next old.upstreams.held
             → Passes setup old rest frame plain inbound table (taken no_outside).left mild_so old.offers (upstream_then hs) old.marks 0 due s
         waiting_passes route text stage body part found false more due next hs gathers held_then =
             passes_by due hs gain_now
@@ -266,7 +266,7 @@ module _ (setup : Setup) (old : View) (rest : IsAtRest old) (frame : Frame) (pla
         -- ---- it goes out
 
         going_passes : (number : ℕ) (stage : Stage) → held_of frame.id s.requests.held ≡ Some (record { id = frame.id; way = Going number stage })
-            → (due : Due) (next : Option Way) (hs : List Held) → IsPassed octets ends number stage due next → hs ≡ held_with frame.id next old.upstreams.held
+            → (due : Due) (next : Option Way) (hs : List Held) → IsPassed octets [] ends number stage due next → hs ≡ held_with frame.id next old.upstreams.held
             → Passes setup old rest frame plain inbound table (taken no_outside).left mild_so old.offers (upstream_then hs) old.marks 0 due s
         going_passes number stage found due next hs passed held_then =
             passes_by due hs gain_now
@@ -285,16 +285,16 @@ module _ (setup : Setup) (old : View) (rest : IsAtRest old) (frame : Frame) (pla
             passes_by due hs (Gain.Drops (Content octets ends)) (adds, record { serving = serves (Gain.Drops (Content octets ends)); found = found })
             (ap (λ (hs : List Held). upstreams.with_due (upstream_then hs) Due.Nothing) (sym same) ∙ ap (λ (d : Due). upstreams.with_due (upstream_then hs) d) (sym nothing))
 
-        content_passes : (due : Due) (hs : List Held) → TakesOf frame.id octets ends old.upstreams.held (held_of frame.id old.upstreams.held) due hs → Passes setup old rest frame plain inbound table (taken no_outside).left mild_so old.offers (upstream_then hs) old.marks 0 due s
-        content_passes due hs takes = by held.way held.found held.goes (subst (λ (o : Option Held). TakesOf frame.id octets ends old.upstreams.held o due hs) held_found takes)
+        content_passes : (due : Due) (hs : List Held) → TakesOf frame.id octets [] ends old.upstreams.held (held_of frame.id old.upstreams.held) due hs → Passes setup old rest frame plain inbound table (taken no_outside).left mild_so old.offers (upstream_then hs) old.marks 0 due s
+        content_passes due hs takes = by held.way held.found held.goes (subst (λ (o : Option Held). TakesOf frame.id octets [] ends old.upstreams.held o due hs) held_found takes)
           where
-            by : (way : Way) → held_of frame.id s.requests.held ≡ Some (record { id = frame.id; way = way }) → GoesBy k.brief way → TakesBy frame.id octets ends old.upstreams.held way due hs
+            by : (way : Way) → held_of frame.id s.requests.held ≡ Some (record { id = frame.id; way = way }) → GoesBy k.brief way → TakesBy frame.id octets [] ends old.upstreams.held way due hs
                 → Passes setup old rest frame plain inbound table (taken no_outside).left mild_so old.offers (upstream_then hs) old.marks 0 due s
             by (Waiting route text stage body) found goes takes = waiting_passes route text stage body goes.part found ends refl due takes.0 hs takes.1 takes.2
             by (Going number stage) found goes takes = going_passes number stage found due takes.0 hs takes.1 takes.2
             by Dropped found goes takes = dropped_passes found due hs takes.0 takes.1
 
       -- Octets of its body are taken.
-      pub content_comes : (due : Due) (hs : List Held) → TakesOf frame.id octets ends old.upstreams.held (held_of frame.id old.upstreams.held) due hs → (outputs : List Output)
+      pub content_comes : (due : Due) (hs : List Held) → TakesOf frame.id octets [] ends old.upstreams.held (held_of frame.id old.upstreams.held) due hs → (outputs : List Output)
           → Brings setup old square outputs (coming frame) (record old { inbound = inbound; upstreams = record old.upstreams { held = hs } }) (record square { due = due; fresh = data_length is_any frame }) outputs
       content_comes due hs takes outputs = passes_with (record old.upstreams { held = hs }) due refl (λ run s leads. content_passes run s leads due hs takes) outputs

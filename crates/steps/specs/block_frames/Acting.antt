@@ -2,6 +2,7 @@
 use Rattle.std.specs.Prelude.{◌≡◌, ◌+◌, ℕ, Bool, true, List, [], length, Option, Some, None}
 use Rattle.model.specs.Frames.{spell}
 use Rattle.model.specs.Http2.{HasLength}
+use Rattle.model.specs.Messages.{Field}
 use Rattle.model.specs.Logs.{Output}
 use Rattle.model.specs.Logs.Output.{ToClient}
 use Rattle.model.specs.Tapes.{put}
@@ -77,11 +78,11 @@ abbrev pub GoesWith : Due → Option ℕ → BlockTaken → Type 0
 GoesWith due last (taken.Fatal code) = ⊥
 GoesWith due last (taken.Goes answer farewell dropped) = (due_by answer ≡ due) × (farewell ≡ last) × (dropped ≡ 0)
 
--- It ended with trailers.
-pub record HasEnded (id : ℕ) (last : Option ℕ) (old : View) (outputs : List Output) (answer : BlockTaken) (new : View) (put_out : List Output) : Type 0 where
+-- It ended with trailers, of which these are passed on.
+pub record HasEnded (id : ℕ) (trailers : List Field) (last : Option ℕ) (old : View) (outputs : List Output) (answer : BlockTaken) (new : View) (put_out : List Output) : Type 0 where
   pub due : Due
   pub goes : GoesWith due last answer
-  pub takes : Takes id [] true old.upstreams.held (held_of id old.upstreams.held) due new.upstreams.held
+  pub takes : Takes id [] trailers true old.upstreams.held (held_of id old.upstreams.held) due new.upstreams.held
   pub kept : new ≡ record old { upstreams = record old.upstreams { held = new.upstreams.held } }
   pub puts : put_out ≡ outputs
 
@@ -92,7 +93,7 @@ IsActed id at_once (judged.Failed (fault.Stream code)) last old outputs answer n
 IsActed id at_once (judged.Begins head route) last old outputs answer new put_out = HasBegun id route head at_once last old outputs answer new put_out
 IsActed id at_once (judged.Answered cause) last old outputs answer new put_out =
     IsReplied (find old.inbound.rows id).head_out (model.reset_code (cause_of cause)) id (cause_of cause) last old outputs answer new put_out
-IsActed id at_once judged.Trailers last old outputs answer new put_out = HasEnded id last old outputs answer new put_out
+IsActed id at_once (judged.Trailers trailers) last old outputs answer new put_out = HasEnded id trailers.items last old outputs answer new put_out
 IsActed id at_once other last old outputs answer new put_out = IsFollowed id last old outputs answer new put_out
 
 -- A request that begins is on an active stream, and declares no body where its head ends it.
@@ -104,5 +105,5 @@ pub record MayBegin (id : ℕ) (parts : HeadParts) (old : View) : Type 0 where
 abbrev pub MayAct : ℕ → BlockJudged → View → Type 0
 MayAct id (judged.Begins head route) old = MayBegin id head old
 MayAct id (judged.Answered cause) old = is_active old.inbound.rows id ≡ true
-MayAct id judged.Trailers old = MayTakeOf [] true (held_of id old.upstreams.held)
+MayAct id (judged.Trailers trailers) old = MayTakeOf [] true (held_of id old.upstreams.held)
 MayAct id other old = Unit {0}

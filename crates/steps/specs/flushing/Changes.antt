@@ -13,7 +13,7 @@ use Rattle.conduct.specs.Summary.{Stream as Kept}
 use Rattle.conduct.specs.Rows.{find}
 use Rattle.conduct.specs.Rows.Slot.{Over}
 use Rattle.offering.specs.Outbox.{Part}
-use Rattle.offering.specs.Outbox.Part.{Early, Final, Octets}
+use Rattle.offering.specs.Outbox.Part.{Early, Final, Octets, Trailing}
 use Rattle.offering.specs.State as offering
 use Rattle.serving.specs.State as serving
 use Rattle.serving.specs.State.{id_of}
@@ -21,6 +21,7 @@ use Rattle.header_blocks.specs.Encoding.{Encoding}
 use Rattle.header_blocks.specs.Encodes.{IsWrittenBy}
 use Rattle.streams_kept.specs.Asked.{is_active, changed}
 use Rattle.streams_kept.specs.Sending.{head_sent, data_sent}
+use Rattle.h1_reader.specs.HeadSizes.{CanTrail}
 use Rattle.judgement.specs.Sending.{with_kept, AreWithin}
 use Rattle.outbox.specs.Views.{IsHead}
 use Rattle.offers.specs.Asked.{part_for}
@@ -99,6 +100,17 @@ pub record IsHeadSent (old : View) (outputs : List Output) (id : ℕ) (is_final 
   pub kept : new ≡ part_gone id part (head_sent is_final ends (find old.inbound.rows id)) old.inbound.window (record old.encoding { table = table; limits = None }) (octets_of_frames (block_frames id ends block)) old
   pub puts : put_out ≡ put_frames outputs (block_frames id ends block)
 
+-- The trailers that go next on a stream went out in the frames of one block, which ends it (RFC 9113, section 8.1).
+pub record AreTrailersSent (old : View) (outputs : List Output) (id : ℕ) (new : View) (put_out : List Output) : Type 0 where
+  pub trailers : List Field
+  pub next : part_for 1 id old.offers.kept ≡ Some (Trailing trailers)
+  pub can_trail : CanTrail trailers
+  pub table : Table
+  pub block : List ℕ
+  pub written : IsWrittenBy old.encoding trailers table block
+  pub kept : new ≡ part_gone id (Trailing trailers) (head_sent false true (find old.inbound.rows id)) old.inbound.window (record old.encoding { table = table; limits = None }) (octets_of_frames (block_frames id true block)) old
+  pub puts : put_out ≡ put_frames outputs (block_frames id true block)
+
 -- Octets that go next on a stream, or its end alone, went out in one frame, within both windows (RFC 9113, sections 6.1 and 6.9.1).
 pub record AreOctetsSent (old : View) (outputs : List Output) (id : ℕ) (ends : Bool) (new : View) (put_out : List Output) : Type 0 where
   pub most : ℕ
@@ -112,6 +124,9 @@ pub record AreOctetsSent (old : View) (outputs : List Output) (id : ℕ) (ends :
   pub kept : new ≡ part_gone id part (data_sent (length octets) ends (find old.inbound.rows id)) (old.inbound.window -ℤ pos (length octets)) old.encoding (length (spell (data_frame id ends octets))) old
   pub puts : put_out ≡ put outputs (ToClient (spell (data_frame id ends octets)))
 
--- A part went out: a head, or octets.
+-- A part went out: a head, octets, or trailers, with which the stream ends.
 abbrev pub IsPartSent : View → List Output → ℕ → Bool → View → List Output → Type 0
-IsPartSent old outputs id ends new put_out = ((is_final : Bool) × IsHeadSent old outputs id is_final ends new put_out) ⊎ AreOctetsSent old outputs id ends new put_out
+IsPartSent old outputs id ends new put_out =
+    ((is_final : Bool) × IsHeadSent old outputs id is_final ends new put_out)
+    ⊎ AreOctetsSent old outputs id ends new put_out
+    ⊎ ((ends ≡ true) × AreTrailersSent old outputs id new put_out)

@@ -1,5 +1,5 @@
 -- What is done by the judgement's answer, from what is kept behind the judgement.
-use Rattle.std.specs.Prelude.{◌≡◌, ◌≤◌, ◌+◌, ℕ, Bool, true, false, not, ◌&&◌, List, ◌∷◌, length}
+use Rattle.std.specs.Prelude.{◌≡◌, ◌≤◌, ◌+◌, ℕ, Bool, true, false, not, ◌&&◌, List, [], ◌∷◌, length}
 use Rattle.model.specs.Frames.{Frame, spell, settings_ack, enhance_your_calm}
 use Rattle.model.specs.Logs.{Output}
 use Rattle.model.specs.Logs.Output.{ToClient}
@@ -73,7 +73,7 @@ IsSet change old outputs answer new put_out =
 pub record IsContent (ends : Bool) (id : ℕ) (octets : List ℕ) (old : View) (answer : Taken) (new : View) : Type 0 where
   pub due : Due
   pub goes : Goes due 0 answer
-  pub takes : Takes id octets ends old.upstreams.held (held_of id old.upstreams.held) due new.upstreams.held
+  pub takes : Takes id octets [] ends old.upstreams.held (held_of id old.upstreams.held) due new.upstreams.held
   pub kept : new ≡ record old { upstreams = record old.upstreams { held = new.upstreams.held } }
 
 -- Where items may come yet they did; else nothing is done.

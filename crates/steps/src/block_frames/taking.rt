@@ -20,6 +20,7 @@ ghost use Rattle.steps.specs.block_frames.Taken.{IsBlockTaken};
 use crate::block_frames::doing::{farewell_behind, follow, has_ended, head_out, reset};
 use causes::Cause;
 use frames::View;
+use header_blocks::Field;
 use judgement::{BlockJudged, Fault, Terms};
 use outputs::Outputs;
 use relay::Rooms;
@@ -132,17 +133,18 @@ fn reply(
     })
 }
 
-/// Ends a request behind which trailers came: it is due, or what is left of it where it goes out.
+/// Ends a request behind which trailers came, of which these are passed on: it is due, or what is left of it where it goes out.
 fn finish(
     rooms: &mut Rooms,
     id: u32,
+    trailers: &[Field],
     farewell: Option<u32>,
     out: &mut Outputs,
 ) -> Result<BlockTaken, AllocError>
     requires { MayTakeOf [] true (held_of id rooms.old.upstreams.held) }
-    ensures { IfOk result (λ taken. HasEnded id farewell rooms.old out.old taken rooms.new out.new) }
+    ensures { IfOk result (λ taken. HasEnded id trailers.now farewell rooms.old out.old taken rooms.new out.new) }
 {
-    let due = rooms.upstreams.take_body(id, &[], true)?;
+    let due = rooms.upstreams.take_body(id, &[], true, trailers)?;
     Ok(BlockTaken::Goes {
         due,
         farewell,
@@ -171,7 +173,7 @@ fn act(
             begin(rooms, id, &head, route, at_once, farewell, out)
         },
         BlockJudged::Answered(cause) => reply(rooms, id, cause, farewell, out),
-        BlockJudged::Trailers => finish(rooms, id, farewell, out),
+        BlockJudged::Trailers(trailers) => finish(rooms, id, &trailers, farewell, out),
         BlockJudged::Failed(Fault::Discarded) | BlockJudged::GoesOn | BlockJudged::Ignored => {
             pass(rooms, id, farewell, out)
         }

@@ -6,9 +6,9 @@ ghost use Rattle.conduct.specs.Judging.{window_in};
 ghost use Rattle.conduct.specs.Rows.{find};
 ghost use Rattle.offering.specs.State.{are_open, can_turn};
 ghost use Rattle.streams_kept.specs.Asked.{is_active};
-ghost use Rattle.offers.specs.Asked.{is_head, part_for, windows_over};
+ghost use Rattle.offers.specs.Asked.{are_trailers, is_head, part_for, windows_over};
 ghost use Rattle.relay.specs.View.{waiting_for};
-ghost use Rattle.steps.specs.flushing.Changes.{ended, put_at_end, IsHeadPart, IsHeadSent, AreOctetsSent, IsPartSent};
+ghost use Rattle.steps.specs.flushing.Changes.{ended, put_at_end, AreTrailersSent, IsHeadPart, IsHeadSent, AreOctetsSent, IsPartSent};
 
 use judgement::Connection;
 use offers::Offers;
@@ -55,6 +55,13 @@ fn next_head(offers: &Offers, id: u32) -> Option<NextHead>
     }
 }
 
+/// Whether what goes next on a stream are trailers.
+fn are_trailers_next(offers: &Offers, id: u32) -> bool
+    ensures { result ≡ are_trailers (part_for 1 id offers.now.kept) }
+{
+    matches!(offers.part(id, 1), Some(Part::Trailing(_)))
+}
+
 /// How many octets the frames of a header block are (RFC 9113, sections 4.1, 6.2 and 6.10), by its own.
 fn octets_of_block(block: usize) -> u64
     requires { block < 2 ^ 63 }
@@ -90,6 +97,30 @@ fn send_head(
     Ok(())
 }
 
+/// Sends the trailers that go next on an active stream, in the frames of one header block, which ends it (RFC 9113, section 8.1). An `Err` says
+/// that memory was refused.
+fn send_trailers(
+    alloc: Global,
+    rooms: &mut Rooms,
+    id: u32,
+    out: &mut Outputs,
+) -> Result<(), AllocError>
+    requires trailers { are_trailers (part_for 1 id rooms.old.offers.kept) ≡ true }
+    requires live { is_active rooms.old.inbound.rows id ≡ true }
+    requires small { id < 2147483648 }
+    requires few { rooms.old.untaken < high_water }
+    ensures sent { OnOk result (AreTrailersSent rooms.old out.old id rooms.new out.new) }
+    ensures room { OnOk result (rooms.new.untaken + 13 < 2 ^ 64) }
+{
+    let trailers = rooms.offers.take_trailers(id);
+    let mut block = Vec::new(alloc);
+    rooms.encoder.encode(&trailers, &mut block)?;
+    out.send_block(id, &block, true)?;
+    rooms.untaken += octets_of_block(block.len());
+    rooms.inbound.sent_head(id, false, true);
+    Ok(())
+}
+
 /// How many octets of DATA may go on a stream at once, at least one: what a frame holds and, where both windows are open, what they let through
 /// (RFC 9113, sections 4.2 and 6.9.1).
 fn most_octets(inbound: &Connection, id: u32) -> usize
@@ -117,6 +148,7 @@ fn most_octets(inbound: &Connection, id: u32) -> usize
 /// is the answer. An `Err` says that memory was refused.
 fn send_octets(rooms: &mut Rooms, id: u32, out: &mut Outputs) -> Result<bool, AllocError>
     requires no_head { is_head (part_for 1 id rooms.old.offers.kept) ≡ false }
+    requires no_trailers { are_trailers (part_for 1 id rooms.old.offers.kept) ≡ false }
     requires ready { can_turn (windows_over rooms.old.inbound.rows rooms.old.inbound.first_size rooms.old.inbound.window) rooms.old.offers id ≡ true }
     requires live { is_active rooms.old.inbound.rows id ≡ true }
     requires small { id < 2147483648 }
@@ -136,7 +168,7 @@ fn send_octets(rooms: &mut Rooms, id: u32, out: &mut Outputs) -> Result<bool, Al
     Ok(ends)
 }
 
-/// Sends the next part of an active stream of which something can go: a head or octets; whether that ends the stream is the answer. An `Err`
+/// Sends the next part of an active stream of which something can go: a head, trailers or octets; whether that ends the stream is the answer. An `Err`
 /// says that memory was refused.
 pub fn send_part(
     alloc: Global,
@@ -155,6 +187,10 @@ pub fn send_part(
         Some(next) => {
             send_head(alloc, rooms, id, next, out)?;
             Ok(next.ends)
+        }
+        None if are_trailers_next(&rooms.offers, id) => {
+            send_trailers(alloc, rooms, id, out)?;
+            Ok(true)
         }
         None => send_octets(rooms, id, out),
     }

@@ -127,7 +127,7 @@ pub(crate) fn take_content(
     requires { MayTakeOf octets.now ends (held_of id rooms.old.upstreams.held) }
     ensures { IfOk result (λ taken. IsContent ends id octets.now rooms.old taken rooms.new) }
 {
-    let due = rooms.upstreams.take_body(id, octets, ends)?;
+    let due = rooms.upstreams.take_body(id, octets, ends, &[])?;
     Ok(Taken::Goes { due, dropped: 0 })
 }
 

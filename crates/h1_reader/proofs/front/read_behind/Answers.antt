@@ -1,5 +1,5 @@
 use Rattle.std.proofs.Common.{◌≡◌, ◌≤◌, ◌<◌, ◌+◌, ◌-◌, ◌++◌, length, length-append, ◌∙◌, subst, rules, arith, List, ℕ}
-use Rattle.model.specs.ResponseHeads.{Interim, Final}
+use Rattle.model.specs.ResponseHeads.{named_by_connection, Interim, Final}
 use Rattle.h1_reader.specs.Views.{framing_view}
 use Rattle.h1_reader.proofs.FrontLemmas.{ends_in}
 use Rattle.h1_reader.proofs.FaultReads.{reach, head_in_whole, long_head}
@@ -51,7 +51,7 @@ returns-in-Ok-Final c =
     let ends = ends_in c.args.held.items c.args.octets.now c.deref.result.now c.len-before.result c.min-taken.result c.in-Ok-Final.used _ c.requires.none counted (omega (arith, c.min-taken.ensures))
     (c.deref.ensures.value ∙ c.in_ok-extend_from_slice.ensures.items) read.0 read.1.taken.reads in
     let more : c.len-before.result < c.in-Ok-Final.used = ends.more in
-    (omega arith, ends.fits, subst (λ (o : List ℕ). Final c.args.to_head o c.in-Ok-Final.head (framing_view c.in-Ok-Final.framing)) ends.is read.1)
+    (omega arith, ends.fits, subst (λ (o : List ℕ). Final c.args.to_head o c.in-Ok-Final.head (framing_view (named_by_connection c.in-Ok-Final.connections.items) c.in-Ok-Final.framing)) ends.is read.1, read.2)
 
 pub returns-in-Err : goal.returns-in-Err
 returns-in-Err c =

@@ -1,5 +1,6 @@
 use Rattle.std.proofs.Common.{◌≡◌, ◌≤◌, ◌<◌, ◌+◌, ◌-◌, ◌++◌, length, length-append, ◌∙◌, subst, rules, arith, List, ℕ}
-use Rattle.model.specs.Responses.{IsTrailers}
+use Rattle.model.specs.ResponseHeads.{named_by_connection}
+use Rattle.h1_reader.specs.Trailers.{ArePassed}
 use Rattle.h1_reader.proofs.TrailerLemmas.{trailers_end}
 use Rattle.h1_reader.proofs.FaultReads.{reach, trailers_in_whole, long_trailers}
 use Rattle.h1_reader.proofs.trailers.read_trailers.Goals as goal
@@ -20,19 +21,19 @@ pub overflow_sub-result : goal.overflow_sub-result
 overflow_sub-result c =
     let counted : c.len-before.result ≡ length c.args.held.items = search rules in
     let read = rw c.in-Ok-Some.field-0-is at c.in-Ok-Some.ensures in
-    let ends = trailers_end c.args.held.items c.args.octets.now c.deref.result.now c.len-before.result c.min-taken.result c.in-Ok-Some.used c.requires.none counted (omega (arith, c.min-taken.ensures))
-    (c.deref.ensures.value ∙ c.in_ok-extend_from_slice.ensures.items) read.0 read.1 in
-    let more : c.len-before.result < c.in-Ok-Some.used = ends.more in
+    let ends = trailers_end c.args.held.items c.args.octets.now c.deref.result.now c.len-before.result c.min-taken.result c.in-Ok-Some.found.used c.requires.none counted (omega (arith, c.min-taken.ensures))
+    (c.deref.ensures.value ∙ c.in_ok-extend_from_slice.ensures.items) read.0 read.1.are in
+    let more : c.len-before.result < c.in-Ok-Some.found.used = ends.more in
     omega arith
 
 pub returns-in-Ok-Some : goal.returns-in-Ok-Some
 returns-in-Ok-Some c =
     let counted : c.len-before.result ≡ length c.args.held.items = search rules in
     let read = rw c.in-Ok-Some.field-0-is at c.in-Ok-Some.ensures in
-    let ends = trailers_end c.args.held.items c.args.octets.now c.deref.result.now c.len-before.result c.min-taken.result c.in-Ok-Some.used c.requires.none counted (omega (arith, c.min-taken.ensures))
-    (c.deref.ensures.value ∙ c.in_ok-extend_from_slice.ensures.items) read.0 read.1 in
-    let more : c.len-before.result < c.in-Ok-Some.used = ends.more in
-    (omega arith, ends.fits, subst (λ (o : List ℕ). IsTrailers o) ends.is read.1)
+    let ends = trailers_end c.args.held.items c.args.octets.now c.deref.result.now c.len-before.result c.min-taken.result c.in-Ok-Some.found.used c.requires.none counted (omega (arith, c.min-taken.ensures))
+    (c.deref.ensures.value ∙ c.in_ok-extend_from_slice.ensures.items) read.0 read.1.are in
+    let more : c.len-before.result < c.in-Ok-Some.found.used = ends.more in
+    (omega arith, ends.fits, subst (λ (o : List ℕ). ArePassed (named_by_connection c.args.connections.now) o c.in-Ok-Some.found.trailers.items) ends.is read.1)
 
 pub returns-in-Err : goal.returns-in-Err
 returns-in-Err c =

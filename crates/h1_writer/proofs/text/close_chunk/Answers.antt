@@ -1,4 +1,4 @@
-use Rattle.std.proofs.Common.{rules, ◌≡◌, ◌+◌, ◌≤◌, ◌<◌, ◌++◌, List, ℕ, length, take, drop, ◌-◌, ◌^◌, [], ◌∷◌, codes, ap, ◌∙◌, arith}
+use Rattle.std.proofs.Common.{rules, ◌≡◌, ◌+◌, ◌≤◌, ◌<◌, ◌++◌, List, ℕ, length, take, drop, ◌-◌, ◌^◌, [], ◌∷◌, codes, ap, ◌∙◌, append_assoc, arith}
 use Rattle.model.specs.Http1.{crlf}
 use Rattle.h1_writer.specs.Sending.{hex_size, chunk_text, last_chunk}
 use Rattle.h1_writer.proofs.Closing as laws
@@ -34,5 +34,7 @@ returns c =
     let count : c.args.octets.len ≡ length c.args.octets.items = search rules in
     let all : take c.args.octets.len (c.set_before.new.octets ++ drop (length c.set_before.new.octets) c.args.octets.items) ≡ c.set_before.new.octets = laws.all_new c.args.octets.items c.set_before.new.octets c.args.octets.len same count in
     let start : c.len-2.result ≡ length c.in_ok-front.front.items = search rules in
-    laws.laid c.args.octets.items c.in_ok-front.front.items c.set_before.new.octets c.extend_from_slice.new.self.items c.args.head c.args.body (c.args.body - c.len-2.result) front fits (omega (arith, c.requires.some)) (ap (λ (n : ℕ). c.args.body - n) start) new
-    (c.in_ok-extend_from_slice.ensures.items ∙ ap (λ (os : List ℕ). os ++ codes "\r\n0\r\n\r\n") all)
+    let behind : c.push_last.new.out.items ≡ c.set_before.new.octets ++ (crlf ++ last_chunk c.args.trailers.now) =
+    c.in_ok-push_last.ensures ∙ ap (λ (os : List ℕ). os ++ last_chunk c.args.trailers.now) (c.in_ok-extend_from_slice.ensures.items ∙ ap (λ (os : List ℕ). os ++ codes "\r\n") all)
+    ∙ append_assoc c.set_before.new.octets crlf (last_chunk c.args.trailers.now) in
+    laws.laid c.args.octets.items c.in_ok-front.front.items c.set_before.new.octets c.push_last.new.out.items c.args.head c.args.body (c.args.body - c.len-2.result) c.args.trailers.now front fits (omega (arith, c.requires.some)) (ap (λ (n : ℕ). c.args.body - n) start) new behind

@@ -1,12 +1,13 @@
 use Rattle.std.proofs.Common.{◌≡◌, ℕ, Bool, true, false, List, None, [], ◌∷◌, refl, sym, ◌∙◌, ap}
-use Rattle.std.specs.Prelude.{◌≤◌, is_some}
+use Rattle.std.specs.Prelude.{◌≤◌, is_some, not, ◌&&◌, ◌||◌, Option}
 use Rattle.model.specs.Messages.{Field}
 use Rattle.model.specs.Messages.Item.{Block}
 use Rattle.model.specs.Setup.{Setup}
 use Rattle.model.specs.Tapes.Note.{Fields}
 use Rattle.model.specs.Http2.{declared_length}
 use Rattle.model.specs.Tables.{total_size}
-use Rattle.model.specs.Causes.{largest_fields}
+use Rattle.model.specs.Causes.{largest_fields, are_large}
+use Rattle.model.specs.Malformed.{are_trailers, has_length, is_malformed_block}
 use Rattle.model.specs.ErrorTable.{fault_of, is_bad_block}
 use Rattle.model.specs.FrameErrors.{fault_if}
 use Rattle.model.specs.Errors.Fault.{Stream}
@@ -29,6 +30,16 @@ found rows id fields ends course octets test passes same begun none count tests 
     malformed_by rows id fields ends (brief_of course) test passes same (bad_trailers (brief_of course) fields ends test (no_reply course (brief_of course) refl none) begun (
     ap (λ n. is_bad_block (behind_head course.declared n (is_some (brief_of course).cause)) ends (Fields fields)) (sym count) ∙ sym (tests (is_some (brief_of course).cause))
     ))
+
+-- trailers without a fault keep the rules
+kept_rules : (fields : List Field) (ends : Bool) (declared : Option ℕ) (octets : ℕ) (test : Bool) → test ≡ false → test ≡ is_bad_block (behind_head declared octets false) ends (Fields fields) → are_large fields ≡ false → are_trailers fields ≡ true
+kept_rules fields ends declared octets test none is small =
+    by ends (are_trailers fields) (not (has_length declared octets)) (sym (ap (λ b. not b && is_malformed_block (behind_head declared octets false) fields ends) small) ∙ sym is ∙ none)
+  where
+    by : (e t l : Bool) → (not e || not t || l) ≡ false → t ≡ true
+    by e true l x = refl
+    by true false l x = let clash : true ≡ false = x in cc
+    by false false l x = let clash : true ≡ false = x in cc
 
 -- the rows that it leaves
 left : (setup : Setup) (rows new : List Row) (id : ℕ) (fields : List Field) (ends : Bool) (before next : Course) → brief_of before ≡ (find rows id).brief → before.begun ≡ true → total_size fields ≤ largest_fields
@@ -67,5 +78,11 @@ returns-clause-settled c = λ setup. record {
     sym (ap (λ (b : Brief). b.begun) c.requires.course) ∙ c.requires.begun,
     over_is c.args.course (find c.args.streams.now c.args.id).brief false c.requires.course c.requires.none_yet c.if-course.false,
     cause_of_trailers setup (carried_in (find c.args.streams.now c.args.id).brief) c.args.fields.now (sym (ap (λ (b : Brief). b.begun) c.requires.course) ∙ c.requires.begun) (fits_is_small c.args.fields.now c.requires.fits),
+    c.in_ok-trailers.ensures,
   );
 }
+
+-- those that aren't malformed keep the rules
+pub passed-requires : goal.passed-requires
+passed-requires c =
+    kept_rules c.args.fields.now c.args.ends c.args.course.declared c.from.result c.are_malformed_trailers.result c.if-are_malformed_trailers.false (c.are_malformed_trailers.ensures false) (fits_is_small c.args.fields.now c.requires.fits)

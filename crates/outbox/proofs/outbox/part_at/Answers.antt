@@ -1,9 +1,12 @@
-use Rattle.std.proofs.Common.{rules, ◌≡◌, ◌<◌, false, Some, length, ap, ◌∙◌}
+use Rattle.std.proofs.Common.{rules, ◌≡◌, ◌<◌, true, false, Some, length, sym, ap, ◌∙◌}
+use Rattle.model.specs.Octets.{is_empty}
+use Rattle.offering.specs.Outbox.{is_plain}
 use Rattle.offering.specs.Outbox.Part.{Octets}
+use Rattle.outbox.specs.Views.{end_in}
 use Rattle.outbox.proofs.Sent as laws
 use Rattle.outbox.proofs.outbox.part_at.Goals as goal
 
 pub returns-then-most-len : goal.returns-then-most-len
 returns-then-most-len c =
     let more : c.args.most < length c.args.body.now.octets = search rules in
-    ap (λ octets. Some (Octets octets false)) c.front.ensures ∙ laws.some_left c.args.most c.args.body.now.octets c.args.whole more
+    ap (λ octets. Some (Octets octets false)) c.front.ensures ∙ laws.some_left c.args.most c.args.body.now.octets (end_in c.args.whole.now) more

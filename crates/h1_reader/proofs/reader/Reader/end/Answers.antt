@@ -7,7 +7,7 @@ use Rattle.h1_reader.proofs.reader.Reader.end.Goals as goal
 
 pub returns-in-Head-clause-is : goal.returns-in-Head-clause-is
 returns-in-Head-clause-is c =
-    λ text parts s. head_short true c.args.self.now.to_head c.in-Head.field-0 c.args.self.now.held text parts
+    λ text parts s. head_short true c.args.self.now.to_head c.in-Head.field-0 c.args.self.now.held.octets text parts
     (at (Head c.in-Head.field-0) c.args.self.now text parts (ap (λ (s : State). s.place) (sym c.self.view_is) ∙ c.in-Head.is) s)
 
 pub returns-in-Sized-clause-is : goal.returns-in-Sized-clause-is
@@ -42,7 +42,7 @@ returns-in-ChunkReturn-clause-is c =
 
 pub returns-in-Trailers-clause-is : goal.returns-in-Trailers-clause-is
 returns-in-Trailers-clause-is c =
-    λ text parts s. trailers_short true c.args.self.now.to_head c.args.self.now.held text parts
+    λ text parts s. trailers_short true c.args.self.now.to_head c.args.self.now.held.octets text parts
     (at Trailers c.args.self.now text parts (ap (λ (s : State). s.place) (sym c.self.view_is) ∙ c.in-Trailers.is) s)
 
 pub returns-in-Past-clause-is : goal.returns-in-Past-clause-is

@@ -12,4 +12,5 @@ returns-in-Err c = record {
   broken = refl;
   again = λ fault broken. absurd (c.in_default.not-Broken fault (ap (λ (s : State). s.place) c.self.view_is ∙ broken));
   held = c.self-2.invariant.0;
+  connections = c.self-2.invariant.1;
 }

@@ -4,7 +4,7 @@ use Rattle.h1_reader.proofs.FrontLemmas.{none_in_nothing}
 use Rattle.h1_reader.proofs.reader.Reader.new.Goals as goal
 
 pub invariant_of-result : goal.invariant_of-result
-invariant_of-result c = rw c.new.ensures.items (omega arith, none_in_nothing)
+invariant_of-result c = rw (c.new.ensures.items, c.new-2.ensures.items) (omega arith, omega arith, none_in_nothing)
 
 pub returns-clause-stands : goal.returns-clause-stands
-returns-clause-stands c = stands_new c.args.to_head c.new.result.items c.new.ensures.items
+returns-clause-stands c = stands_new c.args.to_head (record { octets = c.new.result.items; connections = c.new-2.result.items }) c.new.ensures.items

@@ -24,7 +24,7 @@ returns-then-count-left-clause-ok c = (
 pub returns-clause-ok : goal.returns-clause-ok
 returns-clause-ok c =
     let fits : length (take c.args.left c.args.octets.now) ≡ c.args.left = length-take-le c.args.left c.args.octets.now c.if-count-left.false in
-    let some : 0 < c.args.left = subst (λ (p : Place). IsKept p c.self.inside.held.items) (ap (λ (s : State). s.place) c.self.view_is ∙ c.requires.place) c.self.invariant.1 in (
+    let some : 0 < c.args.left = subst (λ (p : Place). IsKept p c.self.inside.held.items) (ap (λ (s : State). s.place) c.self.view_is ∙ c.requires.place) c.self.invariant.2 in (
       some,
       c.if-count-left.false,
       goes_on _ _ _ _ _ (

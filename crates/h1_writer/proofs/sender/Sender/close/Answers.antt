@@ -11,8 +11,8 @@ pub returns : goal.returns
 returns c =
     if_ok c.close_chunk.result
     (λ text is. (
-      chunk_text (drop c.args.body c.args.octets.items) ++ last_chunk,
+      chunk_text (drop c.args.body c.args.octets.items) ++ last_chunk c.args.trailers.now,
       is,
-      stages.closes c.args.self (drop c.args.body c.args.octets.items) c.requires.chunked (stages.some_left c.args.octets.items c.args.body c.requires.some),
+      stages.closes c.args.self (drop c.args.body c.args.octets.items) c.args.trailers.now c.requires.chunked (stages.some_left c.args.octets.items c.args.body c.requires.some),
     ))
     c.close_chunk.ensures

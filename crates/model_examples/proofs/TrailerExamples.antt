@@ -1,0 +1,151 @@
+-- Trailers of a request and of a response that pass (rows 15.1 and 15.2), and gateways that pass others, or none.
+use Rattle.std.proofs.Common.{◌≡◌, ℕ, true, false, List, [], ◌∷◌, ◌++◌, refl, sym, ap, ◌∙◌, subst, arith}
+use Rattle.std.specs.Prelude.{Some, codes}
+use Rattle.std.proofs.lemmas.Bool.{false≢true}
+use Rattle.model.specs.Messages.{Field, Item, Request}
+use Rattle.model.specs.Messages.Item.{Block, Content}
+use Rattle.model.specs.Http1.{Line, Chunked, Framed}
+use Rattle.model.specs.Http2.{request_of, pseudo_fields, WellFormedHead, H2Request}
+use Rattle.model.specs.Deliveries.{Delivery, IsSection, ReadsAs, IsPartOf}
+use Rattle.model.proofs.FirstLog.{field}
+use Rattle.model.proofs.DeliveryReadings.{one_delivery}
+use Rattle.model.proofs.Http2Readings.{one_meaning}
+use Rattle.model.proofs.TrailerTexts.{x_b, head, answer_head, answer_rest, answered}
+use Rattle.model.specs.Responses.{H1Response}
+
+-- ---- a request's (row 15.1)
+
+abbrev x_a : Field
+x_a = field (codes "x-a") (codes "1")
+
+abbrev a_length : Field
+a_length = field (codes "content-length") (codes "9")
+
+abbrev start : List Field
+start = field (codes ":method") (codes "POST") ∷ field (codes ":scheme") (codes "http") ∷ field (codes ":path") (codes "/") ∷ field (codes ":authority") (codes "h") ∷ []
+
+start_holds : WellFormedHead start
+start_holds = record {
+  pseudo_fields_hold = record { first = refl; known = refl; method = refl; scheme = refl; path = refl; one_authority = omega arith; connect_authority = λ e. absurd (false≢true e) };
+  names_hold = refl;
+  values_hold = refl;
+  no_connection_field = refl;
+  te_holds = refl;
+  method_holds = refl;
+  scheme_holds = refl;
+  path_holds = refl;
+  authority_holds = record { one_host = omega arith; octets = refl; same = refl };
+  length_holds = record { one = omega arith; digits = refl };
+}
+
+abbrev meant_with : List Field → Request
+meant_with trailers = record { method = codes "POST"; target = codes "/"; authority = codes "h"; fields = []; body = []; trailers = trailers }
+
+-- a trailer that passes stands before one that doesn't
+abbrev both_trailers : List Field
+both_trailers = x_a ∷ a_length ∷ []
+
+asked : H2Request (Block start false ∷ Block both_trailers true ∷ []) (meant_with (x_a ∷ []))
+asked = record {
+  head = start;
+  has_head = refl;
+  well_formed = start_holds;
+  no_connect = refl;
+  contents = (record { no_pseudo_field = refl; names_hold = refl; values_hold = refl; no_connection_field = refl }, refl);
+  ends = (refl, refl);
+  length_holds = tt;
+  is = refl;
+}
+
+line_a : Line (codes "x-a: 1\r\n") x_a
+line_a = record { name = codes "x-a"; before = codes " "; after = []; is = refl; is_token = refl; space_before = refl; is_value = refl; space_after = refl; is_named = refl }
+
+-- what the upstream is sent behind the head
+written : Chunked (codes "0\r\nx-a: 1\r\n\r\n") [] (x_a ∷ [])
+written = record {
+  chunks = [];
+  front = [];
+  last_size = codes "0";
+  lines = codes "x-a: 1\r\n";
+  is = refl;
+  are_chunks = refl;
+  is_size = refl;
+  is_last = refl;
+  is_body = refl;
+  are_lines = (codes "x-a: 1\r\n", [], line_a, refl, refl);
+}
+
+-- ---- and what isn't its
+
+-- A gateway that passes the trailer `content-length` doesn't send the request.
+passes_a_length : H2Request (Block start false ∷ Block both_trailers true ∷ []) (meant_with both_trailers) → ⊥
+passes_a_length p = let clash : meant_with (x_a ∷ []) ≡ meant_with both_trailers = one_meaning _ _ _ asked p in let same = ap (λ (r : Request). r.trailers) clash in cc
+
+-- Nor does one that drops `x-a`.
+drops_x_a : H2Request (Block start false ∷ Block both_trailers true ∷ []) (meant_with []) → ⊥
+drops_x_a p = let clash : meant_with (x_a ∷ []) ≡ meant_with [] = one_meaning _ _ _ asked p in let same = ap (λ (r : Request). r.trailers) clash in cc
+
+-- Beside a declared length no trailers are meant, and none are read.
+abbrev start_of_two : List Field
+start_of_two = start ++ field (codes "content-length") (codes "2") ∷ []
+
+beside_a_length : (request : Request) → H2Request (Block start_of_two false ∷ Content (codes "hi") false ∷ Block (x_a ∷ []) true ∷ []) request → request.trailers ≡ []
+beside_a_length request p = ap (λ (r : Request). r.trailers) p.is ∙ ap (λ (head : List Field). (request_of head (codes "hi") (x_a ∷ [])).trailers) (sym p.has_head)
+
+none_read_beside : (digits text body : List ℕ) (trailer : Field) (trailers : List Field) → Framed (digits ∷ []) [] text body (trailer ∷ trailers) → ⊥
+none_read_beside digits text body trailer trailers f = let clash = f.1 in cc
+
+-- ---- a response's (row 15.2)
+
+-- what the upstream sent is a whole response; its trailer `x-b` passes, `content-length` doesn't
+all_answered : H1Response (answer_head ++ answer_rest) false false (record { interims = []; head = head; body = codes "hi"; trailers = x_b ∷ [] })
+all_answered = answered
+
+-- what the client is to read of it
+abbrev delivery : Delivery
+delivery = record { interims = []; head = Some head; body = codes "hi"; trailers = x_b ∷ []; whole = true }
+
+-- what it reads of a head, of DATA, and of a block behind it
+abbrev read_with : List Field → Delivery
+read_with trailers = record { interims = []; head = Some head; body = codes "hi"; trailers = trailers; whole = true }
+
+abbrev fields : List Field
+fields = field (codes ":status") (codes "200") ∷ []
+
+is_section : IsSection fields head
+is_section = record { digits = codes "200"; is = refl; three = refl; are_digits = refl; status = refl; no_other = refl }
+
+abbrev sent_with : Field → List Field → List Item
+sent_with trailer trailers = Block fields false ∷ Content (codes "hi") false ∷ Block (trailer ∷ trailers) true ∷ []
+
+reads_them : (trailer : Field) (trailers : List Field) → pseudo_fields (trailer ∷ trailers) ≡ [] → ReadsAs (sent_with trailer trailers) (read_with (trailer ∷ trailers))
+reads_them trailer trailers plain = record {
+  interim_items = [];
+  rest = sent_with trailer trailers;
+  is = refl;
+  interims = tt;
+  answer = (is_section, omega arith, ([], refl, (refl, refl, refl, (λ e. let clash : trailer ∷ trailers ≡ [] = e in cc), plain, refl)));
+}
+
+client_reads : ReadsAs (sent_with x_b []) delivery
+client_reads = reads_them x_b [] refl
+
+all_of_it : IsPartOf delivery delivery
+all_of_it = record { interims = refl; head_is = refl; body = record { rest = []; is = refl }; whole = λ e. (refl, refl, refl) }
+
+-- ---- and what isn't all of it
+
+not_all : (trailers : List Field) → (trailers ≡ x_b ∷ [] → ⊥) → (read : Delivery) → read ≡ read_with trailers → IsPartOf read delivery → ⊥
+not_all trailers other read is part = other ((subst (λ (d : Delivery). IsPartOf d delivery) is part).whole refl).2
+
+-- A gateway that passes the trailer `content-length` doesn't send what is on offer.
+sends_a_length : (read : Delivery) → ReadsAs (sent_with x_b (a_length ∷ [])) read → IsPartOf read delivery → ⊥
+sends_a_length read r part =
+    not_all (x_b ∷ a_length ∷ []) (λ e. let clash : x_b ∷ a_length ∷ [] ≡ x_b ∷ [] = e in cc) read
+    (one_delivery _ read (read_with (x_b ∷ a_length ∷ [])) r (reads_them x_b (a_length ∷ []) refl)) part
+
+-- Nor does one that ends the response with its DATA.
+drops_x_b : (read : Delivery) → ReadsAs (Block fields false ∷ Content (codes "hi") true ∷ []) read → IsPartOf read delivery → ⊥
+drops_x_b read r part =
+    not_all [] (λ e. let clash : [] ≡ x_b ∷ [] = e in cc) read
+    (one_delivery _ read (read_with []) r (record { interim_items = []; rest = Block fields false ∷ Content (codes "hi") true ∷ []; is = refl; interims = tt; answer = (is_section, omega arith, (refl, refl, refl, refl)) })) part

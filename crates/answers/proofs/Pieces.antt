@@ -6,7 +6,8 @@ use Rattle.std.proofs.lemmas.List.Folds.{list_any-append}
 use Rattle.model.specs.ResponseHeads.{Head}
 use Rattle.model.specs.Setup.{Passing}
 use Rattle.model.specs.Setup.Passing.{Whole, Streaming}
-use Rattle.offering.specs.Outbox.{End, Outbox, News, first_head, first_end, grown}
+use Rattle.model.specs.Deliveries.{Delivery, End}
+use Rattle.offering.specs.Outbox.{Outbox, first_head, first_end, grown}
 use Rattle.offering.specs.Outbox.Outbox.{Before, Behind, Over}
 use Rattle.h1_reader.specs.Parts.{Part}
 use Rattle.h1_reader.specs.Views.{part_of, parts_of}
@@ -77,10 +78,10 @@ end_none None = refl
 end_none (Some trailers) = refl
 
 -- news and news behind them
-abbrev pub both : News → News → News
+abbrev pub both : Delivery → Delivery → Delivery
 both a b = record { interims = a.interims ++ b.interims; head = first_head a.head b.head; body = a.body ++ b.body; ends = first_end a.ends b.ends }
 
-pub grown_twice : (box : Outbox) (a b : News) → grown (grown box a) b ≡ grown box (both a b)
+pub grown_twice : (box : Outbox) (a b : Delivery) → grown (grown box a) b ≡ grown box (both a b)
 grown_twice (Before interims head body whole) a b =
     ap (λ hs. Before hs (first_head (first_head head a.head) b.head) ((body ++ a.body) ++ b.body) (first_end (first_end whole a.ends) b.ends)) (append_assoc interims a.interims b.interims)
     ∙ ap (λ h. Before (interims ++ (a.interims ++ b.interims)) h ((body ++ a.body) ++ b.body) (first_end (first_end whole a.ends) b.ends)) (first_twice head a.head b.head)
@@ -120,11 +121,11 @@ grown_none Over passing = refl
 
 -- pieces and one more
 pub once_more : (passing : Passing) (parts added : List Part) → both (news_at_once passing parts) (news_at_once passing added) ≡ news_at_once passing (parts ++ added)
-once_more Whole parts added = ap (λ hs. let n : News = record { interims = hs; head = None; body = []; ends = None } in n) (sym (interims_more parts added))
+once_more Whole parts added = ap (λ hs. let n : Delivery = record { interims = hs; head = None; body = []; ends = None } in n) (sym (interims_more parts added))
 once_more Streaming parts added =
-    ap (λ hs. let n : News = record { interims = hs; head = first_head (head_of parts) (head_of added); body = body_of parts ++ body_of added; ends = None } in n) (sym (interims_more parts added))
-    ∙ ap (λ h. let n : News = record { interims = interims_of (parts ++ added); head = h; body = body_of parts ++ body_of added; ends = None } in n) (sym (head_more parts added))
-    ∙ ap (λ os. let n : News = record { interims = interims_of (parts ++ added); head = head_of (parts ++ added); body = os; ends = None } in n) (sym (body_more parts added))
+    ap (λ hs. let n : Delivery = record { interims = hs; head = first_head (head_of parts) (head_of added); body = body_of parts ++ body_of added; ends = None } in n) (sym (interims_more parts added))
+    ∙ ap (λ h. let n : Delivery = record { interims = interims_of (parts ++ added); head = h; body = body_of parts ++ body_of added; ends = None } in n) (sym (head_more parts added))
+    ∙ ap (λ os. let n : Delivery = record { interims = interims_of (parts ++ added); head = head_of (parts ++ added); body = os; ends = None } in n) (sym (body_more parts added))
 
 pub offers_more : (passing : Passing) (box now next : Outbox) (parts added : List Part) → now ≡ grown box (news_at_once passing parts) → next ≡ grown now (news_at_once passing added) → next ≡ grown box (news_at_once passing (parts ++ added))
 offers_more passing box now next parts added is more =

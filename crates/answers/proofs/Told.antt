@@ -2,7 +2,8 @@
 use Rattle.std.proofs.Common.{◌≡◌, ℕ, ◌<◌, ◌≤◌, true, false, if◌then◌else◌, List, [], ◌++◌, length, Option, Some, None, refl, sym, ◌∙◌, ap, subst, append-nil}
 use Rattle.model.specs.ResponseHeads.{Head, longest_section}
 use Rattle.model.specs.Setup.Passing.{Whole, Streaming}
-use Rattle.offering.specs.Outbox.{End, trailers_at, Outbox, News, first_head, first_end, grown}
+use Rattle.model.specs.Deliveries.{Delivery, End}
+use Rattle.offering.specs.Outbox.{trailers_at, Outbox, first_head, first_end, grown}
 use Rattle.h1_reader.specs.HeadSizes.{field_octets}
 use Rattle.h1_reader.specs.Parts.{Part}
 use Rattle.h1_reader.specs.Standing.{State as Reader, Hears, is_done}
@@ -46,8 +47,8 @@ waits_on way.Streaming a n added parts head body trailers waits = (head ∙ wait
 
 offers_on : (w : Way) (added parts : List Part) → is_done added ≡ false → news_at_once (passing_in w) added ≡ news_of (passing_in w) parts added
 offers_on (way.Whole limit) added parts on =
-    sym (ap (λ b. if b then (let n : News = record { interims = interims_of added; head = head_of (parts ++ added); body = body_of (parts ++ added); ends = Some (trailers_at (trailers_of (parts ++ added))) } in n) else (let n : News = record { interims = interims_of added; head = None; body = []; ends = None } in n)) on)
-offers_on way.Streaming added parts on = sym (ap (λ b. let n : News = record { interims = interims_of added; head = head_of added; body = body_of added; ends = end_of b (trailers_of (parts ++ added)) } in n) on)
+    sym (ap (λ b. if b then (let n : Delivery = record { interims = interims_of added; head = head_of (parts ++ added); body = body_of (parts ++ added); ends = Some (trailers_at (trailers_of (parts ++ added))) } in n) else (let n : Delivery = record { interims = interims_of added; head = None; body = []; ends = None } in n)) on)
+offers_on way.Streaming added parts on = sym (ap (λ b. let n : Delivery = record { interims = interims_of added; head = head_of added; body = body_of added; ends = end_of b (trailers_of (parts ++ added)) } in n) on)
 
 -- an answer that read more, and of which nothing else changed
 abbrev pub reading : Answer → Reader → Answer
@@ -78,24 +79,24 @@ goes_on a n octets added r box box' hears short named within on is offers =
 -- ---- the response is whole
 
 -- what waits, and the end
-abbrev pub rest_news : Answer → News
+abbrev pub rest_news : Answer → Delivery
 rest_news n = record { interims = []; head = n.head; body = n.body; ends = Some (trailers_at n.trailers) }
 
 whole_news : (w : Way) (a n : Answer) (added parts : List Part) → is_done added ≡ true → Waits (passing_in w) parts a → Waits (passing_in w) (parts ++ added) n → both (news_at_once (passing_in w) added) (rest_news n) ≡ news_of (passing_in w) parts added
 whole_news (way.Whole limit) a n added parts done before waits =
-    ap (λ hs. let m : News = record { interims = hs; head = n.head; body = n.body; ends = Some (trailers_at n.trailers) } in m) (append-nil (interims_of added))
-    ∙ ap (λ h. let m : News = record { interims = interims_of added; head = h; body = n.body; ends = Some (trailers_at n.trailers) } in m) waits.0
-    ∙ ap (λ os. let m : News = record { interims = interims_of added; head = head_of (parts ++ added); body = os; ends = Some (trailers_at n.trailers) } in m) waits.1
-    ∙ ap (λ t. let m : News = record { interims = interims_of added; head = head_of (parts ++ added); body = body_of (parts ++ added); ends = Some (trailers_at t) } in m) waits.2
-    ∙ sym (ap (λ b. if b then (let m : News = record { interims = interims_of added; head = head_of (parts ++ added); body = body_of (parts ++ added); ends = Some (trailers_at (trailers_of (parts ++ added))) } in m) else (let m : News = record { interims = interims_of added; head = None; body = []; ends = None } in m)) done)
+    ap (λ hs. let m : Delivery = record { interims = hs; head = n.head; body = n.body; ends = Some (trailers_at n.trailers) } in m) (append-nil (interims_of added))
+    ∙ ap (λ h. let m : Delivery = record { interims = interims_of added; head = h; body = n.body; ends = Some (trailers_at n.trailers) } in m) waits.0
+    ∙ ap (λ os. let m : Delivery = record { interims = interims_of added; head = head_of (parts ++ added); body = os; ends = Some (trailers_at n.trailers) } in m) waits.1
+    ∙ ap (λ t. let m : Delivery = record { interims = interims_of added; head = head_of (parts ++ added); body = body_of (parts ++ added); ends = Some (trailers_at t) } in m) waits.2
+    ∙ sym (ap (λ b. if b then (let m : Delivery = record { interims = interims_of added; head = head_of (parts ++ added); body = body_of (parts ++ added); ends = Some (trailers_at (trailers_of (parts ++ added))) } in m) else (let m : Delivery = record { interims = interims_of added; head = None; body = []; ends = None } in m)) done)
 whole_news way.Streaming a n added parts done before waits =
-    ap (λ hs. let m : News = record { interims = hs; head = first_head (head_of added) n.head; body = body_of added ++ n.body; ends = Some (trailers_at n.trailers) } in m) (append-nil (interims_of added))
-    ∙ ap (λ h. let m : News = record { interims = interims_of added; head = first_head (head_of added) h; body = body_of added ++ n.body; ends = Some (trailers_at n.trailers) } in m) waits.0
-    ∙ ap (λ h. let m : News = record { interims = interims_of added; head = h; body = body_of added ++ n.body; ends = Some (trailers_at n.trailers) } in m) (first_none (head_of added))
-    ∙ ap (λ os. let m : News = record { interims = interims_of added; head = head_of added; body = body_of added ++ os; ends = Some (trailers_at n.trailers) } in m) waits.1
-    ∙ ap (λ os. let m : News = record { interims = interims_of added; head = head_of added; body = os; ends = Some (trailers_at n.trailers) } in m) (append-nil (body_of added))
-    ∙ ap (λ t. let m : News = record { interims = interims_of added; head = head_of added; body = body_of added; ends = Some (trailers_at t) } in m) waits.2
-    ∙ sym (ap (λ b. let m : News = record { interims = interims_of added; head = head_of added; body = body_of added; ends = end_of b (trailers_of (parts ++ added)) } in m) done)
+    ap (λ hs. let m : Delivery = record { interims = hs; head = first_head (head_of added) n.head; body = body_of added ++ n.body; ends = Some (trailers_at n.trailers) } in m) (append-nil (interims_of added))
+    ∙ ap (λ h. let m : Delivery = record { interims = interims_of added; head = first_head (head_of added) h; body = body_of added ++ n.body; ends = Some (trailers_at n.trailers) } in m) waits.0
+    ∙ ap (λ h. let m : Delivery = record { interims = interims_of added; head = h; body = body_of added ++ n.body; ends = Some (trailers_at n.trailers) } in m) (first_none (head_of added))
+    ∙ ap (λ os. let m : Delivery = record { interims = interims_of added; head = head_of added; body = body_of added ++ os; ends = Some (trailers_at n.trailers) } in m) waits.1
+    ∙ ap (λ os. let m : Delivery = record { interims = interims_of added; head = head_of added; body = os; ends = Some (trailers_at n.trailers) } in m) (append-nil (body_of added))
+    ∙ ap (λ t. let m : Delivery = record { interims = interims_of added; head = head_of added; body = body_of added; ends = Some (trailers_at t) } in m) waits.2
+    ∙ sym (ap (λ b. let m : Delivery = record { interims = interims_of added; head = head_of added; body = body_of added; ends = end_of b (trailers_of (parts ++ added)) } in m) done)
   where
     first_none : (h : Option Head) → first_head h None ≡ h
     first_none None = refl
@@ -125,10 +126,10 @@ at_end a parts waits = cases a.way waits
   where
     cases : (w : Way) → Waits (passing_in w) parts a → rest_news a ≡ news_at_end (passing_in w) parts
     cases (way.Whole limit) w =
-        ap (λ h. let m : News = record { interims = []; head = h; body = a.body; ends = Some (trailers_at a.trailers) } in m) w.0
-        ∙ ap (λ os. let m : News = record { interims = []; head = head_of parts; body = os; ends = Some (trailers_at a.trailers) } in m) w.1
-        ∙ ap (λ t. let m : News = record { interims = []; head = head_of parts; body = body_of parts; ends = Some (trailers_at t) } in m) w.2
+        ap (λ h. let m : Delivery = record { interims = []; head = h; body = a.body; ends = Some (trailers_at a.trailers) } in m) w.0
+        ∙ ap (λ os. let m : Delivery = record { interims = []; head = head_of parts; body = os; ends = Some (trailers_at a.trailers) } in m) w.1
+        ∙ ap (λ t. let m : Delivery = record { interims = []; head = head_of parts; body = body_of parts; ends = Some (trailers_at t) } in m) w.2
     cases way.Streaming w =
-        ap (λ h. let m : News = record { interims = []; head = h; body = a.body; ends = Some (trailers_at a.trailers) } in m) w.0
-        ∙ ap (λ os. let m : News = record { interims = []; head = None; body = os; ends = Some (trailers_at a.trailers) } in m) w.1
-        ∙ ap (λ t. let m : News = record { interims = []; head = None; body = []; ends = Some (trailers_at t) } in m) w.2
+        ap (λ h. let m : Delivery = record { interims = []; head = h; body = a.body; ends = Some (trailers_at a.trailers) } in m) w.0
+        ∙ ap (λ os. let m : Delivery = record { interims = []; head = None; body = os; ends = Some (trailers_at a.trailers) } in m) w.1
+        ∙ ap (λ t. let m : Delivery = record { interims = []; head = None; body = []; ends = Some (trailers_at t) } in m) w.2

@@ -3,7 +3,8 @@ use Rattle.std.specs.Prelude.{◌≡◌, ℕ, ◌<◌, ◌≤◌, false, List, [
 use Rattle.model.specs.ResponseHeads.{Head}
 use Rattle.model.specs.Setup.{Passing}
 use Rattle.model.specs.Setup.Passing.{Whole, Streaming}
-use Rattle.offering.specs.Outbox.{End, News, first_head, first_end}
+use Rattle.model.specs.Deliveries.{Delivery, End}
+use Rattle.offering.specs.Outbox.{first_head, first_end}
 use Rattle.h1_reader.specs.Parts.{Part}
 use Rattle.h1_reader.specs.Standing.{State as Reader}
 use Rattle.read_answers.specs.Telling.{interims_of, head_of, body_of, trailers_of}
@@ -39,7 +40,7 @@ waiting Whole answer head body trailers = record answer { head = first_head answ
 waiting Streaming answer head body trailers = record answer { trailers = first_end answer.trailers trailers }
 
 -- what goes on offer at once of parts of a response that isn't whole yet
-abbrev pub news_at_once : Passing → List Part → News
+abbrev pub news_at_once : Passing → List Part → Delivery
 news_at_once Whole parts = record { interims = interims_of parts; head = None; body = []; ends = None }
 news_at_once Streaming parts = record { interims = interims_of parts; head = head_of parts; body = body_of parts; ends = None }
 

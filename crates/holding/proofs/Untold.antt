@@ -2,11 +2,12 @@
 use Rattle.std.proofs.Common.{◌≡◌, ℕ, Bool, true, false, List, [], ◌∷◌, ◌++◌, map, Option, Some, None, refl, sym, ◌∙◌, ap, inl, inr}
 use Rattle.model.specs.Messages.{Field}
 use Rattle.model.specs.ResponseHeads.{Head}
+use Rattle.model.specs.Deliveries.{End}
 use Rattle.h1_reader.specs.Parts.{Part, ends_with}
 use Rattle.h1_reader.specs.Parts.Part.{Interim, Final, Body}
 use Rattle.h1_reader.specs.Standing.{State as Reader, Stands, is_done}
 use Rattle.h1_reader.proofs.Telling as telling
-use Rattle.offering.specs.Outbox.{End, trailers_at}
+use Rattle.offering.specs.Outbox.{trailers_at}
 use Rattle.offering.specs.Held.{octets_of_fields}
 use Rattle.read_answers.specs.Telling.{trailers_of}
 use Rattle.read_answers.proofs.Reading.{none_told}

@@ -5,7 +5,7 @@ use Rattle.std.specs.Str.Parse.{digits_value}
 use Rattle.model.specs.Messages.{Field, Item}
 use Rattle.model.specs.Messages.Item.{Block, Content}
 use Rattle.model.specs.ResponseHeads.{Head}
-use Rattle.model.specs.Deliveries.{Delivery, IsSection, AreInterims, AreContents, IsAnswer, IsAnsweredBy, ReadsAs}
+use Rattle.model.specs.Deliveries.{End, Delivery, IsSection, AreInterims, AreContents, IsAnswer, IsAnsweredBy, ReadsAs}
 use Rattle.model.specs.Openings.{Opened, AreNumbered, IsGivenNone, AreApart}
 use Rattle.model.specs.Available.{IsIn}
 
@@ -32,98 +32,95 @@ one_section fields a b p q =
 
 -- ---- one answer
 
-pub record SameBody (b c : List ℕ) (l m : List Field) (v w : Bool) : Type 0 where
+pub record SameBody (b c : List ℕ) (v w : End) : Type 0 where
   pub body : b ≡ c
-  pub trailers : l ≡ m
-  pub whole : v ≡ w
+  pub ends : v ≡ w
 
-one_body : (items : List Item) (b c : List ℕ) (l m : List Field) (v w : Bool) → AreContents items b l v → AreContents items c m w → SameBody b c l m v w
-one_body [] b c l m v w p q = record { body = p.0 ∙ sym q.0; trailers = p.1 ∙ sym q.1; whole = p.2 ∙ sym q.2 }
-one_body (Content octets true ∷ items) b c l m v w p q = record { body = p.1 ∙ sym q.1; trailers = p.2 ∙ sym q.2; whole = p.3 ∙ sym q.3 }
-one_body (Content octets false ∷ items) b c l m v w p q =
-    let more = one_body items p.0 q.0 l m v w p.2 q.2 in
-    record { body = p.1 ∙ ap (λ l. octets ++ l) more.body ∙ sym q.1; trailers = more.trailers; whole = more.whole }
-one_body (Block fields true ∷ items) b c l m v w p q = record { body = p.1 ∙ sym q.1; trailers = p.2 ∙ sym q.2; whole = p.5 ∙ sym q.5 }
-one_body (Block fields false ∷ items) b c l m v w p q = absurd p
+one_body : (items : List Item) (b c : List ℕ) (v w : End) → AreContents items b v → AreContents items c w → SameBody b c v w
+one_body [] b c v w p q = record { body = p.0 ∙ sym q.0; ends = p.1 ∙ sym q.1 }
+one_body (Content octets true ∷ items) b c v w p q = record { body = p.1 ∙ sym q.1; ends = p.2 ∙ sym q.2 }
+one_body (Content octets false ∷ items) b c v w p q =
+    let more = one_body items p.0 q.0 v w p.2 q.2 in
+    record { body = p.1 ∙ ap (λ l. octets ++ l) more.body ∙ sym q.1; ends = more.ends }
+one_body (Block fields true ∷ items) b c v w p q = record { body = p.1 ∙ sym q.1; ends = p.2 ∙ sym q.2 }
+one_body (Block fields false ∷ items) b c v w p q = absurd p
 
-pub record SameAnswer (h k : Option Head) (b c : List ℕ) (l m : List Field) (v w : Bool) : Type 0 where
+pub record SameAnswer (h k : Option Head) (b c : List ℕ) (v w : End) : Type 0 where
   pub head : h ≡ k
   pub body : b ≡ c
-  pub trailers : l ≡ m
-  pub whole : v ≡ w
+  pub ends : v ≡ w
 
-one_answer : (items : List Item) (h k : Head) (b c : List ℕ) (l m : List Field) (v w : Bool) → IsAnswer items h b l v → IsAnswer items k c m w → SameAnswer (Some h) (Some k) b c l m v w
-one_answer [] h k b c l m v w p q = absurd p
-one_answer (Block fields true ∷ items) h k b c l m v w p q =
-    record { head = ap (λ x. Some x) (one_section fields h k p.0 q.0); body = p.3 ∙ sym q.3; trailers = p.4 ∙ sym q.4; whole = p.5 ∙ sym q.5 }
-one_answer (Block fields false ∷ items) h k b c l m v w p q =
-    let more = one_body items b c l m v w p.2 q.2 in
-    record { head = ap (λ x. Some x) (one_section fields h k p.0 q.0); body = more.body; trailers = more.trailers; whole = more.whole }
-one_answer (Content octets ends ∷ items) h k b c l m v w p q = absurd p
+one_answer : (items : List Item) (h k : Head) (b c : List ℕ) (v w : End) → IsAnswer items h b v → IsAnswer items k c w → SameAnswer (Some h) (Some k) b c v w
+one_answer [] h k b c v w p q = absurd p
+one_answer (Block fields true ∷ items) h k b c v w p q =
+    record { head = ap (λ x. Some x) (one_section fields h k p.0 q.0); body = p.3 ∙ sym q.3; ends = p.4 ∙ sym q.4 }
+one_answer (Block fields false ∷ items) h k b c v w p q =
+    let more = one_body items b c v w p.2 q.2 in
+    record { head = ap (λ x. Some x) (one_section fields h k p.0 q.0); body = more.body; ends = more.ends }
+one_answer (Content octets ends ∷ items) h k b c v w p q = absurd p
 
-no_answer_of_none : (items : List Item) (h : Head) (b : List ℕ) (l : List Field) (v : Bool) → items ≡ [] → IsAnswer items h b l v → ⊥
-no_answer_of_none [] h b l v e p = p
-no_answer_of_none (item ∷ items) h b l v e p = cc
+no_answer_of_none : (items : List Item) (h : Head) (b : List ℕ) (v : End) → items ≡ [] → IsAnswer items h b v → ⊥
+no_answer_of_none [] h b v e p = p
+no_answer_of_none (item ∷ items) h b v e p = cc
 
-one_answered : (items : List Item) (h k : Option Head) (b c : List ℕ) (l m : List Field) (v w : Bool) → IsAnsweredBy items h b l v → IsAnsweredBy items k c m w → SameAnswer h k b c l m v w
-one_answered items None None b c l m v w p q = record { head = refl; body = p.1 ∙ sym q.1; trailers = p.2 ∙ sym q.2; whole = p.3 ∙ sym q.3 }
-one_answered items None (Some k) b c l m v w p q = absurd (no_answer_of_none items k c m w p.0 q)
-one_answered items (Some h) None b c l m v w p q = absurd (no_answer_of_none items h b l v q.0 p)
-one_answered items (Some h) (Some k) b c l m v w p q = one_answer items h k b c l m v w p q
+one_answered : (items : List Item) (h k : Option Head) (b c : List ℕ) (v w : End) → IsAnsweredBy items h b v → IsAnsweredBy items k c w → SameAnswer h k b c v w
+one_answered items None None b c v w p q = record { head = refl; body = p.1 ∙ sym q.1; ends = p.2 ∙ sym q.2 }
+one_answered items None (Some k) b c v w p q = absurd (no_answer_of_none items k c w p.0 q)
+one_answered items (Some h) None b c v w p q = absurd (no_answer_of_none items h b v q.0 p)
+one_answered items (Some h) (Some k) b c v w p q = one_answer items h k b c v w p q
 
 -- ---- interim heads, and what stands behind them
 
 -- an interim head begins no answer
-not_answer : (fields : List Field) (more : List Item) (head : Head) → IsSection fields head → head.status < 200 → (h : Option Head) (b : List ℕ) (l : List Field) (v : Bool) → IsAnsweredBy (Block fields false ∷ more) h b l v → ⊥
-not_answer fields more head p low None b l v a = let clash : Block fields false ∷ more ≡ (let none : List Item = [] in none) = a.0 in cc
-not_answer fields more head p low (Some h) b l v a =
+not_answer : (fields : List Field) (more : List Item) (head : Head) → IsSection fields head → head.status < 200 → (h : Option Head) (b : List ℕ) (v : End) → IsAnsweredBy (Block fields false ∷ more) h b v → ⊥
+not_answer fields more head p low None b v a = let clash : Block fields false ∷ more ≡ (let none : List Item = [] in none) = a.0 in cc
+not_answer fields more head p low (Some h) b v a =
     let same : head.status ≡ h.status = ap (λ (x : Head). x.status) (one_section fields head h p a.0) in let high : 200 ≤ h.status = a.1 in omega (arith, low, same, high)
 
-pub record SameReading (hs ks : List Head) (h k : Option Head) (b c : List ℕ) (l m : List Field) (v w : Bool) : Type 0 where
+pub record SameReading (hs ks : List Head) (h k : Option Head) (b c : List ℕ) (v w : End) : Type 0 where
   pub interims : hs ≡ ks
-  pub answer : SameAnswer h k b c l m v w
+  pub answer : SameAnswer h k b c v w
 
 -- the same items read with interim heads in front, from both sides
-one_split : (xs ys r s : List Item) (hs ks : List Head) (h k : Option Head) (b c : List ℕ) (l m : List Field) (v w : Bool) → xs ++ r ≡ ys ++ s → AreInterims xs hs → AreInterims ys ks → IsAnsweredBy r h b l v → IsAnsweredBy s k c m w → SameReading hs ks h k b c l m v w
-one_split [] [] r s [] [] h k b c l m v w e i j p q = record { interims = refl; answer = one_answered s h k b c l m v w (subst (λ z. IsAnsweredBy z h b l v) e p) q }
-one_split [] [] r s (x ∷ hs) ks h k b c l m v w e i j p q = absurd i
-one_split [] [] r s [] (x ∷ ks) h k b c l m v w e i j p q = absurd j
-one_split [] (Block fields false ∷ ys) r s hs (y ∷ ks) h k b c l m v w e i j p q = absurd (not_answer fields (ys ++ s) y j.0 j.1 h b l v (subst (λ z. IsAnsweredBy z h b l v) e p))
-one_split [] (Block fields false ∷ ys) r s hs [] h k b c l m v w e i j p q = absurd j
-one_split [] (Block fields true ∷ ys) r s hs [] h k b c l m v w e i j p q = absurd j
-one_split [] (Block fields true ∷ ys) r s hs (y ∷ ks) h k b c l m v w e i j p q = absurd j
-one_split [] (Content octets ends ∷ ys) r s hs [] h k b c l m v w e i j p q = absurd j
-one_split [] (Content octets ends ∷ ys) r s hs (y ∷ ks) h k b c l m v w e i j p q = absurd j
-one_split (Block fields false ∷ xs) [] r s (x ∷ hs) ks h k b c l m v w e i j p q = absurd (not_answer fields (xs ++ r) x i.0 i.1 k c m w (subst (λ z. IsAnsweredBy z k c m w) (sym e) q))
-one_split (Block fields false ∷ xs) ys r s [] ks h k b c l m v w e i j p q = absurd i
-one_split (Block fields true ∷ xs) ys r s [] ks h k b c l m v w e i j p q = absurd i
-one_split (Block fields true ∷ xs) ys r s (x ∷ hs) ks h k b c l m v w e i j p q = absurd i
-one_split (Content octets ends ∷ xs) ys r s [] ks h k b c l m v w e i j p q = absurd i
-one_split (Content octets ends ∷ xs) ys r s (x ∷ hs) ks h k b c l m v w e i j p q = absurd i
-one_split (Block fields false ∷ xs) (Block others false ∷ ys) r s (x ∷ hs) (y ∷ ks) h k b c l m v w e i j p q =
+one_split : (xs ys r s : List Item) (hs ks : List Head) (h k : Option Head) (b c : List ℕ) (v w : End) → xs ++ r ≡ ys ++ s → AreInterims xs hs → AreInterims ys ks → IsAnsweredBy r h b v → IsAnsweredBy s k c w → SameReading hs ks h k b c v w
+one_split [] [] r s [] [] h k b c v w e i j p q = record { interims = refl; answer = one_answered s h k b c v w (subst (λ z. IsAnsweredBy z h b v) e p) q }
+one_split [] [] r s (x ∷ hs) ks h k b c v w e i j p q = absurd i
+one_split [] [] r s [] (x ∷ ks) h k b c v w e i j p q = absurd j
+one_split [] (Block fields false ∷ ys) r s hs (y ∷ ks) h k b c v w e i j p q = absurd (not_answer fields (ys ++ s) y j.0 j.1 h b v (subst (λ z. IsAnsweredBy z h b v) e p))
+one_split [] (Block fields false ∷ ys) r s hs [] h k b c v w e i j p q = absurd j
+one_split [] (Block fields true ∷ ys) r s hs [] h k b c v w e i j p q = absurd j
+one_split [] (Block fields true ∷ ys) r s hs (y ∷ ks) h k b c v w e i j p q = absurd j
+one_split [] (Content octets ends ∷ ys) r s hs [] h k b c v w e i j p q = absurd j
+one_split [] (Content octets ends ∷ ys) r s hs (y ∷ ks) h k b c v w e i j p q = absurd j
+one_split (Block fields false ∷ xs) [] r s (x ∷ hs) ks h k b c v w e i j p q = absurd (not_answer fields (xs ++ r) x i.0 i.1 k c w (subst (λ z. IsAnsweredBy z k c w) (sym e) q))
+one_split (Block fields false ∷ xs) ys r s [] ks h k b c v w e i j p q = absurd i
+one_split (Block fields true ∷ xs) ys r s [] ks h k b c v w e i j p q = absurd i
+one_split (Block fields true ∷ xs) ys r s (x ∷ hs) ks h k b c v w e i j p q = absurd i
+one_split (Content octets ends ∷ xs) ys r s [] ks h k b c v w e i j p q = absurd i
+one_split (Content octets ends ∷ xs) ys r s (x ∷ hs) ks h k b c v w e i j p q = absurd i
+one_split (Block fields false ∷ xs) (Block others false ∷ ys) r s (x ∷ hs) (y ∷ ks) h k b c v w e i j p q =
     let rest : xs ++ r ≡ ys ++ s = cc in
     let same : Block fields false ≡ Block others false = cc in
     let lists : fields ≡ others = cc in
-    let more = one_split xs ys r s hs ks h k b c l m v w rest i.2 j.2 p q in
+    let more = one_split xs ys r s hs ks h k b c v w rest i.2 j.2 p q in
     record { interims = ap (λ z. z ∷ hs) (one_section others x y (subst (λ l. IsSection l x) lists i.0) j.0) ∙ ap (λ z. y ∷ z) more.interims; answer = more.answer }
-one_split (Block fields false ∷ xs) (Block others false ∷ ys) r s (x ∷ hs) [] h k b c l m v w e i j p q = absurd j
-one_split (Block fields false ∷ xs) (Block others true ∷ ys) r s (x ∷ hs) [] h k b c l m v w e i j p q = absurd j
-one_split (Block fields false ∷ xs) (Block others true ∷ ys) r s (x ∷ hs) (y ∷ ks) h k b c l m v w e i j p q = absurd j
-one_split (Block fields false ∷ xs) (Content octets ends ∷ ys) r s (x ∷ hs) [] h k b c l m v w e i j p q = absurd j
-one_split (Block fields false ∷ xs) (Content octets ends ∷ ys) r s (x ∷ hs) (y ∷ ks) h k b c l m v w e i j p q = absurd j
+one_split (Block fields false ∷ xs) (Block others false ∷ ys) r s (x ∷ hs) [] h k b c v w e i j p q = absurd j
+one_split (Block fields false ∷ xs) (Block others true ∷ ys) r s (x ∷ hs) [] h k b c v w e i j p q = absurd j
+one_split (Block fields false ∷ xs) (Block others true ∷ ys) r s (x ∷ hs) (y ∷ ks) h k b c v w e i j p q = absurd j
+one_split (Block fields false ∷ xs) (Content octets ends ∷ ys) r s (x ∷ hs) [] h k b c v w e i j p q = absurd j
+one_split (Block fields false ∷ xs) (Content octets ends ∷ ys) r s (x ∷ hs) (y ∷ ks) h k b c v w e i j p q = absurd j
 
-delivery_of : List Head → Option Head → List ℕ → List Field → Bool → Delivery
-delivery_of interims head body trailers whole = record { interims = interims; head = head; body = body; trailers = trailers; whole = whole }
+delivery_of : List Head → Option Head → List ℕ → End → Delivery
+delivery_of interims head body ends = record { interims = interims; head = head; body = body; ends = ends }
 
 pub one_delivery : (items : List Item) (d e : Delivery) → ReadsAs items d → ReadsAs items e → d ≡ e
 unfolding delivery_of
 one_delivery items d e p q =
-    let same = one_split p.interim_items q.interim_items p.rest q.rest d.interims e.interims d.head e.head d.body e.body d.trailers e.trailers d.whole e.whole (sym p.is ∙ q.is) p.interims q.interims p.answer q.answer in
-    ap (λ x. delivery_of x d.head d.body d.trailers d.whole) same.interims
-    ∙ ap (λ x. delivery_of e.interims x d.body d.trailers d.whole) same.answer.head
-    ∙ ap (λ x. delivery_of e.interims e.head x d.trailers d.whole) same.answer.body
-    ∙ ap (λ x. delivery_of e.interims e.head e.body x d.whole) same.answer.trailers
-    ∙ ap (λ x. delivery_of e.interims e.head e.body e.trailers x) same.answer.whole
+    let same = one_split p.interim_items q.interim_items p.rest q.rest d.interims e.interims d.head e.head d.body e.body d.ends e.ends (sym p.is ∙ q.is) p.interims q.interims p.answer q.answer in
+    ap (λ x. delivery_of x d.head d.body d.ends) same.interims
+    ∙ ap (λ x. delivery_of e.interims x d.body d.ends) same.answer.head
+    ∙ ap (λ x. delivery_of e.interims e.head x d.ends) same.answer.body
+    ∙ ap (λ x. delivery_of e.interims e.head e.body x) same.answer.ends
 
 -- ---- connections
 

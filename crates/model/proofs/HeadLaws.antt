@@ -15,7 +15,7 @@ use Rattle.model.specs.Http2.{first_of}
 use Rattle.model.specs.ResponseHeads.{Head}
 use Rattle.model.specs.Setup.{Passing}
 use Rattle.model.specs.Setup.Passing.{Whole, Streaming}
-use Rattle.model.specs.Deliveries.{Delivery, nothing, head_said, heads_in, IsSection, AreInterims, IsAnsweredBy, ReadsAs}
+use Rattle.model.specs.Deliveries.{End, Delivery, nothing, head_said, heads_in, IsSection, AreInterims, IsAnsweredBy, ReadsAs}
 use Rattle.model.specs.Available.{shown, IsShown}
 use Rattle.model.specs.Courses.{is_final}
 use Rattle.model.proofs.OfferLemmas.{nothing_complete}
@@ -38,15 +38,15 @@ past_interims (Block fields false ∷ items) rest [] a = absurd a
 past_interims (Block fields true ∷ items) rest hs a = absurd a
 past_interims (Content octets ends ∷ items) rest hs a = absurd a
 
-answer_test : (items : List Item) (head : Option Head) (body : List ℕ) (trailers : List Field) (whole : Bool) → IsAnsweredBy items head body trailers whole → list_any is_final items ≡ is_some head
-answer_test items None body trailers whole a = ap (list_any is_final) a.0
-answer_test [] (Some head) body trailers whole a = absurd a
-answer_test (Block fields true ∷ items) (Some head) body trailers whole a = ap (λ b. b || list_any is_final items) (final_test fields true head a.0 a.1)
-answer_test (Block fields false ∷ items) (Some head) body trailers whole a = ap (λ b. b || list_any is_final items) (final_test fields false head a.0 a.1)
-answer_test (Content octets ends ∷ items) (Some head) body trailers whole a = absurd a
+answer_test : (items : List Item) (head : Option Head) (body : List ℕ) (ends : End) → IsAnsweredBy items head body ends → list_any is_final items ≡ is_some head
+answer_test items None body end a = ap (list_any is_final) a.0
+answer_test [] (Some head) body end a = absurd a
+answer_test (Block fields true ∷ items) (Some head) body end a = ap (λ b. b || list_any is_final items) (final_test fields true head a.0 a.1)
+answer_test (Block fields false ∷ items) (Some head) body end a = ap (λ b. b || list_any is_final items) (final_test fields false head a.0 a.1)
+answer_test (Content octets ends ∷ items) (Some head) body end a = absurd a
 
 pub out_by_read : (items : List Item) (read : Delivery) → ReadsAs items read → list_any is_final items ≡ is_some read.head
-out_by_read items read r = ap (list_any is_final) r.is ∙ past_interims r.interim_items r.rest read.interims r.interims ∙ answer_test r.rest read.head read.body read.trailers read.whole r.answer
+out_by_read items read r = ap (list_any is_final) r.is ∙ past_interims r.interim_items r.rest read.interims r.interims ∙ answer_test r.rest read.head read.body read.ends r.answer
 
 -- the head of a section is the one that it says
 head_is_said : (fields : List Field) (head : Head) → IsSection fields head → head_said fields ≡ head
@@ -67,13 +67,13 @@ heads_by_read items read r none =
     let alone : r.rest ≡ [] = none_left r.rest read.head none r.answer in
     ap heads_in (r.is ∙ ap (λ x. r.interim_items ++ x) alone ∙ append-nil r.interim_items) ∙ interims_said r.interim_items read.interims r.interims
   where
-    none_left : (rest : List Item) (head : Option Head) → head ≡ None → IsAnsweredBy rest head read.body read.trailers read.whole → rest ≡ []
+    none_left : (rest : List Item) (head : Option Head) → head ≡ None → IsAnsweredBy rest head read.body read.ends → rest ≡ []
     none_left rest None e a = a.0
     none_left rest (Some head) e a = cc
 
 -- no items read as nothing
 pub nothing_reads : ReadsAs [] nothing
-nothing_reads = record { interim_items = []; rest = []; is = refl; interims = tt; answer = (refl, refl, refl, refl) }
+nothing_reads = record { interim_items = []; rest = []; is = refl; interims = tt; answer = (refl, refl, refl) }
 
 -- nothing is no head
 no_head_yet : HasNoResponse []

@@ -19,7 +19,7 @@ use Rattle.model.proofs.SeenLaws.{one_seen}
 
 one_answered : (text : List ℕ) (ended to_head : Bool) (d e : Delivery) → IsAnswered text ended to_head d → IsAnswered text ended to_head e → d ≡ e
 one_answered text ended to_head d e p q =
-    p.says ∙ ap (λ (r : Response). record { interims = r.interims; head = Some r.head; body = r.body; trailers = r.trailers; whole = true }) (one_response text ended to_head p.response q.response p.is_whole q.is_whole) ∙ sym q.says
+    p.says ∙ ap (λ (r : Response). record { interims = r.interims; head = Some r.head; body = r.body; ends = Some r.trailers }) (one_response text ended to_head p.response q.response p.is_whole q.is_whole) ∙ sym q.says
 
 one_begun : (passing : Passing) (text : List ℕ) (ended to_head : Bool) (d e : Delivery) → IsBegun passing text ended to_head d → IsBegun passing text ended to_head e → d ≡ e
 one_begun passing text ended to_head d e p q =

@@ -52,13 +52,13 @@ IsIn o (p ∷ os) = (o ≡ p) ⊎ IsIn o os
 pub record IsAnswered (text : List ℕ) (ended to_head : Bool) (delivery : Delivery) : Type 0 where
   pub response : Response
   pub is_whole : H1Response text ended to_head response
-  pub says : delivery ≡ record { interims = response.interims; head = Some response.head; body = response.body; trailers = response.trailers; whole = true }
+  pub says : delivery ≡ record { interims = response.interims; head = Some response.head; body = response.body; ends = Some response.trailers }
 
 -- What is available of a response that isn't whole: where responses are passed on whole, the interim heads; else the final
 -- head too, and the octets of the body. Trailers are available with the whole alone.
 abbrev pub shown : Passing → List Head → Option Head → List ℕ → Delivery
-shown Whole interims head octets = record { interims = interims; head = None; body = []; trailers = []; whole = false }
-shown Streaming interims head octets = record { interims = interims; head = head; body = octets; trailers = []; whole = false }
+shown Whole interims head octets = record { interims = interims; head = None; body = []; ends = None }
+shown Streaming interims head octets = record { interims = interims; head = head; body = octets; ends = None }
 
 -- The connection's octets are no whole response, and this of one stands in them.
 pub record IsBegun (passing : Passing) (text : List ℕ) (ended to_head : Bool) (delivery : Delivery) : Type 0 where

@@ -38,7 +38,7 @@ reply_head cause = record { status = status_of cause; fields = record { name = c
 
 -- the whole reply, behind interim heads that were sent
 abbrev pub reply : List Head → Cause → Delivery
-reply interims cause = record { interims = interims; head = Some (reply_head cause); body = []; trailers = []; whole = true }
+reply interims cause = record { interims = interims; head = Some (reply_head cause); body = []; ends = Some [] }
 
 -- The code of the reset that stands for the reply, where the final head of a response is already out. The other causes come
 -- with a request's head, before any response.

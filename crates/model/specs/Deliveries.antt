@@ -9,18 +9,20 @@ use Rattle.model.specs.Messages.Item.{Block, Content}
 use Rattle.model.specs.Http2.{pseudo_fields}
 use Rattle.model.specs.ResponseHeads.{Head}
 
--- What has come of a response: its interim heads, its head once that is there, octets of its body, its trailers, and whether it ended
--- with them.
+-- How a response ends: its trailers, perhaps none, once it is whole; nothing while more of it may come.
+abbrev pub End : Type 0
+End = Option (List Field)
+
+-- What has come of a response: its interim heads, its head once that is there, octets of its body, and how it ended, if it did.
 pub record Delivery : Type 0 where
   pub interims : List Head
   pub head : Option Head
   pub body : List ℕ
-  pub trailers : List Field
-  pub whole : Bool
+  pub ends : End
 
 -- nothing has come yet
 abbrev pub nothing : Delivery
-nothing = record { interims = []; head = None; body = []; trailers = []; whole = false }
+nothing = record { interims = []; head = None; body = []; ends = None }
 
 -- The field section of a response's head (section 8.3.2): the status in three digits, which is its one pseudo-field, and
 -- behind it the fields.
@@ -50,25 +52,23 @@ AreInterims (Block fields false ∷ items) (head ∷ heads) = IsSection fields h
 AreInterims _ _ = ⊥
 
 -- The items are a body's octets, in parts; the stream ends with the last part, or behind it with a block of trailers, or hasn't ended.
-abbrev pub AreContents : List Item → List ℕ → List Field → Bool → Type 0
-AreContents [] body trailers whole = (body ≡ []) × (trailers ≡ []) × (whole ≡ false)
-AreContents (Content octets true ∷ items) body trailers whole = (items ≡ []) × (body ≡ octets) × (trailers ≡ []) × (whole ≡ true)
-AreContents (Content octets false ∷ items) body trailers whole = (rest : List ℕ) × (body ≡ octets ++ rest) × AreContents items rest trailers whole
-AreContents (Block fields true ∷ items) body trailers whole =
-    (items ≡ []) × (body ≡ []) × (trailers ≡ fields) × (fields ≢ []) × (pseudo_fields fields ≡ []) × (whole ≡ true)
-AreContents (Block fields false ∷ items) body trailers whole = ⊥
+abbrev pub AreContents : List Item → List ℕ → End → Type 0
+AreContents [] body ends = (body ≡ []) × (ends ≡ None)
+AreContents (Content octets true ∷ items) body ends = (items ≡ []) × (body ≡ octets) × (ends ≡ Some [])
+AreContents (Content octets false ∷ items) body ends = (rest : List ℕ) × (body ≡ octets ++ rest) × AreContents items rest ends
+AreContents (Block fields true ∷ items) body ends = (items ≡ []) × (body ≡ []) × (ends ≡ Some fields) × (fields ≢ []) × (pseudo_fields fields ≡ [])
+AreContents (Block fields false ∷ items) body ends = ⊥
 
 -- The items are a final head, and the body and trailers behind it where the head doesn't end the stream.
-abbrev pub IsAnswer : List Item → Head → List ℕ → List Field → Bool → Type 0
-IsAnswer (Block fields true ∷ items) head body trailers whole =
-    IsSection fields head × (200 ≤ head.status) × (items ≡ []) × (body ≡ []) × (trailers ≡ []) × (whole ≡ true)
-IsAnswer (Block fields false ∷ items) head body trailers whole = IsSection fields head × (200 ≤ head.status) × AreContents items body trailers whole
-IsAnswer _ head body trailers whole = ⊥
+abbrev pub IsAnswer : List Item → Head → List ℕ → End → Type 0
+IsAnswer (Block fields true ∷ items) head body ends = IsSection fields head × (200 ≤ head.status) × (items ≡ []) × (body ≡ []) × (ends ≡ Some [])
+IsAnswer (Block fields false ∷ items) head body ends = IsSection fields head × (200 ≤ head.status) × AreContents items body ends
+IsAnswer _ head body ends = ⊥
 
 -- The items are a final head and what stands behind it, or there is none yet.
-abbrev pub IsAnsweredBy : List Item → Option Head → List ℕ → List Field → Bool → Type 0
-IsAnsweredBy items None body trailers whole = (items ≡ []) × (body ≡ []) × (trailers ≡ []) × (whole ≡ false)
-IsAnsweredBy items (Some head) body trailers whole = IsAnswer items head body trailers whole
+abbrev pub IsAnsweredBy : List Item → Option Head → List ℕ → End → Type 0
+IsAnsweredBy items None body ends = (items ≡ []) × (body ≡ []) × (ends ≡ None)
+IsAnsweredBy items (Some head) body ends = IsAnswer items head body ends
 
 -- A client that was brought these items has read this of a response, and nothing else.
 pub record ReadsAs (items : List Item) (delivery : Delivery) : Type 0 where
@@ -76,21 +76,21 @@ pub record ReadsAs (items : List Item) (delivery : Delivery) : Type 0 where
   pub rest : List Item
   pub is : items ≡ interim_items ++ rest
   pub interims : AreInterims interim_items delivery.interims
-  pub answer : IsAnsweredBy rest delivery.head delivery.body delivery.trailers delivery.whole
+  pub answer : IsAnsweredBy rest delivery.head delivery.body delivery.ends
 
--- A response begins with these parts, and where they are whole they are all of it.
+-- A response begins with these parts, and where they have its end they are all of it.
 pub record IsPartBehind (part all : Delivery) (head : Head) : Type 0 where
   pub interims : part.interims ≡ all.interims
   pub head_is : all.head ≡ Some head
   pub body : IsFront part.body all.body
-  pub whole : part.whole ≡ true → (all.whole ≡ true) × (part.body ≡ all.body) × (part.trailers ≡ all.trailers)
+  pub ended : (trailers : List Field) → part.ends ≡ Some trailers → (all.ends ≡ Some trailers) × (part.body ≡ all.body)
 
 -- no more than interim heads of a response
 pub record IsPartBefore (part all : Delivery) : Type 0 where
   pub more : List Head
   pub interims : all.interims ≡ part.interims ++ more
   pub no_body : part.body ≡ []
-  pub not_whole : part.whole ≡ false
+  pub not_ended : part.ends ≡ None
 
 -- The part, whose head is this one if it has one, is a front of a response.
 abbrev pub IsPart : Option Head → Delivery → Delivery → Type 0

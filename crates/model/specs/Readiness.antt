@@ -1,6 +1,6 @@
 -- Which stream may be sent a frame of its response next: what it read so far is less than what is on offer for it, and windows
 -- leave room for the next part (RFC 9113, sections 5.2 and 6.9).
-use Rattle.std.specs.Prelude.{◌≡◌, ℕ, true, false, ◌⊎◌, List, ◌∷◌, ◌++◌, Some, None, pos, ◌<ℤ◌}
+use Rattle.std.specs.Prelude.{◌≡◌, ℕ, true, false, ◌⊎◌, List, ◌∷◌, ◌++◌, Some, None, is_some, pos, ◌<ℤ◌}
 use Rattle.model.specs.Tapes.{Entry, sent}
 use Rattle.model.specs.ResponseHeads.{Head}
 use Rattle.model.specs.Deliveries.{Delivery, ReadsAs}
@@ -42,8 +42,8 @@ pub record IsNextBody (read offered : Delivery) : Type 0 where
 pub record IsNextEnd (read offered : Delivery) : Type 0 where
   pub behind : IsBehindHead read offered
   pub same_body : offered.body ≡ read.body
-  pub is_whole : offered.whole ≡ true
-  pub not_ended : read.whole ≡ false
+  pub is_whole : is_some offered.ends ≡ true
+  pub not_ended : read.ends ≡ None
 
 -- Both windows of the stream are above 0.
 pub record HasWindows (t : List Entry) (stream : ℕ) : Type 0 where

@@ -83,7 +83,7 @@ limits = (
 )
 
 abbrev delivery : Delivery
-delivery = record { interims = []; head = Some head; body = codes "hi"; trailers = []; whole = true }
+delivery = record { interims = []; head = Some head; body = codes "hi"; ends = Some [] }
 
 section : IsSection fields head
 section = record { digits = codes "200"; is = refl; three = refl; are_digits = refl; status = refl; no_other = refl }
@@ -94,7 +94,7 @@ client_reads = record {
   rest = Block fields false ∷ Content (codes "hi") true ∷ [];
   is = refl;
   interims = tt;
-  answer = (section, omega arith, (refl, refl, refl, refl));
+  answer = (section, omega arith, (refl, refl, refl));
 }
 
 offered : IsOffered known tape 1 delivery
@@ -117,7 +117,7 @@ delivered_first = record {
     no_more = refl;
     source = delivery;
     offered = offered;
-    part = record { interims = refl; head_is = refl; body = record { rest = []; is = refl }; whole = λ e. (refl, refl, refl) };
+    part = record { interims = refl; head_is = refl; body = record { rest = []; is = refl }; ended = λ trailers e. (e, refl) };
   });
 }
 

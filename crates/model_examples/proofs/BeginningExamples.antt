@@ -46,7 +46,7 @@ nothing_either false = refl
 pub none_read : (t : List Entry) (stream : ℕ) → items_on stream (sent t) ≡ [] → IsDelivered known t stream
 none_read t stream none = record {
   delivery = nothing;
-  reads = subst (λ x. ReadsAs x nothing) (sym none) (record { interim_items = []; rest = []; is = refl; interims = tt; answer = (refl, refl, refl, refl) });
+  reads = subst (λ x. ReadsAs x nothing) (sym none) (record { interim_items = []; rest = []; is = refl; interims = tt; answer = (refl, refl, refl) });
   offered = inl refl;
 }
 

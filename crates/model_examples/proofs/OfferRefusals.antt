@@ -78,7 +78,7 @@ abbrev hinted : Head
 hinted = record { status = 103; fields = [] }
 
 abbrev with_hints : Delivery
-with_hints = record { interims = hinted ∷ []; head = Some (record { status = 502; fields = field (codes "content-length") (codes "0") ∷ [] }); body = []; trailers = []; whole = true }
+with_hints = record { interims = hinted ∷ []; head = Some (record { status = 502; fields = field (codes "content-length") (codes "0") ∷ [] }); body = []; ends = Some [] }
 
 reads_hints : ReadsAs (items_at 1 behind_invented) with_hints
 reads_hints = record {
@@ -86,7 +86,7 @@ reads_hints = record {
   rest = Block bad_gateway true ∷ [];
   is = refl;
   interims = (record { digits = codes "103"; is = refl; three = refl; are_digits = refl; status = refl; no_other = refl }, omega arith, tt);
-  answer = (record { digits = codes "502"; is = refl; three = refl; are_digits = refl; status = refl; no_other = refl }, omega arith, refl, refl, refl, refl);
+  answer = (record { digits = codes "502"; is = refl; three = refl; are_digits = refl; status = refl; no_other = refl }, omega arith, refl, refl, refl);
 }
 
 -- nothing is on offer there but the reply, before which nothing was sent
@@ -115,7 +115,7 @@ abbrev hinted_first : List Entry
 hinted_first = out_headed (frame 1 4 1 (codes "hints")) hints ∷ got
 
 abbrev hints_alone : Delivery
-hints_alone = record { interims = hinted ∷ []; head = None; body = []; trailers = []; whole = false }
+hints_alone = record { interims = hinted ∷ []; head = None; body = []; ends = None }
 
 reads_alone : ReadsAs (items_at 1 hinted_first) hints_alone
 reads_alone = record {
@@ -123,7 +123,7 @@ reads_alone = record {
   rest = [];
   is = refl;
   interims = (record { digits = codes "103"; is = refl; three = refl; are_digits = refl; status = refl; no_other = refl }, omega arith, tt);
-  answer = (refl, refl, refl, refl);
+  answer = (refl, refl, refl);
 }
 
 unanswered : IsUnanswered by_whole hinted_first 1
@@ -153,7 +153,7 @@ abbrev sent_late : List Entry
 sent_late = out_headed (frame 1 4 1 (136 ∷ [])) ok ∷ Happened (UpFailed 1) ∷ waits
 
 abbrev late : Delivery
-late = record { interims = []; head = Some (record { status = 200; fields = [] }); body = []; trailers = []; whole = false }
+late = record { interims = []; head = Some (record { status = 200; fields = [] }); body = []; ends = None }
 
 reads_late : ReadsAs (items_at 1 sent_late) late
 reads_late = record {
@@ -161,7 +161,7 @@ reads_late = record {
   rest = Block ok false ∷ [];
   is = refl;
   interims = tt;
-  answer = (record { digits = codes "200"; is = refl; three = refl; are_digits = refl; status = refl; no_other = refl }, omega arith, (refl, refl, refl));
+  answer = (record { digits = codes "200"; is = refl; three = refl; are_digits = refl; status = refl; no_other = refl }, omega arith, (refl, refl));
 }
 
 reply_then : (source : Delivery) → IsOffered failed_later sent_late 1 source → source.head ≡ (reply [] BadAnswer).head

@@ -118,9 +118,9 @@ no_interims known t stream u d = elim d.offered [
 
 -- items that are one whole head are no interim heads
 one_block_reads : (fields : List Field) (delivery : Delivery) → ReadsAs (Block fields true ∷ []) delivery → delivery.head ≡ None → ⊥
-one_block_reads fields delivery r none = at r.interim_items r.rest delivery.interims r.is r.interims (subst (λ h. IsAnsweredBy r.rest h delivery.body delivery.trailers delivery.whole) none r.answer)
+one_block_reads fields delivery r none = at r.interim_items r.rest delivery.interims r.is r.interims (subst (λ h. IsAnsweredBy r.rest h delivery.body delivery.ends) none r.answer)
   where
-    at : (front rest : List Item) (heads : List Head) → Block fields true ∷ [] ≡ front ++ rest → AreInterims front heads → IsAnsweredBy rest None delivery.body delivery.trailers delivery.whole → ⊥
+    at : (front rest : List Item) (heads : List Head) → Block fields true ∷ [] ≡ front ++ rest → AreInterims front heads → IsAnsweredBy rest None delivery.body delivery.ends → ⊥
     at [] rest heads e i a = let clash : Block fields true ∷ [] ≡ (let none : List Item = [] in none) = e ∙ a.0 in cc
     at (Content octets ends ∷ front) rest heads e i a = cc
     at (Block fs true ∷ front) rest [] e i a = i
@@ -129,9 +129,9 @@ one_block_reads fields delivery r none = at r.interim_items r.rest delivery.inte
 
 -- nor are a head and octets behind it
 body_reads : (fields : List Field) (octets : List ℕ) (ends : Bool) (delivery : Delivery) → ReadsAs (Block fields false ∷ Content octets ends ∷ []) delivery → delivery.head ≡ None → ⊥
-body_reads fields octets ends delivery r none = at r.interim_items r.rest delivery.interims r.is r.interims (subst (λ h. IsAnsweredBy r.rest h delivery.body delivery.trailers delivery.whole) none r.answer)
+body_reads fields octets ends delivery r none = at r.interim_items r.rest delivery.interims r.is r.interims (subst (λ h. IsAnsweredBy r.rest h delivery.body delivery.ends) none r.answer)
   where
-    at : (front rest : List Item) (heads : List Head) → Block fields false ∷ Content octets ends ∷ [] ≡ front ++ rest → AreInterims front heads → IsAnsweredBy rest None delivery.body delivery.trailers delivery.whole → ⊥
+    at : (front rest : List Item) (heads : List Head) → Block fields false ∷ Content octets ends ∷ [] ≡ front ++ rest → AreInterims front heads → IsAnsweredBy rest None delivery.body delivery.ends → ⊥
     at [] rest heads e i a = let clash : Block fields false ∷ Content octets ends ∷ [] ≡ (let none : List Item = [] in none) = e ∙ a.0 in cc
     at (first ∷ []) rest heads e i a = let clash : Content octets ends ∷ [] ≡ rest = cc in let again : Content octets ends ∷ [] ≡ (let none : List Item = [] in none) = clash ∙ a.0 in cc
     at (first ∷ Block fs end ∷ front) rest heads e i a = cc

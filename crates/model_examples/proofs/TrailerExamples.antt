@@ -1,4 +1,4 @@
--- Trailers of a request and of a response that pass (rows 15.1 and 15.2), and gateways that pass others, or none.
+-- Trailers of a request and of a response that pass, and gateways that pass others, or none.
 use Rattle.std.proofs.Common.{◌≡◌, ℕ, true, false, List, [], ◌∷◌, ◌++◌, refl, sym, ap, ◌∙◌, subst, arith}
 use Rattle.std.specs.Prelude.{Some, codes}
 use Rattle.std.proofs.lemmas.Bool.{false≢true}
@@ -13,7 +13,7 @@ use Rattle.model.proofs.Http2Readings.{one_meaning}
 use Rattle.model.proofs.TrailerTexts.{x_b, head, answer_head, answer_rest, answered}
 use Rattle.model.specs.Responses.{H1Response}
 
--- ---- a request's (row 15.1)
+-- ---- those of a request
 
 abbrev x_a : Field
 x_a = field (codes "x-a") (codes "1")
@@ -95,7 +95,7 @@ beside_a_length request p = ap (λ (r : Request). r.trailers) p.is ∙ ap (λ (h
 none_read_beside : (digits text body : List ℕ) (trailer : Field) (trailers : List Field) → Framed (digits ∷ []) [] text body (trailer ∷ trailers) → ⊥
 none_read_beside digits text body trailer trailers f = let clash = f.1 in cc
 
--- ---- a response's (row 15.2)
+-- ---- those of a response
 
 -- what the upstream sent is a whole response; its trailer `x-b` passes, `content-length` doesn't
 all_answered : H1Response (answer_head ++ answer_rest) false false (record { interims = []; head = head; body = codes "hi"; trailers = x_b ∷ [] })
@@ -103,11 +103,11 @@ all_answered = answered
 
 -- what the client is to read of it
 abbrev delivery : Delivery
-delivery = record { interims = []; head = Some head; body = codes "hi"; trailers = x_b ∷ []; whole = true }
+delivery = record { interims = []; head = Some head; body = codes "hi"; ends = Some (x_b ∷ []) }
 
 -- what it reads of a head, of DATA, and of a block behind it
 abbrev read_with : List Field → Delivery
-read_with trailers = record { interims = []; head = Some head; body = codes "hi"; trailers = trailers; whole = true }
+read_with trailers = record { interims = []; head = Some head; body = codes "hi"; ends = Some trailers }
 
 abbrev fields : List Field
 fields = field (codes ":status") (codes "200") ∷ []
@@ -124,19 +124,21 @@ reads_them trailer trailers plain = record {
   rest = sent_with trailer trailers;
   is = refl;
   interims = tt;
-  answer = (is_section, omega arith, ([], refl, (refl, refl, refl, (λ e. let clash : trailer ∷ trailers ≡ [] = e in cc), plain, refl)));
+  answer = (is_section, omega arith, ([], refl, (refl, refl, refl, (λ e. let clash : trailer ∷ trailers ≡ [] = e in cc), plain)));
 }
 
 client_reads : ReadsAs (sent_with x_b []) delivery
 client_reads = reads_them x_b [] refl
 
 all_of_it : IsPartOf delivery delivery
-all_of_it = record { interims = refl; head_is = refl; body = record { rest = []; is = refl }; whole = λ e. (refl, refl, refl) }
+all_of_it = record { interims = refl; head_is = refl; body = record { rest = []; is = refl }; ended = λ trailers e. (e, refl) }
 
 -- ---- and what isn't all of it
 
 not_all : (trailers : List Field) → (trailers ≡ x_b ∷ [] → ⊥) → (read : Delivery) → read ≡ read_with trailers → IsPartOf read delivery → ⊥
-not_all trailers other read is part = other ((subst (λ (d : Delivery). IsPartOf d delivery) is part).whole refl).2
+not_all trailers other read is part =
+    let all : Some (x_b ∷ []) ≡ Some trailers = ((subst (λ (d : Delivery). IsPartOf d delivery) is part).ended trailers refl).0 in
+    other (let same : x_b ∷ [] ≡ trailers = cc in sym same)
 
 -- A gateway that passes the trailer `content-length` doesn't send what is on offer.
 sends_a_length : (read : Delivery) → ReadsAs (sent_with x_b (a_length ∷ [])) read → IsPartOf read delivery → ⊥
@@ -148,4 +150,4 @@ sends_a_length read r part =
 drops_x_b : (read : Delivery) → ReadsAs (Block fields false ∷ Content (codes "hi") true ∷ []) read → IsPartOf read delivery → ⊥
 drops_x_b read r part =
     not_all [] (λ e. let clash : [] ≡ x_b ∷ [] = e in cc) read
-    (one_delivery _ read (read_with []) r (record { interim_items = []; rest = Block fields false ∷ Content (codes "hi") true ∷ []; is = refl; interims = tt; answer = (is_section, omega arith, (refl, refl, refl, refl)) })) part
+    (one_delivery _ read (read_with []) r (record { interim_items = []; rest = Block fields false ∷ Content (codes "hi") true ∷ []; is = refl; interims = tt; answer = (is_section, omega arith, (refl, refl, refl)) })) part

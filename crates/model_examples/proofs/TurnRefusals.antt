@@ -1,6 +1,6 @@
 -- Gateways that let a stream wait which is ready: one that serves another as long as it can, and one that sends nothing.
 use Rattle.std.proofs.Common.{◌≡◌, true, false, List, [], ◌∷◌, ◌++◌, refl, inl, inr, arith}
-use Rattle.std.specs.Prelude.{Some, codes}
+use Rattle.std.specs.Prelude.{None, Some, codes}
 use Rattle.model.specs.Tables.{total_size}
 use Rattle.model.specs.Frames.{settings_ack}
 use Rattle.model.specs.Messages.Item.{Block}
@@ -27,7 +27,7 @@ abbrev two_turns : List Entry
 two_turns = out (frame 0 1 3 (codes "hi")) ∷ first_turn
 
 abbrev delivery : Delivery
-delivery = record { interims = []; head = Some head; body = codes "hi"; trailers = []; whole = true }
+delivery = record { interims = []; head = Some head; body = codes "hi"; ends = Some [] }
 
 ready_before : IsReady by_whole both 1
 unfolding total_size
@@ -35,7 +35,7 @@ ready_before = record {
   is_active = refl;
   read = nothing;
   offered = delivery;
-  reads = record { interim_items = []; rest = []; is = refl; interims = tt; answer = (refl, refl, refl, refl) };
+  reads = record { interim_items = []; rest = []; is = refl; interims = tt; answer = (refl, refl, refl) };
   is_offered = inr (record {
     no_reply = inl refl;
     o = record { k = 1; route = 0; stream = 1 };
@@ -51,7 +51,7 @@ ready_between = record {
   is_active = refl;
   read = nothing;
   offered = delivery;
-  reads = record { interim_items = []; rest = []; is = refl; interims = tt; answer = (refl, refl, refl, refl) };
+  reads = record { interim_items = []; rest = []; is = refl; interims = tt; answer = (refl, refl, refl) };
   is_offered = inr (record {
     no_reply = inl refl;
     o = record { k = 1; route = 0; stream = 1 };
@@ -87,13 +87,13 @@ abbrev two_octets : List Entry
 two_octets = out (frame 0 1 3 (codes "i")) ∷ window_open
 
 abbrev head_read : Delivery
-head_read = record { interims = []; head = Some head; body = []; trailers = []; whole = false }
+head_read = record { interims = []; head = Some head; body = []; ends = None }
 
 is_section : IsSection fields head
 is_section = record { digits = codes "200"; is = refl; three = refl; are_digits = refl; status = refl; no_other = refl }
 
 reads_head : ReadsAs (Block fields false ∷ []) head_read
-reads_head = record { interim_items = []; rest = Block fields false ∷ []; is = refl; interims = tt; answer = (is_section, omega arith, (refl, refl, refl)) }
+reads_head = record { interim_items = []; rest = Block fields false ∷ []; is = refl; interims = tt; answer = (is_section, omega arith, (refl, refl)) }
 
 body_next : IsNextBody head_read delivery
 body_next = record { behind = record { head = head; is_read = refl; is_offered = refl; same_interims = refl }; octet = 104; more = codes "i"; is = refl }

@@ -18,6 +18,7 @@ use Rattle.model.specs.Setup.{Passing}
 use Rattle.model.specs.Setup.Passing.{Whole, Streaming}
 use Rattle.model.specs.Deliveries.{Delivery}
 use Rattle.model.specs.Available.{shown, IsShown}
+use Rattle.offering.specs.Outbox.{trailers_at}
 use Rattle.offering.specs.Held.{head_octets, octets_of_fields}
 
 -- the octets of all names and values
@@ -164,7 +165,7 @@ pub record HasFewHeads (delivery : Delivery) : Type 0 where
   pub few : length delivery.interims ≤ most_interims
   pub short : All IsShort delivery.interims
   pub final : IsShortIf delivery.head
-  pub trailers : octets_of_fields delivery.trailers ≤ longest_section
+  pub trailers : octets_of_fields (trailers_at delivery.ends) ≤ longest_section
 
 seen_few : (passing : Passing) (text : List ℕ) (to_head : Bool) (interims : List Head) (head : Option Head) (octets : List ℕ) → Seen text to_head interims head octets → HasFewHeads (shown passing interims head octets)
 seen_few Whole text to_head interims None octets s = record { few = s.0.few_interims; short = interims_short s.0.front interims s.0.are_interims; final = tt; trailers = omega arith }

@@ -15,7 +15,7 @@ use Rattle.model.specs.Setup.Passing.{Whole, Streaming}
 use Rattle.model.specs.Tapes.{Entry, sent}
 use Rattle.model.specs.Tapes.Entry.{Came, Breached, Happened, Sent, Did}
 use Rattle.model.specs.Openings.{Opened, opens, given, exchange_on}
-use Rattle.model.specs.Deliveries.{Delivery, ReadsAs}
+use Rattle.model.specs.Deliveries.{End, Delivery, ReadsAs}
 use Rattle.model.specs.Available.{heard, has_ended, items_on, shown, IsShown}
 use Rattle.model.specs.Admission.{room, is_open}
 use Rattle.model.specs.WindowsOnTape.{is_on, data_octets}
@@ -30,7 +30,7 @@ use Rattle.model.specs.Failures.{AreJudged}
 use Rattle.model.specs.Lifetimes.{active}
 use Rattle.model.proofs.DeliveryReadings.{one_connection}
 use Rattle.model.proofs.GivenLaws.{given_is}
-use Rattle.offering.specs.Outbox.{End, trailers_at, Outbox, silent, replied, offered_by, Fits, Part, left, rest_of, News, grown}
+use Rattle.offering.specs.Outbox.{trailers_at, Outbox, silent, replied, offered_by, Fits, Part, left, rest_of, grown}
 use Rattle.offering.specs.Outbox.Outbox.{Before, Behind, Over}
 use Rattle.offering.specs.Outbox.Part.{Early, Final, Octets, Trailing}
 use Rattle.offering.specs.State.{Kept, State, Move, find, change, without, unless_over, told, gone, answered_box, answered, answered_if, blank, with_new, kept_after, entry_of, state_of}
@@ -117,7 +117,7 @@ module _ (P : Outbox → Type 0) (none : P silent) (reply : (cause : Cause) → 
 
 -- What was read with the outbox behind it is what is shown of the answer before the event, and not whole; with the news it is what
 -- is shown behind it.
-pub record Heard (known : Known) (t : List Entry) (event : Event) (stream : ℕ) (news : News) (box : Outbox) : Type 0 where
+pub record Heard (known : Known) (t : List Entry) (event : Event) (stream : ℕ) (news : Delivery) (box : Outbox) : Type 0 where
   pub read : Delivery
   pub reads : ReadsAs (items_on stream (sent t)) read
   pub fits : Fits read box
@@ -126,10 +126,10 @@ pub record Heard (known : Known) (t : List Entry) (event : Event) (stream : ℕ)
   pub number : o.k ≡ upstream_of event
   pub no_cause : (course known stream (Happened event ∷ t)).cause ≡ None
   pub before : IsShown known.setup.passing (heard o.k t) (has_ended o.k t) (is_to_head (items known stream t)) (offered_by read box)
-  pub not_whole : (offered_by read box).whole ≡ false
+  pub not_whole : (offered_by read box).ends ≡ None
   pub behind : IsShown known.setup.passing (heard o.k (Happened event ∷ t)) (has_ended o.k (Happened event ∷ t)) (is_to_head (items known stream t)) (offered_by read (grown box news))
 
-module _ (known : Known) (t : List Entry) (event : Event) (stream : ℕ) (news : News) (n : Neighbours known t) (may : MayHear known t event stream news) where
+module _ (known : Known) (t : List Entry) (event : Event) (stream : ℕ) (news : Delivery) (n : Neighbours known t) (may : MayHear known t event stream news) where
   -- what stands there is shown of the connection's answer
   heard_of : (box : Outbox) → Stands known t stream box → Heard known t event stream news box
   heard_of box h = elim h.offer [
@@ -162,7 +162,7 @@ found_held known t s stream k h found = subst (IsKeptIf known t stream) found (h
 -- Behind a move by the rule the news are heard so.
 module _ (known : Known) (t : List Entry) (s : State) (before behind : Sight) (n : Neighbours known t) (h : Offering known t s) (P : Outbox → Type 0) where
   pub leaves_news : (m : Move) → Holds known t s m → MayCome before behind s m
-      → ((event : Event) (stream : ℕ) (news : News) (box : Outbox) → m ≡ Hears event stream news → Heard known t event stream news box → P box → P (grown box news)) → LeavesNews P s.kept m
+      → ((event : Event) (stream : ℕ) (news : Delivery) (box : Outbox) → m ≡ Hears event stream news → Heard known t event stream news box → P box → P (grown box news)) → LeavesNews P s.kept m
   leaves_news (Hears event stream news) holds may by = λ k found p.
       by event stream news k.box refl (heard_of known t event stream news n holds k.box ((found_held known t s stream k h found).stands (may.0.none_cut stream k found))) p
   leaves_news (Takes noted c) holds may by = tt
@@ -272,7 +272,7 @@ whole_shown known text ended to_head most d whole seen (inr b) =
     let none : length d.body ≡ 0 = ap (λ (x : Delivery). length x.body) b.says ∙ ap (λ p. length (shown p b.interims b.head b.octets).body) whole in
     omega (arith, none)
 
-whole_news : (known : Known) (t : List Entry) (event : Event) (stream : ℕ) (news : News) (box : Outbox) → known.setup.passing ≡ Whole → NoneTooLong known (Happened event ∷ t) → Heard known t event stream news box → IsWithin known.setup.max_response (grown box news)
+whole_news : (known : Known) (t : List Entry) (event : Event) (stream : ℕ) (news : Delivery) (box : Outbox) → known.setup.passing ≡ Whole → NoneTooLong known (Happened event ∷ t) → Heard known t event stream news box → IsWithin known.setup.max_response (grown box news)
 whole_news known t event stream news box whole short h =
     let stream_is : h.o.stream ≡ stream = h.given.is_given in
     let kept = whole_shown known (heard h.o.k (Happened event ∷ t)) (has_ended h.o.k (Happened event ∷ t)) (is_to_head (items known stream t)) known.setup.max_response (offered_by h.read (grown box news)) whole
@@ -322,7 +322,7 @@ offered_size items_read read (Before interims head body whole) r f = let none : 
 offered_size items_read read (Behind body whole) r f = length-append read.body body
 offered_size items_read read Over r f = omega arith
 
-module _ (known : Known) (t : List Entry) (event : Event) (stream : ℕ) (news : News) (box : Outbox) (n : Neighbours known t) (streaming : known.setup.passing ≡ Streaming) (h : Heard known t event stream news box) where
+module _ (known : Known) (t : List Entry) (event : Event) (stream : ℕ) (news : Delivery) (box : Outbox) (n : Neighbours known t) (streaming : known.setup.passing ≡ Streaming) (h : Heard known t event stream news box) where
   abbrev to_head : Bool
   to_head = is_to_head (items known stream t)
 

@@ -15,8 +15,9 @@ use Rattle.model.specs.Causes.Cause.{BadAnswer}
 use Rattle.model.specs.Lifetimes.{is_active}
 use Rattle.model.specs.Courses.{about, cause_of}
 use Rattle.model.specs.Offers.{is_to_head, IsDelivered}
+use Rattle.model.specs.Deliveries.{Delivery}
 use Rattle.model.proofs.DeliveryReadings.{one_number}
-use Rattle.offering.specs.Outbox.{Part, News, IsNext}
+use Rattle.offering.specs.Outbox.{Part, IsNext}
 use Rattle.offering.specs.State.{Kept, State, find, change, told, gone, answered, after}
 use Rattle.offering.specs.State.Move.{Hears, Fails, Goes, Acts}
 use Rattle.offering.specs.Policy.{Neighbours, windows_on, MayGo, Brings, IsOf, MayHear, MayGiveUp, MayOpen, MayDo}
@@ -68,7 +69,7 @@ module _ (known : Known) (t : List Entry) (event : Event) (stream : ℕ) (n : Ne
   }
 
 -- the upstream tells more
-pub hears_keep : (known : Known) (t : List Entry) (s : State) (event : Event) (stream : ℕ) (news : News) → Neighbours known t → Offering known t s → MayHear known t event stream news → Offering known (Happened event ∷ t) (after s (Hears event stream news))
+pub hears_keep : (known : Known) (t : List Entry) (s : State) (event : Event) (stream : ℕ) (news : Delivery) → Neighbours known t → Offering known t s → MayHear known t event stream news → Offering known (Happened event ∷ t) (after s (Hears event stream news))
 hears_keep known t s event stream news n h may =
     let none : cause_of known stream t (Happened event) ≡ None = none_unless_fails known stream t event may.sound in
     event_keeps known t event stream n may.of s (after s (Hears event stream news)) (told news) (λ k. refl) h refl (λ k kept. record {

@@ -14,7 +14,7 @@ use Rattle.model.specs.Tapes.{Noted, Entry, sent}
 use Rattle.model.specs.Tapes.Entry.{Came, Breached, Happened, Sent, Did}
 use Rattle.model.specs.Decoding.{joined, begun, completed}
 use Rattle.model.specs.Streams.{frame_items}
-use Rattle.model.specs.Deliveries.{Delivery, AreInterims, AreContents, IsAnsweredBy, ReadsAs}
+use Rattle.model.specs.Deliveries.{End, Delivery, AreInterims, AreContents, IsAnsweredBy, ReadsAs}
 use Rattle.model.specs.Available.{items_on}
 use Rattle.model.specs.WindowsOnTape.{is_on, data_length, data_octets}
 use Rattle.model.specs.Known.{Known}
@@ -43,31 +43,31 @@ interims_size (Block fields false ∷ items) (head ∷ heads) a = interims_size 
 interims_size (Block fields true ∷ items) heads a = absurd a
 interims_size (Content octets ends ∷ items) heads a = absurd a
 
-contents_size : (items : List Item) (body : List ℕ) (trailers : List Field) (whole : Bool) → AreContents items body trailers whole → content_size items ≡ length body
-contents_size [] body trailers whole a = sym (ap length a.0)
-contents_size (Content octets true ∷ items) body trailers whole a =
+contents_size : (items : List Item) (body : List ℕ) (end : End) → AreContents items body end → content_size items ≡ length body
+contents_size [] body end a = sym (ap length a.0)
+contents_size (Content octets true ∷ items) body end a =
     let none : content_size items ≡ 0 = ap content_size a.0 in
     let same : length body ≡ length octets = ap length a.1 in
     omega (arith, none, same)
-contents_size (Content octets false ∷ items) body trailers whole a =
-    let more = contents_size items a.0 trailers whole a.2 in
+contents_size (Content octets false ∷ items) body end a =
+    let more = contents_size items a.0 end a.2 in
     let all : length body ≡ length octets + length a.0 = ap length a.1 ∙ length-append octets a.0 in
     omega (arith, more, all)
-contents_size (Block fields true ∷ items) body trailers whole a = ap content_size a.0 ∙ sym (ap length a.1)
-contents_size (Block fields false ∷ items) body trailers whole a = absurd a
+contents_size (Block fields true ∷ items) body end a = ap content_size a.0 ∙ sym (ap length a.1)
+contents_size (Block fields false ∷ items) body end a = absurd a
 
-answer_size : (items : List Item) (head : Option Head) (body : List ℕ) (trailers : List Field) (whole : Bool) → IsAnsweredBy items head body trailers whole → content_size items ≡ length body
-answer_size items None body trailers whole a = ap content_size a.0 ∙ sym (ap length a.1)
-answer_size [] (Some head) body trailers whole a = absurd a
-answer_size (Block fields true ∷ items) (Some head) body trailers whole a = ap content_size a.2 ∙ sym (ap length a.3)
-answer_size (Block fields false ∷ items) (Some head) body trailers whole a = contents_size items body trailers whole a.2
-answer_size (Content octets ends ∷ items) (Some head) body trailers whole a = absurd a
+answer_size : (items : List Item) (head : Option Head) (body : List ℕ) (end : End) → IsAnsweredBy items head body end → content_size items ≡ length body
+answer_size items None body end a = ap content_size a.0 ∙ sym (ap length a.1)
+answer_size [] (Some head) body end a = absurd a
+answer_size (Block fields true ∷ items) (Some head) body end a = ap content_size a.2 ∙ sym (ap length a.3)
+answer_size (Block fields false ∷ items) (Some head) body end a = contents_size items body end a.2
+answer_size (Content octets ends ∷ items) (Some head) body end a = absurd a
 
 -- The octets that items bring are those that were read.
 pub read_size : (items : List Item) (read : Delivery) → ReadsAs items read → content_size items ≡ length read.body
 read_size items read r =
     let before = interims_size r.interim_items read.interims r.interims in
-    let behind = answer_size r.rest read.head read.body read.trailers read.whole r.answer in
+    let behind = answer_size r.rest read.head read.body read.ends r.answer in
     let all : content_size items ≡ content_size r.interim_items + content_size r.rest = ap content_size r.is ∙ size_joined r.interim_items r.rest in
     omega (arith, before, behind, all)
 

@@ -13,7 +13,7 @@ use Rattle.model.specs.Known.{Known}
 use Rattle.model.specs.Causes.{Cause, reply}
 use Rattle.model.specs.Courses.{Course, course, items, is_final}
 use Rattle.model.specs.Offers.{is_to_head, IsGiven, HasNoReply, IsReplied, IsPassedOn, IsOffered, IsDelivered}
-use Rattle.offering.specs.Outbox.{Outbox, silent, replied, offered_by, Fits, Part, IsNext, left, read_more, IsItemOf, News, with_news, grown}
+use Rattle.offering.specs.Outbox.{Outbox, silent, replied, offered_by, Fits, Part, IsNext, left, read_more, IsItemOf, with_news, grown}
 use Rattle.offering.specs.Shown.{Tells}
 use Rattle.model.proofs.DeliveryReadings.{one_connection}
 use Rattle.model.proofs.HeadLaws.{out_by_read, heads_by_read, nothing_reads, nothing_shown}
@@ -121,11 +121,11 @@ module _ (known : Known) (t u : List Entry) (stream : ℕ) (s : SameOffer known 
 -- ---- the offer grows, or is replaced
 
 -- 3. The stream's upstream tells more of its response.
-module _ (known : Known) (t u : List Entry) (stream : ℕ) (o : Opened) (news : News) (box : Outbox)
+module _ (known : Known) (t u : List Entry) (stream : ℕ) (o : Opened) (news : Delivery) (box : Outbox)
     (same_items : items_on stream (sent u) ≡ items_on stream (sent t)) (cause : (course known stream t).cause ≡ (course known stream u).cause) (out : (course known stream t).head_out ≡ (course known stream u).head_out)
     (head : is_to_head (items known stream t) ≡ is_to_head (items known stream u)) (apart : AreApart (opens t)) (given : IsGiven t stream o) (given_now : IsGiven u stream o) (not_replied : HasNoReply (course known stream t))
     (tells : Tells known.setup.passing (heard o.k t) (has_ended o.k t) (heard o.k u) (has_ended o.k u) (is_to_head (items known stream t)) news) where
-  passed_more : (d : Delivery) → IsPassedOn known t stream d → IsPassedOn known u stream (with_news d news) × (d.whole ≡ false) × (is_some d.head ≡ true → news.interims ≡ [])
+  passed_more : (d : Delivery) → IsPassedOn known t stream d → IsPassedOn known u stream (with_news d news) × (d.ends ≡ None) × (is_some d.head ≡ true → news.interims ≡ [])
   passed_more d p =
       let same : p.o ≡ o = one_connection (opens t) p.o o apart p.given.is_opened given.is_opened (p.given.is_given ∙ sym given.is_given) in
       let shown : IsShown known.setup.passing (heard o.k t) (has_ended o.k t) (is_to_head (items known stream t)) d =
@@ -175,7 +175,7 @@ stands_replied known t u stream cause box same now out heads none h =
         cause = cause;
         has_cause = now;
         head_not_out = out;
-        says = same_delivery (append-nil h.read.interims ∙ sym (heads_by_read (items_on stream (sent t)) h.read h.reads no_head) ∙ sym heads) refl refl refl refl;
+        says = same_delivery (append-nil h.read.interims ∙ sym (heads_by_read (items_on stream (sent t)) h.read h.reads no_head) ∙ sym heads) refl refl refl;
       }));
     }
   where
@@ -218,7 +218,7 @@ stands_new known u stream unsent no_cause no_connection = record {
 pub stands_new_replied : (known : Known) (u : List Entry) (stream : ℕ) (cause : Cause) → items_on stream (sent u) ≡ [] → (course known stream u).cause ≡ Some cause → (course known stream u).head_out ≡ false → (course known stream u).heads_out ≡ [] → Stands known u stream (replied cause)
 stands_new_replied known u stream cause unsent now out heads =
     let reads : ReadsAs (items_on stream (sent u)) nothing = subst (λ x. ReadsAs x nothing) (sym unsent) nothing_reads in
-    record { read = nothing; reads = reads; fits = refl; offer = inl (inl (record { cause = cause; has_cause = now; head_not_out = out; says = same_delivery (sym heads) refl refl refl refl })) }
+    record { read = nothing; reads = reads; fits = refl; offer = inl (inl (record { cause = cause; has_cause = now; head_not_out = out; says = same_delivery (sym heads) refl refl refl })) }
 
 -- ---- what was delivered
 

@@ -20,7 +20,8 @@ use Rattle.model.specs.ProgressClause.{NoneReady}
 use Rattle.model.specs.WindowClause.{KeepsWindows}
 use Rattle.model.specs.Turns.{IsNextTurn}
 use Rattle.model.specs.Offers.{is_to_head, IsGiven, IsDelivered}
-use Rattle.offering.specs.Outbox.{Part, IsNext, IsItemOf, News}
+use Rattle.model.specs.Deliveries.{Delivery}
+use Rattle.offering.specs.Outbox.{Part, IsNext, IsItemOf}
 use Rattle.offering.specs.Shown.{Tells}
 use Rattle.offering.specs.State.{Kept, State, Windows, Change, Move, find, ready, entry_of, state_of}
 use Rattle.offering.specs.State.Move.{Takes, Breaks, Notes, Hears, Fails, Goes, Sends, Acts}
@@ -69,7 +70,7 @@ pub record IsOf (known : Known) (t : List Entry) (event : Event) (stream : ℕ) 
   pub counted : 0 < stream
 
 -- The stream's upstream tells these news, and nothing failed.
-pub record MayHear (known : Known) (t : List Entry) (event : Event) (stream : ℕ) (news : News) : Type 0 where
+pub record MayHear (known : Known) (t : List Entry) (event : Event) (stream : ℕ) (news : Delivery) : Type 0 where
   pub of : IsOf known t event stream
   pub sound : fails_behind known t ≡ false
   pub tells : Tells known.setup.passing (heard of.o.k t) (has_ended of.o.k t) (heard of.o.k (Happened event ∷ t)) (has_ended of.o.k (Happened event ∷ t)) (is_to_head (items known stream t)) news

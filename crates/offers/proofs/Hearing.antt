@@ -1,7 +1,8 @@
 -- What is heard for a stream, as the rule's moves tell it: news that join what is on offer, or none.
 use Rattle.std.proofs.Common.{◌≡◌, ℕ, ◌==◌, if◌then◌else◌, Bool, true, false, List, [], ◌∷◌, refl, sym, ap, ◌∙◌, subst}
 use Rattle.std.specs.Prelude.{Some}
-use Rattle.offering.specs.Outbox.{News, grown}
+use Rattle.model.specs.Deliveries.{Delivery}
+use Rattle.offering.specs.Outbox.{grown}
 use Rattle.offering.specs.State.{Kept, State, find, change, told}
 use Rattle.offers.specs.Changes.{with_box, refilled}
 
@@ -26,7 +27,7 @@ change_self id (x ∷ ks) = by (x.id == id) (change_self id ks)
     by false rest = ap (λ (ys : List Kept). x ∷ ys) rest
 
 -- an outbox with news is that of a stream which is told them
-pub refilled_told : (s : State) (id : ℕ) (k : Kept) (news : News) → find id s.kept ≡ Some k → refilled id (grown k.box news) s ≡ record { kept = change id (told news) s.kept; last = s.last }
+pub refilled_told : (s : State) (id : ℕ) (k : Kept) (news : Delivery) → find id s.kept ≡ Some k → refilled id (grown k.box news) s ≡ record { kept = change id (told news) s.kept; last = s.last }
 refilled_told s id k news found =
     ap (λ (ks : List Kept). let it : State = record { kept = ks; last = s.last } in it) (change_same id (with_box (grown k.box news)) (told news) s.kept k found refl)
 

@@ -6,8 +6,9 @@ use Rattle.std.proofs.lemmas.List.{length-take}
 use Rattle.model.specs.Octets.{is_empty}
 use Rattle.model.specs.Messages.{Field}
 use Rattle.model.specs.ResponseHeads.{Head}
+use Rattle.model.specs.Deliveries.{End}
 use Rattle.h1_reader.specs.HeadSizes.{CanTrail}
-use Rattle.offering.specs.Outbox.{End, first_end, is_plain, Outbox, Part, can_go, part_of, left, rest_of}
+use Rattle.offering.specs.Outbox.{first_end, is_plain, Outbox, Part, can_go, part_of, left, rest_of}
 use Rattle.offering.specs.Outbox.Outbox.{Before, Behind, Over}
 use Rattle.offering.specs.Outbox.Part.{Early, Final, Octets, Trailing}
 use Rattle.outbox.specs.Views.{end_in, IsHead, AreOctets}

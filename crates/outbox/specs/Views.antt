@@ -1,7 +1,8 @@
 -- The code's values as the rule of what is on offer has them.
 use Rattle.std.specs.Prelude.{◌≡◌, ◌≤◌, Bool, true, false, Option, Some, None, is_some, ◌++◌, length}
 use Rattle.model.specs.ResponseHeads.{Head}
-use Rattle.offering.specs.Outbox.{End, trailers_at, Outbox}
+use Rattle.model.specs.Deliveries.{End}
+use Rattle.offering.specs.Outbox.{trailers_at, Outbox}
 use Rattle.offering.specs.Outbox as rule
 use Rattle.outbox.specs.Waiting.{Waiting}
 use Rattle.outbox.specs.declared.outbox.Place.{Place}

@@ -12,6 +12,7 @@ use Rattle.model.specs.Tapes.Entry.{Came}
 use Rattle.model.specs.Decoding.{Partial}
 use Rattle.model.specs.Lifetimes.{opens_by}
 use Rattle.model.specs.Courses.{upstream_of}
+use Rattle.model.specs.Deliveries.{Delivery}
 use Rattle.conduct.specs.Summary.{Stream as Kept, Summary}
 use Rattle.conduct.specs.Judging.{is_over_in, completed_in}
 use Rattle.conduct.specs.After.{kept_behind, ended_by_client_after}
@@ -24,7 +25,6 @@ use Rattle.receiving.specs.Policy.{may_come}
 use Rattle.receiving.specs.Rule.{OwesNothing}
 use Rattle.serving.specs.Rule as requests
 use Rattle.serving.specs.Rule.{IsKept}
-use Rattle.offering.specs.Outbox.{News}
 use Rattle.policy.specs.Moves.{Gain, told_in, gained, failed}
 use Rattle.policy.specs.Moves.Gain.{Nothing, Begins, Gathers, Passes, Drops}
 use Rattle.policy.specs.Moves.Deed.{Takes, Breaks, Notes, Hears, Fails}
@@ -87,7 +87,7 @@ module _ (setup : Setup) (behind : Summary) (s : State) (ready : IsReady s) wher
   failed_may (UpTook k count) whole of kept = absurd of
 
   -- an answer that doesn't fail
-  pub may_hear : (event : Event) (stream : ℕ) (news : News) (whole : Bool) → MayHear behind s event stream → MayDo setup (told_by s) behind s (Hears event stream news whole)
+  pub may_hear : (event : Event) (stream : ℕ) (news : Delivery) (whole : Bool) → MayHear behind s event stream → MayDo setup (told_by s) behind s (Hears event stream news whole)
   may_hear event stream news whole may = record {
     rests = λ e. ready.rests;
     conduct = record { allowed = record { open_yet = ready.open_yet; turn = comes }; fit = λ fails. absurd (let no : false ≡ true = fails in cc) };

@@ -12,13 +12,14 @@ use Rattle.model.specs.Tapes.{Noted}
 use Rattle.model.specs.Tapes.Note.{Fields}
 use Rattle.model.specs.Tapes.Entry.{Happened, Sent, Did}
 use Rattle.model.specs.ResponseHeads.{Head}
+use Rattle.model.specs.Deliveries.{Delivery}
 use Rattle.header_blocks.specs.Chosen.{GoesIn}
 use Rattle.header_blocks.proofs.RawStrings.{one_octet, one_octet_chosen}
 use Rattle.conduct.specs.Summary.{Stream as Told}
 use Rattle.conduct.specs.Book.{Desk}
 use Rattle.conduct.specs.Rows.{Row, fresh}
 use Rattle.conduct.specs.Rows.Slot.{Live, Over}
-use Rattle.offering.specs.Outbox.{News, silent}
+use Rattle.offering.specs.Outbox.{silent}
 use Rattle.offering.specs.Outbox.Outbox.{Before, Behind}
 use Rattle.offering.specs.Outbox.Part.{Final, Octets}
 use Rattle.offering.specs.State.{Kept}
@@ -50,7 +51,7 @@ abbrev pub answer_head : Head
 answer_head = record { status = 200; fields = sized ∷ [] }
 
 -- what is told of it: all of it
-abbrev pub news : News
+abbrev pub news : Delivery
 news = record { interims = []; head = Some answer_head; body = codes "hi"; ends = Some [] }
 
 -- the fields of its block, and the table that this leaves

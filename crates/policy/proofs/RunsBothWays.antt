@@ -9,6 +9,7 @@ use Rattle.model.specs.Logs.Event.{Up, UpTook}
 use Rattle.model.specs.Logs.Act.{ToUp, Close}
 use Rattle.model.specs.Tapes.{Noted}
 use Rattle.model.specs.Tapes.Entry.{Came, Happened, Sent, Did}
+use Rattle.model.specs.Deliveries.{Delivery}
 use Rattle.h1_writer.specs.Sending.{chunk_text, last_chunk}
 use Rattle.h1_writer.specs.Sending.Stage.{Whole, Chunking}
 use Rattle.h1_writer.proofs.Stages.{adds_chunk}
@@ -17,7 +18,6 @@ use Rattle.conduct.specs.Summary.{Stream as Told}
 use Rattle.conduct.specs.Book.{Desk}
 use Rattle.conduct.specs.Rows.{Slot}
 use Rattle.conduct.specs.Rows.Slot.{Live, Over}
-use Rattle.offering.specs.Outbox.{News}
 use Rattle.offering.specs.Outbox.Outbox.{Before, Behind}
 use Rattle.offering.specs.Outbox.Part.{Final, Octets}
 use Rattle.receiving.specs.State.{add, change, paid, with_taken, kept_of}
@@ -45,10 +45,10 @@ use Rattle.policy.proofs.RunsStreaming.{streaming, text, chunk, took_deed, share
 abbrev pub begin_text : List ℕ
 begin_text = codes "HTTP/1.1 200 OK\r\nContent-Length: 2\r\n\r\nh"
 
-abbrev pub begin_news : News
+abbrev pub begin_news : Delivery
 begin_news = record { interims = []; head = Some answer_head; body = codes "h"; ends = None }
 
-abbrev pub end_news : News
+abbrev pub end_news : Delivery
 end_news = record { interims = []; head = None; body = codes "i"; ends = Some [] }
 
 abbrev pub begin_deed : Deed

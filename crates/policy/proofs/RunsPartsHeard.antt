@@ -24,7 +24,7 @@ use Rattle.model.proofs.AnswerTexts as texts
 use Rattle.model.proofs.HeadLaws.{nothing_shown}
 use Rattle.model.proofs.OfferLaws.{one_shown}
 use Rattle.model.proofs.ResponseHeadReadings.{one_spelled, spelled_reads, none_at_final, one_front}
-use Rattle.offering.specs.Outbox.{News, with_news}
+use Rattle.offering.specs.Outbox.{with_news}
 use Rattle.offering.specs.Shown.{Tells}
 use Rattle.serving.specs.Meaning.{IsAllHeard}
 use Rattle.policy.specs.State.{tape_of}
@@ -84,7 +84,7 @@ not_whole c =
 
 -- what is on offer with the first part
 abbrev begun : Delivery
-begun = record { interims = []; head = Some texts.head; body = codes "h"; trailers = []; whole = false }
+begun = record { interims = []; head = Some texts.head; body = codes "h"; ends = None }
 
 begun_shown : IsShown Streaming begin_text false false begun
 begun_shown = inr (record {
@@ -124,7 +124,7 @@ the_first o (inl same) = same
 the_first o (inr none) = absurd none
 
 -- these news are told of a connection
-abbrev AreTold : List Entry → Event → News → Opened → Type 0
+abbrev AreTold : List Entry → Event → Delivery → Opened → Type 0
 AreTold t event told o = Tells Streaming (heard_by o t) (ended_by o t) (heard_by o (Happened event ∷ t)) (ended_by o (Happened event ∷ t)) (is_to_head (items known 1 t)) told
 
 begin_told : (o : Opened) → IsIn o (first_given ∷ []) → AreTold (tape_of waits) (Up 1 begin_text) begin_news o

@@ -14,11 +14,12 @@ use Rattle.model.specs.Tapes.{Noted}
 use Rattle.model.specs.Tapes.Note.{Fields}
 use Rattle.model.specs.Tapes.Entry.{Came, Happened, Sent, Did}
 use Rattle.model.specs.ResponseHeads.{Head}
+use Rattle.model.specs.Deliveries.{Delivery}
 use Rattle.h1_writer.specs.Sending.Stage.{Whole}
 use Rattle.conduct.specs.Book.{Desk}
 use Rattle.conduct.specs.Rows.{Row, Slot}
 use Rattle.conduct.specs.Rows.Slot.{Live, Over}
-use Rattle.offering.specs.Outbox.{Outbox, News}
+use Rattle.offering.specs.Outbox.{Outbox}
 use Rattle.offering.specs.Outbox.Outbox.{Before, Behind}
 use Rattle.offering.specs.Outbox.Part.{Early, Final, Octets}
 use Rattle.offering.specs.State.{Kept}
@@ -61,7 +62,7 @@ early_text = codes "HTTP/1.1 103 Early Hints\r\n\r\n"
 abbrev pub early_head : Head
 early_head = record { status = 103; fields = [] }
 
-abbrev pub early_news : News
+abbrev pub early_news : Delivery
 early_news = record { interims = early_head ∷ []; head = None; body = []; ends = None }
 
 -- the field of its block, and the tables that the blocks leave

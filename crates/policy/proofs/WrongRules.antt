@@ -14,7 +14,7 @@ use Rattle.model.specs.Decoding.{Partial}
 use Rattle.model.specs.FrameErrors.{is_between}
 use Rattle.model.specs.WindowsOnTape.{increment}
 use Rattle.model.specs.ResponseHeads.{Head}
-use Rattle.model.specs.Deliveries.{Delivery, ReadsAs, IsSection, AreInterims, IsAnsweredBy, IsAnswer, IsPart, IsPartOf}
+use Rattle.model.specs.Deliveries.{End, Delivery, ReadsAs, IsSection, AreInterims, IsAnsweredBy, IsAnswer, IsPart, IsPartOf}
 use Rattle.model.specs.Openings.{Opened, opens}
 use Rattle.model.specs.Available.{heard_by, ended_by, items_on, IsIn, IsShown}
 use Rattle.model.specs.Causes.{Cause, reply_head}
@@ -35,7 +35,7 @@ use Rattle.model.specs.Tapes.Note.{Fields}
 use Rattle.model.specs.Tapes.Entry.{Came, Breached, Happened, Sent, Did}
 use Rattle.model.specs.Known.{Known}
 use Rattle.conduct.specs.Summary.{Summary}
-use Rattle.offering.specs.Outbox.{End, Outbox, Part, IsNext, silent}
+use Rattle.offering.specs.Outbox.{Outbox, Part, IsNext, silent}
 use Rattle.offering.specs.Outbox.Outbox.{Before, Behind}
 use Rattle.offering.specs.Outbox.Part.{Final, Octets}
 use Rattle.offering.specs.Sight.{sight_in}
@@ -171,9 +171,9 @@ none_offered source (inr passed) = of passed.o passed.given.is_opened passed.sho
 
 -- it says a head
 one_head : (delivery : Delivery) → ReadsAs (Block (bad ∷ empty ∷ []) true ∷ []) delivery → delivery.head ≡ None → ⊥
-one_head delivery r none = at r.interim_items r.rest delivery.interims r.is r.interims (subst (λ h. IsAnsweredBy r.rest h delivery.body delivery.trailers delivery.whole) none r.answer)
+one_head delivery r none = at r.interim_items r.rest delivery.interims r.is r.interims (subst (λ h. IsAnsweredBy r.rest h delivery.body delivery.ends) none r.answer)
   where
-    at : (front rest : List Item) (heads : List Head) → Block (bad ∷ empty ∷ []) true ∷ [] ≡ front ++ rest → AreInterims front heads → IsAnsweredBy rest None delivery.body delivery.trailers delivery.whole → ⊥
+    at : (front rest : List Item) (heads : List Head) → Block (bad ∷ empty ∷ []) true ∷ [] ≡ front ++ rest → AreInterims front heads → IsAnsweredBy rest None delivery.body delivery.ends → ⊥
     at [] rest heads e i a = let clash : Block (bad ∷ empty ∷ []) true ∷ [] ≡ (let none : List Item = [] in none) = e ∙ a.0 in cc
     at (Content octets ends ∷ front) rest heads e i a = cc
     at (Block fields true ∷ front) rest [] e i a = i
@@ -220,9 +220,9 @@ two_heads delivery r = at r.interim_items r.rest delivery.interims delivery.head
         let status : head.status ≡ 200 = section.status ∙ ap (digits_value 10) (sym digits) in
         omega (arith, status, low)
 
-    at : (front rest : List Item) (heads : List Head) (head : Option Head) → Block (ok ∷ sized ∷ []) false ∷ Block (bad ∷ empty ∷ []) true ∷ [] ≡ front ++ rest → AreInterims front heads → IsAnsweredBy rest head delivery.body delivery.trailers delivery.whole → ⊥
+    at : (front rest : List Item) (heads : List Head) (head : Option Head) → Block (ok ∷ sized ∷ []) false ∷ Block (bad ∷ empty ∷ []) true ∷ [] ≡ front ++ rest → AreInterims front heads → IsAnsweredBy rest head delivery.body delivery.ends → ⊥
     at [] rest heads None e i a = let clash : Block (ok ∷ sized ∷ []) false ∷ Block (bad ∷ empty ∷ []) true ∷ [] ≡ (let none : List Item = [] in none) = e ∙ a.0 in cc
-    at [] rest heads (Some head) e i a = let both = subst (λ (items : List Item). IsAnswer items head delivery.body delivery.trailers delivery.whole) (sym e) a in let plain : pseudo_fields (bad ∷ empty ∷ []) ≡ [] = both.2.4 in cc
+    at [] rest heads (Some head) e i a = let both = subst (λ (items : List Item). IsAnswer items head delivery.body delivery.ends) (sym e) a in let plain : pseudo_fields (bad ∷ empty ∷ []) ≡ [] = both.2.4 in cc
     at (Content octets ends ∷ front) rest heads head e i a = cc
     at (Block fields true ∷ front) rest heads head e i a = cc
     at (Block fields false ∷ front) rest [] head e i a = i

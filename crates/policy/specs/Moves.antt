@@ -8,11 +8,12 @@ use Rattle.model.specs.Logs.{Event, Act}
 use Rattle.model.specs.Logs.Event.{UpFailed}
 use Rattle.model.specs.Tapes.{Noted, Breach, Entry}
 use Rattle.model.specs.Tapes.Entry.{Came, Breached, Happened, Sent, Did}
+use Rattle.model.specs.Deliveries.{Delivery}
 use Rattle.h1_writer.specs.Sending.{Stage}
 use Rattle.conduct.specs.Summary.{Summary}
 use Rattle.conduct.specs.Owing.{must_end_in}
 use Rattle.conduct.specs.Rule as conduct
-use Rattle.offering.specs.Outbox.{Part, News}
+use Rattle.offering.specs.Outbox.{Part}
 use Rattle.offering.specs.Sight.{Sight, sight_in}
 use Rattle.offering.specs.Rule.{change_by}
 use Rattle.offering.specs.State as offering
@@ -42,7 +43,7 @@ pub data Deed : Type 0 where
   -- an event of no upstream's answer
   Notes : (event : Event) → Deed
   -- a stream's upstream tells these news of its response, which is whole with them or isn't
-  Hears : (event : Event) → (stream : ℕ) → (news : News) → (whole : Bool) → Deed
+  Hears : (event : Event) → (stream : ℕ) → (news : Delivery) → (whole : Bool) → Deed
   -- its answer fails
   Fails : (event : Event) → (stream : ℕ) → (whole : Bool) → Deed
   -- a frame to the client that brings no stream an item, and the table that its block leaves

@@ -29,8 +29,8 @@ ghost use Rattle.model.specs.Tapes.{Noted, Breach, is_closed, EndsWithClose};
 ghost use Rattle.model.specs.Failures.{AreJudged};
 ghost use Rattle.model.specs.Headline.{ClausesHold, HoldsInTurn, Headline};
 ghost use Rattle.model.specs.Synchrony.{InStep};
+ghost use Rattle.model.specs.Deliveries.{Delivery};
 ghost use Rattle.conduct.specs.Rule.{AreKnown};
-ghost use Rattle.offering.specs.Outbox.{News};
 ghost use Rattle.offering.specs.Held.{FitRooms};
 ghost use Rattle.serving.specs.Held.{held_octets};
 ghost use Rattle.policy.specs.Moves.{Gain, Deed, Move};
@@ -83,7 +83,7 @@ pub fn inputs_have_moves()
     ensures breach { (setup : Setup) (s : State) (breach : Breach) → IsReady s → MayDo setup (told_by s) (told_behind setup s (Breaks breach)) s (Breaks breach) }
     ensures event { (setup : Setup) (s : State) (event : Event) → IsReady s → upstream_of event ≡ 0 → may_come (gates_in (told_by s) s.requests) (rooms_in (told_by s) s) event ≡ true → MayDo setup (told_by s) (told_behind setup s (Notes event)) s (Notes event) }
     ensures frame { (setup : Setup) (s : State) (noted : Noted) (next : Table) (gain : Gain) → IsReady s → MayTake setup (told_behind setup s (Takes noted next gain)) s noted next gain → MayDo setup (told_by s) (told_behind setup s (Takes noted next gain)) s (Takes noted next gain) }
-    ensures hears { (setup : Setup) (s : State) (event : Event) (stream : ℕ) (news : News) (whole : Bool) → IsReady s → MayHear (told_behind setup s (Hears event stream news whole)) s event stream → MayDo setup (told_by s) (told_behind setup s (Hears event stream news whole)) s (Hears event stream news whole) }
+    ensures hears { (setup : Setup) (s : State) (event : Event) (stream : ℕ) (news : Delivery) (whole : Bool) → IsReady s → MayHear (told_behind setup s (Hears event stream news whole)) s event stream → MayDo setup (told_by s) (told_behind setup s (Hears event stream news whole)) s (Hears event stream news whole) }
     ensures fails { (setup : Setup) (s : State) (event : Event) (stream : ℕ) (whole : Bool) → IsReady s → MayFail (told_behind setup s (Fails event stream whole)) s event stream → MayDo setup (told_by s) (told_behind setup s (Fails event stream whole)) s (Fails event stream whole) }
 {}
 

@@ -15,7 +15,7 @@ use Rattle.h1_reader.specs.declared.reader.Place.TheVariants.{Head, Sized, Until
 use Rattle.h1_reader.proofs.ChunkEnds.{line_short, chunk_short, end_short, trailers_short, no_octets, one_octet}
 use Rattle.h1_reader.proofs.Ends.{head_short, sized_short, past_complete}
 use Rattle.h1_reader.proofs.Telling as telling
-use Rattle.offering.specs.Outbox.{trailers_at, first_head, with_news}
+use Rattle.offering.specs.Outbox.{trailers_at, first_head, first_end, with_news}
 use Rattle.offering.specs.Shown.{Tells}
 use Rattle.model.proofs.OfferLaws.{one_shown}
 use Rattle.offering.proofs.Parts.{same_delivery}
@@ -24,7 +24,7 @@ use Rattle.read_answers.proofs.Reading.{told_behind, none_told, told_shown, not_
 
 -- all that was told, and that it is whole
 abbrev pub all_at_end : List Part → Delivery
-all_at_end parts = record { interims = interims_of parts; head = head_of parts; body = body_of parts; trailers = trailers_at (trailers_of parts); whole = true }
+all_at_end parts = record { interims = interims_of parts; head = head_of parts; body = body_of parts; ends = Some (trailers_at (trailers_of parts)) }
 
 -- A response that its end completes is all that was told.
 whole_at_end : (place : Place) (to_head : Bool) (held : Held) (text : List ℕ) (parts : List Part) → StandsAt place to_head held text parts → (IsPast to_head text parts → ⊥) → IsComplete text true to_head → IsAnswered text true to_head (all_at_end parts)
@@ -41,15 +41,15 @@ whole_at_end UntilEnd to_head held text parts b p w =
     record {
       response = record { interims = r.interims; head = r.head; body = b.octets; trailers = [] };
       is_whole = record { front = r.front; head_text = r.head_text; rest = b.octets; framing = IsUntilEnd; is = r.is; are_interims = r.are_interims; few_interims = r.few; is_final = r.is_final; body = (refl, refl, refl) };
-      says = same_delivery is.0 is.1 (is.2 ∙ sym r.has_octets) (ap trailers_at (none_told parts r.interims r.head r.bodies r.told)) refl;
+      says = same_delivery is.0 is.1 (is.2 ∙ sym r.has_octets) (ap (λ t. Some (trailers_at t)) (none_told parts r.interims r.head r.bodies r.told));
     }
 whole_at_end Past to_head held text parts b p w = absurd (p b)
 whole_at_end (Broken fault) to_head held text parts b p w = absurd b
 
 -- what is on offer with that
 with_end : (passing : Passing) (parts : List Part) → is_done parts ≡ false → with_news (shown_of passing parts) (news_at_end passing parts) ≡ all_at_end parts
-with_end Whole parts more = ap (λ b. with_news (if b then all_told parts else begun parts) (news_at_end Whole parts)) more ∙ same_delivery (append-nil (interims_of parts)) refl refl refl refl
-with_end Streaming parts more = same_delivery (append-nil (interims_of parts)) (no_other (head_of parts)) (append-nil (body_of parts)) (ap (λ b. trailers_at (end_of b (trailers_of parts)) ++ trailers_at (trailers_of parts)) more) (ap (λ b. b || true) more)
+with_end Whole parts more = ap (λ b. with_news (if b then all_told parts else begun parts) (news_at_end Whole parts)) more ∙ same_delivery (append-nil (interims_of parts)) refl refl refl
+with_end Streaming parts more = same_delivery (append-nil (interims_of parts)) (no_other (head_of parts)) (append-nil (body_of parts)) (ap (λ b. first_end (end_of b (trailers_of parts)) (Some (trailers_at (trailers_of parts)))) more)
   where
     no_other : (h : Option _) → first_head h None ≡ h
     no_other None = refl
@@ -67,7 +67,7 @@ ends_news passing text parts state s more w =
     let past : IsPast state.to_head text parts → ⊥ = λ b. telling.not_done text parts state s more (past_complete false state.to_head text parts b) in
     let now : IsAnswered text true state.to_head (all_at_end parts) = whole_at_end state.place state.to_head state.held text parts s past w in
     record {
-      not_whole = λ d p. ap (λ (x : Delivery). x.whole) (same d p) ∙ not_whole passing parts more;
+      not_whole = λ d p. ap (λ (x : Delivery). x.ends) (same d p) ∙ not_whole passing parts more;
       none_late = λ d p some. no_late passing parts;
       shows = λ d p. inl (subst (IsAnswered text true state.to_head) (sym (ap (λ x. with_news x (news_at_end passing parts)) (same d p) ∙ with_end passing parts more)) now);
     }

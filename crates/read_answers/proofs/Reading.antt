@@ -10,13 +10,13 @@ use Rattle.model.specs.ResponseHeads.{Head}
 use Rattle.model.specs.Responses.{Seen}
 use Rattle.model.specs.Setup.{Passing}
 use Rattle.model.specs.Setup.Passing.{Whole, Streaming}
-use Rattle.model.specs.Deliveries.{Delivery}
+use Rattle.model.specs.Deliveries.{End, Delivery}
 use Rattle.model.specs.Available.{shown, IsAnswered, IsBegun, IsShown}
 use Rattle.h1_reader.specs.Parts.{Part, ends_with}
 use Rattle.h1_reader.specs.Parts.Part.{Interim, Final, Body, Trailing, Done}
 use Rattle.h1_reader.specs.Standing.{State, Stands, Hears, is_done, is_end}
 use Rattle.h1_reader.proofs.Telling as telling
-use Rattle.offering.specs.Outbox.{End, trailers_at, first_head, first_end, with_news}
+use Rattle.offering.specs.Outbox.{trailers_at, first_head, first_end, with_news}
 use Rattle.offering.specs.Shown.{Tells}
 use Rattle.offering.proofs.Parts.{same_delivery, none_more}
 use Rattle.model.proofs.OfferLaws.{one_shown}
@@ -105,7 +105,7 @@ answered text parts state s done =
     let w = telling.whole text parts state s done in
     let is = told_behind parts (ends_with w.response.trailers) w.response.interims w.response.head w.bodies (inr (w.response.trailers, refl)) w.told in
     let trailers = trailers_told parts w.response.interims w.response.head w.bodies w.response.trailers w.told in
-    record { response = w.response; is_whole = w.is_whole; says = same_delivery is.0 is.1 (is.2 ∙ sym w.has_body) (ap (λ b. trailers_at (end_of b (trailers_of parts))) done ∙ trailers) done }
+    record { response = w.response; is_whole = w.is_whole; says = same_delivery is.0 is.1 (is.2 ∙ sym w.has_body) (ap (λ b. end_of b (trailers_of parts)) done ∙ ap (λ ts. Some ts) trailers) }
 
 -- a beginning of one
 half : (passing : Passing) (text : List ℕ) (parts : List Part) (state : State) → Stands text parts state → is_done parts ≡ false → IsBegun passing text false state.to_head (shown passing (interims_of parts) (head_of parts) (body_of parts))
@@ -135,7 +135,7 @@ told_shown passing text parts state s = elim (cases_Bool (is_done parts)) [ inl 
 
     beginning : (p : Passing) → is_done parts ≡ false → IsBegun p text false state.to_head (shown_of p parts)
     beginning Whole more = subst (IsBegun Whole text false state.to_head) (sym (ap (λ b. if b then all_told parts else begun parts) more)) (half Whole text parts state s more)
-    beginning Streaming more = subst (IsBegun Streaming text false state.to_head) (same_delivery refl refl refl (sym (ap (λ b. trailers_at (end_of b (trailers_of parts))) more)) (sym more)) (half Streaming text parts state s more)
+    beginning Streaming more = subst (IsBegun Streaming text false state.to_head) (same_delivery refl refl refl (sym (ap (λ b. end_of b (trailers_of parts)) more))) (half Streaming text parts state s more)
 
 -- ---- news
 
@@ -171,33 +171,28 @@ trailers_more (Body octets ∷ a) b = trailers_more a b
 trailers_more (Trailing fields ∷ a) b = refl
 trailers_more (Done ∷ a) b = trailers_more a b
 
-is_some_end : (done : Bool) (told : End) → is_some (end_of done told) ≡ done
-is_some_end true told = refl
-is_some_end false told = refl
-
 -- what is on offer with the news, where the response wasn't whole
 with_more : (passing : Passing) (parts added : List Part) → is_done parts ≡ false → with_news (shown_of passing parts) (news_of passing parts added) ≡ shown_of passing (parts ++ added)
 with_more Streaming parts added more =
     let all : is_done (parts ++ added) ≡ is_done added = list_any-append is_end parts added ∙ ap (λ b. b || is_done added) more in
     let told : End = trailers_of (parts ++ added) in
     same_delivery (sym (interims_more parts added)) (sym (head_more parts added)) (sym (body_more parts added))
-    (ap (λ b. trailers_at (end_of b (trailers_of parts)) ++ trailers_at (end_of (is_done added) told)) more ∙ sym (ap (λ b. trailers_at (end_of b told)) all))
-    (ap (λ b. b || is_some (end_of (is_done added) told)) more ∙ is_some_end (is_done added) told ∙ sym all)
+    (ap (λ b. first_end (end_of b (trailers_of parts)) (end_of (is_done added) told)) more ∙ sym (ap (λ b. end_of b told) all))
 with_more Whole parts added more =
     ap (λ b. with_news (if b then all_told parts else begun parts) (news_of Whole parts added)) more ∙ by (is_done added) refl
   where
     by : (b : Bool) → is_done added ≡ b → with_news (begun parts) (if b then record { interims = interims_of added; head = head_of (parts ++ added); body = body_of (parts ++ added); ends = Some (trailers_at (trailers_of (parts ++ added))) } else record { interims = interims_of added; head = None; body = []; ends = None }) ≡ shown_of Whole (parts ++ added)
     by true e =
         let done : is_done (parts ++ added) ≡ true = list_any-append is_end parts added ∙ ap (λ b. b || is_done added) more ∙ e in
-        same_delivery (sym (interims_more parts added)) refl refl (sym (ap (λ b. trailers_at (end_of b (trailers_of (parts ++ added)))) done)) (sym done) ∙ sym (ap (λ b. if b then all_told (parts ++ added) else begun (parts ++ added)) done)
+        same_delivery (sym (interims_more parts added)) refl refl (sym (ap (λ b. end_of b (trailers_of (parts ++ added))) done)) ∙ sym (ap (λ b. if b then all_told (parts ++ added) else begun (parts ++ added)) done)
     by false e =
         let still : is_done (parts ++ added) ≡ false = list_any-append is_end parts added ∙ ap (λ b. b || is_done added) more ∙ e in
-        same_delivery (sym (interims_more parts added)) refl refl refl refl ∙ sym (ap (λ b. if b then all_told (parts ++ added) else begun (parts ++ added)) still)
+        same_delivery (sym (interims_more parts added)) refl refl refl ∙ sym (ap (λ b. if b then all_told (parts ++ added) else begun (parts ++ added)) still)
 
 -- what is on offer isn't whole before the end was told
-pub not_whole : (passing : Passing) (parts : List Part) → is_done parts ≡ false → (shown_of passing parts).whole ≡ false
-not_whole Whole parts more = ap (λ b. (if b then all_told parts else begun parts).whole) more
-not_whole Streaming parts more = more
+pub not_whole : (passing : Passing) (parts : List Part) → is_done parts ≡ false → (shown_of passing parts).ends ≡ None
+not_whole Whole parts more = ap (λ b. (if b then all_told parts else begun parts).ends) more
+not_whole Streaming parts more = ap (λ b. end_of b (trailers_of parts)) more
 
 -- ---- no interim head comes behind a final one
 
@@ -246,7 +241,7 @@ hears_news passing text octets parts added old new s hears more =
     let now : IsShown passing (text ++ octets) false new.to_head (shown_of passing (parts ++ added)) = told_shown passing (text ++ octets) (parts ++ added) new s' in
     let same : (d : Delivery) → IsShown passing text false old.to_head d → d ≡ shown_of passing parts = λ d p. one_shown passing text false old.to_head d (shown_of passing parts) p was in
     record {
-      not_whole = λ d p. ap (λ (x : Delivery). x.whole) (same d p) ∙ not_whole passing parts more;
+      not_whole = λ d p. ap (λ (x : Delivery). x.ends) (same d p) ∙ not_whole passing parts more;
       none_late = λ d p some. none_late passing text (text ++ octets) parts added old new s s' more (sym (ap (λ (x : Delivery). is_some x.head) (same d p)) ∙ some);
       shows = λ d p. subst (λ b. IsShown passing (text ++ octets) false b (with_news d (news_of passing parts added))) hears.same
           (subst (IsShown passing (text ++ octets) false new.to_head) (sym (ap (λ x. with_news x (news_of passing parts added)) (same d p) ∙ with_more passing parts added more)) now);

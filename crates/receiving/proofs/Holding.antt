@@ -12,7 +12,7 @@ use Rattle.model.specs.Tapes.Note.{NoBlock, Fields, Undecodable, Unread}
 use Rattle.model.specs.Decoding.{Partial, completed}
 use Rattle.model.specs.Streams.{block_items, frame_items}
 use Rattle.model.specs.Openings.{Opened, opens, given, exchange_on, AreNumbered}
-use Rattle.model.specs.Deliveries.{Delivery, ReadsAs, AreInterims, AreContents, IsAnsweredBy}
+use Rattle.model.specs.Deliveries.{End, Delivery, ReadsAs, AreInterims, AreContents, IsAnsweredBy}
 use Rattle.model.specs.Available.{heard, items_on, IsIn}
 use Rattle.model.specs.Responses.{Seen}
 use Rattle.model.specs.Known.{Known}
@@ -50,24 +50,24 @@ no_contents (Content octets ends ∷ items) [] h = absurd h
 no_contents (Content octets ends ∷ items) (head ∷ heads) h = absurd h
 
 -- parts of a body bring it
-body_contents : (items : List Item) (body : List ℕ) (trailers : List Field) (whole : Bool) → AreContents items body trailers whole → contents items ≡ length body
-body_contents [] body trailers whole h = sym (ap length h.0)
-body_contents (Block fields true ∷ items) body trailers whole h = ap contents h.0 ∙ sym (ap length h.1)
-body_contents (Block fields false ∷ items) body trailers whole h = absurd h
-body_contents (Content octets true ∷ items) body trailers whole h = let none : contents items ≡ 0 = ap contents h.0 in let same = ap length h.1 in omega (arith, none, same)
-body_contents (Content octets false ∷ items) body trailers whole h =
-    let more = body_contents items h.0 trailers whole h.2 in
+body_contents : (items : List Item) (body : List ℕ) (end : End) → AreContents items body end → contents items ≡ length body
+body_contents [] body end h = sym (ap length h.0)
+body_contents (Block fields true ∷ items) body end h = ap contents h.0 ∙ sym (ap length h.1)
+body_contents (Block fields false ∷ items) body end h = absurd h
+body_contents (Content octets true ∷ items) body end h = let none : contents items ≡ 0 = ap contents h.0 in let same = ap length h.1 in omega (arith, none, same)
+body_contents (Content octets false ∷ items) body end h =
+    let more = body_contents items h.0 end h.2 in
     let same : length body ≡ length (octets ++ h.0) = ap length h.1 in
     let sum = length-append octets h.0 in
     omega (arith, more, same, sum)
 
 -- a final head and what is behind it bring the body
-answer_contents : (items : List Item) (head : Option Head) (body : List ℕ) (trailers : List Field) (whole : Bool) → IsAnsweredBy items head body trailers whole → contents items ≡ length body
-answer_contents items None body trailers whole h = ap contents h.0 ∙ sym (ap length h.1)
-answer_contents [] (Some head) body trailers whole h = absurd h
-answer_contents (Block fields true ∷ items) (Some head) body trailers whole h = ap contents h.2 ∙ sym (ap length h.3)
-answer_contents (Block fields false ∷ items) (Some head) body trailers whole h = body_contents items body trailers whole h.2
-answer_contents (Content octets ends ∷ items) (Some head) body trailers whole h = absurd h
+answer_contents : (items : List Item) (head : Option Head) (body : List ℕ) (end : End) → IsAnsweredBy items head body end → contents items ≡ length body
+answer_contents items None body end h = ap contents h.0 ∙ sym (ap length h.1)
+answer_contents [] (Some head) body end h = absurd h
+answer_contents (Block fields true ∷ items) (Some head) body end h = ap contents h.2 ∙ sym (ap length h.3)
+answer_contents (Block fields false ∷ items) (Some head) body end h = body_contents items body end h.2
+answer_contents (Content octets ends ∷ items) (Some head) body end h = absurd h
 
 -- items bring the body that a client reads of them
 read_contents : (items : List Item) (d : Delivery) → ReadsAs items d → contents items ≡ length d.body
@@ -75,7 +75,7 @@ read_contents items d r =
     let parts = both r.interim_items r.rest in
     let all : contents items ≡ contents (r.interim_items ++ r.rest) = ap contents r.is in
     let none = no_contents r.interim_items d.interims r.interims in
-    let rest = answer_contents r.rest d.head d.body d.trailers d.whole r.answer in
+    let rest = answer_contents r.rest d.head d.body d.ends r.answer in
     omega (arith, parts, all, none, rest)
 
 -- a header block brings none
@@ -123,7 +123,7 @@ sent_contents stream (noted ∷ before) bare =
 body_parts : (items : List Item) (read : Delivery) (box : Outbox) → ReadsAs items read → Fits read box → length (offered_by read box).body ≡ length read.body + length (body_in box)
 body_parts items read (Before interims head body whole) r f = let none : length read.body ≡ 0 = headless read.head f r.answer in omega (arith, none)
   where
-    headless : (h : Option Head) → h ≡ None → IsAnsweredBy r.rest h read.body read.trailers read.whole → length read.body ≡ 0
+    headless : (h : Option Head) → h ≡ None → IsAnsweredBy r.rest h read.body read.ends → length read.body ≡ 0
     headless None e a = ap length a.1
     headless (Some h) e a = absurd (let no : true ≡ false = ap (λ (x : Option Head). is_some x) e in cc)
 body_parts items read (Behind body whole) r f = length-append read.body body

@@ -8,8 +8,9 @@ use Rattle.model.specs.Setup.{Setup}
 use Rattle.model.specs.Setup.Passing.{Whole as WholePassing}
 use Rattle.model.specs.Tapes.Entry.{Happened}
 use Rattle.model.specs.Known.{Known}
+use Rattle.model.specs.Deliveries.{Delivery}
 use Rattle.conduct.specs.Rule.{AreKnown}
-use Rattle.offering.specs.Outbox.{Outbox, News, grown}
+use Rattle.offering.specs.Outbox.{Outbox, grown}
 use Rattle.offering.specs.Rule as offers
 use Rattle.offering.specs.State as offering
 use Rattle.offering.specs.State.{Kept}
@@ -65,7 +66,7 @@ module _ (setup : Setup) (kept : View) (rest : IsAtRest kept) (run : List Move) 
 
   module _ (octets : List ℕ) (short : length octets ≤ 65536) where
     module _ (w : Bool) (new : Answer) (x : Kept) (box : Outbox) (there : offering.find c.live.stream kept.offers.kept ≡ Some x) (tells : Tells c.answer octets x.box w new box) where
-      abbrev news : News
+      abbrev news : Delivery
       news = news_of (passing_in c.answer.way) base.parts tells.added
 
       told_so : (known : Known) → known.setup ≡ setup → AreKnown known (conducts run) → IsAnswered known (tape_of run) (Hears (Up k octets) c.live.stream news w)

@@ -10,9 +10,10 @@ use Rattle.model.specs.Tapes.Entry.{Happened}
 use Rattle.model.specs.Openings.{Opened}
 use Rattle.model.specs.Known.{Known}
 use Rattle.model.specs.Courses.{course, upstream_of}
+use Rattle.model.specs.Deliveries.{Delivery}
 use Rattle.conduct.specs.Rule.{AreKnown}
 use Rattle.conduct.specs.Book.{Book, Desk, desk_after, summary_in}
-use Rattle.offering.specs.Outbox.{Outbox, News, grown}
+use Rattle.offering.specs.Outbox.{Outbox, grown}
 use Rattle.offering.specs.State as offering
 use Rattle.offering.specs.State.{Kept}
 use Rattle.receiving.specs.Policy.{Gates, may_come}
@@ -81,7 +82,7 @@ heard_lives false k answer cs = map (answer_at k answer) cs
 module _ (setup : Setup) (kept : View) (rest : IsAtRest kept) (run : List Move) (s : State) (leads : Leads setup run kept square s) (k : ℕ) (c : Connection) (found : find number_of k kept.upstreams.live ≡ Some c)
     (event : Event) (of : upstream_of event ≡ k) (upstream : is_of_upstream event ≡ true) (is_answer : IsAnswer event)
     (quiet : (x : receiving.State) → receiving.with_event x event ≡ record x { settled = false }) (comes : (gates : Gates) (rooms : receiving.State) → gates.is_up k ≡ true → may_come gates rooms event ≡ true) where
-  module _ (news : News) (whole : Bool) (answer : Answer) (box : Outbox) (x : Kept) (kept_there : offering.find c.live.stream kept.offers.kept ≡ Some x) (grows : box ≡ grown x.box news)
+  module _ (news : Delivery) (whole : Bool) (answer : Answer) (box : Outbox) (x : Kept) (kept_there : offering.find c.live.stream kept.offers.kept ≡ Some x) (grows : box ≡ grown x.box news)
       (so : (known : Known) → known.setup ≡ setup → AreKnown known (conducts run) → IsAnswered known (tape_of run) (Hears event c.live.stream news whole))
       (stands_for : whole ≡ false → (known : Known) → known.setup ≡ setup → AreKnown known (conducts run) → IsHeard known (Happened event ∷ tape_of run) k answer) where
     abbrev pub heard_view : View

@@ -15,7 +15,7 @@ use Rattle.model.specs.Tapes.Entry.{Sent}
 use Rattle.model.specs.Decoding.{Partial, completed}
 use Rattle.model.specs.Streams.{frame_items, block_items}
 use Rattle.model.specs.Available.{items_on}
-use Rattle.model.specs.Deliveries.{Delivery, AreInterims, AreContents, IsAnsweredBy, ReadsAs}
+use Rattle.model.specs.Deliveries.{End, Delivery, AreInterims, AreContents, IsAnsweredBy, ReadsAs}
 use Rattle.model.specs.Known.{Known}
 use Rattle.model.specs.Lifetimes.{ends_by, is_active, is_ended_by_gateway}
 use Rattle.conduct.specs.Summary.{Stream as Conducted}
@@ -132,30 +132,30 @@ interims_go_on (Block fields true ∷ items) heads are = absurd are
 interims_go_on (Content octets ends ∷ items) heads are = absurd are
 interims_go_on (Block fields false ∷ items) [] are = absurd are
 
-contents_go_on : (items : List Item) (body : List ℕ) (trailers : List Field) (whole : Bool) → AreContents items body trailers whole → whole ≡ false → list_any ends_with items ≡ false
-contents_go_on [] body trailers whole are not_whole = refl
-contents_go_on (Content octets true ∷ items) body trailers whole are not_whole = absurd (let clash : true ≡ false = sym are.3 ∙ not_whole in cc)
-contents_go_on (Content octets false ∷ items) body trailers whole are not_whole = contents_go_on items are.0 trailers whole are.2 not_whole
-contents_go_on (Block fields true ∷ items) body trailers whole are not_whole = absurd (let clash : true ≡ false = sym are.5 ∙ not_whole in cc)
-contents_go_on (Block fields false ∷ items) body trailers whole are not_whole = absurd are
+contents_go_on : (items : List Item) (body : List ℕ) (end : End) → AreContents items body end → end ≡ None → list_any ends_with items ≡ false
+contents_go_on [] body end are not_whole = refl
+contents_go_on (Content octets true ∷ items) body end are not_whole = absurd (let clash : ◌≡◌ {A = End} (Some []) None = sym are.2 ∙ not_whole in cc)
+contents_go_on (Content octets false ∷ items) body end are not_whole = contents_go_on items are.0 end are.2 not_whole
+contents_go_on (Block fields true ∷ items) body end are not_whole = absurd (let clash : ◌≡◌ {A = End} (Some fields) None = sym are.2 ∙ not_whole in cc)
+contents_go_on (Block fields false ∷ items) body end are not_whole = absurd are
 
-answer_goes_on : (items : List Item) (head : Option Head) (body : List ℕ) (trailers : List Field) (whole : Bool) → IsAnsweredBy items head body trailers whole → (head ≡ None) ⊎ (whole ≡ false) → list_any ends_with items ≡ false
-answer_goes_on items None body trailers whole is not_yet = ap (λ (xs : List Item). list_any ends_with xs) is.0
-answer_goes_on items (Some head) body trailers whole is (inl none) = absurd (let clash : ◌≡◌ {A = Option Head} (Some head) None = none in cc)
-answer_goes_on (Block fields true ∷ items) (Some head) body trailers whole is (inr not_whole) = absurd (let clash : true ≡ false = sym is.5 ∙ not_whole in cc)
-answer_goes_on (Block fields false ∷ items) (Some head) body trailers whole is (inr not_whole) = contents_go_on items body trailers whole is.2 not_whole
-answer_goes_on [] (Some head) body trailers whole is (inr not_whole) = absurd is
-answer_goes_on (Content octets ends ∷ items) (Some head) body trailers whole is (inr not_whole) = absurd is
+answer_goes_on : (items : List Item) (head : Option Head) (body : List ℕ) (end : End) → IsAnsweredBy items head body end → (head ≡ None) ⊎ (end ≡ None) → list_any ends_with items ≡ false
+answer_goes_on items None body end is not_yet = ap (λ (xs : List Item). list_any ends_with xs) is.0
+answer_goes_on items (Some head) body end is (inl none) = absurd (let clash : ◌≡◌ {A = Option Head} (Some head) None = none in cc)
+answer_goes_on (Block fields true ∷ items) (Some head) body end is (inr not_whole) = absurd (let clash : ◌≡◌ {A = End} (Some []) None = sym is.4 ∙ not_whole in cc)
+answer_goes_on (Block fields false ∷ items) (Some head) body end is (inr not_whole) = contents_go_on items body end is.2 not_whole
+answer_goes_on [] (Some head) body end is (inr not_whole) = absurd is
+answer_goes_on (Content octets ends ∷ items) (Some head) body end is (inr not_whole) = absurd is
 
-items_go_on : (items : List Item) (read : Delivery) → ReadsAs items read → (read.head ≡ None) ⊎ (read.whole ≡ false) → list_any ends_with items ≡ false
+items_go_on : (items : List Item) (read : Delivery) → ReadsAs items read → (read.head ≡ None) ⊎ (read.ends ≡ None) → list_any ends_with items ≡ false
 items_go_on items read reads not_yet =
     ap (λ (xs : List Item). list_any ends_with xs) reads.is
     ∙ list_any-append ends_with reads.interim_items reads.rest
     ∙ ap (λ b. b || list_any ends_with reads.rest) (interims_go_on reads.interim_items read.interims reads.interims)
-    ∙ answer_goes_on reads.rest read.head read.body read.trailers read.whole reads.answer not_yet
+    ∙ answer_goes_on reads.rest read.head read.body read.ends reads.answer not_yet
 
 -- behind an outbox of which something can go the response isn't whole
-not_yet_whole : (read : Delivery) (windows : Bool) (box : Outbox) → Fits read box → can_go windows box ≡ true → (read.head ≡ None) ⊎ (read.whole ≡ false)
+not_yet_whole : (read : Delivery) (windows : Bool) (box : Outbox) → Fits read box → can_go windows box ≡ true → (read.head ≡ None) ⊎ (read.ends ≡ None)
 not_yet_whole read windows (Before interims head body whole) fits can = inl fits
 not_yet_whole read windows (Behind body whole) fits can = inr fits.1
 not_yet_whole read windows Over fits can = absurd (let no : false ≡ true = can in cc)

@@ -16,7 +16,7 @@ use Rattle.model.specs.Setup.{Passing}
 use Rattle.model.specs.Setup.Passing.{Whole, Streaming}
 use Rattle.model.specs.Setup.{Setup}
 use Rattle.model.specs.Tapes.Entry.{Happened}
-use Rattle.model.specs.Deliveries.{Delivery, IsSection}
+use Rattle.model.specs.Deliveries.{End, Delivery, IsSection}
 use Rattle.model.specs.Available.{shown, IsShown, heard, has_ended}
 use Rattle.model.specs.Offers.{is_to_head}
 use Rattle.model.specs.Known.{Known}
@@ -25,7 +25,7 @@ use Rattle.model.specs.Causes.Cause.{LargeFields, Tunnel, Expects, LargeBody, No
 use Rattle.model.specs.Courses.{items, is_final}
 use Rattle.conduct.specs.Rule.{known_of}
 use Rattle.conduct.proofs.Knowing.{known_so}
-use Rattle.offering.specs.Outbox.{End, Outbox, replied, Part, left, rest_of, offered_by, grown}
+use Rattle.offering.specs.Outbox.{Outbox, replied, Part, left, rest_of, offered_by, grown}
 use Rattle.offering.specs.Outbox.Outbox.{Before, Behind, Over}
 use Rattle.offering.specs.Outbox.Part.{Early, Final as Last, Octets, Trailing}
 use Rattle.offering.specs.State.{Kept, find}

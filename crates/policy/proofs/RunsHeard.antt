@@ -35,7 +35,7 @@ shown_nothing d shown = one_shown Whole [] false false d nothing shown (nothing_
 -- all of the answer is told
 tells : Tells Whole [] false answer_text false false news
 tells = record {
-  not_whole = λ d shown. ap (λ (x : Delivery). x.whole) (shown_nothing d shown);
+  not_whole = λ d shown. ap (λ (x : Delivery). x.ends) (shown_nothing d shown);
   none_late = λ d shown some. refl;
   shows = λ d shown. inl (record { response = texts.response; is_whole = texts.answered; says = ap (λ (x : Delivery). with_news x news) (shown_nothing d shown) });
 }

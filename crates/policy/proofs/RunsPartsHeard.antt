@@ -98,7 +98,7 @@ begun_shown = inr (record {
 
 begin_tells : Tells Streaming [] false begin_text false false begin_news
 begin_tells = record {
-  not_whole = λ d shown. ap (λ (x : Delivery). x.whole) (is_nothing d shown);
+  not_whole = λ d shown. ap (λ (x : Delivery). x.ends) (is_nothing d shown);
   none_late = λ d shown some. refl;
   shows = λ d shown. subst (λ (x : Delivery). IsShown Streaming begin_text false false (with_news x begin_news)) (sym (is_nothing d shown)) begun_shown;
 }
@@ -108,7 +108,7 @@ begin_tells = record {
 
 end_tells : Tells Streaming begin_text false texts.answer false false end_news
 end_tells = record {
-  not_whole = λ d shown. ap (λ (x : Delivery). x.whole) (is_begun d shown);
+  not_whole = λ d shown. ap (λ (x : Delivery). x.ends) (is_begun d shown);
   none_late = λ d shown some. refl;
   shows = λ d shown. inl (record { response = texts.response; is_whole = texts.answered; says = ap (λ (x : Delivery). with_news x end_news) (is_begun d shown) });
 }

@@ -1,5 +1,5 @@
 -- The clauses of the headline hold behind the run in which a response is heard in parts, and behind each of them, by the law.
-use Rattle.std.proofs.Common.{◌≡◌, ◌+◌, ◌++◌, false, true, [], ◌∷◌, length, length-append, Some, refl, sym, ◌∙◌, ap, subst, append_assoc, inl, inr, arith, List, ℕ}
+use Rattle.std.proofs.Common.{None, ◌≡◌, ◌+◌, ◌++◌, false, true, [], ◌∷◌, length, length-append, Some, refl, sym, ◌∙◌, ap, subst, append_assoc, inl, inr, arith, List, ℕ}
 use Rattle.std.specs.Prelude.{codes}
 use Rattle.std.proofs.lemmas.List.{append_cancel_right}
 use Rattle.model.specs.Tables.{total_size}

@@ -1,6 +1,4 @@
-pub mod Texts
 pub mod FieldLists
-pub mod Numbers
 pub mod Ordinary
 pub mod RuleTests
 pub mod Cookies

@@ -11,9 +11,9 @@ use Rattle.model.specs.Messages.{Field}
 use Rattle.model.specs.Http1.{values_of, without}
 use Rattle.model.specs.Http2.{first_of, promised, method_of, authorities_of, is_connect, is_pseudo, pseudo_fields, regular_fields, known_names, is_name_octet, is_authority_octet, is_path_for, connection_names, HasLength, PseudoFieldsHold, NamesHold, ValuesHold, HasNoConnectionField, PathHolds, AuthorityHolds, LengthFieldHolds}
 use Rattle.model.proofs.Http1Texts.{values_of-append, values_none, filter_all, all_weaker, all-append}
-use Rattle.request_rules.specs.Ordinary.{judged_names, is_ordinary, EndsOrdinary}
+use Rattle.field_rules.specs.Ordinary.{judged_names, is_ordinary, EndsOrdinary}
 use Rattle.request_rules.specs.Rules.{Keeps, in_order}
-use Rattle.request_rules.proofs.FieldLists.{none_pass}
+use Rattle.field_rules.proofs.FieldOrder.{none_pass}
 
 -- one ordinary field more before the others
 last_split : (fields : List Field) (d : Field) → 0 < length fields → take (length fields - 1) fields ++ get_or fields (length fields - 1) d ∷ [] ≡ fields

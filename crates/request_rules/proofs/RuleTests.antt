@@ -10,7 +10,8 @@ use Rattle.model.specs.Messages.{Field}
 use Rattle.model.specs.Http1.{values_of, without}
 use Rattle.model.specs.Http2.{first_of, promised, declared_length, is_pseudo, is_connect, pseudo_fields, regular_fields, known_names, authority_of, is_authority_octet, is_name_octet, Has, NamesHold, PseudoFieldsHold, AuthorityHolds, LengthFieldHolds}
 use Rattle.model.proofs.Http1Runs.{run_of_some}
-use Rattle.request_rules.proofs.FieldLists.{named_all, names_decided, without_decided, count_values, kept_all, none_pass, all_fail}
+use Rattle.field_rules.proofs.FieldOrder.{none_pass, all_fail}
+use Rattle.request_rules.proofs.FieldLists.{named_all, names_decided, without_decided, count_values, kept_all}
 
 -- a test that is true, or false, decides
 pub match_by : (b t : Bool) → b ≡ t → MatchBool b (t ≡ true) (t ≡ true → ⊥)

@@ -5,4 +5,3 @@ pub mod Heads
 pub mod Rules
 pub mod Sent
 pub mod Counts
-pub mod Ordinary

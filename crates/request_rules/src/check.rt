@@ -8,7 +8,8 @@ ghost use Rattle.request_rules.specs.Rules.{IsFirstBroken, IsFirstBrokenByTraile
 
 use crate::head::RequestHead;
 use crate::rule::Rule;
-use crate::{fields, octets, rules, trailers};
+use crate::{rules, trailers};
+use field_rules::{fields, number};
 use hpack_table::Field;
 use std::alloc::Global;
 
@@ -20,7 +21,7 @@ pub(crate) fn declared_length(head: &[Field]) -> Option<u64>
     if fields::count(head, b"content-length") == 0 {
         return None;
     }
-    Some(octets::number(fields::first_value(head, b"content-length")))
+    Some(number(fields::first_value(head, b"content-length")))
 }
 
 /// Whether a head that ends its stream declares no octets.

@@ -9,7 +9,8 @@ ghost use Rattle.model.specs.Http2.{is_pseudo, is_empty_cookie, fields_of, joine
 ghost use Rattle.request_rules.specs.Heads.{parts_of};
 ghost use Rattle.request_rules.specs.Sent.{is_sent, is_full_cookie, is_plain};
 
-use crate::{check, fields, rules};
+use crate::{check, rules};
+use field_rules::fields;
 use hpack_table::Field;
 use std::alloc::{AllocError, Global};
 use std::marker::Model;

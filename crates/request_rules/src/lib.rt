@@ -3,9 +3,7 @@
 
 mod body_count;
 mod check;
-mod fields;
 mod head;
-mod octets;
 mod rule;
 mod rules;
 mod trailers;

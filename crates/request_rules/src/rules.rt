@@ -4,7 +4,7 @@ ghost use Rattle.std.specs.Prelude.{◌≡◌, ◌≤◌, [], true, false, Match
 ghost use Rattle.model.specs.Http1.{values_of};
 ghost use Rattle.model.specs.Http2.{pseudo_fields, is_connect, authority_of, PseudoFieldsHold, NamesHold, ValuesHold, HasNoConnectionField, TeHolds, MethodHolds, SchemeHolds, PathHolds, AuthorityHolds, LengthFieldHolds, Has};
 
-use crate::{fields, octets};
+use field_rules::{fields, is_authority, is_token};
 use hpack_table::Field;
 
 /// Whether the method is CONNECT.
@@ -67,7 +67,7 @@ pub fn te_holds(head: &[Field]) -> bool
 pub fn method_holds(head: &[Field]) -> bool
     ensures { MatchBool result (MethodHolds head.now) (MethodHolds head.now → ⊥) }
 {
-    octets::is_token(fields::first_value(head, b":method"))
+    is_token(fields::first_value(head, b":method"))
 }
 
 /// Whether each scheme holds.
@@ -113,7 +113,7 @@ pub fn authority_holds(head: &[Field]) -> bool
     if !has_at_most_one(head, b"host") {
         return false;
     }
-    if !octets::is_authority(authority) {
+    if !is_authority(authority) {
         return false;
     }
     if !fields::are_alike(head, b":authority", authority) {

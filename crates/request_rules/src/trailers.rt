@@ -5,7 +5,7 @@ ghost use Rattle.std.specs.List.{list_any};
 ghost use Rattle.model.specs.Http2.{names_not_in_trailers, passed_trailers};
 ghost use Rattle.request_rules.specs.Sent.{is_passed};
 
-use crate::fields;
+use field_rules::fields;
 use hpack_table::Field;
 use std::alloc::{AllocError, Global};
 
@@ -31,11 +31,7 @@ fn is_passed(field: &Field) -> bool
 }
 
 /// Adds the fields that are passed on.
-fn push_passed(
-    alloc: Global,
-    trailers: &[Field],
-    passed: &mut Vec<Field>,
-) -> Result<(), AllocError>
+fn push_passed(alloc: Global, trailers: &[Field], passed: &mut Vec<Field>) -> Result<(), AllocError>
     ensures { OnOk result (passed.new.items ≡ passed.old.items ++ filter is_passed trailers.now) }
 {
     for field in trailers {

@@ -12,10 +12,10 @@ use Rattle.model.proofs.Http1Runs.{same_front, same_rest, BeginsNone, one_joined
 use Rattle.model.proofs.ResponseHeadReadings.{one_front}
 use Rattle.model.proofs.ResponseBodies.{one_chunk_line, one_response_chunk, none_at_last}
 use Rattle.h1_reader.specs.Parts.{Part}
-use Rattle.h1_reader.specs.ChunkLines.{IsLinePart}
+use Rattle.response_texts.specs.ChunkLines.{IsLinePart}
 use Rattle.h1_reader.specs.Standing.{InChunked, InLine, InChunk, BehindChunk, InTrailers}
-use Rattle.h1_reader.specs.declared.chunk_line.LinePlace.{LinePlace}
-use Rattle.h1_reader.proofs.ChunkLineLemmas.{line_begun, none_in_line}
+use Rattle.response_texts.specs.declared.chunk_line.LinePlace.{LinePlace}
+use Rattle.response_texts.proofs.ChunkLineLemmas.{line_begun, none_in_line}
 
 -- neither a chunk nor the end of a body in chunks begins the text
 pub record NoBody (text : List ℕ) : Type 0 where

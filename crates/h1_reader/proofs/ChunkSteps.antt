@@ -9,11 +9,11 @@ use Rattle.model.specs.Responses.{ChunkLine, Chunk as IsChunk}
 use Rattle.model.specs.Messages.{Field}
 use Rattle.h1_reader.specs.Parts.{Part, ends_with}
 use Rattle.h1_reader.specs.Parts.Part.{Body}
-use Rattle.h1_reader.specs.Trailers.{ArePassed}
-use Rattle.h1_reader.specs.ChunkLines.{IsLinePart}
+use Rattle.response_texts.specs.Trailers.{ArePassed}
+use Rattle.response_texts.specs.ChunkLines.{IsLinePart}
 use Rattle.h1_reader.specs.Standing.{Held, names_held, State, InBody, InChunked, StandsAt, Stands, Hears}
-use Rattle.h1_reader.specs.declared.chunk_line.LinePlace.{LinePlace}
-use Rattle.h1_reader.specs.declared.chunk_line.LinePlace.TheVariants.{Size}
+use Rattle.response_texts.specs.declared.chunk_line.LinePlace.{LinePlace}
+use Rattle.response_texts.specs.declared.chunk_line.LinePlace.TheVariants.{Size}
 use Rattle.h1_reader.specs.declared.reader.Place.{Place}
 use Rattle.h1_reader.specs.declared.reader.Place.TheVariants.{Line, Chunk, ChunkEnd, ChunkReturn, Trailers, Past}
 use Rattle.h1_reader.proofs.Steps.{at, state_of, with_octets, arrives, body_step, past_step, end_step, joined_more, one_concat}

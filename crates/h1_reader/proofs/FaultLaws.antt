@@ -14,15 +14,16 @@ use Rattle.model.specs.ResponseHeads.Framing.{Chunks as IsChunks}
 use Rattle.model.specs.Responses.{ChunkLine, HasBody, IsSpoilt, IsNoLine}
 use Rattle.model.proofs.Http1Runs.{same_rest, BeginsNone, one_joined}
 use Rattle.model.proofs.ResponseHeadReadings.{Spelled, spelled_reads, one_spelled, one_interim, none_at_final, one_front}
-use Rattle.h1_reader.specs.Heads.{HasNoHead}
-use Rattle.h1_reader.specs.Trailers.{NeverTrailers}
+use Rattle.response_texts.specs.Heads.{HasNoHead}
+use Rattle.response_texts.specs.Trailers.{NeverTrailers}
 use Rattle.h1_reader.specs.Standing.{State, Breaks}
-use Rattle.h1_reader.specs.Faults.{in_reach, IsUnframed, IsRefusedFor, IsRefusedHead, IsLongHead, IsNinth, HeadFault, TrailerFault, IsBehindLast, ChunkFault, FaultBefore, FaultBehind, FaultStands, Fails}
-use Rattle.h1_reader.specs.declared.fault.ResponseFault.{ResponseFault}
-use Rattle.h1_reader.specs.declared.fault.ResponseFault.TheVariants as fault
-use Rattle.h1_reader.proofs.HeadLemmas.{none_taken}
-use Rattle.h1_reader.proofs.FrontLemmas.{front_of_longer, none_so_long, none_longer}
-use Rattle.h1_reader.proofs.TrailerLemmas.{never_longer, never_so_long, trailers_read}
+use Rattle.response_texts.specs.SectionFaults.{in_reach, IsUnframed, IsRefusedFor, IsRefusedHead, IsLongHead, IsNinth, HeadFault, TrailerFault}
+use Rattle.h1_reader.specs.Faults.{IsBehindLast, ChunkFault, FaultBefore, FaultBehind, FaultStands, Fails}
+use Rattle.response_texts.specs.declared.fault.ResponseFault.{ResponseFault}
+use Rattle.response_texts.specs.declared.fault.ResponseFault.TheVariants as fault
+use Rattle.response_texts.proofs.HeadLemmas.{none_taken}
+use Rattle.response_texts.proofs.FrontLemmas.{front_of_longer, none_so_long, none_longer}
+use Rattle.response_texts.proofs.TrailerLemmas.{never_longer, never_so_long, trailers_read}
 use Rattle.h1_reader.proofs.Steps.{joined_longer, joined_more}
 use Rattle.h1_reader.proofs.ChunkEnds.{NoBody, no_line_body, end_no_body, trailers_no_body, not_chunked}
 

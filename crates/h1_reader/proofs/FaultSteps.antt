@@ -1,5 +1,5 @@
 -- Where a reader stands, the fault that it answers stands in the octets.
-use Rattle.std.proofs.Common.{◌≡◌, ℕ, ◌+◌, ◌<◌, ◌≤◌, Bool, List, [], ◌∷◌, ◌++◌, length, take, drop, get_or, refl, sym, ap, ◌∙◌, subst, append_assoc, inl, inr, arith}
+use Rattle.std.proofs.Common.{◌≡◌, ℕ, ◌<◌, ◌≤◌, Bool, List, [], ◌∷◌, ◌++◌, length, take, drop, get_or, refl, sym, ap, ◌∙◌, subst, append_assoc, inl, inr, arith}
 use Rattle.std.specs.Prelude.{◌≢◌, Result, Ok, Err, IfErr}
 use Rattle.std.proofs.lemmas.List.{append-nil, take-append-drop}
 use Rattle.model.specs.Octets.{IsFront}
@@ -7,12 +7,13 @@ use Rattle.model.specs.Http1.{crlf}
 use Rattle.model.specs.ResponseHeads as model
 use Rattle.model.specs.Responses.{ChunkLine}
 use Rattle.h1_reader.specs.Parts.{Part}
-use Rattle.h1_reader.specs.ChunkLines.{IsLinePart, NeverLine}
+use Rattle.response_texts.specs.ChunkLines.{IsLinePart, NeverLine}
 use Rattle.h1_reader.specs.Standing.{State, InChunked, BehindChunk}
-use Rattle.h1_reader.specs.Faults.{HeadFault, TrailerFault, ChunkFault, FaultStands, Fails}
-use Rattle.h1_reader.specs.declared.chunk_line.LinePlace.{LinePlace}
-use Rattle.h1_reader.specs.declared.fault.ResponseFault.{ResponseFault}
-use Rattle.h1_reader.specs.declared.fault.ResponseFault.TheVariants as fault
+use Rattle.response_texts.specs.SectionFaults.{HeadFault, TrailerFault}
+use Rattle.h1_reader.specs.Faults.{ChunkFault, FaultStands, Fails}
+use Rattle.response_texts.specs.declared.chunk_line.LinePlace.{LinePlace}
+use Rattle.response_texts.specs.declared.fault.ResponseFault.{ResponseFault}
+use Rattle.response_texts.specs.declared.fault.ResponseFault.TheVariants as fault
 use Rattle.h1_reader.specs.declared.reader.Place.TheVariants.{Head, Line, ChunkEnd, ChunkReturn, Trailers, Broken}
 use Rattle.h1_reader.proofs.Steps.{at}
 

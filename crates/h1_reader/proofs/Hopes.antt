@@ -12,7 +12,7 @@ use Rattle.h1_reader.specs.Parts.Part.{Body}
 use Rattle.h1_reader.specs.Standing.{Held, State, InChunked, InSized, StandsAt, Stands, IsInBody}
 use Rattle.h1_reader.specs.declared.reader.Place.{Place}
 use Rattle.h1_reader.specs.declared.reader.Place.TheVariants.{Head, Sized, UntilEnd, Line, Chunk, ChunkEnd, ChunkReturn, Trailers, Past, Broken}
-use Rattle.h1_reader.proofs.ChunkLineLemmas.{line_begun}
+use Rattle.response_texts.proofs.ChunkLineLemmas.{line_begun}
 use Rattle.h1_reader.proofs.Steps.{body_step}
 use Rattle.h1_reader.proofs.ChunkSteps.{chunked_on, chunked_told, chunked_whole, chunked_same}
 use Rattle.h1_reader.proofs.Ends.{whole_response, past_complete, rest_complete}

@@ -9,7 +9,7 @@ use Rattle.h1_reader.specs.Parts.Part.{Interim, Final, Body}
 use Rattle.h1_reader.specs.Standing.{State, InChunked, Stands, StandsAt, Hears}
 use Rattle.h1_reader.specs.GoesOn.{GoesOn, IsJoined}
 use Rattle.h1_reader.specs.Faults.{FaultStands, Fails}
-use Rattle.h1_reader.specs.declared.fault.ResponseFault.{ResponseFault}
+use Rattle.response_texts.specs.declared.fault.ResponseFault.{ResponseFault}
 use Rattle.h1_reader.specs.declared.reader.Place.{Place}
 use Rattle.h1_reader.specs.declared.reader.Place.TheVariants.{Chunk, ChunkEnd}
 use Rattle.h1_reader.proofs.Steps.{nil_of, hears_none}

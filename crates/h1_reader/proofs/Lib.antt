@@ -1,11 +1,3 @@
-pub mod Numbers
-pub mod Texts
-pub mod ChunkLineLemmas
-pub mod FieldLists
-pub mod Values
-pub mod HeadLemmas
-pub mod FrontLemmas
-pub mod TrailerLemmas
 pub mod Steps
 pub mod ChunkSteps
 pub mod ChunkEnds
@@ -14,12 +6,8 @@ pub mod Ends
 pub mod Telling
 pub mod Noticed
 pub mod Hopes
-pub mod HeadSizeLemmas
-pub mod PassedBack
-pub mod Rooms
-pub mod FaultReads
+pub mod PartSizeLemmas
 pub mod FaultSteps
 pub mod FaultLaws
 pub mod OneFault
 pub mod ToldLaws
-pub mod Trailing

@@ -20,7 +20,7 @@ use Rattle.h1_reader.specs.Standing.{Held, State, InBody, InChunked, BehindChunk
 use Rattle.h1_reader.specs.declared.reader.Place.{Place}
 use Rattle.h1_reader.specs.declared.reader.Place.TheVariants.{Head, Sized, UntilEnd, Line, Chunk, ChunkEnd, ChunkReturn, Trailers, Past, Broken}
 use Rattle.h1_reader.proofs.Steps.{joined_longer}
-use Rattle.h1_reader.proofs.ChunkLineLemmas.{line_begun, none_in_line}
+use Rattle.response_texts.proofs.ChunkLineLemmas.{line_begun, none_in_line}
 use Rattle.h1_reader.proofs.ChunkEnds.{NoBody, no_line_body, end_no_body, line_no_body, chunk_no_body, end_body_none, held_no_body, no_octets, one_octet}
 
 -- ---- heads

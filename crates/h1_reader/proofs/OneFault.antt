@@ -1,5 +1,5 @@
 -- One text has one fault at most.
-use Rattle.std.proofs.Common.{◌≡◌, ℕ, ◌+◌, ◌-◌, ◌<◌, ◌≤◌, Bool, List, [], ◌++◌, length, take, refl, sym, ap, ◌∙◌, subst, append_assoc, inl, inr, arith}
+use Rattle.std.proofs.Common.{◌≡◌, ℕ, ◌-◌, ◌<◌, ◌≤◌, Bool, List, [], ◌++◌, length, take, refl, sym, ap, ◌∙◌, subst, append_assoc, inl, inr, arith}
 use Rattle.std.specs.Prelude.{◌⊎◌}
 use Rattle.std.proofs.lemmas.List.{append-nil}
 use Rattle.httparse.specs.Grammar as grammar
@@ -11,11 +11,12 @@ use Rattle.model.specs.Responses.{Chunk as IsChunk}
 use Rattle.model.proofs.Http1Runs.{same_rest, BeginsNone, one_joined}
 use Rattle.model.proofs.ResponseHeadReadings.{spelled_reads, one_spelled, one_interim, one_front}
 use Rattle.model.proofs.ResponseBodies.{one_chunk_line, one_response_chunk, none_at_last}
-use Rattle.h1_reader.specs.Heads.{HasNoHead}
-use Rattle.h1_reader.specs.Faults.{in_reach, IsUnframed, IsRefusedFor, IsRefusedHead, IsLongHead, IsNinth, HeadFault, AreLongTrailers, TrailerFault, IsBehindLast, ChunkFault, FaultBefore, FaultBehind, FaultStands}
-use Rattle.h1_reader.specs.declared.fault.ResponseFault.{ResponseFault}
-use Rattle.h1_reader.specs.declared.fault.ResponseFault.TheVariants as fault
-use Rattle.h1_reader.proofs.FrontLemmas.{taken_behind}
+use Rattle.response_texts.specs.Heads.{HasNoHead}
+use Rattle.response_texts.specs.SectionFaults.{in_reach, IsUnframed, IsRefusedFor, IsRefusedHead, IsLongHead, IsNinth, HeadFault, AreLongTrailers, TrailerFault}
+use Rattle.h1_reader.specs.Faults.{IsBehindLast, ChunkFault, FaultBefore, FaultBehind, FaultStands}
+use Rattle.response_texts.specs.declared.fault.ResponseFault.{ResponseFault}
+use Rattle.response_texts.specs.declared.fault.ResponseFault.TheVariants as fault
+use Rattle.response_texts.proofs.FrontLemmas.{taken_behind}
 use Rattle.h1_reader.proofs.Noticed.{chunk_begins_none}
 use Rattle.h1_reader.proofs.FaultLaws.{no_head_or_ninth, no_interim_there, nine, before_no_final, refused_none}
 

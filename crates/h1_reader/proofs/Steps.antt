@@ -15,13 +15,13 @@ use Rattle.model.proofs.ResponseHeadReadings.{one_interim}
 use Rattle.model.specs.Messages.{Field}
 use Rattle.h1_reader.specs.Parts.{Part, ends_with}
 use Rattle.h1_reader.specs.Parts.Part.{Interim, Final, Body, Done}
-use Rattle.h1_reader.specs.HeadSizes.{field_octets}
-use Rattle.h1_reader.specs.Views.{framing_view}
+use Rattle.response_texts.specs.HeadSizes.{field_octets}
+use Rattle.response_texts.specs.Framings.{framing_view}
 use Rattle.h1_reader.specs.Begins.{Begins, place_behind, told_behind}
-use Rattle.h1_reader.specs.declared.framing.Framing.{Framing}
-use Rattle.h1_reader.specs.declared.framing.Framing.TheVariants as ways
-use Rattle.h1_reader.proofs.FrontLemmas.{none_in_nothing, nothing_may_become, nothing_is_short}
-use Rattle.h1_reader.specs.declared.chunk_line.LinePlace.TheVariants.{Size}
+use Rattle.response_texts.specs.declared.framing.Framing.{Framing}
+use Rattle.response_texts.specs.declared.framing.Framing.TheVariants as ways
+use Rattle.response_texts.proofs.FrontLemmas.{none_in_nothing, nothing_may_become, nothing_is_short}
+use Rattle.response_texts.specs.declared.chunk_line.LinePlace.TheVariants.{Size}
 use Rattle.h1_reader.specs.Standing.{Held, names_held, State, BeforeHead, InBody, InSized, InRest, InLine, IsPast, IsKept, StandsAt, Stands, Hears}
 use Rattle.h1_reader.specs.declared.reader.Place.{Place}
 use Rattle.h1_reader.specs.declared.reader.Place.TheVariants.{Head, Sized, UntilEnd, Past}

@@ -17,7 +17,7 @@ use Rattle.h1_reader.specs.Parts.Part.{Interim, Final, Body}
 use Rattle.h1_reader.specs.Standing.{Held, State, InBody, InRest, IsPast, InChunked, BehindChunk, StandsAt, Stands, Tells, TellsBehind, TellsWhole, is_done, is_end}
 use Rattle.h1_reader.specs.declared.reader.Place.{Place}
 use Rattle.h1_reader.specs.declared.reader.Place.TheVariants.{Head, Sized, UntilEnd, Line, Chunk, ChunkEnd, ChunkReturn, Trailers, Past, Broken}
-use Rattle.h1_reader.proofs.ChunkLineLemmas.{line_begun}
+use Rattle.response_texts.proofs.ChunkLineLemmas.{line_begun}
 use Rattle.h1_reader.proofs.ChunkEnds.{line_short, chunk_short, end_short, trailers_short, no_octets, one_octet}
 use Rattle.h1_reader.proofs.Ends.{head_short, sized_short, past_complete}
 

@@ -3,9 +3,9 @@ use Rattle.std.specs.Prelude.{◌≡◌, zero, suc, List, [], ◌∷◌, ◌++�
 use Rattle.h1_reader.specs.Parts.{Part}
 use Rattle.h1_reader.specs.Parts.Part.{Done}
 use Rattle.h1_reader.specs.Standing.{State}
-use Rattle.h1_reader.specs.declared.chunk_line.LinePlace.TheVariants.{Size}
-use Rattle.h1_reader.specs.declared.framing.Framing.{Framing}
-use Rattle.h1_reader.specs.declared.framing.Framing.TheVariants as ways
+use Rattle.response_texts.specs.declared.chunk_line.LinePlace.TheVariants.{Size}
+use Rattle.response_texts.specs.declared.framing.Framing.{Framing}
+use Rattle.response_texts.specs.declared.framing.Framing.TheVariants as ways
 use Rattle.h1_reader.specs.declared.reader.Place.{Place}
 use Rattle.h1_reader.specs.declared.reader.Place.TheVariants as place
 

@@ -8,10 +8,10 @@ use Rattle.model.specs.Messages.{Field}
 use Rattle.model.specs.ResponseHeads.{longest_section, named_by_connection}
 use Rattle.model.specs.ResponseHeads.Framing.{Chunks as IsChunks, Sized as IsSized, UntilEnd as IsUntilEnd}
 use Rattle.model.specs.Responses.{most_interims, Response, H1Response, ChunkLine, Chunk as IsChunk, HasBody, IsComplete, IsSpoilt, Seen}
-use Rattle.h1_reader.specs.ChunkLines.{IsLinePart, IsInRange}
+use Rattle.response_texts.specs.ChunkLines.{IsLinePart, IsInRange}
 use Rattle.h1_reader.specs.Parts.{Part, ends_with}
 use Rattle.h1_reader.specs.Parts.Part.{Interim, Final, Body, Done}
-use Rattle.h1_reader.specs.declared.chunk_line.LinePlace.{LinePlace}
+use Rattle.response_texts.specs.declared.chunk_line.LinePlace.{LinePlace}
 use Rattle.h1_reader.specs.declared.reader.Place.{Place}
 use Rattle.h1_reader.specs.declared.reader.Ended.{Ended}
 use Rattle.h1_reader.specs.declared.reader.Ended.TheVariants.{Complete, Short}

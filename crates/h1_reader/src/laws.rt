@@ -4,11 +4,12 @@ ghost use Rattle.std.specs.Prelude.{◌≡◌, ◌≤◌, ◌++◌, ℕ, Bool, t
 ghost use Rattle.model.specs.ResponseHeads.{Head, Framing, Interim, Final};
 ghost use Rattle.model.specs.Responses.{IsComplete, IsSpoilt, IsPlainlyBad, Seen};
 ghost use Rattle.h1_reader.specs.Parts.{Part};
-ghost use Rattle.h1_reader.specs.HeadSizes.{field_octets, HeadsAreShort};
+ghost use Rattle.response_texts.specs.HeadSizes.{field_octets};
+ghost use Rattle.h1_reader.specs.PartSizes.{HeadsAreShort};
 ghost use Rattle.h1_reader.specs.Standing.{State, Stands, IsInBody, Tells, TellsWhole, is_done};
 ghost use Rattle.h1_reader.specs.Told.{interims_of, head_of, body_of, IsWholeOf};
 ghost use Rattle.h1_reader.specs.Faults.{FaultStands};
-ghost use Rattle.h1_reader.specs.declared.fault.ResponseFault.{ResponseFault};
+ghost use Rattle.response_texts.specs.declared.fault.ResponseFault.{ResponseFault};
 
 /// What was told are the interim heads, the final head and the
 /// octets of its body that stand in the octets so far; and the last piece is told just where a whole response stands

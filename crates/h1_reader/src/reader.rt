@@ -2,22 +2,21 @@
 
 ghost use Rattle.std.specs.Prelude.{◌≡◌, ◌≢◌, ◌<◌, ◌≤◌, ◌++◌, ◌∷◌, [], ℕ, List, Err, length, take, OnOk, OnErr, IfOk, IfErr};
 ghost use Rattle.h1_reader.specs.Parts.{Part};
-ghost use Rattle.h1_reader.specs.HeadSizes.{field_octets};
+ghost use Rattle.response_texts.specs.HeadSizes.{field_octets};
 ghost use Rattle.h1_reader.specs.Views.{parts_of};
-ghost use Rattle.h1_reader.specs.ChunkLines.{IsInRange};
+ghost use Rattle.response_texts.specs.ChunkLines.{IsInRange};
 ghost use Rattle.h1_reader.specs.Standing.{Stands, Hears, Breaks, IsEnd};
 ghost use Rattle.h1_reader.specs.GoesOn.{GoesOn};
 ghost use Rattle.h1_reader.specs.Begins.{Begins};
 ghost use Rattle.h1_reader.specs.Faults.{Fails};
 
-use crate::chunk_line::{LINE_START, LinePlace, LineStep, line_step};
-use crate::fault::ResponseFault;
-use crate::framing::Framing;
-use crate::front::{FrontRead, read_front};
 use crate::piece::{Piece, Told};
-use crate::trailers::{TrailersRead, read_trailers};
 use hpack_table::Field;
 use httparse::spans::HeaderSpan;
+use response_texts::{
+    Framing, FrontRead, LINE_START, LinePlace, LineStep, ResponseFault, TrailersRead, line_step,
+    read_front, read_trailers,
+};
 use std::alloc::Global;
 use std::marker::Model;
 use std::mem;
@@ -78,7 +77,7 @@ impl Model for Reader {
     ghost view = { λ r. record { to_head = r.to_head; place = r.place; held = record { octets = r.held.items; connections = r.connections.items } } };
 
     ghost use Rattle.std.specs.Prelude.{◌≤◌, length};
-    ghost use Rattle.h1_reader.specs.HeadSizes.{field_octets};
+    ghost use Rattle.response_texts.specs.HeadSizes.{field_octets};
     ghost use Rattle.h1_reader.specs.Standing.{IsKept};
 
     ghost invariant = { λ r. (length r.held.items ≤ 16384) × (field_octets r.connections.items ≤ 16384) × IsKept r.place r.held.items };
@@ -298,13 +297,7 @@ impl Reader {
         ensures fault { IfErr result (λ fault. fault ≢ ResponseFault.Memory → Fails self.old octets.now fault) }
     {
         let held = mem::replace(&mut self.held, Vec::new(self.alloc));
-        match read_trailers(
-            self.alloc,
-            &self.connections,
-            held,
-            octets,
-            &mut self.spans,
-        ) {
+        match read_trailers(self.alloc, &self.connections, held, octets, &mut self.spans) {
             Ok(TrailersRead::OnGoing(text)) => {
                 self.held = text;
                 Ok(octets.len())

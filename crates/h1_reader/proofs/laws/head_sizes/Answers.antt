@@ -1,4 +1,5 @@
-use Rattle.h1_reader.proofs.HeadSizeLemmas.{interim_size, final_size, told_short}
+use Rattle.response_texts.proofs.HeadSizeLemmas.{interim_size, final_size}
+use Rattle.h1_reader.proofs.PartSizeLemmas.{told_short}
 use Rattle.h1_reader.proofs.laws.head_sizes.Goals as goal
 
 pub returns : goal.returns

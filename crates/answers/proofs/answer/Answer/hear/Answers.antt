@@ -2,7 +2,7 @@ use Rattle.std.proofs.Common.{rules, ◌≡◌, ◌≤◌, true, false, ◌++◌
 use Rattle.offering.specs.Outbox.{grown}
 use Rattle.h1_reader.specs.HeadSizes.{field_octets}
 use Rattle.h1_reader.specs.Views.{parts_of}
-use Rattle.h1_reader.specs.declared.fault.ResponseFault.TheVariants.{Memory}
+use Rattle.response_texts.specs.declared.fault.ResponseFault.TheVariants.{Memory}
 use Rattle.h1_reader.specs.Standing.{Hears, Breaks, is_done}
 use Rattle.read_answers.specs.Telling.{head_of, body_of, trailers_of}
 use Rattle.answers.specs.Waiting.{Answer, passing_in, waiting, news_at_once, IsPast, IsWithin}

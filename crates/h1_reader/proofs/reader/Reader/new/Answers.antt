@@ -1,6 +1,6 @@
 use Rattle.std.proofs.Common.{arith}
 use Rattle.h1_reader.proofs.Steps.{stands_new}
-use Rattle.h1_reader.proofs.FrontLemmas.{none_in_nothing}
+use Rattle.response_texts.proofs.FrontLemmas.{none_in_nothing}
 use Rattle.h1_reader.proofs.reader.Reader.new.Goals as goal
 
 pub invariant_of-result : goal.invariant_of-result

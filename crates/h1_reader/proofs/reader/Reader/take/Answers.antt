@@ -1,4 +1,4 @@
-use Rattle.std.proofs.Common.{◌∙◌, ◌∷◌, [], take, ap, sym, arith}
+use Rattle.std.proofs.Common.{◌∙◌, ◌∷◌, [], ap, sym, arith}
 use Rattle.std.proofs.lemmas.List.{append-nil}
 use Rattle.h1_reader.specs.Parts.Part.{Body}
 use Rattle.h1_reader.specs.Standing.{State}

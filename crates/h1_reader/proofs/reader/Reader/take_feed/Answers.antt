@@ -1,6 +1,6 @@
 use Rattle.std.proofs.Common.{refl, ap}
 use Rattle.h1_reader.specs.Standing.{State}
-use Rattle.h1_reader.specs.declared.chunk_line.LinePlace.TheVariants.{Size}
+use Rattle.response_texts.specs.declared.chunk_line.LinePlace.TheVariants.{Size}
 use Rattle.h1_reader.specs.declared.reader.Place.TheVariants.{Line}
 use Rattle.h1_reader.proofs.ChunkSteps.{hears_feed}
 use Rattle.h1_reader.proofs.FaultSteps.{fails_feed}

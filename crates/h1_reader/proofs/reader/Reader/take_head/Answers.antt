@@ -3,10 +3,10 @@ use Rattle.std.proofs.lemmas.List.{append-nil}
 use Rattle.model.specs.ResponseHeads as model
 use Rattle.model.specs.ResponseHeads.{named_by_connection}
 use Rattle.h1_reader.specs.Parts.Part.{Interim}
-use Rattle.h1_reader.specs.Faults.{HeadFault}
+use Rattle.response_texts.specs.SectionFaults.{HeadFault}
 use Rattle.h1_reader.specs.Standing.{State}
 use Rattle.h1_reader.specs.declared.reader.Place.TheVariants.{Head}
-use Rattle.h1_reader.specs.Views.{framing_view}
+use Rattle.response_texts.specs.Framings.{framing_view}
 use Rattle.h1_reader.proofs.Steps.{nothing_held, kept_head, hears_more, hears_interim, hears_final, all_taken}
 use Rattle.h1_reader.proofs.FaultSteps.{fails_head, fails_ninth}
 use Rattle.h1_reader.proofs.Joining.{goes_on}

@@ -1,8 +1,8 @@
 use Rattle.std.proofs.Common.{◌≡◌, ◌∙◌, refl, ap}
 use Rattle.h1_reader.specs.Standing.{State}
-use Rattle.h1_reader.specs.declared.chunk_line.LineStep.TheVariants.{Whole}
+use Rattle.response_texts.specs.declared.chunk_line.LineStep.TheVariants.{Whole}
 use Rattle.h1_reader.specs.declared.reader.Place.TheVariants.{Line, Trailers}
-use Rattle.h1_reader.proofs.TrailerLemmas.{no_trailers_yet, trailers_may_come}
+use Rattle.response_texts.proofs.TrailerLemmas.{no_trailers_yet, trailers_may_come}
 use Rattle.h1_reader.proofs.ChunkSteps.{hears_line, hears_last}
 use Rattle.h1_reader.proofs.FaultSteps.{fails_line}
 use Rattle.h1_reader.proofs.reader.Reader.take_line.Goals as goal

@@ -1,17 +1,16 @@
-use Rattle.std.proofs.Common.{◌≡◌, ◌∙◌, ◌∷◌, [], ◌++◌, List, ℕ, Vec, Global, take, ap, sym, subst, arith, rules}
+use Rattle.std.proofs.Common.{◌≡◌, ◌∙◌, [], ◌++◌, List, ℕ, Vec, Global, take, ap, sym, subst, arith}
 use Rattle.std.proofs.lemmas.List.{append-nil}
-use Rattle.model.specs.Messages.{Field}
 use Rattle.model.specs.ResponseHeads.{named_by_connection}
 use Rattle.h1_reader.specs.Parts.{ends_with}
-use Rattle.h1_reader.specs.Faults.{TrailerFault}
+use Rattle.response_texts.specs.SectionFaults.{TrailerFault}
 use Rattle.h1_reader.specs.Standing.{State}
-use Rattle.h1_reader.specs.Trailers.{ArePassed}
+use Rattle.response_texts.specs.Trailers.{ArePassed}
 use Rattle.h1_reader.specs.declared.reader.Place.TheVariants.{Trailers, Past}
 use Rattle.h1_reader.proofs.Steps.{all_taken}
 use Rattle.h1_reader.proofs.ChunkSteps.{hears_trailers, hears_end}
 use Rattle.h1_reader.proofs.FaultSteps.{fails_trailers}
 use Rattle.h1_reader.proofs.Joining.{goes_on}
-use Rattle.h1_reader.proofs.Trailing.{passed_plain, passed_short}
+use Rattle.response_texts.proofs.Trailing.{passed_plain, passed_short}
 use Rattle.h1_reader.proofs.reader.Reader.take_trailers.Goals as goal
 
 pub end-requires-clause-plain : goal.end-requires-clause-plain

@@ -1,8 +1,0 @@
-use Rattle.std.proofs.Common.{◌≡◌, ◌≤◌, take}
-use Rattle.model.specs.ResponseHeads.{named_by_connection}
-use Rattle.h1_reader.specs.HeadSizes.{field_octets}
-use Rattle.h1_reader.proofs.fields.connections.Given as goal
-
-abbrev pub invariant-loop-field : goal.invariant-loop-field
-invariant-loop-field l =
-    (named_by_connection l.found.items ≡ named_by_connection (take l.field-index l.fields)) × (field_octets l.found.items ≤ field_octets (take l.field-index l.fields))

@@ -1,7 +1,0 @@
-use Rattle.std.proofs.Common.{◌≡◌, take, true}
-use Rattle.std.specs.List.{list_all}
-use Rattle.h1_reader.proofs.Texts.{is_other}
-use Rattle.h1_reader.proofs.octets.cut.Given as goal
-
-abbrev pub invariant-loop-place : goal.invariant-loop-place
-invariant-loop-place l = list_all is_other (take l.place l.text) ≡ true

@@ -1,0 +1,13 @@
+pub mod Numbers
+pub mod Texts
+pub mod ChunkLineLemmas
+pub mod FieldLists
+pub mod Values
+pub mod HeadLemmas
+pub mod FrontLemmas
+pub mod TrailerLemmas
+pub mod HeadSizeLemmas
+pub mod PassedBack
+pub mod Rooms
+pub mod FaultReads
+pub mod Trailing

@@ -1,0 +1,9 @@
+pub mod ChunkLines
+pub mod HeadSizes
+pub mod Framings
+pub mod Heads
+pub mod Trailers
+pub mod SectionFaults
+pub use Rattle.model.specs.Messages
+pub use Rattle.model.specs.ResponseHeads
+pub use Rattle.model.specs.Responses

@@ -10,7 +10,12 @@ use crate::many_streams::{
     a_hundred_requests, one_more_than_a_hundred, ten_thousand_requests,
     ten_thousand_without_a_route, unrouted,
 };
+use crate::request_trailers::{TRAILERS_AS_THEY_COME, TRAILERS_PASSED_ON, TRAILERS_REFUSED};
 use crate::request_transcripts::{ANSWERED, MALFORMED, PASSED_ON};
+use crate::response_trailers::{
+    TRAILERS_BACK_AS_THEY_COME, TRAILERS_BROKEN, TRAILERS_INDEXED, TRAILERS_INDEXED_AS_THEY_COME,
+    TRAILERS_PASSED_BACK, TRAILERS_UNTAKEN, TRAILERS_WAITING,
+};
 use crate::responses::{BROKEN, PASSED_BACK, large_head};
 use crate::streaming::{INDEXED_AS_IT_COMES, PASSED_AS_IT_COMES, UNTAKEN};
 use crate::transcripts::{Row, Transcript, assert_prints};

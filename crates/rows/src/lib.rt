@@ -18,7 +18,11 @@ mod many_streams;
 #[cfg(test)]
 mod notation;
 #[cfg(test)]
+mod request_trailers;
+#[cfg(test)]
 mod request_transcripts;
+#[cfg(test)]
+mod response_trailers;
 #[cfg(test)]
 mod responses;
 #[cfg(test)]

@@ -277,3 +277,36 @@ fn client_without_a_route_goes_away(rt: HostRuntime) -> Result<(), Fail> {
     let transcript = ten_thousand_without_a_route(alloc)?;
     assert_left_well(&rt, alloc, &unrouted(alloc), "no route", &transcript)
 }
+
+#[test]
+fn client_goes_away_from_trailers(rt: HostRuntime) -> Result<(), Fail> {
+    let alloc = rt.alloc();
+    let plain = one_route(alloc, Policy::Plain, Passing::Whole)?;
+    let tables: [&[Row]; 6] = [
+        &TRAILERS_PASSED_ON,
+        &TRAILERS_REFUSED,
+        &TRAILERS_PASSED_BACK,
+        &TRAILERS_BROKEN,
+        &TRAILERS_WAITING,
+        &TRAILERS_UNTAKEN,
+    ];
+    assert_all_left_well(&rt, alloc, &plain, &tables)?;
+    let indexing = one_route(alloc, Policy::Indexing, Passing::Whole)?;
+    assert_rows_left_well(&rt, alloc, &indexing, &TRAILERS_INDEXED)
+}
+
+#[test]
+fn client_goes_away_from_trailers_as_bodies_come(rt: HostRuntime) -> Result<(), Fail> {
+    let alloc = rt.alloc();
+    let plain = one_route(alloc, Policy::Plain, Passing::Streaming)?;
+    let tables: [&[Row]; 5] = [
+        &TRAILERS_AS_THEY_COME,
+        &TRAILERS_BACK_AS_THEY_COME,
+        &TRAILERS_WAITING,
+        &TRAILERS_PASSED_ON,
+        &TRAILERS_REFUSED,
+    ];
+    assert_all_left_well(&rt, alloc, &plain, &tables)?;
+    let indexing = one_route(alloc, Policy::Indexing, Passing::Streaming)?;
+    assert_rows_left_well(&rt, alloc, &indexing, &TRAILERS_INDEXED_AS_THEY_COME)
+}

@@ -290,3 +290,35 @@ fn upstreams_of_indexed_blocks_go_away_as_bodies_come(rt: HostRuntime) -> Result
     let indexing = one_route(alloc, Policy::Indexing, Passing::Streaming)?;
     assert_rows_ended_well(&rt, alloc, &indexing, &INDEXED_AS_IT_COMES)
 }
+
+#[test]
+fn upstreams_go_away_from_trailers(rt: HostRuntime) -> Result<(), Fail> {
+    let alloc = rt.alloc();
+    let plain = one_route(alloc, Policy::Plain, Passing::Whole)?;
+    let tables: [&[Row]; 5] = [
+        &TRAILERS_PASSED_ON,
+        &TRAILERS_PASSED_BACK,
+        &TRAILERS_BROKEN,
+        &TRAILERS_WAITING,
+        &TRAILERS_UNTAKEN,
+    ];
+    assert_all_ended_well(&rt, alloc, &plain, &tables)?;
+    let indexing = one_route(alloc, Policy::Indexing, Passing::Whole)?;
+    assert_rows_ended_well(&rt, alloc, &indexing, &TRAILERS_INDEXED)
+}
+
+#[test]
+fn upstreams_go_away_from_trailers_as_bodies_come(rt: HostRuntime) -> Result<(), Fail> {
+    let alloc = rt.alloc();
+    let plain = one_route(alloc, Policy::Plain, Passing::Streaming)?;
+    let tables: [&[Row]; 5] = [
+        &TRAILERS_AS_THEY_COME,
+        &TRAILERS_BACK_AS_THEY_COME,
+        &TRAILERS_PASSED_BACK,
+        &TRAILERS_BROKEN,
+        &TRAILERS_WAITING,
+    ];
+    assert_all_ended_well(&rt, alloc, &plain, &tables)?;
+    let indexing = one_route(alloc, Policy::Indexing, Passing::Streaming)?;
+    assert_rows_ended_well(&rt, alloc, &indexing, &TRAILERS_INDEXED_AS_THEY_COME)
+}

@@ -291,3 +291,31 @@ fn in_turn_one_by_one(rt: HostRuntime) -> Result<(), Fail> {
     let plain = one_route(alloc, Policy::Plain, Passing::Streaming)?;
     assert_alike_streaming(&rt, alloc, &plain, &IN_TURN)
 }
+
+#[test]
+fn trailers_one_by_one(rt: HostRuntime) -> Result<(), Fail> {
+    let alloc = rt.alloc();
+    let plain = one_route(alloc, Policy::Plain, Passing::Whole)?;
+    let tables: [&[Row]; 6] = [
+        &TRAILERS_PASSED_ON,
+        &TRAILERS_REFUSED,
+        &TRAILERS_PASSED_BACK,
+        &TRAILERS_BROKEN,
+        &TRAILERS_WAITING,
+        &TRAILERS_UNTAKEN,
+    ];
+    assert_all_alike(&rt, alloc, &plain, &tables)?;
+    let indexing = one_route(alloc, Policy::Indexing, Passing::Whole)?;
+    assert_alike(&rt, alloc, &indexing, &TRAILERS_INDEXED)
+}
+
+#[test]
+fn trailers_one_by_one_as_bodies_come(rt: HostRuntime) -> Result<(), Fail> {
+    let alloc = rt.alloc();
+    let plain = one_route(alloc, Policy::Plain, Passing::Streaming)?;
+    assert_alike_streaming(&rt, alloc, &plain, &TRAILERS_AS_THEY_COME)?;
+    assert_alike_streaming(&rt, alloc, &plain, &TRAILERS_BACK_AS_THEY_COME)?;
+    assert_alike_streaming(&rt, alloc, &plain, &TRAILERS_WAITING)?;
+    let indexing = one_route(alloc, Policy::Indexing, Passing::Streaming)?;
+    assert_alike_streaming(&rt, alloc, &indexing, &TRAILERS_INDEXED_AS_THEY_COME)
+}

@@ -4,7 +4,7 @@ ghost use Rattle.std.specs.Prelude.{◌≡◌, length, not, true, false, ◌&&�
 ghost use Rattle.std.specs.List.{list_all, list_any};
 ghost use Rattle.model.specs.Octets.{some_of, is_value, is_digit, lower};
 ghost use Rattle.model.specs.Http1.{values_of};
-ghost use Rattle.model.specs.Http2.{first_of, is_pseudo, pseudo_fields, regular_fields, is_path_for, known_names, is_name_octet, connection_names};
+ghost use Rattle.model.specs.Http2.{first_of, is_pseudo, pseudo_fields, regular_fields, is_path_for, known_names, is_name_octet, connection_names, names_not_in_trailers};
 ghost use Rattle.field_rules.specs.Ordinary.{judged_names, is_ordinary, EndsOrdinary, IsShortest};
 
 use crate::octets;
@@ -32,6 +32,21 @@ pub fn count(head: &[Field], name: &[u8]) -> usize
     ensures { result ≡ count_by (λ field. bytes_eq field.name name.now) head.now }
 {
     head.iter().filter(|field| is_named(field, name)).count()
+}
+
+/// Whether no trailers pass on a field of this name (RFC 9110, section 6.5.1): those that frame or route a message, that are acted on before its
+/// body is read, or that say who asks.
+pub fn is_kept_from_trailers(field: &Field) -> bool
+    ensures { result ≡ list_any (bytes_eq field.now.name) names_not_in_trailers }
+{
+    is_named(field, b"host")
+        || is_named(field, b"content-length")
+        || is_named(field, b"te")
+        || is_named(field, b"trailer")
+        || is_named(field, b"expect")
+        || is_named(field, b"cookie")
+        || is_named(field, b"set-cookie")
+        || is_named(field, b"authorization")
 }
 
 /// The value of the first field of this name, and nothing where there is none.

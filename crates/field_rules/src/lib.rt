@@ -5,4 +5,4 @@
 pub mod fields;
 mod octets;
 
-pub use crate::octets::{is_authority, is_token, number};
+pub use crate::octets::{is_authority, is_number, is_token, number};

@@ -1,33 +1,18 @@
 //! The trailers that go on with a request.
 
-ghost use Rattle.std.specs.Prelude.{◌≡◌, ◌++◌, filter, OnOk, IfOk, bytes_eq};
-ghost use Rattle.std.specs.List.{list_any};
-ghost use Rattle.model.specs.Http2.{names_not_in_trailers, passed_trailers};
+ghost use Rattle.std.specs.Prelude.{◌≡◌, ◌++◌, filter, OnOk, IfOk};
+ghost use Rattle.model.specs.Http2.{passed_trailers};
 ghost use Rattle.request_rules.specs.Sent.{is_passed};
 
 use field_rules::fields;
 use hpack_table::Field;
 use std::alloc::{AllocError, Global};
 
-/// Whether no trailers pass on a field of this name (RFC 9110, section 6.5.1).
-fn is_kept_back(field: &Field) -> bool
-    ensures { result ≡ list_any (bytes_eq field.now.name) names_not_in_trailers }
-{
-    fields::is_named(field, b"host")
-        || fields::is_named(field, b"content-length")
-        || fields::is_named(field, b"te")
-        || fields::is_named(field, b"trailer")
-        || fields::is_named(field, b"expect")
-        || fields::is_named(field, b"cookie")
-        || fields::is_named(field, b"set-cookie")
-        || fields::is_named(field, b"authorization")
-}
-
 /// Whether trailers pass the field on.
 fn is_passed(field: &Field) -> bool
     ensures { result ≡ is_passed field.now }
 {
-    !is_kept_back(field)
+    !fields::is_kept_from_trailers(field)
 }
 
 /// Adds the fields that are passed on.

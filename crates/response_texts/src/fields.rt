@@ -8,15 +8,9 @@ ghost use Rattle.response_texts.specs.HeadSizes.{field_octets};
 ghost use Rattle.model.specs.ResponseHeads.{names_in, named_by_connection, names_of_connection, never_has_body, without_framing, passed, with_one};
 
 use crate::octets;
+use field_rules::fields::{is_kept_from_trailers, is_named};
 use hpack_table::Field;
 use std::alloc::{AllocError, Global};
-
-/// Whether the field has this name.
-pub fn is_named(field: &Field, name: &[u8]) -> bool
-    ensures { result ≡ bytes_eq field.now.name name.now }
-{
-    field.name() == name
-}
 
 /// Whether the field is a Connection that names this name.
 fn names(field: &Field, name: &[u8]) -> bool
@@ -179,25 +173,11 @@ pub fn passed_back(
     Ok(kept)
 }
 
-/// Whether no trailers pass on a field of this name (RFC 9110, section 6.5.1).
-fn is_kept_back(field: &Field) -> bool
-    ensures { result ≡ list_any (bytes_eq field.now.name) names_not_in_trailers }
-{
-    is_named(field, b"host")
-        || is_named(field, b"content-length")
-        || is_named(field, b"te")
-        || is_named(field, b"trailer")
-        || is_named(field, b"expect")
-        || is_named(field, b"cookie")
-        || is_named(field, b"set-cookie")
-        || is_named(field, b"authorization")
-}
-
 /// Whether a field of trailers is passed back, by the fields Connection of their head and their own.
 fn is_trailing(connections: &[Field], own: &[Field], field: &Field) -> bool
     ensures { result ≡ not (list_any (bytes_eq field.now.name) (names_not_in_trailers ++ names_of_connection ++ named_by_connection connections.now ++ named_by_connection own.now)) }
 {
-    !is_kept_back(field)
+    !is_kept_from_trailers(field)
         && !is_of_connection(field)
         && !is_named_by_connection(connections, field.name())
         && !is_named_by_connection(own, field.name())

@@ -11,8 +11,9 @@ ghost use Rattle.response_texts.specs.Framings.{framing_view};
 ghost use Rattle.response_texts.specs.Heads.{framing_fault};
 
 use crate::fault::ResponseFault;
-use crate::fields::{count, is_named};
-use crate::octets;
+use crate::fields::count;
+use field_rules::fields::is_named;
+use field_rules::{is_number, number};
 use hpack_table::Field;
 
 /// Where a body ends.
@@ -47,7 +48,7 @@ fn first_value<'a>(fields: &'a [Field], name: &[u8]) -> Option<&'a [u8]>
 fn is_length(text: &[u8]) -> bool
     ensures { result ≡ is_length text.now }
 {
-    octets::is_number(text) && text.len() <= 18
+    is_number(text) && text.len() <= 18
 }
 
 /// Whether the field has another name, or this value.
@@ -88,7 +89,7 @@ fn sized(fields: &[Field], digits: &[u8]) -> Result<Framing, ResponseFault>
     if !all_have(fields, b"content-length", digits) {
         return Err(ResponseFault::Length);
     }
-    Ok(Framing::Sized(octets::number(digits)))
+    Ok(Framing::Sized(number(digits)))
 }
 
 /// What the lines content-length and transfer-encoding say of the body, in HTTP/1.0 or HTTP/1.1 (RFC 9112, sections 6.1 to

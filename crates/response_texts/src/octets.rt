@@ -37,36 +37,6 @@ fn is_space(octet: u8) -> bool
     matches!(octet, b' ' | b'\t')
 }
 
-/// Whether all octets are digits.
-fn are_digits(text: &[u8]) -> bool
-    ensures { result ≡ list_all is_digit text.now }
-{
-    text.iter().all(|octet| matches!(octet, b'0'..=b'9'))
-}
-
-/// Whether the text is one or more digits.
-pub fn is_number(text: &[u8]) -> bool
-    ensures { result ≡ some_of is_digit text.now }
-{
-    match text {
-        [] => false,
-        _ => are_digits(text),
-    }
-}
-
-/// The number that decimal digits write, at most 18 of them.
-pub fn number(digits: &[u8]) -> u64
-    requires digits { list_all is_digit digits.now ≡ true }
-    requires short { length digits.now ≤ 18 }
-    ensures { result ≡ digits_value 10 digits.now }
-{
-    let mut sum: u64 = 0;
-    for digit in digits {
-        sum = 10 * sum + (*digit - b'0') as u64;
-    }
-    sum
-}
-
 /// The text without the spaces and tabs before it.
 fn without_front(text: &[u8]) -> &[u8]
     ensures { result.now ≡ skip_ows text.now }

@@ -1,12 +1,14 @@
 -- Trailers of a request and of a response that pass, and gateways that pass others, or none.
-use Rattle.std.proofs.Common.{◌≡◌, ℕ, true, false, List, [], ◌∷◌, ◌++◌, refl, sym, ap, ◌∙◌, subst, arith}
-use Rattle.std.specs.Prelude.{Some, codes}
+use Rattle.std.proofs.Common.{◌≡◌, ℕ, ◌<◌, Bool, true, false, List, [], ◌∷◌, ◌++◌, length, refl, sym, ap, ◌∙◌, subst, arith}
+use Rattle.std.specs.Prelude.{Option, Some, None, codes}
+use Rattle.std.specs.Str.Parse.{digits_value}
 use Rattle.std.proofs.lemmas.Bool.{false≢true}
 use Rattle.model.specs.Messages.{Field, Item, Request}
 use Rattle.model.specs.Messages.Item.{Block, Content}
 use Rattle.model.specs.Http1.{Line, Chunked, Framed}
 use Rattle.model.specs.Http2.{request_of, pseudo_fields, WellFormedHead, H2Request}
-use Rattle.model.specs.Deliveries.{Delivery, IsSection, ReadsAs, IsPartOf}
+use Rattle.model.specs.ResponseHeads.{Head}
+use Rattle.model.specs.Deliveries.{End, Delivery, IsSection, AreInterims, AreContents, IsAnswer, IsAnsweredBy, ReadsAs, IsPartOf}
 use Rattle.model.proofs.FirstLog.{field}
 use Rattle.model.proofs.DeliveryReadings.{one_delivery}
 use Rattle.model.proofs.Http2Readings.{one_meaning}
@@ -151,3 +153,58 @@ drops_x_b : (read : Delivery) → ReadsAs (Block fields false ∷ Content (codes
 drops_x_b read r part =
     not_all [] (λ e. let clash : [] ≡ x_b ∷ [] = e in cc) read
     (one_delivery _ read (read_with []) r (record { interim_items = []; rest = Block fields false ∷ Content (codes "hi") true ∷ []; is = refl; interims = tt; answer = (is_section, omega arith, (refl, refl, refl)) })) part
+
+-- Nor does one whose trailers go before the last octet of the body.
+sends_trailers_early : (read : Delivery) → ReadsAs (Block fields false ∷ Content (codes "h") false ∷ Block (x_b ∷ []) true ∷ []) read → IsPartOf read delivery → ⊥
+sends_trailers_early read r part =
+    let same = one_delivery _ read (record { interims = []; head = Some head; body = codes "h"; ends = Some (x_b ∷ []) }) r (record {
+      interim_items = [];
+      rest = Block fields false ∷ Content (codes "h") false ∷ Block (x_b ∷ []) true ∷ [];
+      is = refl;
+      interims = tt;
+      answer = (is_section, omega arith, ([], refl, (refl, refl, refl, (λ e. let clash : x_b ∷ [] ≡ [] = e in cc), refl)));
+    }) in
+    let body : codes "h" ≡ codes "hi" = ((subst (λ (d : Delivery). IsPartOf d delivery) same part).ended (x_b ∷ []) refl).1 in
+    let sizes : 1 ≡ 2 = ap length body in omega (arith, sizes)
+
+-- ---- and what isn't read as a response at all
+
+status_field : List ℕ → Field
+status_field digits = record { name = codes ":status"; value = digits }
+
+-- a head with the status 200 is no interim head
+not_interim : (others : List Field) (h : Head) → fields ≡ others → IsSection others h → h.status < 200 → ⊥
+unfolding status_field
+not_interim others h same section low =
+    let whole : status_field (codes "200") ∷ [] ≡ status_field section.digits ∷ h.fields = same ∙ section.is in
+    let first : status_field (codes "200") ≡ status_field section.digits = cc in
+    let digits : codes "200" ≡ section.digits = ap (λ (f : Field). f.value) first in
+    let status : h.status ≡ 200 = section.status ∙ ap (digits_value 10) (sym digits) in
+    omega (arith, status, low)
+
+-- What stands behind a final head, and is no contents of a response, makes all of it none.
+no_response : (rest : List Item) → ((body : List ℕ) (ends : End) → AreContents rest body ends → ⊥) → (read : Delivery) → ReadsAs (Block fields false ∷ rest) read → ⊥
+no_response rest none read r = at r.interim_items r.rest read.interims read.head r.is r.interims r.answer
+  where
+    at : (front behind : List Item) (heads : List Head) (h : Option Head) → Block fields false ∷ rest ≡ front ++ behind → AreInterims front heads → IsAnsweredBy behind h read.body read.ends → ⊥
+    at [] behind heads None e i a = let clash : Block fields false ∷ rest ≡ (let none : List Item = [] in none) = e ∙ a.0 in cc
+    at [] behind heads (Some h) e i a = none read.body read.ends (subst (λ items. IsAnswer items h read.body read.ends) (sym e) a).2
+    at (Content octets ends ∷ front) behind heads h e i a = cc
+    at (Block others true ∷ front) behind heads h e i a = cc
+    at (Block others false ∷ front) behind [] h e i a = i
+    at (Block others false ∷ front) behind (first ∷ heads) h e i a =
+        let block : Block fields false ≡ Block others false = cc in let same : fields ≡ others = cc in not_interim others first same i.0 i.1
+
+-- Trailers behind DATA that ended the stream.
+trailers_behind_the_end : (read : Delivery) → ReadsAs (Block fields false ∷ Content (codes "hi") true ∷ Block (x_b ∷ []) true ∷ []) read → ⊥
+trailers_behind_the_end = no_response (Content (codes "hi") true ∷ Block (x_b ∷ []) true ∷ []) (λ body ends p. let clash : Block (x_b ∷ []) true ∷ [] ≡ (let none : List Item = [] in none) = p.0 in cc)
+
+-- Octets behind trailers.
+octets_behind_trailers : (read : Delivery) → ReadsAs (Block fields false ∷ Content (codes "h") false ∷ Block (x_b ∷ []) true ∷ Content (codes "i") true ∷ []) read → ⊥
+octets_behind_trailers =
+    no_response (Content (codes "h") false ∷ Block (x_b ∷ []) true ∷ Content (codes "i") true ∷ [])
+    (λ body ends p. let clash : Content (codes "i") true ∷ [] ≡ (let none : List Item = [] in none) = p.2.0 in cc)
+
+-- Trailers that don't end their stream.
+trailers_without_end : (read : Delivery) → ReadsAs (Block fields false ∷ Content (codes "hi") false ∷ Block (x_b ∷ []) false ∷ []) read → ⊥
+trailers_without_end = no_response (Content (codes "hi") false ∷ Block (x_b ∷ []) false ∷ []) (λ body ends p. p.2)

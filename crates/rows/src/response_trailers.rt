@@ -289,20 +289,21 @@ pub static TRAILERS_INDEXED: [Row; 2] = [
             C 000002 01 04 00000003 88be 000004 01 05 00000003 be 7e0132
         ",
     },
+    // By the client's limit of 42 octets the first trailer's entry just fits, and the second one's is one octet too large (RFC 7541, section 4.1).
     Row {
         name: "a client's table that the trailers outgrow",
         begins: NOTHING,
         goes_on: r"
-            > C {P} 000006 04 00 00000000 0001 00000024 000014 01 05 00000001 {A} 000004 01 05 00000003 828684be
+            > C {P} 000006 04 00 00000000 0001 0000002a 000014 01 05 00000001 {A} 000004 01 05 00000003 828684be
             C {G} {K}
             O 1 0
             U 1 {GET}
             O 2 0
             U 2 {GET}
-            > U 1 'HTTP/1.1 200 OK\r\nTransfer-Encoding: chunked\r\n\r\n0\r\nX-A: 1\r\nX-B: 23\r\n\r\n'
+            > U 1 'HTTP/1.1 200 OK\r\nTransfer-Encoding: chunked\r\n\r\n0\r\nX-A: XXXXXXX\r\nX-B: XXXXXXXX\r\n\r\n'
             X 1
-            C 000003 01 04 00000001 3f0588 00000f 01 05 00000001 4003 'x-a' 0131 0003 'x-b' 02 '23'
-            > U 2 'HTTP/1.1 200 OK\r\nTransfer-Encoding: chunked\r\n\r\n0\r\nX-A: 1\r\nX-B: 2\r\n\r\n'
+            C 000003 01 04 00000001 3f0b88 00001b 01 05 00000001 4003 'x-a' 07 'XXXXXXX' 0003 'x-b' 08 'XXXXXXXX'
+            > U 2 'HTTP/1.1 200 OK\r\nTransfer-Encoding: chunked\r\n\r\n0\r\nX-A: XXXXXXX\r\nX-B: 2\r\n\r\n'
             X 2
             C 000001 01 04 00000003 88 000008 01 05 00000003 be 4003 'x-b' 0132
         ",

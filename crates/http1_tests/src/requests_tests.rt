@@ -169,7 +169,10 @@ fn trailers_stand_behind_chunks_alone(rt: HostRuntime) -> Result<(), Fail> {
     let mut request = waiting(rt.alloc(), &rt)?;
     request.gather(b"hel")?;
     let text = request.finish(b"lo", &trailers)?;
-    assert!(rt; text.as_slice().ends_with(b"\r\n\r\n5\r\nhello\r\n0\r\nx-a: 1\r\nx-b: \r\n\r\n"));
+    assert!(rt;
+        text.as_slice()
+            .ends_with(b"\r\n\r\n5\r\nhello\r\n0\r\nx-a: 1\r\nx-b: \r\n\r\n")
+    );
     let head = head_of(rt.alloc(), &rt, FIVE, false)?;
     assert_eq!(rt; head.length(), Some(5));
     let Begun::Waits(request) = begin(rt.alloc(), &head, false, 7)? else {

@@ -1,7 +1,7 @@
 //! Responses as they are read, in any cuts.
 
 use crate::lines::{Line, are_fields};
-use h1_reader::{Ended, Piece, Reader, ResponseFault, ResponseHead};
+use h1_reader::{Ended, Piece, Reader, ResponseFault, ResponseHead, Trailers};
 use hpack_table::Field;
 use std::alloc::{AllocError, Global};
 use std::test::*;
@@ -58,6 +58,41 @@ fn are_taken_out(alloc: Global, text: &[u8], wanted: &[Line<'_>]) -> bool {
         Some(Piece::Head(head)) => are_fields(&head.into_fields(), wanted),
         _ => false,
     }
+}
+
+const TRAILING: &[u8] =
+    b"HTTP/1.1 200 OK\r\nTransfer-Encoding: chunked\r\n\r\n2\r\nhi\r\n0\r\nX-B: 2\r\nHost: h\r\nX-A: 1\r\n\r\n";
+
+#[test]
+fn trailers_are_taken_out(rt: HostRuntime) -> Result<(), Fail> {
+    let wanted: [Line<'_>; 2] = [(b"x-b", b"2"), (b"x-a", b"1")];
+    assert!(rt; are_trailers_taken_out(rt.alloc(), TRAILING, &wanted));
+    Ok(())
+}
+
+/// Whether the trailers of these names and values are taken out of a text: its last pieces are a body, trailers and the end.
+fn are_trailers_taken_out(alloc: Global, text: &[u8], wanted: &[Line<'_>]) -> bool {
+    let mut reader = Reader::new(alloc, false);
+    let mut pieces = Vec::new(alloc);
+    if fault_at(&mut reader, text, &mut pieces).is_some() {
+        return false;
+    }
+    match (pieces.pop(), pieces.pop(), pieces.pop()) {
+        (Some(Piece::Done), Some(Piece::Trailers(trailers)), Some(Piece::Body(_))) => {
+            are_fields(&trailers.into_fields(), wanted)
+        }
+        _ => false,
+    }
+}
+
+/// Trailers are made of fields.
+#[test]
+fn trailers_are_made(rt: HostRuntime) -> Result<(), Fail> {
+    let mut fields = Vec::new(rt.alloc());
+    fields.push(Field::of(rt.alloc(), b"x-a", b"1")?)?;
+    let trailers = Trailers::new(fields);
+    assert!(rt; are_fields(trailers.fields(), &[(b"x-a", b"1")]));
+    Ok(())
 }
 
 /// Whether a head has this status and these fields.

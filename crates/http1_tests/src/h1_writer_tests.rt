@@ -2,6 +2,7 @@
 
 use crate::lines::push_fields;
 use h1_writer::Sender;
+use hpack_table::Field;
 use request_rules::{RequestHead, check_head};
 use std::alloc::{AllocError, Global};
 use std::test::*;
@@ -30,12 +31,16 @@ fn pushes(sender: &mut Sender, octets: &[u8], out: &mut Vec<u8>) -> Result<bool,
     Ok(true)
 }
 
-/// Ends a text where it may be ended, and says whether it may.
-fn finishes(sender: &mut Sender, out: &mut Vec<u8>) -> Result<bool, AllocError> {
+/// Ends a text with these trailers where it may be ended, and says whether it may.
+fn finishes(
+    sender: &mut Sender,
+    trailers: &[Field],
+    out: &mut Vec<u8>,
+) -> Result<bool, AllocError> {
     if !sender.may_finish() {
         return Ok(false);
     }
-    sender.finish(&[], out)?;
+    sender.finish(trailers, out)?;
     Ok(true)
 }
 
@@ -77,7 +82,7 @@ fn is_written(alloc: Global, row: Row) -> Result<bool, AllocError> {
         }
     }
     out.clear();
-    Ok(finishes(&mut sender, &mut out)? && out.as_slice() == last)
+    Ok(finishes(&mut sender, &[], &mut out)? && out.as_slice() == last)
 }
 
 /// The first request that is written in another way.
@@ -139,7 +144,7 @@ fn is_sent(alloc: Global, row: Whole) -> Result<bool, AllocError> {
             return Ok(false);
         }
     }
-    Ok(finishes(&mut sender, &mut out)? && out.as_slice() == text)
+    Ok(finishes(&mut sender, &[], &mut out)? && out.as_slice() == text)
 }
 
 /// The first request that has another text.
@@ -188,6 +193,75 @@ static WHOLE_REQUESTS: [Whole; 6] = [
 #[test]
 fn requests_with_bodies(rt: HostRuntime) -> Result<(), Fail> {
     assert_eq!(rt; first_sent_otherwise(rt.alloc(), &WHOLE_REQUESTS)?, None);
+    Ok(())
+}
+
+/// A request: the text of its fields, its body, the text of its trailers, and what is written behind its head.
+type Trailing = (&'static [u8], &'static [u8], &'static [u8], &'static [u8]);
+
+/// Whether a request with a body and trailers has this text behind its head, and nothing may be added to it.
+fn is_sent_with_trailers(alloc: Global, row: Trailing) -> Result<bool, AllocError> {
+    let (lines, body, trailers, text) = row;
+    let mut fields = Vec::new(alloc);
+    push_fields(alloc, &mut fields, trailers)?;
+    let mut out = Vec::new(alloc);
+    let Some(mut sender) = started(alloc, lines, &mut out)? else {
+        return Ok(false);
+    };
+    let head = out.len();
+    if !pushes(&mut sender, body, &mut out)? || !finishes(&mut sender, &fields, &mut out)? {
+        return Ok(false);
+    }
+    Ok(out.get(head..) == Some(text) && !sender.may_push(0) && !sender.may_finish())
+}
+
+/// The first request whose trailers are written in another way.
+fn first_trailing_otherwise(alloc: Global, rows: &[Trailing]) -> Result<Option<usize>, AllocError> {
+    for (place, row) in rows.iter().enumerate() {
+        if !is_sent_with_trailers(alloc, *row)? {
+            return Ok(Some(place));
+        }
+    }
+    Ok(None)
+}
+
+/// Trailers stand behind the last chunk, in their order, also behind no body; a declared body has none.
+static TRAILERS: [Trailing; 5] = [
+    (
+        b":method=POST|:scheme=http|:path=/|:authority=h",
+        b"hi",
+        b"x-b=2|x-a=|x-b=a=3",
+        b"2\r\nhi\r\n0\r\nx-b: 2\r\nx-a: \r\nx-b: a=3\r\n\r\n",
+    ),
+    (
+        b":method=POST|:scheme=http|:path=/|:authority=h",
+        b"",
+        b"x-a=1",
+        b"0\r\nx-a: 1\r\n\r\n",
+    ),
+    (
+        b":method=POST|:scheme=http|:path=/|:authority=h",
+        b"hi",
+        b"",
+        b"2\r\nhi\r\n0\r\n\r\n",
+    ),
+    (
+        b":method=POST|:scheme=http|:path=/|:authority=h|content-length=2",
+        b"hi",
+        b"x-a=1",
+        b"hi",
+    ),
+    (
+        b":method=POST|:scheme=http|:path=/|:authority=h|content-length=0",
+        b"",
+        b"x-a=1",
+        b"\n",
+    ),
+];
+
+#[test]
+fn trailers_stand_behind_the_last_chunk(rt: HostRuntime) -> Result<(), Fail> {
+    assert_eq!(rt; first_trailing_otherwise(rt.alloc(), &TRAILERS)?, None);
     Ok(())
 }
 

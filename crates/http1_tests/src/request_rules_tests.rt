@@ -12,6 +12,7 @@ mod edges;
 mod heads;
 mod lengths;
 mod places;
+mod trailers;
 
 /// The fields of a right head, in a text.
 const HEAD: &[u8] = b":method=GET|:scheme=http|:path=/|:authority=h";

@@ -12,6 +12,10 @@ use streams_kept::{Course, Live, Streams};
 /// A response with a body of five octets.
 const RESPONSE: &[u8] = b"HTTP/1.1 200 OK\r\ncontent-length: 5\r\n\r\nhello";
 
+/// A response with a body of two octets and a trailer.
+const TRAILING: &[u8] =
+    b"HTTP/1.1 200 OK\r\nTransfer-Encoding: chunked\r\n\r\n2\r\nhi\r\n0\r\nX-A: 1\r\n\r\n";
+
 /// The first size of windows (RFC 9113, section 6.9.2).
 const FIRST_SIZE: u32 = 65535;
 
@@ -314,6 +318,25 @@ fn turns_go_round(rt: HostRuntime) -> Result<(), Fail> {
         Step::Sends(5, 2, Next::Octets(2, false)),
         Step::Closes(1),
         Step::Turns(FIRST_SIZE, 9, Some(3)),
+    ];
+    assert_eq!(rt; first_that_differs(rt.alloc(), &steps)?, None);
+    Ok(())
+}
+
+#[test]
+fn trailers_wait_for_their_body_and_for_no_window(rt: HostRuntime) -> Result<(), Fail> {
+    let steps = [
+        Step::Hears(3, TRAILING, Some(Heard::Whole)),
+        Step::Opens(3),
+        Step::Sends(3, 9, Next::Final(200, false)),
+        Step::Turns(0, 9, None),
+        Step::Turns(9, 9, Some(3)),
+        Step::Sends(3, 9, Next::Octets(2, false)),
+        Step::Waits(3, 9, Next::Trailers(1)),
+        Step::Turns(0, 0, Some(3)),
+        Step::Sends(3, 9, Next::Trailers(1)),
+        Step::Turns(9, 9, None),
+        Step::Waits(3, 9, Next::Nothing),
     ];
     assert_eq!(rt; first_that_differs(rt.alloc(), &steps)?, None);
     Ok(())

@@ -18,6 +18,10 @@ const HEAD: &[u8] = b"HTTP/1.1 200 OK\r\n\r\n";
 /// The reply that the gateway gives.
 const REPLY: &[u8] = b"HTTP/1.1 502 Bad Gateway\r\ncontent-length: 0\r\n\r\n";
 
+/// A response in chunks with two octets of a body and with two trailers.
+const TRAILING: &[u8] =
+    b"HTTP/1.1 200 OK\r\nTransfer-Encoding: chunked\r\n\r\n2\r\nhi\r\n0\r\nX-A: 1\r\nX-B: 2\r\n\r\n";
+
 /// More octets than a ring holds half of.
 const LONG: [u8; 40000] = [7; 40000];
 
@@ -36,8 +40,12 @@ enum Call<'a> {
     Head(u16, bool),
     /// Octets are next where so many may go: these, as they lie, and they end the response or don't.
     Octets(usize, &'a [u8], &'a [u8], bool),
+    /// Trailers are next, so many, which end the response.
+    Trailers(usize),
     /// The head that is next is taken, if one is.
     TakeHead(bool),
+    /// The trailers that are next are taken, if some are.
+    TakeTrailers(bool),
     /// So many octets were sent.
     Drop(usize),
     /// So many octets wait.
@@ -105,6 +113,14 @@ fn are_octets(part: Option<Part<'_>>, front: &[u8], back: &[u8], ends: bool) -> 
     }
 }
 
+/// Whether so many trailers are next.
+fn are_trailers(part: Option<Part<'_>>, count: usize) -> bool {
+    match part {
+        Some(Part::Trailing(fields)) => fields.len() == count,
+        _ => false,
+    }
+}
+
 /// Makes a call, and says whether it answers so.
 fn answers(alloc: Global, outbox: &mut Outbox, call: Call<'_>) -> Result<bool, Fail> {
     match call {
@@ -120,7 +136,9 @@ fn answers(alloc: Global, outbox: &mut Outbox, call: Call<'_>) -> Result<bool, F
         Call::Octets(most, front, back, ends) => {
             return Ok(are_octets(outbox.next(most), front, back, ends));
         }
+        Call::Trailers(count) => return Ok(are_trailers(outbox.next(1), count)),
         Call::TakeHead(is) => return Ok(outbox.take_head().is_some() == is),
+        Call::TakeTrailers(is) => return Ok(outbox.take_trailers().is_some() == is),
         Call::Drop(count) => outbox.drop_octets(count),
         Call::Held(count) => return Ok(outbox.held() == count),
         Call::CanGo(windows_open, can) => return Ok(outbox.can_go(windows_open) == can),
@@ -206,6 +224,46 @@ fn the_end_goes_alone_behind_all_octets(rt: HostRuntime) -> Result<(), Fail> {
         Call::CanGo(false, true),
         Call::Octets(9, b"", b"", true),
         Call::Drop(9),
+        Call::Nothing(9),
+    ];
+    assert_eq!(rt; first_that_differs(rt.alloc(), &calls)?, None);
+    Ok(())
+}
+
+#[test]
+fn trailers_go_behind_all_octets_and_need_no_window(rt: HostRuntime) -> Result<(), Fail> {
+    let calls = [
+        Call::Come(TRAILING),
+        Call::TakeTrailers(false),
+        Call::Head(200, false),
+        Call::TakeHead(true),
+        Call::CanGo(false, false),
+        Call::Octets(9, b"hi", b"", false),
+        Call::TakeTrailers(false),
+        Call::Drop(1),
+        Call::CanGo(false, false),
+        Call::Octets(9, b"i", b"", false),
+        Call::Drop(9),
+        Call::Held(0),
+        Call::CanGo(false, true),
+        Call::Trailers(2),
+        Call::TakeHead(false),
+        Call::TakeTrailers(true),
+        Call::TakeTrailers(false),
+        Call::CanGo(true, false),
+        Call::Nothing(9),
+    ];
+    assert_eq!(rt; first_that_differs(rt.alloc(), &calls)?, None);
+    Ok(())
+}
+
+#[test]
+fn a_reply_takes_the_place_of_trailers(rt: HostRuntime) -> Result<(), Fail> {
+    let calls = [
+        Call::Come(TRAILING),
+        Call::Reply(REPLY),
+        Call::Head(502, true),
+        Call::TakeHead(true),
         Call::Nothing(9),
     ];
     assert_eq!(rt; first_that_differs(rt.alloc(), &calls)?, None);

@@ -107,6 +107,45 @@ fn a_body_is_due_once_it_is_whole(rt: HostRuntime) -> Result<(), Fail> {
     Ok(())
 }
 
+/// One trailer.
+fn trailers_of(alloc: Global) -> Result<Vec<Field>, AllocError> {
+    let mut trailers = Vec::new(alloc);
+    trailers.push(Field::of(alloc, b"x-a", b"1")?)?;
+    Ok(trailers)
+}
+
+/// What is due of a request that waits for its end, once a trailer came with that.
+fn due_with_trailers(
+    alloc: Global,
+    rt: &impl Abort,
+    upstreams: &mut Upstreams,
+    head: &RequestHead,
+) -> Result<Due, Fail>
+    requires { head.now.length ≡ None }
+{
+    let trailers = trailers_of(alloc)?;
+    assert!(rt; is_nothing(&upstreams.begin(3, 7, head, false, false)?));
+    assert!(rt; is_nothing(&upstreams.take_body(3, b"hi", false, &trailers)?));
+    Ok(upstreams.take_body(3, b"", true, &trailers)?)
+}
+
+#[test]
+fn trailers_are_due_with_the_end(rt: HostRuntime) -> Result<(), Fail> {
+    let head = head_of(rt.alloc(), &rt, b"POST", false)?;
+    assert!(rt; head.length().is_none());
+    let mut upstreams = Upstreams::new(rt.alloc());
+    let Due::ToOpen(due) = due_with_trailers(rt.alloc(), &rt, &mut upstreams, &head)? else {
+        return Err(Fail::from("it isn't due"));
+    };
+    assert!(rt; due.rest.is_none());
+    assert!(rt;
+        due.text
+            .as_slice()
+            .ends_with(b"\r\n\r\n2\r\nhi\r\n0\r\nx-a: 1\r\n\r\n")
+    );
+    Ok(())
+}
+
 /// Opens connections for two streams, where none was opened, and answers their numbers.
 fn open_two(upstreams: &mut Upstreams, first: u32, second: u32) -> Result<(u32, u32), AllocError>
     requires { upstreams.old ≡ nothing }
@@ -290,6 +329,43 @@ fn a_body_goes_out_as_it_comes(rt: HostRuntime) -> Result<(), Fail> {
     assert!(rt; head.length().is_none());
     let mut upstreams = Upstreams::new(rt.alloc());
     assert_goes_out(&rt, &mut upstreams, &head)
+}
+
+/// A request goes out, its body as it comes, and a trailer with its end.
+fn assert_trailers_go_out(
+    alloc: Global,
+    rt: &impl Abort,
+    upstreams: &mut Upstreams,
+    head: &RequestHead,
+) -> Result<(), Fail>
+    requires first { upstreams.old ≡ nothing }
+    requires undeclared { head.now.length ≡ None }
+{
+    let trailers = trailers_of(alloc)?;
+    let Due::ToOpen(request) = upstreams.begin(3, 7, head, false, true)? else {
+        return Err(Fail::from("it waits"));
+    };
+    let k = upstreams.open(request.stream, false, Passing::Streaming, request.rest)?;
+    let Due::ToSend { number, text } = upstreams.take_body(3, b"hi", false, &trailers)? else {
+        return Err(Fail::from("nothing goes out"));
+    };
+    assert_eq!(rt; (number, text.as_slice()), (k, b"2\r\nhi\r\n".as_slice()));
+    let Due::ToSend { number, text } = upstreams.take_body(3, b"", true, &trailers)? else {
+        return Err(Fail::from("nothing goes out"));
+    };
+    assert_eq!(rt;
+        (number, text.as_slice()),
+        (k, b"0\r\nx-a: 1\r\n\r\n".as_slice())
+    );
+    Ok(())
+}
+
+#[test]
+fn trailers_go_out_with_the_end(rt: HostRuntime) -> Result<(), Fail> {
+    let head = head_of(rt.alloc(), &rt, b"POST", false)?;
+    assert!(rt; head.length().is_none());
+    let mut upstreams = Upstreams::new(rt.alloc());
+    assert_trailers_go_out(rt.alloc(), &rt, &mut upstreams, &head)
 }
 
 /// A request goes out as it comes, and the rest of it comes behind the close of its connection.

@@ -161,9 +161,9 @@ fn first_that_differs(
 }
 
 /// Each framing, with the octets that it needs and what may follow: a length, two equal ones, one of 0, none in either version,
-/// chunks, the last chunk alone, chunks with spaces, extensions and trailers, trailers of which some are for the connection, and none that
-/// are left.
-static FRAMINGS: [Row; 12] = [
+/// chunks, the last chunk alone, chunks with spaces, extensions and trailers, trailers of which some are for the connection, none that
+/// are left, and each name that is dropped.
+static FRAMINGS: [Row; 13] = [
     (
         b"HTTP/1.1 200 OK\r\nContent-Length: 2\r\n\r\nhi",
         b"",
@@ -205,6 +205,11 @@ static FRAMINGS: [Row; 12] = [
         b"HTTP/1.1 200 OK\r\nTransfer-Encoding: chunked\r\n\r\n0\r\nContent-Length: 9\r\n\r\n",
         b"more",
         b"head200||done|Complete",
+    ),
+    (
+        b"HTTP/1.1 200 OK\r\nTransfer-Encoding: chunked\r\n\r\n0\r\nA: 1\r\nHost: h\r\nContent-Length: 9\r\nTE: x\r\nTrailer: a\r\nExpect: x\r\nCookie: x\r\nSet-Cookie: x\r\nAuthorization: x\r\nConnection: x\r\nProxy-Connection: x\r\nKeep-Alive: 1\r\nTransfer-Encoding: x\r\nUpgrade: x\r\nB: 2\r\n\r\n",
+        b"",
+        b"head200| a=1 b=2|done|Complete",
     ),
     (
         b"HTTP/1.1 103 Early Hints\r\nlink: a\r\n\r\nHTTP/1.1 100 Continue\r\nContent-Length: 7\r\n\r\nHTTP/1.1 200 OK\r\nContent-Length: 2\r\n\r\nhi",

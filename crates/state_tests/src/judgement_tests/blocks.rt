@@ -54,6 +54,13 @@ const LARGE: &[u8] = &[
 /// `x: y`.
 const TRAILERS: &[u8] = &[0x00, 0x01, 0x78, 0x01, 0x79];
 
+/// `x: y`, `content-length: 2` and `host: h`, of which the first alone is passed on; and these two.
+const SOME_DROPPED: &[u8] = &[
+    0x00, 0x01, 0x78, 0x01, 0x79, 0x0f, 0x0d, 0x01, 0x32, 0x0f, 0x17, 0x01, 0x68,
+];
+
+const ALL_DROPPED: &[u8] = &[0x0f, 0x0d, 0x01, 0x32, 0x0f, 0x17, 0x01, 0x68];
+
 /// `:path: /`, which trailers can't have.
 const PATH: &[u8] = &[0x84];
 
@@ -433,8 +440,9 @@ fn the_longest_block_is_read(rt: HostRuntime) -> Result<(), Fail> {
     Ok(())
 }
 
-/// Trailers that end their request, that don't, that come before all octets that the head declares, and that have a pseudo-field.
-static ENDINGS: [Row<'static>; 8] = [
+/// Trailers that end their request, that don't, that come before all octets that the head declares, that have a pseudo-field, of which
+/// one is passed on, and of which none is.
+static ENDINGS: [Row<'static>; 12] = [
     (HEADERS, WHOLE, 1, GET, Told::Begins(0)),
     (HEADERS, ALL, 1, TRAILERS, Told::Trailers(1)),
     (HEADERS, WHOLE, 3, GET, Told::Begins(0)),
@@ -443,6 +451,10 @@ static ENDINGS: [Row<'static>; 8] = [
     (HEADERS, ALL, 5, TRAILERS, Told::Failed(Fault::Stream(1))),
     (HEADERS, WHOLE, 7, GET, Told::Begins(0)),
     (HEADERS, ALL, 7, PATH, Told::Failed(Fault::Stream(1))),
+    (HEADERS, WHOLE, 9, GET, Told::Begins(0)),
+    (HEADERS, ALL, 9, SOME_DROPPED, Told::Trailers(1)),
+    (HEADERS, WHOLE, 11, GET, Told::Begins(0)),
+    (HEADERS, ALL, 11, ALL_DROPPED, Told::Trailers(0)),
 ];
 
 #[test]

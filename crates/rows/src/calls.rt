@@ -4,7 +4,6 @@ ghost use Rattle.std.specs.Prelude.{IfOk};
 ghost use Rattle.gateway.specs.Setups.{setup_of, IsServable};
 ghost use Rattle.rows.specs.Driven.{IsDriven};
 
-use crate::runs::new_gateway;
 use gateway::{Config, Event, Gateway, Output, Passing, Policy, Route, RunFault, run, run_into};
 use std::alloc::{AllocError, Global};
 use std::string::String;
@@ -59,6 +58,14 @@ fn client(alloc: Global, octets: &[u8]) -> Result<Event, AllocError> {
 /// Octets of the first upstream.
 fn answer(alloc: Global, octets: &[u8]) -> Result<Event, AllocError> {
     Ok(Event::Up(1, Vec::from_slice(alloc, octets)?))
+}
+
+/// A gateway to which nothing came.
+fn new_gateway(alloc: Global, config: &Config) -> Result<Gateway, AllocError>
+    requires { IsServable (setup_of config.now) }
+    ensures { IfOk result IsDriven }
+{
+    Gateway::new(alloc, config)
 }
 
 /// A gateway to which nothing came, and which passes bodies on whole.

@@ -1,5 +1,0 @@
-use Rattle.rows.specs.Driven.{IsDriven}
-use Rattle.rows.proofs.runs.take_all.Given as goal
-
-abbrev pub invariant-loop-event : goal.invariant-loop-event
-invariant-loop-event l = IsDriven l.gateway

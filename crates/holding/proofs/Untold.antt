@@ -34,13 +34,13 @@ untold : (text : List ℕ) (parts : List Part) (reader : Reader) → Stands text
 untold text parts reader stands more = elim (telling.tells text parts reader stands) [
   | inl b ↦ ap trailers_of b.told ∙ untold_before b.interims
   | inr b ↦ (elim b.ends_are [
-      | inl none ↦ none_told parts b.interims b.head b.bodies (b.told ∙ ap (λ (ends : List Part). map Interim b.interims ++ (Final b.head ∷ map Body b.bodies ++ ends)) none)
-      | inr e ↦ (
-          let done : is_done parts ≡ true =
-          ap is_done b.told ∙ done_behind_heads b.interims (Final b.head ∷ map Body b.bodies ++ b.ends) ∙ done_behind_bodies b.bodies b.ends ∙ ap is_done e.1 ∙ done_at_end e.0 in
-          let clash : true ≡ false = sym done ∙ more in cc
-          )
-    ])
+    | inl none ↦ none_told parts b.interims b.head b.bodies (b.told ∙ ap (λ (ends : List Part). map Interim b.interims ++ (Final b.head ∷ map Body b.bodies ++ ends)) none)
+    | inr e ↦ (
+        let done : is_done parts ≡ true =
+        ap is_done b.told ∙ done_behind_heads b.interims (Final b.head ∷ map Body b.bodies ++ b.ends) ∙ done_behind_bodies b.bodies b.ends ∙ ap is_done e.1 ∙ done_at_end e.0 in
+        let clash : true ≡ false = sym done ∙ more in cc
+        )
+  ])
 ]
 
 pub no_trailers : (answer : Answer) (parts : List Part) → answer.trailers ≡ trailers_of parts → (text : List ℕ) (reader : Reader) → Stands text parts reader → is_done parts ≡ false → octets_of_fields (trailers_at answer.trailers) ≡ 0

@@ -22,12 +22,7 @@ use std::mem;
 enum Place {
     /// No final head was sent: interim heads, the final head if it is on offer, octets behind it, and, once the response is whole, its
     /// trailers, if it has some.
-    Before(
-        VecDeque<ResponseHead>,
-        Option<ResponseHead>,
-        Octets,
-        Option<Option<Trailers>>,
-    ),
+    Before(VecDeque<ResponseHead>, Option<ResponseHead>, Octets, Option<Option<Trailers>>),
     /// The final head was sent: octets behind it, and, once the response is whole, its trailers, if it has some.
     Behind(Octets, Option<Option<Trailers>>),
     /// All was sent, with the end.
@@ -140,7 +135,12 @@ impl Outbox {
     pub fn reply(&mut self, alloc: Global, head: ResponseHead)
         ensures { self.new ≡ rule.Outbox.Before [] (Some head) [] (Some []) }
     {
-        self.place = Place::Before(VecDeque::new(alloc), Some(head), Octets::new(alloc), Some(None));
+        self.place = Place::Before(
+            VecDeque::new(alloc),
+            Some(head),
+            Octets::new(alloc),
+            Some(None),
+        );
     }
 
     /// Whether the final head of a response was sent.
@@ -176,9 +176,10 @@ impl Outbox {
         match &self.place {
             Place::Before(interims, head, body, whole) => match interims.front() {
                 Some(first) => Some(Part::Early(first)),
-                None => head
-                    .as_ref()
-                    .map(|head| Part::Final(head, is_plain(whole) && body.is_empty())),
+                None => head.as_ref().map(|head| Part::Final(
+                    head,
+                    is_plain(whole) && body.is_empty(),
+                )),
             },
             Place::Behind(body, whole) => part_at(body, most, whole),
             Place::Over => None,

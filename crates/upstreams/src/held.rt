@@ -97,12 +97,7 @@ fn to_send(number: u32, text: Vec<u8>) -> Due
 
 impl Held {
     /// More octets of its body come, which goes on behind them, so that trailers don't count yet. An `Err` says that memory was refused.
-    fn go_on(
-        &mut self,
-        alloc: Global,
-        octets: &[u8],
-        trailers: &[Field],
-    ) -> Result<Due, AllocError>
+    fn go_on(&mut self, alloc: Global, octets: &[u8], trailers: &[Field]) -> Result<Due, AllocError>
         requires { MayTake octets.now false self.old.way }
         ensures goes { IfOk result (λ due. GoesBy self.old.id octets.now trailers.now false self.old.way (due_by due) (Some self.new.way)) }
         ensures same { self.new.id ≡ self.old.id }
@@ -121,12 +116,7 @@ impl Held {
     }
 
     /// The last octets of its body come, with these trailers; it isn't dropped. An `Err` says that memory was refused.
-    fn finish(
-        self,
-        alloc: Global,
-        octets: &[u8],
-        trailers: &[Field],
-    ) -> Result<Due, AllocError>
+    fn finish(self, alloc: Global, octets: &[u8], trailers: &[Field]) -> Result<Due, AllocError>
         requires may { MayTake octets.now true self.way }
         requires on { self.way ≡ Dropped → ⊥ }
         ensures { IfOk result (λ due. GoesBy self.id octets.now trailers.now true self.way (due_by due) None) }

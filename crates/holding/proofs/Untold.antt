@@ -1,5 +1,5 @@
 -- An answer that goes on holds no trailers.
-use Rattle.std.proofs.Common.{◌≡◌, ℕ, Bool, true, false, List, [], ◌∷◌, ◌++◌, map, Option, Some, None, refl, sym, ◌∙◌, ap, inl, inr}
+use Rattle.std.proofs.Common.{◌≡◌, ℕ, true, false, List, [], ◌∷◌, ◌++◌, map, None, refl, sym, ◌∙◌, ap, inl, inr}
 use Rattle.model.specs.Messages.{Field}
 use Rattle.model.specs.ResponseHeads.{Head}
 use Rattle.model.specs.Deliveries.{End}

@@ -46,7 +46,6 @@ use Rattle.marks_kept.proofs.Telling as telling
 use Rattle.policy.specs.State.{State}
 use Rattle.policy.specs.Rule.{rooms_in}
 use Rattle.policy.specs.Coming.{IsReady}
-use Rattle.policy.specs.Steps as policy
 use Rattle.policy.specs.Steps.{Stands, told_by, next, MayGoOn}
 use Rattle.policy.proofs.Stepping.{one_more}
 use Rattle.relay.specs.Others.{SameOf}

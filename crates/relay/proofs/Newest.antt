@@ -33,7 +33,6 @@ use Rattle.h1_writer.specs.Sending.{Stage}
 use Rattle.serving.specs.State as serving
 use Rattle.serving.specs.State.{Due, to_open, to_send}
 use Rattle.serving.specs.State.Due.{Nothing, ToOpen, ToSend}
-use Rattle.serving.specs.Rule as requests
 use Rattle.serving.proofs.Standing.{IsWaiting}
 use Rattle.streams_kept.specs.Asked.{has}
 use Rattle.policy.specs.Moves.{Gain, Deed, Move, told_in}

@@ -15,7 +15,6 @@ use Rattle.conduct.specs.Summary.{Stream as Conducted, Summary}
 use Rattle.conduct.specs.Judging.{active_in}
 use Rattle.conduct.specs.Rows.{find}
 use Rattle.conduct.specs.Book.{desk_of}
-use Rattle.conduct.specs.Told as conduct
 use Rattle.conduct.proofs.Telling.{book_told, live_told}
 use Rattle.offering.specs.Sight.{IsRightOf, sight_in}
 use Rattle.offering.specs.Rule.{IsEventOf, OpensNext}

@@ -3,7 +3,6 @@ use Rattle.std.proofs.Common.{◌≡◌, ℕ, Bool, true, false, List, [], ◌++
 use Rattle.std.specs.Prelude.{Option, option_map}
 use Rattle.model.specs.Http2.{HasLength}
 use Rattle.request_rules.specs.Heads.{HeadParts}
-use Rattle.requests.specs.Waits as requests
 use Rattle.h1_writer.specs.Sending.Stage.{Whole}
 use Rattle.serving.specs.State.{Way, Held, Due, id_of, held_of, held_at, held_with, with_way, is_whole}
 use Rattle.serving.specs.State.Way.{Waiting}

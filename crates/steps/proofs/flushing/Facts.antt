@@ -4,7 +4,7 @@ use Rattle.std.specs.Prelude.{◌⊎◌, is_some}
 use Rattle.std.specs.List.{list_any}
 use Rattle.std.proofs.lemmas.Bool.{cases_Bool, eqb-true}
 use Rattle.std.proofs.lemmas.List.Folds.{list_any-append}
-use Rattle.model.specs.Messages.{Field, Item, ends_with}
+use Rattle.model.specs.Messages.{Item, ends_with}
 use Rattle.model.specs.Messages.Item.{Block, Content}
 use Rattle.model.specs.Frames.{data_kind, ends_stream, content}
 use Rattle.model.specs.ResponseHeads.{Head}

@@ -1,6 +1,4 @@
-use Rattle.std.proofs.Common.{rules, ◌≡◌, ◌<◌, true, false, Some, length, sym, ap, ◌∙◌}
-use Rattle.model.specs.Octets.{is_empty}
-use Rattle.offering.specs.Outbox.{is_plain}
+use Rattle.std.proofs.Common.{rules, ◌<◌, false, Some, length, ap, ◌∙◌}
 use Rattle.offering.specs.Outbox.Part.{Octets}
 use Rattle.outbox.specs.Views.{end_in}
 use Rattle.outbox.proofs.Sent as laws

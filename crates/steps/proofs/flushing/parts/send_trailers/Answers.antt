@@ -1,4 +1,4 @@
-use Rattle.std.proofs.Common.{rules, true, false, Some, ◌≡◌, ℕ, ◌+◌, ◌*◌, ◌-◌, ◌/◌, List, length, None, sym, ◌∙◌, ap, subst}
+use Rattle.std.proofs.Common.{rules, true, false, ◌≡◌, ℕ, ◌+◌, ◌*◌, ◌-◌, ◌/◌, List, length, None, sym, ◌∙◌, ap, subst}
 use Rattle.std.specs.List.{All}
 use Rattle.model.specs.Messages.{Field}
 use Rattle.conduct.specs.Rows.{find}

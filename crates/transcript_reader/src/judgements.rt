@@ -12,7 +12,7 @@ ghost use Rattle.gateway.specs.Setups.{setup_of, IsServable};
 
 use crate::octets::Data;
 use crate::transcripts::Transcript;
-use crate::{clients, octets, printing, upstreams};
+use crate::{ends_of_clients, ends_of_upstreams, octets, printing};
 use gateway::Config;
 use scripts::{ScriptFault, read_script};
 use std::alloc::{AllocError, Global};
@@ -38,8 +38,8 @@ pub(crate) fn difference(
         "prints" => printing::difference(alloc, config, &events, &transcript.wanted),
         "octets" => octets::difference(alloc, config, script, &events, Data::Same),
         "joined" => octets::difference(alloc, config, script, &events, Data::Joined),
-        "client-ends" => clients::difference(alloc, config, &events),
-        "upstream-ends" => upstreams::difference(alloc, config, &events),
+        "client-ends" => ends_of_clients::difference(alloc, config, &events),
+        "upstream-ends" => ends_of_upstreams::difference(alloc, config, &events),
         _ => Ok(Some(String::from_str(alloc, "no judgement")?)),
     }
 }

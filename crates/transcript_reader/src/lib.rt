@@ -12,7 +12,8 @@
 //!   from this one on, and `{k}` that of a connection, from this one on.
 #![tactic(auto)]
 
-mod clients;
+mod ends_of_clients;
+mod ends_of_upstreams;
 mod judgements;
 mod notation;
 mod octets;
@@ -22,6 +23,5 @@ mod rows;
 mod runs;
 mod texts;
 mod transcripts;
-mod upstreams;
 
 pub use reading::go_through;

@@ -200,10 +200,10 @@ fn take(
         return Ok(());
     }
     let mut out = Vec::new(alloc);
-    if gateway.step(event, &mut out).is_err() {
-        return Err(AllocError);
+    match gateway.step(event, &mut out) {
+        Ok(()) => told.note(alloc, event, &out),
+        Err(_) => Err(AllocError),
     }
-    told.note(alloc, event, &out)
 }
 
 /// Takes events one after another, those that may come.

@@ -4,7 +4,7 @@ ghost use Rattle.std.specs.Prelude.{IfSome};
 ghost use Rattle.gateway.specs.Setups.{setup_of, IsServable};
 
 use crate::made::Made;
-use crate::samples::{FIRST_BLOCK, LATER_BLOCKS, SMALL_RESPONSE};
+use crate::samples::{FIRST_BLOCK, LATER_BLOCKS};
 use gateway::{Config, Event, Output, Passing, Policy, Route, run};
 use std::alloc::Global;
 
@@ -14,11 +14,13 @@ const BEGIN: &[u8] = b"PRI * HTTP/2.0\r\n\r\nSM\r\n\r\n\x00\x00\x00\x04\x00\x00\
 /// How many octets of a request its upstream's side takes at once.
 const TAKEN: u64 = 100;
 
-/// Of which requests a connection consists: some that nobody answers, and then some that are answered one after another.
+/// Of which requests a connection consists: some that nobody answers, and then some that are answered one after another, each with
+/// this response.
 #[derive(Clone, Copy)]
 pub struct Load {
     pub active: u32,
     pub answered: u32,
+    pub response: &'static [u8],
 }
 
 /// One route for all requests.
@@ -81,9 +83,9 @@ fn for_client(outputs: &[Output]) -> u64 {
 }
 
 /// Adds the events of an answer on a connection.
-fn answer(alloc: Global, k: u32, events: &mut Vec<Event>) -> Option<()> {
+fn answer(alloc: Global, k: u32, response: &[u8], events: &mut Vec<Event>) -> Option<()> {
     events.push(Event::UpTook(k, TAKEN)).ok()?;
-    let response = Vec::from_slice(alloc, SMALL_RESPONSE).ok()?;
+    let response = Vec::from_slice(alloc, response).ok()?;
     events.push(Event::Up(k, response)).ok()
 }
 
@@ -95,17 +97,17 @@ fn steps_of(alloc: Global, config: &Config, events: &[Event]) -> Option<Vec<Vec<
 }
 
 /// The events of a request that is answered.
-fn push_first(alloc: Global, events: &mut Vec<Event>) -> Option<()> {
+fn push_first(alloc: Global, response: &[u8], events: &mut Vec<Event>) -> Option<()> {
     events.push(request_at(alloc, 0)?).ok()?;
-    answer(alloc, 1, events)
+    answer(alloc, 1, response, events)
 }
 
 /// How many octets for the client an answer takes.
-fn answer_octets(alloc: Global, config: &Config) -> Option<u64>
+fn answer_octets(alloc: Global, config: &Config, response: &[u8]) -> Option<u64>
     requires { IsServable (setup_of config.now) }
 {
     let mut events = Vec::new(alloc);
-    push_first(alloc, &mut events)?;
+    push_first(alloc, response, &mut events)?;
     let steps = steps_of(alloc, config, &events)?;
     Some(for_client(steps.last()?))
 }
@@ -116,7 +118,7 @@ fn push_events(alloc: Global, load: Load, count: u64, events: &mut Vec<Event>) -
     for place in 0..all {
         events.push(request_at(alloc, place)?).ok()?;
         if place >= load.active {
-            answer(alloc, place.checked_add(1)?, events)?;
+            answer(alloc, place.checked_add(1)?, load.response, events)?;
             events.push(Event::ClientTook(count)).ok()?;
         }
     }
@@ -156,7 +158,7 @@ fn run_once(alloc: Global, config: &Config, events: &[Event], made: &mut Made) -
 fn get_by(alloc: Global, config: &Config, rounds: u32, made: &mut Made, load: Load) -> Option<()>
     requires { IsServable (setup_of config.now) }
 {
-    let count = answer_octets(alloc, config)?;
+    let count = answer_octets(alloc, config, load.response)?;
     let mut events = Vec::new(alloc);
     push_events(alloc, load, count, &mut events)?;
     for _ in 0..rounds {

@@ -14,12 +14,13 @@ mod texts;
 use crate::gets::Load;
 use crate::judging::{Judging, Streams};
 use crate::made::Made;
+use crate::samples::{BARE_RESPONSE, CHUNKED_RESPONSE, SMALL_RESPONSE, TRAILING_RESPONSE};
 use std::alloc::Global;
 use std::env;
 use std::process::ExitCode;
 
 /// The names of the parts.
-const PARTS: [&str; 28] = [
+const PARTS: [&str; 31] = [
     "exchanges",
     "decode",
     "send",
@@ -48,6 +49,9 @@ const PARTS: [&str; 28] = [
     "active",
     "gets-9000",
     "gets-9100",
+    "gets-bare",
+    "gets-chunked",
+    "gets-trailers",
 ];
 
 /// The status is 1 for any command line but a part and a number of rounds, where a layer refuses the samples or memory is
@@ -101,17 +105,24 @@ fn run_part(part: &str, alloc: Global, rounds: u32, made: &mut Made) -> Option<(
     }
 }
 
-/// How many requests a part makes that nobody answers, and how many that are answered.
+/// How many requests a part makes that nobody answers, how many that are answered, and with what.
 fn load_of(part: &str) -> Option<Load> {
-    let (active, answered) = match part {
-        "gets" => (0, 100),
-        "gets-active" => (99, 100),
-        "active" => (99, 0),
-        "gets-9000" => (0, 9_000),
-        "gets-9100" => (0, 9_100),
+    let (active, answered, response) = match part {
+        "gets" => (0, 100, SMALL_RESPONSE),
+        "gets-active" => (99, 100, SMALL_RESPONSE),
+        "active" => (99, 0, SMALL_RESPONSE),
+        "gets-9000" => (0, 9_000, SMALL_RESPONSE),
+        "gets-9100" => (0, 9_100, SMALL_RESPONSE),
+        "gets-bare" => (0, 100, BARE_RESPONSE),
+        "gets-chunked" => (0, 100, CHUNKED_RESPONSE),
+        "gets-trailers" => (0, 100, TRAILING_RESPONSE),
         _ => return None,
     };
-    Some(Load { active, answered })
+    Some(Load {
+        active,
+        answered,
+        response,
+    })
 }
 
 /// Which frames a part judges, and on which connection.

@@ -68,6 +68,49 @@ pub const SMALL_RESPONSE: &[u8] = b"HTTP/1.1 200 OK\r\n\
     \r\n\
     hi";
 
+/// A response with a body of two octets in a chunk, and no fields that are passed back.
+pub const BARE_RESPONSE: &[u8] = b"HTTP/1.1 200 OK\r\n\
+    Transfer-Encoding: chunked\r\n\
+    \r\n\
+    2\r\nhi\r\n0\r\n\r\n";
+
+/// The same with 8 fields in its head.
+pub const CHUNKED_RESPONSE: &[u8] = b"HTTP/1.1 200 OK\r\n\
+    Transfer-Encoding: chunked\r\n\
+    Date: Sun, 22 Nov 2026 10:00:00 GMT\r\n\
+    Server: Apache/2.4.62 (Unix)\r\n\
+    Last-Modified: Sat, 21 Nov 2026 08:30:00 GMT\r\n\
+    ETag: \"5c3f-62d1a8b1e4a40\"\r\n\
+    Accept-Ranges: bytes\r\n\
+    Content-Language: en-US\r\n\
+    Cache-Control: max-age=3600\r\n\
+    Content-Type: text/html; charset=utf-8\r\n\
+    \r\n\
+    2\r\nhi\r\n0\r\n\r\n";
+
+/// The same with these 8 fields in its head, and in its trailers too.
+pub const TRAILING_RESPONSE: &[u8] = b"HTTP/1.1 200 OK\r\n\
+    Transfer-Encoding: chunked\r\n\
+    Date: Sun, 22 Nov 2026 10:00:00 GMT\r\n\
+    Server: Apache/2.4.62 (Unix)\r\n\
+    Last-Modified: Sat, 21 Nov 2026 08:30:00 GMT\r\n\
+    ETag: \"5c3f-62d1a8b1e4a40\"\r\n\
+    Accept-Ranges: bytes\r\n\
+    Content-Language: en-US\r\n\
+    Cache-Control: max-age=3600\r\n\
+    Content-Type: text/html; charset=utf-8\r\n\
+    \r\n\
+    2\r\nhi\r\n0\r\n\
+    Date: Sun, 22 Nov 2026 10:00:00 GMT\r\n\
+    Server: Apache/2.4.62 (Unix)\r\n\
+    Last-Modified: Sat, 21 Nov 2026 08:30:00 GMT\r\n\
+    ETag: \"5c3f-62d1a8b1e4a40\"\r\n\
+    Accept-Ranges: bytes\r\n\
+    Content-Language: en-US\r\n\
+    Cache-Control: max-age=3600\r\n\
+    Content-Type: text/html; charset=utf-8\r\n\
+    \r\n";
+
 /// A response's head with 30 fields.
 pub const LARGE_HEAD: &[u8] = b"HTTP/1.1 200 OK\r\n\
     Date: Sun, 22 Nov 2026 10:00:00 GMT\r\n\

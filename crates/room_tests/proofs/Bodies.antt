@@ -2,6 +2,7 @@
 use Rattle.std.proofs.Common.{◌≡◌, ℕ, Bool, true, false, List, [], ◌++◌, length, Some, None, sym, ap, ◌∙◌, subst}
 use Rattle.std.specs.Prelude.{Option}
 use Rattle.std.specs.List.{concat}
+use Rattle.model.specs.Messages.{Field}
 use Rattle.model.specs.Http2.{HasLength}
 use Rattle.request_rules.specs.Heads.{HeadParts}
 use Rattle.h1_writer.specs.Sending.{Stage, HasRoom, piece_of}
@@ -22,9 +23,9 @@ use Rattle.upstreams.proofs.Waiting.{is_held, begun_held}
 
 module _ (old new : State) (id route : ℕ) (parts : HeadParts) (due : Due) (b : Begins old id route parts false false due new) (none : parts.length ≡ None) where
   -- behind octets that came
-  pub may_take_behind : (more octets : List ℕ) (ends : Bool) (told : Due) (hs : List Held) → Takes id more false new.held (held_of id new.held) told hs → MayTakeOf octets ends (held_of id hs)
-  may_take_behind more octets ends told hs takes =
-      let so : TakesBy id more false new.held (Waiting route b.text b.stage []) told hs = subst (λ (o : Option Held). Takes id more false new.held o told hs) (begun_held old new id route parts due b none) takes in
+  pub may_take_behind : (more octets : List ℕ) (trailers : List Field) (ends : Bool) (told : Due) (hs : List Held) → Takes id more trailers false new.held (held_of id new.held) told hs → MayTakeOf octets ends (held_of id hs)
+  may_take_behind more octets trailers ends told hs takes =
+      let so : TakesBy id more trailers false new.held (Waiting route b.text b.stage []) told hs = subst (λ (o : Option Held). Takes id more trailers false new.held o told hs) (begun_held old new id route parts due b none) takes in
       let found : held_of id hs ≡ Some (record { id = id; way = Waiting route b.text b.stage more }) =
       ap (held_of id) (so.2 ∙ ap (λ (n : Option Way). held_with id n new.held) so.1.1) ∙ is_held id (Waiting route b.text b.stage more) new.held in
       subst (MayTakeOf octets ends) (sym found) (λ e. record {
@@ -74,13 +75,13 @@ module _ (old new : State) (id route : ℕ) (parts : HeadParts) (outgoing : Outg
     })
 
     -- and more behind them
-    pub may_go_further : (first octets : List ℕ) (ends : Bool) (told : Due) (us : List Held) → Takes id first false hs (held_of id hs) told us → MayTakeOf octets ends (held_of id us)
-    may_go_further first octets ends told us takes =
-        let so : TakesBy id first false hs (Going k b.stage) told us = subst (λ (o : Option Held). Takes id first false hs o told us) goes_out takes in
+    pub may_go_further : (first octets : List ℕ) (trailers : List Field) (ends : Bool) (told : Due) (us : List Held) → Takes id first trailers false hs (held_of id hs) told us → MayTakeOf octets ends (held_of id us)
+    may_go_further first octets trailers ends told us takes =
+        let so : TakesBy id first trailers false hs (Going k b.stage) told us = subst (λ (o : Option Held). Takes id first trailers false hs o told us) goes_out takes in
         let passed = so.1 in
         let part : passed.stage ≡ Whole → ⊥ = not_whole passed.stage passed.whole in
         let found : held_of id us ≡ Some (record { id = id; way = Going k passed.stage }) =
         ap (held_of id) (so.2 ∙ ap (λ (w : Option Way). held_with id w hs) (passed.next_is ∙ held_part passed.stage (Going k passed.stage) part)) ∙ is_held id (Going k passed.stage) hs in
-        let on : GoesOn b.stage first false passed.written passed.stage = record { continues = passed.continues; whole = λ t. absurd (let clash : false ≡ true = t in cc); part = λ f. part } in
+        let on : GoesOn b.stage first trailers false passed.written passed.stage = record { continues = passed.continues; whole = λ t. absurd (let clash : false ≡ true = t in cc); part = λ f. part } in
         subst (MayTakeOf octets ends) (sym found)
-        (goes_further parts b.text b.stage passed.stage first passed.written octets ends b.sending on (room octets (piece_of first)) (λ e. subst (λ (o : Option ℕ). HasLength o (concat (piece_of first) ++ octets)) (sym none) tt))
+        (goes_further parts b.text b.stage passed.stage first passed.written octets trailers ends b.sending on (room octets (piece_of first)) (λ e. subst (λ (o : Option ℕ). HasLength o (concat (piece_of first) ++ octets)) (sym none) tt))

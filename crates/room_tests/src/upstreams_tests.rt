@@ -85,12 +85,17 @@ fn a_request_without_a_body_is_due_at_once(rt: HostRuntime) -> Result<(), Fail> 
 }
 
 /// What is due of a request that waits for its end, once that came.
-fn due_behind(rt: &impl Abort, upstreams: &mut Upstreams, head: &RequestHead) -> Result<Due, Fail>
+fn due_behind(
+    rt: &impl Abort,
+    upstreams: &mut Upstreams,
+    head: &RequestHead,
+    trailers: &[Field],
+) -> Result<Due, Fail>
     requires { head.now.length ≡ None }
 {
     assert!(rt; is_nothing(&upstreams.begin(3, 7, head, false, false)?));
-    assert!(rt; is_nothing(&upstreams.take_body(3, b"hel", false, &[])?));
-    Ok(upstreams.take_body(3, b"lo", true, &[])?)
+    assert!(rt; is_nothing(&upstreams.take_body(3, b"hel", false, trailers)?));
+    Ok(upstreams.take_body(3, b"lo", true, trailers)?)
 }
 
 #[test]
@@ -98,7 +103,7 @@ fn a_body_is_due_once_it_is_whole(rt: HostRuntime) -> Result<(), Fail> {
     let head = head_of(rt.alloc(), &rt, b"POST", false)?;
     assert!(rt; head.length().is_none());
     let mut upstreams = Upstreams::new(rt.alloc());
-    let Due::ToOpen(due) = due_behind(&rt, &mut upstreams, &head)? else {
+    let Due::ToOpen(due) = due_behind(&rt, &mut upstreams, &head, &[])? else {
         return Err(Fail::from("it isn't due"));
     };
     assert!(rt; due.rest.is_none());
@@ -114,34 +119,20 @@ fn trailers_of(alloc: Global) -> Result<Vec<Field>, AllocError> {
     Ok(trailers)
 }
 
-/// What is due of a request that waits for its end, once a trailer came with that.
-fn due_with_trailers(
-    alloc: Global,
-    rt: &impl Abort,
-    upstreams: &mut Upstreams,
-    head: &RequestHead,
-) -> Result<Due, Fail>
-    requires { head.now.length ≡ None }
-{
-    let trailers = trailers_of(alloc)?;
-    assert!(rt; is_nothing(&upstreams.begin(3, 7, head, false, false)?));
-    assert!(rt; is_nothing(&upstreams.take_body(3, b"hi", false, &trailers)?));
-    Ok(upstreams.take_body(3, b"", true, &trailers)?)
-}
-
 #[test]
 fn trailers_are_due_with_the_end(rt: HostRuntime) -> Result<(), Fail> {
+    let trailers = trailers_of(rt.alloc())?;
     let head = head_of(rt.alloc(), &rt, b"POST", false)?;
     assert!(rt; head.length().is_none());
     let mut upstreams = Upstreams::new(rt.alloc());
-    let Due::ToOpen(due) = due_with_trailers(rt.alloc(), &rt, &mut upstreams, &head)? else {
+    let Due::ToOpen(due) = due_behind(&rt, &mut upstreams, &head, &trailers)? else {
         return Err(Fail::from("it isn't due"));
     };
     assert!(rt; due.rest.is_none());
     assert!(rt;
         due.text
             .as_slice()
-            .ends_with(b"\r\n\r\n2\r\nhi\r\n0\r\nx-a: 1\r\n\r\n")
+            .ends_with(b"\r\n\r\n5\r\nhello\r\n0\r\nx-a: 1\r\n\r\n")
     );
     Ok(())
 }
@@ -295,11 +286,13 @@ fn only_the_stream_that_is_told_is_forgotten(rt: HostRuntime) -> Result<(), Fail
     Ok(())
 }
 
-/// A request goes out, and its body as it comes.
+/// A request goes out, and its body as it comes; these octets with its end, behind which these trailers come.
 fn assert_goes_out(
     rt: &impl Abort,
     upstreams: &mut Upstreams,
     head: &RequestHead,
+    trailers: &[Field],
+    last: &[u8],
 ) -> Result<(), Fail>
     requires first { upstreams.old ≡ nothing }
     requires undeclared { head.now.length ≡ None }
@@ -308,18 +301,15 @@ fn assert_goes_out(
         return Err(Fail::from("it waits"));
     };
     let k = upstreams.open(request.stream, false, Passing::Streaming, request.rest)?;
-    let Due::ToSend { number, text } = upstreams.take_body(3, b"hel", false, &[])? else {
+    let Due::ToSend { number, text } = upstreams.take_body(3, b"hel", false, trailers)? else {
         return Err(Fail::from("nothing goes out"));
     };
     assert_eq!(rt; (number, text.as_slice()), (k, b"3\r\nhel\r\n".as_slice()));
-    let Due::ToSend { number, text } = upstreams.take_body(3, b"lo", true, &[])? else {
+    let Due::ToSend { number, text } = upstreams.take_body(3, b"lo", true, trailers)? else {
         return Err(Fail::from("nothing goes out"));
     };
-    assert_eq!(rt;
-        (number, text.as_slice()),
-        (k, b"2\r\nlo\r\n0\r\n\r\n".as_slice())
-    );
-    assert!(rt; is_nothing(&upstreams.take_body(3, b"", true, &[])?));
+    assert!(rt; number == k && text.as_slice() == last);
+    assert!(rt; is_nothing(&upstreams.take_body(3, b"", true, trailers)?));
     Ok(())
 }
 
@@ -328,44 +318,17 @@ fn a_body_goes_out_as_it_comes(rt: HostRuntime) -> Result<(), Fail> {
     let head = head_of(rt.alloc(), &rt, b"POST", false)?;
     assert!(rt; head.length().is_none());
     let mut upstreams = Upstreams::new(rt.alloc());
-    assert_goes_out(&rt, &mut upstreams, &head)
-}
-
-/// A request goes out, its body as it comes, and a trailer with its end.
-fn assert_trailers_go_out(
-    alloc: Global,
-    rt: &impl Abort,
-    upstreams: &mut Upstreams,
-    head: &RequestHead,
-) -> Result<(), Fail>
-    requires first { upstreams.old ≡ nothing }
-    requires undeclared { head.now.length ≡ None }
-{
-    let trailers = trailers_of(alloc)?;
-    let Due::ToOpen(request) = upstreams.begin(3, 7, head, false, true)? else {
-        return Err(Fail::from("it waits"));
-    };
-    let k = upstreams.open(request.stream, false, Passing::Streaming, request.rest)?;
-    let Due::ToSend { number, text } = upstreams.take_body(3, b"hi", false, &trailers)? else {
-        return Err(Fail::from("nothing goes out"));
-    };
-    assert_eq!(rt; (number, text.as_slice()), (k, b"2\r\nhi\r\n".as_slice()));
-    let Due::ToSend { number, text } = upstreams.take_body(3, b"", true, &trailers)? else {
-        return Err(Fail::from("nothing goes out"));
-    };
-    assert_eq!(rt;
-        (number, text.as_slice()),
-        (k, b"0\r\nx-a: 1\r\n\r\n".as_slice())
-    );
-    Ok(())
+    assert_goes_out(&rt, &mut upstreams, &head, &[], b"2\r\nlo\r\n0\r\n\r\n")
 }
 
 #[test]
 fn trailers_go_out_with_the_end(rt: HostRuntime) -> Result<(), Fail> {
+    let trailers = trailers_of(rt.alloc())?;
     let head = head_of(rt.alloc(), &rt, b"POST", false)?;
     assert!(rt; head.length().is_none());
     let mut upstreams = Upstreams::new(rt.alloc());
-    assert_trailers_go_out(rt.alloc(), &rt, &mut upstreams, &head)
+    let last = b"2\r\nlo\r\n0\r\nx-a: 1\r\n\r\n".as_slice();
+    assert_goes_out(&rt, &mut upstreams, &head, &trailers, last)
 }
 
 /// A request goes out as it comes, and the rest of it comes behind the close of its connection.

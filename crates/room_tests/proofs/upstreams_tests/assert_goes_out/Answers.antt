@@ -17,4 +17,4 @@ take_body-requires-2 g c =
     let b : Begins c.args.upstreams.now 3 7 c.args.head.now false true (due_for c.in-ToOpen.request) c.begin.new.self =
     subst (λ (d : Due). Begins c.args.upstreams.now 3 7 c.args.head.now false true (due_by d) c.begin.new.self) c.in-ToOpen.is c.in_ok-request.ensures.begun in
     may_go_further c.args.upstreams.now c.begin.new.self 3 7 c.args.head.now c.in-ToOpen.request b c.requires.undeclared (suc c.begin.new.self.count) c.open.new.self.held (ap (λ (s : State). s.held) c.in_ok-k.ensures.opened)
-    (104 ∷ 101 ∷ 108 ∷ []) (108 ∷ 111 ∷ []) true (due_by c.in_ok-number.field-0) c.take_body.new.self.held c.in_ok-number.ensures.takes
+    (104 ∷ 101 ∷ 108 ∷ []) (108 ∷ 111 ∷ []) c.args.trailers.now true (due_by c.in_ok-number.field-0) c.take_body.new.self.held c.in_ok-number.ensures.takes

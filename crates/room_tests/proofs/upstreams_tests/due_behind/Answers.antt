@@ -10,4 +10,4 @@ take_body-requires g c =
 
 pub take_body-requires-2 : goal.take_body-requires-2
 take_body-requires-2 g c =
-    may_take_behind c.args.upstreams.now c.begin.new.self 3 7 c.args.head.now (due_by c.in_ok-begin.field-0) c.in_ok-begin.ensures.begun c.requires (104 ∷ 101 ∷ 108 ∷ []) (108 ∷ 111 ∷ []) true (due_by c.in_ok-take_body.field-0) c.take_body.new.self.held c.in_ok-take_body.ensures.takes
+    may_take_behind c.args.upstreams.now c.begin.new.self 3 7 c.args.head.now (due_by c.in_ok-begin.field-0) c.in_ok-begin.ensures.begun c.requires (104 ∷ 101 ∷ 108 ∷ []) (108 ∷ 111 ∷ []) c.args.trailers.now true (due_by c.in_ok-take_body.field-0) c.take_body.new.self.held c.in_ok-take_body.ensures.takes

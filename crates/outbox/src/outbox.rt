@@ -249,7 +249,7 @@ impl Outbox {
         }
     }
 
-    /// The octets that `next` answers for `most` were sent. Where a head or trailers are next, nothing changes.
+    /// The octets that `next` answers for `most` were sent. Before the final head nothing changes; it is called where octets go.
     #[tactic(auto, using(crate::proofs::Sent::some_end))]
     pub fn drop_octets(&mut self, most: usize)
         ensures octets { (part : rule.Part) → part_of most self.old ≡ Some part → AreOctets part → self.new ≡ left self.old part }

@@ -11,7 +11,7 @@ use Rattle.h1_reader.specs.HeadSizes.{CanTrail}
 use Rattle.offering.specs.Outbox.{first_end, is_plain, Outbox, Part, can_go, part_of, left, rest_of}
 use Rattle.offering.specs.Outbox.Outbox.{Before, Behind, Over}
 use Rattle.offering.specs.Outbox.Part.{Early, Final, Octets, Trailing}
-use Rattle.outbox.specs.Views.{end_in, IsHead, AreOctets}
+use Rattle.outbox.specs.Views.{end_in, IsHead, AreOctets, HasNoOctets}
 
 pub goes_on : (windows : Bool) (whole : End) (body : List ℕ) → is_empty body ≡ false → can_go windows (Behind body whole) ≡ windows
 goes_on windows whole [] some = absurd (true_isnt some)
@@ -136,6 +136,22 @@ left_none most (octet ∷ body) whole part few on is octets =
 
     gone : (os : List ℕ) → (most < length os → ⊥) → drop (length (take most os)) os ≡ []
     gone os short = let count : length (take most os) ≡ min most (length os) = length-take most os in nil_of (drop (length (take most os)) os) (let size = length-drop (length (take most os)) os in omega (arith, count, size, short))
+
+-- octets are next where some wait, or where the response is whole without trailers
+pub more_are_next : (most : ℕ) (body : List ℕ) (whole : End) → most < length body → HasNoOctets (part_of most (Behind body whole)) → ⊥
+more_are_next most [] whole more others = absurd (omega (arith, more))
+more_are_next most (octet ∷ body) whole more others = others
+
+pub plain_is_next : (most : ℕ) (body : List ℕ) (whole : End) → is_plain whole ≡ true → HasNoOctets (part_of most (Behind body whole)) → ⊥
+plain_is_next most [] None plain others = let clash : false ≡ true = plain in cc
+plain_is_next most [] (Some []) plain others = others
+plain_is_next most [] (Some (field ∷ fields)) plain others = let clash : false ≡ true = plain in cc
+plain_is_next most (octet ∷ body) whole plain others = others
+
+-- none wait where they aren't next
+pub none_wait : (most : ℕ) (body : List ℕ) (whole : End) → HasNoOctets (part_of most (Behind body whole)) → Behind [] whole ≡ Behind body whole
+none_wait most [] whole others = refl
+none_wait most (octet ∷ body) whole others = absurd others
 
 -- what is left behind an interim head
 pub took_early : (box : Outbox) (old new : List Head) (first : Head) (head : Option Head) (body : List ℕ) (whole : End) → box ≡ Before old head body whole → old ≡ first ∷ new → (part : Part) × (part_of 1 box ≡ Some part) × IsHead first part × (Before new head body whole ≡ left box part)

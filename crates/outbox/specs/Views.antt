@@ -60,6 +60,11 @@ abbrev pub AreOctets : rule.Part → Type 0
 AreOctets (rule.Part.Octets octets ends) = Unit {0}
 AreOctets part = ⊥
 
+-- Octets of the body aren't next.
+abbrev pub HasNoOctets : Option rule.Part → Type 0
+HasNoOctets (Some (rule.Part.Octets octets ends)) = ⊥
+HasNoOctets part = Unit {0}
+
 -- the final head was sent
 abbrev pub is_begun : Outbox → Bool
 is_begun (rule.Outbox.Before interims head body whole) = false

@@ -6,7 +6,7 @@ ghost use Rattle.offering.specs.Outbox.{silent, grown, first_end, is_plain, can_
 ghost use Rattle.offering.specs.Outbox as rule;
 ghost use Rattle.h1_reader.specs.HeadSizes.{CanTrail};
 ghost use Rattle.offering.specs.Held.{body_waiting};
-ghost use Rattle.outbox.specs.Views.{end_in, outbox_in, part_in, is_begun, IsKept, IsShort, IsHead, AreOctets, IsBehindHead, AreNoTrailers};
+ghost use Rattle.outbox.specs.Views.{end_in, outbox_in, part_in, is_begun, IsKept, IsShort, IsHead, AreOctets, IsBehindHead, AreNoTrailers, HasNoOctets};
 
 use crate::octets::Octets;
 use crate::part::Part;
@@ -249,11 +249,11 @@ impl Outbox {
         }
     }
 
-    /// The octets that `next` answers for `most` were sent. Before the final head nothing changes; it is called where octets go.
+    /// The octets that `next` answers for `most` were sent, or the end alone. Where another part is next, or nothing is, nothing changes.
     #[tactic(auto, using(crate::proofs::Sent::some_end))]
     pub fn drop_octets(&mut self, most: usize)
         ensures octets { (part : rule.Part) → part_of most self.old ≡ Some part → AreOctets part → self.new ≡ left self.old part }
-        ensures before { is_begun self.old ≡ false → self.new ≡ self.old }
+        ensures others { HasNoOctets (part_of most self.old) → self.new ≡ self.old }
     {
         if let Place::Behind(body, whole) = &mut self.place {
             if most < body.len() {

@@ -1,6 +1,6 @@
 //! The next part of a stream's response goes out, and what is left of it is kept.
 
-ghost use Rattle.std.specs.Prelude.{◌≡◌, ◌+◌, ◌*◌, ◌-◌, ◌/◌, ◌<◌, ◌≤◌, ◌^◌, true, false, ◌≤ℤ◌, pos, IfOk, OnOk, MatchOption};
+ghost use Rattle.std.specs.Prelude.{◌≡◌, ◌+◌, ◌*◌, ◌-◌, ◌/◌, ◌<◌, ◌≤◌, ◌^◌, true, false, ◌≤ℤ◌, pos, IfOk, OnOk};
 ghost use Rattle.model.specs.Admission.{high_water};
 ghost use Rattle.conduct.specs.Judging.{window_in};
 ghost use Rattle.conduct.specs.Rows.{find};
@@ -9,6 +9,7 @@ ghost use Rattle.streams_kept.specs.Asked.{is_active};
 ghost use Rattle.offers.specs.Asked.{are_trailers, is_head, part_for, windows_over};
 ghost use Rattle.relay.specs.View.{waiting_for};
 ghost use Rattle.steps.specs.flushing.Changes.{ended, put_at_end, AreTrailersSent, IsHeadPart, IsHeadSent, AreOctetsSent, IsPartSent};
+ghost use Rattle.steps.specs.flushing.Next.{IsNext};
 
 use judgement::Connection;
 use offers::Offers;
@@ -38,28 +39,33 @@ struct NextHead {
     ends: bool,
 }
 
-/// The head that goes next on a stream, if what goes next is one.
-fn next_head(offers: &Offers, id: u32) -> Option<NextHead>
-    ensures { MatchOption result (is_head (part_for 1 id offers.now.kept) ≡ false) (λ next. IsHeadPart (part_for 1 id offers.now.kept) next.is_final next.ends) }
+/// What goes next on a stream.
+#[derive(Clone, Copy)]
+enum Next {
+    /// A head.
+    Head(NextHead),
+    /// Trailers, which end the stream.
+    Trailers,
+    /// Neither: octets of a body, or the end alone, if anything.
+    Other,
+}
+
+/// What goes next on a stream.
+fn next_on(offers: &Offers, id: u32) -> Next
+    ensures { IsNext (part_for 1 id offers.now.kept) result }
 {
     match offers.part(id, 1) {
-        Some(Part::Early(_)) => Some(NextHead {
+        Some(Part::Early(_)) => Next::Head(NextHead {
             is_final: false,
             ends: false,
         }),
-        Some(Part::Final(_, ends)) => Some(NextHead {
+        Some(Part::Final(_, ends)) => Next::Head(NextHead {
             is_final: true,
             ends,
         }),
-        _ => None,
+        Some(Part::Trailing(_)) => Next::Trailers,
+        _ => Next::Other,
     }
-}
-
-/// Whether what goes next on a stream are trailers.
-fn are_trailers_next(offers: &Offers, id: u32) -> bool
-    ensures { result ≡ are_trailers (part_for 1 id offers.now.kept) }
-{
-    matches!(offers.part(id, 1), Some(Part::Trailing(_)))
 }
 
 /// How many octets the frames of a header block are (RFC 9113, sections 4.1, 6.2 and 6.10), by its own.
@@ -183,16 +189,16 @@ pub fn send_part(
     ensures sent { IfOk result (λ ends. IsPartSent rooms.old out.old id ends rooms.new out.new) }
     ensures room { OnOk result (rooms.new.untaken + 13 < 2 ^ 64) }
 {
-    match next_head(&rooms.offers, id) {
-        Some(next) => {
+    match next_on(&rooms.offers, id) {
+        Next::Head(next) => {
             send_head(alloc, rooms, id, next, out)?;
             Ok(next.ends)
         }
-        None if are_trailers_next(&rooms.offers, id) => {
+        Next::Trailers => {
             send_trailers(alloc, rooms, id, out)?;
             Ok(true)
         }
-        None => send_octets(rooms, id, out),
+        Next::Other => send_octets(rooms, id, out),
     }
 }
 

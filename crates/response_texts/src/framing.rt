@@ -97,7 +97,6 @@ fn sized(fields: &[Field], digits: &[u8]) -> Result<Framing, ResponseFault>
 fn framed_by(minor: u8, fields: &[Field]) -> Result<Framing, ResponseFault>
     ensures { MatchResult result (λ framing. framed_by (named_by_connection fields.now) minor (values_of (codes "content-length") fields.now) (values_of (codes "transfer-encoding") fields.now) ≡ Some (framing_view (named_by_connection fields.now) framing)) (λ fault. (framed_by (named_by_connection fields.now) minor (values_of (codes "content-length") fields.now) (values_of (codes "transfer-encoding") fields.now) ≡ None) × (fault ≡ framing_fault (values_of (codes "transfer-encoding") fields.now))) }
 {
-    let codings = count(fields, b"transfer-encoding");
     let coding = first_value(fields, b"transfer-encoding");
     let digits = first_value(fields, b"content-length");
     match coding {
@@ -107,7 +106,7 @@ fn framed_by(minor: u8, fields: &[Field]) -> Result<Framing, ResponseFault>
         },
         Some(coding) => match digits {
             None => {
-                if codings == 1 && is_chunked(minor, coding) {
+                if count(fields, b"transfer-encoding") == 1 && is_chunked(minor, coding) {
                     return Ok(Framing::Chunks);
                 }
                 Err(ResponseFault::Coding)

@@ -1,5 +1,5 @@
 -- What goes next on a stream, as the code tells it.
-use Rattle.std.specs.Prelude.{◌≡◌, true, false, ◌×◌, Option}
+use Rattle.std.specs.Prelude.{◌≡◌, true, false, Option}
 use Rattle.offering.specs.Outbox.{Part}
 use Rattle.offers.specs.Asked.{is_head, are_trailers}
 use Rattle.steps.specs.flushing.Changes.{IsHeadPart}

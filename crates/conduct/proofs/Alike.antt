@@ -1,8 +1,8 @@
 -- A summary with other views of the streams that will do: the rows of the error table are the same.
-use Rattle.std.proofs.Common.{◌≡◌, ℕ, Bool, true, false, not, ◌&&◌, ◌==◌, if◌then◌else◌, List, [], ◌∷◌, ◌++◌, length, Option, Some, None, refl, ◌∙◌, ap}
-use Rattle.std.specs.Prelude.{is_none}
+use Rattle.std.proofs.Common.{◌≡◌, ℕ, Bool, true, false, not, ◌&&◌, ◌==◌, if◌then◌else◌, List, [], ◌∷◌, ◌++◌, length, Option, Some, None, refl, sym, ◌∙◌, ap}
+use Rattle.std.specs.Prelude.{is_none, nat_le}
 use Rattle.std.specs.List.{list_any}
-use Rattle.model.specs.Frames.{Frame, protocol_error, flow_control_error}
+use Rattle.model.specs.Frames.{Frame, rst_stream_kind, protocol_error, flow_control_error, enhance_your_calm}
 use Rattle.model.specs.Tapes.{Noted, Entry}
 use Rattle.model.specs.Tapes.Breach.{WrongPreface, TooLong}
 use Rattle.model.specs.Tapes.Entry.{Came, Breached, Happened, Sent, Did}
@@ -12,9 +12,9 @@ use Rattle.model.specs.Errors.{Fault, first_of, or_else}
 use Rattle.model.specs.Errors.Fault.{Connection, Stream}
 use Rattle.model.specs.FrameErrors.{fault_if}
 use Rattle.model.specs.WindowsOnTape.{has_settings, is_past}
-use Rattle.model.specs.ErrorTable.{grants_nothing, grants_past, is_past_room, fault_of, is_idle, is_headers, judged, unless_of_stream}
+use Rattle.model.specs.ErrorTable.{most_resets, grants_nothing, grants_past, is_past_room, fault_of, is_idle, is_headers, judged, unless_of_stream}
 use Rattle.conduct.specs.Summary.{Brief, Stream as Kept, Summary}
-use Rattle.conduct.specs.Judging.{window_in, is_over_in, is_active_in, active_in, shifts_past_in, standing_in, completed_in, shift_in, fault_on_in, fault_by_standing_in, idle_in, stream_update_in, stream_data_in, malformed_in, rows_before_block_in, rows_behind_block_in, rows_in, fault_for}
+use Rattle.conduct.specs.Judging.{window_in, is_over_in, is_active_in, active_in, shifts_past_in, standing_in, completed_in, shift_in, fault_on_in, fault_by_standing_in, idle_in, resets_row_in, stream_update_in, stream_data_in, malformed_in, rows_before_block_in, rows_behind_block_in, rows_in, fault_for}
 use Rattle.conduct.specs.After.{are_taken_in}
 use Rattle.conduct.specs.Rows.{WillDo, with_streams}
 use Rattle.conduct.proofs.Standings.{AreAlike, each_alike, standing_verdict, standing_idle, actives_same, any_active_same}
@@ -61,6 +61,18 @@ module _ (f : ℕ → Kept) (s : Summary) (will : WillDo f s) where
       cases true p true q = ap (λ x. not x && test (f id)) ((will.alike id p).over ∙ q)
       cases true p false q = ap (λ (k : Kept). not (is_over_in k) && test k) ((will.alike id p).live q) ∙ ap (λ x. not x && test (s.stream id)) q
 
+  -- whether a stream is active
+  pub active_seen : (id : ℕ) → is_active_in id seen ≡ is_active_in id s
+  active_seen id = sym (with_true (is_active_in id seen)) ∙ when_active (λ kept. true) id ∙ with_true (is_active_in id s)
+    where
+      with_true : (b : Bool) → (b && true) ≡ b
+      with_true true = refl
+      with_true false = refl
+
+  resets_seen : (frame : Frame) → resets_row_in seen frame ≡ resets_row_in s frame
+  resets_seen frame =
+      ap (λ b. fault_if (frame.kind == rst_stream_kind && b && nat_le most_resets s.resets) (Connection enhance_your_calm)) (active_seen frame.id)
+
   shift_seen : (frame : Frame) → shift_in seen frame ≡ shift_in s frame
   shift_seen frame = ap (λ b. fault_if (has_settings frame && b) (Connection flow_control_error)) (shifts_seen (initial_window_after s.first_size (settings_in frame.payload)))
 
@@ -78,7 +90,8 @@ module _ (f : ℕ → Kept) (s : Summary) (will : WillDo f s) where
       on refl (on refl (on refl (on refl (on refl (on refl (on refl
       (on (shift_seen frame)
       (on refl
-      (on (idle_seen frame) refl)))))))))
+      (on (idle_seen frame)
+      (on (resets_seen frame) refl))))))))))
 
   behind_seen : (noted : Noted) → rows_behind_block_in seen noted ≡ rows_behind_block_in s noted
   behind_seen noted =

@@ -1,7 +1,7 @@
 -- Whoever keeps the book by the rule of conduct keeps the clause on errors.
-use Rattle.std.proofs.Common.{◌≡◌, ℕ, Bool, true, false, ◌&&◌, if◌then◌else◌, List, [], ◌∷◌, ◌++◌, Option, Some, None, refl, sym, ◌∙◌, ap, subst, arith, inl, inr}
+use Rattle.std.proofs.Common.{◌≡◌, ℕ, suc, ◌==◌, Bool, true, false, ◌&&◌, if◌then◌else◌, List, [], ◌∷◌, ◌++◌, Option, Some, None, refl, sym, ◌∙◌, ap, subst, arith, inl, inr}
 use Rattle.std.proofs.lemmas.Bool.{or_left, cases_Bool}
-use Rattle.model.specs.Frames.{Frame}
+use Rattle.model.specs.Frames.{Frame, rst_stream_kind}
 use Rattle.model.specs.Setup.{Setup}
 use Rattle.model.specs.SettingValues.{settings_in, initial_window_after}
 use Rattle.model.specs.Logs.Event.{Client, ClientEnd, ClientTook, Up, UpEnd, UpFailed, UpTook}
@@ -19,12 +19,12 @@ use Rattle.conduct.specs.Turn.{rest_of, IsDue, Conducted}
 use Rattle.conduct.specs.Summary.{Brief, Stream as Kept, Summary}
 use Rattle.conduct.specs.Judging.{rows_in, fault_for}
 use Rattle.conduct.specs.Owing.{must_end_in}
-use Rattle.conduct.specs.After.{begun_after, is_sound, first_size_after, ends_after, after}
+use Rattle.conduct.specs.After.{begun_after, is_sound, first_size_after, resets_after, ends_after, after}
 use Rattle.conduct.specs.Rows.{Row, fresh, find, with_streams, rows_after, WillDo, StandFor}
 use Rattle.conduct.specs.Rule.{Move, Point, queue_behind, point_after, IsInTurn, Allowed, tape_of, point_of, AllAllowed, AreKnown}
 use Rattle.conduct.specs.Told.{IsTold}
 use Rattle.conduct.specs.Book.{summary_in, book_with, Desk, as_point, desk_after, IsSound, IsFit, MayMove, desk_of, AllMoved, Rests}
-use Rattle.conduct.proofs.Alike.{taken_seen}
+use Rattle.conduct.proofs.Alike.{active_seen, taken_seen}
 use Rattle.conduct.proofs.Seen.{fault_seen, end_seen}
 use Rattle.conduct.proofs.RowsKept.{will_do, rows_stand}
 use Rattle.conduct.proofs.Idle.{still_idle}
@@ -91,11 +91,20 @@ module _ (setup : Setup) (fails : Bool) (rows : List Row) (s : Summary) (stand :
   ends_seen (Sent noted) = refl
   ends_seen (Did act) = refl
 
+  resets_same : (e : Entry) → resets_after view e ≡ resets_after s e
+  resets_same (Came noted) =
+      ap (λ b. if noted.frame.kind == rst_stream_kind && b then suc s.resets else s.resets) (active_seen (find rows) s (will_do rows s stand) noted.frame.id)
+  resets_same (Breached breach) = refl
+  resets_same (Happened event) = refl
+  resets_same (Sent noted) = refl
+  resets_same (Did act) = refl
+
   -- The summary behind an entry is the same but for the streams.
   after_seen : (g : ℕ → Kept) (e : Entry) → with_streams g (after setup fails view e) ≡ with_streams g (after setup fails s e)
   after_seen g e =
       ap (λ (n : ℕ). with_streams g (record (after setup fails view e) { first_size = n })) (size_seen e)
-      ∙ ap (λ (b : Bool). with_streams g (record (after setup fails view e) { first_size = first_size_after s e; ends = b })) (ends_seen e)
+      ∙ ap (λ (n : ℕ). with_streams g (record (after setup fails view e) { first_size = first_size_after s e; resets = n })) (resets_same e)
+      ∙ ap (λ (b : Bool). with_streams g (record (after setup fails view e) { first_size = first_size_after s e; resets = resets_after s e; ends = b })) (ends_seen e)
 
 -- ---- what a desk tells
 

@@ -120,7 +120,7 @@ before_fatal s frame = (
                 fatal_if _ flow_control_error,
                 (
                   fatal_update (frame.id == 0 && grants_nothing frame) (frame.id == 0 && grants_past s.window frame),
-                  (fatal_idle (length (active_in s)) (standing_in s frame.id) (judged (completed_in s.block frame) frame), (fatal_if _ flow_control_error, tt)),
+                  (fatal_idle (length (active_in s)) (standing_in s frame.id) (judged (completed_in s.block frame) frame), (fatal_if _ enhance_your_calm, (fatal_if _ flow_control_error, tt))),
                 ),
               ),
             ),
@@ -226,7 +226,7 @@ module _ (s : Summary) (noted : Noted) (brief : Brief) (may : may_open s.opened 
           let isnt : may_open s.opened block.id ≡ false = sym (ap (λ (b : Option Partial). opens_by s.opened b noted.note) is ∙ ap (λ (n : Note). opens_by s.opened (Some block) n) note) ∙ closed in
           absurd (let no : true ≡ false = sym is_open ∙ isnt in cc)
       cases (Some block) is Undecodable note =
-          let wrong : Some (Connection compression_error) ≡ None = sym (ap (λ (n : Note). fault_if (is_undecodable n) (Connection compression_error)) note) ∙ none_at 11 (early_rows s noted) early_none in
+          let wrong : Some (Connection compression_error) ≡ None = sym (ap (λ (n : Note). fault_if (is_undecodable n) (Connection compression_error)) note) ∙ none_at 12 (early_rows s noted) early_none in
           absurd (cc)
       cases (Some block) is NoBlock note = absurd (let no : false ≡ true = sym (ap is_told note) ∙ told (ap is_some is) in cc)
       cases (Some block) is Unread note = absurd (let no : false ≡ true = sym (ap is_told note) ∙ told (ap is_some is) in cc)

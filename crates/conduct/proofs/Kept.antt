@@ -21,11 +21,11 @@ use Rattle.model.specs.Known.{Known, fails_behind}
 use Rattle.model.specs.Openings.{opens, last_stream}
 use Rattle.model.specs.FrameErrors.{frame_fault, sound, last_continuations}
 use Rattle.model.specs.WindowsOnTape.{has_settings, increments, data_octets, data_length, is_on, is_any, shifts_past, are_taken, client_settings, first_size}
-use Rattle.model.specs.Lifetimes.{is_ended_by_client, is_ended_by_gateway, is_reset_by_client, is_reset_by_gateway}
+use Rattle.model.specs.Lifetimes.{is_ended_by_client, is_ended_by_gateway, is_reset_by_client, is_reset_by_gateway, resets_by_client}
 use Rattle.model.specs.Courses.{is_final}
 use Rattle.model.specs.ErrorClause.{is_fatal, calls_for_end}
 use Rattle.conduct.specs.Summary.{Stream, Summary, summary_of, stream_of}
-use Rattle.conduct.specs.After.{has_come_after, block_after, continuations_after, block_out_after, are_taken_in, first_size_after, grant, window_after, room_after, given_after, last_after, ends_after, closed_after, untaken_after, ended_by_client_after, ended_by_gateway_after, reset_by_client_after, reset_by_gateway_after, head_out_after, kept_behind, after}
+use Rattle.conduct.specs.After.{has_come_after, block_after, continuations_after, block_out_after, are_taken_in, first_size_after, grant, window_after, room_after, given_after, last_after, ends_after, resets_after, closed_after, untaken_after, ended_by_client_after, ended_by_gateway_after, reset_by_client_after, reset_by_gateway_after, head_out_after, kept_behind, after}
 use Rattle.conduct.proofs.Briefs.{brief_kept}
 use Rattle.conduct.proofs.Owed.{fault_same, opened_same}
 
@@ -88,6 +88,13 @@ ends_kept known t (Happened (UpFailed k)) = refl
 ends_kept known t (Happened (UpTook k count)) = refl
 ends_kept known t (Sent noted) = refl
 ends_kept known t (Did act) = refl
+
+resets_kept : (known : Known) (t : List Entry) (e : Entry) → resets_after (summary_of known t) e ≡ resets_by_client (e ∷ t)
+resets_kept known t (Came noted) = refl
+resets_kept known t (Breached breach) = refl
+resets_kept known t (Happened event) = refl
+resets_kept known t (Sent noted) = refl
+resets_kept known t (Did act) = refl
 
 closed_kept : (t : List Entry) (e : Entry) → closed_after (is_closed t) e ≡ is_closed (e ∷ t)
 closed_kept t (Came noted) = refl
@@ -230,10 +237,11 @@ summary_kept known t e =
     ∙ ap (λ x. record made { has_come = now.has_come; block = now.block; continuations = x }) (continuations_kept t e)
     ∙ ap (λ x. record made { has_come = now.has_come; block = now.block; continuations = now.continuations; block_out = x }) (block_out_kept t e)
     ∙ ap (λ x. record made { has_come = now.has_come; block = now.block; continuations = now.continuations; block_out = now.block_out; first_size = x }) (first_size_kept known t e)
-    ∙ ap (λ x. record now { window = x; room = made.room; opened = made.opened; stream = made.stream; given = made.given; last = made.last; ends = made.ends; closed = made.closed; untaken = made.untaken }) (window_kept known t (sending_window first_window) window_sized is_any 0 e)
-    ∙ ap (λ x. record now { room = x; opened = made.opened; stream = made.stream; given = made.given; last = made.last; ends = made.ends; closed = made.closed; untaken = made.untaken }) (room_kept t is_any 0 e)
-    ∙ ap (λ x. record now { opened = x; stream = made.stream; given = made.given; last = made.last; ends = made.ends; closed = made.closed; untaken = made.untaken }) (opened_same known t e)
-    ∙ ap (λ x. record now { stream = x; given = made.given; last = made.last; ends = made.ends; closed = made.closed; untaken = made.untaken }) (λ i id. stream_kept known t e id i)
+    ∙ ap (λ x. record now { window = x; room = made.room; opened = made.opened; stream = made.stream; resets = made.resets; given = made.given; last = made.last; ends = made.ends; closed = made.closed; untaken = made.untaken }) (window_kept known t (sending_window first_window) window_sized is_any 0 e)
+    ∙ ap (λ x. record now { room = x; opened = made.opened; stream = made.stream; resets = made.resets; given = made.given; last = made.last; ends = made.ends; closed = made.closed; untaken = made.untaken }) (room_kept t is_any 0 e)
+    ∙ ap (λ x. record now { opened = x; stream = made.stream; resets = made.resets; given = made.given; last = made.last; ends = made.ends; closed = made.closed; untaken = made.untaken }) (opened_same known t e)
+    ∙ ap (λ x. record now { stream = x; resets = made.resets; given = made.given; last = made.last; ends = made.ends; closed = made.closed; untaken = made.untaken }) (λ i id. stream_kept known t e id i)
+    ∙ ap (λ x. record now { resets = x; given = made.given; last = made.last; ends = made.ends; closed = made.closed; untaken = made.untaken }) (resets_kept known t e)
     ∙ ap (λ x. record now { given = x; last = made.last; ends = made.ends; closed = made.closed; untaken = made.untaken }) (given_kept t e)
     ∙ ap (λ x. record now { last = x; ends = made.ends; closed = made.closed; untaken = made.untaken }) (last_kept t e)
     ∙ ap (λ x. record now { ends = x; closed = made.closed; untaken = made.untaken }) (ends_kept known t e)

@@ -80,6 +80,7 @@ module _ (setup : Setup) (b : Book) (frame : Frame) (control : IsControl frame) 
       (none_more true b.room (grant 0 frame) (ap (λ x. if x && frame.id == 0 then increment frame else 0) control.no_update))
       (all_stay (row_behind setup false (summary_in b) (sending frame)) b.rows kept row_same)
       refl
+      refl
 
   -- A debt that is paid is owed no more.
   pub paid : (queue : List Frame) → desk_after setup (record { book = b; queue = frame ∷ queue }) (sends frame) ≡ record { book = paid_of b frame; queue = queue }

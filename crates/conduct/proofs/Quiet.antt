@@ -2,7 +2,7 @@
 -- for an answer only where it is a PING.
 use Rattle.std.proofs.Common.{◌≡◌, ℕ, suc, Bool, true, false, not, ◌&&◌, ◌||◌, ◌==◌, nat_lt, if◌then◌else◌, List, [], ◌∷◌, ◌++◌, length, map, Option, Some, None, refl, sym, ◌∙◌, ap, append-nil}
 use Rattle.std.proofs.lemmas.Bool.{and_right}
-use Rattle.std.specs.Prelude.{pos, ◌+ℤ◌, is_some, is_none, option_map, int_lt}
+use Rattle.std.specs.Prelude.{pos, ◌+ℤ◌, is_some, is_none, option_map, int_lt, nat_le}
 use Rattle.model.specs.Messages.{Item}
 use Rattle.model.specs.Messages.Item.{Content}
 use Rattle.model.specs.Frames.{Frame, data_kind, headers_kind, rst_stream_kind, window_update_kind, ends_headers, ends_stream, content, protocol_error, flow_control_error, no_error, goaway}
@@ -18,7 +18,7 @@ use Rattle.model.specs.Errors.Fault.{Connection, Stream}
 use Rattle.model.specs.FrameErrors.{fault_if, is_between, is_long, most_continuations}
 use Rattle.model.specs.Lifetimes.{ends_by, opens_by}
 use Rattle.model.specs.WindowsOnTape.{increment, is_past}
-use Rattle.model.specs.ErrorTable.{judged, is_idle, is_headers, unless_of_stream}
+use Rattle.model.specs.ErrorTable.{most_resets, judged, is_idle, is_headers, unless_of_stream}
 use Rattle.model.specs.Causes.{Cause}
 use Rattle.model.specs.Courses.{first_of_both}
 use Rattle.model.specs.ErrorClause.{acks, is_fatal, reset_for}
@@ -56,17 +56,18 @@ all_stay f [] kept stays = refl
 all_stay f (row ∷ rows) kept stays = ap (λ (r : Row). r ∷ map f rows) (stays row kept.0) ∙ ap (λ (rs : List Row). row ∷ rs) (all_stay f rows kept.2 stays)
 
 -- two books with the same parts
-pub same_book : (a b : Book) → a.has_come ≡ b.has_come → a.block ≡ b.block → a.continuations ≡ b.continuations → a.block_out ≡ b.block_out → a.first_size ≡ b.first_size → a.window ≡ b.window → a.room ≡ b.room → a.rows ≡ b.rows → a.ends ≡ b.ends
+pub same_book : (a b : Book) → a.has_come ≡ b.has_come → a.block ≡ b.block → a.continuations ≡ b.continuations → a.block_out ≡ b.block_out → a.first_size ≡ b.first_size → a.window ≡ b.window → a.room ≡ b.room → a.rows ≡ b.rows → a.resets ≡ b.resets → a.ends ≡ b.ends
     → record a { given = b.given; last = b.last; closed = b.closed; untaken = b.untaken } ≡ b
-same_book a b has_come block continuations block_out first_size window room rows ends =
+same_book a b has_come block continuations block_out first_size window room rows resets ends =
     ap (λ x. record a { has_come = x; given = b.given; last = b.last; closed = b.closed; untaken = b.untaken }) has_come
-    ∙ ap (λ x. record b { block = x; continuations = a.continuations; block_out = a.block_out; first_size = a.first_size; window = a.window; room = a.room; rows = a.rows; ends = a.ends }) block
-    ∙ ap (λ x. record b { continuations = x; block_out = a.block_out; first_size = a.first_size; window = a.window; room = a.room; rows = a.rows; ends = a.ends }) continuations
-    ∙ ap (λ x. record b { block_out = x; first_size = a.first_size; window = a.window; room = a.room; rows = a.rows; ends = a.ends }) block_out
-    ∙ ap (λ x. record b { first_size = x; window = a.window; room = a.room; rows = a.rows; ends = a.ends }) first_size
-    ∙ ap (λ x. record b { window = x; room = a.room; rows = a.rows; ends = a.ends }) window
-    ∙ ap (λ x. record b { room = x; rows = a.rows; ends = a.ends }) room
-    ∙ ap (λ x. record b { rows = x; ends = a.ends }) rows
+    ∙ ap (λ x. record b { block = x; continuations = a.continuations; block_out = a.block_out; first_size = a.first_size; window = a.window; room = a.room; rows = a.rows; resets = a.resets; ends = a.ends }) block
+    ∙ ap (λ x. record b { continuations = x; block_out = a.block_out; first_size = a.first_size; window = a.window; room = a.room; rows = a.rows; resets = a.resets; ends = a.ends }) continuations
+    ∙ ap (λ x. record b { block_out = x; first_size = a.first_size; window = a.window; room = a.room; rows = a.rows; resets = a.resets; ends = a.ends }) block_out
+    ∙ ap (λ x. record b { first_size = x; window = a.window; room = a.room; rows = a.rows; resets = a.resets; ends = a.ends }) first_size
+    ∙ ap (λ x. record b { window = x; room = a.room; rows = a.rows; resets = a.resets; ends = a.ends }) window
+    ∙ ap (λ x. record b { room = x; rows = a.rows; resets = a.resets; ends = a.ends }) room
+    ∙ ap (λ x. record b { rows = x; resets = a.resets; ends = a.ends }) rows
+    ∙ ap (λ x. record b { resets = x; ends = a.ends }) resets
     ∙ ap (λ x. record b { ends = x }) ends
 
 -- ---- rows of the error table that don't apply
@@ -121,6 +122,7 @@ module _ (s : Summary) (frame : Frame) (quiet : IsQuiet frame) (order : IsInOrde
       ∙ skip _ _ (ap (λ b. first_of (fault_if (frame.id == 0 && (b && increment frame == 0)) (Connection protocol_error) ∷ fault_if (frame.id == 0 && (b && is_past (s.window +ℤ pos (increment frame)))) (Connection flow_control_error) ∷ [])) quiet.control.no_update
       ∙ both_none (frame.id == 0) (increment frame == 0) (is_past (s.window +ℤ pos (increment frame))) (Connection protocol_error) (Connection flow_control_error))
       ∙ skip _ _ (ap (λ (f : Option Fault). if is_idle (standing_in s frame.id) && not (is_headers (judged (completed_in s.block frame) frame)) then f else None) judged_none ∙ none_if _)
+      ∙ skip _ _ (no_fault_if _ _ (ap (λ b. b && is_active_in frame.id s && nat_le most_resets s.resets) quiet.control.no_reset))
       ∙ skip _ _ (no_fault_if _ _ (ap (λ b. b && int_lt s.room (pos (length frame.payload))) quiet.control.no_data))
       ∙ skip _ _ (ap unless_of_stream judged_none)
       ∙ skip _ _ (ap (λ b. first_of (fault_if (is_active_in frame.id s && (b && increment frame == 0)) (Stream protocol_error) ∷ fault_if (is_active_in frame.id s && (b && is_past (window_in s.first_size (s.stream frame.id) +ℤ pos (increment frame)))) (Stream flow_control_error) ∷ [])) quiet.control.no_update
@@ -203,6 +205,7 @@ module _ (setup : Setup) (b : Book) (frame : Frame) (quiet : IsQuiet frame) (ord
       (none_more (is_sound s frame) b.window (grant 0 frame) (ap (λ x. if x && frame.id == 0 then increment frame else 0) quiet.control.no_update))
       (none_less b.room _ (ap (λ x. if x && true then length frame.payload else 0) quiet.control.no_data))
       (rows_same setup s frame quiet order b.rows kept)
+      (ap (λ x. if x && is_active_in frame.id s then suc b.resets else b.resets) quiet.control.no_reset)
       (ap is_fatal (fault_none s frame quiet order (find b.rows frame.id).brief))
 
   -- What it calls for: the answer to a PING.

@@ -69,7 +69,7 @@ idle_cause setup brief s noted none = cases (completed_in s.block noted.frame) (
 
 -- A frame that brings something, and has no fault by the first rows, is for a wanted stream.
 pub for_wanted : (s : Summary) (noted : Noted) → length s.opened ≤ most_streams → first_of (rows_in s noted) ≡ None → bears s noted.frame ≡ true → IsWanted s noted.frame.id
-for_wanted s noted few none bearing = wanted s noted.frame few (none_at 4 (rows_in s noted) none) (none_at 15 (rows_in s noted) none) bearing
+for_wanted s noted few none bearing = wanted s noted.frame few (none_at 4 (rows_in s noted) none) (none_at 16 (rows_in s noted) none) bearing
 
 -- The course of a stream that isn't wanted doesn't matter.
 pub course_matters : (s : Summary) (noted : Noted) (a b : Brief) → length s.opened ≤ most_streams → (IsWanted s noted.frame.id → a ≡ b) → fault_for a s (Came noted) ≡ fault_for b s (Came noted)

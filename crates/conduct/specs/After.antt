@@ -1,5 +1,5 @@
 -- The summary behind an entry, from the one before it: so a program keeps it. A field for each search of the model's.
-use Rattle.std.specs.Prelude.{ℕ, ◌+◌, ◌-◌, Bool, true, false, not, ◌&&◌, ◌||◌, ◌==◌, if◌then◌else◌, List, [], ◌∷◌, length, Option, None, is_none, ℤ, pos, ◌+ℤ◌, ◌-ℤ◌}
+use Rattle.std.specs.Prelude.{ℕ, suc, ◌+◌, ◌-◌, Bool, true, false, not, ◌&&◌, ◌||◌, ◌==◌, if◌then◌else◌, List, [], ◌∷◌, length, Option, None, is_none, ℤ, pos, ◌+ℤ◌, ◌-ℤ◌}
 use Rattle.std.specs.List.{list_any}
 use Rattle.model.specs.Frames.{Frame, rst_stream_kind, window_update_kind, ends_headers, spell}
 use Rattle.model.specs.Setup.{Setup}
@@ -17,7 +17,7 @@ use Rattle.model.specs.WindowsOnTape.{has_settings, increment, data_length, is_o
 use Rattle.model.specs.Courses.{is_final}
 use Rattle.model.specs.ErrorClause.{is_fatal}
 use Rattle.conduct.specs.Summary.{Stream as Kept, Summary}
-use Rattle.conduct.specs.Judging.{shifts_past_in, completed_in, continuations_in, frame_rows_in, fault_for}
+use Rattle.conduct.specs.Judging.{resets_active_in, shifts_past_in, completed_in, continuations_in, frame_rows_in, fault_for}
 use Rattle.conduct.specs.Owing.{fault_in, brief_from, opened_after}
 
 -- ---- the connection
@@ -98,6 +98,11 @@ ends_after s (Happened ClientEnd) = true
 ends_after s (Happened event) = false
 ends_after s _ = s.ends
 
+-- how many active streams the client reset
+abbrev pub resets_after : Summary → Entry → ℕ
+resets_after s (Came noted) = if resets_active_in s noted.frame then suc s.resets else s.resets
+resets_after s _ = s.resets
+
 -- whether the client is closed
 abbrev pub closed_after : Bool → Entry → Bool
 closed_after before (Did CloseClient) = true
@@ -174,6 +179,7 @@ after setup fails s e = record {
   room = room_after s.room is_any 0 e;
   opened = opened_after s e;
   stream = λ id. kept_behind setup fails s e id (s.stream id);
+  resets = resets_after s e;
   given = given_after s.given s.last e;
   last = last_after s.last e;
   ends = ends_after s e;

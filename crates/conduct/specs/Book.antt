@@ -26,6 +26,7 @@ pub record Book : Type 0 where
   pub window : ℤ
   pub room : ℤ
   pub rows : List Row
+  pub resets : ℕ
   pub given : List Opened
   pub last : ℕ
   pub ends : Bool
@@ -44,6 +45,7 @@ summary_in book = record {
   room = book.room;
   opened = ids_of book.rows;
   stream = find book.rows;
+  resets = book.resets;
   given = book.given;
   last = book.last;
   ends = book.ends;
@@ -62,6 +64,7 @@ book_with rows s = record {
   window = s.window;
   room = s.room;
   rows = rows;
+  resets = s.resets;
   given = s.given;
   last = s.last;
   ends = s.ends;

@@ -1,7 +1,7 @@
 -- The error table over a summary: each row as the model has it over the tape.
-use Rattle.std.specs.Prelude.{ℕ, suc, Bool, not, ◌&&◌, ◌||◌, ◌==◌, nat_lt, if◌then◌else◌, List, [], ◌∷◌, ◌++◌, length, map, filter, Option, Some, None, is_some, option_map, ℤ, pos, ◌+ℤ◌}
+use Rattle.std.specs.Prelude.{ℕ, suc, Bool, not, ◌&&◌, ◌||◌, ◌==◌, nat_le, nat_lt, if◌then◌else◌, List, [], ◌∷◌, ◌++◌, length, map, filter, Option, Some, None, is_some, option_map, ℤ, pos, ◌+ℤ◌}
 use Rattle.std.specs.List.{list_any}
-use Rattle.model.specs.Frames.{Frame, continuation_kind, ends_headers, protocol_error, flow_control_error, frame_size_error, compression_error, enhance_your_calm}
+use Rattle.model.specs.Frames.{Frame, rst_stream_kind, continuation_kind, ends_headers, protocol_error, flow_control_error, frame_size_error, compression_error, enhance_your_calm}
 use Rattle.model.specs.Tapes.{Noted, Entry}
 use Rattle.model.specs.Tapes.Breach.{WrongPreface, TooLong}
 use Rattle.model.specs.Tapes.Entry.{Came, Breached}
@@ -15,7 +15,7 @@ use Rattle.model.specs.Errors.{Fault, row_first_frame, first_of, or_else}
 use Rattle.model.specs.Errors.Fault.{Connection, Stream}
 use Rattle.model.specs.FrameErrors.{fault_if, is_between, most_continuations, is_long, is_misplaced}
 use Rattle.model.specs.WindowsOnTape.{has_settings, is_past}
-use Rattle.model.specs.ErrorTable.{grants_nothing, grants_past, is_past_room, is_undecodable, is_malformed, judged, fault_of, is_idle, is_headers, unless_of_stream}
+use Rattle.model.specs.ErrorTable.{most_resets, grants_nothing, grants_past, is_past_room, is_undecodable, is_malformed, judged, fault_of, is_idle, is_headers, unless_of_stream}
 use Rattle.conduct.specs.Summary.{Brief, carried_in, Stream as Kept, Summary}
 
 -- ---- streams
@@ -121,6 +121,14 @@ idle_in s frame =
     then fault_by_standing_in s frame
     else None
 
+-- the frame resets an active stream
+abbrev pub resets_active_in : Summary → Frame → Bool
+resets_active_in s frame = frame.kind == rst_stream_kind && is_active_in frame.id s
+
+-- one reset more of an active stream
+abbrev pub resets_row_in : Summary → Frame → Option Fault
+resets_row_in s frame = fault_if (resets_active_in s frame && nat_le most_resets s.resets) (Connection enhance_your_calm)
+
 -- ---- rows that are judged when it is
 
 -- an increment of an active stream's window
@@ -169,6 +177,7 @@ rows_before_block_in s frame =
     ∷ shift_in s frame
     ∷ connection_update_in s frame
     ∷ idle_in s frame
+    ∷ resets_row_in s frame
     ∷ connection_data_in s frame
     ∷ []
 

@@ -12,7 +12,7 @@ use Rattle.model.specs.Available.{items_on}
 use Rattle.model.specs.Decoding.{Partial, begun}
 use Rattle.model.specs.Known.{Known}
 use Rattle.model.specs.Openings.{Opened, opens, last_stream}
-use Rattle.model.specs.Lifetimes.{opened, is_ended_by_client, is_ended_by_gateway, is_reset_by_client, is_reset_by_gateway}
+use Rattle.model.specs.Lifetimes.{opened, is_ended_by_client, is_ended_by_gateway, is_reset_by_client, is_reset_by_gateway, resets_by_client}
 use Rattle.model.specs.FrameErrors.{last_continuations}
 use Rattle.model.specs.WindowsOnTape.{balance_on, first_size, connection_window, room_on, room_on_connection}
 use Rattle.model.specs.Courses.{Course, course, is_final}
@@ -66,6 +66,8 @@ pub record Summary : Type 0 where
   -- the streams that were opened, the newest first, and what is left of each
   pub opened : List ℕ
   pub stream : ℕ → Stream
+  -- how many active streams the client reset
+  pub resets : ℕ
   -- the upstream connections, and the stream of the last frame, to which the next one is given
   pub given : List Opened
   pub last : ℕ
@@ -111,6 +113,7 @@ summary_of known t = record {
   room = room_on_connection t;
   opened = opened t;
   stream = stream_of known t;
+  resets = resets_by_client t;
   given = opens t;
   last = last_stream t;
   ends = calls_for_end known t;

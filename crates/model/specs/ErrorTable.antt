@@ -1,8 +1,8 @@
 -- The error table: what an entry of the tape is answered with that isn't as it should be (RFC 9113, section 5.4). Each case is a
 -- row of its own, and the first row that applies decides. DATA, RST_STREAM and WINDOW_UPDATE are judged when they came, and
 -- HEADERS when the header block that they begin is whole. Another case is another row.
-use Rattle.std.specs.Prelude.{ℕ, Bool, true, false, not, ◌&&◌, ◌||◌, ◌==◌, if◌then◌else◌, List, [], ◌∷◌, ◌++◌, length, Option, Some, None, option_map, ℤ, pos, ◌+ℤ◌, int_lt}
-use Rattle.model.specs.Frames.{Frame, data_kind, headers_kind, rst_stream_kind, window_update_kind, ends_stream, content, protocol_error, flow_control_error, compression_error}
+use Rattle.std.specs.Prelude.{ℕ, Bool, true, false, not, ◌&&◌, ◌||◌, ◌==◌, nat_le, if◌then◌else◌, List, [], ◌∷◌, ◌++◌, length, Option, Some, None, option_map, ℤ, pos, ◌+ℤ◌, int_lt}
+use Rattle.model.specs.Frames.{Frame, data_kind, headers_kind, rst_stream_kind, window_update_kind, ends_stream, content, protocol_error, flow_control_error, compression_error, enhance_your_calm}
 use Rattle.model.specs.Tapes.{Note, Noted, Entry, came}
 use Rattle.model.specs.Tapes.Note.{Fields, Undecodable}
 use Rattle.model.specs.Tapes.Entry.{Came}
@@ -13,7 +13,7 @@ use Rattle.model.specs.StreamStates.Standing.{Idle, ServerIdle}
 use Rattle.model.specs.StreamStates.Verdict.{Fails}
 use Rattle.model.specs.Errors.{Fault, row_start, row_too_long, first_of, or_else}
 use Rattle.model.specs.Errors.Fault.{Connection, Stream}
-use Rattle.model.specs.Lifetimes.{active, is_active, standing_on}
+use Rattle.model.specs.Lifetimes.{active, is_active, resets_active, resets_by_client, standing_on}
 use Rattle.model.specs.FrameErrors.{fault_if, row_between, row_long_block, row_misplaced, row_payload}
 use Rattle.model.specs.WindowsOnTape.{increment, is_past, shifts_past, has_settings, first_size, stream_window, connection_window, room_on, room_on_connection}
 use Rattle.model.specs.Causes.{are_large}
@@ -127,6 +127,16 @@ row_idle t (Came noted) =
     else None
 row_idle t _ = None
 
+-- the most streams that a client may reset while they are active (this project's profile)
+abbrev pub most_resets : ℕ
+most_resets = 1000
+
+-- one reset more of an active stream (section 6.4); resets of other streams aren't counted
+abbrev pub row_resets : List Entry → Entry → Option Fault
+row_resets t (Came noted) =
+    fault_if (resets_active t noted.frame && nat_le most_resets (resets_by_client t)) (Connection enhance_your_calm)
+row_resets t _ = None
+
 -- the fault, unless it is one of the stream
 abbrev pub unless_of_stream : Option Fault → Option Fault
 unless_of_stream (Some (Stream code)) = None
@@ -176,6 +186,7 @@ rows_before_block t e =
     ∷ row_shift t e
     ∷ row_connection_update t e
     ∷ row_idle t e
+    ∷ row_resets t e
     ∷ row_connection_data t e
     ∷ []
 

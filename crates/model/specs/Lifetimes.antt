@@ -1,5 +1,5 @@
 -- Which streams were opened on a tape, which side ended each or reset it, and which are active (RFC 9113, section 5.1).
-use Rattle.std.specs.Prelude.{ℕ, ◌%◌, max, Bool, true, false, not, ◌&&◌, ◌||◌, ◌==◌, nat_lt, if◌then◌else◌, List, [], ◌∷◌, map, filter, length, Option, Some, None, fold}
+use Rattle.std.specs.Prelude.{ℕ, suc, ◌%◌, max, Bool, true, false, not, ◌&&◌, ◌||◌, ◌==◌, nat_lt, if◌then◌else◌, List, [], ◌∷◌, map, filter, length, Option, Some, None, fold}
 use Rattle.std.specs.List.{list_all, list_any}
 use Rattle.model.specs.Frames.{Frame, data_kind, rst_stream_kind, ends_stream}
 use Rattle.model.specs.Tapes.{Note, Noted, Entry, came, sent}
@@ -99,6 +99,16 @@ is_active stream t = is_opened stream t && not (is_over stream t)
 
 abbrev pub active : List Entry → List ℕ
 active t = filter (λ id. not (is_over id t)) (opened t)
+
+-- the frame resets a stream that is active
+abbrev pub resets_active : List Entry → Frame → Bool
+resets_active t frame = frame.kind == rst_stream_kind && is_active frame.id t
+
+-- how many frames of the client did
+abbrev pub resets_by_client : List Entry → ℕ
+resets_by_client [] = 0
+resets_by_client (Came noted ∷ t) = if resets_active t noted.frame then suc (resets_by_client t) else resets_by_client t
+resets_by_client (_ ∷ t) = resets_by_client t
 
 -- All streams that a connection may have were opened, and none is active any more.
 abbrev pub is_spent : List Entry → Bool

@@ -2,6 +2,7 @@ mod AnswerExamples
 mod BeginningExamples
 mod CauseExamples
 mod ErrorExamples
+mod FloodExamples
 mod FramesExamples
 mod HeadlineExamples
 mod HpackExamples

@@ -1,9 +1,9 @@
 -- Frames that are of no stream's message, reset none and grant nothing: settings, PING, GOAWAY, PRIORITY, and what isn't known; and
 -- increments of the connection's window.
-use Rattle.std.proofs.Common.{◌≡◌, ℕ, Bool, true, false, not, ◌&&◌, ◌||◌, ◌==◌, if◌then◌else◌, List, [], ◌∷◌, length, Option, Some, None, refl, sym, ◌∙◌, ap}
+use Rattle.std.proofs.Common.{◌≡◌, ℕ, Bool, true, false, not, ◌&&◌, ◌||◌, ◌==◌, if◌then◌else◌, List, [], ◌∷◌, length, Option, Some, None, refl, sym, ◌∙◌, ap, suc}
 use Rattle.std.proofs.lemmas.Bool.{and_right, and_parts, eqb-true}
 use Rattle.std.proofs.lemmas.List.{map-id}
-use Rattle.std.specs.Prelude.{pos, ◌+ℤ◌, is_some, is_none, option_map, int_lt}
+use Rattle.std.specs.Prelude.{pos, ◌+ℤ◌, is_some, is_none, option_map, int_lt, nat_le}
 use Rattle.model.specs.Frames.{Frame, data_kind, rst_stream_kind, settings_kind, window_update_kind, protocol_error, flow_control_error, is_ack}
 use Rattle.model.specs.Setup.{Setup}
 use Rattle.model.specs.Decoding.{Partial}
@@ -12,10 +12,10 @@ use Rattle.model.specs.Errors.Fault.{Connection, Stream}
 use Rattle.model.specs.FrameErrors.{fault_if, is_misplaced}
 use Rattle.model.specs.SettingValues.{settings_in, settings_fault, SettingsFault, code_of_fault, initial_window_after}
 use Rattle.model.specs.WindowsOnTape.{has_settings, increment, is_past}
-use Rattle.model.specs.ErrorTable.{judged, is_idle, is_headers, unless_of_stream}
+use Rattle.model.specs.ErrorTable.{judged, is_idle, is_headers, unless_of_stream, most_resets}
 use Rattle.model.specs.ErrorClause.{is_fatal}
 use Rattle.conduct.specs.Summary.{Brief, Summary}
-use Rattle.conduct.specs.Judging.{completed_in, frame_rows_in, values_in, shift_in, shifts_past_in, connection_update_in, idle_in, connection_data_in, fault_on_in, fault_by_standing_in, standing_in, stream_update_in, stream_data_in, is_active_in, window_in, malformed_in, fault_for}
+use Rattle.conduct.specs.Judging.{completed_in, frame_rows_in, values_in, shift_in, shifts_past_in, connection_update_in, idle_in, connection_data_in, fault_on_in, fault_by_standing_in, standing_in, stream_update_in, stream_data_in, is_active_in, window_in, malformed_in, fault_for, resets_row_in}
 use Rattle.conduct.specs.Owing.{fault_in}
 use Rattle.conduct.specs.After.{is_sound, grant}
 use Rattle.conduct.specs.Rows.{Row, ids_of, find}
@@ -75,6 +75,7 @@ module _ (s : Summary) (frame : Frame) (control : IsControl frame) where
   control_rows = two_left (values_in frame) (shift_in s frame) (
       connection_update_in s frame
       ∷ idle_in s frame
+      ∷ resets_row_in s frame
       ∷ connection_data_in s frame
       ∷ None
       ∷ unless_of_stream (fault_by_standing_in s frame)
@@ -86,6 +87,7 @@ module _ (s : Summary) (frame : Frame) (control : IsControl frame) where
       skip _ _ (ap (λ b. first_of (fault_if (frame.id == 0 && (b && increment frame == 0)) (Connection protocol_error) ∷ fault_if (frame.id == 0 && (b && is_past (s.window +ℤ pos (increment frame)))) (Connection flow_control_error) ∷ [])) control.no_update
       ∙ both_none (frame.id == 0) (increment frame == 0) (is_past (s.window +ℤ pos (increment frame))) (Connection protocol_error) (Connection flow_control_error))
       ∙ skip _ _ (ap (λ (f : Option Fault). if is_idle (standing_in s frame.id) && not (is_headers (judged (completed_in s.block frame) frame)) then f else None) judged_none ∙ none_if _)
+      ∙ skip _ _ (no_fault _ _ (ap (λ b. b && is_active_in frame.id s && nat_le most_resets s.resets) control.no_reset))
       ∙ skip _ _ (no_fault _ _ (ap (λ b. b && int_lt s.room (pos (length frame.payload))) control.no_data))
       ∙ skip _ _ (ap unless_of_stream judged_none)
       ∙ skip _ _ (ap (λ b. first_of (fault_if (is_active_in frame.id s && (b && increment frame == 0)) (Stream protocol_error) ∷ fault_if (is_active_in frame.id s && (b && is_past (window_in s.first_size (s.stream frame.id) +ℤ pos (increment frame)))) (Stream flow_control_error) ∷ [])) control.no_update
@@ -204,6 +206,7 @@ module _ (setup : Setup) (b : Book) (frame : Frame) (has : has_settings frame �
         (λ row is found same. absurd (let clash : true ≡ false = sym (ap (λ n. n == 0) (same ∙ zero)) ∙ is.of_stream in cc))
         (λ row apart. refl) ∙ map-id b.rows)
         (ap is_fatal settings_fault_none)
+        ∙ ap (λ x. record (heard b frame) { first_size = initial_window_after b.first_size (settings_in frame.payload); resets = if x && is_active_in frame.id s then suc b.resets else b.resets }) control.no_reset
 
 -- ---- increments of the connection's window
 
@@ -222,6 +225,7 @@ module _ (b : Book) (flags : ℕ) (payload : List ℕ) (sound : first_of (frame_
   beyond : List (Option Fault)
   beyond =
       idle_in (summary_in b) (update flags 0 payload)
+      ∷ resets_row_in (summary_in b) (update flags 0 payload)
       ∷ connection_data_in (summary_in b) (update flags 0 payload)
       ∷ None
       ∷ unless_of_stream (fault_by_standing_in (summary_in b) (update flags 0 payload))
@@ -266,6 +270,7 @@ module _ (setup : Setup) (b : Book) (kept : AreKept b.rows) (flags : ℕ) (paylo
   update_rows : first_of (later_rows before granting) ≡ first_of (connection_update_in before granting ∷ [])
   update_rows = one_left (connection_update_in before granting) (
       idle_in before granting
+      ∷ resets_row_in before granting
       ∷ connection_data_in before granting
       ∷ None
       ∷ unless_of_stream (fault_by_standing_in before granting)

@@ -140,10 +140,16 @@ module _ (b : Book) (flags id : ℕ) (payload : List ℕ) (of_stream : (id == 0)
 
   data_rows : first_of (later_rows s frame) ≡ first_of (rows_from (is_idle (standing b.rows id)) past standing_fault (is_active b.rows id && past_own))
   data_rows =
-      ap (λ x. first_of (first_of (fault_if (x && (false && increment frame == 0)) (Connection protocol_error) ∷ fault_if (x && (false && is_past (b.window +ℤ pos (increment frame)))) (Connection flow_control_error) ∷ []) ∷ (if is_idle (standing b.rows id) && true then standing_fault else None) ∷ fault_if past (Connection flow_control_error) ∷ None ∷ unless_of_stream standing_fault
+      ap (λ x. first_of (first_of (fault_if (x && (false && increment frame == 0)) (Connection protocol_error) ∷ fault_if (x && (false && is_past (b.window +ℤ pos (increment frame)))) (Connection flow_control_error) ∷ []) ∷ (if is_idle (standing b.rows id) && true then standing_fault else None) ∷ None ∷ fault_if past (Connection flow_control_error) ∷ None ∷ unless_of_stream standing_fault
       ∷ first_of (fault_if (is_active b.rows id && false) (Stream protocol_error) ∷ fault_if (is_active b.rows id && false) (Stream flow_control_error) ∷ []) ∷ fault_if (is_active b.rows id && past_own) (Stream flow_control_error) ∷ standing_fault ∷ [])) of_stream
+      ∙ without_second (if is_idle (standing b.rows id) && true then standing_fault else None) (fault_if past (Connection flow_control_error) ∷ None ∷ unless_of_stream standing_fault
+      ∷ first_of (fault_if (is_active b.rows id && false) (Stream protocol_error) ∷ fault_if (is_active b.rows id && false) (Stream flow_control_error) ∷ []) ∷ fault_if (is_active b.rows id && past_own) (Stream flow_control_error) ∷ standing_fault ∷ [])
       ∙ ap (λ x. first_of ((if is_idle (standing b.rows id) && true then standing_fault else None) ∷ fault_if past (Connection flow_control_error) ∷ None ∷ unless_of_stream standing_fault
       ∷ first_of (fault_if x (Stream protocol_error) ∷ fault_if x (Stream flow_control_error) ∷ []) ∷ fault_if (is_active b.rows id && past_own) (Stream flow_control_error) ∷ standing_fault ∷ [])) (and_right (is_active b.rows id) false refl)
+    where
+      without_second : (row : Option Fault) (rows : List (Option Fault)) → first_of (row ∷ None ∷ rows) ≡ first_of (row ∷ rows)
+      without_second None rows = refl
+      without_second (Some f) rows = refl
 
   -- whether the body goes wrong with it
   abbrev pub bad_body : Bool

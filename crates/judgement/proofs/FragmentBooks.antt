@@ -1,5 +1,5 @@
 -- The book behind HEADERS or CONTINUATION: the rows that it leaves, and the rest (RFC 9113, sections 4.3, 5.1 and 8.1).
-use Rattle.std.proofs.Common.{◌≡◌, ℕ, ◌+◌, Bool, true, false, not, ◌&&◌, ◌||◌, ◌==◌, nat_lt, if◌then◌else◌, List, [], ◌∷◌, length, map, Option, None, refl, sym, ◌∙◌, ap, inl, inr}
+use Rattle.std.proofs.Common.{◌≡◌, ℕ, suc, ◌+◌, Bool, true, false, not, ◌&&◌, ◌||◌, ◌==◌, nat_lt, if◌then◌else◌, List, [], ◌∷◌, length, map, Option, None, refl, sym, ◌∙◌, ap, inl, inr}
 use Rattle.std.proofs.lemmas.Bool.{and_right, cases_eq, ne_eqb}
 use Rattle.std.specs.Prelude.{is_none}
 use Rattle.std.specs.List.{AllByRecursion}
@@ -21,7 +21,7 @@ use Rattle.model.specs.Causes.{cause_if}
 use Rattle.model.specs.Causes.Cause.{LargeBody}
 use Rattle.model.specs.ErrorClause.{is_fatal}
 use Rattle.conduct.specs.Summary.{Brief, carried_in, Stream as Kept, Summary}
-use Rattle.conduct.specs.Judging.{completed_in, continuations_in, shifts_past_in, fault_for}
+use Rattle.conduct.specs.Judging.{is_active_in, completed_in, continuations_in, shifts_past_in, fault_for}
 use Rattle.conduct.specs.Owing.{fault_in, new_cause_in, items_in}
 use Rattle.conduct.specs.After.{begun_after, is_sound, grant, kept_behind}
 use Rattle.conduct.specs.Rows.{Row, Slot, kept_in, slot_of, over_kept, row_behind, row_opened, rows_after}
@@ -140,4 +140,4 @@ fragment_book setup b noted rows of rows_are mild =
     ∙ ap (λ x. if x then initial_window_after b.first_size (settings_in frame.payload) else b.first_size) (and_right (is_sound s frame) false refl))
     (none_more (is_sound s frame) b.window (grant 0 frame) (ap (λ x. if x && frame.id == 0 then increment frame else 0) of.no_update))
     (none_less b.room _ (ap (λ x. if x && true then length frame.payload else 0) of.no_data))
-    rows_are mild
+    rows_are (ap (λ x. if x && is_active_in frame.id s then suc b.resets else b.resets) of.no_reset) mild

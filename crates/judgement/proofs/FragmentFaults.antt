@@ -1,7 +1,7 @@
 -- HEADERS and CONTINUATION: their fault, by what is noted of the header block that they complete (RFC 9113, sections 4.3, 5.1, 5.1.1 and 8.1.1).
 use Rattle.std.proofs.Common.{◌≡◌, ℕ, Bool, true, false, not, ◌&&◌, ◌||◌, ◌==◌, if◌then◌else◌, List, [], ◌∷◌, length, Option, Some, None, refl, ◌∙◌, ap}
 use Rattle.std.proofs.lemmas.Bool.{and_right}
-use Rattle.std.specs.Prelude.{pos, ◌+ℤ◌, is_some, int_lt, option_map}
+use Rattle.std.specs.Prelude.{pos, ◌+ℤ◌, is_some, int_lt, nat_le, option_map}
 use Rattle.model.specs.Frames.{Frame, is_ack, content, ends_stream, headers_kind, rst_stream_kind, window_update_kind, protocol_error, flow_control_error, compression_error}
 use Rattle.model.specs.Tapes.{Noted}
 use Rattle.model.specs.Tapes.Entry.{Came}
@@ -12,9 +12,9 @@ use Rattle.model.specs.FrameErrors.{fault_if}
 use Rattle.model.specs.Malformed.{is_malformed_content}
 use Rattle.model.specs.SettingValues.{settings_in, settings_fault, code_of_fault, initial_window_after}
 use Rattle.model.specs.WindowsOnTape.{has_settings, increment, is_past}
-use Rattle.model.specs.ErrorTable.{judged, is_idle, is_headers, is_undecodable, is_malformed, is_bad_block, unless_of_stream}
+use Rattle.model.specs.ErrorTable.{judged, is_idle, is_headers, is_undecodable, is_malformed, is_bad_block, unless_of_stream, most_resets}
 use Rattle.conduct.specs.Summary.{Brief, carried_in, Summary}
-use Rattle.conduct.specs.Judging.{completed_in, frame_rows_in, rows_before_block_in, values_in, shift_in, shifts_past_in, connection_update_in, idle_in, connection_data_in, fault_on_in, fault_by_standing_in, standing_in, stream_update_in, stream_data_in, is_active_in, window_in, malformed_in, fault_for}
+use Rattle.conduct.specs.Judging.{completed_in, frame_rows_in, rows_before_block_in, values_in, shift_in, shifts_past_in, connection_update_in, idle_in, connection_data_in, fault_on_in, fault_by_standing_in, standing_in, stream_update_in, stream_data_in, is_active_in, window_in, malformed_in, fault_for, resets_row_in}
 use Rattle.judgement.specs.Fragments.{IsFragment}
 use Rattle.judgement.proofs.Rows.{first_past, skip, no_fault}
 use Rattle.judgement.proofs.Controls.{both_none}
@@ -30,6 +30,7 @@ rows_from s noted =
     ∷ shift_in s noted.frame
     ∷ connection_update_in s noted.frame
     ∷ idle_in s noted.frame
+    ∷ resets_row_in s noted.frame
     ∷ connection_data_in s noted.frame
     ∷ fault_if (is_undecodable noted.note) (Connection compression_error)
     ∷ unless_of_stream (fault_by_standing_in s noted.frame)
@@ -58,6 +59,9 @@ module _ (s : Summary) (noted : Noted) (of : IsFragment noted.frame) where
 
   no_data : connection_data_in s frame ≡ None
   no_data = no_fault _ _ (ap (λ b. b && int_lt s.room (pos (length frame.payload))) of.no_data)
+
+  no_resets : resets_row_in s frame ≡ None
+  no_resets = no_fault _ _ (ap (λ b. b && is_active_in frame.id s && nat_le most_resets s.resets) of.no_reset)
 
   no_stream_update : stream_update_in s frame ≡ None
   no_stream_update =
@@ -90,16 +94,17 @@ module _ (s : Summary) (noted : Noted) (of : IsFragment noted.frame) where
       skip _ _ no_values
       ∙ skip _ _ no_shift
       ∙ skip _ _ no_update
-      ∙ ap (λ (row : Option Fault). first_of (idle_in s frame ∷ row ∷ fault_if (is_undecodable noted.note) (Connection compression_error) ∷ unless_of_stream (fault_by_standing_in s frame) ∷ stream_update_in s frame ∷ stream_data_in s frame ∷ fault_by_standing_in s frame ∷ [])) no_data
-      ∙ ap (λ (row : Option Fault). first_of (idle_in s frame ∷ None ∷ fault_if (is_undecodable noted.note) (Connection compression_error) ∷ unless_of_stream (fault_by_standing_in s frame) ∷ row ∷ stream_data_in s frame ∷ fault_by_standing_in s frame ∷ [])) no_stream_update
-      ∙ ap (λ (row : Option Fault). first_of (idle_in s frame ∷ None ∷ fault_if (is_undecodable noted.note) (Connection compression_error) ∷ unless_of_stream (fault_by_standing_in s frame) ∷ None ∷ row ∷ fault_by_standing_in s frame ∷ [])) no_stream_data
-      ∙ without_two (idle_in s frame) (fault_if (is_undecodable noted.note) (Connection compression_error)) (unless_of_stream (fault_by_standing_in s frame)) (fault_by_standing_in s frame)
+      ∙ ap (λ (row : Option Fault). first_of (idle_in s frame ∷ row ∷ connection_data_in s frame ∷ fault_if (is_undecodable noted.note) (Connection compression_error) ∷ unless_of_stream (fault_by_standing_in s frame) ∷ stream_update_in s frame ∷ stream_data_in s frame ∷ fault_by_standing_in s frame ∷ [])) no_resets
+      ∙ ap (λ (row : Option Fault). first_of (idle_in s frame ∷ None ∷ row ∷ fault_if (is_undecodable noted.note) (Connection compression_error) ∷ unless_of_stream (fault_by_standing_in s frame) ∷ stream_update_in s frame ∷ stream_data_in s frame ∷ fault_by_standing_in s frame ∷ [])) no_data
+      ∙ ap (λ (row : Option Fault). first_of (idle_in s frame ∷ None ∷ None ∷ fault_if (is_undecodable noted.note) (Connection compression_error) ∷ unless_of_stream (fault_by_standing_in s frame) ∷ row ∷ stream_data_in s frame ∷ fault_by_standing_in s frame ∷ [])) no_stream_update
+      ∙ ap (λ (row : Option Fault). first_of (idle_in s frame ∷ None ∷ None ∷ fault_if (is_undecodable noted.note) (Connection compression_error) ∷ unless_of_stream (fault_by_standing_in s frame) ∷ None ∷ row ∷ fault_by_standing_in s frame ∷ [])) no_stream_data
+      ∙ without_four (idle_in s frame) (fault_if (is_undecodable noted.note) (Connection compression_error)) (unless_of_stream (fault_by_standing_in s frame)) (fault_by_standing_in s frame)
     where
-      without_two : (a b c d : Option Fault) → first_of (a ∷ None ∷ b ∷ c ∷ None ∷ None ∷ d ∷ []) ≡ first_of (a ∷ b ∷ c ∷ d ∷ [])
-      without_two (Some f) b c d = refl
-      without_two None (Some f) c d = refl
-      without_two None None (Some f) d = refl
-      without_two None None None d = refl
+      without_four : (a b c d : Option Fault) → first_of (a ∷ None ∷ None ∷ b ∷ c ∷ None ∷ None ∷ d ∷ []) ≡ first_of (a ∷ b ∷ c ∷ d ∷ [])
+      without_four (Some f) b c d = refl
+      without_four None (Some f) c d = refl
+      without_four None None (Some f) d = refl
+      without_four None None None d = refl
 
   module _ (sound : first_of (frame_rows_in s frame) ≡ None) where
     fault_left : (brief : Brief) → fault_for brief s (Came noted) ≡ or_else (first_of (idle_in s frame ∷ fault_if (is_undecodable noted.note) (Connection compression_error) ∷ unless_of_stream (fault_by_standing_in s frame) ∷ fault_by_standing_in s frame ∷ [])) (malformed_in brief s (Came noted))
@@ -134,9 +139,10 @@ module _ (s : Summary) (noted : Noted) (of : IsFragment noted.frame) where
     -- Where it is right by itself, nothing is wrong before its block is read.
     pub none_before : first_of (rows_before_block_in s frame) ≡ None
     none_before =
-        first_past (frame_rows_in s frame) (values_in frame ∷ shift_in s frame ∷ connection_update_in s frame ∷ idle_in s frame ∷ connection_data_in s frame ∷ []) sound
+        first_past (frame_rows_in s frame) (values_in frame ∷ shift_in s frame ∷ connection_update_in s frame ∷ idle_in s frame ∷ resets_row_in s frame ∷ connection_data_in s frame ∷ []) sound
         ∙ skip _ _ no_values
         ∙ skip _ _ no_shift
         ∙ skip _ _ no_update
         ∙ skip _ _ (idle_none (completed_in s.block frame) refl)
+        ∙ skip _ _ no_resets
         ∙ skip _ _ no_data

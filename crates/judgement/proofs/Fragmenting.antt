@@ -12,7 +12,7 @@ use Rattle.model.specs.Decoding.{Partial, joined}
 use Rattle.model.specs.Errors.{Fault, first_of, or_else}
 use Rattle.model.specs.Errors.Fault.{Connection}
 use Rattle.conduct.specs.Summary.{Summary}
-use Rattle.conduct.specs.Judging.{completed_in, frame_rows_in, rows_behind_block_in, malformed_in, values_in, shift_in, connection_update_in, idle_in, connection_data_in}
+use Rattle.conduct.specs.Judging.{completed_in, frame_rows_in, rows_behind_block_in, malformed_in, values_in, shift_in, connection_update_in, idle_in, resets_row_in, connection_data_in}
 use Rattle.conduct.specs.Owing.{fault_in}
 use Rattle.conduct.specs.Rows.{Row, find}
 use Rattle.conduct.specs.Book.{Book}
@@ -114,7 +114,7 @@ frame_judged setup outside old frame code is = record {
   read = λ unread. wrong_before;
   table = tt;
   judged = record {
-    is = ap (λ (x : Option Fault). or_else x (malformed_in (find old.rows frame.id).brief s (Came (record { frame = frame; note = note (completed_in old.block frame) })))) (first_within (frame_rows_in s frame) (values_in frame ∷ shift_in s frame ∷ connection_update_in s frame ∷ idle_in s frame ∷ connection_data_in s frame ∷ rows_behind_block_in s (record { frame = frame; note = note (completed_in old.block frame) })) (Connection code) is);
+    is = ap (λ (x : Option Fault). or_else x (malformed_in (find old.rows frame.id).brief s (Came (record { frame = frame; note = note (completed_in old.block frame) })))) (first_within (frame_rows_in s frame) (values_in frame ∷ shift_in s frame ∷ connection_update_in s frame ∷ idle_in s frame ∷ resets_row_in s frame ∷ connection_data_in s frame ∷ rows_behind_block_in s (record { frame = frame; note = note (completed_in old.block frame) })) (Connection code) is);
     left = refl;
   };
 }
@@ -123,7 +123,7 @@ frame_judged setup outside old frame code is = record {
     s = told_of outside old
 
     wrong_before : (verdict_in (told_of outside old) frame).is_error ≡ true
-    wrong_before = ap is_some (first_within (frame_rows_in s frame) (values_in frame ∷ shift_in s frame ∷ connection_update_in s frame ∷ idle_in s frame ∷ connection_data_in s frame ∷ []) (Connection code) is)
+    wrong_before = ap is_some (first_within (frame_rows_in s frame) (values_in frame ∷ shift_in s frame ∷ connection_update_in s frame ∷ idle_in s frame ∷ resets_row_in s frame ∷ connection_data_in s frame ∷ []) (Connection code) is)
 
     note : Option Partial → Note
     note None = NoBlock

@@ -6,7 +6,7 @@ use Rattle.std.specs.List.{AllByRecursion}
 use Rattle.std.proofs.lemmas.List.Elements.{recursion_from_All}
 use Rattle.std.specs.Prelude.{option_map}
 use Rattle.model.specs.Frames.{protocol_error}
-use Rattle.conduct.specs.After.{begun_after}
+use Rattle.conduct.specs.After.{begun_after, resets_after}
 use Rattle.streams_kept.proofs.Searches.{IsFound, all_found}
 use Rattle.std.specs.Prelude.{ℤ, is_some}
 use Rattle.model.specs.Frames.{Frame}
@@ -22,7 +22,7 @@ use Rattle.model.specs.WindowsOnTape.{has_settings, is_any}
 use Rattle.model.specs.Lifetimes.{opens_by}
 use Rattle.model.specs.ErrorClause.{is_fatal}
 use Rattle.conduct.specs.Summary.{Brief, carried_in, Summary}
-use Rattle.conduct.specs.Judging.{completed_in, between_in, long_block_in, misplaced_in, payload_in, frame_rows_in, values_in, shift_in, connection_update_in, idle_in, connection_data_in, fault_by_standing_in, stream_update_in, stream_data_in, malformed_in, fault_for}
+use Rattle.conduct.specs.Judging.{completed_in, between_in, long_block_in, misplaced_in, payload_in, frame_rows_in, values_in, shift_in, connection_update_in, idle_in, connection_data_in, fault_by_standing_in, stream_update_in, stream_data_in, malformed_in, fault_for, resets_row_in}
 use Rattle.conduct.specs.Owing.{fault_in}
 use Rattle.conduct.specs.After.{first_size_after, window_after, room_after}
 use Rattle.conduct.specs.Rows.{Row, kept_in, row_behind, row_opened, rows_after}
@@ -75,6 +75,7 @@ later_rows s frame =
     ∷ shift_in s frame
     ∷ connection_update_in s frame
     ∷ idle_in s frame
+    ∷ resets_row_in s frame
     ∷ connection_data_in s frame
     ∷ fault_if (is_undecodable NoBlock) (Connection 9)
     ∷ unless_of_stream (fault_by_standing_in s frame)
@@ -193,9 +194,9 @@ pub book_behind : (setup : Setup) (b : Book) (frame : Frame) (first : ℕ) (wind
     → room_after b.room is_any 0 (coming frame) ≡ room
     → rows_after setup false (summary_in b) (coming frame) b.rows ≡ rows
     → is_fatal (fault_in (summary_in b) (coming frame)) ≡ false
-    → behind setup b frame ≡ record (heard b frame) { first_size = first; window = window; room = room; rows = rows }
+    → behind setup b frame ≡ record (heard b frame) { first_size = first; window = window; room = room; rows = rows; resets = resets_after (summary_in b) (coming frame) }
 book_behind setup b frame first window room rows plain begun first_is window_is room_is rows_are mild =
-    same_book (behind setup b frame) (record (heard b frame) { first_size = first; window = window; room = room; rows = rows }) refl
+    same_book (behind setup b frame) (record (heard b frame) { first_size = first; window = window; room = room; rows = rows; resets = resets_after (summary_in b) (coming frame) }) refl
     (ap (λ (block : Option Partial). begun_after block frame) begun ∙ begins_none frame plain.no_headers ∙ sym begun)
     (ap (λ x. if x then suc b.continuations else 0) plain.no_continuation)
-    refl first_is window_is room_is rows_are mild
+    refl first_is window_is room_is rows_are refl mild

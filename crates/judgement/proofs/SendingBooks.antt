@@ -46,7 +46,7 @@ sent_book : (setup : Setup) (b : Book) (noted : Noted) (block_out : Option Parti
     → (b.window -ℤ pos (data_length is_any noted.frame)) ≡ window → (b.room +ℤ pos (grant 0 noted.frame)) ≡ room → map (row_behind setup false (summary_in b) (Sent noted)) b.rows ≡ rows
     → book_after setup false b (Sent noted) ≡ record (paid_of b noted.frame) { block_out = block_out; window = window; room = room; rows = rows }
 sent_book setup b noted block_out window room rows block_is window_is room_is rows_are =
-    same_book (book_after setup false b (Sent noted)) (record (paid_of b noted.frame) { block_out = block_out; window = window; room = room; rows = rows }) refl refl refl block_is refl window_is room_is rows_are refl
+    same_book (book_after setup false b (Sent noted)) (record (paid_of b noted.frame) { block_out = block_out; window = window; room = room; rows = rows }) refl refl refl block_is refl window_is room_is rows_are refl refl
 
 -- it calls for nothing but the reset behind a response that ends before its request
 sent_owes : (setup : Setup) (b : Book) (noted : Noted) (ends : Bool) → ends_by (completed_in b.block_out noted.frame) noted.frame ≡ ends → owes_in setup false (summary_in b) (Sent noted) ≡ early_reset b noted.frame.id ends

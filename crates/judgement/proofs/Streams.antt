@@ -14,7 +14,7 @@ use Rattle.model.specs.ErrorTable.{fault_of, unless_of_stream}
 use Rattle.model.specs.ErrorClause.{is_fatal, rst_stream}
 use Rattle.conduct.specs.Summary.{Brief, Stream as Kept, Summary}
 use Rattle.conduct.specs.Judging.{is_over_in, fault_for}
-use Rattle.conduct.specs.After.{kept_behind}
+use Rattle.conduct.specs.After.{kept_behind, resets_after}
 use Rattle.conduct.specs.Rows.{Row, Slot, over_kept, kept_in, find, row_behind, rows_after}
 use Rattle.conduct.specs.Rows.Slot.{Live, Over}
 use Rattle.conduct.specs.Book.{Book, summary_in, book_after}
@@ -71,7 +71,7 @@ update_mild active Skipped = refl
 update_mild active Beyond = refl
 
 -- Then it decides before the rows on the stream's window.
-pub standing_rows : (x : Bool) (o : Option Fault) (rest : List (Option Fault)) → is_of_stream o ≡ false → first_of ((if x then o else None) ∷ None ∷ None ∷ unless_of_stream o ∷ rest) ≡ or_else o (first_of rest)
+pub standing_rows : (x : Bool) (o : Option Fault) (rest : List (Option Fault)) → is_of_stream o ≡ false → first_of ((if x then o else None) ∷ None ∷ None ∷ None ∷ unless_of_stream o ∷ rest) ≡ or_else o (first_of rest)
 standing_rows true None rest mild = refl
 standing_rows false None rest mild = refl
 standing_rows x (Some (Stream code)) rest mild = absurd (let no : true ≡ false = mild in cc)
@@ -136,7 +136,7 @@ module _ (setup : Setup) (b : Book) (frame : Frame) (plain : IsPlain frame) (of_
 
   -- The book behind it, where it has no settings.
   pub stream_behind : (room : ℤ) (rows : List Row) → has_settings frame ≡ false → room_after b.room is_any 0 (coming frame) ≡ room → rows_after setup false (summary_in b) (coming frame) b.rows ≡ rows → is_fatal (fault_in (summary_in b) (coming frame)) ≡ false
-      → behind setup b frame ≡ record (heard b frame) { room = room; rows = rows }
+      → behind setup b frame ≡ record (heard b frame) { room = room; rows = rows; resets = resets_after (summary_in b) (coming frame) }
   stream_behind room rows none room_is rows_are mild =
       book_behind setup b frame b.first_size b.window room rows plain begun
       (ap (λ x. if is_sound (summary_in b) frame && (x && is_none (settings_fault frame.payload) && not (shifts_past_in (initial_window_after b.first_size (settings_in frame.payload)) (summary_in b))) then initial_window_after b.first_size (settings_in frame.payload) else b.first_size) none
@@ -178,13 +178,13 @@ both_rows setup b m noted code mild (row ∷ rows) kept =
 module _ (setup : Setup) (b : Book) (frame : Frame) (code : ℕ) (plain : IsPlain frame) (of_stream : (frame.id == 0) ≡ false) (sound : first_of (frame_rows_in (summary_in b) frame) ≡ None) (kept : AreKept b.rows) where
   -- The stream is over by the gateway, and all else is as it is behind the frame.
   pub reset_left : (room : ℤ) → b.block_out ≡ None → b.closed ≡ false → has_settings frame ≡ false → room_after b.room is_any 0 (coming frame) ≡ room → ((brief : Brief) → is_fatal (fault_for brief (summary_in b) (coming frame)) ≡ false)
-      → reset_behind setup b frame code ≡ record (heard b frame) { room = room; rows = changed frame.id (Over true) b.rows }
+      → reset_behind setup b frame code ≡ record (heard b frame) { room = room; rows = changed frame.id (Over true) b.rows; resets = resets_after (summary_in b) (coming frame) }
   reset_left room none_out open_yet none room_is mild =
       let rst : Frame = rst_stream frame.id code in
       let all : List Row = map (row_behind setup false (summary_in b) (coming frame)) b.rows in
       let none_opened : rows_after setup false (summary_in b) (coming frame) b.rows ≡ all =
       ap (λ (block : Option Partial). if opens_by (summary_in b).opened block NoBlock then row_opened setup false (summary_in b) (coming frame) frame.id ∷ all else all) (completes_none b.block frame plain.no_headers plain.no_continuation) in
-      let m : Book = record (heard b frame) { room = room; rows = all } in
+      let m : Book = record (heard b frame) { room = room; rows = all; resets = resets_after (summary_in b) (coming frame) } in
       let came : behind setup b frame ≡ m = stream_behind setup b frame plain of_stream sound kept room all none room_is none_opened (mild (find b.rows frame.id).brief) in
       ap (λ (x : Book). record (book_after setup false x (sending rst)) { untaken = b.untaken }) came
       ∙ ap (λ (o : Option Partial). record (book_after setup false m (sending rst)) { untaken = b.untaken; block_out = o }) (ap (λ (o : Option Partial). begun_after o rst) none_out ∙ sym none_out)

@@ -57,7 +57,7 @@ module _ (setup : Setup) (b : Book) (flags id : ℕ) (payload : List ℕ) (of_st
   -- its fault is that by its stream's standing, else by these
   update_rows : first_of (later_rows s frame) ≡ or_else (fault_of (asked.verdict b.rows id 8)) (first_of (window_rows (is_active b.rows id) ∷ stream_data_in s frame ∷ fault_by_standing_in s frame ∷ []))
   update_rows =
-      ap (λ x. first_of (first_of (fault_if (x && count == 0) (Connection protocol_error) ∷ fault_if (x && is_past (b.window +ℤ pos count)) (Connection flow_control_error) ∷ []) ∷ (if is_idle (standing_in s id) && true then fault_of (asked.verdict b.rows id 8) else None) ∷ None ∷ None ∷ unless_of_stream (fault_of (asked.verdict b.rows id 8)) ∷ stream_update_in s frame ∷ stream_data_in s frame ∷ fault_by_standing_in s frame ∷ [])) of_stream
+      ap (λ x. first_of (first_of (fault_if (x && count == 0) (Connection protocol_error) ∷ fault_if (x && is_past (b.window +ℤ pos count)) (Connection flow_control_error) ∷ []) ∷ (if is_idle (standing_in s id) && true then fault_of (asked.verdict b.rows id 8) else None) ∷ None ∷ None ∷ None ∷ unless_of_stream (fault_of (asked.verdict b.rows id 8)) ∷ stream_update_in s frame ∷ stream_data_in s frame ∷ fault_by_standing_in s frame ∷ [])) of_stream
       ∙ standing_rows (is_idle (standing_in s id) && true) (fault_of (asked.verdict b.rows id 8)) (stream_update_in s frame ∷ stream_data_in s frame ∷ fault_by_standing_in s frame ∷ []) (update_mild (length (active_in b.rows)) (standing b.rows id))
 
   all_rows : (brief : Brief) → fault_for brief s (coming frame) ≡ or_else (fault_of (asked.verdict b.rows id 8)) (first_of (window_rows (is_active b.rows id) ∷ None ∷ fault_of (asked.verdict b.rows id 8) ∷ []))

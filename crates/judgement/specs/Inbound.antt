@@ -24,6 +24,8 @@ pub record Inbound : Type 0 where
   pub room : ℤ
   -- the streams that were opened
   pub rows : List Row
+  -- how many active streams the client reset
+  pub resets : ℕ
   -- the stream of the last frame
   pub last : ℕ
   -- the header table of the client's blocks (RFC 7541, section 2.3.2)
@@ -45,6 +47,7 @@ book_of outside inbound = record {
   window = inbound.window;
   room = inbound.room;
   rows = inbound.rows;
+  resets = inbound.resets;
   given = outside.given;
   last = inbound.last;
   ends = false;

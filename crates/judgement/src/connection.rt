@@ -34,7 +34,8 @@ ghost use Rattle.judgement.specs.Judgement.{IsPlain, IsJudged, fault_told, is_of
 use crate::answers::{Fault, Judged};
 use crate::bodies::{body_code, is_past_room, is_replied_now};
 use crate::codes::{
-    FLOW_CONTROL_ERROR, PROTOCOL_ERROR, fault_of, join_code, payload_code, setting_code,
+    ENHANCE_YOUR_CALM, FLOW_CONTROL_ERROR, PROTOCOL_ERROR, fault_of, join_code, payload_code,
+    setting_code,
 };
 use flow_control::Window;
 use frames::{Frame, View, ends_stream, has_settings, is_ack, is_misplaced, parse};
@@ -51,6 +52,9 @@ const FIRST_WINDOW: u32 = 65535;
 /// The first maximum of a header table, in octets (RFC 9113, section 6.5.2).
 pub(crate) const FIRST_TABLE: u32 = 4096;
 
+/// The most active streams that a client may reset (this project's profile).
+const MOST_RESETS: u32 = 1000;
+
 /// The greatest size that a window may have (RFC 9113, section 6.9.1).
 const GREATEST: i64 = 2147483647;
 
@@ -64,6 +68,7 @@ pub struct Connection {
     pub(crate) window: Window,
     pub(crate) room: Window,
     pub(crate) streams: Streams,
+    pub(crate) resets: u32,
     pub(crate) last: u32,
     pub(crate) decoder: Decoder,
     pub(crate) alloc: Global,
@@ -74,7 +79,7 @@ impl Model for Connection {
 
     ghost Value = { Inbound };
 
-    ghost view = { λ c. record { has_come = c.has_come; block = c.joiner.begun; continuations = c.continuations; first_size = c.settings; window = c.window; room = c.room; rows = c.streams; last = c.last; table = c.decoder.table } };
+    ghost view = { λ c. record { has_come = c.has_come; block = c.joiner.begun; continuations = c.continuations; first_size = c.settings; window = c.window; room = c.room; rows = c.streams; resets = c.resets; last = c.last; table = c.decoder.table } };
 
     ghost invariant = { λ c. IsWhole c.streams c.joiner c.continuations c.decoder.fault };
 }
@@ -93,6 +98,7 @@ impl Connection {
             window: Window::new(FIRST_WINDOW),
             room: Window::new(FIRST_WINDOW),
             streams: Streams::new(alloc),
+            resets: 0,
             last: 0,
             decoder: Decoder::new(alloc, FIRST_TABLE),
             alloc,
@@ -257,7 +263,7 @@ impl Connection {
         }
     }
 
-    /// Takes a RST_STREAM (RFC 9113, section 6.4).
+    /// Takes a RST_STREAM (RFC 9113, section 6.4). Of active streams it resets at most a thousand; one more is an error of the connection.
     fn take_reset<'a>(&mut self, view: View<'a>) -> Judged<'a>
         requires kind { frame_of view ≡ reset view.flags view.id view.payload.now }
         requires of_stream { (view.id == 0) ≡ false }
@@ -268,7 +274,11 @@ impl Connection {
         if let Some(fault) = fault_of(self.streams.verdict(view.id, Kind::RstStream)) {
             return self.pass_over(view, fault);
         }
+        if self.resets >= MOST_RESETS {
+            return Judged::Failed(Fault::Connection(ENHANCE_YOUR_CALM));
+        }
         self.streams.close(view.id, false);
+        self.resets += 1;
         self.hear(view.id);
         Judged::Reset
     }

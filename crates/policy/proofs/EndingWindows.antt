@@ -1,11 +1,11 @@
 -- An error of the connection makes no stream ready: it changes no setting, grants no active stream octets, and the connection some
 -- only where its window was above 0.
 use Rattle.std.proofs.Common.{◌≡◌, ℕ, ◌<◌, Bool, true, false, not, ◌||◌, ◌==◌, ◌&&◌, List, [], ◌∷◌, ◌++◌, map, refl, sym, ap, ◌∙◌, subst, arith, mod-lt, if◌then◌else◌}
-use Rattle.std.specs.Prelude.{Option, Some, None, is_none, length, option_map, ℤ, pos, int_lt, ◌+ℤ◌, ◌<ℤ◌}
+use Rattle.std.specs.Prelude.{Option, Some, None, is_none, length, option_map, ℤ, pos, int_lt, ◌+ℤ◌, ◌<ℤ◌, nat_le}
 use Rattle.std.specs.List.{list_any}
 use Rattle.std.proofs.lemmas.Bool.{eqb-true, ne_eqb, and_parts, and_right, not-true}
 use Rattle.std.proofs.lemmas.Int.{ints}
-use Rattle.model.specs.Frames.{Frame, data_kind, headers_kind, rst_stream_kind, window_update_kind, settings_kind, continuation_kind, is_ack, protocol_error, flow_control_error, compression_error}
+use Rattle.model.specs.Frames.{Frame, data_kind, headers_kind, rst_stream_kind, window_update_kind, settings_kind, continuation_kind, is_ack, protocol_error, flow_control_error, compression_error, enhance_your_calm}
 use Rattle.model.specs.Tapes.{Noted}
 use Rattle.model.specs.Tapes.Note.{NoBlock}
 use Rattle.model.specs.Tapes.Entry.{Came}
@@ -18,10 +18,10 @@ use Rattle.model.specs.Errors.{Fault, first_of, or_else}
 use Rattle.model.specs.Errors.Fault.{Connection, Stream}
 use Rattle.model.specs.FrameErrors.{fault_if}
 use Rattle.model.specs.WindowsOnTape.{has_settings, increment, is_past}
-use Rattle.model.specs.ErrorTable.{judged, grants, grants_nothing, grants_past, is_idle, is_undecodable, unless_of_stream, fault_of}
+use Rattle.model.specs.ErrorTable.{judged, grants, grants_nothing, grants_past, is_idle, is_undecodable, unless_of_stream, fault_of, most_resets}
 use Rattle.model.specs.ErrorClause.{is_fatal}
 use Rattle.conduct.specs.Summary.{Summary}
-use Rattle.conduct.specs.Judging.{state_in, streams_in, standing_in, active_in, window_in, completed_in, frame_rows_in, values_in, shift_in, connection_update_in, idle_in, connection_data_in, fault_on_in, fault_by_standing_in, malformed_in, rows_behind_block_in, shifts_past_in}
+use Rattle.conduct.specs.Judging.{state_in, streams_in, standing_in, active_in, window_in, completed_in, frame_rows_in, values_in, shift_in, connection_update_in, idle_in, resets_row_in, connection_data_in, fault_on_in, fault_by_standing_in, malformed_in, rows_behind_block_in, shifts_past_in, is_active_in}
 use Rattle.conduct.specs.Owing.{fault_in}
 use Rattle.conduct.specs.After.{is_sound, are_taken_in, grant, first_size_after, after}
 use Rattle.conduct.proofs.Elsewhere.{none_more}
@@ -75,7 +75,7 @@ module _ (u : Summary) (noted : Noted) (plain : completed_in u.block noted.frame
   f = noted.frame
 
   abbrev later : List (Option Fault)
-  later = values_in f ∷ shift_in u f ∷ connection_update_in u f ∷ idle_in u f ∷ connection_data_in u f ∷ rows_behind_block_in u noted
+  later = values_in f ∷ shift_in u f ∷ connection_update_in u f ∷ idle_in u f ∷ resets_row_in u f ∷ connection_data_in u f ∷ rows_behind_block_in u noted
 
   not_fatal : is_sound u f ≡ true → AreMild later → is_fatal (fault_in u (Came noted)) ≡ false
   not_fatal sound mild =
@@ -88,12 +88,16 @@ module _ (u : Summary) (noted : Noted) (plain : completed_in u.block noted.frame
     pub no_data : (f.kind == data_kind) ≡ false
     pub no_headers : (f.kind == headers_kind) ≡ false
     pub no_continuation : (f.kind == continuation_kind) ≡ false
+    pub no_reset : (f.kind == rst_stream_kind) ≡ false
 
   completes : IsOther → completed_in u.block f ≡ None
   completes o = completes_none u.block f o.no_headers o.no_continuation
 
   readable : IsOther → is_fatal (fault_if (is_undecodable noted.note) (Connection compression_error)) ≡ false
   readable o = ap (λ n. is_fatal (fault_if (is_undecodable n) (Connection compression_error))) (plain (completes o))
+
+  no_reset_row : IsOther → is_fatal (resets_row_in u f) ≡ false
+  no_reset_row o = ap (λ b. is_fatal (fault_if (b && is_active_in f.id u && nat_le most_resets u.resets) (Connection enhance_your_calm))) o.no_reset
 
   no_data_row : IsOther → is_fatal (connection_data_in u f) ≡ false
   no_data_row o = ap (λ b. is_fatal (fault_if (b && int_lt u.room (pos (length f.payload))) (Connection flow_control_error))) o.no_data
@@ -115,7 +119,7 @@ module _ (u : Summary) (noted : Noted) (plain : completed_in u.block noted.frame
     kind = eqb-true f.kind settings_kind (and_parts (f.kind == settings_kind) (not (is_ack f)) two.0).0
 
     other : IsOther
-    other = record { no_data = ap (λ k. k == data_kind) kind; no_headers = ap (λ k. k == headers_kind) kind; no_continuation = ap (λ k. k == continuation_kind) kind }
+    other = record { no_data = ap (λ k. k == data_kind) kind; no_headers = ap (λ k. k == headers_kind) kind; no_continuation = ap (λ k. k == continuation_kind) kind; no_reset = ap (λ k. k == rst_stream_kind) kind }
 
     standing_none : fault_by_standing_in u f ≡ None
     standing_none =
@@ -135,7 +139,7 @@ module _ (u : Summary) (noted : Noted) (plain : completed_in u.block noted.frame
         (
           ap (λ g. is_fatal (first_of (fault_if (f.id == 0 && (g && increment f == 0)) (Connection protocol_error) ∷ fault_if (f.id == 0 && (g && is_past (u.window +ℤ pos (increment f)))) (Connection flow_control_error) ∷ []))) (ap (λ k. k == window_update_kind) kind)
               ∙ ap (λ b. is_fatal (first_of (fault_if b (Connection protocol_error) ∷ fault_if b (Connection flow_control_error) ∷ []))) (and_right (f.id == 0) false refl),
-          (none_either _ (fault_by_standing_in u f) (mild_none _ standing_none), (no_data_row other, behind_mild other (mild_none _ standing_none))),
+          (none_either _ (fault_by_standing_in u f) (mild_none _ standing_none), (no_reset_row other, (no_data_row other, behind_mild other (mild_none _ standing_none)))),
         ),
       ),
     )
@@ -144,7 +148,7 @@ module _ (u : Summary) (noted : Noted) (plain : completed_in u.block noted.frame
 
   module _ (kind : f.kind ≡ window_update_kind) where
     update : IsOther
-    update = record { no_data = ap (λ k. k == data_kind) kind; no_headers = ap (λ k. k == headers_kind) kind; no_continuation = ap (λ k. k == continuation_kind) kind }
+    update = record { no_data = ap (λ k. k == data_kind) kind; no_headers = ap (λ k. k == headers_kind) kind; no_continuation = ap (λ k. k == continuation_kind) kind; no_reset = ap (λ k. k == rst_stream_kind) kind }
 
     no_settings : has_settings f ≡ false
     no_settings = ap (λ k. k == settings_kind && not (is_ack f)) kind
@@ -170,7 +174,7 @@ module _ (u : Summary) (noted : Noted) (plain : completed_in u.block noted.frame
           ap (λ b. is_fatal (if b then option_map (λ fault. Connection (code_of_fault fault)) (settings_fault f.payload) else None)) no_settings,
           (
             ap (λ b. is_fatal (fault_if (b && shifts_past_in (initial_window_after u.first_size (settings_in f.payload)) u) (Connection flow_control_error))) no_settings,
-            (first, (none_either _ (fault_by_standing_in u f) standing, (no_data_row update, behind_mild update standing))),
+            (first, (none_either _ (fault_by_standing_in u f) standing, (no_reset_row update, (no_data_row update, behind_mild update standing)))),
           ),
         )
 

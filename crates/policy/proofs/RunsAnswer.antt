@@ -111,6 +111,7 @@ desk_with row window untaken = record {
     window = pos window;
     room = pos 65535;
     rows = row ∷ [];
+    resets = 0;
     given = record { k = 1; route = 0; stream = 1 } ∷ [];
     last = 1;
     ends = false;

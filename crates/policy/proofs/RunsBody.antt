@@ -198,9 +198,13 @@ at_put = record at_opened {
 abbrev pub at_between : State
 at_between = next setup at_put Settles
 
+-- the same, where the client reset an active stream
+abbrev pub with_reset : Desk → Desk
+with_reset desk = record desk { book = record desk.book { resets = 1 } }
+
 abbrev pub at_cancelled : State
 at_cancelled = record at_between {
-  desk = desk_of_all (get_row 5 ∷ record { id = 3; slot = Over false } ∷ get_row 1 ∷ []) (second_given ∷ first_given ∷ []) 3 65535 56;
+  desk = with_reset (desk_of_all (get_row 5 ∷ record { id = 3; slot = Over false } ∷ get_row 1 ∷ []) (second_given ∷ first_given ∷ []) 3 65535 56);
   offers = record at_between.offers { kept = silent_one 1 ∷ silent_one 5 ∷ [] };
   requests = record at_between.requests { held = [] };
   windows = record at_between.windows { settled = false };

@@ -1,5 +1,11 @@
-use Rattle.std.proofs.Common.{◌≡◌, ap, sym, ◌∙◌, refl, subst, true, Some, None, List}
-use Rattle.std.specs.Prelude.{option_map}
+use Rattle.std.proofs.Common.{◌≡◌, ap, sym, ◌∙◌, refl, subst, true, Some, None, List, arith}
+use Rattle.std.proofs.lemmas.Bool.{le-leb, lt-leb}
+use Rattle.std.specs.Prelude.{ℕ, ◌+◌, suc, Bool, false, ◌&&◌, ◌≤◌, ◌<◌, Option, option_map, nat_le}
+use Rattle.model.specs.Errors as errors
+use Rattle.model.specs.Errors.{or_else}
+use Rattle.model.specs.FrameErrors.{fault_if}
+use Rattle.model.specs.ErrorTable.{most_resets}
+use Rattle.conduct.specs.Judging.{resets_row_in}
 use Rattle.model.specs.Frames.{Frame}
 use Rattle.model.specs.ErrorTable.{fault_of as fault_by}
 use Rattle.model.specs.ErrorClause.{is_fatal}
@@ -27,7 +33,7 @@ pass_over-requires-clause-is c = λ outside.
     let sound : IsSound i frame = subst (λ (f : Frame). IsSound i f) c.requires.kind (subst (λ (x : Inbound). IsSound x (frame_of c.args.view)) (sym c.self.view_is) c.requires.sound) in
     let fault : fault_by (asked.verdict c.self.inside.streams c.args.view.id 3) ≡ Some (fault_told c.in-Some.fault) =
     ap fault_by (sym c.verdict.ensures.is) ∙ sym c.fault_of.ensures ∙ ap (option_map fault_told) c.in-Some.is in
-    moved (λ (x : Inbound) (f : Frame). fault_in (told_of outside x) (coming f) ≡ Some (fault_told c.in-Some.fault)) i c.args.self.now frame (frame_of c.args.view) c.self.view_is c.requires.kind (reset_fault any_setup (book_of outside i) c.args.view.flags c.args.view.id c.args.view.payload.now c.requires.of_stream (sound outside) c.self.invariant.kept (find c.self.inside.streams c.args.view.id).brief ∙ fault)
+    moved (λ (x : Inbound) (f : Frame). fault_in (told_of outside x) (coming f) ≡ Some (fault_told c.in-Some.fault)) i c.args.self.now frame (frame_of c.args.view) c.self.view_is c.requires.kind (reset_fault any_setup (book_of outside i) c.args.view.flags c.args.view.id c.args.view.payload.now c.requires.of_stream (sound outside) c.self.invariant.kept (find c.self.inside.streams c.args.view.id).brief ∙ ap (λ (o : Option errors.Fault). or_else o (resets_row_in (told_of outside i) frame)) fault)
 
 pub pass_over-requires-clause-left : goal.pass_over-requires-clause-left
 pass_over-requires-clause-left c = λ mild setup outside.
@@ -50,6 +56,22 @@ hear-requires c =
     let sound : IsSound (the_view c.self.inside) (frame_of c.args.view) = subst (λ (x : Inbound). IsSound x (frame_of c.args.view)) (sym c.self.view_is) c.requires.sound in
     no_block_of (the_view c.self.inside) (frame_of c.args.view) (subst (λ (f : Frame). IsPlain f) (sym c.requires.kind) (record { no_headers = refl; no_continuation = refl })) sound
 
+pub returns-then-self-ge-MOST_RESETS-clause-judged : goal.returns-then-self-ge-MOST_RESETS-clause-judged
+returns-then-self-ge-MOST_RESETS-clause-judged c = λ setup outside.
+    let i : Inbound = the_view c.self.inside in
+    let frame : Frame = reset c.args.view.flags c.args.view.id c.args.view.payload.now in
+    let sound : IsSound i frame = subst (λ (f : Frame). IsSound i f) c.requires.kind (subst (λ (x : Inbound). IsSound x (frame_of c.args.view)) (sym c.self.view_is) c.requires.sound) in
+    let passes : fault_by (asked.verdict c.self.inside.streams c.args.view.id 3) ≡ None =
+    ap fault_by (sym c.verdict.ensures.is) ∙ sym c.fault_of.ensures ∙ ap (option_map fault_told) c.in_default.is in
+    let active = reset_active c.self.inside.streams c.args.view.id c.requires.of_stream passes in
+    rw (← c.self.view_is, c.requires.kind) (record {
+      is = reset_fault setup (book_of outside i) c.args.view.flags c.args.view.id c.args.view.payload.now c.requires.of_stream (sound outside) c.self.invariant.kept (find c.self.inside.streams c.args.view.id).brief
+          ∙ ap (λ (o : Option errors.Fault). or_else o (resets_row_in (told_of outside i) frame)) passes
+          ∙ ap (λ x. fault_if (x && nat_le most_resets i.resets) (errors.Fault.Connection 11)) active
+          ∙ ap (λ x. fault_if x (errors.Fault.Connection 11)) (le-leb most_resets i.resets (let is = c.if-self-ge-MOST_RESETS in omega (arith, is)));
+      left = refl;
+    })
+
 pub returns-clause-judged : goal.returns-clause-judged
 returns-clause-judged c = λ setup outside.
     let i : Inbound = the_view c.self.inside in
@@ -58,9 +80,15 @@ returns-clause-judged c = λ setup outside.
     let passes : fault_by (asked.verdict c.self.inside.streams c.args.view.id 3) ≡ None =
     ap fault_by (sym c.verdict.ensures.is) ∙ sym c.fault_of.ensures ∙ ap (option_map fault_told) c.in_default.is in
     let active = reset_active c.self.inside.streams c.args.view.id c.requires.of_stream passes in
-    let new = ap (book_of outside) c.hear.ensures.is ∙ ap (λ (rows : List Row). record (book_of outside i) { has_come = true; continuations = 0; rows = rows; last = c.args.view.id }) c.close.ensures.is in
+    let one : i.resets + 1 ≡ suc i.resets = omega arith in
+    let more = ap (λ (n : ℕ). record (book_of outside i) { has_come = true; continuations = 0; rows = c.close.new.self; resets = n; last = c.args.view.id }) one in
+    let few : nat_le most_resets i.resets ≡ false = lt-leb most_resets i.resets (let is = c.if-self-ge-MOST_RESETS in omega (arith, is)) in
+    let new = ap (book_of outside) c.hear.ensures.is ∙ more ∙ ap (λ (rows : List Row). record (book_of outside i) { has_come = true; continuations = 0; rows = rows; resets = suc i.resets; last = c.args.view.id }) c.close.ensures.is in
     rw (← c.self.view_is, c.requires.kind) (record {
-      faultless = reset_fault setup (book_of outside i) c.args.view.flags c.args.view.id c.args.view.payload.now c.requires.of_stream (sound outside) c.self.invariant.kept (find c.self.inside.streams c.args.view.id).brief ∙ passes;
-      left = new ∙ sym (reset_behind_active setup (book_of outside i) c.args.view.flags c.args.view.id c.args.view.payload.now c.requires.of_stream (sound outside) c.self.invariant.kept active);
+      faultless = reset_fault setup (book_of outside i) c.args.view.flags c.args.view.id c.args.view.payload.now c.requires.of_stream (sound outside) c.self.invariant.kept (find c.self.inside.streams c.args.view.id).brief
+          ∙ ap (λ (o : Option errors.Fault). or_else o (resets_row_in (told_of outside i) frame)) passes
+          ∙ ap (λ x. fault_if (x && nat_le most_resets i.resets) (errors.Fault.Connection 11)) active
+          ∙ ap (λ x. fault_if x (errors.Fault.Connection 11)) few;
+      left = new ∙ sym (reset_behind_active setup (book_of outside i) c.args.view.flags c.args.view.id c.args.view.payload.now c.requires.of_stream (sound outside) c.self.invariant.kept active few);
       says = refl;
     })

@@ -30,7 +30,7 @@ fits_behind : (s : Summary) (noted : Noted) → ends_after s (Came noted) ≡ fa
 fits_behind s noted on =
     let later : List (Option Fault) = unless_of_stream (fault_by_standing_in s noted.frame) ∷ stream_update_in s noted.frame ∷ stream_data_in s noted.frame ∷ fault_by_standing_in s noted.frame ∷ [] in
     let none : first_of (early_rows s noted) ≡ None = calm (early_rows s noted) later (malformed_in (s.stream noted.frame.id).brief s (Came noted)) (early_fatal s noted) on in
-    let row : connection_data_in s noted.frame ≡ None = none_at 10 (early_rows s noted) none in
+    let row : connection_data_in s noted.frame ≡ None = none_at 11 (early_rows s noted) none in
     not_so (is_past_room s.room noted.frame) (Connection flow_control_error) row
 
 -- so it leaves some, or none

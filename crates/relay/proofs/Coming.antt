@@ -75,6 +75,7 @@ inbound_in table book = record {
   window = book.window;
   room = book.room;
   rows = book.rows;
+  resets = book.resets;
   last = book.last;
   table = table;
 }

@@ -100,7 +100,7 @@ module _ (s : Summary) (noted : Noted) (few : length s.opened ≤ most_streams) 
   no_row = first_none (first_of (rows_in s noted)) (malformed_in (s.stream noted.frame.id).brief s (Came noted)) faultless
 
   pub stands : fault_by_standing_in s noted.frame ≡ None
-  stands = none_at 15 (rows_in s noted) no_row
+  stands = none_at 16 (rows_in s noted) no_row
 
   tells : Tells s.stream s.opened noted.frame.id (standing_in s noted.frame.id)
   tells = standing_tells s.stream s.opened noted.frame.id few

@@ -75,7 +75,7 @@ pub active_with : (b : Book) (frame : Frame) (kind : ℕ) → frame.kind ≡ kin
     → is_active b.rows frame.id ≡ true
 active_with b frame kind is of no_headers is_judged completes few faultless =
     active_at b frame.id kind of_stream no_headers (length (active_in s)) (standing_in s frame.id) (standing_tells s.stream s.opened frame.id few)
-    (sym (ap (λ (o : Option Partial). fault_on_in s frame.id (judged o frame)) completes ∙ ap (λ k. fault_on_in s frame.id (judged None (record frame { kind = k }))) is ∙ ap (λ (o : Option ℕ). fault_on_in s frame.id o) is_judged) ∙ none_at 15 (rows_in s (noted_of frame)) rows)
+    (sym (ap (λ (o : Option Partial). fault_on_in s frame.id (judged o frame)) completes ∙ ap (λ k. fault_on_in s frame.id (judged None (record frame { kind = k }))) is ∙ ap (λ (o : Option ℕ). fault_on_in s frame.id o) is_judged) ∙ none_at 16 (rows_in s (noted_of frame)) rows)
   where
     s : Summary
     s = summary_in b

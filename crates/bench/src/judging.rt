@@ -11,8 +11,6 @@ const DATA: u8 = 0;
 
 const HEADERS: u8 = 1;
 
-const RST_STREAM: u8 = 3;
-
 const SETTINGS: u8 = 4;
 
 const PING: u8 = 6;
@@ -41,6 +39,9 @@ static CONTENT: [u8; 16384] = [b'x'; 16384];
 
 /// The block of `:method: GET`, `:scheme: http`, `:path: /` and `:authority: h` (RFC 7541, appendix A and section 6.2.2).
 const GET: &[u8] = b"\x82\x86\x84\x01\x01h";
+
+/// That of `:method: GET` alone, which is no request's (RFC 9113, section 8.3.1).
+const METHOD: &[u8] = b"\x82";
 
 /// How many streams a connection has.
 #[derive(Clone, Copy)]
@@ -107,11 +108,16 @@ impl Client {
         }
     }
 
-    /// Begins a request on the next stream.
-    fn begin(&mut self) -> Option<u8> {
+    /// Judges a whole block on the next stream.
+    fn judge_block(&mut self, block: &[u8]) -> Option<u8> {
         let id = self.next;
         self.next = id.checked_add(2)?;
-        self.judge(HEADERS, WHOLE, id, GET)
+        self.judge(HEADERS, WHOLE, id, block)
+    }
+
+    /// Begins a request on the next stream.
+    fn begin(&mut self) -> Option<u8> {
+        self.judge_block(GET)
     }
 
     /// Begins requests that stay active.
@@ -122,12 +128,10 @@ impl Client {
         Some(())
     }
 
-    /// Begins requests, each of which is reset at once.
+    /// Opens streams that are over at once, since their blocks are no requests.
     fn begin_over(&mut self, count: u32) -> Option<()> {
         for _ in 0..count {
-            let id = self.next;
-            self.begin()?;
-            self.judge(RST_STREAM, 0, id, b"code")?;
+            self.judge_block(METHOD)?;
         }
         Some(())
     }

@@ -5,7 +5,7 @@ use crate::streams_seen::BEGUN;
 use frames::View;
 use judgement::{Connection, Fault, Judged};
 use settings::Change;
-use std::alloc::Global;
+use std::alloc::{AllocError, Global};
 use std::process::Abort;
 use std::test::*;
 use stream_state::{Kind, Verdict};
@@ -25,6 +25,8 @@ pub const FLOW_CONTROL_ERROR: Judged<'static> = Judged::Failed(Fault::Connection
 pub const STREAM_CLOSED: Judged<'static> = Judged::Failed(Fault::Connection(5));
 
 pub const FRAME_SIZE_ERROR: Judged<'static> = Judged::Failed(Fault::Connection(6));
+
+pub const ENHANCE_YOUR_CALM: Judged<'static> = Judged::Failed(Fault::Connection(11));
 
 pub const DISCARDED: Judged<'static> = Judged::Failed(Fault::Discarded);
 
@@ -250,4 +252,42 @@ fn assert_granted_and_reset(rt: &impl Abort, connection: &mut Connection) -> Res
 #[test]
 fn streams_are_granted_to_and_reset(rt: HostRuntime) -> Result<(), Fail> {
     assert_granted_and_reset(&rt, &mut Connection::new(rt.alloc()))
+}
+
+/// The first of a thousand streams that isn't opened, reset while it is active, and left alone when it is reset again.
+fn first_not_reset(connection: &mut Connection) -> Result<Option<u32>, AllocError> {
+    for place in 0u32..1000 {
+        let id = 2 * place + 1;
+        if !open_if_idle(connection, id, BEGUN, false)?
+            || !is_as_told(connection, &(3, 0, id, b"code", Judged::Reset))
+            || !is_as_told(connection, &(3, 0, id, b"code", DISCARDED))
+        {
+            return Ok(Some(id));
+        }
+    }
+    Ok(None)
+}
+
+/// Frames behind a thousand resets: one more of stream 2001, which is active, each time changes nothing.
+static ONE_MORE: [Row<'static>; 5] = [
+    (3, 0, 1, b"code", DISCARDED),
+    (3, 0, 2001, b"code", ENHANCE_YOUR_CALM),
+    (3, 0, 1999, b"code", DISCARDED),
+    (3, 0, 2001, b"code", ENHANCE_YOUR_CALM),
+    (8, 0, 2001, &[0, 0, 0, 1], Judged::Granted),
+];
+
+/// What comes of a thousand resets of active streams, beside which others aren't counted, and of one more.
+fn assert_resets_are_counted(rt: &impl Abort, connection: &mut Connection) -> Result<(), Fail> {
+    open_all(connection, &[], BEGUN)?;
+    assert_eq!(rt; first_not_reset(connection)?, None);
+    assert!(rt; open_if_idle(connection, 2001, BEGUN, false)?);
+    assert_eq!(rt; first_that_differs(connection, &ONE_MORE), None);
+    assert_eq!(rt; connection.verdict(2001, Kind::RstStream), Verdict::Pass);
+    Ok(())
+}
+
+#[test]
+fn a_thousand_active_streams_are_reset(rt: HostRuntime) -> Result<(), Fail> {
+    assert_resets_are_counted(&rt, &mut Connection::new(rt.alloc()))
 }

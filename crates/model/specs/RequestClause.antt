@@ -1,9 +1,9 @@
 -- The clause on requests: what each upstream connection was sent reads as just the request of the stream that it was given to.
-use Rattle.std.specs.Prelude.{◌≡◌, ℕ, true, false, ◌⊎◌, List, [], ◌∷◌, None}
+use Rattle.std.specs.Prelude.{◌≡◌, ℕ, true, false, ◌⊎◌, List, [], ◌∷◌, ◌++◌, None, codes}
 use Rattle.std.specs.List.{list_any}
-use Rattle.model.specs.Octets.{IsStrictFront}
+use Rattle.model.specs.Octets.{IsStrictFront, Joined}
 use Rattle.model.specs.Messages.{Field, Request, Item, ends_with}
-use Rattle.model.specs.Http1.{H1Request, H1Requests, forward}
+use Rattle.model.specs.Http1.{Head, H1Head, Chunk, H1Request, H1Requests, values_of, forward}
 use Rattle.model.specs.Http2.{HasHead, WellFormedHead, H2Request, MayBecome, authority_of, path_of}
 use Rattle.model.specs.Logs.Act.{Open}
 use Rattle.model.specs.Setup.{IsFirstMatch}
@@ -23,11 +23,23 @@ pub record IsSentWhole (text : List ℕ) (items : List Item) : Type 0 where
   pub means : H2Request items request
   pub reads : H1Requests text (forward request ∷ []) []
 
--- The text reads as no request yet, and goes on to one for every request that the items may still become; there is one.
+-- By the codings that a head names, what stands behind it is chunks, one after another, each of them whole (RFC 9112, section 7.1).
+abbrev pub AreWholeChunks : List (List ℕ) → List ℕ → Type 0
+AreWholeChunks [] rest = Unit {0}
+AreWholeChunks (coding ∷ codings) rest = (chunks : List (List ℕ)) × Joined Chunk rest chunks
+
+-- Behind the head of a text, once that is there, stand whole chunks, if the body comes in chunks: no octet more, be it of a size.
+abbrev pub EndsWithChunks : List ℕ → Type 0
+EndsWithChunks text =
+    (head_text rest : List ℕ) (head : Head) → text ≡ head_text ++ rest → H1Head head_text head → AreWholeChunks (values_of (codes "transfer-encoding") head.fields) rest
+
+-- The text reads as no request yet, and goes on to one for every request that the items may still become; there is one. Where its
+-- body comes in chunks, these are whole.
 pub record IsSentInPart (text : List ℕ) (items : List Item) : Type 0 where
   pub some : (request : Request) × MayBecome items request
   pub reads : H1Requests text [] text
   pub goes_on : (request : Request) → MayBecome items request → (whole : List ℕ) × H1Request whole (forward request) × IsStrictFront text whole
+  pub in_chunks : EndsWithChunks text
 
 -- The connection was opened by the first route that matches the well-formed head of its stream, and what it was sent is that
 -- stream's request, whole or in part.

@@ -1,6 +1,7 @@
 mod AnswerExamples
 mod BeginningExamples
 mod CauseExamples
+mod ChunkRefusals
 mod ErrorExamples
 mod FloodExamples
 mod FramesExamples

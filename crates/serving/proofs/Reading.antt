@@ -63,7 +63,7 @@ may_back false (Block fields ends ∷ xs) ys head request has may = record {
 
 -- a part of a request is one of what it may become
 part_stays : (b : Bool) (xs ys : List Item) (head : List Field) (text : List ℕ) (request : Request) → HasHead xs head → MayBecome (if b then xs else xs ++ ys) request → IsSentInPart text xs → IsSentInPart text (if b then xs else xs ++ ys)
-part_stays b xs ys head text request has some p = record { some = (request, some); reads = p.reads; goes_on = λ r may. p.goes_on r (may_back b xs ys head r has may) }
+part_stays b xs ys head text request has some p = record { some = (request, some); reads = p.reads; goes_on = λ r may. p.goes_on r (may_back b xs ys head r has may); in_chunks = p.in_chunks }
 
 -- ---- what is due
 

@@ -16,6 +16,7 @@ use Rattle.h1_writer.specs.Sending.Stage.{Whole, Counting, Holding, Chunking}
 use Rattle.h1_writer.proofs.Wholes.{whole_read, unfinished_front, unfinished_none}
 use Rattle.serving.specs.Written.{IsWritten}
 use Rattle.serving.specs.State.{is_whole}
+use Rattle.serving.proofs.Coming.{come_in_chunks, has_come}
 use Rattle.serving.proofs.Trailing.{no_trailers, trailers_well, bare}
 
 -- a text that reads as one request, as a run of requests
@@ -143,6 +144,7 @@ module _ (items : List Item) (text : List ℕ) (stage : Stage) (w : IsWritten it
             (subst (λ b. IsFront b request.body) body_is may.begun) (subst (λ h. HasLength (declared_length h) request.body) (sym same) may.length_holds) in
             let is : request_of w.head request.body may.trailers ≡ request = ap (λ h. request_of h request.body may.trailers) same ∙ sym may.is in
             (goes.whole, subst (λ r. H1Request goes.whole (forward r)) is goes.reads, goes.is_front);
+        in_chunks = come_in_chunks text (body_of items) (has_come items text stage w part);
       }
 
   -- either of them

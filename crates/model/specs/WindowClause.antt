@@ -51,7 +51,7 @@ waiting o taken_now (_ ∷ t) put_out = waiting o taken_now t put_out
 abbrev pub waiting_for : Opened → List Entry → ℕ
 waiting_for o t = waiting o (taken_of o t) t (length (sent_for o t))
 
--- The octets of DATA that are kept for an active stream: none where requests are passed on whole; else those of each frame, padding
+-- The octets of DATA that are kept for a stream: none where requests are passed on whole; else those of each frame, padding
 -- included, behind which more was put out than its connection's side has taken.
 abbrev pub kept : Passing → ℕ → List Entry → ℕ
 kept Whole stream t = 0
@@ -67,6 +67,11 @@ pub record GivesBack (known : Known) (t : List Entry) : Type 0 where
   pub shared : room_on_connection t ≡ pos first_window -ℤ pos (kept_in_all known.setup.passing t)
   pub own : (stream : ℕ) → is_active stream t ≡ true → is_ended_by_client stream t ≡ false → room_on stream t ≡ pos first_window -ℤ pos (kept known.setup.passing stream t)
 
+-- What is kept isn't given back, nor is it in the step in which its stream ends: no stream has more room than at first, less what is kept
+-- for it.
+abbrev pub HoldsBack : Passing → List Entry → Type 0
+HoldsBack passing t = (stream : ℕ) → 0 < stream → room_on stream t ≤ℤ (pos first_window -ℤ pos (kept passing stream t))
+
 -- how many octets of DATA may come on an id; 0 is that of the connection
 abbrev pub room_of : ℕ → List Entry → ℤ
 room_of id t = if id == 0 then room_on_connection t else room_on id t
@@ -81,4 +86,5 @@ GivesNoMore (_ ∷ t) = GivesNoMore t
 pub record WindowsHold (known : Known) (t : List Entry) : Type 0 where
   pub keeps : KeepsWindows t
   pub no_more : GivesNoMore t
+  pub holds_back : HoldsBack known.setup.passing t
   pub gives_back : is_closed t ≡ false → GivesBack known t

@@ -253,6 +253,7 @@ windows = record {
     λ kind. absurd (omega (arith, kind)),
     (λ kind. absurd (omega (arith, kind)), (λ kind. absurd (omega (arith, kind)), (λ kind. absurd (omega (arith, kind)), tt))),
   );
+  holds_back = λ stream counted. omega arith;
   gives_back = λ on. record { shared = refl; own = λ stream on unended. refl };
 }
 

@@ -77,7 +77,7 @@ greeted_holds = record {
     closes = tt;
     go_to_open = tt;
   };
-  windows = record { keeps = (λ kind some. absurd (omega (arith, kind)), tt); no_more = (λ kind. absurd (omega (arith, kind)), tt); gives_back = λ on. record { shared = refl; own = λ stream on unended. refl } };
+  windows = record { keeps = (λ kind some. absurd (omega (arith, kind)), tt); no_more = (λ kind. absurd (omega (arith, kind)), tt); holds_back = λ stream counted. omega arith; gives_back = λ on. record { shared = refl; own = λ stream on unended. refl } };
 }
 
 -- ---- behind the client's
@@ -117,6 +117,7 @@ settled_holds = record {
   windows = record {
     keeps = (λ kind some. absurd (omega (arith, kind)), (λ kind some. absurd (omega (arith, kind)), tt));
     no_more = (λ kind. absurd (omega (arith, kind)), (λ kind. absurd (omega (arith, kind)), tt));
+    holds_back = λ stream counted. omega arith;
     gives_back = λ on. record { shared = refl; own = λ stream on unended. refl };
   };
 }

@@ -157,6 +157,7 @@ windows : WindowsHold known tape
 windows = record {
   keeps = (λ kind some. absurd (omega (arith, kind)), (λ kind some. absurd (omega (arith, kind)), tt));
   no_more = (λ kind. absurd (omega (arith, kind)), (λ kind. absurd (omega (arith, kind)), tt));
+  holds_back = λ stream counted. omega arith;
   gives_back = λ on. record { shared = refl; own = λ stream on unended. refl };
 }
 

@@ -7,7 +7,7 @@ use Rattle.model.specs.Tables.{total_size}
 use Rattle.model.specs.Octets.{Joined}
 use Rattle.model.specs.Http1.{crlf, Chunk, Head, values_of}
 use Rattle.model.specs.Logs.{Step}
-use Rattle.model.specs.Logs.Event.{UpFailed}
+use Rattle.model.specs.Logs.Event.{Up, UpFailed}
 use Rattle.model.specs.Logs.Act.{Open, ToUp, Close}
 use Rattle.model.specs.Tapes.{Entry, IsStep}
 use Rattle.model.specs.Tapes.Entry.{Happened, Did}
@@ -21,7 +21,7 @@ use Rattle.model.specs.WindowClause.{WindowsHold}
 use Rattle.model.specs.Headline.{ClausesHold, HoldsInTurn}
 use Rattle.model.proofs.Http1Bodies.{one_chunk}
 use Rattle.model.proofs.Http1Readings.{one_head}
-use Rattle.model_examples.proofs.RowTapes.{by_whole, by_streaming, frame, plain, headed, out, out_headed, post, post_block, begun, getting, got, ok_two, update}
+use Rattle.model_examples.proofs.RowTapes.{by_whole, by_streaming, frame, plain, headed, out, out_headed, post, post_block, begun, getting, got, answer_text, ok_two, update, reset}
 use Rattle.model_examples.proofs.RequestRefusals.{five, five_text, five_head, has_five_head}
 
 -- ---- frames that it may not send
@@ -114,6 +114,21 @@ one_held_back all = let s = all refl 1 five refl refl refl in at s.o s.given.is_
     at : (o : Opened) → IsIn o (opens two_put) → (is_open o.k two_put ≡ true → HasCome (sent_for o two_put) (codes "hel")) → ⊥
     at o (inl same) come = lacks_some (codes "he") (codes "hel") (omega arith) (omega arith) (subst (λ (p : Opened). is_open p.k two_put ≡ true → HasCome (sent_for p two_put) (codes "hel")) same come refl)
     at o (inr none) come = none
+
+-- The upstream answers before that request is whole, and the stream is over with the answer. Before it is, three octets are given back on
+-- it, of which the upstream's side took none.
+pub gives_unread : WindowsHold by_streaming
+    (out (update 0 3)
+    ∷ out (reset 1 0)
+    ∷ out (frame 0 1 1 (codes "hi"))
+    ∷ out_headed (frame 1 4 1 (136 ∷ 15 ∷ 13 ∷ 1 ∷ 50 ∷ [])) ok_two
+    ∷ out (update 1 3)
+    ∷ Did (Close 1)
+    ∷ Happened (Up 1 answer_text)
+    ∷ Did (ToUp 1 (codes "hel"))
+    ∷ three_came) → ⊥
+unfolding total_size
+gives_unread c = let clash : pos 65535 ≤ℤ pos 65532 = c.holds_back 1 (omega arith) in omega (arith, clash)
 
 -- Digits of another chunk's size stand behind the chunk of what came, though nothing brought them.
 hel_chunk : Chunk (codes "3\r\nhel\r\n") (codes "hel")

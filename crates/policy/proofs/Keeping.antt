@@ -9,7 +9,7 @@ use Rattle.model.specs.Failures.{IsJudged, AreJudged}
 use Rattle.model.specs.ErrorClause.{ErrorsHold}
 use Rattle.model.specs.Headline.{ClausesHold, HoldsInTurn}
 use Rattle.model.specs.Synchrony.{InStep}
-use Rattle.model.specs.WindowClause.{GivesBack, GivesNoMore}
+use Rattle.model.specs.WindowClause.{GivesBack, GivesNoMore, HoldsBack}
 use Rattle.conduct.specs.Rule.{AreKnown, Point}
 use Rattle.conduct.specs.Book.{desk_of}
 use Rattle.conduct.proofs.Rule.{point_same}
@@ -22,6 +22,7 @@ use Rattle.receiving.specs.Rule as windows
 use Rattle.receiving.specs.Rule.{OwesNothing}
 use Rattle.receiving.proofs.Ruling.{all_allowed, run_gives_back}
 use Rattle.receiving.proofs.Resting.{gives_no_more}
+use Rattle.receiving.proofs.Withholding.{holds_back}
 use Rattle.serving.specs.Meaning as serving
 use Rattle.serving.specs.Rule as requests
 use Rattle.serving.specs.State as served
@@ -86,6 +87,11 @@ module _ (known : Known) (run : List Move) (k : IsKnown known run) (rests : Rest
       subst GivesNoMore (windows_tape known.setup run)
       (gives_no_more known.setup.passing (windows.moves_of (windows_of known.setup run)) (all_allowed known known.setup.passing (windows_of known.setup run) (windows_may known.setup run k.all) (windows_right known run k.knows k.all k.answered)))
 
+  kept_back : HoldsBack known.setup.passing t
+  kept_back =
+      subst (HoldsBack known.setup.passing) (windows_tape known.setup run)
+      (holds_back known.setup.passing (windows.moves_of (windows_of known.setup run)) (all_allowed known known.setup.passing (windows_of known.setup run) (windows_may known.setup run k.all) (windows_right known run k.knows k.all k.answered)))
+
   gives_back : is_closed t ≡ false → GivesBack known t
   gives_back open_yet =
       subst (GivesBack known) (windows_tape known.setup run)
@@ -116,7 +122,7 @@ module _ (known : Known) (run : List Move) (k : IsKnown known run) (rests : Rest
       closes = of_requests.closes;
       go_to_open = of_requests.go_to_open;
     };
-    windows = record { keeps = of_offers.keeps; no_more = no_more; gives_back = gives_back };
+    windows = record { keeps = of_offers.keeps; no_more = no_more; holds_back = kept_back; gives_back = gives_back };
   }
 
   -- ---- tables and turns

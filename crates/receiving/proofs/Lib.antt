@@ -7,6 +7,7 @@ pub mod Incoming
 pub mod Outgoing
 pub mod Acting
 pub mod Resting
+pub mod Withholding
 pub mod Admitting
 pub mod Returning
 pub mod Holding

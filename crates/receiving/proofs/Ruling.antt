@@ -24,6 +24,7 @@ use Rattle.receiving.specs.Policy.{IsOpened, MayTake, IsOwed, MayGive, MaySend, 
 use Rattle.receiving.specs.Rule.{is_over_by, TakesFrame, OwesAll, GivesAll, SendsOther, MayCome, OwesNothing, Seen, moves_of, sight_of, gates_of, state_with, state_behind, AllMayCome, AreRight}
 use Rattle.receiving.proofs.Admitting.{come_same}
 use Rattle.receiving.proofs.Resting.{receiving, gives_back_at_rest, gives_no_more}
+use Rattle.receiving.proofs.Withholding.{holds_back}
 
 -- a frame opens its stream just where that wasn't opened before and is behind it
 opens_told : (t : List Entry) (noted : Noted) → opens_by (opened t) (completed (came t) noted.frame) noted.note ≡ (not (is_opened noted.frame.id t) && is_opened noted.frame.id (Came noted ∷ t))
@@ -178,7 +179,7 @@ run_gives_back known run may right none =
 
 -- what is given back, and no more
 keeps : (known : Known) (run : List Seen) → AllMayCome known.setup.passing run → AreRight known run → OwesNothing (sight_of run) (state_behind known.setup.passing run) → KeepRooms known (tape_of (moves_of run))
-keeps known run may right none = record { gives_back = run_gives_back known run may right none; no_more = gives_no_more known.setup.passing (moves_of run) (all_allowed known known.setup.passing run may right) }
+keeps known run may right none = record { gives_back = run_gives_back known run may right none; no_more = gives_no_more known.setup.passing (moves_of run) (all_allowed known known.setup.passing run may right); holds_back = holds_back known.setup.passing (moves_of run) (all_allowed known known.setup.passing run may right) }
 
 module _ (known : Known) (run : List Seen) (at : OwesNothing (sight_of run) (state_behind known.setup.passing run) → KeepRooms known (tape_of (moves_of run))) (before : HoldsInTurn (KeepRooms known) (tape_of (moves_of run))) where
   -- one move more

@@ -15,7 +15,7 @@ use Rattle.model.specs.Openings.{opens, last_stream}
 use Rattle.model.specs.Lifetimes.{opens_by, opened, active, is_active, is_ended_by_client}
 use Rattle.model.specs.WindowsOnTape.{increment, room_on}
 use Rattle.model.specs.Known.{Known}
-use Rattle.model.specs.WindowClause.{GivesBack, GivesNoMore}
+use Rattle.model.specs.WindowClause.{GivesBack, GivesNoMore, HoldsBack}
 use Rattle.receiving.specs.State.{State, is_live, Move, tape_of, state_of}
 use Rattle.receiving.specs.State.Move.{Takes, Breaks, Hears, Settles, Gives, Sends, Acts}
 
@@ -142,7 +142,8 @@ pub record IsPaid (t : List Entry) (s : State) : Type 0 where
   pub shared : s.debt ≡ 0
   pub own : (stream : ℕ) → is_active stream t ≡ true → is_ended_by_client stream t ≡ false → (s.row stream).debt ≡ 0
 
--- What was to be shown: each window is as at first, but for what is kept, and no more was given back than came.
+-- What was to be shown: each window is as at first, but for what is kept, no more was given back than came, and what is kept wasn't.
 pub record KeepRooms (known : Known) (t : List Entry) : Type 0 where
   pub gives_back : GivesBack known t
   pub no_more : GivesNoMore t
+  pub holds_back : HoldsBack known.setup.passing t

@@ -25,7 +25,7 @@ ghost use Rattle.model.specs.Headline.{HoldsInTurn};
 ghost use Rattle.model.specs.Admission.{is_admitted, room};
 ghost use Rattle.model.specs.Rooms.{IsAdmitted};
 ghost use Rattle.model.specs.Lifetimes.{is_active};
-ghost use Rattle.model.specs.WindowClause.{GivesBack, GivesNoMore, waiting};
+ghost use Rattle.model.specs.WindowClause.{GivesBack, GivesNoMore, HoldsBack, waiting};
 ghost use Rattle.receiving.specs.State.{Move, tape_of, state_of, held, fresh_of, with_taken, add};
 ghost use Rattle.receiving.specs.Policy.{AreAllowed, IsPaid, KeepRooms, Gates, AreGates, admits, room_in};
 ghost use Rattle.receiving.specs.Rule.{Seen, moves_of, sight_of, state_behind, AllMayCome, AreRight, OwesNothing};
@@ -35,11 +35,12 @@ ghost use Rattle.receiving.specs.Held.{HasOutbox, AreUnpadded, body_in};
 ghost use Rattle.receiving.specs.Marks.{released, waiting_of};
 ghost use Rattle.receiving.specs.Marking.{marks_on};
 
-/// Behind moves that are allowed, where all that is owed is paid, each receiving window is as at first but for what is kept; and
-/// no frame that gives octets back makes a window larger than that.
+/// Behind moves that are allowed, where all that is owed is paid, each receiving window is as at first but for what is kept; no frame that
+/// gives octets back makes a window larger than at first; and what is kept for a stream isn't given back on it, though it be over.
 pub fn windows_go_back()
     ensures at_rest { (known : Known) (moves : List Move) → AreAllowed known.setup.passing moves → IsPaid (tape_of moves) (state_of known.setup.passing moves) → GivesBack known (tape_of moves) }
     ensures no_more { (passing : Passing) (moves : List Move) → AreAllowed passing moves → GivesNoMore (tape_of moves) }
+    ensures holds_back { (passing : Passing) (moves : List Move) → AreAllowed passing moves → HoldsBack passing (tape_of moves) }
 {}
 
 /// Moves that are allowed by the states alone, where what is read of other concerns is right, are allowed by their tape; and where

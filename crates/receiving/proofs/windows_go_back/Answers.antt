@@ -1,4 +1,5 @@
 use Rattle.receiving.proofs.Resting as resting
+use Rattle.receiving.proofs.Withholding as withholding
 use Rattle.receiving.proofs.windows_go_back.Goals as goal
 
 pub returns-clause-at_rest : goal.returns-clause-at_rest
@@ -6,3 +7,6 @@ returns-clause-at_rest c = resting.gives_back_at_rest
 
 pub returns-clause-no_more : goal.returns-clause-no_more
 returns-clause-no_more c = resting.gives_no_more
+
+pub returns-clause-holds_back : goal.returns-clause-holds_back
+returns-clause-holds_back c = withholding.holds_back

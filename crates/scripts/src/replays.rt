@@ -1,6 +1,6 @@
 //! The replay of a script.
 
-ghost use Rattle.std.specs.Prelude.{◌≡◌, ◌≤◌, ◌⊎◌, ◌++◌, IfOk, IfErr, OnOk, string_bytes, codes};
+ghost use Rattle.std.specs.Prelude.{◌≡◌, ◌≤◌, ◌⊎◌, ◌++◌, ⊤, IfOk, IfErr, OnOk, string_bytes, codes};
 ghost use Rattle.std.specs.Option.{option_copied};
 ghost use Rattle.std.specs.Io.KnownBytes.{Appends};
 ghost use Rattle.gateway.specs.Setups.{setup_of, IsServable};
@@ -35,7 +35,7 @@ pub enum Stop {
 ///
 /// The status is 0; 1 where `err` says what is the matter with the configuration, or else `line n: not a line` of the first line
 /// that isn't one, or else `line n: not admitted`, with n from 1, and nothing is written on `out`; 2 where no memory was left or a
-/// write failed.
+/// write failed, and then nothing is written on `out` but of a run that was made whole, whose lines couldn't all be written.
 pub fn replay<O: Write, E: Write>(
     alloc: Global,
     config: Option<&str>,
@@ -45,6 +45,7 @@ pub fn replay<O: Write, E: Write>(
 ) -> u8
     ensures run { result ≡ 0 → IsRun (option_copied config.entry) script.now (Appends (O.contents out.old) (O.contents out.new)) × (err.new ≡ err.old) }
     ensures refused { result ≡ 1 → IsRefused (option_copied config.entry) script.now (Appends (E.contents err.old) (E.contents err.new)) × (out.new ≡ out.old) }
+    ensures failed { result ≡ 2 → (out.new ≡ out.old) ⊎ IsRun (option_copied config.entry) script.now (λ text. ⊤) }
     ensures status { result ≤ 2 }
 {
     match config_of(alloc, config) {
@@ -65,6 +66,7 @@ fn replay_with<O: Write, E: Write>(
     requires { IsServable (setup_of config.now) }
     ensures run { result ≡ 0 → IsRunBy (setup_of config.now) script.now (Appends (O.contents out.old) (O.contents out.new)) × (err.new ≡ err.old) }
     ensures refused { result ≡ 1 → IsRefusedBy (setup_of config.now) script.now (Appends (E.contents err.old) (E.contents err.new)) × (out.new ≡ out.old) }
+    ensures failed { result ≡ 2 → (out.new ≡ out.old) ⊎ IsRunBy (setup_of config.now) script.now (λ text. ⊤) }
     ensures status { result ≤ 2 }
 {
     match printed(alloc, config, script) {

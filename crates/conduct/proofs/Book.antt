@@ -194,15 +194,15 @@ ends_on setup desk p m tells ended may = by_entry m.entry m.fails may.turn
       };
     }
     by_entry (Did (Open k route)) fails turn = record {
-      allowed = record { open_yet = open_yet; turn = tt };
+      allowed = record { open_yet = open_yet; turn = sym tells.queue ∙ turn };
       tells = record { queue = tells.queue; ends = tells.ends; closed = tells.closed; block_out = tells.block_out; told = λ on. absurd (let no : true ≡ false = sym ended ∙ on in cc) };
     }
     by_entry (Did (ToUp k octets)) fails turn = record {
-      allowed = record { open_yet = open_yet; turn = tt };
+      allowed = record { open_yet = open_yet; turn = sym tells.queue ∙ turn };
       tells = record { queue = tells.queue; ends = tells.ends; closed = tells.closed; block_out = tells.block_out; told = λ on. absurd (let no : true ≡ false = sym ended ∙ on in cc) };
     }
     by_entry (Did (Close k)) fails turn = record {
-      allowed = record { open_yet = open_yet; turn = tt };
+      allowed = record { open_yet = open_yet; turn = sym tells.queue ∙ turn };
       tells = record { queue = tells.queue; ends = tells.ends; closed = tells.closed; block_out = tells.block_out; told = λ on. absurd (let no : true ≡ false = sym ended ∙ on in cc) };
     }
     by_entry (Did CloseClient) fails turn = record {

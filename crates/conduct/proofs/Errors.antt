@@ -12,9 +12,9 @@ use Rattle.model.specs.Errors.{Fault}
 use Rattle.model.specs.Errors.Fault.{Connection, Stream, Discarded}
 use Rattle.model.specs.Known.{Known}
 use Rattle.model.specs.Lifetimes.{is_spent}
-use Rattle.model.specs.Courses.{course, fault, new_cause}
-use Rattle.model.specs.ErrorClause.{owed_first, owed_by, owed, controls, is_passing, is_rightly_sent, is_fatal, calls_for_end, must_end, IsFollowed, AreFollowed, ErrorsHold}
-use Rattle.conduct.specs.Turn.{rest_of, queue_after, queue_of, MayCome, MayPass, MayClose, MayStand, Conducted, Holds}
+use Rattle.model.specs.Courses.{course, about, fault, new_cause}
+use Rattle.model.specs.ErrorClause.{rst_stream, last_farewell, newest_farewell, FarewellsComeFirst, owed_first, owed_by, owed, controls, is_passing, is_rightly_sent, is_fatal, calls_for_end, must_end, IsFollowed, AreFollowed, ErrorsHold}
+use Rattle.conduct.specs.Turn.{rest_of, queue_after, queue_of, MayCome, MayPass, MayClose, MayAct, MayStand, Conducted, Holds}
 use Rattle.model.proofs.OwedSteps.{no_farewell, did_nothing, control_owes_nothing, later_owed, nothing_besides, no_cause_of_fault}
 
 -- the frames of notes
@@ -33,6 +33,11 @@ holds_first known = record {
 }
 
 -- ---- lists of debts
+
+-- nothing stands in front where nothing stands
+nothing_before : (xs ys : List Frame) → xs ++ ys ≡ [] → xs ≡ []
+nothing_before [] ys none = refl
+nothing_before (x ∷ xs) ys none = cc
 
 -- a debt that is paid has moved from the front of the debts to the frames that were sent
 paid : (frame : Frame) (queue frames : List Frame) → reverse queue ++ frame ∷ frames ≡ reverse (frame ∷ queue) ++ frames
@@ -218,6 +223,40 @@ pub holds : (known : Known) (t : List Entry) → Conducted known t → Holds kno
 holds known [] c = holds_first known
 holds known (e ∷ t) c = holds_step known t (queue_of known t) e (holds known t c.0) c.1
 
+-- ---- the farewell of the last stream comes first
+
+-- an entry that calls for nothing calls for no last farewell
+none_first : (found : Option Fault) (t : List Entry) (e : Entry) (rest : List Frame) → owed_first t e found ++ rest ≡ [] → last_farewell t e ≡ []
+none_first None t e rest none = nothing_before (last_farewell t e) rest none
+none_first (Some (Connection code)) t e rest none = cc
+none_first (Some (Stream code)) t e rest none = nothing_before (last_farewell t e) (rst_stream (about t e) code ∷ []) (nothing_before (owed_first t e (Some (Stream code))) rest none)
+none_first (Some Discarded) t e rest none = nothing_before (last_farewell t e) rest none
+
+-- where nothing is owed behind an entry, it calls for no last farewell
+none_newest : (known : Known) (t : List Entry) → queue_of known t ≡ [] → newest_farewell t ≡ []
+none_newest known [] none = refl
+none_newest known (Came noted ∷ t) none = none_first (fault known t (Came noted)) t (Came noted) (later_owed known t (Came noted) (fault known t (Came noted))) none
+none_newest known (Breached breach ∷ t) none = no_farewell t (Breached breach) refl
+none_newest known (Happened event ∷ t) none = no_farewell t (Happened event) refl
+none_newest known (Sent noted ∷ t) none = no_farewell t (Sent noted) refl
+none_newest known (Did act ∷ t) none = no_farewell t (Did act) refl
+
+-- an act in its turn stands where nothing is owed
+acts_unowed : (known : Known) (t : List Entry) (queue : List Frame) (act : Act) → MayAct known t queue act → queue ≡ []
+acts_unowed known t queue (Open k route) may = may
+acts_unowed known t queue (ToUp k octets) may = may
+acts_unowed known t queue (Close k) may = may
+acts_unowed known t queue CloseClient may = may.nothing
+
+-- So no act stands right behind the entry that opens the last stream.
+first_of_all : (known : Known) (t : List Entry) → Conducted known t → FarewellsComeFirst t
+first_of_all known [] c = tt
+first_of_all known (Came noted ∷ t) c = first_of_all known t c.0
+first_of_all known (Breached breach ∷ t) c = first_of_all known t c.0
+first_of_all known (Happened event ∷ t) c = first_of_all known t c.0
+first_of_all known (Sent noted ∷ t) c = first_of_all known t c.0
+first_of_all known (Did act ∷ t) c = (none_newest known t (acts_unowed known t (queue_of known t) act c.1.turn), first_of_all known t c.0)
+
 -- Where nothing is owed, and the client is closed if the connection is to end, the clause on errors holds.
 pub errors_hold : (known : Known) (t : List Entry) → Conducted known t → queue_of known t ≡ [] → (must_end known t ≡ true → is_closed t ≡ true) → ErrorsHold known t
 errors_hold known t c none ends =
@@ -225,6 +264,7 @@ errors_hold known t c none ends =
       begins = h.begins;
       just_owed = h.owing;
       followed = h.followed [] (λ so. refl);
+      farewell_first = first_of_all known t c;
       rightly_sent = h.rightly_sent;
       closed = same (is_closed t) refl (must_end known t) refl;
       in_time = h.in_time;

@@ -110,9 +110,9 @@ module _ (setup : Setup) (fails : Bool) (f : ℕ → Kept) (s : Summary) (will :
   turn_told queue (Sent noted) (inl due) = inl due
   turn_told queue (Sent noted) (inr may) = inr (record { nothing = may.nothing; goes_on = sym (end_seen setup fails f s will few) ∙ may.goes_on; passing = may.passing; rightly = sym (rightly_seen setup fails f s will few noted.frame) ∙ may.rightly })
   turn_told queue (Did CloseClient) turn = record { nothing = turn.nothing; to_end = sym (end_seen setup fails f s will few) ∙ turn.to_end }
-  turn_told queue (Did (Open k route)) turn = tt
-  turn_told queue (Did (ToUp k octets)) turn = tt
-  turn_told queue (Did (Close k)) turn = tt
+  turn_told queue (Did (Open k route)) turn = turn
+  turn_told queue (Did (ToUp k octets)) turn = turn
+  turn_told queue (Did (Close k)) turn = turn
 
   -- A move that is allowed by the rows is allowed, and leaves the same debt.
   pub allowed_told : (queue : List Frame) (m : Move) → Allowed (record { summary = seen; queue = queue }) m → Allowed (record { summary = s; queue = queue }) m

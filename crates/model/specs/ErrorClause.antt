@@ -106,6 +106,18 @@ AreFollowed known frames (Sent noted ∷ t) = AreFollowed known (frames ++ noted
 AreFollowed known frames (e ∷ t) =
     IsFollowed frames (owed_first t e (fault known t e)) (fault known t e) × AreFollowed known frames t
 
+-- the last farewell that the newest entry calls for
+abbrev pub newest_farewell : List Entry → List Frame
+newest_farewell [] = []
+newest_farewell (e ∷ t) = last_farewell t e
+
+-- No act stands right behind the entry that opens the last stream. So the farewell does, before all that the stream's head causes
+-- (section 6.8).
+abbrev pub FarewellsComeFirst : List Entry → Type 0
+FarewellsComeFirst [] = Unit {0}
+FarewellsComeFirst (Did act ∷ t) = (newest_farewell t ≡ []) × FarewellsComeFirst t
+FarewellsComeFirst (_ ∷ t) = FarewellsComeFirst t
+
 -- The flags that a type is sent with: END_STREAM and END_HEADERS where it has them, and no other. The gateway pads nothing and
 -- gives no priority (sections 6.1, 6.2, 6.9 and 6.10).
 abbrev pub flags_of : ℕ → List ℕ
@@ -172,11 +184,13 @@ EndsInTime known (Did act ∷ t) = EndsInTime known t
 EndsInTime known (e ∷ t) = (must_end known t ≡ false) × EndsInTime known t
 
 -- The first frame is the gateway's settings. Beside parts of responses and octets given back, just what is owed was sent, and
--- what an entry calls for before all else came next. The client is closed just where the connection is to end.
+-- what an entry calls for before all else came next; the farewell of the last stream came before any act. The client is closed just
+-- where the connection is to end.
 pub record ErrorsHold (known : Known) (t : List Entry) : Type 0 where
   pub begins : (newer : List Frame) × (map (λ noted. noted.frame) (sent t) ≡ newer ++ settings_frame ∷ [])
   pub just_owed : controls (sent t) ≡ owed known t
   pub followed : AreFollowed known [] t
+  pub farewell_first : FarewellsComeFirst t
   pub rightly_sent : AreRightlySent t
   pub closed : is_closed t ≡ must_end known t
   pub in_time : EndsInTime known t

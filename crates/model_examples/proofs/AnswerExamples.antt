@@ -235,6 +235,7 @@ errors = record {
       ),
     ),
   );
+  farewell_first = (refl, (refl, (refl, tt)));
   rightly_sent = (refl, (refl, (refl, (refl, tt))));
   closed = refl;
   in_time = (refl, (refl, (refl, tt)));

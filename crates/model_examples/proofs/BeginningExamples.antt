@@ -68,7 +68,7 @@ greeted_holds = record {
     limits = (tt, tt);
     delivered = λ stream. none_read greeted stream (nothing_either (0 == stream));
   };
-  errors = record { begins = ([], refl); just_owed = refl; followed = tt; rightly_sent = (refl, tt); closed = refl; in_time = tt };
+  errors = record { begins = ([], refl); just_owed = refl; followed = tt; farewell_first = tt; rightly_sent = (refl, tt); closed = refl; in_time = tt };
   progress = record {
     forwarded = greeted_forwarded;
     streamed = not_streaming;
@@ -102,6 +102,7 @@ settled_holds = record {
     begins = (settings_ack ∷ [], refl);
     just_owed = refl;
     followed = ((settings_ack ∷ [], refl), tt);
+    farewell_first = tt;
     rightly_sent = (refl, (refl, tt));
     closed = refl;
     in_time = (refl, tt);

@@ -148,6 +148,7 @@ errors = record {
   begins = (settings_ack ∷ [], refl);
   just_owed = refl;
   followed = (([], refl), (([], refl), (([], refl), ((settings_ack ∷ [], refl), tt))));
+  farewell_first = (refl, (refl, tt));
   rightly_sent = (refl, (refl, tt));
   closed = refl;
   in_time = (refl, (refl, tt));

@@ -1,24 +1,28 @@
 -- Gateways that do wrong: tapes that they make, and the clause that each breaks.
-use Rattle.std.proofs.Common.{◌≡◌, ℕ, true, false, List, [], ◌∷◌, ◌++◌, length, refl, sym, ap, ◌∙◌, subst, inl, inr, arith}
+use Rattle.std.proofs.Common.{◌≡◌, ℕ, true, false, ◌&&◌, ◌==◌, nat_lt, if◌then◌else◌, List, [], ◌∷◌, ◌++◌, length, refl, sym, ap, ◌∙◌, subst, inl, inr, arith}
 use Rattle.std.specs.Prelude.{Option, Some, None, pos, negsuc, nat_abs, ◌≤ℤ◌, codes, map}
 use Rattle.model.specs.Tables.{total_size, Table, field_of, look_up, static_table}
 use Rattle.model.specs.Frames.{Frame, settings_frame, goaway, no_error, stream_closed}
 use Rattle.model.specs.Logs.Event.{UpEnd}
+use Rattle.model.specs.Logs.{Act}
 use Rattle.model.specs.Logs.Act.{Close}
 use Rattle.model.specs.Tapes.{Entry, sent}
 use Rattle.model.specs.Tapes.Note.{Unread}
-use Rattle.model.specs.Tapes.Entry.{Came, Happened, Did}
+use Rattle.model.specs.Tapes.Entry.{Came, Breached, Happened, Sent, Did}
 use Rattle.model.specs.Openings.{Opened, opens}
 use Rattle.model.specs.Available.{IsIn}
 use Rattle.model.specs.Known.{Known}
 use Rattle.model.specs.Causes.{Cause}
-use Rattle.model.specs.ErrorClause.{ErrorsHold, rst_stream}
+use Rattle.model.specs.StreamStates.{most_streams}
+use Rattle.model.specs.Lifetimes.{opened, highest}
+use Rattle.model.specs.ErrorClause.{ErrorsHold, FarewellsComeFirst, last_farewell, rst_stream}
 use Rattle.model.specs.ProgressClause.{ProgressHolds, Reason, AllStreamed}
 use Rattle.model.specs.ProgressClause.Reason.{Over, Complete, Answered, ClientClosed}
 use Rattle.model.specs.WindowClause.{WindowsHold}
 use Rattle.model.specs.Headline.{IsTold}
 use Rattle.model.specs.Synchrony.{IsWritten}
 use Rattle.model.proofs.OfferLemmas.{nothing_complete}
+use Rattle.model.proofs.OwedSteps.{no_farewell}
 use Rattle.model_examples.proofs.RowTapes.{by_whole, by_streaming, frame, plain, headed, out, field, post, post_block, begun, getting, got, update, settings}
 use Rattle.model_examples.proofs.CauseExamples.{ended_streaming, in_chunk_streaming}
 use Rattle.model_examples.proofs.WindowExamples as windows
@@ -50,6 +54,32 @@ goes_on c = let clash : false ≡ true = c.closed in cc
 pub resets_instead : ErrorsHold by_whole (out (rst_stream 3 stream_closed) ∷ plain (frame 0 0 3 (120 ∷ [])) ∷ getting 1 5 begun) → ⊥
 unfolding total_size
 resets_instead c = let clash : false ≡ true = c.closed in cc
+
+-- no act stood right behind such an entry before
+earlier : (behind t : List Entry) → FarewellsComeFirst (behind ++ t) → FarewellsComeFirst t
+earlier [] t first = first
+earlier (Came noted ∷ behind) t first = earlier behind t first
+earlier (Breached breach ∷ behind) t first = earlier behind t first
+earlier (Happened event ∷ behind) t first = earlier behind t first
+earlier (Sent noted ∷ behind) t first = earlier behind t first
+earlier (Did act ∷ behind) t first = earlier behind t first.1
+
+-- the entry that opens the last stream calls for a farewell
+last_calls : (t : List Entry) (e : Entry) → length (opened t) ≡ 9999 → length (opened (e ∷ t)) ≡ 10000 → last_farewell t e ≡ goaway (highest (e ∷ t)) no_error ∷ []
+last_calls t e before last =
+    ap (λ n. if nat_lt n most_streams && length (opened (e ∷ t)) == most_streams then goaway (highest (e ∷ t)) no_error ∷ [] else []) before
+    ∙ ap (λ n. if n == most_streams then goaway (highest (e ∷ t)) no_error ∷ [] else []) last
+
+-- It opens the connection of the last stream, or does anything else, before it says farewell: whatever comes behind, that isn't first.
+pub acts_before_farewell : (known : Known) (behind t : List Entry) (e : Entry) (act : Act) → length (opened t) ≡ 9999 → length (opened (e ∷ t)) ≡ 10000 → ErrorsHold known (behind ++ Did act ∷ e ∷ t) → ⊥
+acts_before_farewell known behind t e act before last c =
+    let none : last_farewell t e ≡ [] = (earlier behind (Did act ∷ e ∷ t) c.farewell_first).0 in
+    let clash : goaway (highest (e ∷ t)) no_error ∷ [] ≡ [] = sym (last_calls t e before last) ∙ none in
+    cc
+
+-- Behind the farewell it may.
+pub acts_behind_farewell : (t : List Entry) (e : Entry) (last : ℕ) (act : Act) → FarewellsComeFirst (e ∷ t) → FarewellsComeFirst (Did act ∷ out (goaway last no_error) ∷ e ∷ t)
+acts_behind_farewell t e last act first = (no_farewell (e ∷ t) (out (goaway last no_error)) refl, first)
 
 -- It leaves a response unreset whose upstream ended it in a chunk.
 pub unreset : ErrorsHold ended_streaming (Did (Close 1) ∷ Happened (UpEnd 1) ∷ in_chunk_streaming) → ⊥

@@ -27,7 +27,7 @@ use Rattle.serving.specs.Meaning.{Verdict}
 use Rattle.model.proofs.ItemLaws.{items_stay}
 use Rattle.serving.proofs.Lists.{find_map, find_gone, find_other}
 use Rattle.serving.proofs.Standing.{IsLive, Lives, IsOnWay, Given, Stands, way_stays}
-use Rattle.serving.proofs.Passing.{IsPassing, lives_found, reason_on, text_same}
+use Rattle.serving.proofs.Passing.{IsPassing, lives_found, reason_on, text_same, none_due}
 use Rattle.serving.proofs.Framing.{held_kept, within, still_shut, not_to_end}
 
 -- ---- lists
@@ -76,7 +76,7 @@ module _ (known : Known) (t : List Entry) (s : State) (h : Stands known t s) whe
 
   -- ---- a connection is kept no longer
 
-  module _ (k : ℕ) (l : Live) (found : live_of k s.live ≡ Some l) (e : Entry) (u : State) (nothing : s.due ≡ Nothing) (after : u.due ≡ Nothing) (is : u.live ≡ without k_of k s.live) (same_opens : opens (e ∷ t) ≡ opens t) (same_sent : (j : ℕ) → sent_up j (e ∷ t) ≡ sent_up j t) (same_items : (stream : ℕ) → items known stream (e ∷ t) ≡ items known stream t) where
+  module _ (k : ℕ) (l : Live) (found : live_of k s.live ≡ Some l) (e : Entry) (u : State) (same_due : u.due ≡ s.due) (is : u.live ≡ without k_of k s.live) (same_opens : opens (e ∷ t) ≡ opens t) (same_sent : (j : ℕ) → sent_up j (e ∷ t) ≡ sent_up j t) (same_items : (stream : ℕ) → items known stream (e ∷ t) ≡ items known stream t) where
     gone_now : live_of k u.live ≡ None
     gone_now = ap (live_of k) is ∙ find_gone k_of k s.live
 
@@ -87,7 +87,7 @@ module _ (known : Known) (t : List Entry) (s : State) (h : Stands known t s) whe
     missing j none = ap (live_of j) is ∙ missing_without k j s.live none
 
     stays : (stream : ℕ) (way : Way) → ((j : ℕ) (stage : Stage) → way ≡ Going j stage → IsKept s j → IsKept u j) → IsOnWay known t s stream way → IsOnWay known (e ∷ t) u stream way
-    stays stream way keeps w = way_stays known t e s u stream way (same_items stream) same_opens (λ o g. text_same t e s u nothing after same_sent o.k) keeps missing w
+    stays stream way keeps w = way_stays known t e s u stream way (same_items stream) same_opens (λ o g. text_same t e s u same_due same_sent o.k) keeps missing w
 
     -- the way of a request behind that
     way_dropped : (stream : ℕ) (way : Way) → IsOnWay known t s stream way → IsOnWay known (e ∷ t) u stream (dropped k way)
@@ -158,18 +158,18 @@ module _ (known : Known) (t : List Entry) (s : State) (h : Stands known t s) whe
     closes k may =
         let u = after known.setup behind s (Acts (Close k)) in
         let it = found_live k may.live may.found in record {
-          nothing = may.nothing;
-          nothing_after = may.nothing;
+          same_due = refl;
+          due = none_due known (Did (Close k) ∷ t) u may.nothing;
           same_opens = refl;
           same_sent = λ j. refl;
           same_items = same;
           still_shut = λ j e. if_shut (j == k) (is_open j t) e;
           count = refl;
-          lives = lives_without k may.live may.found (Did (Close k)) u may.nothing may.nothing refl refl (λ j. refl) same (λ o. refl) (λ o apart x. x);
+          lives = lives_without k may.live may.found (Did (Close k)) u refl refl refl (λ j. refl) same (λ o. refl) (λ o apart x. x);
           gone = λ o i g none. (missing_without k o.k s.live none, reason_on known t (Did (Close k)) s o g (λ x. x));
           back = λ j there. (there.0, back_without k j s.live there.0 there.1);
           not_fresh = λ j lt x. x;
-          held = held_dropped k may.live may.found (Did (Close k)) u may.nothing may.nothing refl refl (λ j. refl) same;
+          held = held_dropped k may.live may.found (Did (Close k)) u refl refl refl (λ j. refl) same;
           goes = λ x. x;
           in_time = λ x. x;
           ends = λ e. e;
@@ -200,8 +200,8 @@ module _ (known : Known) (t : List Entry) (s : State) (h : Stands known t s) whe
     -- the client is closed
     pub shuts : MayShut s → IsPassing known t (Did CloseClient) s (after known.setup behind s (Acts CloseClient))
     shuts may = record {
-      nothing = may.nothing;
-      nothing_after = may.nothing;
+      same_due = refl;
+      due = none_due known (Did CloseClient ∷ t) (after known.setup behind s (Acts CloseClient)) may.nothing;
       same_opens = refl;
       same_sent = λ j. refl;
       same_items = same;
@@ -229,18 +229,18 @@ module _ (known : Known) (t : List Entry) (s : State) (h : Stands known t s) whe
     fails k come there =
         let u = after known.setup behind s (Fails k) in
         let e = Happened (UpFailed k) in record {
-          nothing = come.nothing;
-          nothing_after = come.nothing;
+          same_due = refl;
+          due = none_due known (e ∷ t) u come.nothing;
           same_opens = refl;
           same_sent = λ j. refl;
           same_items = same;
           still_shut = still_shut t (UpFailed k);
           count = refl;
-          lives = lives_without k there.0 there.1 e u come.nothing come.nothing refl refl (λ j. refl) same (λ o. refl) (λ o apart x. apart x);
+          lives = lives_without k there.0 there.1 e u refl refl refl (λ j. refl) same (λ o. refl) (λ o apart x. apart x);
           gone = λ o i g none. (missing_without k o.k s.live none, reason_on known t e s o g (λ x. apart o none x));
           back = λ j there. (there.0, back_without k j s.live there.0 there.1);
           not_fresh = λ j lt x. let it = found_live k there.0 there.1 in let less = within (opens t) it.0 h.numbered it.1 in let at = it.2 in let count = h.count in omega (arith, lt, x, less, at, count);
-          held = λ stream x found. held_dropped k there.0 there.1 e u come.nothing come.nothing refl refl (λ j. refl) same stream x (held_kept behind stream (map (drop_from k) s.held) x found).0;
+          held = λ stream x found. held_dropped k there.0 there.1 e u refl refl refl (λ j. refl) same stream x (held_kept behind stream (map (drop_from k) s.held) x found).0;
           goes = λ x. x;
           in_time = λ x. x;
           ends = λ ends. absurd (not_to_end known t s h told behind is_told come ends);

@@ -36,7 +36,7 @@ pub first_route : IsFirstMatch known.setup.routes (codes "a.example") (codes "/"
 first_route = record { route = record { authority = []; path = codes "/" }; found = refl; matches = (inl refl, inl (record { rest = []; is = refl })); none_before = λ earlier before. absurd (omega (arith, before)) }
 
 a1 : AreAllowed known.setup m1
-a1 = (((tt, record { open_yet = refl; may = refl }), record { open_yet = refl; may = calm _ _ refl refl refl }), record { open_yet = refl; may = refl })
+a1 = (((tt, record { open_yet = refl; may = inl refl }), record { open_yet = refl; may = calm _ _ refl refl refl }), record { open_yet = refl; may = inl refl })
 
 -- the head of the POST, and each piece of its body
 pub post_begun : Sending (parts_of post) false (post_text []) [] [] Chunking

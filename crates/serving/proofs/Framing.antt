@@ -16,11 +16,12 @@ use Rattle.serving.specs.Told.{Told, IsTold}
 use Rattle.serving.specs.State.{Held, held_of, kept, State, after}
 use Rattle.serving.specs.State.Due.{Nothing}
 use Rattle.serving.specs.State.Move.{Takes, Breaks, Notes, Sends}
-use Rattle.serving.specs.Rule.{MayCome}
+use Rattle.serving.specs.Rule.{MayCome, MaySend}
 use Rattle.model.proofs.ItemLaws.{items_stay}
 use Rattle.model.proofs.LifeLaws.{ends_sent}
 use Rattle.serving.proofs.Standing.{IsOnWay, Stands, way_stays}
-use Rattle.serving.proofs.Passing.{IsPassing, lives_found, reason_on, open_same, items_where, text_same}
+use Rattle.serving.proofs.Passing.{IsPassing, lives_found, reason_on, open_same, items_where, text_same, none_due}
+use Rattle.serving.proofs.Farewells.{due_sent}
 
 -- ---- what is held
 
@@ -78,10 +79,10 @@ module _ (known : Known) (t : List Entry) (s : State) (h : Stands known t s) (to
   not_to_end come ends = let clash : true ≡ false = sym ends ∙ sym is_told.ends ∙ come.goes_on in cc
 
   -- what is held behind an entry that leaves items and connections
-  module _ (e : Entry) (u : State) (nothing : s.due ≡ Nothing) (after : u.due ≡ Nothing) (same_items : (stream : ℕ) → items known stream (e ∷ t) ≡ items known stream t) where
+  module _ (e : Entry) (u : State) (same_due : u.due ≡ s.due) (same_items : (stream : ℕ) → items known stream (e ∷ t) ≡ items known stream t) where
     on_way : opens (e ∷ t) ≡ opens t → ((k : ℕ) → Rattle.model.specs.Tapes.sent_up k (e ∷ t) ≡ Rattle.model.specs.Tapes.sent_up k t) → u.live ≡ s.live → (stream : ℕ) (x : Held) → held_of stream s.held ≡ Some x → IsOnWay known (e ∷ t) u stream x.way
     on_way same_opens same_sent same_live stream x found =
-        way_stays known t e s u stream x.way (same_items stream) same_opens (λ o g. text_same t e s u nothing after same_sent o.k) (λ k stage is there. subst (λ ls. Rattle.serving.specs.Rule.IsKept (record s { live = ls }) k) (sym same_live) there) (λ k none. ap (Rattle.serving.specs.State.live_of k) same_live ∙ none) (h.held stream x found)
+        way_stays known t e s u stream x.way (same_items stream) same_opens (λ o g. text_same t e s u same_due same_sent o.k) (λ k stage is there. subst (λ ls. Rattle.serving.specs.Rule.IsKept (record s { live = ls }) k) (sym same_live) there) (λ k none. ap (Rattle.serving.specs.State.live_of k) same_live ∙ none) (h.held stream x found)
 
   -- ---- frames
 
@@ -89,8 +90,8 @@ module _ (known : Known) (t : List Entry) (s : State) (h : Stands known t s) (to
   pub takes : (noted : Noted) → MayCome told s → items known noted.frame.id (Came noted ∷ t) ≡ items known noted.frame.id t → IsPassing known t (Came noted) s (after known.setup behind s (Takes noted))
   takes noted come same =
       let u = after known.setup behind s (Takes noted) in record {
-        nothing = come.nothing;
-        nothing_after = come.nothing;
+        same_due = refl;
+        due = none_due known (Came noted ∷ t) u come.nothing;
         same_opens = refl;
         same_sent = λ k. refl;
         same_items = items_where known t noted same;
@@ -100,7 +101,7 @@ module _ (known : Known) (t : List Entry) (s : State) (h : Stands known t s) (to
         gone = λ o i g none. (none, reason_on known t (Came noted) s o g (λ x. x));
         back = λ k there. there;
         not_fresh = λ k lt x. x;
-        held = λ stream x found. on_way (Came noted) u come.nothing come.nothing (items_where known t noted same) refl (λ k. refl) refl stream x (held_kept behind stream s.held x found).0;
+        held = λ stream x found. on_way (Came noted) u refl (items_where known t noted same) refl (λ k. refl) refl stream x (held_kept behind stream s.held x found).0;
         goes = λ x. x;
         in_time = λ x. x;
         ends = λ ends. absurd (not_to_end come ends);
@@ -109,12 +110,12 @@ module _ (known : Known) (t : List Entry) (s : State) (h : Stands known t s) (to
       }
 
   -- a frame is sent
-  pub sends : (noted : Noted) → s.due ≡ Nothing → IsPassing known t (Sent noted) s (after known.setup behind s (Sends noted))
-  sends noted nothing =
+  pub sends : (noted : Noted) → MaySend s noted → IsPassing known t (Sent noted) s (after known.setup behind s (Sends noted))
+  sends noted may =
       let u = after known.setup behind s (Sends noted) in
       let same : (stream : ℕ) → items known stream (Sent noted ∷ t) ≡ items known stream t = λ stream. sym (items_stay known stream t (Sent noted) refl) in record {
-        nothing = nothing;
-        nothing_after = nothing;
+        same_due = refl;
+        due = due_sent known t noted s u refl may h.due;
         same_opens = refl;
         same_sent = λ k. refl;
         same_items = same;
@@ -124,7 +125,7 @@ module _ (known : Known) (t : List Entry) (s : State) (h : Stands known t s) (to
         gone = λ o i g none. (none, reason_on known t (Sent noted) s o g (λ x. x));
         back = λ k there. there;
         not_fresh = λ k lt x. x;
-        held = λ stream x found. on_way (Sent noted) u nothing nothing same refl (λ k. refl) refl stream x (held_kept behind stream s.held x found).0;
+        held = λ stream x found. on_way (Sent noted) u refl same refl (λ k. refl) refl stream x (held_kept behind stream s.held x found).0;
         goes = λ x. x;
         in_time = λ x. x;
         ends = ends_sent known t noted;
@@ -139,8 +140,8 @@ module _ (known : Known) (t : List Entry) (s : State) (h : Stands known t s) (to
   breaks breach come =
       let u = after known.setup behind s (Breaks breach) in
       let same : (stream : ℕ) → items known stream (Breached breach ∷ t) ≡ items known stream t = λ stream. sym (items_stay known stream t (Breached breach) refl) in record {
-        nothing = come.nothing;
-        nothing_after = come.nothing;
+        same_due = refl;
+        due = none_due known (Breached breach ∷ t) u come.nothing;
         same_opens = refl;
         same_sent = λ k. refl;
         same_items = same;
@@ -150,7 +151,7 @@ module _ (known : Known) (t : List Entry) (s : State) (h : Stands known t s) (to
         gone = λ o i g none. (none, reason_on known t (Breached breach) s o g (λ x. x));
         back = λ k there. there;
         not_fresh = λ k lt x. x;
-        held = on_way (Breached breach) u come.nothing come.nothing same refl (λ k. refl) refl;
+        held = on_way (Breached breach) u refl same refl (λ k. refl) refl;
         goes = λ x. x;
         in_time = λ x. x;
         ends = λ ends. absurd (not_to_end come ends);
@@ -162,8 +163,8 @@ module _ (known : Known) (t : List Entry) (s : State) (h : Stands known t s) (to
   pub notes : (event : Event) → MayCome told s → upstream_of event ≡ 0 → IsPassing known t (Happened event) s (after known.setup behind s (Notes event))
   notes event come zero =
       let u = after known.setup behind s (Notes event) in record {
-        nothing = come.nothing;
-        nothing_after = come.nothing;
+        same_due = refl;
+        due = none_due known (Happened event ∷ t) u come.nothing;
         same_opens = refl;
         same_sent = λ k. refl;
         same_items = same;
@@ -173,7 +174,7 @@ module _ (known : Known) (t : List Entry) (s : State) (h : Stands known t s) (to
         gone = λ o i g none. (none, reason_on known t (Happened event) s o g (of_none o i));
         back = λ k there. there;
         not_fresh = λ k lt e. (let z : k ≡ 0 = e ∙ zero in omega (arith, lt, z));
-        held = on_way (Happened event) u come.nothing come.nothing same refl (λ k. refl) refl;
+        held = on_way (Happened event) u refl same refl (λ k. refl) refl;
         goes = λ x. x;
         in_time = λ x. x;
         ends = λ ends. absurd (not_to_end come ends);

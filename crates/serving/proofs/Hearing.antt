@@ -19,7 +19,7 @@ use Rattle.serving.specs.Meaning.{Verdict, IsSo}
 use Rattle.model.proofs.ItemLaws.{items_stay}
 use Rattle.serving.proofs.Lists.{found_key, find_map}
 use Rattle.serving.proofs.Standing.{IsLive, Lives, Given, Stands, way_stays}
-use Rattle.serving.proofs.Passing.{IsPassing, lives_found, reason_on, text_same}
+use Rattle.serving.proofs.Passing.{IsPassing, lives_found, reason_on, text_same, none_due}
 use Rattle.serving.proofs.Framing.{held_kept, within, still_shut, not_to_end}
 use Rattle.serving.proofs.Closing.{found_live}
 
@@ -93,8 +93,8 @@ module _ (known : Known) (t : List Entry) (s : State) (h : Stands known t s) (to
 
   pub hears : IsPassing known t (Happened event) s u
   hears = record {
-    nothing = come.nothing;
-    nothing_after = come.nothing;
+    same_due = refl;
+    due = none_due known (Happened event ∷ t) u come.nothing;
     same_opens = refl;
     same_sent = λ k. refl;
     same_items = same;
@@ -104,7 +104,7 @@ module _ (known : Known) (t : List Entry) (s : State) (h : Stands known t s) (to
     gone = λ o i g none. (missing o.k none, reason_on known t (Happened event) s o g (apart_missing o none));
     back = λ k kept. back_mapped change (live_of k s.live) kept.0 (sym (live_is k) ∙ kept.1);
     not_fresh = λ k lt e. let less = within (opens t) it.0 h.numbered it.1 in let at = it.2 in let count = h.count in omega (arith, lt, e, less, at, count);
-    held = λ stream x found. way_stays known t (Happened event) s u stream x.way (same stream) refl (λ o g. text_same t (Happened event) s u come.nothing come.nothing (λ k. refl) o.k) (λ k stage is kept. (change kept.0, live_is k ∙ ap (option_map change) kept.1)) missing (h.held stream x (held_kept behind stream s.held x found).0);
+    held = λ stream x found. way_stays known t (Happened event) s u stream x.way (same stream) refl (λ o g. text_same t (Happened event) s u refl (λ k. refl) o.k) (λ k stage is kept. (change kept.0, live_is k ∙ ap (option_map change) kept.1)) missing (h.held stream x (held_kept behind stream s.held x found).0);
     goes = λ x. x;
     in_time = λ x. x;
     ends = λ ends. absurd (not_to_end known t s h told behind is_told come ends);

@@ -11,6 +11,7 @@ pub mod Writing
 pub mod Standing
 pub mod Streamed
 pub mod Passing
+pub mod Farewells
 pub mod Framing
 pub mod Closing
 pub mod Hearing

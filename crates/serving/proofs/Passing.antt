@@ -1,4 +1,4 @@
--- Entries with which nothing is due, nothing is opened, and no stream's items change.
+-- Entries with which what is due stays, nothing is opened, and no stream's items change.
 use Rattle.std.proofs.Common.{◌≡◌, ℕ, ◌<◌, Bool, true, false, List, [], ◌∷◌, ◌++◌, refl, sym, ap, ◌∙◌, subst, inl, inr, if◌then◌else◌}
 use Rattle.std.specs.Prelude.{Some, None}
 use Rattle.std.proofs.lemmas.Bool.{ne_eqb, cases_Bool}
@@ -70,8 +70,8 @@ items_where known t noted same stream = elim (eqb_tells noted.frame.id stream) [
 
 -- What such an entry leaves as it is.
 pub record IsPassing (known : Known) (t : List Entry) (e : Entry) (s u : State) : Type 0 where
-  pub nothing : s.due ≡ Nothing
-  pub nothing_after : u.due ≡ Nothing
+  pub same_due : u.due ≡ s.due
+  pub due : IsDue known (e ∷ t) u u.due
   pub same_opens : opens (e ∷ t) ≡ opens t
   pub same_sent : (k : ℕ) → sent_up k (e ∷ t) ≡ sent_up k t
   pub same_items : (stream : ℕ) → items known stream (e ∷ t) ≡ items known stream t
@@ -110,18 +110,22 @@ sent_same known t e o text i same shut g = record {
     ]
 
 -- a stream fares as before, where its items stay
-pub fares_same : (known : Known) (t : List Entry) (e : Entry) (s u : State) (stream : ℕ) → s.due ≡ Nothing → opens (e ∷ t) ≡ opens t → items known stream (e ∷ t) ≡ items known stream t → Fares known t s stream → Fares known (e ∷ t) u stream
-fares_same known t e s u stream nothing opens_same same (inl none) = inl (unread_same known t e stream same none)
-fares_same known t e s u stream nothing opens_same same (inr (inl due)) = absurd (subst (λ d. IsDueFor d stream) nothing due)
-fares_same known t e s u stream nothing opens_same same (inr (inr g)) = inr (inr (g.0, record { is_opened = subst (IsIn g.0) (sym opens_same) g.1.is_opened; is_given = g.1.is_given }))
+pub fares_same : (known : Known) (t : List Entry) (e : Entry) (s u : State) (stream : ℕ) → (IsDueFor s.due stream → IsDueFor u.due stream) → opens (e ∷ t) ≡ opens t → items known stream (e ∷ t) ≡ items known stream t → Fares known t s stream → Fares known (e ∷ t) u stream
+fares_same known t e s u stream still opens_same same (inl none) = inl (unread_same known t e stream same none)
+fares_same known t e s u stream still opens_same same (inr (inl due)) = inr (inl (still due))
+fares_same known t e s u stream still opens_same same (inr (inr g)) = inr (inr (g.0, record { is_opened = subst (IsIn g.0) (sym opens_same) g.1.is_opened; is_given = g.1.is_given }))
 
 -- a connection that is not opened yet stays so
 pub fresh_same : (t : List Entry) (e : Entry) (k : ℕ) → sent_up k (e ∷ t) ≡ sent_up k t → (IsOf k e → ⊥) → (is_open k t ≡ false → is_open k (e ∷ t) ≡ false) → IsFresh t k → IsFresh (e ∷ t) k
 fresh_same t e k same other shut f = record { unsent = same ∙ f.unsent; unheard = heard_same t e k other ∙ f.unheard; not_ended = ended_same t e k other ∙ f.not_ended; not_open = shut f.not_open }
 
 -- what was sent to a connection and is due to it stays
-pub text_same : (t : List Entry) (e : Entry) (s u : State) → s.due ≡ Nothing → u.due ≡ Nothing → ((k : ℕ) → sent_up k (e ∷ t) ≡ sent_up k t) → (k : ℕ) → text_of k (e ∷ t) u.due ≡ text_of k t s.due
-text_same t e s u nothing after same k = ap (λ x. x ++ owed k u.due) (same k) ∙ ap (λ d. sent_up k t ++ owed k d) (after ∙ sym nothing)
+pub text_same : (t : List Entry) (e : Entry) (s u : State) → u.due ≡ s.due → ((k : ℕ) → sent_up k (e ∷ t) ≡ sent_up k t) → (k : ℕ) → text_of k (e ∷ t) u.due ≡ text_of k t s.due
+text_same t e s u same_due same k = ap (λ x. x ++ owed k u.due) (same k) ∙ ap (λ d. sent_up k t ++ owed k d) same_due
+
+-- where nothing is due, that can be done
+pub none_due : (known : Known) (t : List Entry) (u : State) → u.due ≡ Nothing → IsDue known t u u.due
+none_due known t u nothing = subst (IsDue known t u) (sym nothing) tt
 
 -- an entry that passes is a step
 pub passes : (known : Known) (t : List Entry) (e : Entry) (s u : State) → Stands known t s → IsPassing known t e s u → Steps known t e s u
@@ -130,12 +134,12 @@ passes known t e s u h p = record {
   count = p.count;
   lives = p.lives;
   gone = p.gone;
-  sent = λ o i g. subst (λ x. IsSent known (e ∷ t) x o) (sym (text_same t e s u p.nothing p.nothing_after p.same_sent o.k)) (sent_same known t e o (text_of o.k t s.due) i (p.same_items o.stream) (p.still_shut o.k) g.sent);
+  sent = λ o i g. subst (λ x. IsSent known (e ∷ t) x o) (sym (text_same t e s u p.same_due p.same_sent o.k)) (sent_same known t e o (text_of o.k t s.due) i (p.same_items o.stream) (p.still_shut o.k) g.sent);
   back = p.back;
   fresh = λ k lt. fresh_same t e k (p.same_sent k) (p.not_fresh k lt) (p.still_shut k);
-  fares = λ stream. fares_same known t e s u stream p.nothing p.same_opens (p.same_items stream) (h.fares stream);
+  fares = λ stream. fares_same known t e s u stream (subst (λ d. IsDueFor d stream) (sym p.same_due)) p.same_opens (p.same_items stream) (h.fares stream);
   held = p.held;
-  due = subst (IsDue known (e ∷ t) u) (sym p.nothing_after) tt;
+  due = p.due;
   goes = p.goes h.goes;
   in_time = p.in_time h.in_time;
   ends = p.ends;

@@ -39,7 +39,7 @@ use Rattle.serving.proofs.Lists.{held_now, held_beside}
 use Rattle.serving.proofs.Texts.{no_request, part_tells, whole_told, one_ends}
 use Rattle.serving.proofs.Bringing.{IsGood, is_good}
 use Rattle.serving.proofs.Writing.{body_append, head_written, item_written, head_awaited, item_gathered, item_completes, may_go_on}
-use Rattle.serving.proofs.Standing.{owed, text_of, IsInPart, IsSent, Given, Fares, IsDue, IsOnWay, IsWaiting, IsGoing, IsDropped, Stands, Steps, had_closed_in, has_head_stays, way_stays}
+use Rattle.serving.proofs.Standing.{owed, text_of, IsInPart, IsSent, Given, IsDueFor, Fares, IsDue, IsOnWay, IsWaiting, IsGoing, IsDropped, Stands, Steps, had_closed_in, has_head_stays, way_stays}
 use Rattle.serving.proofs.Passing.{items_beside, sent_same, fares_same, fresh_same, lives_found, reason_on}
 use Rattle.serving.proofs.Framing.{not_to_end}
 use Rattle.serving.proofs.Opening.{sent_written}
@@ -148,7 +148,7 @@ module _ (known : Known) (t : List Entry) (s : State) (h : Stands known t s) (to
     fresh = λ k lt. fresh_same t e k refl (λ x. x) (λ shut. shut);
     fares = λ stream. elim (eqb_tells id stream) [
       | inl same ↦ subst (Fares known (e ∷ t) u) same.1 p.fares
-      | inr apart ↦ fares_same known t e s u stream come.nothing refl (items_beside known t noted stream apart.1) (h.fares stream)
+      | inr apart ↦ fares_same known t e s u stream (λ due. absurd (subst (λ d. IsDueFor d stream) come.nothing due)) refl (items_beside known t noted stream apart.1) (h.fares stream)
     ];
     held = λ stream x found. elim (eqb_tells id stream) [
       | inl same ↦ subst (λ n. IsOnWay known (e ∷ t) u n x.way) same.1 (p.held x (ap (λ n. held_of n u.held) same.1 ∙ found))

@@ -30,7 +30,7 @@ use Rattle.model.specs.Http1Text.{lines_text}
 use Rattle.serving.specs.Written.{octets_of, trailers_in, IsAwaited}
 use Rattle.serving.proofs.Trailing.{bare, lines_within}
 use Rattle.serving.specs.Told.{is_served, Told, IsTold}
-use Rattle.serving.specs.State.{Held, id_of, held_of, held_with, held_opened, waits_from, without, due_opened, Due, State, Move, entry_of, is_whole, goes_now, to_open, to_send, after, Turn, state_of, tape_of}
+use Rattle.serving.specs.State.{Held, id_of, kept, held_of, held_with, held_opened, waits_from, without, due_opened, Due, State, Move, entry_of, is_whole, goes_now, to_open, to_send, after, Turn, state_of, tape_of}
 use Rattle.serving.specs.State.Way.{Waiting, Going}
 use Rattle.serving.specs.State.Due.{Nothing, ToOpen, ToSend}
 use Rattle.serving.specs.State.Move.{Takes, Begins, Gathers, Passes, Drops, Breaks, Notes, Hears, Fails, Sends, Acts}
@@ -43,6 +43,7 @@ use Rattle.serving.proofs.Writing.{body_append}
 use Rattle.serving.proofs.Texts.{part_told, whole_told}
 use Rattle.serving.proofs.Calling.{head_fits}
 use Rattle.serving.proofs.Standing.{text_of, IsWaiting, IsGoing, Stands}
+use Rattle.serving.proofs.Framing.{held_kept}
 use Rattle.serving.proofs.Clauses.{all_stand}
 use Rattle.serving.proofs.HeadSizes.{head_short}
 use Rattle.serving.proofs.Lengths.{head_waits, one_piece, written_length}
@@ -207,6 +208,16 @@ DueFits most hs (ToSend k text) = length text + 1 ≤ most
 none_due : (most : ℕ) (hs : List Held) (due : Due) → due ≡ Nothing → DueFits most hs due
 none_due most hs due is = subst (DueFits most hs) (sym is) tt
 
+-- of what is held less may be kept
+fewer_fit : (most : ℕ) (told : Told) (hs : List Held) (due : Due) → DueFits most hs due → DueFits most (kept told hs) due
+fewer_fit most told hs Nothing fits = tt
+fewer_fit most told hs (ToSend k text) fits = fits
+fewer_fit most told hs (ToOpen stream route text stage) fits = (fits.0, by (held_of stream (kept told hs)) refl)
+  where
+    by : (o : Option Held) → held_of stream (kept told hs) ≡ o → o ≡ None
+    by None is = refl
+    by (Some x) is = absurd (let clash : ◌≡◌ {A = Option Held} None (Some x) = sym fits.1 ∙ (held_kept told stream hs x is).0 in cc)
+
 module _ (known : Known) (t : List Entry) (s : State) (h : Stands known t s) (behind : Told) (most : ℕ) (base : most_beside ≤ most) (was : DueFits most s.held s.due) where
   begins_fit : (before : Told) (noted : Noted) (head : List Field) (ended : Bool) (route : ℕ) (text : List ℕ) (stage : Stage) → IsTold known (Came noted ∷ t) behind → IsSo known t (Begins noted head ended route text stage) → MayBegin known.setup behind noted head ended route text stage
       → DueFits most (after known.setup behind s (Begins noted head ended route text stage)).held (after known.setup behind s (Begins noted head ended route text stage)).due
@@ -280,7 +291,7 @@ module _ (known : Known) (t : List Entry) (s : State) (h : Stands known t s) (be
   due_behind before (Notes event) so may is room = none_due most _ s.due may.0.nothing
   due_behind before (Hears event whole) so may is room = none_due most _ s.due may.0.nothing
   due_behind before (Fails k) so may is room = none_due most _ s.due may.0.nothing
-  due_behind before (Sends noted) so may is room = none_due most _ s.due may
+  due_behind before (Sends noted) so may is room = fewer_fit most behind s.held s.due was
   due_behind before (Acts (Open k route)) so may is room = opened
     where
       short : length may.text + 1 ≤ most

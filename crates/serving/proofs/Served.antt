@@ -5,6 +5,7 @@ use Rattle.std.specs.List.{list_any}
 use Rattle.std.proofs.lemmas.Bool.{and_parts, ne_eqb, eq-eqb}
 use Rattle.std.proofs.lemmas.Bool.Decides.{eqb_tells}
 use Rattle.model.specs.Messages.{Item}
+use Rattle.model.specs.Frames.{goaway_kind}
 use Rattle.model.specs.Setup.{Setup}
 use Rattle.model.specs.Logs.Act.{Open, ToUp, Close, CloseClient}
 use Rattle.model.specs.Tapes.{Noted, Breach, Entry, is_closed}
@@ -30,6 +31,7 @@ use Rattle.serving.specs.Meaning.{AreSo}
 use Rattle.serving.specs.Held.{AreApart}
 use Rattle.serving.proofs.Lists.{find_first, find_other, find_map, held_beside}
 use Rattle.serving.proofs.Standing.{IsOpening, IsDue, IsGoing, Stands}
+use Rattle.serving.proofs.Farewells.{served_same}
 use Rattle.serving.proofs.Framing.{held_kept}
 use Rattle.serving.proofs.Closing.{drop_found, found_live, same_live}
 use Rattle.serving.proofs.Clauses.{all_stand, all_told}
@@ -140,7 +142,7 @@ DueServed known t ls Nothing = Unit {0}
 DueServed known t ls (ToOpen stream route text stage) = is_served known stream t ≡ true
 DueServed known t ls (ToSend k text) = (l : Live) → live_of k ls ≡ Some l → is_served known l.stream t ≡ true
 
-module _ (known : Known) (t : List Entry) (s : State) (h : Stands known t s) (behind : Told) where
+module _ (known : Known) (t : List Entry) (s : State) (h : Stands known t s) (behind : Told) (was : DueServed known t s.live s.due) where
   -- a connection is due for a frame's own stream, or none
   opens_served : (noted : Noted) → IsServing behind noted → IsTold known (Came noted ∷ t) behind → (ls : List Live) (goes : Bool) (route : ℕ) (text : List ℕ) (stage : Stage) → DueServed known (Came noted ∷ t) ls (to_open goes noted.frame.id route text stage)
   opens_served noted serving is_behind ls true route text stage = sym (is_behind.served noted.frame.id) ∙ serving.served
@@ -182,6 +184,12 @@ module _ (known : Known) (t : List Entry) (s : State) (h : Stands known t s) (be
   nothing_served : (e : Entry) (ls : List Live) (due : Due) → due ≡ Nothing → DueServed known (e ∷ t) ls due
   nothing_served e ls due none = subst (DueServed known (e ∷ t) ls) (sym none) tt
 
+  -- a farewell changes no stream
+  still_served : (noted : Noted) → noted.frame.kind ≡ goaway_kind → (due : Due) → DueServed known t s.live due → DueServed known (Sent noted ∷ t) s.live due
+  still_served noted farewell Nothing is = tt
+  still_served noted farewell (ToOpen stream route text stage) is = served_same known t noted farewell stream ∙ is
+  still_served noted farewell (ToSend k text) is = λ l found. served_same known t noted farewell l.stream ∙ is l found
+
   due_served_behind : (before : Told) (m : Move) → MayMove known.setup before behind s m → IsTold known (entry_of m ∷ t) behind → DueServed known (entry_of m ∷ t) (live_after s.live s.due m) (due_after known.setup s.due m)
   due_served_behind before (Takes noted) may is = nothing_served (Came noted) _ s.due may.nothing
   due_served_behind before (Begins noted head ended route text stage) may is = opens_served noted may.1.serving is s.live (goes_now known.setup stage) route text stage
@@ -192,7 +200,10 @@ module _ (known : Known) (t : List Entry) (s : State) (h : Stands known t s) (be
   due_served_behind before (Notes event) may is = nothing_served (Happened event) _ s.due may.0.nothing
   due_served_behind before (Hears event whole) may is = nothing_served (Happened event) _ s.due may.0.nothing
   due_served_behind before (Fails k) may is = nothing_served (entry_of (Fails k)) _ s.due may.0.nothing
-  due_served_behind before (Sends noted) may is = nothing_served (Sent noted) _ s.due may
+  due_served_behind before (Sends noted) may is = elim may [
+    | inl nothing ↦ nothing_served (Sent noted) _ s.due nothing
+    | inr farewell ↦ still_served noted farewell s.due was
+  ]
   due_served_behind before (Acts (Open k route)) may is = opened_served k route may
   due_served_behind before (Acts (ToUp k octets)) may is = tt
   due_served_behind before (Acts (Close k)) may is = nothing_served (Did (Close k)) _ s.due may.nothing
@@ -201,7 +212,7 @@ module _ (known : Known) (t : List Entry) (s : State) (h : Stands known t s) (be
 -- What is due is due for a stream that is served.
 pub due_served : (known : Known) (turns : List Turn) → AreAllowed known.setup turns → AreSo known turns → DueServed known (tape_of turns) (state_of known.setup turns).live (state_of known.setup turns).due
 due_served known [] all so = tt
-due_served known (turn ∷ turns) all so = due_served_behind known (tape_of turns) (state_of known.setup turns) (all_stand known turns all.0 so.0) turn.told (told_of turns) turn.move all.1.may so.2
+due_served known (turn ∷ turns) all so = due_served_behind known (tape_of turns) (state_of known.setup turns) (all_stand known turns all.0 so.0) turn.told (due_served known turns all.0 so.0) (told_of turns) turn.move all.1.may so.2
 
 -- ---- behind the client's close
 

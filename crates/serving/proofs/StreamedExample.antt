@@ -36,7 +36,7 @@ abbrev s3 : List Turn
 s3 = turn (Acts (ToUp 1 (chunk_text (codes "he")))) (1 ∷ []) ∷ turn (Passes first_data (Content (codes "he") false) 1 Chunking (chunk_text (codes "he")) Chunking) (1 ∷ []) ∷ s2
 
 b1 : AreAllowed streaming.setup m1
-b1 = (((tt, record { open_yet = refl; may = refl }), record { open_yet = refl; may = calm _ _ refl refl refl }), record { open_yet = refl; may = refl })
+b1 = (((tt, record { open_yet = refl; may = inl refl }), record { open_yet = refl; may = calm _ _ refl refl refl }), record { open_yet = refl; may = inl refl })
 
 b2 : AreAllowed streaming.setup s2
 b2 = (

@@ -3,6 +3,7 @@ use Rattle.std.specs.Prelude.{◌≡◌, ℕ, suc, ◌<◌, Bool, true, false, n
 use Rattle.std.specs.List.{list_any}
 use Rattle.model.specs.Http2.{authority_of, path_of}
 use Rattle.model.specs.Messages.{Field, Item, ends_with}
+use Rattle.model.specs.Frames.{goaway_kind}
 use Rattle.model.specs.Setup.{Setup, IsFirstMatch}
 use Rattle.model.specs.Logs.{Event, Act}
 use Rattle.model.specs.Logs.Event.{Up, UpEnd}
@@ -105,6 +106,10 @@ MayAct told s (ToUp k octets) = s.due ≡ ToSend k octets
 MayAct told s (Close k) = MayClose told s k
 MayAct told s CloseClient = MayShut s
 
+-- A frame may be sent: nothing is due, or it is a farewell, which leaves what is due (RFC 9113, section 6.8).
+abbrev pub MaySend : State → Noted → Type 0
+MaySend s noted = (s.due ≡ Nothing) ⊎ (noted.frame.kind ≡ goaway_kind)
+
 -- ---- moves
 
 -- The move may come, by what is told before it and behind it.
@@ -119,7 +124,7 @@ MayMove setup before behind s (Breaks breach) = MayCome before s
 MayMove setup before behind s (Notes event) = MayCome before s × (upstream_of event ≡ 0)
 MayMove setup before behind s (Hears event whole) = MayCome before s × IsAnswer event × IsKept s (upstream_of event)
 MayMove setup before behind s (Fails k) = MayCome before s × IsKept s k
-MayMove setup before behind s (Sends noted) = s.due ≡ Nothing
+MayMove setup before behind s (Sends noted) = MaySend s noted
 MayMove setup before behind s (Acts act) = MayAct before s act
 
 -- The move may come: the client isn't closed, and it is its turn.

@@ -111,7 +111,7 @@ farewell_goes setup run last code live table e = record {
       };
       offer = record { no_block = refl; no_data = refl };
       in_turn = λ begins. absurd (let no : false ≡ true = begins in cc);
-      request = record { open_yet = told_open setup run (frame ∷ []) live e; may = e.due };
+      request = record { open_yet = told_open setup run (frame ∷ []) live e; may = inl e.due };
       gains = tt;
       table = record { together = ap (λ b. is_between b frame) (told_block setup run (frame ∷ []) live e); is_given = refl };
       window = record { kind = refl; over_with_it = refl };
@@ -147,7 +147,7 @@ close_goes setup run l ls apart e = record {
     e.allowed,
     record {
       rests = λ comes. absurd (let no : false ≡ true = comes in cc);
-      conduct = record { allowed = record { open_yet = e.open_yet; turn = tt }; fit = tt };
+      conduct = record { allowed = record { open_yet = e.open_yet; turn = e.owes }; fit = tt };
       offer = tt;
       in_turn = tt;
       request = record {

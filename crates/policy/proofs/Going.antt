@@ -59,7 +59,7 @@ module _ (setup : Setup) (behind : Summary) (s : State) where
         conduct = record { allowed = record { open_yet = between.open_yet; turn = inl (record { front = owed.front; control = owed.control }) }; fit = between.not_to_open };
         offer = record { no_block = completes_none noted.frame s.desk.book.block_out plain; no_data = plain.no_data };
         in_turn = no_turn noted next between plain;
-        request = record { open_yet = between.open_yet; may = between.nothing_due };
+        request = record { open_yet = between.open_yet; may = between.before_due };
         gains = tt;
         table = record { together = together noted next between plain; is_given = given noted next between plain };
         window = subst (λ b. windows.MayCome setup.passing (gates_in (told_by s) s.requests) (sight_in (told_by s)) (sight_in behind) (rooms_in (told_by s) s) (given_or_sent b (sight_in (told_by s)) (sight_in behind) noted)) (sym last.1) (record { kind = last.1; over_with_it = refl });
@@ -75,7 +75,7 @@ module _ (setup : Setup) (behind : Summary) (s : State) where
         conduct = record { allowed = record { open_yet = between.open_yet; turn = inr (record { nothing = gives.nothing; goes_on = gives.goes_on; passing = passes noted gives.kind; rightly = gives.rightly }) }; fit = between.not_to_open };
         offer = record { no_block = completes_none noted.frame s.desk.book.block_out plain; no_data = plain.no_data };
         in_turn = no_turn noted next between plain;
-        request = record { open_yet = between.open_yet; may = between.nothing_due };
+        request = record { open_yet = between.open_yet; may = between.before_due };
         gains = tt;
         table = record { together = together noted next between plain; is_given = given noted next between plain };
         window = subst (λ b. windows.MayCome setup.passing (gates_in (told_by s) s.requests) (sight_in (told_by s)) (sight_in behind) (rooms_in (told_by s) s) (given_or_sent b (sight_in (told_by s)) (sight_in behind) noted)) (sym (is window_update_kind)) gives.all;
@@ -91,7 +91,7 @@ module _ (setup : Setup) (behind : Summary) (s : State) where
   pub may_act : (act : Act) → s.desk.book.closed ≡ false → Acts setup s act → MayDo setup (told_by s) behind s (Deed.Acts act)
   may_act (Open k route) open_yet may = record {
     rests = λ e. absurd (let no : false ≡ true = e in cc);
-    conduct = record { allowed = record { open_yet = open_yet; turn = tt }; fit = tt };
+    conduct = record { allowed = record { open_yet = open_yet; turn = may.nothing }; fit = tt };
     offer = may.opens;
     in_turn = tt;
     request = record { open_yet = open_yet; may = may.due };
@@ -101,7 +101,7 @@ module _ (setup : Setup) (behind : Summary) (s : State) where
   }
   may_act (ToUp k octets) open_yet may = record {
     rests = λ e. absurd (let no : false ≡ true = e in cc);
-    conduct = record { allowed = record { open_yet = open_yet; turn = tt }; fit = tt };
+    conduct = record { allowed = record { open_yet = open_yet; turn = may.nothing }; fit = tt };
     offer = tt;
     in_turn = tt;
     request = record { open_yet = open_yet; may = may.due };
@@ -111,10 +111,10 @@ module _ (setup : Setup) (behind : Summary) (s : State) where
   }
   may_act (Close k) open_yet may = record {
     rests = λ e. absurd (let no : false ≡ true = e in cc);
-    conduct = record { allowed = record { open_yet = open_yet; turn = tt }; fit = tt };
+    conduct = record { allowed = record { open_yet = open_yet; turn = may.nothing }; fit = tt };
     offer = tt;
     in_turn = tt;
-    request = record { open_yet = open_yet; may = may };
+    request = record { open_yet = open_yet; may = may.may };
     gains = tt;
     table = tt;
     window = tt;

@@ -291,7 +291,7 @@ pub closed_may : MayDo setup (told_by at_heard) (told_by at_closed) at_heard (Ac
 unfolding total_size
 closed_may = record {
   rests = λ e. never e;
-  conduct = record { allowed = record { open_yet = refl; turn = tt }; fit = tt };
+  conduct = record { allowed = record { open_yet = refl; turn = refl }; fit = tt };
   offer = tt;
   in_turn = tt;
   request = record { open_yet = refl; may = record { nothing = refl; live = record { k = 1; stream = 1; whole = true }; found = refl; why = inl refl } };
@@ -327,7 +327,7 @@ begun_may = record {
     none_cut = λ stream kept found. one_whole (1 == stream) waiting kept refl found;
     turn = inl (record { is_ready = (0, omega arith, refl); above = omega arith; least = λ k lt some. some });
   };
-  request = record { open_yet = refl; may = refl };
+  request = record { open_yet = refl; may = inl refl };
   gains = tt;
   table = record { together = refl; is_given = answer_encoded };
   window = record { kind = refl; over_with_it = refl };
@@ -355,7 +355,7 @@ body_may = record {
     none_cut = λ stream kept found. one_whole (1 == stream) half_out kept refl found;
     turn = inr (record { is_ready = (0, omega arith, refl); none_above = λ k lt. let one = each_one k lt in omega (arith, one); least = λ k lt. let one = each_one k lt in omega (arith, one) });
   };
-  request = record { open_yet = refl; may = refl };
+  request = record { open_yet = refl; may = inl refl };
   gains = tt;
   table = record { together = refl; is_given = refl };
   window = record { kind = refl; over_with_it = refl };

@@ -439,7 +439,7 @@ shared_may = record {
   conduct = record { allowed = record { open_yet = refl; turn = inr (record { nothing = refl; goes_on = refl; passing = refl; rightly = refl }) }; fit = refl };
   offer = record { no_block = refl; no_data = refl };
   in_turn = λ e. never e;
-  request = record { open_yet = refl; may = refl };
+  request = record { open_yet = refl; may = inl refl };
   gains = tt;
   table = record { together = refl; is_given = refl };
   window = record { kind = refl; owed = refl };
@@ -452,7 +452,7 @@ own_may = record {
   conduct = record { allowed = record { open_yet = refl; turn = inr (record { nothing = refl; goes_on = refl; passing = refl; rightly = refl }) }; fit = refl };
   offer = record { no_block = refl; no_data = refl };
   in_turn = λ e. never e;
-  request = record { open_yet = refl; may = refl };
+  request = record { open_yet = refl; may = inl refl };
   gains = tt;
   table = record { together = refl; is_given = refl };
   window = record { kind = refl; owed = (refl, refl, refl) };
@@ -486,7 +486,7 @@ opened_may : MayDo setup (told_by at_get) (told_by at_opened) at_get (Acts (Open
 unfolding total_size
 opened_may = record {
   rests = λ e. never e;
-  conduct = record { allowed = record { open_yet = refl; turn = tt }; fit = tt };
+  conduct = record { allowed = record { open_yet = refl; turn = refl }; fit = tt };
   offer = record { active = refl; has_items = refl; no_cause = refl; first = (λ e. let clash : 5 ≡ 1 = e in omega (arith, clash), tt); next = refl };
   in_turn = tt;
   request = record { open_yet = refl; may = record { stream = 5; text = request_text; stage = Whole; due = refl; next = refl } };
@@ -499,7 +499,7 @@ put_may : MayDo setup (told_by at_opened) (told_by at_put) at_opened (Acts (ToUp
 unfolding total_size
 put_may = record {
   rests = λ e. never e;
-  conduct = record { allowed = record { open_yet = refl; turn = tt }; fit = tt };
+  conduct = record { allowed = record { open_yet = refl; turn = refl }; fit = tt };
   offer = tt;
   in_turn = tt;
   request = record { open_yet = refl; may = refl };

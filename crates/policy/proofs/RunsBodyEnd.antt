@@ -1,5 +1,5 @@
 -- The POST of the run comes to its end instead: it goes out whole, behind the GETs before it and between its frames.
-use Rattle.std.proofs.Common.{◌≡◌, ℕ, ◌==◌, Bool, true, false, not, if◌then◌else◌, List, [], ◌∷◌, ◌++◌, refl, sym, ap, ◌∙◌, subst, inr, arith, pos, append_assoc, append-nil}
+use Rattle.std.proofs.Common.{◌≡◌, ℕ, ◌==◌, Bool, true, false, not, if◌then◌else◌, List, [], ◌∷◌, ◌++◌, refl, sym, ap, ◌∙◌, subst, inr, arith, pos, append_assoc, append-nil, inl}
 use Rattle.std.proofs.lemmas.Bool.{eqb-true}
 use Rattle.std.specs.Prelude.{codes, length, None}
 use Rattle.std.specs.List.{list_all, flat_map, concat}
@@ -153,7 +153,7 @@ opened_may : MayDo setup (told_by at_comes) (told_by at_opened) at_comes (Acts (
 unfolding total_size
 opened_may = record {
   rests = λ e. never e;
-  conduct = record { allowed = record { open_yet = refl; turn = tt }; fit = tt };
+  conduct = record { allowed = record { open_yet = refl; turn = refl }; fit = tt };
   offer = record { active = refl; has_items = refl; no_cause = refl; first = (λ e. let clash : 3 ≡ 5 = e in omega (arith, clash), (λ e. let clash : 3 ≡ 1 = e in omega (arith, clash), tt)); next = refl };
   in_turn = tt;
   request = record { open_yet = refl; may = record { stream = 3; text = whole_text; stage = Whole; due = refl; next = refl } };
@@ -166,7 +166,7 @@ put_may : MayDo setup (told_by at_opened) (told_by at_put) at_opened (Acts (ToUp
 unfolding total_size
 put_may = record {
   rests = λ e. never e;
-  conduct = record { allowed = record { open_yet = refl; turn = tt }; fit = tt };
+  conduct = record { allowed = record { open_yet = refl; turn = refl }; fit = tt };
   offer = tt;
   in_turn = tt;
   request = record { open_yet = refl; may = refl };
@@ -182,7 +182,7 @@ back_may = record {
   conduct = record { allowed = record { open_yet = refl; turn = inr (record { nothing = refl; goes_on = refl; passing = refl; rightly = refl }) }; fit = refl };
   offer = record { no_block = refl; no_data = refl };
   in_turn = λ e. never e;
-  request = record { open_yet = refl; may = refl };
+  request = record { open_yet = refl; may = inl refl };
   gains = tt;
   table = record { together = refl; is_given = refl };
   window = record { kind = refl; owed = refl };

@@ -278,7 +278,7 @@ head_may = record {
     none_cut = λ stream kept found. one_whole (1 == stream) (boxed 1 (Before [] (Some answer_head) (codes "h") None)) kept refl found;
     turn = inl (record { is_ready = (0, omega arith, refl); above = omega arith; least = λ k lt some. some });
   };
-  request = record { open_yet = refl; may = refl };
+  request = record { open_yet = refl; may = inl refl };
   gains = tt;
   table = record { together = refl; is_given = answer_encoded };
   window = record { kind = refl; over_with_it = refl };
@@ -307,7 +307,7 @@ h_may = record {
     none_cut = λ stream kept found. one_whole (1 == stream) (boxed 1 (Behind (codes "h") None)) kept refl found;
     turn = inr (record { is_ready = (0, omega arith, refl); none_above = λ k lt. let one = each_one k lt in omega (arith, one); least = λ k lt. let one = each_one k lt in omega (arith, one) });
   };
-  request = record { open_yet = refl; may = refl };
+  request = record { open_yet = refl; may = inl refl };
   gains = tt;
   table = record { together = refl; is_given = refl };
   window = record { kind = refl; over_with_it = refl };
@@ -333,7 +333,7 @@ shared_may = record {
   conduct = record { allowed = record { open_yet = refl; turn = inr (record { nothing = refl; goes_on = refl; passing = refl; rightly = refl }) }; fit = refl };
   offer = record { no_block = refl; no_data = refl };
   in_turn = λ e. never e;
-  request = record { open_yet = refl; may = refl };
+  request = record { open_yet = refl; may = inl refl };
   gains = tt;
   table = record { together = refl; is_given = refl };
   window = record { kind = refl; owed = refl };
@@ -346,7 +346,7 @@ own_may = record {
   conduct = record { allowed = record { open_yet = refl; turn = inr (record { nothing = refl; goes_on = refl; passing = refl; rightly = refl }) }; fit = refl };
   offer = record { no_block = refl; no_data = refl };
   in_turn = λ e. never e;
-  request = record { open_yet = refl; may = refl };
+  request = record { open_yet = refl; may = inl refl };
   gains = tt;
   table = record { together = refl; is_given = refl };
   window = record { kind = refl; owed = (refl, refl, refl) };
@@ -380,7 +380,7 @@ put_may : MayDo streaming (told_by at_last) (told_by at_put) at_last (Acts (ToUp
 unfolding total_size
 put_may = record {
   rests = λ e. never e;
-  conduct = record { allowed = record { open_yet = refl; turn = tt }; fit = tt };
+  conduct = record { allowed = record { open_yet = refl; turn = refl }; fit = tt };
   offer = tt;
   in_turn = tt;
   request = record { open_yet = refl; may = refl };
@@ -406,7 +406,7 @@ closed_may : MayDo streaming (told_by at_whole) (told_by at_closed) at_whole (Ac
 unfolding total_size
 closed_may = record {
   rests = λ e. never e;
-  conduct = record { allowed = record { open_yet = refl; turn = tt }; fit = tt };
+  conduct = record { allowed = record { open_yet = refl; turn = refl }; fit = tt };
   offer = tt;
   in_turn = tt;
   request = record { open_yet = refl; may = record { nothing = refl; live = first_live true; found = refl; why = inl refl } };
@@ -437,7 +437,7 @@ i_may = record {
     none_cut = λ stream kept found. one_whole (1 == stream) (boxed 1 (Behind (codes "i") (Some []))) kept refl found;
     turn = inr (record { is_ready = (0, omega arith, refl); none_above = λ k lt. let one = each_one k lt in omega (arith, one); least = λ k lt. let one = each_one k lt in omega (arith, one) });
   };
-  request = record { open_yet = refl; may = refl };
+  request = record { open_yet = refl; may = inl refl };
   gains = tt;
   table = record { together = refl; is_given = refl };
   window = record { kind = refl; over_with_it = refl };
@@ -450,7 +450,7 @@ octet_may = record {
   conduct = record { allowed = record { open_yet = refl; turn = inr (record { nothing = refl; goes_on = refl; passing = refl; rightly = refl }) }; fit = refl };
   offer = record { no_block = refl; no_data = refl };
   in_turn = λ e. never e;
-  request = record { open_yet = refl; may = refl };
+  request = record { open_yet = refl; may = inl refl };
   gains = tt;
   table = record { together = refl; is_given = refl };
   window = record { kind = refl; owed = refl };

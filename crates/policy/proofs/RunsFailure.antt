@@ -239,7 +239,7 @@ reply_may = record {
     none_cut = λ stream kept found. one_whole (1 == stream) own_reply kept refl found;
     turn = inl (record { is_ready = (0, omega arith, refl); above = omega arith; least = λ k lt some. some });
   };
-  request = record { open_yet = refl; may = refl };
+  request = record { open_yet = refl; may = inl refl };
   gains = tt;
   table = record { together = refl; is_given = reply_encoded };
   window = record { kind = refl; over_with_it = refl };

@@ -72,7 +72,7 @@ ours_may = record {
   conduct = record { allowed = record { open_yet = refl; turn = inl (record { front = refl; control = refl }) }; fit = refl };
   offer = record { no_block = refl; no_data = refl };
   in_turn = λ e. never e;
-  request = record { open_yet = refl; may = refl };
+  request = record { open_yet = refl; may = inl refl };
   gains = tt;
   table = record { together = refl; is_given = refl };
   window = record { kind = refl; over_with_it = refl };
@@ -109,7 +109,7 @@ acked_may = record {
   conduct = record { allowed = record { open_yet = refl; turn = inl (record { front = refl; control = refl }) }; fit = refl };
   offer = record { no_block = refl; no_data = refl };
   in_turn = λ e. never e;
-  request = record { open_yet = refl; may = refl };
+  request = record { open_yet = refl; may = inl refl };
   gains = tt;
   table = record { together = refl; is_given = refl };
   window = record { kind = refl; over_with_it = refl };

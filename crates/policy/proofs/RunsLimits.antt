@@ -154,7 +154,7 @@ ack_may = record {
   conduct = record { allowed = record { open_yet = refl; turn = inl (record { front = refl; control = refl }) }; fit = refl };
   offer = record { no_block = refl; no_data = refl };
   in_turn = λ e. never e;
-  request = record { open_yet = refl; may = refl };
+  request = record { open_yet = refl; may = inl refl };
   gains = tt;
   table = record { together = refl; is_given = refl };
   window = record { kind = refl; over_with_it = refl };
@@ -204,7 +204,7 @@ reply_may = record {
     none_cut = λ stream kept found. one_whole (1 == stream) own_reply kept refl found;
     turn = inl (record { is_ready = (0, omega arith, refl); above = omega arith; least = λ k lt some. some });
   };
-  request = record { open_yet = refl; may = refl };
+  request = record { open_yet = refl; may = inl refl };
   gains = tt;
   table = record { together = refl; is_given = limited_encoded };
   window = record { kind = refl; over_with_it = refl };

@@ -80,7 +80,7 @@ connected_may : May asked (Acts (Open 1 0))
 unfolding total_size
 connected_may = record {
   rests = λ e. never e;
-  conduct = record { allowed = record { open_yet = refl; turn = tt }; fit = tt };
+  conduct = record { allowed = record { open_yet = refl; turn = refl }; fit = tt };
   offer = record { active = refl; has_items = refl; no_cause = refl; first = tt; next = refl };
   in_turn = tt;
   request = record { open_yet = refl; may = record { stream = 1; text = request_text; stage = Whole; due = refl; next = refl } };
@@ -93,7 +93,7 @@ forwarded_may : May connected (Acts (ToUp 1 request_text))
 unfolding total_size
 forwarded_may = record {
   rests = λ e. never e;
-  conduct = record { allowed = record { open_yet = refl; turn = tt }; fit = tt };
+  conduct = record { allowed = record { open_yet = refl; turn = refl }; fit = tt };
   offer = tt;
   in_turn = tt;
   request = record { open_yet = refl; may = refl };

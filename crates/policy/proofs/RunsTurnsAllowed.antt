@@ -118,7 +118,7 @@ ack_may = record {
   conduct = record { allowed = record { open_yet = refl; turn = inl (record { front = refl; control = refl }) }; fit = refl };
   offer = record { no_block = refl; no_data = refl };
   in_turn = λ e. never e;
-  request = record { open_yet = refl; may = refl };
+  request = record { open_yet = refl; may = inl refl };
   gains = tt;
   table = record { together = refl; is_given = refl };
   window = record { kind = refl; over_with_it = refl };
@@ -152,7 +152,7 @@ opened_may : MayDo setup (told_by at_asked) (told_by at_opened) at_asked (Acts (
 unfolding total_size
 opened_may = record {
   rests = λ e. never e;
-  conduct = record { allowed = record { open_yet = refl; turn = tt }; fit = tt };
+  conduct = record { allowed = record { open_yet = refl; turn = refl }; fit = tt };
   offer = record { active = refl; has_items = refl; no_cause = refl; first = (λ e. let clash : 3 ≡ 1 = e in omega (arith, clash), tt); next = refl };
   in_turn = tt;
   request = record { open_yet = refl; may = record { stream = 3; text = request_text; stage = Whole; due = refl; next = refl } };
@@ -165,7 +165,7 @@ put_may : MayDo setup (told_by at_opened) (told_by at_put) at_opened (Acts (ToUp
 unfolding total_size
 put_may = record {
   rests = λ e. never e;
-  conduct = record { allowed = record { open_yet = refl; turn = tt }; fit = tt };
+  conduct = record { allowed = record { open_yet = refl; turn = refl }; fit = tt };
   offer = tt;
   in_turn = tt;
   request = record { open_yet = refl; may = refl };
@@ -209,7 +209,7 @@ early_may = record {
     none_cut = λ stream kept found. none_cut_of (boxed 1 (Before (early_head ∷ []) None [] None) ∷ silent_one 3 ∷ []) refl stream kept found;
     turn = inl (record { is_ready = (0, omega arith, refl); above = omega arith; least = λ k lt some. some });
   };
-  request = record { open_yet = refl; may = refl };
+  request = record { open_yet = refl; may = inl refl };
   gains = tt;
   table = record { together = refl; is_given = early_encoded };
   window = record { kind = refl; over_with_it = refl };
@@ -232,7 +232,7 @@ first_closed_may : MayDo setup (told_by at_first_heard) (told_by at_first_closed
 unfolding total_size
 first_closed_may = record {
   rests = λ e. never e;
-  conduct = record { allowed = record { open_yet = refl; turn = tt }; fit = tt };
+  conduct = record { allowed = record { open_yet = refl; turn = refl }; fit = tt };
   offer = tt;
   in_turn = tt;
   request = record { open_yet = refl; may = record { nothing = refl; live = first_live true; found = refl; why = inl refl } };
@@ -263,7 +263,7 @@ first_may = record {
     none_cut = λ stream kept found. none_cut_of (boxed 1 whole ∷ silent_one 3 ∷ []) refl stream kept found;
     turn = inr (record { is_ready = (0, omega arith, refl); none_above = λ k lt. let one = each_one k lt in omega (arith, one); least = λ k lt. let one = each_one k lt in omega (arith, one) });
   };
-  request = record { open_yet = refl; may = refl };
+  request = record { open_yet = refl; may = inl refl };
   gains = tt;
   table = record { together = refl; is_given = first_encoded };
   window = record { kind = refl; over_with_it = refl };
@@ -286,7 +286,7 @@ second_closed_may : MayDo setup (told_by at_second_heard) (told_by at_second_clo
 unfolding total_size
 second_closed_may = record {
   rests = λ e. never e;
-  conduct = record { allowed = record { open_yet = refl; turn = tt }; fit = tt };
+  conduct = record { allowed = record { open_yet = refl; turn = refl }; fit = tt };
   offer = tt;
   in_turn = tt;
   request = record { open_yet = refl; may = record { nothing = refl; live = second_live true; found = refl; why = inl refl } };
@@ -317,7 +317,7 @@ second_may = record {
     none_cut = λ stream kept found. none_cut_of (boxed 1 body_left ∷ boxed 3 whole ∷ []) refl stream kept found;
     turn = inl (record { is_ready = (0, omega arith, refl); above = omega arith; least = λ k lt some. let one = only_second k lt in omega (arith, one) });
   };
-  request = record { open_yet = refl; may = refl };
+  request = record { open_yet = refl; may = inl refl };
   gains = tt;
   table = record { together = refl; is_given = second_encoded };
   window = record { kind = refl; over_with_it = refl };
@@ -343,7 +343,7 @@ ack_again_may = record {
   conduct = record { allowed = record { open_yet = refl; turn = inl (record { front = refl; control = refl }) }; fit = refl };
   offer = record { no_block = refl; no_data = refl };
   in_turn = λ e. never e;
-  request = record { open_yet = refl; may = refl };
+  request = record { open_yet = refl; may = inl refl };
   gains = tt;
   table = record { together = refl; is_given = refl };
   window = record { kind = refl; over_with_it = refl };
@@ -372,7 +372,7 @@ first_h_may = record {
     none_cut = λ stream kept found. none_cut_of (boxed 1 body_left ∷ boxed 3 body_left ∷ []) refl stream kept found;
     turn = inr (record { is_ready = (0, omega arith, refl); none_above = λ k lt. (between k lt).1; least = λ k lt. (between k lt).0 });
   };
-  request = record { open_yet = refl; may = refl };
+  request = record { open_yet = refl; may = inl refl };
   gains = tt;
   table = record { together = refl; is_given = refl };
   window = record { kind = refl; over_with_it = refl };
@@ -400,7 +400,7 @@ second_h_may = record {
     none_cut = λ stream kept found. none_cut_of (boxed 1 last_left ∷ boxed 3 body_left ∷ []) refl stream kept found;
     turn = inl (record { is_ready = (1, omega arith, refl); above = omega arith; least = above_first });
   };
-  request = record { open_yet = refl; may = refl };
+  request = record { open_yet = refl; may = inl refl };
   gains = tt;
   table = record { together = refl; is_given = refl };
   window = record { kind = refl; over_with_it = refl };
@@ -428,7 +428,7 @@ first_i_may = record {
     none_cut = λ stream kept found. none_cut_of (boxed 1 last_left ∷ boxed 3 last_left ∷ []) refl stream kept found;
     turn = inr (record { is_ready = (0, omega arith, refl); none_above = λ k lt. (between k lt).1; least = λ k lt. (between k lt).0 });
   };
-  request = record { open_yet = refl; may = refl };
+  request = record { open_yet = refl; may = inl refl };
   gains = tt;
   table = record { together = refl; is_given = refl };
   window = record { kind = refl; over_with_it = refl };
@@ -456,7 +456,7 @@ second_i_may = record {
     none_cut = λ stream kept found. none_cut_of (boxed 3 last_left ∷ []) refl stream kept found;
     turn = inl (record { is_ready = (0, omega arith, refl); above = omega arith; least = λ k lt some. let one = only_second k lt in omega (arith, one) });
   };
-  request = record { open_yet = refl; may = refl };
+  request = record { open_yet = refl; may = inl refl };
   gains = tt;
   table = record { together = refl; is_given = refl };
   window = record { kind = refl; over_with_it = refl };

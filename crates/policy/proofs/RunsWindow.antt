@@ -193,7 +193,7 @@ ack_may = record {
   conduct = record { allowed = record { open_yet = refl; turn = inl (record { front = refl; control = refl }) }; fit = refl };
   offer = record { no_block = refl; no_data = refl };
   in_turn = λ e. never e;
-  request = record { open_yet = refl; may = refl };
+  request = record { open_yet = refl; may = inl refl };
   gains = tt;
   table = record { together = refl; is_given = refl };
   window = record { kind = refl; over_with_it = refl };
@@ -225,7 +225,7 @@ closed_may : MayDo setup (told_by at_heard) (told_by at_closed) at_heard (Acts (
 unfolding total_size
 closed_may = record {
   rests = λ e. never e;
-  conduct = record { allowed = record { open_yet = refl; turn = tt }; fit = tt };
+  conduct = record { allowed = record { open_yet = refl; turn = refl }; fit = tt };
   offer = tt;
   in_turn = tt;
   request = record { open_yet = refl; may = record { nothing = refl; live = record { k = 1; stream = 1; whole = true }; found = refl; why = inl refl } };
@@ -256,7 +256,7 @@ head_may = record {
     none_cut = λ stream kept found. one_whole (1 == stream) whole kept refl found;
     turn = inl (record { is_ready = (0, omega arith, refl); above = omega arith; least = λ k lt some. some });
   };
-  request = record { open_yet = refl; may = refl };
+  request = record { open_yet = refl; may = inl refl };
   gains = tt;
   table = record { together = refl; is_given = answer_encoded };
   window = record { kind = refl; over_with_it = refl };
@@ -285,7 +285,7 @@ h_may = record {
     none_cut = λ stream kept found. one_whole (1 == stream) behind_head kept refl found;
     turn = inr (record { is_ready = (0, omega arith, refl); none_above = λ k lt. let one = each_one k lt in omega (arith, one); least = λ k lt. let one = each_one k lt in omega (arith, one) });
   };
-  request = record { open_yet = refl; may = refl };
+  request = record { open_yet = refl; may = inl refl };
   gains = tt;
   table = record { together = refl; is_given = refl };
   window = record { kind = refl; over_with_it = refl };
@@ -321,7 +321,7 @@ ack_again_may = record {
   conduct = record { allowed = record { open_yet = refl; turn = inl (record { front = refl; control = refl }) }; fit = refl };
   offer = record { no_block = refl; no_data = refl };
   in_turn = λ e. never e;
-  request = record { open_yet = refl; may = refl };
+  request = record { open_yet = refl; may = inl refl };
   gains = tt;
   table = record { together = refl; is_given = refl };
   window = record { kind = refl; over_with_it = refl };
@@ -349,7 +349,7 @@ i_may = record {
     none_cut = λ stream kept found. one_whole (1 == stream) last_left kept refl found;
     turn = inr (record { is_ready = (0, omega arith, refl); none_above = λ k lt. let one = each_one k lt in omega (arith, one); least = λ k lt. let one = each_one k lt in omega (arith, one) });
   };
-  request = record { open_yet = refl; may = refl };
+  request = record { open_yet = refl; may = inl refl };
   gains = tt;
   table = record { together = refl; is_given = refl };
   window = record { kind = refl; over_with_it = refl };

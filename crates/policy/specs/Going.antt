@@ -15,18 +15,18 @@ use Rattle.offering.specs.Sight.{sight_in}
 use Rattle.receiving.specs.Policy as windows
 use Rattle.receiving.specs.Rule.{GivesAll}
 use Rattle.serving.specs.Rule as requests
-use Rattle.serving.specs.State.Due.{Nothing, ToSend}
+use Rattle.serving.specs.State.Due.{ToSend}
 use Rattle.policy.specs.Moves.{told_in}
 use Rattle.policy.specs.State.{State, gates_in}
 use Rattle.policy.specs.Rule.{rooms_in}
 use Rattle.policy.specs.Steps.{told_by}
 
--- A frame may go between header blocks, where nothing goes to an upstream before it; it has no block, and is on no stream that may be opened
--- yet.
+-- A frame may go between header blocks, where nothing goes to an upstream before it, unless it is a farewell; it has no block, and is on no
+-- stream that may be opened yet.
 pub record GoesBetween (s : State) (noted : Noted) : Type 0 where
   pub open_yet : s.desk.book.closed ≡ false
   pub none_begun : s.desk.book.block_out ≡ None
-  pub nothing_due : s.requests.due ≡ Nothing
+  pub before_due : requests.MaySend s.requests noted
   pub no_note : noted.note ≡ NoBlock
   pub not_to_open : may_open (told_by s).opened noted.frame.id ≡ false
 
@@ -45,16 +45,23 @@ pub record GivesBack (s : State) (noted : Noted) : Type 0 where
   pub rightly : is_rightly_sent_in (told_by s) noted.frame ≡ true
   pub all : GivesAll (sight_in (told_by s)) (rooms_in (told_by s) s) noted.frame
 
--- A connection may be opened, and given to the stream of the last frame.
+-- A connection may be opened, and given to the stream of the last frame: nothing is owed, and it is due.
 pub record Opens (s : State) (k route : ℕ) : Type 0 where
+  pub nothing : s.desk.queue ≡ []
   pub opens : OpensNext (sight_in (told_by s)) k
   pub due : requests.MayOpen s.requests k route
   pub window : windows.MayOpen (rooms_in (told_by s) s) k
 
--- Octets go to an upstream: all that is due to it, before the effect of what came is over.
+-- Octets go to an upstream: nothing is owed, and they are all that is due to it, before the effect of what came is over.
 pub record Puts (setup : Setup) (s : State) (k : ℕ) (octets : List ℕ) : Type 0 where
+  pub nothing : s.desk.queue ≡ []
   pub due : s.requests.due ≡ ToSend k octets
   pub window : windows.MayPut setup.passing (gates_in (told_by s) s.requests) (rooms_in (told_by s) s) k
+
+-- An upstream connection may be closed: nothing is owed, and it is done with.
+pub record Closes (s : State) (k : ℕ) : Type 0 where
+  pub nothing : s.desk.queue ≡ []
+  pub may : requests.MayClose (told_in (told_by s)) s.requests k
 
 -- The client may be closed: nothing is owed, the connection is to end, and no connection is open.
 pub record Shuts (s : State) : Type 0 where
@@ -66,5 +73,5 @@ pub record Shuts (s : State) : Type 0 where
 abbrev pub Acts : Setup → State → Act → Type 0
 Acts setup s (Open k route) = Opens s k route
 Acts setup s (ToUp k octets) = Puts setup s k octets
-Acts setup s (Close k) = requests.MayClose (told_in (told_by s)) s.requests k
+Acts setup s (Close k) = Closes s k
 Acts setup s CloseClient = Shuts s

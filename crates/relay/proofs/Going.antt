@@ -174,13 +174,21 @@ module _ (setup : Setup) (book : Book) (r : serving.State) (before : AllGoOn boo
       still_held : (id : ℕ) → (find after id).brief.begun ≡ true → (find after id).brief.over ≡ false → (hs : List Held) → IsHeld id hs → IsHeld id (kept behind hs)
       still_held id begun over hs h = (h.0, stays_held behind id (served id begun (none_caused id over)) hs h.0 h.1)
 
-      -- an entry that brings nothing, with which nothing is held anew
-      kept_all : ((id : ℕ) → items_in id s e ≡ []) → r.due ≡ Nothing → (live : List serving.Live) (count : ℕ) → AllGoOn after (record { held = kept behind r.held; live = live; due = r.due; count = count })
-      kept_all none nothing live count = record {
-        awaited = λ id begun over. inl (still_held id begun over r.held (was_held id (none_due r.due nothing id) begun over (none id)));
+      -- what is due is not whole behind it where its stream's items go on
+      still_ended : ((id : ℕ) → items_in id s e ≡ []) → (due : Due) → DueEnded book.rows due → DueEnded after due
+      still_ended none Nothing ended = tt
+      still_ended none (ToSend k text) ended = tt
+      still_ended none (ToOpen stream route text stage) ended = λ is begun over.
+          let go = back stream begun over in
+          ended is (or_none (find book.rows stream).brief.begun (ap (λ (xs : List Item). (find book.rows stream).brief.begun || is_begun xs) (sym (none stream)) ∙ sym go.begun ∙ begun)) go.not_over
+
+      -- an entry that brings nothing, with which nothing is held anew, and what is due stays
+      kept_all : ((id : ℕ) → items_in id s e ≡ []) → (live : List serving.Live) (count : ℕ) → AllGoOn after (record { held = kept behind r.held; live = live; due = r.due; count = count })
+      kept_all none live count = record {
+        awaited = λ id begun over. elim (was_awaited id begun over (none id)) [ inl held ↦ inl (still_held id begun over r.held held) | inr part ↦ inr part ];
         no_cause = none_caused;
         parts = λ id h found. before.parts id h (held_kept behind id r.held h found).0;
-        due = subst (DueEnded after) (sym nothing) tt;
+        due = still_ended none r.due before.due;
       }
 
       kept_dropped : ((id : ℕ) → items_in id s e ≡ []) → r.due ≡ Nothing → (k : ℕ) (live : List serving.Live) (count : ℕ) → AllGoOn after (record { held = kept behind (map (drop_from k) r.held); live = live; due = r.due; count = count })
@@ -377,16 +385,16 @@ module _ (setup : Setup) (book : Book) (r : serving.State) (before : AllGoOn boo
   done (Takes noted next gain) served gains may open_yet = taken noted served gain gains may
   done (Breaks breach) served gains may open_yet = same_left (Breached breach) (λ id. refl) may.nothing
   done (Notes event) served gains may open_yet = same_left (Happened event) (λ id. refl) may.0.nothing
-  done (Hears event stream news whole) served gains may open_yet = kept_all false (Happened event) served (λ id. refl) may.0.nothing _ r.count
+  done (Hears event stream news whole) served gains may open_yet = kept_all false (Happened event) served (λ id. refl) _ r.count
   done (Fails (UpFailed k) stream whole) served gains may open_yet = kept_dropped true (Happened (UpFailed k)) served (λ id. refl) may.0.nothing k _ r.count
-  done (Fails (Client piece) stream whole) served gains may open_yet = kept_all true (Happened (Client piece)) served (λ id. refl) may.0.nothing _ r.count
-  done (Fails ClientEnd stream whole) served gains may open_yet = kept_all true (Happened ClientEnd) served (λ id. refl) may.0.nothing _ r.count
-  done (Fails (ClientTook count) stream whole) served gains may open_yet = kept_all true (Happened (ClientTook count)) served (λ id. refl) may.0.nothing _ r.count
-  done (Fails (Up k piece) stream whole) served gains may open_yet = kept_all true (Happened (Up k piece)) served (λ id. refl) may.0.nothing _ r.count
-  done (Fails (UpEnd k) stream whole) served gains may open_yet = kept_all true (Happened (UpEnd k)) served (λ id. refl) may.0.nothing _ r.count
-  done (Fails (UpTook k count) stream whole) served gains may open_yet = kept_all true (Happened (UpTook k count)) served (λ id. refl) may.0.nothing _ r.count
-  done (Sends noted next) served gains may open_yet = kept_all false (Sent noted) served (λ id. refl) may r.live r.count
-  done (Goes noted item part next) served gains may open_yet = kept_all false (Sent noted) served (λ id. refl) may r.live r.count
+  done (Fails (Client piece) stream whole) served gains may open_yet = kept_all true (Happened (Client piece)) served (λ id. refl) _ r.count
+  done (Fails ClientEnd stream whole) served gains may open_yet = kept_all true (Happened ClientEnd) served (λ id. refl) _ r.count
+  done (Fails (ClientTook count) stream whole) served gains may open_yet = kept_all true (Happened (ClientTook count)) served (λ id. refl) _ r.count
+  done (Fails (Up k piece) stream whole) served gains may open_yet = kept_all true (Happened (Up k piece)) served (λ id. refl) _ r.count
+  done (Fails (UpEnd k) stream whole) served gains may open_yet = kept_all true (Happened (UpEnd k)) served (λ id. refl) _ r.count
+  done (Fails (UpTook k count) stream whole) served gains may open_yet = kept_all true (Happened (UpTook k count)) served (λ id. refl) _ r.count
+  done (Sends noted next) served gains may open_yet = kept_all false (Sent noted) served (λ id. refl) r.live r.count
+  done (Goes noted item part next) served gains may open_yet = kept_all false (Sent noted) served (λ id. refl) r.live r.count
   done (Acts (Open k route)) served gains may open_yet = opened_one k route may
   done (Acts (ToUp k octets)) served gains may open_yet = left_held false (Did (ToUp k octets)) (λ id. refl) (λ id part. subst (λ (due : Due). IsDuePart due id) may part) r.live r.count Nothing tt
   done (Acts (Close k)) served gains may open_yet = closed_one k may.nothing

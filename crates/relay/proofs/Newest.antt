@@ -254,30 +254,38 @@ module _ (known : Known) (streaming : known.setup.passing ≡ Streaming) (run : 
   taken noted next (Gain.Passes item k old written stage) knows answered allowed on = sent_newest _ k written
   taken noted next (Gain.Drops item) knows answered allowed on = none_newest _ r.due allowed.1.request.may.0.nothing
 
-  done : (d : Deed) → AreKnown known (conducts run) → AreAnswered known run → (allowed : AllAllowed setup (Does d ∷ run)) → (book_behind d).ends ≡ false → DueNewest (book_behind d).rows (due_behind d)
-  done (Takes noted next gain) knows answered allowed on = taken noted next gain knows answered allowed on
-  done (Breaks breach) knows answered allowed on = none_newest _ r.due allowed.1.request.may.nothing
-  done (Notes event) knows answered allowed on = none_newest _ r.due allowed.1.request.may.0.nothing
-  done (Hears event stream news whole) knows answered allowed on = none_newest _ r.due allowed.1.request.may.0.nothing
-  done (Fails (UpFailed k) stream whole) knows answered allowed on = none_newest _ r.due allowed.1.request.may.0.nothing
-  done (Fails (Client piece) stream whole) knows answered allowed on = none_newest _ r.due allowed.1.request.may.0.nothing
-  done (Fails ClientEnd stream whole) knows answered allowed on = none_newest _ r.due allowed.1.request.may.0.nothing
-  done (Fails (ClientTook count) stream whole) knows answered allowed on = none_newest _ r.due allowed.1.request.may.0.nothing
-  done (Fails (Up k piece) stream whole) knows answered allowed on = none_newest _ r.due allowed.1.request.may.0.nothing
-  done (Fails (UpEnd k) stream whole) knows answered allowed on = none_newest _ r.due allowed.1.request.may.0.nothing
-  done (Fails (UpTook k count) stream whole) knows answered allowed on = none_newest _ r.due allowed.1.request.may.0.nothing
-  done (Sends noted next) knows answered allowed on = none_newest _ r.due allowed.1.request.may
-  done (Goes noted item part next) knows answered allowed on = none_newest _ r.due allowed.1.request.may
-  done (Acts (Open k route)) knows answered allowed on = let may = allowed.1.request.may in subst (λ (due : Due). DueNewest (book_behind (Acts (Open k route))).rows (serving.due_opened due k)) (sym may.due) tt
-  done (Acts (ToUp k octets)) knows answered allowed on = tt
-  done (Acts (Close k)) knows answered allowed on = none_newest _ r.due allowed.1.request.may.nothing
-  done (Acts CloseClient) knows answered allowed on = none_newest _ r.due allowed.1.request.may.nothing
+  -- behind a frame that is sent the same streams were opened
+  still_newest : (noted : Noted) (due : Due) → DueNewest before.rows due → DueNewest (book_after setup false before (Sent noted)).rows due
+  still_newest noted Nothing was = tt
+  still_newest noted (ToSend k text) was = tt
+  still_newest noted (ToOpen stream route text stage) was = λ other among apart.
+      was other (sym (ap (λ (ids : List ℕ). list_any (λ n. n == other) ids) (ids_changed setup false (summary_in before) (Sent noted) before.rows)) ∙ among) apart
+
+  done : (d : Deed) → AreKnown known (conducts run) → AreAnswered known run → (allowed : AllAllowed setup (Does d ∷ run)) → (book_behind d).ends ≡ false → DueNewest before.rows r.due → DueNewest (book_behind d).rows (due_behind d)
+  done (Takes noted next gain) knows answered allowed on was = taken noted next gain knows answered allowed on
+  done (Breaks breach) knows answered allowed on was = none_newest _ r.due allowed.1.request.may.nothing
+  done (Notes event) knows answered allowed on was = none_newest _ r.due allowed.1.request.may.0.nothing
+  done (Hears event stream news whole) knows answered allowed on was = none_newest _ r.due allowed.1.request.may.0.nothing
+  done (Fails (UpFailed k) stream whole) knows answered allowed on was = none_newest _ r.due allowed.1.request.may.0.nothing
+  done (Fails (Client piece) stream whole) knows answered allowed on was = none_newest _ r.due allowed.1.request.may.0.nothing
+  done (Fails ClientEnd stream whole) knows answered allowed on was = none_newest _ r.due allowed.1.request.may.0.nothing
+  done (Fails (ClientTook count) stream whole) knows answered allowed on was = none_newest _ r.due allowed.1.request.may.0.nothing
+  done (Fails (Up k piece) stream whole) knows answered allowed on was = none_newest _ r.due allowed.1.request.may.0.nothing
+  done (Fails (UpEnd k) stream whole) knows answered allowed on was = none_newest _ r.due allowed.1.request.may.0.nothing
+  done (Fails (UpTook k count) stream whole) knows answered allowed on was = none_newest _ r.due allowed.1.request.may.0.nothing
+  done (Sends noted next) knows answered allowed on was = still_newest noted r.due was
+  done (Goes noted item part next) knows answered allowed on was = still_newest noted r.due was
+  done (Acts (Open k route)) knows answered allowed on was = let may = allowed.1.request.may in subst (λ (due : Due). DueNewest (book_behind (Acts (Open k route))).rows (serving.due_opened due k)) (sym may.due) tt
+  done (Acts (ToUp k octets)) knows answered allowed on was = tt
+  done (Acts (Close k)) knows answered allowed on was = none_newest _ r.due allowed.1.request.may.nothing
+  done (Acts CloseClient) knows answered allowed on was = none_newest _ r.due allowed.1.request.may.nothing
 
 newest : (known : Known) → known.setup.passing ≡ Streaming → (run : List Move) → AreKnown known (conducts run) → AreAnswered known run → AllAllowed known.setup run → (desk_of known.setup (conducts run)).book.ends ≡ false
     → DueNewest (desk_of known.setup (conducts run)).book.rows (serving.state_of known.setup (turns_of known.setup run)).due
 newest known streaming [] knows answered allowed on = tt
 newest known streaming (Settles ∷ run) knows answered allowed on = newest known streaming run knows answered allowed on
-newest known streaming (Does d ∷ run) knows answered allowed on = done known streaming run d knows.0 answered.0 allowed on
+newest known streaming (Does d ∷ run) knows answered allowed on =
+    done known streaming run d knows.0 answered.0 allowed on (newest known streaming run knows.0 answered.0 allowed.0 (went_on known.setup run d allowed.1.conduct on))
 
 -- Where moves led, a connection that is due is due for the newest stream.
 pub due_newest : (setup : Setup) (run : List Move) (s : State) → Stands setup run s → AreSo setup run → setup.passing ≡ Streaming → (stream route : ℕ) (text : List ℕ) (stage : Stage) → s.requests.due ≡ ToOpen stream route text stage → IsNewest s.desk.book.rows stream

@@ -1,5 +1,5 @@
 -- Frames of responses may go out, and the connection goes on.
-use Rattle.std.proofs.Common.{◌≡◌, ◌==◌, Bool, true, false, not, refl, sym, subst, inr}
+use Rattle.std.proofs.Common.{◌≡◌, ◌==◌, Bool, true, false, not, refl, sym, subst, inl, inr}
 use Rattle.model.specs.Messages.{Item}
 use Rattle.model.specs.Frames.{window_update_kind}
 use Rattle.model.specs.Setup.{Setup}
@@ -35,7 +35,7 @@ module _ (setup : Setup) (s : State) (behind : Summary) (noted : Noted) (next : 
         conduct = record { allowed = record { open_yet = m.open_yet; turn = inr (record { nothing = m.nothing; goes_on = m.goes_on; passing = m.passing; rightly = m.rightly }) }; fit = m.not_to_open };
         offer = (p.goes, record { active = twice_not ((sight_in behind).active noted.frame.id); brings = p.brings });
         in_turn = m.in_turn;
-        request = record { open_yet = m.open_yet; may = m.nothing_due };
+        request = record { open_yet = m.open_yet; may = inl m.nothing_due };
         gains = tt;
         table = m.table;
         window = other_window m.no_update;
@@ -49,7 +49,7 @@ module _ (setup : Setup) (s : State) (behind : Summary) (noted : Noted) (next : 
         conduct = record { allowed = record { open_yet = m.open_yet; turn = inr (record { nothing = m.nothing; goes_on = m.goes_on; passing = m.passing; rightly = m.rightly }) }; fit = m.not_to_open };
         offer = record { no_block = p.goes_on; no_data = p.no_data };
         in_turn = m.in_turn;
-        request = record { open_yet = m.open_yet; may = m.nothing_due };
+        request = record { open_yet = m.open_yet; may = inl m.nothing_due };
         gains = tt;
         table = m.table;
         window = other_window m.no_update;

@@ -1,5 +1,5 @@
 -- A reset that is owed next is sent, and its stream is over with it.
-use Rattle.std.proofs.Common.{◌≡◌, ℕ, ◌+◌, Bool, true, false, not, ◌&&◌, ◌||◌, ◌==◌, List, [], ◌∷◌, ◌++◌, append-nil, length, Option, Some, None, refl, sym, ◌∙◌, ap, subst, if◌then◌else◌}
+use Rattle.std.proofs.Common.{◌≡◌, ℕ, ◌+◌, Bool, true, false, not, ◌&&◌, ◌||◌, ◌==◌, List, [], ◌∷◌, ◌++◌, append-nil, length, Option, Some, None, refl, sym, ◌∙◌, ap, subst, inl, if◌then◌else◌}
 use Rattle.std.proofs.lemmas.Bool.{and_parts, eqb-true}
 use Rattle.std.specs.Prelude.{is_none}
 use Rattle.std.specs.List.{list_any}
@@ -156,7 +156,7 @@ module _ (setup : Setup) (kept : View) (pending : Pending) (rest : List Frame) (
         between = record {
           open_yet = ap (λ (b : Book). b.closed) leads.keeps.book;
           none_begun = none_begun;
-          nothing_due = ap (λ (r : serving.State). r.due) leads.keeps.requests ∙ nothing_due;
+          before_due = inl (ap (λ (r : serving.State). r.due) leads.keeps.requests ∙ nothing_due);
           no_note = refl;
           not_to_open = ap (λ (b : Book). may_open (ids_of b.rows) id) leads.keeps.book ∙ known;
         };

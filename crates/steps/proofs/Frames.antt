@@ -13,6 +13,7 @@ use Rattle.conduct.specs.Owing.{fault_in}
 use Rattle.conduct.specs.Quiet.{noted_of}
 use Rattle.conduct.specs.Rows.{ids_of}
 use Rattle.streams_kept.specs.Asked.{has}
+use Rattle.serving.specs.State as serving
 use Rattle.upstreams.specs.Requests.{due_by}
 use Rattle.upstreams.specs.declared.held.Due.{Due}
 use Rattle.policy.specs.Ending.{IsFatal, ending_on_tape}
@@ -71,21 +72,27 @@ module _ (setup : Setup) where
 
   -- a frame without a fragment, and then what is due to an upstream
   pub plain_brings : (a b c : View) (o p q : List Output) (frame : Frame) (due : Due) (dropped fresh : ℕ) → fresh ≡ data_length is_any frame → plain.IsPassed setup a o frame due dropped b p
-      → ((owed : List Frame) (n back : ℕ) → PerformsOwn setup b (record square { owed = owed; due = due_by due; fresh = n; shared = back }) p c (record square { owed = owed; fresh = n; shared = back }) q)
+      → ((n back : ℕ) → PerformsOwn setup b (record square { due = due_by due; fresh = n; shared = back }) p c (record square { fresh = n; shared = back }) q)
       → Brings setup a square o (Came (noted_of frame)) c (record square { fresh = fresh; shared = dropped }) q
   plain_brings a b c o p q frame due dropped fresh is passed serves =
       subst (λ n. Brings setup a square o (Came (noted_of frame)) c (record square { fresh = n; shared = dropped }) q) (sym is)
-      (brings_then setup a b c square (record square { due = due_by due; fresh = data_length is_any frame; shared = dropped }) (record square { fresh = data_length is_any frame; shared = dropped }) o p q (Came (noted_of frame)) passed.brings (serves [] (data_length is_any frame) dropped))
+      (brings_then setup a b c square (record square { due = due_by due; fresh = data_length is_any frame; shared = dropped }) (record square { fresh = data_length is_any frame; shared = dropped }) o p q (Came (noted_of frame)) passed.brings (serves (data_length is_any frame) dropped))
 
-  -- a frame with one, what is due to an upstream, and the farewell where it is owed
+  -- a frame with one, and the farewell where it is owed
+  pub farewell_brings : (a b c : View) (o p q : List Output) (frame : Frame) (due : Due) (farewell : Option ℕ) (dropped : ℕ) (passed : block.IsPassed setup a o frame due farewell dropped b p)
+      → ((what : serving.Due) (back : ℕ) → PerformsOwn setup b (record square { owed = farewell_frames farewell; due = what; shared = back }) p c (record square { due = what; shared = back }) q)
+      → Brings setup a square o (Came (record { frame = frame; note = passed.note })) c (record square { due = due_by due; shared = dropped }) q
+  farewell_brings a b c o p q frame due farewell dropped passed says =
+      brings_then setup a b c square (record square { owed = farewell_frames farewell; due = due_by due; shared = dropped }) (record square { due = due_by due; shared = dropped }) o p q (Came (record { frame = frame; note = passed.note })) passed.brings (says (due_by due) dropped)
+
+  -- and then what is due to an upstream
   pub block_brings : (a b c d : View) (o p q r : List Output) (frame : Frame) (due : Due) (farewell : Option ℕ) (dropped : ℕ) (passed : block.IsPassed setup a o frame due farewell dropped b p)
-      → ((owed : List Frame) (n back : ℕ) → PerformsOwn setup b (record square { owed = owed; due = due_by due; fresh = n; shared = back }) p c (record square { owed = owed; fresh = n; shared = back }) q)
-      → ((back : ℕ) → PerformsOwn setup c (record square { owed = farewell_frames farewell; shared = back }) q d (back_of back) r)
+      → ((what : serving.Due) (back : ℕ) → PerformsOwn setup b (record square { owed = farewell_frames farewell; due = what; shared = back }) p c (record square { due = what; shared = back }) q)
+      → ((n back : ℕ) → PerformsOwn setup c (record square { due = due_by due; fresh = n; shared = back }) q d (record square { fresh = n; shared = back }) r)
       → Brings setup a square o (Came (record { frame = frame; note = passed.note })) d (back_of dropped) r
-  block_brings a b c d o p q r frame due farewell dropped passed serves says =
-      let noted : Noted = record { frame = frame; note = passed.note } in
-      brings_then setup a c d square (record square { owed = farewell_frames farewell; shared = dropped }) (back_of dropped) o q r (Came noted)
-      (brings_then setup a b c square (record square { owed = farewell_frames farewell; due = due_by due; shared = dropped }) (record square { owed = farewell_frames farewell; shared = dropped }) o p q (Came noted) passed.brings (serves (farewell_frames farewell) 0 dropped)) (says dropped)
+  block_brings a b c d o p q r frame due farewell dropped passed says serves =
+      brings_then setup a c d square (record square { due = due_by due; shared = dropped }) (back_of dropped) o q r (Came (record { frame = frame; note = passed.note }))
+      (farewell_brings a b c o p q frame due farewell dropped passed says) (serves 0 dropped)
 
   -- ---- it is an error of the connection
 

@@ -2,7 +2,7 @@
 //! connection to the client was closed.
 //!
 //! The parts are `plain_frames`, `block_frames`, `exchanges`, `paying`, `flushing` and `ending`, in the order in which the rule takes them: what came
-//! in; a connection for a request that is due, or more of one that goes out; the farewell behind the last stream; octets that go back; connections
+//! in; the farewell behind the last stream; a connection for a request that is due, or more of one that goes out; octets that go back; connections
 //! that are done with; responses.
 #![tactic(auto)]
 

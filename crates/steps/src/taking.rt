@@ -1,17 +1,17 @@
 //! A frame of the client, taken whole.
 
 ghost use Rattle.std.specs.Prelude.{◌≡◌, ◌≤◌, ◌<◌, ◌==◌, ◌||◌, ℕ, List, [], ◌∷◌, length, true, false, IfOk, OnOk};
-ghost use Rattle.model.specs.Frames.{Frame};
 ghost use Rattle.model.specs.Setup.{Setup};
 ghost use Rattle.model.specs.WindowsOnTape.{is_any, data_length};
 ghost use Rattle.frames.specs.Views.{frame_of};
 ghost use Rattle.streams_kept.specs.Asked.{has};
 ghost use Rattle.judgement.specs.AnyFrame.{has_fragment};
+ghost use Rattle.serving.specs.State as serving;
 ghost use Rattle.serving.specs.State.{is_streaming};
 ghost use Rattle.answers.specs.Waiting.{passing_in};
 ghost use Rattle.upstreams.specs.Requests.{due_by};
 ghost use Rattle.relay.specs.View.{square};
-ghost use Rattle.relay.specs.Rest.{NoneCut, Reached, back_of};
+ghost use Rattle.relay.specs.Rest.{NoneCut, Reached};
 ghost use Rattle.relay.specs.Bringing.{PerformsOwn};
 ghost use Rattle.steps.specs.block_frames.Following.{farewell_frames};
 ghost use Rattle.steps.specs.Closings.{NoneDoneBut};
@@ -81,10 +81,10 @@ pub(crate) fn data_octets(view: View<'_>) -> u32
     }
 }
 
-/// Opens the connection for a request that is due, or sends what is due of one that goes out.
+/// Opens the connection for a request that is due, or sends what is due of one that goes out; no frame is owed then.
 fn serve(rooms: &mut Rooms, due: Due, passing: Passing, out: &mut Outputs) -> Result<(), AllocError>
-    requires reached { (setup : Setup) × IsPassedBy setup passing × (owed : List Frame) × (fresh back : ℕ) × Reached setup rooms.old (record square { owed = owed; due = due_by due; fresh = fresh; shared = back }) }
-    ensures performs { OnOk result ((setup : Setup) (owed : List Frame) (fresh back : ℕ) → IsPassedBy setup passing → PerformsOwn setup rooms.old (record square { owed = owed; due = due_by due; fresh = fresh; shared = back }) out.old rooms.new (record square { owed = owed; fresh = fresh; shared = back }) out.new) }
+    requires reached { (setup : Setup) × IsPassedBy setup passing × (fresh back : ℕ) × Reached setup rooms.old (record square { due = due_by due; fresh = fresh; shared = back }) }
+    ensures performs { OnOk result ((setup : Setup) (fresh back : ℕ) → IsPassedBy setup passing → PerformsOwn setup rooms.old (record square { due = due_by due; fresh = fresh; shared = back }) out.old rooms.new (record square { fresh = fresh; shared = back }) out.new) }
     ensures stays { OnOk result ((rooms.new.inbound ≡ rooms.old.inbound) × (rooms.new.offers ≡ rooms.old.offers)) }
     ensures none_but { OnOk result ((id : ℕ) → NoneDoneBut id rooms.old → NoneDoneBut id rooms.new) }
 {
@@ -180,21 +180,21 @@ fn take_fragment(
             farewell,
             dropped,
         } => {
-            serve(rooms, due, service.passing, out)?;
             say_farewell(rooms, farewell, out)?;
+            serve(rooms, due, service.passing, out)?;
             return_dropped(rooms, dropped, out)?;
             rest_behind(alloc, rooms, view.id, out)
         }
     }
 }
 
-/// Says farewell behind the last stream that a connection may have, where that is owed (RFC 9113, section 6.8).
+/// Says farewell behind the last stream that a connection may have, where that is owed: before what is due of its request (RFC 9113, section 6.8).
 pub(crate) fn say_farewell(
     rooms: &mut Rooms,
     last: Option<u32>,
     out: &mut Outputs,
 ) -> Result<(), AllocError>
-    ensures performs { OnOk result ((setup : Setup) (back : ℕ) → PerformsOwn setup rooms.old (record square { owed = farewell_frames last; shared = back }) out.old rooms.new (back_of back) out.new) }
+    ensures performs { OnOk result ((setup : Setup) (due : serving.Due) (back : ℕ) → PerformsOwn setup rooms.old (record square { owed = farewell_frames last; due = due; shared = back }) out.old rooms.new (record square { due = due; shared = back }) out.new) }
     ensures stays { OnOk result ((rooms.new.inbound ≡ rooms.old.inbound) × (rooms.new.offers ≡ rooms.old.offers)) }
     ensures upstreams { OnOk result (rooms.new.upstreams ≡ rooms.old.upstreams) }
 {

@@ -1,5 +1,5 @@
 -- What a frame with a fragment of a header block brings, by what it gains and by what it calls for.
-use Rattle.std.proofs.Common.{◌≡◌, ℕ, ◌<◌, ◌+◌, Bool, true, false, not, ◌&&◌, ◌||◌, ◌==◌, if◌then◌else◌, List, [], ◌∷◌, ◌++◌, length, Option, Some, None, refl, sym, ◌∙◌, ap, subst, arith}
+use Rattle.std.proofs.Common.{◌≡◌, ℕ, ◌<◌, ◌+◌, Bool, true, false, not, ◌&&◌, ◌||◌, ◌==◌, if◌then◌else◌, List, [], ◌∷◌, ◌++◌, length, Option, Some, None, refl, sym, ◌∙◌, ap, subst, arith, inr}
 use Rattle.std.specs.Prelude.{is_some}
 use Rattle.std.specs.List.{list_any}
 use Rattle.std.proofs.lemmas.Bool.{eq-eqb}
@@ -66,7 +66,7 @@ use Rattle.steps.proofs.block_frames.Before.{ready, box_there, is_taken, leads_t
 pub pays_farewell : (setup : Setup) (kept : View) (back : ℕ) (last : Option ℕ) (rest : List Frame) (outputs : List Output)
     → PerformsOwn setup kept (record square { owed = farewell_frames last ++ rest; shared = back }) outputs (with_farewell last kept) (record square { owed = rest; shared = back }) (put_farewell last outputs)
 pays_farewell setup kept back None rest outputs = own_none setup kept (record square { owed = rest; shared = back }) outputs
-pays_farewell setup kept back (Some last) rest outputs = pays_control setup kept (record square { owed = goaway last no_error ∷ rest; shared = back }) rest (control.Farewell last no_error) tt refl refl outputs
+pays_farewell setup kept back (Some last) rest outputs = pays_control setup kept (record square { owed = goaway last no_error ∷ rest; shared = back }) rest (control.Farewell last no_error) tt refl (inr refl) outputs
 
 -- it changes nothing but what is untaken
 farewell_view : (last : Option ℕ) (kept : View) → with_farewell last kept ≡ record kept { untaken = (with_farewell last kept).untaken }

@@ -74,10 +74,13 @@ module _ (setup : Setup) (run : List Move) (s : State) (l : Live) (ls : List Liv
   may_close = (
     ap (λ (d : Desk). d.book.ends) same_desk ∙ spent.stands.goes_on,
     may_act setup (told_behind setup s closes) s (Close l.k) spent.open_yet (record {
-      nothing = spent.due;
-      live = l;
-      found = ap (λ (xs : List Live). live_of l.k xs) spent.live ∙ last_found l ls apart;
-      why = inr spent.ends;
+      nothing = spent.owes;
+      may = record {
+        nothing = spent.due;
+        live = l;
+        found = ap (λ (xs : List Live). live_of l.k xs) spent.live ∙ last_found l ls apart;
+        why = inr spent.ends;
+      };
     }),
   )
 

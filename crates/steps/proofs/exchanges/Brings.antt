@@ -123,7 +123,7 @@ module _ (setup : Setup) (kept : View) (rest : IsAtRest kept) (run : List Move) 
         let it = failing_octets why in
         record {
           opened = λ streams answer. fails.failure_open setup kept rest run s leads k c found (Up k octets) refl tt (λ y. refl) (octets_come k octets short) it.0 it.1 refl (is_part why streams) answer outputs;
-          closed = fails.failure_closed setup kept rest run s leads k c found (Up k octets) refl tt (λ y. refl) (octets_come k octets short) it.0 it.1 refl outputs;
+          closed = λ unreset. fails.failure_closed setup kept rest run s leads k c found (Up k octets) refl tt (λ y. refl) (octets_come k octets short) it.0 it.1 refl unreset outputs;
         }
 
   -- ---- the end of the connection
@@ -156,7 +156,7 @@ module _ (setup : Setup) (kept : View) (rest : IsAtRest kept) (run : List Move) 
     pub end_fails : fails.FailsBy setup kept run s k c.live.stream outputs (Happened (UpEnd k))
     end_fails = record {
       opened = λ streams answer. fails.failure_open setup kept rest run s leads k c found (UpEnd k) refl tt (λ y. refl) (λ gates rooms up. up) false end_judged refl refl answer outputs;
-      closed = fails.failure_closed setup kept rest run s leads k c found (UpEnd k) refl tt (λ y. refl) (λ gates rooms up. up) false end_judged refl outputs;
+      closed = λ unreset. fails.failure_closed setup kept rest run s leads k c found (UpEnd k) refl tt (λ y. refl) (λ gates rooms up. up) false end_judged refl unreset outputs;
     }
 
   -- its failure

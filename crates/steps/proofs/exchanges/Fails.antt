@@ -108,10 +108,10 @@ abbrev pub resets_for : View → ℕ → List Frame
 resets_for kept stream = if is_none (rows.find kept.inbound.rows stream).brief.cause && (rows.find kept.inbound.rows stream).head_out then rst_stream stream internal_error ∷ [] else []
 
 -- The answer for a stream fails with what came in: its connection is open still, but where too long a response failed, which is passed on
--- whole; and it may be closed at once.
+-- whole; and it may be closed at once, where no reset is owed.
 pub record FailsBy (setup : Setup) (kept : View) (run : List Move) (s : State) (k stream : ℕ) (outputs : List Output) (entry : Entry) : Type 0 where
   pub opened : (setup.passing ≡ Whole → ⊥) → (answer : Answer) → Course setup run s outputs entry (replied_to stream (answered_with k answer kept.offers kept)) (record square { owed = resets_for kept stream }) outputs
-  pub closed : Course setup run s outputs entry (closed_at k (replied_to stream kept)) (record square { owed = resets_for kept stream }) (put outputs (Puts (Close k)))
+  pub closed : resets_for kept stream ≡ [] → Course setup run s outputs entry (closed_at k (replied_to stream kept)) (record square { owed = resets_for kept stream }) (put outputs (Puts (Close k)))
 
 module _ (setup : Setup) (kept : View) (rest : IsAtRest kept) (run : List Move) (s : State) (leads : Leads setup run kept square s) (k : ℕ) (c : Connection) (found : find number_of k kept.upstreams.live ≡ Some c)
     (event : Event) (of : upstream_of event ≡ k) (breaks_off : MayBreakOff event)
@@ -356,11 +356,11 @@ module _ (setup : Setup) (kept : View) (rest : IsAtRest kept) (run : List Move) 
         ap (λ (d : Desk). (serving.answered w k c.live).whole || not ((told_in (summary_in d.book)).served stream)) desk_one
         ∙ or_right (serving.answered w k c.live).whole (not (told_one.served stream)) (ap not not_served)
 
-    may_two : MayGoOn setup one (Does second)
-    may_two = (
+    may_two : resets_for kept stream ≡ [] → MayGoOn setup one (Does second)
+    may_two unreset = (
       ap (λ (d : Desk). d.book.ends) desk_two ∙ stands_one.goes_on,
       may_act setup (told_behind setup one second) one (Close k) (ap (λ (b : Book). b.closed) book_one)
-          (record { nothing = ap (λ (r : serving.State). r.due) requests_one; live = serving.answered w k c.live; found = live_one; why = inl done_one }),
+          (record { nothing = queue_one ∙ unreset; may = record { nothing = ap (λ (r : serving.State). r.due) requests_one; live = serving.answered w k c.live; found = live_one; why = inl done_one } }),
     )
 
     abbrev closed_view : View
@@ -394,14 +394,14 @@ module _ (setup : Setup) (kept : View) (rest : IsAtRest kept) (run : List Move) 
     so_two = so_stays setup one_run second tt so_one
 
     -- The answer fails with octets or with the end of its connection, which is closed then.
-    pub failure_closed : (outputs : List Output) → Course setup run s outputs (Happened event) closed_view pending (put outputs (Puts (Close k)))
-    failure_closed outputs = record {
+    pub failure_closed : resets_for kept stream ≡ [] → (outputs : List Output) → Course setup run s outputs (Happened event) closed_view pending (put outputs (Puts (Close k)))
+    failure_closed unreset outputs = record {
       segment = record {
         moves = Does second ∷ Does deed ∷ [];
         state = two;
-        by_rule = (one, (s, refl, may_one, refl), may_two, refl);
+        by_rule = (one, (s, refl, may_one, refl), may_two unreset, refl);
         leads = record {
-          stands = one_more setup one_run one (Does second) stands_one may_two;
+          stands = one_more setup one_run one (Does second) stands_one (may_two unreset);
           so = so_two;
           heard = heard_two;
           keeps = record {
@@ -415,7 +415,7 @@ module _ (setup : Setup) (kept : View) (rest : IsAtRest kept) (run : List Move) 
             credited = credited_one;
             counted = λ j x is. counted_one j x (found_before k j kept.upstreams.live x is);
           };
-          marked = subst (AreMarked setup.passing kept.marks) (sym (rooms_next setup one_run one stands_one so_one second may_two so_two)) marked_one;
+          marked = subst (AreMarked setup.passing kept.marks) (sym (rooms_next setup one_run one stands_one so_one second (may_two unreset) so_two)) marked_one;
           in_effect = tt;
         };
         puts = refl;

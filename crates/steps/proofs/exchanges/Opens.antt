@@ -5,7 +5,6 @@ use Rattle.std.specs.List.{list_any}
 use Rattle.std.proofs.lemmas.Bool.{eq-eqb, eqb-true, ltb-true, ne_eqb, and_parts}
 use Rattle.std.proofs.lemmas.Bool.Decides.{eqb_tells}
 use Rattle.model.specs.Http2.{first_block, passed_trailers}
-use Rattle.model.specs.Frames.{Frame}
 use Rattle.model.specs.Logs.{Output}
 use Rattle.model.specs.Logs.Act.{Open, ToUp}
 use Rattle.model.specs.Logs.Output.{Does as Puts}
@@ -109,13 +108,13 @@ debt_same : (b : Bool) (k : ℕ) (r : receiving.Row) → (if b then receiving.gi
 debt_same true k r = refl
 debt_same false k r = refl
 
-module _ (setup : Setup) (kept : View) (owed : List Frame) (fresh back stream route : ℕ) (text : List ℕ) (stage : Stage) where
+module _ (setup : Setup) (kept : View) (fresh back stream route : ℕ) (text : List ℕ) (stage : Stage) where
   -- what is pending before and behind it
   abbrev pub due_before : Pending
-  due_before = record square { owed = owed; due = ToOpen stream route text stage; fresh = fresh; shared = back }
+  due_before = record square { due = ToOpen stream route text stage; fresh = fresh; shared = back }
 
   abbrev pub due_behind : Pending
-  due_behind = record square { owed = owed; fresh = fresh; shared = back }
+  due_behind = record square { fresh = fresh; shared = back }
 
   -- the number of the connection
   abbrev pub number : ℕ
@@ -215,7 +214,7 @@ module _ (setup : Setup) (kept : View) (owed : List Frame) (fresh back stream ro
     may_one = (
       ap (λ (d : Desk). d.book.ends) desk_one ∙ leads.stands.goes_on,
       may_act setup (told_behind setup s first) s (Open number route) (ap (λ (b : Book). b.closed) leads.keeps.book)
-          (record { opens = sound.opens_next (own setup run s leads.stands leads.so) run s (own_led setup run s leads.stands leads.so) number route may_open; due = may_open; window = window }),
+          (record { nothing = leads.keeps.owed; opens = sound.opens_next (own setup run s leads.stands leads.so) run s (own_led setup run s leads.stands leads.so) number route may_open; due = may_open; window = window }),
     )
 
     stands_one : Stands setup (Does first ∷ run) one
@@ -252,6 +251,7 @@ module _ (setup : Setup) (kept : View) (owed : List Frame) (fresh back stream ro
     may_two = (
       ap (λ (d : Desk). d.book.ends) desk_two ∙ stands_one.goes_on,
       may_act setup (told_behind setup one second) one (ToUp number text) closed_one (record {
+        nothing = ap (λ (d : Desk). d.queue) desk_one ∙ leads.keeps.owed;
         due = ap (λ (r : serving.State). r.due) requests_one;
         window = record {
           opened = ap (λ (r : serving.State). is_some (serving.live_of number r.live)) requests_one ∙ ap (λ b. is_some (if b then Some new_live else serving.live_of number (lives kept.upstreams.live))) (eq-eqb number number refl);
@@ -510,13 +510,13 @@ module _ (kept : View) (stream route : ℕ) (text : List ℕ) (stage : Stage) (t
       ∙ sym puts_out
 
   -- The calls perform.
-  pub calls_perform : (setup : Setup) (owed : List Frame) (fresh back : ℕ) → IsPassedBy setup passing
-      → PerformsOwn setup kept (record square { owed = owed; due = ToOpen stream route text stage; fresh = fresh; shared = back }) before (record kept { upstreams = behind; marks = sides }) (record square { owed = owed; fresh = fresh; shared = back }) after
-  calls_perform setup owed fresh back passed run s leads =
-      subst (λ (u : upstreams.State). OwnSegment setup run s before (record kept { upstreams = u; marks = sides }) (record square { owed = owed; fresh = fresh; shared = back }) after) upstreams_are
-      (subst (λ (ms : List Side). OwnSegment setup run s before (record (opened_view setup kept owed fresh back stream route text stage run s leads to_head passing passed asks reads) { marks = ms }) (record square { owed = owed; fresh = fresh; shared = back }) after) (marks_are setup.passing passed.passing)
-      (subst (λ (o : List Output). OwnSegment setup run s before (opened_view setup kept owed fresh back stream route text stage run s leads to_head passing passed asks reads) (record square { owed = owed; fresh = fresh; shared = back }) o) outputs_are
-      (opened_performs setup kept owed fresh back stream route text stage run s leads to_head passing passed asks reads before)))
+  pub calls_perform : (setup : Setup) (fresh back : ℕ) → IsPassedBy setup passing
+      → PerformsOwn setup kept (record square { due = ToOpen stream route text stage; fresh = fresh; shared = back }) before (record kept { upstreams = behind; marks = sides }) (record square { fresh = fresh; shared = back }) after
+  calls_perform setup fresh back passed run s leads =
+      subst (λ (u : upstreams.State). OwnSegment setup run s before (record kept { upstreams = u; marks = sides }) (record square { fresh = fresh; shared = back }) after) upstreams_are
+      (subst (λ (ms : List Side). OwnSegment setup run s before (record (opened_view setup kept fresh back stream route text stage run s leads to_head passing passed asks reads) { marks = ms }) (record square { fresh = fresh; shared = back }) after) (marks_are setup.passing passed.passing)
+      (subst (λ (o : List Output). OwnSegment setup run s before (opened_view setup kept fresh back stream route text stage run s leads to_head passing passed asks reads) (record square { fresh = fresh; shared = back }) o) outputs_are
+      (opened_performs setup kept fresh back stream route text stage run s leads to_head passing passed asks reads before)))
 
 -- The new connection isn't done with, since its stream is served.
 pub opens_but : (kept : View) (stream k count : ℕ) (to_head : Bool) (passing : Passing) (stage : Stage) (middle behind : upstreams.State) (sides : List Side) → (told_view kept).served stream ≡ true

@@ -252,7 +252,7 @@ module _ (setup : Setup) (kept : View) (rest : IsAtRest kept) (run : List Move) 
         by : (b : Bool) → is_cut_then stream kept ≡ b → Course setup run s outputs entry (abandoned_if b k stream (answered_with k answer kept.offers kept)) (record square { shared = back_if b stream kept }) (put_abandoned b k stream outputs)
         by false is =
             subst (λ (cs : List Connection). Course setup run s outputs entry (record (closed_at k (replied_to stream kept)) { upstreams = record (closed_at k (replied_to stream kept)).upstreams { live = cs } }) square (put outputs (Does (Close k)))) (sym (without_answer k answer kept.upstreams.live))
-            (subst (λ (fs : List Frame). Course setup run s outputs entry (closed_at k (replied_to stream kept)) (record square { owed = fs }) (put outputs (Does (Close k)))) (owed false is) fails.closed)
+            (subst (λ (fs : List Frame). Course setup run s outputs entry (closed_at k (replied_to stream kept)) (record square { owed = fs }) (put outputs (Does (Close k)))) (owed false is) (fails.closed (owed false is)))
         by true is =
             course_own setup run s outputs outputs (put outputs (ToClient (spell (rst_stream stream internal_error)))) (replied_to stream (answered_with k answer kept.offers kept)) (reset_behind stream (replied_to stream (answered_with k answer kept.offers kept))) (record square { owed = rst_stream stream internal_error ∷ [] }) (record square { shared = waiting_for stream kept }) entry
             (subst (λ (fs : List Frame). Course setup run s outputs entry (replied_to stream (answered_with k answer kept.offers kept)) (record square { owed = fs }) outputs) (owed true is) (fails.opened (streams is) answer))

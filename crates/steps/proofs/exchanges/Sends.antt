@@ -2,7 +2,6 @@
 use Rattle.std.proofs.Common.{◌≡◌, ℕ, ◌+◌, ◌<◌, ◌^◌, false, ◌==◌, List, [], ◌∷◌, map, length, Option, Some, None, refl, sym, ◌∙◌, ap, subst, if◌then◌else◌}
 use Rattle.std.specs.Prelude.{is_some, option_map, IfSome}
 use Rattle.std.specs.List.{list_any}
-use Rattle.model.specs.Frames.{Frame}
 use Rattle.model.specs.Logs.{Output}
 use Rattle.model.specs.Logs.Act.{ToUp}
 use Rattle.model.specs.Logs.Output.{Does as Puts}
@@ -41,13 +40,13 @@ use Rattle.relay.proofs.Staying.{so_stays, heard_stays, heard_of_changed, rows_k
 use Rattle.steps.specs.Closings.{told_but, NoneDoneBut}
 use Rattle.relay.proofs.Where.{own, stands_here}
 
-module _ (setup : Setup) (kept : View) (owed : List Frame) (fresh back k : ℕ) (text : List ℕ) where
+module _ (setup : Setup) (kept : View) (fresh back k : ℕ) (text : List ℕ) where
   -- what is pending before and behind it
   abbrev pub due_before : Pending
-  due_before = record square { owed = owed; due = ToSend k text; fresh = fresh; shared = back }
+  due_before = record square { due = ToSend k text; fresh = fresh; shared = back }
 
   abbrev pub due_behind : Pending
-  due_behind = record square { owed = owed; fresh = fresh; shared = back }
+  due_behind = record square { fresh = fresh; shared = back }
 
   module _ (run : List Move) (s : State) (leads : Leads setup run kept due_before s) where
     abbrev deed : Deed
@@ -80,7 +79,7 @@ module _ (setup : Setup) (kept : View) (owed : List Frame) (fresh back k : ℕ) 
     may = (
       ap (λ (d : Desk). d.book.ends) desk ∙ leads.stands.goes_on,
       may_act setup (told_behind setup s deed) s (ToUp k text) (ap (λ (b : Book). b.closed) leads.keeps.book)
-          (record { due = due_is; window = record { opened = ap (λ (o : Option Live). is_some o) live_there.1; in_effect = λ streaming. leads.in_effect } }),
+          (record { nothing = leads.keeps.owed; due = due_is; window = record { opened = ap (λ (o : Option Live). is_some o) live_there.1; in_effect = λ streaming. leads.in_effect } }),
     )
 
     abbrev then_state : State
@@ -181,17 +180,17 @@ module _ (kept : View) (k stream count : ℕ) (text : List ℕ) (behind : upstre
     (of : IfSome (find number_of k kept.upstreams.live) (λ c. stream ≡ c.live.stream)) (is_count : count ≡ length text)
     (put_is : behind ≡ record kept.upstreams { live = map (put_at k count) kept.upstreams.live }) (sides_are : sides ≡ change stream (putting count) kept.marks) (puts_out : after ≡ put before (Puts (ToUp k text))) where
   -- The calls perform.
-  pub calls_send : (setup : Setup) (owed : List Frame) (fresh back : ℕ)
-      → PerformsOwn setup kept (record square { owed = owed; due = ToSend k text; fresh = fresh; shared = back }) before (record kept { upstreams = behind; marks = sides }) (record square { owed = owed; fresh = fresh; shared = back }) after
-  calls_send setup owed fresh back run s leads =
-      let there = open_there setup kept owed fresh back k text run s leads in
+  pub calls_send : (setup : Setup) (fresh back : ℕ)
+      → PerformsOwn setup kept (record square { due = ToSend k text; fresh = fresh; shared = back }) before (record kept { upstreams = behind; marks = sides }) (record square { fresh = fresh; shared = back }) after
+  calls_send setup fresh back run s leads =
+      let there = open_there setup kept fresh back k text run s leads in
       let own : stream ≡ there.0.live.stream = stream_is (find number_of k kept.upstreams.live) stream there.0 of there.1 in
-      subst (λ (u : upstreams.State). OwnSegment setup run s before (record kept { upstreams = u; marks = sides }) (record square { owed = owed; fresh = fresh; shared = back }) after)
+      subst (λ (u : upstreams.State). OwnSegment setup run s before (record kept { upstreams = u; marks = sides }) (record square { fresh = fresh; shared = back }) after)
       (ap (λ n. let u : upstreams.State = record kept.upstreams { live = map (put_at k n) kept.upstreams.live } in u) (sym is_count) ∙ sym put_is)
-      (subst (λ (ms : List Side). OwnSegment setup run s before (record kept { upstreams = record kept.upstreams { live = map (put_at k (length text)) kept.upstreams.live }; marks = ms }) (record square { owed = owed; fresh = fresh; shared = back }) after)
+      (subst (λ (ms : List Side). OwnSegment setup run s before (record kept { upstreams = record kept.upstreams { live = map (put_at k (length text)) kept.upstreams.live }; marks = ms }) (record square { fresh = fresh; shared = back }) after)
       (ap (λ n. change n (putting (length text)) kept.marks) (sym own) ∙ ap (λ n. change stream (putting n) kept.marks) (sym is_count) ∙ sym sides_are)
-      (subst (λ (o : List Output). OwnSegment setup run s before (sent_view setup kept owed fresh back k text run s leads) (record square { owed = owed; fresh = fresh; shared = back }) o) (sym puts_out)
-      (sent_performs setup kept owed fresh back k text run s leads before)))
+      (subst (λ (o : List Output). OwnSegment setup run s before (sent_view setup kept fresh back k text run s leads) (record square { fresh = fresh; shared = back }) o) (sym puts_out)
+      (sent_performs setup kept fresh back k text run s leads before)))
 
   -- No connection is done with that wasn't before.
   pub sends_but : (id : ℕ) → NoneDoneBut id kept → NoneDoneBut id (record kept { upstreams = behind; marks = sides })

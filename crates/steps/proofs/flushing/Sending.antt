@@ -337,7 +337,7 @@ module _ (setup : Setup) (run : List Move) (u : View) (id code : ℕ) (given : L
   reset_may = (
     refl,
     may_pay setup (told_behind setup before_reset (Sends reset_noted encoding_table)) before_reset reset_noted encoding_table (record {
-      between = record { open_yet = refl; none_begun = refl; nothing_due = refl; no_note = refl; not_to_open = active_closed u.inbound.rows id active };
+      between = record { open_yet = refl; none_begun = refl; before_due = inl refl; no_note = refl; not_to_open = active_closed u.inbound.rows id active };
       front = refl;
       control = refl;
     }),

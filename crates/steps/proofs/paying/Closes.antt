@@ -61,7 +61,7 @@ module _ (setup : Setup) (kept : View) (back k : ℕ) (done_is : (top : ℕ) →
     may : MayGoOn setup s (Does deed)
     may = (
       ap (λ (d : Desk). d.book.ends) desk ∙ ap (λ (b : Book). b.ends) leads.keeps.book,
-      may_act setup (told_behind setup s deed) s (Close k) (ap (λ (b : Book). b.closed) leads.keeps.book) may_close,
+      may_act setup (told_behind setup s deed) s (Close k) (ap (λ (b : Book). b.closed) leads.keeps.book) (record { nothing = leads.keeps.owed; may = may_close }),
     )
 
     abbrev then_state : State

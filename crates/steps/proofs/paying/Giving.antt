@@ -1,5 +1,5 @@
 -- Octets are given back: this performs.
-use Rattle.std.proofs.Common.{◌≡◌, ℕ, Bool, true, false, ◌&&◌, ◌||◌, ◌==◌, List, [], ◌∷◌, ◌++◌, Option, Some, None, refl, sym, ◌∙◌, ap, subst, if◌then◌else◌}
+use Rattle.std.proofs.Common.{◌≡◌, ℕ, Bool, true, false, ◌&&◌, ◌||◌, ◌==◌, List, [], ◌∷◌, ◌++◌, Option, Some, None, refl, sym, ◌∙◌, ap, subst, if◌then◌else◌, inl}
 use Rattle.model.specs.Frames.{Frame, Fits, spell, headers_kind, continuation_kind, rst_stream_kind, window_update_kind, has_flag}
 use Rattle.model.specs.Logs.{Output}
 use Rattle.model.specs.Logs.Output.{ToClient}
@@ -83,7 +83,7 @@ module _ (setup : Setup) (kept : View) (inbound : Inbound) (untaken : ℕ) (same
         between = record {
           open_yet = ap (λ (b : Book). b.closed) leads.keeps.book;
           none_begun = none_begun;
-          nothing_due = ap (λ (r : serving.State). r.due) leads.keeps.requests ∙ nothing_due;
+          before_due = inl (ap (λ (r : serving.State). r.due) leads.keeps.requests ∙ nothing_due);
           no_note = refl;
           not_to_open = is.not_to_open;
         };

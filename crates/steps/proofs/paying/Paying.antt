@@ -1,5 +1,5 @@
 -- A control frame that is owed next is sent: this performs.
-use Rattle.std.proofs.Common.{◌≡◌, ℕ, ◌+◌, Bool, true, false, not, ◌&&◌, ◌||◌, ◌==◌, List, [], ◌∷◌, ◌++◌, append-nil, length, Option, Some, None, Result, Ok, Err, OnOk, refl, sym, ◌∙◌, ap, subst, if◌then◌else◌, arith}
+use Rattle.std.proofs.Common.{◌≡◌, ℕ, ◌+◌, Bool, true, false, not, ◌&&◌, ◌||◌, ◌==◌, List, [], ◌∷◌, ◌++◌, append-nil, length, Option, Some, None, Result, Ok, Err, OnOk, refl, sym, ◌∙◌, ap, subst, inl, inr, if◌then◌else◌, arith}
 use Rattle.model.specs.Frames.{Frame, Fits, spell, continuation_kind, has_flag}
 use Rattle.model.specs.Logs.{Output}
 use Rattle.model.specs.Logs.Output.{ToClient}
@@ -18,7 +18,7 @@ use Rattle.offering.specs.State as offering
 use Rattle.offering.specs.Sight.{sight_in}
 use Rattle.receiving.specs.State as receiving
 use Rattle.serving.specs.State as serving
-use Rattle.serving.specs.State.Due.{Nothing}
+use Rattle.serving.specs.Rule.{MaySend}
 use Rattle.serving.specs.State.{find}
 use Rattle.tables.specs.State as tables
 use Rattle.judgement.specs.Inbound.{book_of}
@@ -39,7 +39,7 @@ use Rattle.relay.specs.View.{View, Pending, Keeps, AreMarked, IsInEffect, Leads,
 use Rattle.relay.specs.Bringing.{PerformsOwn}
 use Rattle.steps.proofs.paying.Held.{all_kept}
 use Rattle.relay.proofs.Staying.{so_stays, heard_stays, rows_kept, all_held_served}
-use Rattle.steps.specs.paying.Controls.{frame_of, IsShort}
+use Rattle.steps.specs.paying.Controls.{frame_of, IsShort, MayPay}
 use Rattle.steps.specs.declared.paying.control.Control.{Control}
 use Rattle.steps.specs.declared.paying.control.Control.TheVariants as control
 use Rattle.relay.proofs.Marking.{rooms_next, marked_sent}
@@ -51,7 +51,7 @@ completes_none before frame c =
     ap (λ b. if (b || frame.kind == continuation_kind) && has_flag 4 frame then joined before frame else None) c.no_headers
     ∙ ap (λ b. if b && has_flag 4 frame then joined before frame else None) c.no_continuation
 
-module _ (setup : Setup) (kept : View) (pending : Pending) (rest : List Frame) (frame : Frame) (control : IsControl frame) (of_connection : frame.id ≡ 0) (fits : Fits frame) (front : pending.owed ≡ frame ∷ rest) (nothing_due : pending.due ≡ Nothing) (outputs : List Output) where
+module _ (setup : Setup) (kept : View) (pending : Pending) (rest : List Frame) (frame : Frame) (control : IsControl frame) (of_connection : frame.id ≡ 0) (fits : Fits frame) (front : pending.owed ≡ frame ∷ rest) (may_pay_it : MayPay pending.due frame) (outputs : List Output) where
   -- what is kept then, and what is pending
   abbrev pub paid_view : View
   paid_view = record kept { untaken = kept.untaken + length (spell frame) }
@@ -88,6 +88,10 @@ module _ (setup : Setup) (kept : View) (pending : Pending) (rest : List Frame) (
     told : told_behind setup s deed ≡ summary_in (paid_of book frame)
     told = ap (λ (d : Desk). summary_in d.book) desk
 
+    -- nothing is due before it, unless it is a farewell
+    before_due : MaySend s.requests (noted_of frame)
+    before_due = elim may_pay_it [ inl nothing ↦ inl (ap (λ (r : serving.State). r.due) leads.keeps.requests ∙ nothing) | inr farewell ↦ inr farewell ]
+
     may : MayGoOn setup s (Does deed)
     may = (
       ap (λ (d : Desk). d.book.ends) desk ∙ goes_on,
@@ -95,7 +99,7 @@ module _ (setup : Setup) (kept : View) (pending : Pending) (rest : List Frame) (
         between = record {
           open_yet = open_yet;
           none_begun = none_begun;
-          nothing_due = ap (λ (r : serving.State). r.due) leads.keeps.requests ∙ nothing_due;
+          before_due = before_due;
           no_note = refl;
           not_to_open = ap (λ n. may_open (told_by s).opened n) of_connection;
         };
@@ -171,7 +175,7 @@ module _ (setup : Setup) (kept : View) (pending : Pending) (rest : List Frame) (
       heard = heard_stays setup run s leads.stands leads.so kept.upstreams.live (ap (λ (r : serving.State). r.live) leads.keeps.requests) deed tt leads.heard;
       keeps = keeps;
       marked = marked;
-      in_effect = subst (λ (d : serving.Due). IsInEffect d then_state.windows.settled) (sym nothing_due) tt;
+      in_effect = subst (λ (w : receiving.Kept). IsInEffect pending.due w.settled) (sym windows_kept) leads.in_effect;
     }
 
   -- A frame that is owed is sent, and then it is owed no more.
@@ -208,9 +212,9 @@ all_fit (control.PingAck octets) short = record { kind = omega arith; flags = om
 all_fit (control.Farewell last code) short = record { kind = omega arith; flags = omega arith; id = omega arith; payload = omega arith }
 
 -- So what code does when it pays performs.
-pub pays_control : (setup : Setup) (kept : View) (pending : Pending) (rest : List Frame) (frame : Control) → IsShort frame → pending.owed ≡ frame_of frame ∷ rest → pending.due ≡ Nothing → (outputs : List Output)
+pub pays_control : (setup : Setup) (kept : View) (pending : Pending) (rest : List Frame) (frame : Control) → IsShort frame → pending.owed ≡ frame_of frame ∷ rest → MayPay pending.due (frame_of frame) → (outputs : List Output)
     → PerformsOwn setup kept pending outputs (record kept { untaken = kept.untaken + length (spell (frame_of frame)) }) (record pending { owed = rest }) (put outputs (ToClient (spell (frame_of frame))))
-pays_control setup kept pending rest frame short front nothing_due outputs = pays setup kept pending rest (frame_of frame) (is_control frame) (on_connection frame) (all_fit frame short) front nothing_due outputs
+pays_control setup kept pending rest frame short front may outputs = pays setup kept pending rest (frame_of frame) (is_control frame) (on_connection frame) (all_fit frame short) front may outputs
 
 -- What is promised where something succeeds may be said in other words.
 pub on_ok : {T : Type 0} {E : Type 0} {A : Type 0} {B : Type 0} (r : Result T E) → (A → B) → OnOk r A → OnOk r B

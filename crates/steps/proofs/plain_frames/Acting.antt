@@ -1,5 +1,5 @@
 -- What is done by the judgement's answer is right of the frame.
-use Rattle.std.proofs.Common.{◌≡◌, ℕ, ◌<◌, ◌≤◌, Bool, true, false, not, ◌&&◌, ◌||◌, ◌==◌, if◌then◌else◌, List, [], ◌∷◌, ◌++◌, length, Option, Some, None, refl, sym, ◌∙◌, ap, subst, arith}
+use Rattle.std.proofs.Common.{◌≡◌, ℕ, ◌<◌, ◌≤◌, Bool, true, false, not, ◌&&◌, ◌||◌, ◌==◌, if◌then◌else◌, List, [], ◌∷◌, ◌++◌, length, Option, Some, None, refl, sym, ◌∙◌, ap, subst, arith, inl}
 use Rattle.std.proofs.lemmas.Bool.{and_parts, eqb-true}
 use Rattle.std.specs.Prelude.{is_none, option_map}
 use Rattle.model.specs.Frames.{Frame, Fits, data_kind, rst_stream_kind, window_update_kind, settings_kind, ping_kind, settings_ack, enhance_your_calm, is_ack, content, ends_stream, flow_control_error}
@@ -205,7 +205,7 @@ module _ (setup : Setup) (old : View) (rest : IsAtRest old) (setup' : Setup) (re
       finish Nothing 0 given outputs put_out put_out new new paid.goes refl refl
       (brings_then setup old (record mid { encoding = encoding }) new square (record square { owed = owed ∷ []; fresh = data_length is_any frame }) (record square { fresh = data_length is_any frame }) outputs outputs put_out (coming frame)
       (quiet setup old rest frame plain inbound table answer taken (ap (λ k. k == data_kind) is ∙ no_data) (ap (λ k. k == rst_stream_kind) is ∙ no_reset) (owed ∷ []) encoding owes encodes adds outputs)
-      (paid.performs setup [] (record square { owed = owed ∷ []; fresh = data_length is_any frame }) refl refl))
+      (paid.performs setup [] (record square { owed = owed ∷ []; fresh = data_length is_any frame }) refl (inl refl)))
       (subst (λ (v : View). NoneCut v.offers) (sym paid.kept) rest.none_cut)
       (subst (λ (v : View). IsAbout frame.id old v) (sym paid.kept) (let about = about_left (taken no_outside).left (ap is_fatal (taken no_outside).faultless) in record { served = about.served; live = about.live }))
       (ap (λ (v : View). ids_of v.inbound.rows) paid.kept ∙ ids_left (taken no_outside).left)

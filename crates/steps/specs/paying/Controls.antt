@@ -1,7 +1,9 @@
 -- Control frames that are owed.
-use Rattle.std.specs.Prelude.{◌≤◌, length}
-use Rattle.model.specs.Frames.{Frame, settings_frame, settings_ack, goaway}
+use Rattle.std.specs.Prelude.{◌≡◌, ◌≤◌, ◌⊎◌, length}
+use Rattle.model.specs.Frames.{Frame, goaway_kind, settings_frame, settings_ack, goaway}
 use Rattle.model.specs.ErrorClause.{ping_ack}
+use Rattle.serving.specs.State.{Due}
+use Rattle.serving.specs.State.Due.{Nothing}
 use Rattle.steps.specs.declared.paying.control.Control.{Control}
 use Rattle.steps.specs.declared.paying.control.Control.TheVariants as control
 
@@ -11,6 +13,10 @@ frame_of control.Settings = settings_frame
 frame_of control.SettingsAck = settings_ack
 frame_of (control.PingAck octets) = ping_ack octets.now
 frame_of (control.Farewell last code) = goaway last code
+
+-- It may be sent: nothing is due to an upstream, or it is a farewell, which goes before that (RFC 9113, section 6.8).
+abbrev pub MayPay : Due → Frame → Type 0
+MayPay due frame = (due ≡ Nothing) ⊎ (frame.kind ≡ goaway_kind)
 
 -- The octets of a PING are no more than a frame may have.
 abbrev pub IsShort : Control → Type 0

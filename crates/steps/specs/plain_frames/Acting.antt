@@ -13,6 +13,7 @@ use Rattle.conduct.specs.Rows.Slot.{Over}
 use Rattle.offering.specs.State.{change, answered}
 use Rattle.serving.specs.State.{Due, id_of, held_of, without}
 use Rattle.serving.specs.State.Due.{Nothing}
+use Rattle.steps.specs.paying.Controls.{MayPay}
 use Rattle.settings.specs.declared.Change.{Change}
 use Rattle.streams_kept.specs.Asked.{is_active, changed}
 use Rattle.judgement.specs.declared.answers.Fault.TheVariants as fault
@@ -48,7 +49,7 @@ pub record IsLeft (old : View) (outputs : List Output) (answer : Taken) (new : V
 -- A control frame that is owed was sent.
 pub record IsPaid (frame : Frame) (old : View) (outputs : List Output) (answer : Taken) (new : View) (put_out : List Output) : Type 0 where
   pub goes : Goes Nothing 0 answer
-  pub performs : (setup : Setup) (rest : List Frame) (pending : Pending) → pending.owed ≡ frame ∷ rest → pending.due ≡ Nothing → PerformsOwn setup old pending outputs new (record pending { owed = rest }) put_out
+  pub performs : (setup : Setup) (rest : List Frame) (pending : Pending) → pending.owed ≡ frame ∷ rest → MayPay pending.due frame → PerformsOwn setup old pending outputs new (record pending { owed = rest }) put_out
   pub kept : new ≡ record old { untaken = old.untaken + length (spell frame) }
 
 -- The reset of a stream was sent, of which nothing is kept any more.

@@ -1,7 +1,6 @@
 //! The connection that is due is opened, or what is due is sent on one that is open.
 
-ghost use Rattle.std.specs.Prelude.{◌≡◌, ℕ, List, codes, OnOk};
-ghost use Rattle.model.specs.Frames.{Frame};
+ghost use Rattle.std.specs.Prelude.{◌≡◌, ℕ, codes, OnOk};
 ghost use Rattle.model.specs.Causes.{is_front_of};
 ghost use Rattle.model.specs.Setup.{Setup};
 ghost use Rattle.serving.specs.State.Due.{ToSend};
@@ -51,16 +50,16 @@ fn begin_counting(
     }
 }
 
-/// Opens the connection that is due for a request, by its route, and sends there what is written of it. Its response is passed on as the request
-/// is. An `Err` says that memory was refused; then the rooms and the outputs are of no use any more.
+/// Opens the connection that is due for a request, by its route, and sends there what is written of it, where no frame is owed. Its response is passed
+/// on as the request is. An `Err` says that memory was refused; then the rooms and the outputs are of no use any more.
 pub fn open(
     rooms: &mut Rooms,
     request: Outgoing,
     passing: Passing,
     out: &mut Outputs,
 ) -> Result<(), AllocError>
-    requires reached { (setup : Setup) × IsPassedBy setup passing × (owed : List Frame) × (fresh back : ℕ) × Reached setup rooms.old (record square { owed = owed; due = due_for request; fresh = fresh; shared = back }) }
-    ensures performs { OnOk result ((setup : Setup) (owed : List Frame) (fresh back : ℕ) → IsPassedBy setup passing → PerformsOwn setup rooms.old (record square { owed = owed; due = due_for request; fresh = fresh; shared = back }) out.old rooms.new (record square { owed = owed; fresh = fresh; shared = back }) out.new) }
+    requires reached { (setup : Setup) × IsPassedBy setup passing × (fresh back : ℕ) × Reached setup rooms.old (record square { due = due_for request; fresh = fresh; shared = back }) }
+    ensures performs { OnOk result ((setup : Setup) (fresh back : ℕ) → IsPassedBy setup passing → PerformsOwn setup rooms.old (record square { due = due_for request; fresh = fresh; shared = back }) out.old rooms.new (record square { fresh = fresh; shared = back }) out.new) }
     ensures stays { OnOk result ((rooms.new.inbound ≡ rooms.old.inbound) × (rooms.new.offers ≡ rooms.old.offers) × (rooms.new.encoding ≡ rooms.old.encoding) × (rooms.new.untaken ≡ rooms.old.untaken)) }
     ensures none_but { OnOk result ((id : ℕ) → NoneDoneBut id rooms.old → NoneDoneBut id rooms.new) }
 {
@@ -79,7 +78,7 @@ pub fn open(
     out.send_up(k, text)
 }
 
-/// Sends octets that are due on the open connection with this number. An `Err` says that memory was refused; then the rooms and the outputs are of
+/// Sends octets that are due on the open connection with this number, where no frame is owed. An `Err` says that memory was refused; then the rooms and the outputs are of
 /// no use any more.
 pub fn send(
     rooms: &mut Rooms,
@@ -87,8 +86,8 @@ pub fn send(
     text: Vec<u8>,
     out: &mut Outputs,
 ) -> Result<(), AllocError>
-    requires reached { (setup : Setup) × (owed : List Frame) × (fresh back : ℕ) × Reached setup rooms.old (record square { owed = owed; due = ToSend number text.items; fresh = fresh; shared = back }) }
-    ensures performs { OnOk result ((setup : Setup) (owed : List Frame) (fresh back : ℕ) → PerformsOwn setup rooms.old (record square { owed = owed; due = ToSend number text.items; fresh = fresh; shared = back }) out.old rooms.new (record square { owed = owed; fresh = fresh; shared = back }) out.new) }
+    requires reached { (setup : Setup) × (fresh back : ℕ) × Reached setup rooms.old (record square { due = ToSend number text.items; fresh = fresh; shared = back }) }
+    ensures performs { OnOk result ((setup : Setup) (fresh back : ℕ) → PerformsOwn setup rooms.old (record square { due = ToSend number text.items; fresh = fresh; shared = back }) out.old rooms.new (record square { fresh = fresh; shared = back }) out.new) }
     ensures stays { OnOk result ((rooms.new.inbound ≡ rooms.old.inbound) × (rooms.new.offers ≡ rooms.old.offers) × (rooms.new.encoding ≡ rooms.old.encoding) × (rooms.new.untaken ≡ rooms.old.untaken)) }
     ensures none_but { OnOk result ((id : ℕ) → NoneDoneBut id rooms.old → NoneDoneBut id rooms.new) }
 {

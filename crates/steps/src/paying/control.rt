@@ -5,10 +5,9 @@ ghost use Rattle.model.specs.Frames.{Frame, spell};
 ghost use Rattle.model.specs.Setup.{Setup};
 ghost use Rattle.model.specs.Logs.Output.{ToClient};
 ghost use Rattle.model.specs.Tapes.{put};
-ghost use Rattle.serving.specs.State.Due.{Nothing};
 ghost use Rattle.relay.specs.View.{Pending};
 ghost use Rattle.relay.specs.Bringing.{PerformsOwn};
-ghost use Rattle.steps.specs.paying.Controls.{frame_of, IsShort};
+ghost use Rattle.steps.specs.paying.Controls.{frame_of, IsShort, MayPay};
 
 use crate::paying::counting::count_untaken;
 use outputs::Outputs;
@@ -59,10 +58,10 @@ fn put_out(control: Control<'_>, out: &mut Outputs) -> Result<(), AllocError>
     }
 }
 
-/// Sends a control frame that is owed next. An `Err` says that memory was refused; then neither the rooms nor the outputs are of use any more.
+/// Sends a control frame that is owed next, where nothing is due to an upstream; a farewell goes before that. An `Err` says that memory was refused; then neither the rooms nor the outputs are of use any more.
 pub fn pay(rooms: &mut Rooms, control: Control<'_>, out: &mut Outputs) -> Result<(), AllocError>
     requires short { IsShort control }
-    ensures performs { OnOk result ((setup : Setup) (rest : List Frame) (pending : Pending) → pending.owed ≡ frame_of control.entry ∷ rest → pending.due ≡ Nothing → PerformsOwn setup rooms.old pending out.old rooms.new (record pending { owed = rest }) out.new) }
+    ensures performs { OnOk result ((setup : Setup) (rest : List Frame) (pending : Pending) → pending.owed ≡ frame_of control.entry ∷ rest → MayPay pending.due (frame_of control.entry) → PerformsOwn setup rooms.old pending out.old rooms.new (record pending { owed = rest }) out.new) }
     ensures puts { OnOk result (out.new ≡ put out.old (ToClient (spell (frame_of control.entry)))) }
     ensures counts { OnOk result (rooms.new ≡ record rooms.old { untaken = rooms.old.untaken + length (spell (frame_of control.entry)) }) }
 {

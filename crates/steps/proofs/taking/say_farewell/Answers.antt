@@ -1,7 +1,6 @@
-use Rattle.std.proofs.Common.{ℕ, [], ◌∷◌, Option, refl, sym, subst}
+use Rattle.std.proofs.Common.{ℕ, [], ◌∷◌, Option, refl, sym, subst, inr}
 use Rattle.model.specs.Frames.{goaway, no_error}
 use Rattle.relay.specs.View.{square}
-use Rattle.relay.specs.Rest.{back_of}
 use Rattle.relay.specs.Bringing.{PerformsOwn}
 use Rattle.relay.proofs.Bringing.{own_none}
 use Rattle.steps.specs.block_frames.Following.{farewell_frames}
@@ -11,10 +10,11 @@ use Rattle.steps.proofs.taking.say_farewell.Goals as goal
 pub returns-in-Some-clause-performs : goal.returns-in-Some-clause-performs
 returns-in-Some-clause-performs c =
     on_ok c.pay.result
-    (λ performs setup back.
-    subst (λ (last : Option ℕ). PerformsOwn setup c.args.rooms.now (record square { owed = farewell_frames last; shared = back }) c.args.out.now c.pay.new.rooms (back_of back) c.pay.new.out) (sym c.in-Some.is)
-    (performs setup [] (record square { owed = goaway c.in-Some.last no_error ∷ []; shared = back }) refl refl)) c.pay.ensures.performs
+    (λ performs setup due back.
+    subst (λ (last : Option ℕ). PerformsOwn setup c.args.rooms.now (record square { owed = farewell_frames last; due = due; shared = back }) c.args.out.now c.pay.new.rooms (record square { due = due; shared = back }) c.pay.new.out) (sym c.in-Some.is)
+    (performs setup [] (record square { owed = goaway c.in-Some.last no_error ∷ []; due = due; shared = back }) refl (inr refl))) c.pay.ensures.performs
 
 pub returns-in-None-clause-performs : goal.returns-in-None-clause-performs
-returns-in-None-clause-performs c setup back =
-    subst (λ (last : Option ℕ). PerformsOwn setup c.args.rooms.now (record square { owed = farewell_frames last; shared = back }) c.args.out.now c.args.rooms.now (back_of back) c.args.out.now) (sym c.in-None.is) (own_none setup c.args.rooms.now (back_of back) c.args.out.now)
+returns-in-None-clause-performs c setup due back =
+    subst (λ (last : Option ℕ). PerformsOwn setup c.args.rooms.now (record square { owed = farewell_frames last; due = due; shared = back }) c.args.out.now c.args.rooms.now (record square { due = due; shared = back }) c.args.out.now) (sym c.in-None.is)
+    (own_none setup c.args.rooms.now (record square { due = due; shared = back }) c.args.out.now)

@@ -9,23 +9,23 @@ use Rattle.steps.proofs.Results.{on_ok}
 use Rattle.steps.proofs.taking.serve.Goals as goal
 
 pub returns-in-Nothing-clause-performs : goal.returns-in-Nothing-clause-performs
-returns-in-Nothing-clause-performs c setup owed fresh back passed =
-    subst (λ (d : Due). PerformsOwn setup c.args.rooms.now (record square { owed = owed; due = due_by d; fresh = fresh; shared = back }) c.args.out.now c.args.rooms.now (record square { owed = owed; fresh = fresh; shared = back }) c.args.out.now) (sym c.in-Nothing.is)
-    (own_none setup c.args.rooms.now (record square { owed = owed; fresh = fresh; shared = back }) c.args.out.now)
+returns-in-Nothing-clause-performs c setup fresh back passed =
+    subst (λ (d : Due). PerformsOwn setup c.args.rooms.now (record square { due = due_by d; fresh = fresh; shared = back }) c.args.out.now c.args.rooms.now (record square { fresh = fresh; shared = back }) c.args.out.now) (sym c.in-Nothing.is)
+    (own_none setup c.args.rooms.now (record square { fresh = fresh; shared = back }) c.args.out.now)
 
 pub open-requires : goal.open-requires
 open-requires c =
     let r = c.requires.reached in
-    record { reached = (r.0, r.1, r.2, r.3, r.4, subst (λ (d : Due). Reached r.0 c.args.rooms.now (record square { owed = r.2; due = due_by d; fresh = r.3; shared = r.4 })) c.in-ToOpen.is r.5) }
+    record { reached = (r.0, r.1, r.2, r.3, subst (λ (d : Due). Reached r.0 c.args.rooms.now (record square { due = due_by d; fresh = r.2; shared = r.3 })) c.in-ToOpen.is r.4) }
 
 pub returns-in-ToOpen-clause-performs : goal.returns-in-ToOpen-clause-performs
 returns-in-ToOpen-clause-performs c =
     on_ok c.open.result
-    (λ performs setup owed fresh back passed.
-    subst (λ (d : Due). PerformsOwn setup c.args.rooms.now (record square { owed = owed; due = due_by d; fresh = fresh; shared = back }) c.args.out.now c.open.new.rooms (record square { owed = owed; fresh = fresh; shared = back }) c.open.new.out) (sym c.in-ToOpen.is) (performs setup owed fresh back passed)) c.open.ensures.performs
+    (λ performs setup fresh back passed.
+    subst (λ (d : Due). PerformsOwn setup c.args.rooms.now (record square { due = due_by d; fresh = fresh; shared = back }) c.args.out.now c.open.new.rooms (record square { fresh = fresh; shared = back }) c.open.new.out) (sym c.in-ToOpen.is) (performs setup fresh back passed)) c.open.ensures.performs
 
 pub returns-in-ToSend-clause-performs : goal.returns-in-ToSend-clause-performs
 returns-in-ToSend-clause-performs c =
     on_ok c.send.result
-    (λ performs setup owed fresh back passed.
-    subst (λ (d : Due). PerformsOwn setup c.args.rooms.now (record square { owed = owed; due = due_by d; fresh = fresh; shared = back }) c.args.out.now c.send.new.rooms (record square { owed = owed; fresh = fresh; shared = back }) c.send.new.out) (sym c.in-ToSend.is) (performs setup owed fresh back)) c.send.ensures.performs
+    (λ performs setup fresh back passed.
+    subst (λ (d : Due). PerformsOwn setup c.args.rooms.now (record square { due = due_by d; fresh = fresh; shared = back }) c.args.out.now c.send.new.rooms (record square { fresh = fresh; shared = back }) c.send.new.out) (sym c.in-ToSend.is) (performs setup fresh back)) c.send.ensures.performs

@@ -11,7 +11,6 @@ use Rattle.streams_kept.specs.Asked.{has}
 use Rattle.streams_kept.specs.Sending.{is_served}
 use Rattle.upstreams.specs.Kept.{State}
 use Rattle.upstreams.specs.Connections.{lives}
-use Rattle.steps.specs.block_frames.Following.{farewell_frames}
 use Rattle.relay.specs.View.{square}
 use Rattle.relay.specs.Rest.{NoneCut, back_of}
 use Rattle.relay.proofs.Bringing.{brings_then}
@@ -19,7 +18,7 @@ use Rattle.steps.specs.Inputs.Input.{OfFrame}
 use Rattle.steps.specs.Resting.{now_of, IsPassedBy}
 use Rattle.steps.proofs.Closings.{about_but, but_stays}
 use Rattle.steps.proofs.Following.{comes_then}
-use Rattle.steps.proofs.Frames.{numbered_with, block_goes, block_ends, block_brings, fatal_comes}
+use Rattle.steps.proofs.Frames.{numbered_with, block_goes, block_ends, farewell_brings, block_brings, fatal_comes}
 use Rattle.steps.proofs.Results.{if_ok}
 use Rattle.steps.proofs.taking.take_fragment.Goals as goal
 
@@ -32,8 +31,10 @@ serve-requires c =
     let before = c.requires.reached in
     let passed =
     block_goes before.0 c.args.rooms.now c.take_block.new.rooms c.args.out.now c.take_block.new.out (frame_of c.args.view) c.in_ok-code.field-0 c.in-Goes.due c.in-Goes.farewell c.in-Goes.dropped c.in-Goes.is (c.in_ok-code.ensures before.0 before.1.terms (streams_so before.0 c.args.service.passing c.is_streaming-at_once.result before.1.passing c.is_streaming-at_once.ensures)) in
-    let here = passed.brings before.2.0 before.2.1 before.2.2 in
-    record { reached = (before.0, before.1.passing, farewell_frames c.in-Goes.farewell, 0, c.in-Goes.dropped, (_, here.segment.state, here.segment.leads)) }
+    let here =
+    farewell_brings before.0 c.args.rooms.now c.take_block.new.rooms c.say_farewell.new.rooms c.args.out.now c.take_block.new.out c.say_farewell.new.out (frame_of c.args.view) c.in-Goes.due c.in-Goes.farewell c.in-Goes.dropped passed
+    (λ due back. c.in_ok-say_farewell-in-Goes.ensures.performs before.0 due back) before.2.0 before.2.1 before.2.2 in
+    record { reached = (before.0, before.1.passing, 0, c.in-Goes.dropped, (_, here.segment.state, here.segment.leads)) }
 
 pub return_dropped-requires : goal.return_dropped-requires
 return_dropped-requires c =
@@ -41,8 +42,8 @@ return_dropped-requires c =
     let passed =
     block_goes before.0 c.args.rooms.now c.take_block.new.rooms c.args.out.now c.take_block.new.out (frame_of c.args.view) c.in_ok-code.field-0 c.in-Goes.due c.in-Goes.farewell c.in-Goes.dropped c.in-Goes.is (c.in_ok-code.ensures before.0 before.1.terms (streams_so before.0 c.args.service.passing c.is_streaming-at_once.result before.1.passing c.is_streaming-at_once.ensures)) in
     let here =
-    block_brings before.0 c.args.rooms.now c.take_block.new.rooms c.serve.new.rooms c.say_farewell.new.rooms c.args.out.now c.take_block.new.out c.serve.new.out c.say_farewell.new.out (frame_of c.args.view) c.in-Goes.due c.in-Goes.farewell c.in-Goes.dropped passed
-    (λ owed n back. c.in_ok-serve-in-Goes.ensures.performs before.0 owed n back before.1.passing) (λ back. c.in_ok-say_farewell-in-Goes.ensures.performs before.0 back) before.2.0 before.2.1 before.2.2 in
+    block_brings before.0 c.args.rooms.now c.take_block.new.rooms c.say_farewell.new.rooms c.serve.new.rooms c.args.out.now c.take_block.new.out c.say_farewell.new.out c.serve.new.out (frame_of c.args.view) c.in-Goes.due c.in-Goes.farewell c.in-Goes.dropped passed
+    (λ due back. c.in_ok-say_farewell-in-Goes.ensures.performs before.0 due back) (λ n back. c.in_ok-serve-in-Goes.ensures.performs before.0 n back before.1.passing) before.2.0 before.2.1 before.2.2 in
     record { reached = (before.0, (_, here.segment.state, here.segment.leads)) }
 
 pub rest_behind-requires-clause-reached : goal.rest_behind-requires-clause-reached
@@ -51,8 +52,8 @@ rest_behind-requires-clause-reached c =
     let passed =
     block_goes before.0 c.args.rooms.now c.take_block.new.rooms c.args.out.now c.take_block.new.out (frame_of c.args.view) c.in_ok-code.field-0 c.in-Goes.due c.in-Goes.farewell c.in-Goes.dropped c.in-Goes.is (c.in_ok-code.ensures before.0 before.1.terms (streams_so before.0 c.args.service.passing c.is_streaming-at_once.result before.1.passing c.is_streaming-at_once.ensures)) in
     let here =
-    block_brings before.0 c.args.rooms.now c.take_block.new.rooms c.serve.new.rooms c.say_farewell.new.rooms c.args.out.now c.take_block.new.out c.serve.new.out c.say_farewell.new.out (frame_of c.args.view) c.in-Goes.due c.in-Goes.farewell c.in-Goes.dropped passed
-    (λ owed n back. c.in_ok-serve-in-Goes.ensures.performs before.0 owed n back before.1.passing) (λ back. c.in_ok-say_farewell-in-Goes.ensures.performs before.0 back) before.2.0 before.2.1 before.2.2 in
+    block_brings before.0 c.args.rooms.now c.take_block.new.rooms c.say_farewell.new.rooms c.serve.new.rooms c.args.out.now c.take_block.new.out c.say_farewell.new.out c.serve.new.out (frame_of c.args.view) c.in-Goes.due c.in-Goes.farewell c.in-Goes.dropped passed
+    (λ due back. c.in_ok-say_farewell-in-Goes.ensures.performs before.0 due back) (λ n back. c.in_ok-serve-in-Goes.ensures.performs before.0 n back before.1.passing) before.2.0 before.2.1 before.2.2 in
     let returned = c.in_ok-return_dropped-in-Goes.ensures.performs in
     let there = returned.2 before.0 _ here.segment.state here.segment.leads in
     (before.0, returned.0, returned.1, (_, there.segment.state, there.segment.leads))
@@ -62,16 +63,17 @@ rest_behind-requires-clause-none_cut c =
     let before = c.requires.reached in
     let passed =
     block_goes before.0 c.args.rooms.now c.take_block.new.rooms c.args.out.now c.take_block.new.out (frame_of c.args.view) c.in_ok-code.field-0 c.in-Goes.due c.in-Goes.farewell c.in-Goes.dropped c.in-Goes.is (c.in_ok-code.ensures before.0 before.1.terms (streams_so before.0 c.args.service.passing c.is_streaming-at_once.result before.1.passing c.is_streaming-at_once.ensures)) in
-    subst (λ (o : offering.State). NoneCut o) (sym (c.in_ok-return_dropped-in-Goes.ensures.stays.offers ∙ c.in_ok-say_farewell-in-Goes.ensures.stays.1 ∙ c.in_ok-serve-in-Goes.ensures.stays.1)) passed.none_cut
+    subst (λ (o : offering.State). NoneCut o) (sym (c.in_ok-return_dropped-in-Goes.ensures.stays.offers ∙ c.in_ok-serve-in-Goes.ensures.stays.1 ∙ c.in_ok-say_farewell-in-Goes.ensures.stays.1)) passed.none_cut
 
 pub rest_behind-requires-clause-none_but : goal.rest_behind-requires-clause-none_but
 rest_behind-requires-clause-none_but c =
     let before = c.requires.reached in
     let passed =
     block_goes before.0 c.args.rooms.now c.take_block.new.rooms c.args.out.now c.take_block.new.out (frame_of c.args.view) c.in_ok-code.field-0 c.in-Goes.due c.in-Goes.farewell c.in-Goes.dropped c.in-Goes.is (c.in_ok-code.ensures before.0 before.1.terms (streams_so before.0 c.args.service.passing c.is_streaming-at_once.result before.1.passing c.is_streaming-at_once.ensures)) in
-    but_stays c.args.view.id c.say_farewell.new.rooms c.return_dropped.new.rooms c.in_ok-return_dropped-in-Goes.ensures.stays.served (ap (λ (u : State). lives u.live) c.in_ok-return_dropped-in-Goes.ensures.stays.upstreams)
-    (but_stays c.args.view.id c.serve.new.rooms c.say_farewell.new.rooms (λ stream. ap (λ (i : Inbound). is_served i.rows stream) c.in_ok-say_farewell-in-Goes.ensures.stays.0) (ap (λ (u : State). lives u.live) c.in_ok-say_farewell-in-Goes.ensures.upstreams)
-    (c.in_ok-serve-in-Goes.ensures.none_but c.args.view.id (about_but c.args.view.id c.args.rooms.now c.take_block.new.rooms passed.about c.requires.settled.rest.none_done)))
+    but_stays c.args.view.id c.serve.new.rooms c.return_dropped.new.rooms c.in_ok-return_dropped-in-Goes.ensures.stays.served (ap (λ (u : State). lives u.live) c.in_ok-return_dropped-in-Goes.ensures.stays.upstreams)
+    (c.in_ok-serve-in-Goes.ensures.none_but c.args.view.id
+    (but_stays c.args.view.id c.take_block.new.rooms c.say_farewell.new.rooms (λ stream. ap (λ (i : Inbound). is_served i.rows stream) c.in_ok-say_farewell-in-Goes.ensures.stays.0) (ap (λ (u : State). lives u.live) c.in_ok-say_farewell-in-Goes.ensures.upstreams)
+    (about_but c.args.view.id c.args.rooms.now c.take_block.new.rooms passed.about c.requires.settled.rest.none_done)))
 
 pub rest_behind-requires-clause-numbered : goal.rest_behind-requires-clause-numbered
 rest_behind-requires-clause-numbered c id kept =
@@ -79,7 +81,7 @@ rest_behind-requires-clause-numbered c id kept =
     let passed =
     block_goes before.0 c.args.rooms.now c.take_block.new.rooms c.args.out.now c.take_block.new.out (frame_of c.args.view) c.in_ok-code.field-0 c.in-Goes.due c.in-Goes.farewell c.in-Goes.dropped c.in-Goes.is (c.in_ok-code.ensures before.0 before.1.terms (streams_so before.0 c.args.service.passing c.is_streaming-at_once.result before.1.passing c.is_streaming-at_once.ensures)) in
     numbered_with c.args.rooms.now c.take_block.new.rooms c.args.view.id passed.ids c.requires.of_stream c.requires.settled.numbered id
-    (subst (λ (i : Inbound). has i.rows id ≡ true) (c.in_ok-say_farewell-in-Goes.ensures.stays.0 ∙ c.in_ok-serve-in-Goes.ensures.stays.0) (sym (c.in_ok-return_dropped-in-Goes.ensures.stays.opened id) ∙ kept))
+    (subst (λ (i : Inbound). has i.rows id ≡ true) (c.in_ok-serve-in-Goes.ensures.stays.0 ∙ c.in_ok-say_farewell-in-Goes.ensures.stays.0) (sym (c.in_ok-return_dropped-in-Goes.ensures.stays.opened id) ∙ kept))
 
 pub returns-in_ok-end-in-Fatal-clause-comes : goal.returns-in_ok-end-in-Fatal-clause-comes
 returns-in_ok-end-in-Fatal-clause-comes c setup served =
@@ -96,7 +98,7 @@ returns-in_ok-return_dropped-in-Goes-clause-comes c =
     block_goes setup c.args.rooms.now c.take_block.new.rooms c.args.out.now c.take_block.new.out (frame_of c.args.view) c.in_ok-code.field-0 c.in-Goes.due c.in-Goes.farewell c.in-Goes.dropped c.in-Goes.is (c.in_ok-code.ensures setup served.terms (streams_so setup c.args.service.passing c.is_streaming-at_once.result served.passing c.is_streaming-at_once.ensures)) in
     let returned = c.in_ok-return_dropped-in-Goes.ensures.performs in
     comes_then setup c.args.rooms.now c.return_dropped.new.rooms square (back_of returned.0) square c.args.out.now c.return_dropped.new.out c.rest_behind.new.out (Came (record { frame = frame_of c.args.view; note = passed.note })) (OfFrame (frame_of c.args.view)) (now_of went c.rest_behind.new.rooms) refl
-    (brings_then setup c.args.rooms.now c.say_farewell.new.rooms c.return_dropped.new.rooms square (back_of c.in-Goes.dropped) (back_of returned.0) c.args.out.now c.say_farewell.new.out c.return_dropped.new.out (Came (record { frame = frame_of c.args.view; note = passed.note }))
-    (block_brings setup c.args.rooms.now c.take_block.new.rooms c.serve.new.rooms c.say_farewell.new.rooms c.args.out.now c.take_block.new.out c.serve.new.out c.say_farewell.new.out (frame_of c.args.view) c.in-Goes.due c.in-Goes.farewell c.in-Goes.dropped passed
-    (λ owed n back. c.in_ok-serve-in-Goes.ensures.performs setup owed n back served.passing) (λ back. c.in_ok-say_farewell-in-Goes.ensures.performs setup back))
+    (brings_then setup c.args.rooms.now c.serve.new.rooms c.return_dropped.new.rooms square (back_of c.in-Goes.dropped) (back_of returned.0) c.args.out.now c.serve.new.out c.return_dropped.new.out (Came (record { frame = frame_of c.args.view; note = passed.note }))
+    (block_brings setup c.args.rooms.now c.take_block.new.rooms c.say_farewell.new.rooms c.serve.new.rooms c.args.out.now c.take_block.new.out c.say_farewell.new.out c.serve.new.out (frame_of c.args.view) c.in-Goes.due c.in-Goes.farewell c.in-Goes.dropped passed
+    (λ due back. c.in_ok-say_farewell-in-Goes.ensures.performs setup due back) (λ n back. c.in_ok-serve-in-Goes.ensures.performs setup n back served.passing))
     (returned.2 setup)) (follows returned.0 returned.1 setup)) c.rest_behind.ensures.follows

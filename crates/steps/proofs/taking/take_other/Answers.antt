@@ -1,4 +1,4 @@
-use Rattle.std.proofs.Common.{◌≡◌, true, [], sym, ◌∙◌, ap, refl, subst}
+use Rattle.std.proofs.Common.{◌≡◌, true, sym, ◌∙◌, ap, refl, subst}
 use Rattle.model.specs.Tapes.Entry.{Came}
 use Rattle.model.specs.WindowsOnTape.{is_any, data_length}
 use Rattle.conduct.specs.Quiet.{noted_of}
@@ -22,7 +22,7 @@ serve-requires c =
     let passed =
     plain_goes before.0 c.args.rooms.now c.take_plain.new.rooms c.args.out.now c.take_plain.new.out (frame_of c.args.view) c.in_ok-code.field-0 c.in-Goes.due c.in-Goes.dropped c.in-Goes.is (c.in_ok-code.ensures before.0 before.1.terms.max_body) in
     let here = passed.brings before.2.0 before.2.1 before.2.2 in
-    record { reached = (before.0, before.1.passing, [], data_length is_any (frame_of c.args.view), c.in-Goes.dropped, (_, here.segment.state, here.segment.leads)) }
+    record { reached = (before.0, before.1.passing, data_length is_any (frame_of c.args.view), c.in-Goes.dropped, (_, here.segment.state, here.segment.leads)) }
 
 pub follow-requires-clause-reached : goal.follow-requires-clause-reached
 follow-requires-clause-reached c =
@@ -31,7 +31,7 @@ follow-requires-clause-reached c =
     plain_goes before.0 c.args.rooms.now c.take_plain.new.rooms c.args.out.now c.take_plain.new.out (frame_of c.args.view) c.in_ok-code.field-0 c.in-Goes.due c.in-Goes.dropped c.in-Goes.is (c.in_ok-code.ensures before.0 before.1.terms.max_body) in
     let here =
     plain_brings before.0 c.args.rooms.now c.take_plain.new.rooms c.serve.new.rooms c.args.out.now c.take_plain.new.out c.serve.new.out (frame_of c.args.view) c.in-Goes.due c.in-Goes.dropped c.data_octets.result c.data_octets.ensures passed
-    (λ owed n back. c.in_ok-serve-in-Goes.ensures.performs before.0 owed n back before.1.passing) before.2.0 before.2.1 before.2.2 in
+    (λ n back. c.in_ok-serve-in-Goes.ensures.performs before.0 n back before.1.passing) before.2.0 before.2.1 before.2.2 in
     (before.0, (_, here.segment.state, here.segment.leads))
 
 pub follow-requires-clause-last : goal.follow-requires-clause-last
@@ -76,4 +76,4 @@ returns-in_ok-serve-in-Goes-clause-comes c =
     comes_then setup c.args.rooms.now c.serve.new.rooms square (record square { fresh = c.data_octets.result; shared = c.in-Goes.dropped }) square c.args.out.now c.serve.new.out c.follow.new.out (Came (noted_of (frame_of c.args.view))) (OfFrame (frame_of c.args.view)) (now_of went c.follow.new.rooms) refl
     (plain_brings setup c.args.rooms.now c.take_plain.new.rooms c.serve.new.rooms c.args.out.now c.take_plain.new.out c.serve.new.out (frame_of c.args.view) c.in-Goes.due c.in-Goes.dropped c.data_octets.result c.data_octets.ensures
     (plain_goes setup c.args.rooms.now c.take_plain.new.rooms c.args.out.now c.take_plain.new.out (frame_of c.args.view) c.in_ok-code.field-0 c.in-Goes.due c.in-Goes.dropped c.in-Goes.is (c.in_ok-code.ensures setup served.terms.max_body))
-    (λ owed n back. c.in_ok-serve-in-Goes.ensures.performs setup owed n back served.passing)) (follows setup)) c.follow.ensures.follows
+    (λ n back. c.in_ok-serve-in-Goes.ensures.performs setup n back served.passing)) (follows setup)) c.follow.ensures.follows

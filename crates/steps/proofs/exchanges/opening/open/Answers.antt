@@ -17,24 +17,24 @@ pub open-requires : goal.open-requires
 open-requires c =
     let r = c.requires.reached in
     subst (λ (v : View). v.upstreams.count < most_streams) (sym c.rooms.view_is)
-    (room_for_one r.0 c.args.rooms.now r.2 r.3 r.4 c.args.request.stream c.args.request.route c.args.request.text (stage_of c.args.request.rest) r.5.0 r.5.1 r.5.2)
+    (room_for_one r.0 c.args.rooms.now r.2 r.3 c.args.request.stream c.args.request.route c.args.request.text (stage_of c.args.request.rest) r.4.0 r.4.1 r.4.2)
 
 pub begin_counting-requires : goal.begin_counting-requires
 begin_counting-requires c streaming =
     let r = c.requires.reached in
     ap (λ (v : View). is_above_all c.args.request.stream v.marks) c.rooms.view_is
-    ∙ above r.0 c.args.rooms.now r.2 r.3 r.4 c.args.request.stream c.args.request.route c.args.request.text (stage_of c.args.request.rest) r.5.0 r.5.1 r.5.2 (sym r.1.passing ∙ streaming)
+    ∙ above r.0 c.args.rooms.now r.2 r.3 c.args.request.stream c.args.request.route c.args.request.text (stage_of c.args.request.rest) r.4.0 r.4.1 r.4.2 (sym r.1.passing ∙ streaming)
 
 pub returns-clause-performs : goal.returns-clause-performs
 returns-clause-performs c =
     let old : View = record { inbound = c.rooms.inside.inbound; offers = c.rooms.inside.offers; upstreams = c.rooms.inside.upstreams; marks = c.rooms.inside.marks; encoding = c.rooms.inside.encoder; untaken = c.rooms.inside.untaken } in
     let sides : List Side = with_side (passing_in c.args.passing) c.args.request.stream c.in_ok-k.k (length c.as_slice-2.result.now) old.marks in
     on_ok_weaker c.send_up.result
-    (λ puts setup owed fresh back passed.
-    subst (λ (v : View). PerformsOwn setup c.args.rooms.now (record square { owed = owed; due = due_for c.args.request; fresh = fresh; shared = back }) c.args.out.now v (record square { owed = owed; fresh = fresh; shared = back }) c.send_up.new.self) (sym c.in_ok-begin_counting.ensures)
-    (subst (λ (v : View). PerformsOwn setup v (record square { owed = owed; due = due_for c.args.request; fresh = fresh; shared = back }) c.args.out.now (record old { upstreams = c.put.new.self; marks = sides }) (record square { owed = owed; fresh = fresh; shared = back }) c.send_up.new.self) c.rooms.view_is
+    (λ puts setup fresh back passed.
+    subst (λ (v : View). PerformsOwn setup c.args.rooms.now (record square { due = due_for c.args.request; fresh = fresh; shared = back }) c.args.out.now v (record square { fresh = fresh; shared = back }) c.send_up.new.self) (sym c.in_ok-begin_counting.ensures)
+    (subst (λ (v : View). PerformsOwn setup v (record square { due = due_for c.args.request; fresh = fresh; shared = back }) c.args.out.now (record old { upstreams = c.put.new.self; marks = sides }) (record square { fresh = fresh; shared = back }) c.send_up.new.self) c.rooms.view_is
     (calls_perform old c.args.request.stream c.args.request.route c.args.request.text (stage_of c.args.request.rest) c.asks_for_head-to_head.result c.args.passing c.open.new.self c.put.new.self sides c.in_ok-k.k (length c.as_slice-2.result.now) c.args.out.now c.open_up.new.self c.send_up.new.self
-    (c.asks_for_head-to_head.ensures ∙ ap (λ x. is_front_of (codes "HEAD ") x) c.as_slice.ensures) c.open.ensures.stands c.in_ok-k.ensures.number (ap (λ (x : List ℕ). length x) c.as_slice-2.ensures) c.in_ok-k.ensures.opened c.put.ensures refl c.in_ok-open_up.ensures puts setup owed fresh back passed)))
+    (c.asks_for_head-to_head.ensures ∙ ap (λ x. is_front_of (codes "HEAD ") x) c.as_slice.ensures) c.open.ensures.stands c.in_ok-k.ensures.number (ap (λ (x : List ℕ). length x) c.as_slice-2.ensures) c.in_ok-k.ensures.opened c.put.ensures refl c.in_ok-open_up.ensures puts setup fresh back passed)))
     c.send_up.ensures
 
 pub returns-clause-none_but : goal.returns-clause-none_but
@@ -44,7 +44,7 @@ returns-clause-none_but c =
     let sides : List Side = with_side (passing_in c.args.passing) c.args.request.stream c.in_ok-k.k (length c.as_slice-2.result.now) old.marks in
     let served : (told_view old).served c.args.request.stream ≡ true =
     ap (λ (v : View). (told_view v).served c.args.request.stream) c.rooms.view_is
-    ∙ stream_served r.0 c.args.rooms.now r.2 r.3 r.4 c.args.request.stream c.args.request.route c.args.request.text (stage_of c.args.request.rest) r.5.0 r.5.1 r.5.2 in
+    ∙ stream_served r.0 c.args.rooms.now r.2 r.3 c.args.request.stream c.args.request.route c.args.request.text (stage_of c.args.request.rest) r.4.0 r.4.1 r.4.2 in
     on_ok_weaker c.send_up.result
     (λ puts id.
     subst (λ (v : View). NoneDoneBut id c.args.rooms.now → NoneDoneBut id v) (sym c.in_ok-begin_counting.ensures)

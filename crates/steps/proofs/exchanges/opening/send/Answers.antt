@@ -17,26 +17,26 @@ use Rattle.steps.proofs.exchanges.opening.send.Goals as goal
 pub stream_of-stream-requires : goal.stream_of-stream-requires
 stream_of-stream-requires c =
     let r = c.requires.reached in
-    ap (λ (o : Option Connection). is_some o) (open_there r.0 c.args.rooms.now r.1 r.2 r.3 c.args.number c.args.text.items r.4.0 r.4.1 r.4.2).1
+    ap (λ (o : Option Connection). is_some o) (open_there r.0 c.args.rooms.now r.1 r.2 c.args.number c.args.text.items r.3.0 r.3.1 r.3.2).1
 
 pub put-requires-2 : goal.put-requires-2
 put-requires-2 c =
     let r = c.requires.reached in
-    let there = open_there r.0 c.args.rooms.now r.1 r.2 r.3 c.args.number c.args.text.items r.4.0 r.4.1 r.4.2 in
+    let there = open_there r.0 c.args.rooms.now r.1 r.2 c.args.number c.args.text.items r.3.0 r.3.1 r.3.2 in
     let own : c.stream_of-stream.result ≡ there.0.live.stream = stream_is (find number_of c.args.number c.args.rooms.now.upstreams.live) c.stream_of-stream.result there.0 c.stream_of-stream.ensures there.1 in
     subst (λ (v : View). IfSome (find_side c.stream_of-stream.result v.marks) (λ side. side.out + c.len-count.result < 2 ^ 64)) (sym c.rooms.view_is)
     (subst (λ n. IfSome (find_side n c.args.rooms.now.marks) (λ side. side.out + c.len-count.result < 2 ^ 64)) (sym own)
-    (side_room r.0 c.args.rooms.now r.1 r.2 r.3 c.args.number c.args.text.items r.4.0 r.4.1 r.4.2 c.len-count.result
+    (side_room r.0 c.args.rooms.now r.1 r.2 c.args.number c.args.text.items r.3.0 r.3.1 r.3.2 c.len-count.result
     (subst (λ (v : View). HasRoom c.len-count.result (find number_of c.args.number v.upstreams.live)) c.rooms.view_is c.if-not-has_room.ensures)))
 
 pub returns-clause-performs : goal.returns-clause-performs
 returns-clause-performs c =
     let old : View = record { inbound = c.rooms.inside.inbound; offers = c.rooms.inside.offers; upstreams = c.rooms.inside.upstreams; marks = c.rooms.inside.marks; encoding = c.rooms.inside.encoder; untaken = c.rooms.inside.untaken } in
     on_ok_weaker c.send_up.result
-    (λ puts setup owed fresh back.
-    subst (λ (v : View). PerformsOwn setup v (record square { owed = owed; due = ToSend c.args.number c.args.text.items; fresh = fresh; shared = back }) c.args.out.now (record old { upstreams = c.put.new.self; marks = c.put-2.new.self }) (record square { owed = owed; fresh = fresh; shared = back }) c.send_up.new.self) c.rooms.view_is
+    (λ puts setup fresh back.
+    subst (λ (v : View). PerformsOwn setup v (record square { due = ToSend c.args.number c.args.text.items; fresh = fresh; shared = back }) c.args.out.now (record old { upstreams = c.put.new.self; marks = c.put-2.new.self }) (record square { fresh = fresh; shared = back }) c.send_up.new.self) c.rooms.view_is
     (calls_send old c.args.number c.stream_of-stream.result c.len-count.result c.args.text.items c.put.new.self c.put-2.new.self c.args.out.now c.send_up.new.self
-    (subst (λ (v : View). IfSome (find number_of c.args.number v.upstreams.live) (λ x. c.stream_of-stream.result ≡ x.live.stream)) (sym c.rooms.view_is) c.stream_of-stream.ensures) (search rules) c.put.ensures c.put-2.ensures puts setup owed fresh back))
+    (subst (λ (v : View). IfSome (find number_of c.args.number v.upstreams.live) (λ x. c.stream_of-stream.result ≡ x.live.stream)) (sym c.rooms.view_is) c.stream_of-stream.ensures) (search rules) c.put.ensures c.put-2.ensures puts setup fresh back))
     (subst (λ (t : List ℕ). OnOk c.send_up.result (c.send_up.new.self ≡ put c.args.out.now (Does (ToUp c.args.number t)))) c.from_octets.ensures c.send_up.ensures)
 
 pub returns-clause-none_but : goal.returns-clause-none_but

@@ -102,7 +102,7 @@ impl Client {
             routes: &self.routes,
             max_body: MOST,
         };
-        match self.connection.judge_frame(view, terms).ok()? {
+        match self.connection.judge_frame(view, false, terms).ok()? {
             FrameJudged::Plain(judged) => Some(number_of(judged)),
             FrameJudged::OfBlock(judged) => Some(number_of_block(judged)),
         }

@@ -99,7 +99,8 @@ module _ (f : ℕ → Kept) (s : Summary) (will : WillDo f s) where
       (on (ap unless_of_stream (by_standing_seen noted.frame))
       (on (update_seen noted.frame)
       (on (data_seen noted.frame)
-      (on (by_standing_seen noted.frame) refl))))
+      (on (by_standing_seen noted.frame)
+      (on refl refl)))))
 
   rows_seen : (noted : Noted) → rows_in seen noted ≡ rows_in s noted
   rows_seen noted =

@@ -1,12 +1,13 @@
 -- Whoever keeps the book by the rule of conduct keeps the clause on errors.
-use Rattle.std.proofs.Common.{◌≡◌, ℕ, suc, ◌==◌, Bool, true, false, ◌&&◌, if◌then◌else◌, List, [], ◌∷◌, ◌++◌, Option, Some, None, refl, sym, ◌∙◌, ap, subst, arith, inl, inr}
-use Rattle.std.proofs.lemmas.Bool.{or_left, cases_Bool}
-use Rattle.model.specs.Frames.{Frame, rst_stream_kind}
+use Rattle.std.proofs.Common.{◌≡◌, ℕ, suc, ◌+◌, ◌==◌, Bool, true, false, ◌&&◌, ◌||◌, nat_lt, length, if◌then◌else◌, List, [], ◌∷◌, ◌++◌, Option, Some, None, refl, sym, ◌∙◌, ap, subst, arith, inl, inr, reverse}
+use Rattle.std.proofs.lemmas.Bool.{or_left, or_parts, cases_Bool}
+use Rattle.model.specs.Frames.{Frame, rst_stream_kind, spell}
+use Rattle.model.specs.Admission.{most_untaken}
 use Rattle.model.specs.Setup.{Setup}
 use Rattle.model.specs.SettingValues.{settings_in, initial_window_after}
 use Rattle.model.specs.Logs.Event.{Client, ClientEnd, ClientTook, Up, UpEnd, UpFailed, UpTook}
 use Rattle.model.specs.Logs.Act.{Open, ToUp, Close, CloseClient}
-use Rattle.model.specs.Tapes.{Entry, sent}
+use Rattle.model.specs.Tapes.{Noted, Entry, sent}
 use Rattle.model.specs.Tapes.Breach.{WrongPreface, TooLong}
 use Rattle.model.specs.Tapes.Entry.{Came, Breached, Happened, Sent, Did}
 use Rattle.model.specs.Decoding.{begun}
@@ -14,11 +15,12 @@ use Rattle.model.specs.Errors.{Fault, first_of, or_else}
 use Rattle.model.specs.Errors.Fault.{Stream}
 use Rattle.model.specs.FrameErrors.{fault_if}
 use Rattle.model.specs.Known.{Known}
-use Rattle.model.specs.ErrorClause.{is_fatal, ErrorsHold}
-use Rattle.conduct.specs.Turn.{rest_of, IsDue, Conducted}
+use Rattle.model.specs.ErrorClause.{is_fatal, is_calming, calls_for_end, controls, owed, ErrorsHold}
+use Rattle.conduct.specs.Turn.{rest_of, queue_of, IsDue, Conducted}
+use Rattle.conduct.proofs.Errors.{paid, holds}
 use Rattle.conduct.specs.Summary.{Brief, Stream as Kept, Summary}
 use Rattle.conduct.specs.Judging.{rows_in, fault_for}
-use Rattle.conduct.specs.Owing.{must_end_in}
+use Rattle.conduct.specs.Owing.{owes_in, must_end_in}
 use Rattle.conduct.specs.After.{begun_after, is_sound, first_size_after, resets_after, ends_after, after}
 use Rattle.conduct.specs.Rows.{Row, fresh, find, with_streams, rows_after, WillDo, StandFor}
 use Rattle.conduct.specs.Rule.{Move, Point, queue_behind, point_after, IsInTurn, Allowed, tape_of, point_of, AllAllowed, AreKnown}
@@ -114,6 +116,7 @@ pub record Tells (desk : Desk) (p : Point) : Type 0 where
   pub ends : desk.book.ends ≡ p.summary.ends
   pub closed : desk.book.closed ≡ p.summary.closed
   pub block_out : desk.book.block_out ≡ p.summary.block_out
+  pub untaken : desk.book.untaken ≡ p.summary.untaken
   pub told : p.summary.ends ≡ false → IsTold desk.book p.summary
 
 -- what a move is and leads to, by the summary
@@ -138,6 +141,7 @@ goes_on setup rows s queue m stand may fit_seen = record {
     ends = ends_seen setup m.fails rows s stand m.entry;
     closed = refl;
     block_out = refl;
+    untaken = refl;
     told = λ on.
         let idle = still_idle setup m.fails s stand.idle m.entry (sound_if m.fails s m.entry on fit) (no_end s m.entry on) in
         let now : StandFor later (after setup m.fails s m.entry) = rows_stand setup m.fails rows s stand m.entry idle in
@@ -175,39 +179,49 @@ ends_on setup desk p m tells ended may = by_entry m.entry m.fails may.turn
     nothing_in : must_end_in (summary_in desk.book) ≡ false → ⊥
     nothing_in on = let no : true ≡ false = sym to_end ∙ on in absurd (let x : true ≡ false = no in cc)
 
+    due_there : (noted : Noted) → IsDue desk.book.ends (nat_lt most_untaken desk.book.untaken) desk.queue noted → IsDue p.summary.ends (nat_lt most_untaken p.summary.untaken) p.queue noted
+    due_there noted due =
+        subst (λ (q : List Frame). IsDue p.summary.ends (nat_lt most_untaken p.summary.untaken) q noted) tells.queue
+        (subst (λ (n : ℕ). IsDue p.summary.ends (nat_lt most_untaken n) desk.queue noted) tells.untaken
+        (subst (λ (b : Bool). IsDue b (nat_lt most_untaken desk.book.untaken) desk.queue noted) tells.ends due))
+
     by_entry : (e : Entry) (fails : Bool) → IsInTurn (as_point desk) e → Follows setup (desk_after setup desk (record { entry = e; fails = fails })) p (record { entry = e; fails = fails })
     by_entry (Came noted) fails turn = absurd (nothing_in turn.goes_on)
     by_entry (Breached breach) fails turn = absurd (nothing_in turn.goes_on)
     by_entry (Happened event) fails turn = absurd (nothing_in turn.goes_on)
-    by_entry (Sent noted) fails (inr pass) = absurd (nothing_in pass.goes_on)
+    by_entry (Sent noted) fails (inr (inl pass)) = absurd (nothing_in pass.goes_on)
+    by_entry (Sent noted) fails (inr (inr stand)) = absurd (let no : true ≡ false = sym e_ended ∙ stand.goes_on in cc)
     by_entry (Sent noted) fails (inl due) = record {
-      allowed = record { open_yet = open_yet; turn = inl (subst (λ q. IsDue q noted) tells.queue due) };
+      allowed = record { open_yet = open_yet; turn = inl (due_there noted due) };
       tells = record {
         queue =
-            ap (λ (fs : List Frame). rest_of desk.queue ++ fs) (control_owes setup fails (summary_in desk.book) noted due.control)
+            ap (λ b. if b then [] else rest_of desk.queue ++ owes_in setup fails (summary_in desk.book) (Sent noted)) due.owing
+            ∙ ap (λ (fs : List Frame). rest_of desk.queue ++ fs) (control_owes setup fails (summary_in desk.book) noted due.control)
             ∙ ap (λ (q : List Frame). rest_of q ++ []) tells.queue
-            ∙ sym (ap (λ (fs : List Frame). rest_of p.queue ++ fs) (control_owes setup fails p.summary noted due.control));
-        ends = tells.ends;
+            ∙ sym (ap (λ (fs : List Frame). rest_of p.queue ++ fs) (control_owes setup fails p.summary noted due.control))
+            ∙ sym (ap (λ b. if b then [] else rest_of p.queue ++ owes_in setup fails p.summary (Sent noted)) (due_there noted due).owing);
+        ends = ap (λ b. is_calming noted.frame || b) tells.ends;
         closed = tells.closed;
         block_out = ap (λ b. begun_after b noted.frame) tells.block_out;
-        told = λ on. absurd (let no : true ≡ false = sym ended ∙ on in cc);
+        untaken = ap (λ n. n + length (spell noted.frame)) tells.untaken;
+        told = λ on. absurd (let no : true ≡ false = sym ended ∙ (or_parts (is_calming noted.frame) p.summary.ends on).1 in cc);
       };
     }
     by_entry (Did (Open k route)) fails turn = record {
       allowed = record { open_yet = open_yet; turn = sym tells.queue ∙ turn };
-      tells = record { queue = tells.queue; ends = tells.ends; closed = tells.closed; block_out = tells.block_out; told = λ on. absurd (let no : true ≡ false = sym ended ∙ on in cc) };
+      tells = record { queue = tells.queue; ends = tells.ends; closed = tells.closed; block_out = tells.block_out; untaken = tells.untaken; told = λ on. absurd (let no : true ≡ false = sym ended ∙ on in cc) };
     }
     by_entry (Did (ToUp k octets)) fails turn = record {
       allowed = record { open_yet = open_yet; turn = sym tells.queue ∙ turn };
-      tells = record { queue = tells.queue; ends = tells.ends; closed = tells.closed; block_out = tells.block_out; told = λ on. absurd (let no : true ≡ false = sym ended ∙ on in cc) };
+      tells = record { queue = tells.queue; ends = tells.ends; closed = tells.closed; block_out = tells.block_out; untaken = tells.untaken; told = λ on. absurd (let no : true ≡ false = sym ended ∙ on in cc) };
     }
     by_entry (Did (Close k)) fails turn = record {
       allowed = record { open_yet = open_yet; turn = sym tells.queue ∙ turn };
-      tells = record { queue = tells.queue; ends = tells.ends; closed = tells.closed; block_out = tells.block_out; told = λ on. absurd (let no : true ≡ false = sym ended ∙ on in cc) };
+      tells = record { queue = tells.queue; ends = tells.ends; closed = tells.closed; block_out = tells.block_out; untaken = tells.untaken; told = λ on. absurd (let no : true ≡ false = sym ended ∙ on in cc) };
     }
     by_entry (Did CloseClient) fails turn = record {
       allowed = record { open_yet = open_yet; turn = record { nothing = sym tells.queue ∙ turn.nothing; to_end = or_left p.summary.ends _ ended } };
-      tells = record { queue = tells.queue; ends = tells.ends; closed = refl; block_out = tells.block_out; told = λ on. absurd (let no : true ≡ false = sym ended ∙ on in cc) };
+      tells = record { queue = tells.queue; ends = tells.ends; closed = refl; block_out = tells.block_out; untaken = tells.untaken; told = λ on. absurd (let no : true ≡ false = sym ended ∙ on in cc) };
     }
 
 -- ---- any move
@@ -231,7 +245,7 @@ pub record HasKept (setup : Setup) (moves : List Move) : Type 0 where
   pub allowed : AllAllowed setup moves
 
 pub has_kept : (setup : Setup) (moves : List Move) → AllMoved setup moves → HasKept setup moves
-has_kept setup [] all = record { tells = record { queue = refl; ends = refl; closed = refl; block_out = refl; told = λ on. record { same = refl; stand = record { ids = refl; alike = λ id there. absurd (let no : false ≡ true = there in cc); idle = λ id may. refl; few = omega arith } } }; allowed = tt }
+has_kept setup [] all = record { tells = record { queue = refl; ends = refl; closed = refl; block_out = refl; untaken = refl; told = λ on. record { same = refl; stand = record { ids = refl; alike = λ id there. absurd (let no : false ≡ true = there in cc); idle = λ id may. refl; few = omega arith } } }; allowed = tt }
 has_kept setup (m ∷ moves) all =
     let before : HasKept setup moves = has_kept setup moves all.0 in
     let next : Follows setup (desk_after setup (desk_of setup moves) m) (point_of setup moves) m = one_move setup (desk_of setup moves) (point_of setup moves) m before.tells all.1 in
@@ -263,3 +277,22 @@ blocks_are_whole known moves knows all rests = sym (block_out_told known moves k
 -- Moves that came by the rule came in their turn.
 pub conducted_by_book : (known : Known) (moves : List Move) → AreKnown known moves → AllMoved known.setup moves → Conducted known (tape_of moves)
 conducted_by_book known moves knows all = conducted known moves knows (has_kept known.setup moves all).allowed
+
+-- What is owed is called for beyond what was sent, and that is all.
+pub all_owed_by_book : (known : Known) (moves : List Move) → AreKnown known moves → AllMoved known.setup moves → owed known (tape_of moves) ≡ reverse (desk_of known.setup moves).queue ++ controls (sent (tape_of moves))
+all_owed_by_book known moves knows all =
+    let kept : HasKept known.setup moves = has_kept known.setup moves all in
+    let queue : queue_of known (tape_of moves) ≡ (desk_of known.setup moves).queue = sym (ap (λ (p : Point). p.queue) (point_same known moves knows)) ∙ sym kept.tells.queue in
+    sym (holds known (tape_of moves) (conducted_by_book known moves knows all)).owing ∙ ap (λ (q : List Frame). reverse q ++ controls (sent (tape_of moves))) queue
+
+-- What is owed next is called for beyond what was sent.
+pub owed_by_book : (known : Known) (moves : List Move) → AreKnown known moves → AllMoved known.setup moves → (next : Frame) (rest : List Frame) → (desk_of known.setup moves).queue ≡ next ∷ rest
+    → owed known (tape_of moves) ≡ reverse rest ++ next ∷ controls (sent (tape_of moves))
+owed_by_book known moves knows all next rest is =
+    all_owed_by_book known moves knows all
+    ∙ ap (λ (q : List Frame). reverse q ++ controls (sent (tape_of moves))) is
+    ∙ sym (paid next rest (controls (sent (tape_of moves))))
+
+-- The book has whether the end is called for.
+pub ends_by_book : (known : Known) (moves : List Move) → AreKnown known moves → AllMoved known.setup moves → (desk_of known.setup moves).book.ends ≡ calls_for_end known (tape_of moves)
+ends_by_book known moves knows all = (has_kept known.setup moves all).tells.ends ∙ ap (λ (p : Point). p.summary.ends) (point_same known moves knows)

@@ -21,8 +21,9 @@ use Rattle.model.specs.Lifetimes.{may_open, opens_by}
 use Rattle.model.specs.ErrorTable.{fault_of, judged, grants, grants_nothing, grants_past, is_idle, is_headers, is_undecodable, unless_of_stream}
 use Rattle.model.specs.ErrorClause.{is_fatal}
 use Rattle.model.proofs.OpenedLaws.{not_opened}
+use Rattle.model.proofs.OwedSteps.{neither}
 use Rattle.conduct.specs.Summary.{Brief, Stream as Kept, Summary}
-use Rattle.conduct.specs.Judging.{active_in, is_active_in, standing_in, window_in, completed_in, state_in, fault_on_in, fault_by_standing_in, stream_update_in, stream_data_in, malformed_in, rows_before_block_in, rows_behind_block_in, fault_for}
+use Rattle.conduct.specs.Judging.{active_in, is_active_in, standing_in, window_in, completed_in, state_in, fault_on_in, fault_by_standing_in, stream_update_in, stream_data_in, malformed_in, are_last, is_crowded_in, no_farewell_in, rows_before_block_in, rows_behind_block_in, fault_for}
 use Rattle.conduct.specs.Owing.{fault_in}
 use Rattle.conduct.specs.Book.{is_told}
 use Rattle.conduct.proofs.Standings.{states}
@@ -120,7 +121,10 @@ before_fatal s frame = (
                 fatal_if _ flow_control_error,
                 (
                   fatal_update (frame.id == 0 && grants_nothing frame) (frame.id == 0 && grants_past s.window frame),
-                  (fatal_idle (length (active_in s)) (standing_in s frame.id) (judged (completed_in s.block frame) frame), (fatal_if _ enhance_your_calm, (fatal_if _ flow_control_error, tt))),
+                  (
+                    fatal_idle (length (active_in s)) (standing_in s frame.id) (judged (completed_in s.block frame) frame),
+                    (fatal_if _ enhance_your_calm, (fatal_if _ flow_control_error, tt)),
+                  ),
                 ),
               ),
             ),
@@ -210,6 +214,7 @@ module _ (s : Summary) (noted : Noted) (brief : Brief) (may : may_open s.opened 
       ∷ stream_update_in s noted.frame
       ∷ stream_data_in s noted.frame
       ∷ fault_by_standing_in s noted.frame
+      ∷ no_farewell_in s noted
       ∷ []
 
   early_none : first_of (early_rows s noted) ≡ None
@@ -266,6 +271,9 @@ module _ (s : Summary) (noted : Noted) (brief : Brief) (may : may_open s.opened 
       let data_none : stream_data_in s noted.frame ≡ None =
       ap (λ d. fault_if (active && (d && int_lt (s.stream noted.frame.id).room (pos (length noted.frame.payload)))) (Stream flow_control_error)) both.0
       ∙ ap (λ b. fault_if b (Stream flow_control_error)) (and_right active false refl) in
+      let last_none : no_farewell_in s noted ≡ None =
+      ap (λ b. fault_if (are_last s (if b then noted.frame.id ∷ s.opened else s.opened) && is_crowded_in s) (Stream enhance_your_calm)) closed
+      ∙ ap (λ b. fault_if (b && is_crowded_in s) (Stream enhance_your_calm)) (neither (length s.opened) most_streams) in
       let bears_none : bears s noted.frame ≡ false =
       ap (λ (b : Option Partial). is_some b || noted.frame.kind == data_kind) no_block_here ∙ both.0 in
       record {
@@ -275,8 +283,9 @@ module _ (s : Summary) (noted : Noted) (brief : Brief) (may : may_open s.opened 
         no_grant = last.1;
         no_fault =
             ap (λ x. or_else x (malformed_in brief s (Came noted))) (skip (early_rows s noted) later_rows early_none)
-            ∙ ap (λ x. or_else (first_of (unless_of_stream x ∷ stream_update_in s noted.frame ∷ stream_data_in s noted.frame ∷ x ∷ [])) (malformed_in brief s (Came noted))) standing_none
-            ∙ ap (λ x. or_else (first_of (x ∷ stream_data_in s noted.frame ∷ None ∷ [])) (malformed_in brief s (Came noted))) update_none
-            ∙ ap (λ x. or_else (first_of (x ∷ None ∷ [])) (malformed_in brief s (Came noted))) data_none
+            ∙ ap (λ x. or_else (first_of (unless_of_stream x ∷ stream_update_in s noted.frame ∷ stream_data_in s noted.frame ∷ x ∷ no_farewell_in s noted ∷ [])) (malformed_in brief s (Came noted))) standing_none
+            ∙ ap (λ x. or_else (first_of (x ∷ stream_data_in s noted.frame ∷ None ∷ no_farewell_in s noted ∷ [])) (malformed_in brief s (Came noted))) update_none
+            ∙ ap (λ x. or_else (first_of (x ∷ None ∷ no_farewell_in s noted ∷ [])) (malformed_in brief s (Came noted))) data_none
+            ∙ ap (λ x. or_else (first_of (None ∷ x ∷ [])) (malformed_in brief s (Came noted))) last_none
             ∙ idle_frame brief s noted bears_none;
       }

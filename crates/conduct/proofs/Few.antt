@@ -17,11 +17,11 @@ use Rattle.model.specs.Errors.{Fault, first_of, or_else}
 use Rattle.model.specs.Errors.Fault.{Stream}
 use Rattle.model.specs.Lifetimes.{opens_by, may_open, ends_by, active}
 use Rattle.model.specs.ErrorTable.{fault_of, judged, unless_of_stream, grants_nothing, grants_past, is_past_room}
-use Rattle.model.specs.ErrorClause.{rst_stream}
+use Rattle.model.specs.ErrorClause.{rst_stream, is_calming}
 use Rattle.model.proofs.OpenedLaws.{not_opened}
 use Rattle.conduct.specs.Summary.{Brief, Stream as Kept, Summary}
-use Rattle.conduct.specs.Judging.{window_in, fault_on_in, is_over_in, active_in, is_active_in, completed_in, fault_by_standing_in, stream_update_in, stream_data_in, malformed_in}
-use Rattle.conduct.specs.Owing.{fault_in, last_farewell_in, owed_first_in, owes_in}
+use Rattle.conduct.specs.Judging.{window_in, fault_on_in, is_over_in, active_in, is_active_in, completed_in, fault_by_standing_in, stream_update_in, stream_data_in, no_farewell_in, malformed_in}
+use Rattle.conduct.specs.Owing.{highest_in, fault_in, last_farewell_in, owed_first_in, owes_in}
 use Rattle.conduct.specs.After.{kept_behind, resets_it, ends_after}
 use Rattle.conduct.specs.Turn.{rest_of}
 use Rattle.conduct.specs.Rows.{find, ids_of}
@@ -31,6 +31,7 @@ use Rattle.conduct.specs.Told.{IsTold}
 use Rattle.conduct.proofs.Rule.{point_same}
 use Rattle.conduct.proofs.Standings.{actives, actives_same, each_alike}
 use Rattle.conduct.proofs.RowsKept.{opens_own}
+use Rattle.conduct.proofs.Farewells.{farewell_calms}
 use Rattle.conduct.proofs.Calm.{early_rows, early_fatal, calm, skip, idle_standing}
 use Rattle.conduct.proofs.Book.{HasKept, has_kept}
 
@@ -153,12 +154,12 @@ module _ (setup : Setup) (fails : Bool) (s : Summary) (noted : Noted) (by : open
   -- it is refused, where a hundred are active
   refused : nat_lt (length (active_in s)) most_active ≡ false → fault_in s (Came noted) ≡ Some (Stream refused_stream)
   refused full =
-      let early_none : first_of (early_rows s noted) ≡ None = calm (early_rows s noted) (unless_of_stream (fault_by_standing_in s noted.frame) ∷ stream_update_in s noted.frame ∷ stream_data_in s noted.frame ∷ fault_by_standing_in s noted.frame ∷ []) (malformed_in brief s (Came noted)) (early_fatal s noted) on in
+      let early_none : first_of (early_rows s noted) ≡ None = calm (early_rows s noted) (unless_of_stream (fault_by_standing_in s noted.frame) ∷ stream_update_in s noted.frame ∷ stream_data_in s noted.frame ∷ fault_by_standing_in s noted.frame ∷ no_farewell_in s noted ∷ []) (malformed_in brief s (Came noted)) (early_fatal s noted) on in
       let is : fault_by_standing_in s noted.frame ≡ Some (Stream refused_stream) = by_standing ∙ ap (λ b. fault_of (if b then Opens else Fails (Stream refused_stream))) full in
       ap (λ o. or_else o (malformed_in brief s (Came noted)))
-      (skip (early_rows s noted) (unless_of_stream (fault_by_standing_in s noted.frame) ∷ stream_update_in s noted.frame ∷ stream_data_in s noted.frame ∷ fault_by_standing_in s noted.frame ∷ []) early_none
-      ∙ ap (λ (o : Option Fault). first_of (unless_of_stream o ∷ stream_update_in s noted.frame ∷ stream_data_in s noted.frame ∷ o ∷ [])) is
-      ∙ ap (λ b. first_of (first_of (fault_if (b && grants_nothing noted.frame) (Stream protocol_error) ∷ fault_if (b && grants_past (window_in s.first_size (s.stream noted.frame.id)) noted.frame) (Stream flow_control_error) ∷ []) ∷ fault_if (b && is_past_room (s.stream noted.frame.id).room noted.frame) (Stream flow_control_error) ∷ Some (Stream refused_stream) ∷ [])) inactive)
+      (skip (early_rows s noted) (unless_of_stream (fault_by_standing_in s noted.frame) ∷ stream_update_in s noted.frame ∷ stream_data_in s noted.frame ∷ fault_by_standing_in s noted.frame ∷ no_farewell_in s noted ∷ []) early_none
+      ∙ ap (λ (o : Option Fault). first_of (unless_of_stream o ∷ stream_update_in s noted.frame ∷ stream_data_in s noted.frame ∷ o ∷ no_farewell_in s noted ∷ [])) is
+      ∙ ap (λ b. first_of (first_of (fault_if (b && grants_nothing noted.frame) (Stream protocol_error) ∷ fault_if (b && grants_past (window_in s.first_size (s.stream noted.frame.id)) noted.frame) (Stream flow_control_error) ∷ []) ∷ fault_if (b && is_past_room (s.stream noted.frame.id).room noted.frame) (Stream flow_control_error) ∷ Some (Stream refused_stream) ∷ no_farewell_in s noted ∷ [])) inactive)
 
   -- then its reset is owed
   reset_owed : nat_lt (length (active_in s)) most_active ≡ false → list_any (resets_it noted.frame.id) (owes_in setup fails s (Came noted)) ≡ true
@@ -195,10 +196,11 @@ few_at : (s : Summary) (queue : List Frame) → queue ≡ [] → IsFew (record {
 few_at s queue none few = subst (λ (fs : List Frame). length (filter (lasts s.stream fs) s.opened) ≤ most_active) none few
 
 -- what is owed where a frame was sent: what was owed before without it
-still_owed : (s : Summary) (noted : Noted) (queue more : List Frame) (setup : Setup) (fails : Bool) → IsInTurn (record { summary = s; queue = queue }) (Sent noted)
+still_owed : (s : Summary) (noted : Noted) (queue more : List Frame) (setup : Setup) (fails : Bool) → is_calming noted.frame ≡ false → IsInTurn (record { summary = s; queue = queue }) (Sent noted)
     → (id : ℕ) → is_over_in (kept_behind setup fails s (Sent noted) id (s.stream id)) ≡ false → list_any (resets_it id) (rest_of queue ++ more) ≡ false → list_any (resets_it id) queue ≡ false
-still_owed s noted queue more setup fails (inr pass) id on none = none_owed queue pass.nothing id
-still_owed s noted queue more setup fails (inl due) id on none = ap (λ fs. list_any (resets_it id) fs) due.front ∙ or_both
+still_owed s noted queue more setup fails calmless (inr (inr stand)) id on none = absurd (let no : false ≡ true = sym calmless ∙ farewell_calms (highest_in s.opened) noted.frame stand.farewell in cc)
+still_owed s noted queue more setup fails calmless (inr (inl pass)) id on none = none_owed queue pass.nothing id
+still_owed s noted queue more setup fails calmless (inl due) id on none = ap (λ fs. list_any (resets_it id) fs) due.front ∙ or_both
   where
     not_it : resets_it id noted.frame ≡ false
     not_it = cases (resets_it id noted.frame) refl
@@ -234,8 +236,11 @@ few_kept setup p (Happened event) fails turn on few =
     let less = lasted setup fails p.summary (Happened event) [] (owes_in setup fails p.summary (Happened event)) (λ id on_yet none. refl) in
     omega (arith, less, here)
 few_kept setup p (Sent noted) fails turn on few =
-    let less = lasted setup fails p.summary (Sent noted) p.queue (rest_of p.queue ++ owes_in setup fails p.summary (Sent noted)) (still_owed p.summary noted p.queue (owes_in setup fails p.summary (Sent noted)) setup fails turn) in
-    omega (arith, less, few)
+    let calmless = (or_parts (is_calming noted.frame) p.summary.ends on).0 in
+    let next : List Frame = rest_of p.queue ++ owes_in setup fails p.summary (Sent noted) in
+    let less = lasted setup fails p.summary (Sent noted) p.queue next (still_owed p.summary noted p.queue (owes_in setup fails p.summary (Sent noted)) setup fails calmless turn) in
+    let now : length (filter (lasts (behind setup fails p.summary (Sent noted)) next) p.summary.opened) ≤ most_active = omega (arith, less, few) in
+    subst (λ b. length (filter (lasts (behind setup fails p.summary (Sent noted)) (if b && not p.summary.ends then [] else next)) p.summary.opened) ≤ most_active) (sym calmless) now
 few_kept setup p (Did act) fails turn on few =
     let less = lasted setup fails p.summary (Did act) p.queue p.queue (λ id on_yet none. none) in
     omega (arith, less, few)
@@ -245,7 +250,7 @@ pub on_before : (p : Point) (e : Entry) → IsInTurn p e → ends_after p.summar
 on_before p (Came noted) turn on = (or_parts p.summary.ends _ turn.goes_on).0
 on_before p (Breached breach) turn on = (or_parts p.summary.ends _ turn.goes_on).0
 on_before p (Happened event) turn on = (or_parts p.summary.ends _ turn.goes_on).0
-on_before p (Sent noted) turn on = on
+on_before p (Sent noted) turn on = (or_parts (is_calming noted.frame) p.summary.ends on).1
 on_before p (Did act) turn on = on
 
 few_behind : (setup : Setup) (moves : List Move) → AllAllowed setup moves → (point_of setup moves).summary.ends ≡ false → IsFew (point_of setup moves)

@@ -9,7 +9,7 @@ use Rattle.model.specs.Errors.Fault.{Connection, Stream, Discarded}
 use Rattle.model.specs.Known.{Known, fails_behind}
 use Rattle.model.specs.Lifetimes.{opened}
 use Rattle.model.specs.Courses.{course, about, fault}
-use Rattle.model.specs.ErrorClause.{last_farewell, owed_first, acks, reset_for, resets, reset_behind, rst_stream, owed_by, is_rightly_sent, must_end}
+use Rattle.model.specs.ErrorClause.{last_farewell, owed_first, acks, reset_for, resets, reset_behind, rst_stream, code_of_farewell, owed_by, is_rightly_sent, must_end}
 use Rattle.conduct.specs.Summary.{Brief, Summary, summary_of}
 use Rattle.conduct.specs.Owing.{about_in, fault_in, next_brief, opened_after, highest_in, last_farewell_in, owed_first_in, resets_in, reset_behind_in, owes_in, is_rightly_sent_in, must_end_in}
 use Rattle.conduct.proofs.Judged.{fault_for_same}
@@ -44,7 +44,7 @@ farewell_same known t e =
 first_same : (known : Known) (t : List Entry) (e : Entry) (found : Option Fault) → owed_first_in (summary_of known t) e found ≡ owed_first t e found
 first_same known t e None = farewell_same known t e
 first_same known t e (Some Discarded) = farewell_same known t e
-first_same known t e (Some (Connection code)) = ap (λ (ids : List ℕ). goaway (highest_in ids) code ∷ []) (opened_same known t e)
+first_same known t e (Some (Connection code)) = ap (λ (ids : List ℕ). goaway (highest_in ids) (code_of_farewell t code) ∷ []) (opened_same known t e)
 first_same known t e (Some (Stream code)) =
     ap (λ (fs : List Frame). fs ++ rst_stream (about_in (summary_of known t) e) code ∷ []) (farewell_same known t e)
     ∙ ap (λ (id : ℕ). last_farewell t e ++ rst_stream id code ∷ []) (about_same known t e)

@@ -1,23 +1,24 @@
 -- A control frame that is owed: it may be sent, and then it is owed no more, and nothing else changes but what is untaken.
-use Rattle.std.proofs.Common.{◌≡◌, ℕ, true, false, ◌&&◌, ◌||◌, ◌==◌, nat_lt, if◌then◌else◌, List, [], ◌∷◌, ◌++◌, length, append-nil, Option, None, refl, sym, ◌∙◌, ap, inl}
+use Rattle.std.proofs.Common.{◌≡◌, ℕ, Bool, true, false, not, ◌&&◌, ◌||◌, ◌==◌, nat_lt, if◌then◌else◌, List, [], ◌∷◌, ◌++◌, length, append-nil, Option, None, refl, sym, ◌∙◌, ap, inl, inr}
 use Rattle.std.proofs.lemmas.Bool.{and_right}
 use Rattle.std.proofs.Math.Bool.{or-false}
 use Rattle.std.specs.List.{list_any}
 use Rattle.model.specs.Messages.{Item}
 use Rattle.model.specs.Messages.Item.{Content}
-use Rattle.model.specs.Frames.{Frame, headers_kind, continuation_kind, window_update_kind, ends_headers, ends_stream, content}
+use Rattle.model.specs.Frames.{Frame, headers_kind, continuation_kind, window_update_kind, ends_headers, ends_stream, content, goaway, enhance_your_calm}
 use Rattle.model.specs.Setup.{Setup}
 use Rattle.model.specs.Decoding.{Partial, joined}
 use Rattle.model.specs.Streams.{frame_items}
 use Rattle.model.specs.Lifetimes.{ends_by, may_open}
 use Rattle.model.specs.WindowsOnTape.{increment}
 use Rattle.model.specs.Courses.{is_final}
-use Rattle.model.specs.ErrorClause.{is_passing}
+use Rattle.model.specs.ErrorClause.{is_passing, is_calming}
 use Rattle.conduct.specs.Summary.{Stream as Kept}
-use Rattle.conduct.specs.Judging.{completed_in}
-use Rattle.conduct.specs.Owing.{owes_in}
+use Rattle.conduct.specs.Judging.{completed_in, is_crowded_in}
+use Rattle.conduct.specs.Turn.{rest_of}
+use Rattle.conduct.specs.Owing.{highest_in, owes_in}
 use Rattle.conduct.specs.After.{grant, stream_from}
-use Rattle.conduct.specs.Rows.{Row, Slot, kept_in, slot_of, row_behind, over_kept}
+use Rattle.conduct.specs.Rows.{Row, Slot, ids_of, kept_in, slot_of, row_behind, over_kept}
 use Rattle.conduct.specs.Rows.Slot.{Live, Over}
 use Rattle.conduct.specs.Book.{Book, summary_in, book_after, desk_after, MayMove}
 use Rattle.conduct.specs.Tidy.{IsSteady, IsTidy, IsRow, AreKept}
@@ -83,15 +84,31 @@ module _ (setup : Setup) (b : Book) (frame : Frame) (control : IsControl frame) 
       refl
 
   -- A debt that is paid is owed no more.
-  pub paid : (queue : List Frame) → desk_after setup (record { book = b; queue = frame ∷ queue }) (sends frame) ≡ record { book = paid_of b frame; queue = queue }
-  paid queue =
-      ap (λ (x : Book). record { book = x; queue = queue ++ owes_in setup false (summary_in b) (sending frame) }) book_stays
+  pub paid : (queue : List Frame) → (is_calming frame && not b.ends) ≡ false → desk_after setup (record { book = b; queue = frame ∷ queue }) (sends frame) ≡ record { book = paid_of b frame; queue = queue }
+  paid queue owing =
+      ap (λ (x : Book). record { book = x; queue = if is_calming frame && not b.ends then [] else queue ++ owes_in setup false (summary_in b) (sending frame) }) book_stays
+      ∙ ap (λ x. record { book = paid_of b frame; queue = if x then [] else queue ++ owes_in setup false (summary_in b) (sending frame) }) owing
       ∙ ap (λ (fs : List Frame). record { book = paid_of b frame; queue = queue ++ fs }) (owes_none setup b frame control)
       ∙ ap (λ (fs : List Frame). record { book = paid_of b frame; queue = fs }) (append-nil queue)
 
--- Any frame that is owed may be sent, unless it is on a stream that may be opened yet.
-pub may_pay : (b : Book) (frame : Frame) → is_passing (noted_of frame) ≡ false → (queue : List Frame) → b.closed ≡ false → may_open (summary_in b).opened frame.id ≡ false → MayMove (record { book = b; queue = frame ∷ queue }) (sends frame)
-may_pay b frame control queue open_yet apart = record {
-  allowed = record { open_yet = open_yet; turn = inl (record { front = refl; control = control }) };
+  -- Behind a farewell in place of another frame nothing is owed.
+  pub stood : (queue : List Frame) → (is_calming frame && not b.ends) ≡ true → desk_after setup (record { book = b; queue = queue }) (sends frame) ≡ record { book = paid_of b frame; queue = [] }
+  stood queue in_place =
+      ap (λ (x : Book). record { book = x; queue = if is_calming frame && not b.ends then [] else rest_of queue ++ owes_in setup false (summary_in b) (sending frame) }) book_stays
+      ∙ ap (λ x. record { book = paid_of b frame; queue = if x then [] else rest_of queue ++ owes_in setup false (summary_in b) (sending frame) }) in_place
+
+-- Any frame that is owed may be sent, unless it is on a stream that may be opened yet: but where too many octets are untaken only a farewell that asks
+-- the client to be calm, and that only where the connection is to end.
+pub may_pay : (b : Book) (frame : Frame) → is_passing (noted_of frame) ≡ false → (queue : List Frame) → b.closed ≡ false → may_open (summary_in b).opened frame.id ≡ false
+    → (is_calming frame && not b.ends) ≡ false → (is_crowded_in (summary_in b) && not (is_calming frame)) ≡ false → MayMove (record { book = b; queue = frame ∷ queue }) (sends frame)
+may_pay b frame control queue open_yet apart owing calm = record {
+  allowed = record { open_yet = open_yet; turn = inl (record { front = refl; control = control; owing = owing; calm = calm }) };
   fit = apart;
+}
+
+-- A farewell that asks the client to be calm may be sent in place of what is owed, where too many octets are untaken.
+pub may_stand : (b : Book) (queue : List Frame) → b.closed ≡ false → b.ends ≡ false → is_crowded_in (summary_in b) ≡ true → MayMove (record { book = b; queue = queue }) (sends (goaway (highest_in (ids_of b.rows)) enhance_your_calm))
+may_stand b queue open_yet on crowded = record {
+  allowed = record { open_yet = open_yet; turn = inr (inr (record { goes_on = on; crowded_so = crowded; farewell = refl })) };
+  fit = refl;
 }

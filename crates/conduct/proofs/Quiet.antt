@@ -23,7 +23,7 @@ use Rattle.model.specs.Causes.{Cause}
 use Rattle.model.specs.Courses.{first_of_both}
 use Rattle.model.specs.ErrorClause.{acks, is_fatal, reset_for}
 use Rattle.conduct.specs.Summary.{Brief, Stream as Kept, Summary}
-use Rattle.conduct.specs.Judging.{completed_in, fault_for, malformed_in, rows_in, fault_on_in, fault_by_standing_in, continuations_in, shifts_past_in, standing_in, is_active_in, window_in}
+use Rattle.conduct.specs.Judging.{completed_in, fault_for, malformed_in, rows_in, fault_on_in, fault_by_standing_in, continuations_in, shifts_past_in, standing_in, is_active_in, window_in, is_crowded_in, are_last}
 use Rattle.conduct.specs.Owing.{owed_first_in, highest_in, new_cause_in, brief_from, owes_in, resets_in}
 use Rattle.conduct.specs.After.{is_sound, grant, stream_from, begun_after}
 use Rattle.conduct.specs.Rows.{Row, Slot, kept_in, slot_of, find, row_behind, row_opened, rows_after, over_kept}
@@ -129,6 +129,8 @@ module _ (s : Summary) (frame : Frame) (quiet : IsQuiet frame) (order : IsInOrde
       ∙ both_none (is_active_in frame.id s) (increment frame == 0) (is_past (window_in s.first_size (s.stream frame.id) +ℤ pos (increment frame))) (Stream protocol_error) (Stream flow_control_error))
       ∙ skip _ _ (no_fault_if _ _ (ap (λ b. is_active_in frame.id s && (b && int_lt (s.stream frame.id).room (pos (length frame.payload)))) quiet.control.no_data ∙ and_right (is_active_in frame.id s) false refl))
       ∙ skip _ _ judged_none
+      ∙ skip _ _ (no_fault_if _ _ (ap (λ (block : Option Partial). are_last s (if opens_by s.opened block NoBlock then frame.id ∷ s.opened else s.opened) && is_crowded_in s) completes
+      ∙ ap (λ b. b && is_crowded_in s) (neither (length s.opened) most_streams)))
 
   -- It has no fault, whatever its stream carried.
   pub fault_none : (brief : Brief) → fault_for brief s (coming frame) ≡ None

@@ -25,7 +25,7 @@ use Rattle.model.specs.Payloads.{number_field}
 use Rattle.model.specs.Admission.{high_water}
 use Rattle.model.specs.ErrorClause.{rst_stream, acks, reset_for, is_plainly_flagged, is_filled}
 use Rattle.conduct.specs.Summary.{Brief, carried_in, Stream as Kept, Summary}
-use Rattle.conduct.specs.Judging.{is_over_in, is_active_in, completed_in, malformed_in, rows_in, fault_for}
+use Rattle.conduct.specs.Judging.{is_over_in, is_active_in, completed_in, malformed_in, rows_in, is_crowded_in, fault_for}
 use Rattle.conduct.specs.Owing.{about_in, fault_in, new_cause_in, brief_from, next_brief, owed_first_in, resets_in, reset_behind_in, owes_in, is_given_back_in, is_part_in, is_rightly_sent_in, must_end_in}
 use Rattle.conduct.specs.Rows.{WillDo, with_streams}
 use Rattle.model.proofs.OwedSteps.{no_reset_for}
@@ -213,7 +213,7 @@ module _ (setup : Setup) (fails : Bool) (f : ℕ → Kept) (s : Summary) (will :
 
   given_back_seen : (frame : Frame) → is_given_back_in view frame ≡ is_given_back_in s frame
   given_back_seen frame =
-      ap (λ b. length frame.payload == 4 && nat_lt (number_field frame.payload) 2147483648 && nat_lt 0 (increment frame) && (frame.id == 0 || b)) (when_active f s will (λ kept. not kept.ended_by_client) frame.id)
+      ap (λ b. length frame.payload == 4 && nat_lt (number_field frame.payload) 2147483648 && nat_lt 0 (increment frame) && not (is_crowded_in s) && (frame.id == 0 || b)) (when_active f s will (λ kept. not kept.ended_by_client) frame.id)
 
   part_seen : (frame : Frame) → is_part_in view frame ≡ is_part_in s frame
   part_seen frame =

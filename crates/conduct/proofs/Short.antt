@@ -11,7 +11,7 @@ use Rattle.model.specs.Errors.Fault.{Connection}
 use Rattle.model.specs.FrameErrors.{fault_if, is_long, most_continuations, longest_block}
 use Rattle.model.specs.ErrorTable.{unless_of_stream}
 use Rattle.conduct.specs.Summary.{Summary}
-use Rattle.conduct.specs.Judging.{fault_by_standing_in, stream_update_in, stream_data_in, malformed_in, continuations_in, long_block_in}
+use Rattle.conduct.specs.Judging.{fault_by_standing_in, stream_update_in, stream_data_in, no_farewell_in, malformed_in, continuations_in, long_block_in}
 use Rattle.conduct.specs.After.{block_after, ends_after}
 use Rattle.conduct.specs.Held.{octets_begun}
 use Rattle.conduct.specs.Rule.{Move}
@@ -28,7 +28,7 @@ not_so true fault none = absurd (cc)
 -- a frame that is no error of the connection leaves a short block
 short_behind : (s : Summary) (noted : Noted) → ends_after s (Came noted) ≡ false → is_long (joined s.block noted.frame) ≡ false
 short_behind s noted on =
-    let later : List (Option Fault) = unless_of_stream (fault_by_standing_in s noted.frame) ∷ stream_update_in s noted.frame ∷ stream_data_in s noted.frame ∷ fault_by_standing_in s noted.frame ∷ [] in
+    let later : List (Option Fault) = unless_of_stream (fault_by_standing_in s noted.frame) ∷ stream_update_in s noted.frame ∷ stream_data_in s noted.frame ∷ fault_by_standing_in s noted.frame ∷ no_farewell_in s noted ∷ [] in
     let none : first_of (early_rows s noted) ≡ None = calm (early_rows s noted) later (malformed_in (s.stream noted.frame.id).brief s (Came noted)) (early_fatal s noted) on in
     let row : long_block_in s noted.frame ≡ None = none_at 3 (early_rows s noted) none in
     let continued : Bool = nat_lt most_continuations (continuations_in s.continuations noted.frame) in

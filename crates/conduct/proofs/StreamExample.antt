@@ -78,11 +78,11 @@ run_moved = (
                 (
                   (
                     tt,
-                    record { allowed = record { open_yet = refl; turn = inl (record { front = refl; control = refl }) }; fit = refl },
+                    record { allowed = record { open_yet = refl; turn = inl (record { front = refl; control = refl; owing = refl; calm = refl }) }; fit = refl },
                   ),
                   record { allowed = record { open_yet = refl; turn = record { nothing = refl; none_begun = refl; goes_on = refl } }; fit = no_block },
                 ),
-                record { allowed = record { open_yet = refl; turn = inl (record { front = refl; control = refl }) }; fit = refl },
+                record { allowed = record { open_yet = refl; turn = inl (record { front = refl; control = refl; owing = refl; calm = refl }) }; fit = refl },
               ),
               record { allowed = record { open_yet = refl; turn = record { nothing = refl; none_begun = refl; goes_on = refl } }; fit = has_block },
             ),
@@ -90,11 +90,11 @@ run_moved = (
           ),
           record { allowed = record { open_yet = refl; turn = record { nothing = refl; none_begun = refl; goes_on = refl } }; fit = no_block },
         ),
-        record { allowed = record { open_yet = refl; turn = inr (record { nothing = refl; goes_on = refl; passing = refl; rightly = refl }) }; fit = refl },
+        record { allowed = record { open_yet = refl; turn = inr (inl (record { nothing = refl; goes_on = refl; passing = refl; rightly = refl })) }; fit = refl },
       ),
-      record { allowed = record { open_yet = refl; turn = inr (record { nothing = refl; goes_on = refl; passing = refl; rightly = refl }) }; fit = refl },
+      record { allowed = record { open_yet = refl; turn = inr (inl (record { nothing = refl; goes_on = refl; passing = refl; rightly = refl })) }; fit = refl },
     ),
-    record { allowed = record { open_yet = refl; turn = inl (record { front = refl; control = refl }) }; fit = refl },
+    record { allowed = record { open_yet = refl; turn = inl (record { front = refl; control = refl; owing = refl; calm = refl }) }; fit = refl },
   ),
   record { allowed = record { open_yet = refl; turn = record { nothing = refl; none_begun = refl; goes_on = refl } }; fit = no_block },
 )

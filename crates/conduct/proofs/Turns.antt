@@ -10,7 +10,7 @@ use Rattle.model.specs.Decoding.{Partial, joined}
 use Rattle.model.specs.StreamStates.{most_streams}
 use Rattle.model.specs.Lifetimes.{ends_by}
 use Rattle.model.specs.Admission.{high_water}
-use Rattle.model.specs.ErrorClause.{is_fatal, is_passing, is_plainly_flagged, is_filled, rst_stream}
+use Rattle.model.specs.ErrorClause.{is_fatal, is_calming, is_passing, is_plainly_flagged, is_filled, rst_stream}
 use Rattle.model.specs.Octets.{is_empty}
 use Rattle.conduct.specs.Turn.{rest_of}
 use Rattle.conduct.specs.Summary.{Stream as Kept, Summary}
@@ -20,6 +20,7 @@ use Rattle.conduct.specs.Rows.{WillDo, with_streams}
 use Rattle.conduct.specs.Rule.{Move, queue_behind, IsInTurn, Allowed}
 use Rattle.conduct.specs.Book.{IsFit}
 use Rattle.model.proofs.OwedSteps.{neither, no_reset_for}
+use Rattle.conduct.proofs.Farewells.{farewell_control}
 use Rattle.conduct.proofs.Alike.{when_active}
 use Rattle.conduct.proofs.Seen.{EndsActive, FailsActive, fault_seen, owes_seen, end_seen, rightly_seen}
 
@@ -63,7 +64,8 @@ ends_active s queue (Breached breach) turn = tt
 ends_active s queue (Happened event) turn = tt
 ends_active s queue (Did act) turn = tt
 ends_active s queue (Sent noted) (inl due) = λ ends. absurd (let no : true ≡ false = sym ends ∙ control_ends_none s.block_out noted due.control in cc)
-ends_active s queue (Sent noted) (inr may) = λ ends. cases (noted.frame.kind == window_update_kind) refl may.rightly ends
+ends_active s queue (Sent noted) (inr (inr stand)) = λ ends. absurd (let no : true ≡ false = sym ends ∙ control_ends_none s.block_out noted (farewell_control (highest_in s.opened) noted stand.farewell) in cc)
+ends_active s queue (Sent noted) (inr (inl may)) = λ ends. cases (noted.frame.kind == window_update_kind) refl may.rightly ends
   where
     sent_so : (b : Bool) → (is_plainly_flagged noted.frame && (if b then is_given_back_in s noted.frame else is_part_in s noted.frame)) ≡ true → b ≡ false → is_active_in noted.frame.id s ≡ true
     sent_so true rightly is = absurd (let no : true ≡ false = is in cc)
@@ -108,7 +110,8 @@ module _ (setup : Setup) (fails : Bool) (f : ℕ → Kept) (s : Summary) (will :
   turn_told queue (Breached breach) turn = record { nothing = turn.nothing; none_begun = turn.none_begun; goes_on = sym (end_seen setup fails f s will few) ∙ turn.goes_on }
   turn_told queue (Happened event) turn = record { nothing = turn.nothing; none_begun = turn.none_begun; goes_on = sym (end_seen setup fails f s will few) ∙ turn.goes_on }
   turn_told queue (Sent noted) (inl due) = inl due
-  turn_told queue (Sent noted) (inr may) = inr (record { nothing = may.nothing; goes_on = sym (end_seen setup fails f s will few) ∙ may.goes_on; passing = may.passing; rightly = sym (rightly_seen setup fails f s will few noted.frame) ∙ may.rightly })
+  turn_told queue (Sent noted) (inr (inl may)) = inr (inl (record { nothing = may.nothing; goes_on = sym (end_seen setup fails f s will few) ∙ may.goes_on; passing = may.passing; rightly = sym (rightly_seen setup fails f s will few noted.frame) ∙ may.rightly }))
+  turn_told queue (Sent noted) (inr (inr stand)) = inr (inr stand)
   turn_told queue (Did CloseClient) turn = record { nothing = turn.nothing; to_end = sym (end_seen setup fails f s will few) ∙ turn.to_end }
   turn_told queue (Did (Open k route)) turn = turn
   turn_told queue (Did (ToUp k octets)) turn = turn
@@ -132,5 +135,5 @@ module _ (setup : Setup) (fails : Bool) (f : ℕ → Kept) (s : Summary) (will :
   queue_told queue (Came noted) fit turn = owed_told queue (Came noted) fit turn
   queue_told queue (Breached breach) fit turn = owed_told queue (Breached breach) fit turn
   queue_told queue (Happened event) fit turn = owed_told queue (Happened event) fit turn
-  queue_told queue (Sent noted) fit turn = ap (λ (fs : List Frame). rest_of queue ++ fs) (owed_told queue (Sent noted) fit turn)
+  queue_told queue (Sent noted) fit turn = ap (λ (fs : List Frame). if is_calming noted.frame && not s.ends then [] else rest_of queue ++ fs) (owed_told queue (Sent noted) fit turn)
   queue_told queue (Did act) fit turn = refl

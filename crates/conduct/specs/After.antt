@@ -15,7 +15,7 @@ use Rattle.model.specs.Openings.{Opened}
 use Rattle.model.specs.Lifetimes.{ends_by}
 use Rattle.model.specs.WindowsOnTape.{has_settings, increment, data_length, is_on, is_any}
 use Rattle.model.specs.Courses.{is_final}
-use Rattle.model.specs.ErrorClause.{is_fatal}
+use Rattle.model.specs.ErrorClause.{is_fatal, is_calming}
 use Rattle.conduct.specs.Summary.{Stream as Kept, Summary}
 use Rattle.conduct.specs.Judging.{resets_active_in, shifts_past_in, completed_in, continuations_in, frame_rows_in, fault_for}
 use Rattle.conduct.specs.Owing.{fault_in, brief_from, opened_after}
@@ -90,13 +90,14 @@ abbrev pub last_after : ℕ → Entry → ℕ
 last_after before (Came noted) = noted.frame.id
 last_after before _ = before
 
--- whether the last that came in calls for the end
+-- whether the last that came in calls for the end, or a farewell in place of another frame
 abbrev pub ends_after : Summary → Entry → Bool
 ends_after s (Came noted) = is_fatal (fault_in s (Came noted))
 ends_after s (Breached breach) = true
 ends_after s (Happened ClientEnd) = true
 ends_after s (Happened event) = false
-ends_after s _ = s.ends
+ends_after s (Sent noted) = is_calming noted.frame || s.ends
+ends_after s (Did act) = s.ends
 
 -- how many active streams the client reset
 abbrev pub resets_after : Summary → Entry → ℕ

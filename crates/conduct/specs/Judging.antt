@@ -8,9 +8,10 @@ use Rattle.model.specs.Tapes.Entry.{Came, Breached}
 use Rattle.model.specs.Decoding.{Partial, joined}
 use Rattle.model.specs.Payloads.{payload_fault, code_of_payload}
 use Rattle.model.specs.SettingValues.{settings_in, settings_fault, code_of_fault, initial_window_after}
-use Rattle.model.specs.StreamStates.{StreamState, OpenedStream, Standing, standing, verdict}
+use Rattle.model.specs.StreamStates.{StreamState, OpenedStream, Standing, standing, verdict, most_streams}
 use Rattle.model.specs.StreamStates.StreamState.{ResetByPeer, ResetByUs}
-use Rattle.model.specs.Lifetimes.{state_by_ends}
+use Rattle.model.specs.Admission.{most_untaken}
+use Rattle.model.specs.Lifetimes.{state_by_ends, opens_by}
 use Rattle.model.specs.Errors.{Fault, row_first_frame, first_of, or_else}
 use Rattle.model.specs.Errors.Fault.{Connection, Stream}
 use Rattle.model.specs.FrameErrors.{fault_if, is_between, most_continuations, is_long, is_misplaced}
@@ -131,6 +132,23 @@ resets_row_in s frame = fault_if (resets_active_in s frame && nat_le most_resets
 
 -- ---- rows that are judged when it is
 
+-- too many octets are untaken for a frame beside responses
+abbrev pub is_crowded_in : Summary → Bool
+is_crowded_in s = nat_lt most_untaken s.untaken
+
+-- the streams that were opened, with the frame
+abbrev pub opened_with : Summary → Noted → List ℕ
+opened_with s noted =
+    if opens_by s.opened (completed_in s.block noted.frame) noted.note then noted.frame.id ∷ s.opened else s.opened
+
+-- these are all that may be opened, and weren't before
+abbrev pub are_last : Summary → List ℕ → Bool
+are_last s opened = nat_lt (length s.opened) most_streams && length opened == most_streams
+
+-- the last stream is opened, and its farewell can't go out
+abbrev pub no_farewell_in : Summary → Noted → Option Fault
+no_farewell_in s noted = fault_if (are_last s (opened_with s noted) && is_crowded_in s) (Stream enhance_your_calm)
+
 -- an increment of an active stream's window
 abbrev pub stream_update_in : Summary → Frame → Option Fault
 stream_update_in s frame =
@@ -189,6 +207,7 @@ rows_behind_block_in s noted =
     ∷ stream_update_in s noted.frame
     ∷ stream_data_in s noted.frame
     ∷ fault_by_standing_in s noted.frame
+    ∷ no_farewell_in s noted
     ∷ []
 
 -- all rows but that on malformed messages, which alone looks at the course of the frame's stream

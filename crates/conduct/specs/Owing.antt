@@ -5,7 +5,7 @@ use Rattle.model.specs.Octets.{is_empty}
 use Rattle.model.specs.Messages.{Item, ends_with}
 use Rattle.model.specs.Http2.{body_of}
 use Rattle.model.specs.Malformed.{declared, is_begun}
-use Rattle.model.specs.Frames.{Frame, data_kind, window_update_kind, continuation_kind, ends_stream, goaway, no_error}
+use Rattle.model.specs.Frames.{Frame, data_kind, window_update_kind, continuation_kind, ends_stream, goaway, no_error, enhance_your_calm}
 use Rattle.model.specs.Payloads.{number_field}
 use Rattle.model.specs.Setup.{Setup}
 use Rattle.model.specs.Tapes.{Entry}
@@ -15,7 +15,7 @@ use Rattle.model.specs.Streams.{frame_items}
 use Rattle.model.specs.StreamStates.{most_streams}
 use Rattle.model.specs.Errors.{Fault}
 use Rattle.model.specs.Errors.Fault.{Connection, Stream}
-use Rattle.model.specs.Lifetimes.{opens_by, ends_by}
+use Rattle.model.specs.Lifetimes.{ends_by}
 use Rattle.model.specs.WindowsOnTape.{increment}
 use Rattle.model.specs.Openings.{given}
 use Rattle.model.specs.Causes.{Cause, cause_if}
@@ -23,7 +23,7 @@ use Rattle.model.specs.Causes.Cause.{BadAnswer}
 use Rattle.model.specs.Courses.{upstream_of, cause_of_frame, first_of_both, interrupts}
 use Rattle.model.specs.ErrorClause.{rst_stream, acks, reset_for, is_plainly_flagged, is_filled}
 use Rattle.conduct.specs.Summary.{Brief, carried_in, Stream as Kept, Summary}
-use Rattle.conduct.specs.Judging.{active_in, is_active_in, completed_in, fault_for}
+use Rattle.conduct.specs.Judging.{active_in, is_active_in, completed_in, fault_for, is_crowded_in, opened_with, are_last}
 
 -- ---- the entry and its stream
 
@@ -90,8 +90,7 @@ next_brief setup fails stream s e =
 
 -- the streams that were opened, with the entry
 abbrev pub opened_after : Summary → Entry → List ℕ
-opened_after s (Came noted) =
-    if opens_by s.opened (completed_in s.block noted.frame) noted.note then noted.frame.id ∷ s.opened else s.opened
+opened_after s (Came noted) = opened_with s noted
 opened_after s _ = s.opened
 
 -- the highest of these ids, or 0
@@ -101,13 +100,17 @@ highest_in opened = fold max 0 opened
 -- the farewell that the last stream calls for
 abbrev pub last_farewell_in : Summary → Entry → List Frame
 last_farewell_in s e =
-    if nat_lt (length s.opened) most_streams && length (opened_after s e) == most_streams
+    if are_last s (opened_after s e)
     then goaway (highest_in (opened_after s e)) no_error ∷ []
     else []
 
+-- the code of the farewell of an error
+abbrev pub code_of_farewell_in : Summary → ℕ → ℕ
+code_of_farewell_in s code = if is_crowded_in s then enhance_your_calm else code
+
 -- what an entry calls for before all else
 abbrev pub owed_first_in : Summary → Entry → Option Fault → List Frame
-owed_first_in s e (Some (Connection code)) = goaway (highest_in (opened_after s e)) code ∷ []
+owed_first_in s e (Some (Connection code)) = goaway (highest_in (opened_after s e)) (code_of_farewell_in s code) ∷ []
 owed_first_in s e (Some (Stream code)) = last_farewell_in s e ++ rst_stream (about_in s e) code ∷ []
 owed_first_in s e _ = last_farewell_in s e
 
@@ -132,11 +135,13 @@ owes_in setup fails s e =
 
 -- ---- what may be sent, and the end
 
--- octets are given back, with the reserved bit unset, to the connection, or to an active stream that the client hasn't ended
+-- octets are given back, with the reserved bit unset, to the connection, or to an active stream that the client hasn't ended, while not too
+-- many are untaken
 abbrev pub is_given_back_in : Summary → Frame → Bool
 is_given_back_in s frame =
     length frame.payload == 4 && nat_lt (number_field frame.payload) 2147483648
     && nat_lt 0 (increment frame)
+    && not (is_crowded_in s)
     && (frame.id == 0 || is_active_in frame.id s && not (s.stream frame.id).ended_by_client)
 
 -- a part of a response to an active stream that the gateway hasn't ended, which may go out now and fills its frame where its block goes on

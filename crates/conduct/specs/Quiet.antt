@@ -1,11 +1,12 @@
 -- Frames by what they change: those that change no stream and no window, on each side.
-use Rattle.std.specs.Prelude.{◌≡◌, true, false, ◌==◌, length, ◌+◌, None}
+use Rattle.std.specs.Prelude.{◌≡◌, true, false, ◌==◌, ◌||◌, length, ◌+◌, None}
 use Rattle.model.specs.Frames.{Frame, data_kind, headers_kind, rst_stream_kind, window_update_kind, continuation_kind, spell}
 use Rattle.model.specs.Tapes.{Noted, Entry}
 use Rattle.model.specs.Tapes.Note.{NoBlock}
 use Rattle.model.specs.Tapes.Entry.{Came, Sent}
 use Rattle.model.specs.Payloads.{payload_fault}
 use Rattle.model.specs.FrameErrors.{is_misplaced}
+use Rattle.model.specs.ErrorClause.{is_calming}
 use Rattle.model.specs.WindowsOnTape.{has_settings}
 use Rattle.conduct.specs.Summary.{Summary}
 use Rattle.conduct.specs.Rule.{Move}
@@ -49,6 +50,6 @@ pub record IsInOrder (s : Summary) (frame : Frame) : Type 0 where
 abbrev pub heard : Book → Frame → Book
 heard book frame = record book { has_come = true; continuations = 0; last = frame.id; ends = false }
 
--- the book behind a control frame that is sent: its octets are untaken
+-- the book behind a control frame that is sent: its octets are untaken, and where it asks the client to be calm the connection is to end
 abbrev pub paid_of : Book → Frame → Book
-paid_of book frame = record book { untaken = book.untaken + length (spell frame) }
+paid_of book frame = record book { untaken = book.untaken + length (spell frame); ends = is_calming frame || book.ends }

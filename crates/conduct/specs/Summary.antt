@@ -71,7 +71,7 @@ pub record Summary : Type 0 where
   -- the upstream connections, and the stream of the last frame, to which the next one is given
   pub given : List Opened
   pub last : ℕ
-  -- the last that came in calls for the end
+  -- the last that came in calls for the end, or a farewell went in place of another frame
   pub ends : Bool
   pub closed : Bool
   -- the octets for the client that its side hasn't taken

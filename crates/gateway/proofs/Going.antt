@@ -4,14 +4,14 @@ use Rattle.std.specs.Prelude.{◌⊎◌, OnOk, Result, Ok, Err}
 use Rattle.model.specs.Logs.{Event, Output, Step, client_in, client_octets}
 use Rattle.model.specs.Logs.Event.{Client, ClientEnd, ClientTook, Up, UpEnd, UpFailed, UpTook}
 use Rattle.model.specs.Octets.{IsStrictFront}
-use Rattle.model.specs.Frames.{preface}
+use Rattle.model.specs.Frames.{preface, settings_frame}
 use Rattle.model.specs.Setup.{Setup}
 use Rattle.model.specs.Tapes.{Entry, listed, breaches, is_closed, IsRead, IsNoPreface}
 use Rattle.model.specs.Tapes as model
 use Rattle.frames.specs.Views.{IsUnfinished}
 use Rattle.policy.specs.Moves.{Move}
 use Rattle.policy.specs.State.{State, tape_of}
-use Rattle.relay.specs.View.{View, square, Leads}
+use Rattle.relay.specs.View.{View, Pending, square, Leads}
 use Rattle.relay.proofs.Performing.{tape_behind}
 use Rattle.steps.specs.Inputs.{Input, events_in}
 use Rattle.steps.specs.Inputs.Input.{OfFrame, OfBreach, OfEvent}
@@ -23,7 +23,7 @@ use Rattle.steps.proofs.Following.{greets_then, comes_none}
 use Rattle.gateway.specs.declared.phase.Phase.{Phase}
 use Rattle.gateway.specs.declared.phase.Phase.TheVariants as phase
 use Rattle.gateway.specs.Reading.{Takes}
-use Rattle.gateway.specs.Stands.{Standing, Serves, Stands, StandsNext, IsOpen, IsIn, IsReadIn, IsUnbegun, IsBehind, is_open, pending_in, MayCome}
+use Rattle.gateway.specs.Stands.{Standing, Serves, Stands, StandsNext, IsOpen, IsIn, IsReadIn, IsUnbegun, IsBehind, IsFresh, is_open, pending_in, MayCome}
 use Rattle.gateway.specs.Receiving.{Happens, Hears, Waits, Departs, GoesOn, Greets, KeepsTerms, IsSettledIf, is_begun, greeted}
 use Rattle.gateway.proofs.Told.{frames_in, breaches_in, in_events, unbroken_then, unbegun_then, unbegun_read, behind_then, behind_read, waits_kept, waits_unbroken, waits_read, departs_read, goes_unbroken, goes_first, goes_on, IsReadOn}
 use Rattle.gateway.proofs.Steps.{rests_behind, answered_more, fits_more, step_by}
@@ -50,6 +50,14 @@ nothing_owed phase.Preface = refl
 nothing_owed phase.Frames = refl
 nothing_owed phase.Closed = refl
 nothing_owed phase.Dead = refl
+
+-- where nothing is owed, something came
+not_fresh : (p : Phase) (kept : View) → pending_in p ≡ square → IsFresh p kept
+not_fresh phase.New kept paid = absurd (let both : settings_frame ∷ [] ≡ [] = ap (λ (p : Pending). p.owed) paid in cc)
+not_fresh phase.Preface kept paid = tt
+not_fresh phase.Frames kept paid = tt
+not_fresh phase.Closed kept paid = tt
+not_fresh phase.Dead kept paid = tt
 
 -- before the preface was read, and behind it
 unbegun_in : (p : Phase) (partial text : List ℕ) (t : List Entry) → is_begun (greeted p) ≡ false → IsReadIn p partial text t → IsUnbegun partial text t
@@ -94,7 +102,7 @@ module _ (setup : Setup) (old : Standing) (log : List Step) (run : List Move) (s
       serves = serves;
       answered = answered_more setup log run stands.answered event inputs (Some new.kept) q admitted events c (rests_behind setup log run stands.answered (c.moves ++ run) (Some new.kept) c.stands (λ kept is. subst IsSettled (some_same is) settled)) read;
       fits = fits_more setup log run stands.answered event inputs (Some new.kept) q stands.fits admitted alone c;
-      is_in = into new.phase goes (record { state = c.stands.0; leads = subst (λ p. Leads setup (c.moves ++ run) new.kept p c.stands.0) (sym paid) c.stands.1; settled = settled; octets = octets; unbroken = unbroken });
+      is_in = into new.phase goes (record { state = c.stands.0; leads = subst (λ p. Leads setup (c.moves ++ run) new.kept p c.stands.0) (sym paid) c.stands.1; settled = settled; octets = octets; unbroken = unbroken; fresh = not_fresh new.phase new.kept paid });
     };
   }
     where

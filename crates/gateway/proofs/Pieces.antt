@@ -6,7 +6,7 @@ use Rattle.model.specs.Setup.{Setup}
 use Rattle.model.specs.Tapes.{listed, put}
 use Rattle.model.specs.Logs.Output.{ToClient}
 use Rattle.model.specs.Frames.{Frame, spell, settings_frame}
-use Rattle.steps.specs.paying.Controls.{MayPay}
+use Rattle.serving.specs.State.Due.{Nothing}
 use Rattle.relay.specs.View.{View, Pending, square}
 use Rattle.relay.proofs.Bringing.{own_none}
 use Rattle.relay.specs.Bringing.{PerformsOwn}
@@ -53,12 +53,12 @@ greets_none g not_new settled = record {
 
 -- they go out where nothing came yet
 pub greets_first : (g : Standing) (kept : View) (out p : List Output) → g.phase ≡ phase.New → IsSettled g.kept → out ≡ []
-    → ((setup : Setup) (rest : List Frame) (pending : Pending) → pending.owed ≡ settings_frame ∷ rest → MayPay pending.due settings_frame → PerformsOwn setup g.kept pending out kept (record pending { owed = rest }) p)
+    → ((setup : Setup) (rest : List Frame) (pending : Pending) → pending.owed ≡ settings_frame ∷ rest → pending.due ≡ Nothing → PerformsOwn setup g.kept pending out kept (record pending { owed = rest }) p)
     → p ≡ put out (ToClient (spell settings_frame)) → kept ≡ record g.kept { untaken = g.kept.untaken + length (spell settings_frame) } → Greets g (record g { phase = phase.Preface; kept = kept }) p
 greets_first g kept out p new settled nothing performs puts counts = record {
   performs = λ setup.
       subst (λ x. PerformsOwn setup g.kept (pending_in x) [] kept square p) (sym new)
-      (subst (λ (os : List Output). PerformsOwn setup g.kept (record square { owed = settings_frame ∷ [] }) os kept square p) nothing (performs setup [] (record square { owed = settings_frame ∷ [] }) refl (inl refl)));
+      (subst (λ (os : List Output). PerformsOwn setup g.kept (record square { owed = settings_frame ∷ [] }) os kept square p) nothing (performs setup [] (record square { owed = settings_frame ∷ [] }) refl refl));
   only = subst OnlyToClient (sym (puts ∙ ap (λ (os : List Output). put os (ToClient (spell settings_frame))) nothing)) tt;
   after =
       ap (λ x. record g { phase = greeted x; kept = kept }) (sym new)

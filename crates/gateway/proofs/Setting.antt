@@ -52,5 +52,6 @@ module _ (setup : Setup) (kept : View) (book : book_of (record { given = []; unt
       settled = first_settled;
       octets = record { front = record { next = 80; rest = 82 ∷ 73 ∷ 32 ∷ 42 ∷ 32 ∷ 72 ∷ 84 ∷ 84 ∷ 80 ∷ 47 ∷ 50 ∷ 46 ∷ 48 ∷ 13 ∷ 10 ∷ 13 ∷ 10 ∷ 83 ∷ 77 ∷ 13 ∷ 10 ∷ 13 ∷ 10 ∷ []; is = refl }; all = refl; no_frame = refl };
       unbroken = refl;
+      fresh = untaken;
     });
   }

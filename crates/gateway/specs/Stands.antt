@@ -93,6 +93,11 @@ abbrev pub IsReadIn : Phase → List ℕ → List ℕ → List Entry → Type 0
 IsReadIn phase.Frames partial text t = IsBehind partial text t
 IsReadIn _ partial text t = IsUnbegun partial text t
 
+-- Where nothing came yet, nothing was put out for the client.
+abbrev pub IsFresh : Phase → View → Type 0
+IsFresh phase.New kept = kept.untaken ≡ 0
+IsFresh _ kept = Unit {0}
+
 -- The connection is open: moves lead to what is kept, where something may come in, and the octets that are kept are those that aren't read.
 pub record IsOpen (setup : Setup) (phase : Phase) (partial : List ℕ) (kept : View) (text : List ℕ) (run : List Move) : Type 0 where
   pub state : State
@@ -100,6 +105,7 @@ pub record IsOpen (setup : Setup) (phase : Phase) (partial : List ℕ) (kept : V
   pub settled : IsSettled kept
   pub octets : IsReadIn phase partial text (tape_of run)
   pub unbroken : breaches (tape_of run) ≡ []
+  pub fresh : IsFresh phase kept
 
 -- It is open, or was closed by the rule; once memory was refused nothing is said.
 abbrev pub IsIn : Phase → Setup → List ℕ → View → List ℕ → List Move → Type 0

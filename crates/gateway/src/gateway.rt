@@ -24,7 +24,7 @@ ghost use Rattle.holding.specs.Held.{IsSmall, held_in as held_in_rooms};
 ghost use Rattle.gateway.specs.Held.{IsHeldWithin, held_in};
 ghost use Rattle.gateway.specs.Rooms.{TellsRoom, AreRooms, room_in, rooms_in, turns, fails};
 ghost use Rattle.gateway.specs.Setups.{setup_of, IsServable};
-ghost use Rattle.gateway.specs.Stands.{Serves, Stands, StandsNext, admits, room_of, is_dead, is_open};
+ghost use Rattle.gateway.specs.Stands.{IsFresh, Serves, Stands, StandsNext, admits, room_of, is_dead, is_open};
 ghost use Rattle.gateway.specs.Receiving.{Receives, ReadsOn, Happens, Greets, KeepsTerms, IsSettledIf, is_begun};
 
 use crate::config::Config;
@@ -42,7 +42,7 @@ use relay::Rooms;
 use std::alloc::{AllocError, Global};
 use std::marker::Model;
 use std::mem;
-use steps::paying::{Control, pay};
+use steps::paying::greet;
 use steps::{Breach, Service, Went, client_took, end, fail, hear, leave, leave_at, up_took};
 use upstreams::Upstreams;
 
@@ -393,11 +393,12 @@ impl Gateway {
     /// Sends the gateway's settings, unless they were sent (RFC 9113, section 3.4).
     fn greet(&mut self, out: &mut Outputs) -> Result<(), AllocError>
         requires settled { IsSettled self.old.kept }
+        requires fresh { IsFresh self.old.phase self.old.kept }
         requires nothing { out.old ≡ [] }
         ensures { OnOk result (Greets self.old self.new out.new) }
     {
         if matches!(self.phase, Phase::New) {
-            pay(&mut self.rooms, Control::Settings, out)?;
+            greet(&mut self.rooms, out)?;
             self.phase = Phase::Preface;
         }
         Ok(())

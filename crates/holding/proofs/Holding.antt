@@ -182,7 +182,7 @@ module _ (known : Known) (run : List Move) (k : IsKnown known run) (rests : Rest
           box_bare : (x : Kept) → known.setup.passing ≡ Whole → offering_state.find stream s.offers.kept ≡ Some x → offers.octets_in x.box ≤ (offers.most_heads + 1) * longest_section
           box_bare x whole box =
               let is_kept : IsKeptIf known t c.live.stream (Some x) = subst (IsKeptIf known t c.live.stream) (ap (λ n. offering_state.find n s.offers.kept) own ∙ box) (place.offering.kept c.live.stream a.active) in
-              let none = none_waits known t c.live.k c.live x.box whole place.neighbours a (is_kept.stands (rests.flushed.none_cut stream x box)) in
+              let none = none_waits known t c.live.k c.live x.box whole place.neighbours a (is_kept.stands (is_kept.uncut a.no_cause)) in
               let few = box_at (λ (y : Kept). outboxes.FewWait y.box) stream s.offers.kept x heads box in
               let some = outboxes.heads_sum x.box few in
               let trailers = few.trailers in

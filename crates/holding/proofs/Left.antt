@@ -12,7 +12,7 @@ use Rattle.model.specs.FrameErrors.{fault_if}
 use Rattle.model.specs.ErrorTable.{unless_of_stream, is_past_room}
 use Rattle.model.specs.WindowsOnTape.{is_any}
 use Rattle.conduct.specs.Summary.{Summary}
-use Rattle.conduct.specs.Judging.{fault_by_standing_in, stream_update_in, stream_data_in, malformed_in, connection_data_in}
+use Rattle.conduct.specs.Judging.{fault_by_standing_in, stream_update_in, stream_data_in, malformed_in, connection_data_in, no_farewell_in}
 use Rattle.conduct.specs.After.{room_after, ends_after}
 use Rattle.conduct.specs.Rule.{Move}
 use Rattle.conduct.specs.Book.{as_point, summary_in, desk_of, AllMoved}
@@ -28,7 +28,7 @@ not_so true fault none = absurd (cc)
 -- a frame that is no error of the connection isn't past its room
 fits_behind : (s : Summary) (noted : Noted) → ends_after s (Came noted) ≡ false → is_past_room s.room noted.frame ≡ false
 fits_behind s noted on =
-    let later : List (Option Fault) = unless_of_stream (fault_by_standing_in s noted.frame) ∷ stream_update_in s noted.frame ∷ stream_data_in s noted.frame ∷ fault_by_standing_in s noted.frame ∷ [] in
+    let later : List (Option Fault) = unless_of_stream (fault_by_standing_in s noted.frame) ∷ stream_update_in s noted.frame ∷ stream_data_in s noted.frame ∷ fault_by_standing_in s noted.frame ∷ no_farewell_in s noted ∷ [] in
     let none : first_of (early_rows s noted) ≡ None = calm (early_rows s noted) later (malformed_in (s.stream noted.frame.id).brief s (Came noted)) (early_fatal s noted) on in
     let row : connection_data_in s noted.frame ≡ None = none_at 11 (early_rows s noted) none in
     not_so (is_past_room s.room noted.frame) (Connection flow_control_error) row

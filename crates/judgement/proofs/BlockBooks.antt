@@ -1,5 +1,5 @@
 -- What comes of a whole header block on its stream, and so of the frame that completes it: the book that it leaves.
-use Rattle.std.proofs.Common.{◌≡◌, Bool, true, false, ◌==◌, if◌then◌else◌, List, [], ◌∷◌, Option, Some, None, refl, sym, ◌∙◌, ap, inl, inr}
+use Rattle.std.proofs.Common.{◌≡◌, Bool, true, false, ◌&&◌, ◌==◌, if◌then◌else◌, List, [], ◌∷◌, Option, Some, None, refl, sym, ◌∙◌, ap, inl, inr}
 use Rattle.std.proofs.lemmas.Bool.{cases_Bool}
 use Rattle.model.specs.Messages.{Field}
 use Rattle.model.specs.Frames.{Frame, protocol_error}
@@ -15,7 +15,7 @@ use Rattle.model.specs.Lifetimes.{may_open}
 use Rattle.model.specs.ErrorTable.{fault_of}
 use Rattle.model.specs.ErrorClause.{is_fatal}
 use Rattle.conduct.specs.Summary.{Stream as Kept}
-use Rattle.conduct.specs.Judging.{completed_in, frame_rows_in, fault_for}
+use Rattle.conduct.specs.Judging.{completed_in, frame_rows_in, fault_for, is_crowded_in}
 use Rattle.conduct.specs.Owing.{fault_in}
 use Rattle.conduct.specs.Rows.{Row, fresh, find, slot_of, ids_of, rows_after}
 use Rattle.conduct.specs.Rows.Slot.{Over}
@@ -24,7 +24,7 @@ use Rattle.conduct.specs.Tidy.{AreKept}
 use Rattle.streams_kept.specs.Asked as asked
 use Rattle.streams_kept.specs.Asked.{changed}
 use Rattle.judgement.specs.Judgement.{fault_told}
-use Rattle.judgement.specs.Blocks.{placed, kept_with, is_malformed_behind, fault_on, AreLeft, Settles}
+use Rattle.judgement.specs.Blocks.{placed, kept_with, is_malformed_behind, opens_last, no_farewell, fault_with, AreLeft, SettlesBy}
 use Rattle.judgement.specs.Fragments.{IsFragment, noted_behind, IsNotedLeft, IsNotedJudged}
 use Rattle.judgement.specs.declared.answers.BlockJudged.{BlockJudged}
 use Rattle.judgement.specs.declared.answers.BlockJudged.TheVariants as judged
@@ -37,39 +37,49 @@ module _ (setup : Setup) (b : Book) (frame : Frame) (fields : List Field) (of : 
   abbrev noted : Noted
   noted = record { frame = frame; note = Fields fields }
 
+  -- whether too many octets are untaken
+  abbrev crowded : Bool
+  crowded = is_crowded_in (summary_in b)
+
   -- the fault by its stream's standing
   abbrev by_standing : Option Fault
   by_standing = fault_of (asked.verdict b.rows frame.id 1)
 
+  -- where it opens the last stream, and its farewell can't go out
+  abbrev late : Option Fault
+  late = no_farewell crowded b.rows frame.id
+
   -- the fault of the frame is that of its block
-  fault_is : fault_in (summary_in b) (Came noted) ≡ fault_on b.rows frame.id fields block.ends
+  fault_is : fault_in (summary_in b) (Came noted) ≡ fault_with crowded b.rows frame.id fields block.ends
   fault_is =
       told_fault setup b frame fields of sound block is_block of_stream kept (find b.rows frame.id).brief
-      ∙ alone by_standing (fault_if (is_malformed_behind (find b.rows frame.id).brief fields block.ends) (Stream protocol_error))
+      ∙ alone by_standing late (fault_if (is_malformed_behind (find b.rows frame.id).brief fields block.ends) (Stream protocol_error))
     where
-      alone : (o later : Option Fault) → or_else (first_of (o ∷ [])) later ≡ or_else o later
-      alone None later = refl
-      alone (Some f) later = refl
+      alone : (o n later : Option Fault) → or_else (first_of (o ∷ n ∷ [])) later ≡ or_else o (or_else n later)
+      alone None None later = refl
+      alone None (Some g) later = refl
+      alone (Some f) n later = refl
 
   -- what the fault of the block says of that by its stream's standing
-  calm_by : (f : Option Fault) → fault_on b.rows frame.id fields block.ends ≡ f → is_fatal f ≡ false → is_fatal by_standing ≡ false
-  calm_by f is calm = cases by_standing (is_malformed_behind (find b.rows frame.id).brief fields block.ends) f is calm
+  calm_by : (f : Option Fault) → fault_with crowded b.rows frame.id fields block.ends ≡ f → is_fatal f ≡ false → is_fatal by_standing ≡ false
+  calm_by f is calm = cases by_standing (or_else late (fault_if (is_malformed_behind (find b.rows frame.id).brief fields block.ends) (Stream protocol_error))) f is calm
     where
-      cases : (o : Option Fault) (x : Bool) (f : Option Fault) → or_else o (fault_if x (Stream protocol_error)) ≡ f → is_fatal f ≡ false → is_fatal o ≡ false
-      cases None x f is calm = refl
-      cases (Some g) x f is calm = ap is_fatal is ∙ calm
+      cases : (o rest f : Option Fault) → or_else o rest ≡ f → is_fatal f ≡ false → is_fatal o ≡ false
+      cases None rest f is calm = refl
+      cases (Some g) rest f is calm = ap is_fatal is ∙ calm
 
-  discarded_by : fault_on b.rows frame.id fields block.ends ≡ Some Discarded → by_standing ≡ Some Discarded
-  discarded_by is = cases by_standing (is_malformed_behind (find b.rows frame.id).brief fields block.ends) is
+  discarded_by : fault_with crowded b.rows frame.id fields block.ends ≡ Some Discarded → by_standing ≡ Some Discarded
+  discarded_by is = cases by_standing (opens_last b.rows frame.id && crowded) (is_malformed_behind (find b.rows frame.id).brief fields block.ends) is
     where
-      cases : (o : Option Fault) (x : Bool) → or_else o (fault_if x (Stream protocol_error)) ≡ Some Discarded → o ≡ Some Discarded
-      cases None true is = absurd (let no : Some (Stream protocol_error) ≡ Some Discarded = is in cc)
-      cases None false is = absurd (let no : None ≡ Some Discarded = is in cc)
-      cases (Some g) x is = is
+      cases : (o : Option Fault) (y x : Bool) → or_else o (or_else (fault_if y (Stream 11)) (fault_if x (Stream protocol_error))) ≡ Some Discarded → o ≡ Some Discarded
+      cases None true x is = absurd (let no : Some (Stream 11) ≡ Some Discarded = is in cc)
+      cases None false true is = absurd (let no : Some (Stream protocol_error) ≡ Some Discarded = is in cc)
+      cases None false false is = absurd (let no : None ≡ Some Discarded = is in cc)
+      cases (Some g) y x is = is
 
   module _ (none_out : b.block_out ≡ None) where
     -- an error, and what it leaves
-    pub failed : (fault : Fault) (rows : List Row) → fault_on b.rows frame.id fields block.ends ≡ Some fault → AreLeft b.rows frame.id fault rows → IsNotedLeft setup b noted fault (heard_with b frame rows)
+    pub failed : (fault : Fault) (rows : List Row) → fault_with crowded b.rows frame.id fields block.ends ≡ Some fault → AreLeft b.rows frame.id fault rows → IsNotedLeft setup b noted fault (heard_with b frame rows)
     failed (Connection code) rows is left = left
     failed (Stream code) rows is left = elim (cases_Bool (may_open (ids_of b.rows) frame.id)) [
       | inl may ↦
@@ -83,7 +93,7 @@ module _ (setup : Setup) (b : Book) (frame : Frame) (fields : List Field) (of : 
         ap (heard_with b frame) left
         ∙ sym (fragment_book setup b noted b.rows of (discarded_rows setup b frame fields of sound block is_block of_stream kept (discarded_by is)) (ap is_fatal (fault_is ∙ is)))
 
-  module _ (faultless : fault_on b.rows frame.id fields block.ends ≡ None) where
+  module _ (faultless : fault_with crowded b.rows frame.id fields block.ends ≡ None) where
     -- no fault behind what the stream carried
     none_for : (k : Kept) → k ≡ find b.rows frame.id → fault_for k.brief (summary_in b) (Came noted) ≡ None
     none_for k is = ap (λ (x : Kept). fault_for x.brief (summary_in b) (Came noted)) is ∙ fault_is ∙ faultless
@@ -106,10 +116,10 @@ module _ (setup : Setup) (b : Book) (frame : Frame) (fields : List Field) (of : 
     book_taken rows left = ap (heard_with b frame) left ∙ sym (fragment_book setup b noted _ of rows_taken (ap is_fatal (fault_is ∙ faultless)))
 
   -- So what comes of the block comes of the frame.
-  pub judged_by : b.block_out ≡ None → (rows : List Row) (a : BlockJudged) → Settles setup b.rows frame.id fields block.ends rows a → IsNotedJudged setup b noted (heard_with b frame rows) a
+  pub judged_by : b.block_out ≡ None → (rows : List Row) (a : BlockJudged) → SettlesBy (fault_with crowded b.rows frame.id fields block.ends) setup b.rows frame.id fields block.ends rows a → IsNotedJudged setup b noted (heard_with b frame rows) a
   judged_by none_out rows (judged.Failed fault) s = record { is = fault_is ∙ s.0; left = failed none_out (fault_told fault) rows s.0 s.1 }
-  judged_by none_out rows judged.GoesOn s = absurd s.says
-  judged_by none_out rows (judged.Begins head route) s = record { faultless = fault_is ∙ s.faultless; left = book_taken s.faultless rows s.left; says = (block, fields, is_block, refl, s.says) }
-  judged_by none_out rows (judged.Answered cause) s = record { faultless = fault_is ∙ s.faultless; left = book_taken s.faultless rows s.left; says = (block, fields, is_block, refl, s.says) }
-  judged_by none_out rows (judged.Trailers trailers) s = record { faultless = fault_is ∙ s.faultless; left = book_taken s.faultless rows s.left; says = (block, fields, is_block, refl, s.says) }
-  judged_by none_out rows judged.Ignored s = record { faultless = fault_is ∙ s.faultless; left = book_taken s.faultless rows s.left; says = (block, fields, is_block, refl, s.says) }
+  judged_by none_out rows judged.GoesOn s = absurd s.1.says
+  judged_by none_out rows (judged.Begins head route) s = record { faultless = fault_is ∙ s.0; left = book_taken s.0 rows s.1.left; says = (block, fields, is_block, refl, s.1.says) }
+  judged_by none_out rows (judged.Answered cause) s = record { faultless = fault_is ∙ s.0; left = book_taken s.0 rows s.1.left; says = (block, fields, is_block, refl, s.1.says) }
+  judged_by none_out rows (judged.Trailers trailers) s = record { faultless = fault_is ∙ s.0; left = book_taken s.0 rows s.1.left; says = (block, fields, is_block, refl, s.1.says) }
+  judged_by none_out rows judged.Ignored s = record { faultless = fault_is ∙ s.0; left = book_taken s.0 rows s.1.left; says = (block, fields, is_block, refl, s.1.says) }

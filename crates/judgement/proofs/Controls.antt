@@ -15,7 +15,7 @@ use Rattle.model.specs.WindowsOnTape.{has_settings, increment, is_past}
 use Rattle.model.specs.ErrorTable.{judged, is_idle, is_headers, unless_of_stream, most_resets}
 use Rattle.model.specs.ErrorClause.{is_fatal}
 use Rattle.conduct.specs.Summary.{Brief, Summary}
-use Rattle.conduct.specs.Judging.{completed_in, frame_rows_in, values_in, shift_in, shifts_past_in, connection_update_in, idle_in, connection_data_in, fault_on_in, fault_by_standing_in, standing_in, stream_update_in, stream_data_in, is_active_in, window_in, malformed_in, fault_for, resets_row_in}
+use Rattle.conduct.specs.Judging.{completed_in, frame_rows_in, values_in, shift_in, shifts_past_in, connection_update_in, idle_in, connection_data_in, fault_on_in, fault_by_standing_in, standing_in, stream_update_in, stream_data_in, is_active_in, window_in, malformed_in, fault_for, resets_row_in, no_farewell_in}
 use Rattle.conduct.specs.Owing.{fault_in}
 use Rattle.conduct.specs.After.{is_sound, grant}
 use Rattle.conduct.specs.Rows.{Row, ids_of, find}
@@ -30,7 +30,7 @@ use Rattle.conduct.proofs.Seen.{idle_frame}
 use Rattle.conduct.proofs.Turns.{completes_none}
 use Rattle.conduct.proofs.Wanted.{bears}
 use Rattle.judgement.specs.Judgement.{IsPlain, update, behind}
-use Rattle.judgement.proofs.Rows.{skip, two_left, no_fault, later_rows, fault_later, IsRight, is_right, none_begun, in_order, rows_behind, book_behind}
+use Rattle.judgement.proofs.Rows.{skip, two_left, no_fault, later_rows, fault_later, IsRight, is_right, none_begun, in_order, rows_behind, book_behind, opens_no_last}
 
 -- ---- quiet frames
 
@@ -82,6 +82,7 @@ module _ (s : Summary) (frame : Frame) (control : IsControl frame) where
       ∷ stream_update_in s frame
       ∷ stream_data_in s frame
       ∷ fault_by_standing_in s frame
+      ∷ no_farewell_in s (noted_of frame)
       ∷ []
       ) (
       skip _ _ (ap (λ b. first_of (fault_if (frame.id == 0 && (b && increment frame == 0)) (Connection protocol_error) ∷ fault_if (frame.id == 0 && (b && is_past (s.window +ℤ pos (increment frame)))) (Connection flow_control_error) ∷ [])) control.no_update
@@ -94,6 +95,7 @@ module _ (s : Summary) (frame : Frame) (control : IsControl frame) where
       ∙ both_none (is_active_in frame.id s) (increment frame == 0) (is_past (window_in s.first_size (s.stream frame.id) +ℤ pos (increment frame))) (Stream protocol_error) (Stream flow_control_error))
       ∙ skip _ _ (no_fault _ _ (ap (λ b. is_active_in frame.id s && (b && int_lt (s.stream frame.id).room (pos (length frame.payload)))) control.no_data ∙ and_right (is_active_in frame.id s) false refl))
       ∙ skip _ _ judged_none
+      ∙ skip _ _ (opens_no_last s frame)
       )
 
   -- it brings its stream nothing
@@ -232,6 +234,7 @@ module _ (b : Book) (flags : ℕ) (payload : List ℕ) (sound : first_of (frame_
       ∷ stream_update_in (summary_in b) (update flags 0 payload)
       ∷ stream_data_in (summary_in b) (update flags 0 payload)
       ∷ fault_by_standing_in (summary_in b) (update flags 0 payload)
+      ∷ no_farewell_in (summary_in b) (noted_of (update flags 0 payload))
       ∷ []
 
   -- where that applies, it decides
@@ -277,10 +280,12 @@ module _ (setup : Setup) (b : Book) (kept : AreKept b.rows) (flags : ℕ) (paylo
       ∷ stream_update_in before granting
       ∷ stream_data_in before granting
       ∷ fault_by_standing_in before granting
+      ∷ no_farewell_in before (noted_of granting)
       ∷ []
       ) (
-      skip (stream_update_in before granting) (stream_data_in before granting ∷ fault_by_standing_in before granting ∷ []) (ap (λ x. first_of (fault_if (x && increment granting == 0) (Stream protocol_error) ∷ fault_if (x && is_past (window_in before.first_size (before.stream 0) +ℤ pos (increment granting))) (Stream flow_control_error) ∷ [])) inactive)
-      ∙ skip (stream_data_in before granting) (fault_by_standing_in before granting ∷ []) (ap (λ x. fault_if (x && false) (Stream flow_control_error)) inactive)
+      skip (stream_update_in before granting) (stream_data_in before granting ∷ fault_by_standing_in before granting ∷ no_farewell_in before (noted_of granting) ∷ []) (ap (λ x. first_of (fault_if (x && increment granting == 0) (Stream protocol_error) ∷ fault_if (x && is_past (window_in before.first_size (before.stream 0) +ℤ pos (increment granting))) (Stream flow_control_error) ∷ [])) inactive)
+      ∙ skip (stream_data_in before granting) (fault_by_standing_in before granting ∷ no_farewell_in before (noted_of granting) ∷ []) (ap (λ x. fault_if (x && false) (Stream flow_control_error)) inactive)
+      ∙ skip (no_farewell_in before (noted_of granting)) [] (opens_no_last before granting)
       )
 
   -- it isn't judged by what a stream carried

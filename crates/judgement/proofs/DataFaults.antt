@@ -13,16 +13,16 @@ use Rattle.model.specs.Lifetimes.{state_by_ends}
 use Rattle.model.specs.WindowsOnTape.{increment, is_past}
 use Rattle.model.specs.ErrorTable.{fault_of, unless_of_stream, is_idle}
 use Rattle.conduct.specs.Summary.{Summary, Stream as Kept}
-use Rattle.conduct.specs.Judging.{frame_rows_in, is_over_in}
+use Rattle.conduct.specs.Judging.{frame_rows_in, is_over_in, no_farewell_in}
 use Rattle.conduct.specs.Owing.{fault_in}
 use Rattle.conduct.specs.Rows.{Row, find}
 use Rattle.conduct.specs.Book.{Book, summary_in}
-use Rattle.conduct.specs.Quiet.{coming}
+use Rattle.conduct.specs.Quiet.{coming, noted_of}
 use Rattle.streams_kept.specs.Courses.{is_malformed_with}
 use Rattle.streams_kept.specs.Asked as asked
 use Rattle.streams_kept.specs.Asked.{has, standing, active_in, opened_in, is_active}
 use Rattle.judgement.specs.Judgement.{is_of_stream, data_frame}
-use Rattle.judgement.proofs.Rows.{later_rows, fault_later}
+use Rattle.judgement.proofs.Rows.{later_rows, fault_later, opens_no_last}
 use Rattle.judgement.proofs.Standings.{opened_standing, other_standing}
 
 -- ---- what a standing says of DATA
@@ -141,15 +141,21 @@ module _ (b : Book) (flags id : ℕ) (payload : List ℕ) (of_stream : (id == 0)
   data_rows : first_of (later_rows s frame) ≡ first_of (rows_from (is_idle (standing b.rows id)) past standing_fault (is_active b.rows id && past_own))
   data_rows =
       ap (λ x. first_of (first_of (fault_if (x && (false && increment frame == 0)) (Connection protocol_error) ∷ fault_if (x && (false && is_past (b.window +ℤ pos (increment frame)))) (Connection flow_control_error) ∷ []) ∷ (if is_idle (standing b.rows id) && true then standing_fault else None) ∷ None ∷ fault_if past (Connection flow_control_error) ∷ None ∷ unless_of_stream standing_fault
-      ∷ first_of (fault_if (is_active b.rows id && false) (Stream protocol_error) ∷ fault_if (is_active b.rows id && false) (Stream flow_control_error) ∷ []) ∷ fault_if (is_active b.rows id && past_own) (Stream flow_control_error) ∷ standing_fault ∷ [])) of_stream
-      ∙ without_second (if is_idle (standing b.rows id) && true then standing_fault else None) (fault_if past (Connection flow_control_error) ∷ None ∷ unless_of_stream standing_fault
-      ∷ first_of (fault_if (is_active b.rows id && false) (Stream protocol_error) ∷ fault_if (is_active b.rows id && false) (Stream flow_control_error) ∷ []) ∷ fault_if (is_active b.rows id && past_own) (Stream flow_control_error) ∷ standing_fault ∷ [])
+      ∷ first_of (fault_if (is_active b.rows id && false) (Stream protocol_error) ∷ fault_if (is_active b.rows id && false) (Stream flow_control_error) ∷ []) ∷ fault_if (is_active b.rows id && past_own) (Stream flow_control_error) ∷ standing_fault ∷ no_farewell_in s (noted_of frame) ∷ [])) of_stream
+      ∙ ap (λ (n : Option Fault). first_of ((if is_idle (standing b.rows id) && true then standing_fault else None) ∷ None ∷ fault_if past (Connection flow_control_error) ∷ None ∷ unless_of_stream standing_fault
+      ∷ first_of (fault_if (is_active b.rows id && false) (Stream protocol_error) ∷ fault_if (is_active b.rows id && false) (Stream flow_control_error) ∷ []) ∷ fault_if (is_active b.rows id && past_own) (Stream flow_control_error) ∷ standing_fault ∷ n ∷ [])) (opens_no_last s frame)
+      ∙ slim (if is_idle (standing b.rows id) && true then standing_fault else None) (fault_if past (Connection flow_control_error)) (unless_of_stream standing_fault) (first_of (fault_if (is_active b.rows id && false) (Stream protocol_error) ∷ fault_if (is_active b.rows id && false) (Stream flow_control_error) ∷ [])) (fault_if (is_active b.rows id && past_own) (Stream flow_control_error)) standing_fault
       ∙ ap (λ x. first_of ((if is_idle (standing b.rows id) && true then standing_fault else None) ∷ fault_if past (Connection flow_control_error) ∷ None ∷ unless_of_stream standing_fault
       ∷ first_of (fault_if x (Stream protocol_error) ∷ fault_if x (Stream flow_control_error) ∷ []) ∷ fault_if (is_active b.rows id && past_own) (Stream flow_control_error) ∷ standing_fault ∷ [])) (and_right (is_active b.rows id) false refl)
     where
-      without_second : (row : Option Fault) (rows : List (Option Fault)) → first_of (row ∷ None ∷ rows) ≡ first_of (row ∷ rows)
-      without_second None rows = refl
-      without_second (Some f) rows = refl
+      slim : (i p u w d o : Option Fault) → first_of (i ∷ None ∷ p ∷ None ∷ u ∷ w ∷ d ∷ o ∷ None ∷ []) ≡ first_of (i ∷ p ∷ None ∷ u ∷ w ∷ d ∷ o ∷ [])
+      slim (Some f) p u w d o = refl
+      slim None (Some f) u w d o = refl
+      slim None None (Some f) w d o = refl
+      slim None None None (Some f) d o = refl
+      slim None None None None (Some f) o = refl
+      slim None None None None None (Some f) = refl
+      slim None None None None None None = refl
 
   -- whether the body goes wrong with it
   abbrev pub bad_body : Bool

@@ -2,7 +2,7 @@
 use Rattle.std.proofs.Common.{◌≡◌, ℕ, Bool, true, false, not, ◌&&◌, ◌||◌, ◌==◌, if◌then◌else◌, List, [], ◌∷◌, length, Option, Some, None, refl, ◌∙◌, ap}
 use Rattle.std.proofs.lemmas.Bool.{and_right}
 use Rattle.std.specs.Prelude.{pos, ◌+ℤ◌, is_some, int_lt, nat_le, option_map}
-use Rattle.model.specs.Frames.{Frame, is_ack, content, ends_stream, headers_kind, rst_stream_kind, window_update_kind, protocol_error, flow_control_error, compression_error}
+use Rattle.model.specs.Frames.{Frame, is_ack, content, ends_stream, headers_kind, rst_stream_kind, window_update_kind, protocol_error, flow_control_error, compression_error, enhance_your_calm}
 use Rattle.model.specs.Tapes.{Noted}
 use Rattle.model.specs.Tapes.Entry.{Came}
 use Rattle.model.specs.Decoding.{Partial}
@@ -11,10 +11,13 @@ use Rattle.model.specs.Errors.Fault.{Connection, Stream, Discarded}
 use Rattle.model.specs.FrameErrors.{fault_if}
 use Rattle.model.specs.Malformed.{is_malformed_content}
 use Rattle.model.specs.SettingValues.{settings_in, settings_fault, code_of_fault, initial_window_after}
+use Rattle.model.specs.StreamStates.{most_streams}
+use Rattle.model.specs.Lifetimes.{opens_by}
+use Rattle.model.proofs.OwedSteps.{neither}
 use Rattle.model.specs.WindowsOnTape.{has_settings, increment, is_past}
 use Rattle.model.specs.ErrorTable.{judged, is_idle, is_headers, is_undecodable, is_malformed, is_bad_block, unless_of_stream, most_resets}
 use Rattle.conduct.specs.Summary.{Brief, carried_in, Summary}
-use Rattle.conduct.specs.Judging.{completed_in, frame_rows_in, rows_before_block_in, values_in, shift_in, shifts_past_in, connection_update_in, idle_in, connection_data_in, fault_on_in, fault_by_standing_in, standing_in, stream_update_in, stream_data_in, is_active_in, window_in, malformed_in, fault_for, resets_row_in}
+use Rattle.conduct.specs.Judging.{completed_in, frame_rows_in, rows_before_block_in, values_in, shift_in, shifts_past_in, connection_update_in, idle_in, connection_data_in, fault_on_in, fault_by_standing_in, standing_in, stream_update_in, stream_data_in, is_active_in, window_in, malformed_in, fault_for, resets_row_in, no_farewell_in, are_last, is_crowded_in}
 use Rattle.judgement.specs.Fragments.{IsFragment}
 use Rattle.judgement.proofs.Rows.{first_past, skip, no_fault}
 use Rattle.judgement.proofs.Controls.{both_none}
@@ -37,6 +40,7 @@ rows_from s noted =
     ∷ stream_update_in s noted.frame
     ∷ stream_data_in s noted.frame
     ∷ fault_by_standing_in s noted.frame
+    ∷ no_farewell_in s noted
     ∷ []
 
 module _ (s : Summary) (noted : Noted) (of : IsFragment noted.frame) where
@@ -89,51 +93,59 @@ module _ (s : Summary) (noted : Noted) (of : IsFragment noted.frame) where
       ∙ none_if (is_idle (standing_in s frame.id) && true)
 
   -- what is left where its stream is judged so
-  rows_left : first_of (rows_from s noted) ≡ first_of (idle_in s frame ∷ fault_if (is_undecodable noted.note) (Connection compression_error) ∷ unless_of_stream (fault_by_standing_in s frame) ∷ fault_by_standing_in s frame ∷ [])
+  rows_left : first_of (rows_from s noted) ≡ first_of (idle_in s frame ∷ fault_if (is_undecodable noted.note) (Connection compression_error) ∷ unless_of_stream (fault_by_standing_in s frame) ∷ fault_by_standing_in s frame ∷ no_farewell_in s noted ∷ [])
   rows_left =
       skip _ _ no_values
       ∙ skip _ _ no_shift
       ∙ skip _ _ no_update
-      ∙ ap (λ (row : Option Fault). first_of (idle_in s frame ∷ row ∷ connection_data_in s frame ∷ fault_if (is_undecodable noted.note) (Connection compression_error) ∷ unless_of_stream (fault_by_standing_in s frame) ∷ stream_update_in s frame ∷ stream_data_in s frame ∷ fault_by_standing_in s frame ∷ [])) no_resets
-      ∙ ap (λ (row : Option Fault). first_of (idle_in s frame ∷ None ∷ row ∷ fault_if (is_undecodable noted.note) (Connection compression_error) ∷ unless_of_stream (fault_by_standing_in s frame) ∷ stream_update_in s frame ∷ stream_data_in s frame ∷ fault_by_standing_in s frame ∷ [])) no_data
-      ∙ ap (λ (row : Option Fault). first_of (idle_in s frame ∷ None ∷ None ∷ fault_if (is_undecodable noted.note) (Connection compression_error) ∷ unless_of_stream (fault_by_standing_in s frame) ∷ row ∷ stream_data_in s frame ∷ fault_by_standing_in s frame ∷ [])) no_stream_update
-      ∙ ap (λ (row : Option Fault). first_of (idle_in s frame ∷ None ∷ None ∷ fault_if (is_undecodable noted.note) (Connection compression_error) ∷ unless_of_stream (fault_by_standing_in s frame) ∷ None ∷ row ∷ fault_by_standing_in s frame ∷ [])) no_stream_data
-      ∙ without_four (idle_in s frame) (fault_if (is_undecodable noted.note) (Connection compression_error)) (unless_of_stream (fault_by_standing_in s frame)) (fault_by_standing_in s frame)
+      ∙ ap (λ (row : Option Fault). first_of (idle_in s frame ∷ row ∷ connection_data_in s frame ∷ fault_if (is_undecodable noted.note) (Connection compression_error) ∷ unless_of_stream (fault_by_standing_in s frame) ∷ stream_update_in s frame ∷ stream_data_in s frame ∷ fault_by_standing_in s frame ∷ no_farewell_in s noted ∷ [])) no_resets
+      ∙ ap (λ (row : Option Fault). first_of (idle_in s frame ∷ None ∷ row ∷ fault_if (is_undecodable noted.note) (Connection compression_error) ∷ unless_of_stream (fault_by_standing_in s frame) ∷ stream_update_in s frame ∷ stream_data_in s frame ∷ fault_by_standing_in s frame ∷ no_farewell_in s noted ∷ [])) no_data
+      ∙ ap (λ (row : Option Fault). first_of (idle_in s frame ∷ None ∷ None ∷ fault_if (is_undecodable noted.note) (Connection compression_error) ∷ unless_of_stream (fault_by_standing_in s frame) ∷ row ∷ stream_data_in s frame ∷ fault_by_standing_in s frame ∷ no_farewell_in s noted ∷ [])) no_stream_update
+      ∙ ap (λ (row : Option Fault). first_of (idle_in s frame ∷ None ∷ None ∷ fault_if (is_undecodable noted.note) (Connection compression_error) ∷ unless_of_stream (fault_by_standing_in s frame) ∷ None ∷ row ∷ fault_by_standing_in s frame ∷ no_farewell_in s noted ∷ [])) no_stream_data
+      ∙ without_four (idle_in s frame) (fault_if (is_undecodable noted.note) (Connection compression_error)) (unless_of_stream (fault_by_standing_in s frame)) (fault_by_standing_in s frame) (no_farewell_in s noted)
     where
-      without_four : (a b c d : Option Fault) → first_of (a ∷ None ∷ None ∷ b ∷ c ∷ None ∷ None ∷ d ∷ []) ≡ first_of (a ∷ b ∷ c ∷ d ∷ [])
-      without_four (Some f) b c d = refl
-      without_four None (Some f) c d = refl
-      without_four None None (Some f) d = refl
-      without_four None None None d = refl
+      without_four : (a b c d e : Option Fault) → first_of (a ∷ None ∷ None ∷ b ∷ c ∷ None ∷ None ∷ d ∷ e ∷ []) ≡ first_of (a ∷ b ∷ c ∷ d ∷ e ∷ [])
+      without_four (Some f) b c d e = refl
+      without_four None (Some f) c d e = refl
+      without_four None None (Some f) d e = refl
+      without_four None None None (Some f) e = refl
+      without_four None None None None e = refl
 
   module _ (sound : first_of (frame_rows_in s frame) ≡ None) where
-    fault_left : (brief : Brief) → fault_for brief s (Came noted) ≡ or_else (first_of (idle_in s frame ∷ fault_if (is_undecodable noted.note) (Connection compression_error) ∷ unless_of_stream (fault_by_standing_in s frame) ∷ fault_by_standing_in s frame ∷ [])) (malformed_in brief s (Came noted))
+    fault_left : (brief : Brief) → fault_for brief s (Came noted) ≡ or_else (first_of (idle_in s frame ∷ fault_if (is_undecodable noted.note) (Connection compression_error) ∷ unless_of_stream (fault_by_standing_in s frame) ∷ fault_by_standing_in s frame ∷ no_farewell_in s noted ∷ [])) (malformed_in brief s (Came noted))
     fault_left brief = ap (λ (o : Option Fault). or_else o (malformed_in brief s (Came noted))) (first_past (frame_rows_in s frame) (rows_from s noted) sound ∙ rows_left)
 
     -- A frame that completes a block: the block can't be read, its stream is against it, or it is malformed.
     pub block_fault : (block : Partial) → completed_in s.block frame ≡ Some block → (brief : Brief)
-        → fault_for brief s (Came noted) ≡ or_else (first_of (fault_if (is_undecodable noted.note) (Connection compression_error) ∷ fault_on_in s frame.id (Some headers_kind) ∷ [])) (fault_if (not (is_some brief.cause) && is_bad_block (carried_in brief) block.ends noted.note) (Stream protocol_error))
+        → fault_for brief s (Came noted) ≡ or_else (first_of (fault_if (is_undecodable noted.note) (Connection compression_error) ∷ fault_on_in s frame.id (Some headers_kind) ∷ no_farewell_in s noted ∷ [])) (fault_if (not (is_some brief.cause) && is_bad_block (carried_in brief) block.ends noted.note) (Stream protocol_error))
     block_fault block is brief =
         fault_left brief
-        ∙ ap (λ (o : Option Partial). or_else (first_of ((if is_idle (standing_in s frame.id) && not (is_headers (judged o frame)) then fault_on_in s frame.id (judged o frame) else None) ∷ fault_if (is_undecodable noted.note) (Connection compression_error) ∷ unless_of_stream (fault_on_in s frame.id (judged o frame)) ∷ fault_on_in s frame.id (judged o frame) ∷ [])) (fault_if (not (is_some brief.cause) && is_malformed (carried_in brief) o noted) (Stream protocol_error))) is
-        ∙ ap (λ x. or_else (first_of ((if x then fault_on_in s frame.id (Some headers_kind) else None) ∷ fault_if (is_undecodable noted.note) (Connection compression_error) ∷ unless_of_stream (fault_on_in s frame.id (Some headers_kind)) ∷ fault_on_in s frame.id (Some headers_kind) ∷ [])) (fault_if (not (is_some brief.cause) && is_bad_block (carried_in brief) block.ends noted.note) (Stream protocol_error))) (and_right (is_idle (standing_in s frame.id)) false refl)
-        ∙ ap (λ (o : Option Fault). or_else o (fault_if (not (is_some brief.cause) && is_bad_block (carried_in brief) block.ends noted.note) (Stream protocol_error))) (one_of (fault_if (is_undecodable noted.note) (Connection compression_error)) (fault_on_in s frame.id (Some headers_kind)))
+        ∙ ap (λ (o : Option Partial). or_else (first_of ((if is_idle (standing_in s frame.id) && not (is_headers (judged o frame)) then fault_on_in s frame.id (judged o frame) else None) ∷ fault_if (is_undecodable noted.note) (Connection compression_error) ∷ unless_of_stream (fault_on_in s frame.id (judged o frame)) ∷ fault_on_in s frame.id (judged o frame) ∷ no_farewell_in s noted ∷ [])) (fault_if (not (is_some brief.cause) && is_malformed (carried_in brief) o noted) (Stream protocol_error))) is
+        ∙ ap (λ x. or_else (first_of ((if x then fault_on_in s frame.id (Some headers_kind) else None) ∷ fault_if (is_undecodable noted.note) (Connection compression_error) ∷ unless_of_stream (fault_on_in s frame.id (Some headers_kind)) ∷ fault_on_in s frame.id (Some headers_kind) ∷ no_farewell_in s noted ∷ [])) (fault_if (not (is_some brief.cause) && is_bad_block (carried_in brief) block.ends noted.note) (Stream protocol_error))) (and_right (is_idle (standing_in s frame.id)) false refl)
+        ∙ ap (λ (o : Option Fault). or_else o (fault_if (not (is_some brief.cause) && is_bad_block (carried_in brief) block.ends noted.note) (Stream protocol_error))) (one_of (fault_if (is_undecodable noted.note) (Connection compression_error)) (fault_on_in s frame.id (Some headers_kind)) (no_farewell_in s noted))
       where
-        one_of : (a o : Option Fault) → first_of (None ∷ a ∷ unless_of_stream o ∷ o ∷ []) ≡ first_of (a ∷ o ∷ [])
-        one_of (Some f) o = refl
-        one_of None None = refl
-        one_of None (Some (Connection code)) = refl
-        one_of None (Some (Stream code)) = refl
-        one_of None (Some Discarded) = refl
+        one_of : (a o e : Option Fault) → first_of (None ∷ a ∷ unless_of_stream o ∷ o ∷ e ∷ []) ≡ first_of (a ∷ o ∷ e ∷ [])
+        one_of (Some f) o e = refl
+        one_of None None e = refl
+        one_of None (Some (Connection code)) e = refl
+        one_of None (Some (Stream code)) e = refl
+        one_of None (Some Discarded) e = refl
+
+    -- It opens no stream then.
+    opens_none : completed_in s.block frame ≡ None → no_farewell_in s noted ≡ None
+    opens_none none =
+        ap (λ (o : Option Partial). fault_if (are_last s (if opens_by s.opened o noted.note then frame.id ∷ s.opened else s.opened) && is_crowded_in s) (Stream enhance_your_calm)) none
+        ∙ ap (λ b. fault_if (b && is_crowded_in s) (Stream enhance_your_calm)) (neither (length s.opened) most_streams)
 
     -- One with which the block goes on has none.
     pub fragment_fault : completed_in s.block frame ≡ None → is_undecodable noted.note ≡ false → (brief : Brief) → fault_for brief s (Came noted) ≡ None
     fragment_fault none read brief =
         fault_left brief
-        ∙ ap (λ (o : Option Partial). or_else (first_of ((if is_idle (standing_in s frame.id) && not (is_headers (judged o frame)) then fault_on_in s frame.id (judged o frame) else None) ∷ fault_if (is_undecodable noted.note) (Connection compression_error) ∷ unless_of_stream (fault_on_in s frame.id (judged o frame)) ∷ fault_on_in s frame.id (judged o frame) ∷ [])) (fault_if (not (is_some brief.cause) && is_malformed (carried_in brief) o noted) (Stream protocol_error))) none
-        ∙ ap (λ (k : Option ℕ). or_else (first_of ((if is_idle (standing_in s frame.id) && not (is_headers k) then fault_on_in s frame.id k else None) ∷ fault_if (is_undecodable noted.note) (Connection compression_error) ∷ unless_of_stream (fault_on_in s frame.id k) ∷ fault_on_in s frame.id k ∷ [])) (fault_if (not (is_some brief.cause) && is_malformed (carried_in brief) None noted) (Stream protocol_error))) as_none
-        ∙ ap (λ (o : Option Fault). or_else (first_of (o ∷ fault_if (is_undecodable noted.note) (Connection compression_error) ∷ None ∷ None ∷ [])) (fault_if (not (is_some brief.cause) && is_malformed (carried_in brief) None noted) (Stream protocol_error))) (none_if (is_idle (standing_in s frame.id) && true))
-        ∙ ap (λ b. or_else (first_of (None ∷ fault_if b (Connection compression_error) ∷ None ∷ None ∷ [])) (fault_if (not (is_some brief.cause) && is_malformed (carried_in brief) None noted) (Stream protocol_error))) read
+        ∙ ap (λ (o : Option Partial). or_else (first_of ((if is_idle (standing_in s frame.id) && not (is_headers (judged o frame)) then fault_on_in s frame.id (judged o frame) else None) ∷ fault_if (is_undecodable noted.note) (Connection compression_error) ∷ unless_of_stream (fault_on_in s frame.id (judged o frame)) ∷ fault_on_in s frame.id (judged o frame) ∷ no_farewell_in s noted ∷ [])) (fault_if (not (is_some brief.cause) && is_malformed (carried_in brief) o noted) (Stream protocol_error))) none
+        ∙ ap (λ (k : Option ℕ). or_else (first_of ((if is_idle (standing_in s frame.id) && not (is_headers k) then fault_on_in s frame.id k else None) ∷ fault_if (is_undecodable noted.note) (Connection compression_error) ∷ unless_of_stream (fault_on_in s frame.id k) ∷ fault_on_in s frame.id k ∷ no_farewell_in s noted ∷ [])) (fault_if (not (is_some brief.cause) && is_malformed (carried_in brief) None noted) (Stream protocol_error))) as_none
+        ∙ ap (λ (o : Option Fault). or_else (first_of (o ∷ fault_if (is_undecodable noted.note) (Connection compression_error) ∷ None ∷ None ∷ no_farewell_in s noted ∷ [])) (fault_if (not (is_some brief.cause) && is_malformed (carried_in brief) None noted) (Stream protocol_error))) (none_if (is_idle (standing_in s frame.id) && true))
+        ∙ ap (λ b. or_else (first_of (None ∷ fault_if b (Connection compression_error) ∷ None ∷ None ∷ no_farewell_in s noted ∷ [])) (fault_if (not (is_some brief.cause) && is_malformed (carried_in brief) None noted) (Stream protocol_error))) read
+        ∙ ap (λ (o : Option Fault). or_else (first_of (None ∷ None ∷ None ∷ None ∷ o ∷ [])) (fault_if (not (is_some brief.cause) && is_malformed (carried_in brief) None noted) (Stream protocol_error))) (opens_none none)
         ∙ no_fault _ _ (ap (λ b. not (is_some brief.cause) && (b && is_malformed_content (carried_in brief) (content frame) (ends_stream frame))) of.no_data ∙ and_right (not (is_some brief.cause)) false refl)
 
     -- Where it is right by itself, nothing is wrong before its block is read.

@@ -25,7 +25,7 @@ use Rattle.model.specs.Causes.{Cause}
 use Rattle.model.specs.Courses.{cause_of_block, cause_of_frame, interrupts}
 use Rattle.model.specs.Streams.{frame_items}
 use Rattle.conduct.specs.Summary.{Brief, carried_in, Stream as Kept, Summary}
-use Rattle.conduct.specs.Judging.{completed_in, frame_rows_in, is_over_in, fault_for}
+use Rattle.conduct.specs.Judging.{completed_in, frame_rows_in, is_over_in, fault_for, are_last, is_crowded_in}
 use Rattle.conduct.specs.Owing.{brief_behind, brief_from, new_cause_in, items_in}
 use Rattle.conduct.specs.After.{is_sound, grant, kept_behind}
 use Rattle.conduct.specs.Rows.{Row, Slot, over_kept, kept_in, slot_of, find, row_behind, row_opened, rows_after}
@@ -42,6 +42,7 @@ use Rattle.streams_kept.specs.Asked.{has, with_slot, changed, active_in}
 use Rattle.streams_kept.proofs.Searches.{IsFound}
 use Rattle.streams_kept.proofs.Changes.{slot_left, slot_given}
 use Rattle.judgement.specs.Fragments.{IsFragment}
+use Rattle.judgement.specs.Blocks.{opens_last, no_farewell}
 use Rattle.judgement.proofs.Standings.{opened_standing}
 use Rattle.judgement.proofs.FragmentFaults.{block_fault}
 use Rattle.judgement.proofs.FragmentBooks.{rows_left}
@@ -86,30 +87,31 @@ module _ (setup : Setup) (b : Book) (frame : Frame) (fields : List Field) (of : 
   abbrev is_bad : Brief → Bool
   is_bad brief = not (is_some brief.cause) && is_bad_block (carried_in brief) block.ends (Fields fields)
 
-  -- ---- its fault
-
-  pub told_fault : (brief : Brief) → fault_for brief s (Came noted) ≡ or_else (first_of (by_standing ∷ [])) (fault_if (is_bad brief) (Stream protocol_error))
-  told_fault brief = block_fault s noted of sound block is_block brief
-
-  pub standing_fault : (f : Fault) → by_standing ≡ Some f → (brief : Brief) → fault_for brief s (Came noted) ≡ Some f
-  standing_fault f is brief = told_fault brief ∙ ap (λ (o : Option Fault). or_else (first_of (o ∷ [])) (fault_if (is_bad brief) (Stream protocol_error))) is
-
-  pub passing_fault : by_standing ≡ None → (brief : Brief) → fault_for brief s (Came noted) ≡ fault_if (is_bad brief) (Stream protocol_error)
-  passing_fault none brief = told_fault brief ∙ ap (λ (o : Option Fault). or_else (first_of (o ∷ [])) (fault_if (is_bad brief) (Stream protocol_error))) none
-
-  pub mild : is_fatal by_standing ≡ false → (brief : Brief) → is_fatal (fault_for brief s (Came noted)) ≡ false
-  mild is brief = ap is_fatal (told_fault brief) ∙ cases by_standing is (is_bad brief)
-    where
-      cases : (o : Option Fault) → is_fatal o ≡ false → (x : Bool) → is_fatal (or_else (first_of (o ∷ [])) (fault_if x (Stream protocol_error))) ≡ false
-      cases None is true = refl
-      cases None is false = refl
-      cases (Some f) is x = is
-
   -- ---- which streams it opens
 
   -- it opens its stream where that may be opened
   opens_is : opens_by s.opened (completed_in s.block frame) (Fields fields) ≡ may_open s.opened frame.id
   opens_is = ap (λ (o : Option Partial). opens_by s.opened o (Fields fields)) is_block ∙ ap (λ id. may_open s.opened id) (completed_own b.block frame block is_block)
+
+  -- ---- its fault
+
+  -- where it opens the last stream, and its farewell can't go out
+  abbrev late : Option Fault
+  late = no_farewell (is_crowded_in s) b.rows frame.id
+
+  pub told_fault : (brief : Brief) → fault_for brief s (Came noted) ≡ or_else (first_of (by_standing ∷ late ∷ [])) (fault_if (is_bad brief) (Stream protocol_error))
+  told_fault brief =
+      block_fault s noted of sound block is_block brief
+      ∙ ap (λ x. or_else (first_of (by_standing ∷ fault_if (are_last s (if x then frame.id ∷ s.opened else s.opened) && is_crowded_in s) (Stream 11) ∷ [])) (fault_if (is_bad brief) (Stream protocol_error))) opens_is
+
+  pub mild : is_fatal by_standing ≡ false → (brief : Brief) → is_fatal (fault_for brief s (Came noted)) ≡ false
+  mild is brief = ap is_fatal (told_fault brief) ∙ cases by_standing is (opens_last b.rows frame.id && is_crowded_in s) (is_bad brief)
+    where
+      cases : (o : Option Fault) → is_fatal o ≡ false → (y x : Bool) → is_fatal (or_else (first_of (o ∷ fault_if y (Stream 11) ∷ [])) (fault_if x (Stream protocol_error))) ≡ false
+      cases None is true x = refl
+      cases None is false true = refl
+      cases None is false false = refl
+      cases (Some f) is y x = is
 
   pub rows_are : (x : Bool) → may_open s.opened frame.id ≡ x → rows_after setup false s (Came noted) b.rows ≡ (if x then row_opened setup false s (Came noted) frame.id ∷ map (row_behind setup false s (Came noted)) b.rows else map (row_behind setup false s (Came noted)) b.rows)
   rows_are x is = ap (λ y. if y then row_opened setup false s (Came noted) frame.id ∷ map (row_behind setup false s (Came noted)) b.rows else map (row_behind setup false s (Came noted)) b.rows) (opens_is ∙ is)

@@ -12,7 +12,7 @@ use Rattle.model.specs.Decoding.{Partial, joined}
 use Rattle.model.specs.Errors.{Fault, first_of, or_else}
 use Rattle.model.specs.Errors.Fault.{Connection}
 use Rattle.conduct.specs.Summary.{Summary}
-use Rattle.conduct.specs.Judging.{completed_in, frame_rows_in, rows_behind_block_in, malformed_in, values_in, shift_in, connection_update_in, idle_in, resets_row_in, connection_data_in}
+use Rattle.conduct.specs.Judging.{completed_in, frame_rows_in, rows_behind_block_in, malformed_in, values_in, shift_in, connection_update_in, idle_in, connection_data_in, resets_row_in, is_crowded_in}
 use Rattle.conduct.specs.Owing.{fault_in}
 use Rattle.conduct.specs.Rows.{Row, find}
 use Rattle.conduct.specs.Book.{Book}
@@ -21,7 +21,7 @@ use Rattle.tables.specs.Rule.{IsNoted}
 use Rattle.tables.specs.Verdicts.{verdict_in}
 use Rattle.judgement.specs.Inbound.{Inbound, Outside, book_of, told_of}
 use Rattle.judgement.specs.Judgement.{behind}
-use Rattle.judgement.specs.Blocks.{Settles}
+use Rattle.judgement.specs.Blocks.{SettlesBy, fault_with}
 use Rattle.judgement.specs.Fragments.{IsTableLeft, IsNotedJudged, IsFragmentJudged, Completes, IsUndecodable}
 use Rattle.judgement.specs.declared.answers.Fault.TheVariants as told
 use Rattle.judgement.specs.declared.answers.BlockJudged.{BlockJudged}
@@ -64,7 +64,7 @@ module _ (setup : Setup) (outside : Outside) (before old : Inbound) (frame : Fra
       (subst (λ e. IsNoted (Some block) e before.table note next) (sym (no_error_before before frame by.of by.sound outside)) is)
 
   -- What comes of a block that was read.
-  pub block_judged : (frame.id == 0) ≡ false → AreKept before.rows → (fields : List Field) (next : Table) (rows : List Row) (a : BlockJudged) → IsNoted (Some block) false before.table (Fields fields) next → Settles setup before.rows frame.id fields block.ends rows a
+  pub block_judged : (frame.id == 0) ≡ false → AreKept before.rows → (fields : List Field) (next : Table) (rows : List Row) (a : BlockJudged) → IsNoted (Some block) false before.table (Fields fields) next → SettlesBy (fault_with (is_crowded_in (told_of outside before)) before.rows frame.id fields block.ends) setup before.rows frame.id fields block.ends rows a
       → IsFragmentJudged setup outside before frame (record old { has_come = true; last = frame.id; rows = rows; table = next }) a
   block_judged of_stream kept fields next rows a noted settles = record {
     note = Fields fields;

@@ -11,18 +11,18 @@ use Rattle.model.specs.WindowsOnTape.{increment, is_past}
 use Rattle.model.specs.ErrorTable.{fault_of, unless_of_stream, is_idle, most_resets}
 use Rattle.model.specs.ErrorClause.{is_fatal}
 use Rattle.conduct.specs.Summary.{Brief, Summary}
-use Rattle.conduct.specs.Judging.{frame_rows_in, is_active_in, is_over_in, standing_in, window_in, fault_by_standing_in, stream_update_in, stream_data_in, malformed_in, fault_for, resets_row_in}
+use Rattle.conduct.specs.Judging.{frame_rows_in, is_active_in, is_over_in, standing_in, window_in, fault_by_standing_in, stream_update_in, stream_data_in, malformed_in, fault_for, resets_row_in, no_farewell_in}
 use Rattle.conduct.specs.Rows.{find}
 use Rattle.conduct.specs.Rows.Slot.{Over}
 use Rattle.conduct.specs.Book.{Book, summary_in}
 use Rattle.conduct.specs.Tidy.{AreKept}
-use Rattle.conduct.specs.Quiet.{coming, heard}
+use Rattle.conduct.specs.Quiet.{coming, heard, noted_of}
 use Rattle.conduct.proofs.Elsewhere.{none_less}
 use Rattle.streams_kept.specs.Asked as asked
 use Rattle.streams_kept.specs.Asked.{standing, active_in, is_active, changed, with_slot}
 use Rattle.streams_kept.proofs.Changes.{slot_left}
 use Rattle.judgement.specs.Judgement.{IsPlain, reset, behind, is_of_stream}
-use Rattle.judgement.proofs.Rows.{skip, later_rows, fault_later, rows_behind}
+use Rattle.judgement.proofs.Rows.{skip, later_rows, fault_later, rows_behind, opens_no_last}
 use Rattle.judgement.proofs.Controls.{both_none}
 use Rattle.judgement.proofs.Standings.{active_passes, reset_inactive}
 use Rattle.judgement.proofs.Streams.{reset_mild, rows_stay, reset_row, begun, stream_behind}
@@ -54,7 +54,7 @@ module _ (setup : Setup) (b : Book) (flags id : ℕ) (payload : List ℕ) (of_st
   none_where_wrong f is = not_too_many (reset_inactive b.rows id of_stream f is)
 
   abbrev last_rows : List (Option Fault)
-  last_rows = stream_update_in s frame ∷ stream_data_in s frame ∷ fault_by_standing_in s frame ∷ []
+  last_rows = stream_update_in s frame ∷ stream_data_in s frame ∷ fault_by_standing_in s frame ∷ no_farewell_in s (noted_of frame) ∷ []
 
   -- rows of which that on the stream's standing decides first
   decides : (x : Bool) (o r : Option Fault) (rest : List (Option Fault)) → is_of_stream o ≡ false → ((f : Fault) → o ≡ Some f → r ≡ None) → first_of ((if x then o else None) ∷ r ∷ None ∷ None ∷ unless_of_stream o ∷ rest) ≡ or_else o (or_else r (first_of rest))
@@ -80,12 +80,13 @@ module _ (setup : Setup) (b : Book) (flags id : ℕ) (payload : List ℕ) (of_st
       ∙ ap (λ (o : Option Fault). or_else o (malformed_in brief s (coming frame))) reset_rows
       ∙ ap (λ x. or_else (or_else standing_fault (or_else too_many (first_of last_rows))) (fault_if x (Stream protocol_error))) (and_right (not (is_some brief.cause)) false refl)
       ∙ ap (λ (o : Option Fault). or_else (or_else standing_fault (or_else too_many o)) None) (
-      skip (stream_update_in s frame) (stream_data_in s frame ∷ fault_by_standing_in s frame ∷ []) (both_none (is_active_in id s) (increment frame == 0) (is_past (window_in s.first_size (s.stream id) +ℤ pos (increment frame))) (Stream protocol_error) (Stream flow_control_error))
-      ∙ skip (stream_data_in s frame) (fault_by_standing_in s frame ∷ []) (ap (λ x. fault_if x (Stream flow_control_error)) (and_right (is_active_in id s) false refl))
+      skip (stream_update_in s frame) (stream_data_in s frame ∷ fault_by_standing_in s frame ∷ no_farewell_in s (noted_of frame) ∷ []) (both_none (is_active_in id s) (increment frame == 0) (is_past (window_in s.first_size (s.stream id) +ℤ pos (increment frame))) (Stream protocol_error) (Stream flow_control_error))
+      ∙ skip (stream_data_in s frame) (fault_by_standing_in s frame ∷ no_farewell_in s (noted_of frame) ∷ []) (ap (λ x. fault_if x (Stream flow_control_error)) (and_right (is_active_in id s) false refl))
+      ∙ ap (λ (n : Option Fault). first_of (fault_by_standing_in s frame ∷ n ∷ [])) (opens_no_last s frame)
       )
       ∙ itself standing_fault too_many
     where
-      itself : (o r : Option Fault) → or_else (or_else o (or_else r (first_of (o ∷ [])))) None ≡ or_else o r
+      itself : (o r : Option Fault) → or_else (or_else o (or_else r (first_of (o ∷ None ∷ [])))) None ≡ or_else o r
       itself None None = refl
       itself None (Some f) = refl
       itself (Some f) r = refl

@@ -1,5 +1,5 @@
 -- The rows of the error table in their order, and the book behind a frame that has no fragment of a header block.
-use Rattle.std.proofs.Common.{◌≡◌, ℕ, suc, Bool, true, false, not, ◌&&◌, ◌==◌, if◌then◌else◌, List, [], ◌∷◌, ◌++◌, map, Option, Some, None, refl, sym, ◌∙◌, ap}
+use Rattle.std.proofs.Common.{◌≡◌, ℕ, suc, Bool, true, false, not, ◌&&◌, ◌==◌, if◌then◌else◌, List, [], ◌∷◌, ◌++◌, map, Option, Some, None, refl, sym, ◌∙◌, ap, length}
 use Rattle.std.proofs.lemmas.Bool.{cases_eq, ne_eqb}
 use Rattle.std.proofs.Common.{inl, inr}
 use Rattle.std.specs.List.{AllByRecursion}
@@ -20,9 +20,11 @@ use Rattle.model.specs.Payloads.{PayloadFault, payload_fault, code_of_payload}
 use Rattle.model.specs.ErrorTable.{is_undecodable, is_malformed, unless_of_stream}
 use Rattle.model.specs.WindowsOnTape.{has_settings, is_any}
 use Rattle.model.specs.Lifetimes.{opens_by}
+use Rattle.model.specs.StreamStates.{most_streams}
+use Rattle.model.proofs.OwedSteps.{neither}
 use Rattle.model.specs.ErrorClause.{is_fatal}
 use Rattle.conduct.specs.Summary.{Brief, carried_in, Summary}
-use Rattle.conduct.specs.Judging.{completed_in, between_in, long_block_in, misplaced_in, payload_in, frame_rows_in, values_in, shift_in, connection_update_in, idle_in, connection_data_in, fault_by_standing_in, stream_update_in, stream_data_in, malformed_in, fault_for, resets_row_in}
+use Rattle.conduct.specs.Judging.{completed_in, between_in, long_block_in, misplaced_in, payload_in, frame_rows_in, values_in, shift_in, connection_update_in, idle_in, connection_data_in, fault_by_standing_in, stream_update_in, stream_data_in, malformed_in, fault_for, resets_row_in, no_farewell_in, are_last, is_crowded_in}
 use Rattle.conduct.specs.Owing.{fault_in}
 use Rattle.conduct.specs.After.{first_size_after, window_after, room_after}
 use Rattle.conduct.specs.Rows.{Row, kept_in, row_behind, row_opened, rows_after}
@@ -82,7 +84,18 @@ later_rows s frame =
     ∷ stream_update_in s frame
     ∷ stream_data_in s frame
     ∷ fault_by_standing_in s frame
+    ∷ no_farewell_in s (noted_of frame)
     ∷ []
+
+-- the last of them never applies: a frame without a header block opens no stream
+pub opens_no_last : (s : Summary) (frame : Frame) → no_farewell_in s (noted_of frame) ≡ None
+opens_no_last s frame =
+    ap (λ b. fault_if (are_last s (if b then frame.id ∷ s.opened else s.opened) && is_crowded_in s) (Stream 11)) (none (completed_in s.block frame))
+    ∙ ap (λ b. fault_if (b && is_crowded_in s) (Stream 11)) (neither (length s.opened) most_streams)
+  where
+    none : (block : Option Partial) → opens_by s.opened block NoBlock ≡ false
+    none None = refl
+    none (Some block) = refl
 
 -- A frame that is wrong by itself has that fault.
 pub fault_of_frame : (s : Summary) (frame : Frame) (f : Fault) → first_of (frame_rows_in s frame) ≡ Some f → fault_in s (coming frame) ≡ Some f

@@ -1,5 +1,5 @@
 -- The book behind acts and events, and what they call for.
-use Rattle.std.proofs.Common.{◌≡◌, ℕ, zero, suc, ◌-◌, Bool, true, false, ◌&&◌, ◌==◌, if◌then◌else◌, List, [], ◌∷◌, ◌++◌, map, length, append-nil, Option, Some, None, refl, sym, ◌∙◌, ap, subst, arith}
+use Rattle.std.proofs.Common.{◌≡◌, ℕ, zero, suc, ◌-◌, Bool, true, false, not, ◌&&◌, ◌==◌, if◌then◌else◌, List, [], ◌∷◌, ◌++◌, map, length, append-nil, Option, Some, None, refl, sym, ◌∙◌, ap, subst, arith}
 use Rattle.std.proofs.lemmas.Bool.{eq-eqb, ne_eqb, lt-ltb}
 use Rattle.std.specs.Prelude.{nat_lt, is_some, is_none}
 use Rattle.model.specs.Frames.{Frame, goaway, no_error, internal_error}
@@ -14,7 +14,7 @@ use Rattle.model.specs.Openings.{given}
 use Rattle.model.specs.Causes.{Cause, cause_if}
 use Rattle.model.specs.Causes.Cause.{BadAnswer}
 use Rattle.model.specs.Courses.{upstream_of, first_of_both, interrupts}
-use Rattle.model.specs.ErrorClause.{rst_stream, reset_for}
+use Rattle.model.specs.ErrorClause.{rst_stream, reset_for, is_calming}
 use Rattle.model.proofs.OwedSteps.{neither, no_reset_for}
 use Rattle.conduct.specs.Summary.{Brief, Stream as Kept, Summary}
 use Rattle.conduct.specs.Turn.{rest_of}
@@ -173,10 +173,11 @@ fails_lead setup b event id kept some same of_stream =
 
 -- ---- what is kept and owed
 
-pub sent_desk : (setup : Setup) (fails : Bool) (desk : Desk) (noted : Noted) (new : Book) (called : List Frame) → LeadsTo setup fails desk.book (Sent noted) new called
+pub sent_desk : (setup : Setup) (fails : Bool) (desk : Desk) (noted : Noted) (new : Book) (called : List Frame) → (is_calming noted.frame && not desk.book.ends) ≡ false → LeadsTo setup fails desk.book (Sent noted) new called
     → desk_after setup desk (record { entry = Sent noted; fails = fails }) ≡ record { book = new; queue = rest_of desk.queue ++ called }
-sent_desk setup fails desk noted new called leads =
-    ap (λ (x : Book). record { book = x; queue = rest_of desk.queue ++ owes_in setup fails (summary_in desk.book) (Sent noted) }) leads.book
+sent_desk setup fails desk noted new called owing leads =
+    ap (λ x. record { book = book_after setup fails desk.book (Sent noted); queue = if x then [] else rest_of desk.queue ++ owes_in setup fails (summary_in desk.book) (Sent noted) }) owing
+    ∙ ap (λ (x : Book). record { book = x; queue = rest_of desk.queue ++ owes_in setup fails (summary_in desk.book) (Sent noted) }) leads.book
     ∙ ap (λ (fs : List Frame). record { book = new; queue = rest_of desk.queue ++ fs }) leads.owes
 
 pub did_desk : (setup : Setup) (fails : Bool) (desk : Desk) (act : Act) (new : Book) (called : List Frame) → LeadsTo setup fails desk.book (Did act) new called

@@ -1,6 +1,7 @@
 -- What comes of a whole header block on its stream, by what the program did.
-use Rattle.std.proofs.Common.{◌≡◌, ℕ, ◌≤◌, Bool, true, false, not, ◌&&◌, ◌||◌, if◌then◌else◌, List, [], ◌∷◌, Option, Some, None, refl, sym, ◌∙◌, ap, arith}
-use Rattle.std.proofs.lemmas.Bool.{or_right}
+use Rattle.std.proofs.Common.{◌≡◌, ℕ, suc, ◌≤◌, nat_lt, ◌==◌, Bool, true, false, not, ◌&&◌, ◌||◌, if◌then◌else◌, List, [], ◌∷◌, length, Option, Some, None, refl, sym, ◌∙◌, ap, subst, arith}
+use Rattle.std.proofs.lemmas.Bool.{or_right, and_right}
+use Rattle.std.proofs.lemmas.List.{length-map}
 use Rattle.std.proofs.Math.Bool.{or-false}
 use Rattle.std.proofs.lemmas.Bool.Decides.{nat_tests}
 use Rattle.std.specs.Prelude.{is_some, option_map}
@@ -21,14 +22,18 @@ use Rattle.model.specs.Causes.Cause.{LargeFields}
 use Rattle.model.specs.Courses.{cause_of_block, first_of_both}
 use Rattle.conduct.specs.Summary.{Brief, carried_in}
 use Rattle.conduct.specs.Owing.{brief_behind}
-use Rattle.conduct.specs.Rows.{Row, find, slot_of}
+use Rattle.conduct.specs.Rows.{Row, ids_of, find, slot_of}
+use Rattle.model.specs.StreamStates.{most_streams}
+use Rattle.model.specs.Lifetimes.{may_open}
 use Rattle.causes.specs.Views.{cause_of}
 use Rattle.causes.specs.Openings.{is_bad_head, behind_head}
 use Rattle.streams_kept.specs.declared.course.Course.{Course}
 use Rattle.streams_kept.specs.declared.course.Reply.{Reply}
 use Rattle.streams_kept.specs.Views.{brief_of}
 use Rattle.streams_kept.specs.Asked.{verdict}
-use Rattle.judgement.specs.Blocks.{placed, kept_so, kept_with, is_malformed_behind, fault_on}
+use Rattle.judgement.specs.Blocks.{placed, kept_so, kept_with, is_malformed_behind, fault_on, fault_with, opens_last, no_farewell, Settles, SettlesBy}
+use Rattle.judgement.specs.declared.answers.BlockJudged.TheVariants as judged
+use Rattle.judgement.specs.declared.answers.BlockJudged.{BlockJudged}
 
 -- ---- faults
 
@@ -124,3 +129,48 @@ cause_stays (Some cause) new is = refl
 pub none_joins : (old : Option Cause) {new : Option Cause} → new ≡ None → first_of_both old new ≡ old
 none_joins None is = is
 none_joins (Some cause) is = refl
+
+-- ---- the last stream
+
+-- where it isn't opened, or the state of the stream is against it, nothing else is a fault
+pub not_last : (rows : List Row) (id : ℕ) (fields : List Field) (ends : Bool) → opens_last rows id ≡ false → fault_with true rows id fields ends ≡ fault_on rows id fields ends
+not_last rows id fields ends is =
+    ap (λ x. or_else (fault_of (verdict rows id 1)) (or_else (fault_if (x && true) (Stream 11)) (fault_if (is_malformed_behind (find rows id).brief fields ends) (Stream protocol_error)))) is
+
+pub refused_alike : (rows : List Row) (id : ℕ) (fields : List Field) (ends : Bool) → is_some (fault_of (verdict rows id 1)) ≡ true → fault_with true rows id fields ends ≡ fault_on rows id fields ends
+refused_alike rows id fields ends is = cases (fault_of (verdict rows id 1)) is (no_farewell true rows id) (fault_if (is_malformed_behind (find rows id).brief fields ends) (Stream protocol_error))
+  where
+    cases : (o : Option Fault) → is_some o ≡ true → (n later : Option Fault) → or_else o (or_else n later) ≡ or_else o later
+    cases (Some f) is n later = refl
+    cases None is n later = absurd (let no : false ≡ true = is in cc)
+
+-- where it is, that is its fault
+pub last_fault : (rows : List Row) (id : ℕ) (fields : List Field) (ends : Bool) → fault_of (verdict rows id 1) ≡ None → opens_last rows id ≡ true → fault_with true rows id fields ends ≡ Some (Stream 11)
+last_fault rows id fields ends passes is =
+    ap (λ (o : Option Fault). or_else o (or_else (no_farewell true rows id) (fault_if (is_malformed_behind (find rows id).brief fields ends) (Stream protocol_error)))) passes
+    ∙ ap (λ x. or_else (fault_if (x && true) (Stream 11)) (fault_if (is_malformed_behind (find rows id).brief fields ends) (Stream protocol_error))) is
+
+-- where the connection isn't crowded, the farewell goes out
+pub not_crowded : (rows : List Row) (id : ℕ) (fields : List Field) (ends : Bool) → fault_with false rows id fields ends ≡ fault_on rows id fields ends
+not_crowded rows id fields ends =
+    ap (λ x. or_else (fault_of (verdict rows id 1)) (or_else (fault_if x (Stream 11)) (fault_if (is_malformed_behind (find rows id).brief fields ends) (Stream protocol_error)))) (and_right (opens_last rows id) false refl)
+
+-- which one is the last, by how many were opened
+pub last_is : (rows : List Row) (id n : ℕ) (may : Bool) → n ≡ length rows → may_open (ids_of rows) id ≡ may → opens_last rows id ≡ (nat_lt n most_streams && (if may then suc n else n) == most_streams)
+last_is rows id n may count is =
+    let same : length (ids_of rows) ≡ n = length-map rows (λ (row : Row). row.id) ∙ sym count in
+    ap (λ x. nat_lt (length (ids_of rows)) most_streams && length (if x then id ∷ ids_of rows else ids_of rows) == most_streams) is
+    ∙ cases may same
+  where
+    cases : (may : Bool) → length (ids_of rows) ≡ n → (nat_lt (length (ids_of rows)) most_streams && length (if may then id ∷ ids_of rows else ids_of rows) == most_streams) ≡ (nat_lt n most_streams && (if may then suc n else n) == most_streams)
+    cases true same = ap (λ (k : ℕ). nat_lt k most_streams && suc k == most_streams) same
+    cases false same = ap (λ (k : ℕ). nat_lt k most_streams && k == most_streams) same
+
+-- what comes of a block by itself comes of it where that is its fault
+pub settles_alike : (fault : Option Fault) (setup : Setup) (rows left : List Row) (id : ℕ) (fields : List Field) (ends : Bool) (answer : BlockJudged) → fault ≡ fault_on rows id fields ends → Settles setup rows id fields ends left answer → SettlesBy fault setup rows id fields ends left answer
+settles_alike fault setup rows left id fields ends (judged.Failed found) same is = (same ∙ is.0, is.1)
+settles_alike fault setup rows left id fields ends judged.GoesOn same is = (same ∙ is.faultless, is)
+settles_alike fault setup rows left id fields ends (judged.Begins head route) same is = (same ∙ is.faultless, is)
+settles_alike fault setup rows left id fields ends (judged.Answered cause) same is = (same ∙ is.faultless, is)
+settles_alike fault setup rows left id fields ends (judged.Trailers trailers) same is = (same ∙ is.faultless, is)
+settles_alike fault setup rows left id fields ends judged.Ignored same is = (same ∙ is.faultless, is)

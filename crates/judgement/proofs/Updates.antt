@@ -11,13 +11,13 @@ use Rattle.model.specs.WindowsOnTape.{increment, is_past}
 use Rattle.model.specs.ErrorTable.{fault_of, unless_of_stream, is_idle}
 use Rattle.model.specs.ErrorClause.{is_fatal}
 use Rattle.conduct.specs.Summary.{Brief, Summary, Stream as Kept}
-use Rattle.conduct.specs.Judging.{frame_rows_in, is_active_in, is_over_in, standing_in, window_in, fault_by_standing_in, stream_update_in, stream_data_in, malformed_in, fault_for}
+use Rattle.conduct.specs.Judging.{frame_rows_in, is_active_in, is_over_in, standing_in, window_in, fault_by_standing_in, stream_update_in, stream_data_in, malformed_in, fault_for, no_farewell_in}
 use Rattle.conduct.specs.After.{stream_from}
 use Rattle.conduct.specs.Rows.{Row, Slot, find, kept_in, row_behind, slot_of}
 use Rattle.conduct.specs.Rows.Slot.{Live, Over}
 use Rattle.conduct.specs.Book.{Book, summary_in}
 use Rattle.conduct.specs.Tidy.{IsTidy, IsSteady, IsRow, AreKept}
-use Rattle.conduct.specs.Quiet.{coming, heard}
+use Rattle.conduct.specs.Quiet.{coming, heard, noted_of}
 use Rattle.conduct.proofs.Elsewhere.{none_less, kept_same, course_same}
 use Rattle.conduct.proofs.Idle.{no_cause_if}
 use Rattle.conduct.proofs.Quiet.{no_items_if}
@@ -27,7 +27,7 @@ use Rattle.streams_kept.specs.Steps.{granted}
 use Rattle.streams_kept.proofs.Searches.{IsFound}
 use Rattle.streams_kept.proofs.Changes.{slot_left, slot_given}
 use Rattle.judgement.specs.Judgement.{IsPlain, update, behind, reset_behind}
-use Rattle.judgement.proofs.Rows.{later_rows, fault_later, rows_behind}
+use Rattle.judgement.proofs.Rows.{later_rows, fault_later, rows_behind, opens_no_last}
 use Rattle.judgement.proofs.Standings.{active_passes}
 use Rattle.judgement.proofs.Streams.{update_mild, standing_rows, rows_stay, begun, stream_behind, reset_left}
 
@@ -55,19 +55,26 @@ module _ (setup : Setup) (b : Book) (flags id : ℕ) (payload : List ℕ) (of_st
       )
 
   -- its fault is that by its stream's standing, else by these
-  update_rows : first_of (later_rows s frame) ≡ or_else (fault_of (asked.verdict b.rows id 8)) (first_of (window_rows (is_active b.rows id) ∷ stream_data_in s frame ∷ fault_by_standing_in s frame ∷ []))
+  update_rows : first_of (later_rows s frame) ≡ or_else (fault_of (asked.verdict b.rows id 8)) (first_of (window_rows (is_active b.rows id) ∷ stream_data_in s frame ∷ fault_by_standing_in s frame ∷ no_farewell_in s (noted_of frame) ∷ []))
   update_rows =
-      ap (λ x. first_of (first_of (fault_if (x && count == 0) (Connection protocol_error) ∷ fault_if (x && is_past (b.window +ℤ pos count)) (Connection flow_control_error) ∷ []) ∷ (if is_idle (standing_in s id) && true then fault_of (asked.verdict b.rows id 8) else None) ∷ None ∷ None ∷ None ∷ unless_of_stream (fault_of (asked.verdict b.rows id 8)) ∷ stream_update_in s frame ∷ stream_data_in s frame ∷ fault_by_standing_in s frame ∷ [])) of_stream
-      ∙ standing_rows (is_idle (standing_in s id) && true) (fault_of (asked.verdict b.rows id 8)) (stream_update_in s frame ∷ stream_data_in s frame ∷ fault_by_standing_in s frame ∷ []) (update_mild (length (active_in b.rows)) (standing b.rows id))
+      ap (λ x. first_of (first_of (fault_if (x && count == 0) (Connection protocol_error) ∷ fault_if (x && is_past (b.window +ℤ pos count)) (Connection flow_control_error) ∷ []) ∷ (if is_idle (standing_in s id) && true then fault_of (asked.verdict b.rows id 8) else None) ∷ None ∷ None ∷ None ∷ unless_of_stream (fault_of (asked.verdict b.rows id 8)) ∷ stream_update_in s frame ∷ stream_data_in s frame ∷ fault_by_standing_in s frame ∷ no_farewell_in s (noted_of frame) ∷ [])) of_stream
+      ∙ standing_rows (is_idle (standing_in s id) && true) (fault_of (asked.verdict b.rows id 8)) (stream_update_in s frame ∷ stream_data_in s frame ∷ fault_by_standing_in s frame ∷ no_farewell_in s (noted_of frame) ∷ []) (update_mild (length (active_in b.rows)) (standing b.rows id))
 
   all_rows : (brief : Brief) → fault_for brief s (coming frame) ≡ or_else (fault_of (asked.verdict b.rows id 8)) (first_of (window_rows (is_active b.rows id) ∷ None ∷ fault_of (asked.verdict b.rows id 8) ∷ []))
   all_rows brief =
       fault_later s frame sound brief
       ∙ ap (λ (o : Option Fault). or_else o (malformed_in brief s (coming frame))) update_rows
-      ∙ ap (λ x. or_else (or_else (fault_of (asked.verdict b.rows id 8)) (first_of (window_rows (is_active b.rows id) ∷ stream_data_in s frame ∷ fault_by_standing_in s frame ∷ []))) (fault_if x (Stream protocol_error))) (and_right (not (is_some brief.cause)) false refl)
-      ∙ ap (λ x. or_else (or_else (fault_of (asked.verdict b.rows id 8)) (first_of (window_rows (is_active b.rows id) ∷ fault_if x (Stream flow_control_error) ∷ fault_by_standing_in s frame ∷ []))) None) (and_right (is_active_in id s) false refl)
+      ∙ ap (λ x. or_else (or_else (fault_of (asked.verdict b.rows id 8)) (first_of (window_rows (is_active b.rows id) ∷ stream_data_in s frame ∷ fault_by_standing_in s frame ∷ no_farewell_in s (noted_of frame) ∷ []))) (fault_if x (Stream protocol_error))) (and_right (not (is_some brief.cause)) false refl)
+      ∙ ap (λ x. or_else (or_else (fault_of (asked.verdict b.rows id 8)) (first_of (window_rows (is_active b.rows id) ∷ fault_if x (Stream flow_control_error) ∷ fault_by_standing_in s frame ∷ no_farewell_in s (noted_of frame) ∷ []))) None) (and_right (is_active_in id s) false refl)
+      ∙ ap (λ (n : Option Fault). or_else (or_else (fault_of (asked.verdict b.rows id 8)) (first_of (window_rows (is_active b.rows id) ∷ None ∷ fault_by_standing_in s frame ∷ n ∷ []))) None) (opens_no_last s frame)
+      ∙ ap (λ (o : Option Fault). or_else (or_else (fault_of (asked.verdict b.rows id 8)) o) None) (last_left (window_rows (is_active b.rows id)) (fault_of (asked.verdict b.rows id 8)))
       ∙ itself (or_else (fault_of (asked.verdict b.rows id 8)) (first_of (window_rows (is_active b.rows id) ∷ None ∷ fault_of (asked.verdict b.rows id 8) ∷ [])))
     where
+      last_left : (w o : Option Fault) → first_of (w ∷ None ∷ o ∷ None ∷ []) ≡ first_of (w ∷ None ∷ o ∷ [])
+      last_left None None = refl
+      last_left None (Some f) = refl
+      last_left (Some f) o = refl
+
       itself : (o : Option Fault) → or_else o None ≡ o
       itself None = refl
       itself (Some f) = refl

@@ -1,14 +1,15 @@
 -- What comes of a whole header block on its stream, by the rows of the streams before it and behind it (RFC 9113, sections 5.1, 5.1.1, 5.1.2 and 8.1).
-use Rattle.std.specs.Prelude.{◌≡◌, ◌≤◌, ◌⊎◌, ℕ, Bool, true, false, not, ◌&&◌, ◌||◌, if◌then◌else◌, List, [], ◌∷◌, Option, Some, None, is_some}
+use Rattle.std.specs.Prelude.{◌≡◌, ◌≤◌, ◌⊎◌, ◌==◌, nat_lt, ℕ, Bool, true, false, not, ◌&&◌, ◌||◌, if◌then◌else◌, List, [], ◌∷◌, length, Option, Some, None, is_some}
 use Rattle.model.specs.Messages.{Field}
 use Rattle.model.specs.Messages.Item.{Block}
-use Rattle.model.specs.Frames.{headers_kind, protocol_error}
+use Rattle.model.specs.Frames.{headers_kind, protocol_error, enhance_your_calm}
 use Rattle.model.specs.Http2.{passed_trailers}
 use Rattle.model.specs.Setup.{Setup}
 use Rattle.model.specs.Tapes.Note.{Fields}
 use Rattle.model.specs.Errors as errors
 use Rattle.model.specs.Errors.{or_else}
 use Rattle.model.specs.FrameErrors.{fault_if}
+use Rattle.model.specs.StreamStates.{most_streams}
 use Rattle.model.specs.Lifetimes.{may_open}
 use Rattle.model.specs.ErrorTable.{fault_of, is_bad_block}
 use Rattle.model.specs.Courses.{cause_of_block, first_of_both}
@@ -47,6 +48,23 @@ abbrev pub fault_on : List Row → ℕ → List Field → Bool → Option errors
 fault_on rows id fields ends =
     or_else (fault_of (verdict rows id headers_kind)) (fault_if (is_malformed_behind (find rows id).brief fields ends) (errors.Fault.Stream protocol_error))
 
+-- the streams that were opened, with one where it may be opened
+abbrev pub ids_with : List Row → ℕ → List ℕ
+ids_with rows id = if may_open (ids_of rows) id then id ∷ ids_of rows else ids_of rows
+
+-- a block on the stream opens the last that a connection may have
+abbrev pub opens_last : List Row → ℕ → Bool
+opens_last rows id = nat_lt (length (ids_of rows)) most_streams && length (ids_with rows id) == most_streams
+
+-- its fault where the farewell behind it can't go out, since too many octets are untaken
+abbrev pub no_farewell : Bool → List Row → ℕ → Option errors.Fault
+no_farewell crowded rows id = fault_if (opens_last rows id && crowded) (errors.Fault.Stream enhance_your_calm)
+
+-- its fault where too many octets are untaken or aren't
+abbrev pub fault_with : Bool → List Row → ℕ → List Field → Bool → Option errors.Fault
+fault_with crowded rows id fields ends =
+    or_else (fault_of (verdict rows id headers_kind)) (or_else (no_farewell crowded rows id) (fault_if (is_malformed_behind (find rows id).brief fields ends) (errors.Fault.Stream protocol_error)))
+
 -- The rows that a block with this fault leaves: behind an error of its stream that is reset.
 abbrev pub AreLeft : List Row → ℕ → errors.Fault → List Row → Type 0
 AreLeft old id (errors.Fault.Stream code) new = new ≡ placed old id (Over true)
@@ -73,6 +91,11 @@ pub record IsSettled (setup : Setup) (old : List Row) (id : ℕ) (fields : List 
 abbrev pub Settles : Setup → List Row → ℕ → List Field → Bool → List Row → BlockJudged → Type 0
 Settles setup old id fields ends new (judged.Failed found) = (fault_on old id fields ends ≡ Some (fault_told found)) × AreLeft old id (fault_told found) new
 Settles setup old id fields ends new answer = IsSettled setup old id fields ends new answer
+
+-- That of a block with this fault.
+abbrev pub SettlesBy : Option errors.Fault → Setup → List Row → ℕ → List Field → Bool → List Row → BlockJudged → Type 0
+SettlesBy fault setup old id fields ends new (judged.Failed found) = (fault ≡ Some (fault_told found)) × AreLeft old id (fault_told found) new
+SettlesBy fault setup old id fields ends new answer = (fault ≡ None) × IsSettled setup old id fields ends new answer
 
 -- The stream is active, or the client may open it.
 abbrev pub IsOpenOrIdle : List Row → ℕ → Type 0

@@ -5,7 +5,8 @@ ghost use Rattle.model.specs.Setup.{Setup};
 ghost use Rattle.frames.specs.Views.{frame_of};
 ghost use Rattle.judgement.specs.Blocks.{IsFor};
 ghost use Rattle.judgement.specs.AnyFrame.{IsFrameJudged, has_fragment};
-ghost use Rattle.judgement.specs.Inbound.{Outside};
+ghost use Rattle.conduct.specs.Judging.{is_crowded_in};
+ghost use Rattle.judgement.specs.Inbound.{Outside, told_of};
 
 use crate::answers::FrameJudged;
 use crate::connection::Connection;
@@ -20,19 +21,20 @@ const CONTINUATION: u8 = 9;
 
 impl Connection {
     /// Judges a frame of any type, and does what it says: `judge_fragment` says how where it has a fragment of a header block, and `judge` where it
-    /// has none. An `Err` says that memory was refused, and nothing else then.
+    /// has none; `crowded` as there. An `Err` says that memory was refused, and nothing else then.
     pub fn judge_frame<'a>(
         &mut self,
         view: View<'a>,
+        crowded: bool,
         terms: Terms<'_>,
     ) -> Result<FrameJudged<'a>, AllocError>
         requires short { length view.payload.now ≤ 16384 }
         requires few { length terms.routes.now ≤ u32.MAX }
         requires bounded { terms.max_body ≤ 1073741824 }
-        ensures { IfOk result (λ answer. (setup : Setup) (outside : Outside) → IsFor setup terms.entry → IsFrameJudged setup outside self.old (frame_of view.entry) self.new answer) }
+        ensures { IfOk result (λ answer. (setup : Setup) (outside : Outside) → IsFor setup terms.entry → is_crowded_in (told_of outside self.old) ≡ crowded → IsFrameJudged setup outside self.old (frame_of view.entry) self.new answer) }
     {
         if has_fragment(view) {
-            let answer = self.judge_fragment(view, terms)?;
+            let answer = self.judge_fragment(view, crowded, terms)?;
             return Ok(FrameJudged::OfBlock(answer));
         }
         Ok(FrameJudged::Plain(self.judge(view, terms.max_body)))

@@ -1,6 +1,6 @@
 //! What comes of a whole header block on its stream (RFC 9113, sections 5.1 and 8.1).
 
-ghost use Rattle.std.specs.Prelude.{◌≡◌, ◌≤◌, Bool, List, length, true, false, None, Some, IfOk, OnOk, ◌==◌, is_some};
+ghost use Rattle.std.specs.Prelude.{◌≡◌, ◌≤◌, Bool, List, length, true, false, None, Some, IfOk, OnOk, ◌==◌, is_some, if◌then◌else◌};
 ghost use Rattle.model.specs.Messages.{Field as Line};
 ghost use Rattle.model.specs.Setup.{Setup};
 ghost use Rattle.model.specs.Errors.Fault.{Stream as StreamFault};
@@ -21,10 +21,10 @@ ghost use Rattle.model.specs.Courses.{cause_of_block};
 ghost use Rattle.conduct.specs.Summary.{carried_in};
 ghost use Rattle.causes.specs.Views.{cause_of};
 ghost use Rattle.causes.specs.Openings.{GoesOn};
-ghost use Rattle.judgement.specs.Blocks.{IsOpenOrIdle, AreFitting, IsFor, placed, kept_so, fault_on, Settles};
+ghost use Rattle.judgement.specs.Blocks.{IsOpenOrIdle, AreFitting, IsFor, placed, kept_so, fault_on, fault_with, Settles, SettlesBy};
 
 use crate::answers::{BlockJudged, Fault};
-use crate::codes::{PROTOCOL_ERROR, fault_of};
+use crate::codes::{ENHANCE_YOUR_CALM, PROTOCOL_ERROR, fault_of};
 use crate::terms::Terms;
 use causes::{Cause, Opening, are_malformed_trailers, judge_head};
 use header_blocks::{Decoded, Field};
@@ -272,9 +272,8 @@ fn take_fields(
     take_head(alloc, streams, id, ends, before, fields, terms)
 }
 
-/// What comes of a whole header block on a stream (RFC 9113, sections 5.1 and 8.1), which `ends` it where its HEADERS has END_STREAM. An `Err` says
-/// that memory was refused.
-pub fn settle(
+/// What comes of a whole header block on a stream (RFC 9113, sections 5.1 and 8.1), where its farewell may go out if it opens the last.
+fn judge_block(
     alloc: Global,
     streams: &mut Streams,
     id: u32,
@@ -299,4 +298,47 @@ pub fn settle(
         Decoded::TooLarge => answer(streams, id, ends, before, Cause::LargeFields),
         Decoded::Fields(fields) => take_fields(alloc, streams, id, ends, before, &fields, terms),
     }
+}
+
+/// All but one of the streams that a connection may have (RFC 9113, section 5.1.1).
+const ALL_BUT_ONE: u32 = 9999;
+
+/// Whether a block that is no error by the state of its stream opens the last that a connection may have.
+fn is_last(streams: &Streams, id: u32) -> bool
+    requires of_stream { (id == 0) ≡ false }
+    ensures is { (fields : List Line) (ends : Bool) → fault_with true streams.now id fields ends ≡ (if result then Some (StreamFault 11) else fault_on streams.now id fields ends) }
+    ensures wanted { result ≡ true → IsOpenOrIdle streams.now id }
+{
+    if streams.count() != ALL_BUT_ONE {
+        return false;
+    }
+    if fault_of(streams.verdict(id, Kind::Headers)).is_some() {
+        return false;
+    }
+    streams.find(id).is_none()
+}
+
+/// What comes of a whole header block on a stream (RFC 9113, sections 5.1 and 8.1), which `ends` it where its HEADERS has END_STREAM. Where the
+/// connection is `crowded`, one that opens the last stream is an error of it: the farewell that it calls for can't go out. An `Err` says that
+/// memory was refused.
+pub fn settle(
+    alloc: Global,
+    streams: &mut Streams,
+    id: u32,
+    ends: bool,
+    decoded: Decoded,
+    crowded: bool,
+    terms: Terms<'_>,
+) -> Result<BlockJudged, AllocError>
+    requires of_stream { (id == 0) ≡ false }
+    requires fits { AreFitting decoded }
+    requires few { length terms.routes.now ≤ u32.MAX }
+    ensures settled { IfOk result (λ answer. (setup : Setup) (fields : List Line) → IsFor setup terms.entry → IsNoteFor largest_fields decoded fields → SettlesBy (fault_with crowded streams.old id fields ends) setup streams.old id fields ends streams.new answer) }
+    ensures kept { AreKept streams.new }
+{
+    if crowded && is_last(streams, id) {
+        reset(streams, id)?;
+        return Ok(BlockJudged::Failed(Fault::Stream(ENHANCE_YOUR_CALM)));
+    }
+    judge_block(alloc, streams, id, ends, decoded, terms)
 }

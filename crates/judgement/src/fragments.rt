@@ -10,7 +10,7 @@ ghost use Rattle.model.specs.Setup.{Setup};
 ghost use Rattle.model.specs.Errors.{first_of};
 ghost use Rattle.model.specs.Frames.{ends_headers as closes, headers_kind, continuation_kind, content};
 ghost use Rattle.frames.specs.Views.{frame_of};
-ghost use Rattle.conduct.specs.Judging.{frame_rows_in};
+ghost use Rattle.conduct.specs.Judging.{frame_rows_in, is_crowded_in};
 ghost use Rattle.conduct.specs.Owing.{fault_in};
 ghost use Rattle.conduct.specs.Quiet.{coming};
 ghost use Rattle.judgement.specs.Inbound.{Inbound, Outside, book_of, told_of};
@@ -88,25 +88,34 @@ impl Connection {
         }
     }
 
-    /// Takes a whole block, which a frame completes (RFC 9113, section 4.3).
+    /// Takes a whole block, which a frame completes (RFC 9113, section 4.3), where the connection is `crowded` or isn't.
     fn take_block(
         &mut self,
         view: View<'_>,
         ends: bool,
         octets: &[u8],
+        crowded: bool,
         terms: Terms<'_>,
     ) -> Result<BlockJudged, AllocError>
         requires none_begun { self.old.block ≡ None }
         requires of_stream { (view.id == 0) ≡ false }
         requires few { length terms.routes.now ≤ u32.MAX }
-        ensures { IfOk result (λ answer. (setup : Setup) (outside : Outside) (before : Inbound) (block : Partial) → IsFor setup terms.entry → Completes before self.old (frame_of view.entry) block → block.ends ≡ ends → block.fragments ≡ octets.now → IsFragmentJudged setup outside before (frame_of view.entry) self.new answer) }
+        ensures { IfOk result (λ answer. (setup : Setup) (outside : Outside) (before : Inbound) (block : Partial) → IsFor setup terms.entry → is_crowded_in (told_of outside before) ≡ crowded → Completes before self.old (frame_of view.entry) block → block.ends ≡ ends → block.fragments ≡ octets.now → IsFragmentJudged setup outside before (frame_of view.entry) self.new answer) }
     {
         let Some(decoded) = self.read(octets)? else {
             return Ok(BlockJudged::Failed(Fault::Connection(COMPRESSION_ERROR)));
         };
         self.has_come = true;
         self.last = view.id;
-        settle(self.alloc, &mut self.streams, view.id, ends, decoded, terms)
+        settle(
+            self.alloc,
+            &mut self.streams,
+            view.id,
+            ends,
+            decoded,
+            crowded,
+            terms,
+        )
     }
 
     /// Takes a HEADERS that is right by itself (RFC 9113, section 6.2).
@@ -114,6 +123,7 @@ impl Connection {
         &mut self,
         view: View<'_>,
         fragment: &[u8],
+        crowded: bool,
         terms: Terms<'_>,
     ) -> Result<BlockJudged, AllocError>
         requires kind { (frame_of view).kind ≡ headers_kind }
@@ -121,14 +131,14 @@ impl Connection {
         requires short { length view.payload.now ≤ 16384 }
         requires sound { (outside : Outside) → first_of (frame_rows_in (told_of outside self.old) (frame_of view)) ≡ None }
         requires few { length terms.routes.now ≤ u32.MAX }
-        ensures { IfOk result (λ answer. (setup : Setup) (outside : Outside) → IsFor setup terms.entry → IsFragmentJudged setup outside self.old (frame_of view.entry) self.new answer) }
+        ensures { IfOk result (λ answer. (setup : Setup) (outside : Outside) → IsFor setup terms.entry → is_crowded_in (told_of outside self.old) ≡ crowded → IsFragmentJudged setup outside self.old (frame_of view.entry) self.new answer) }
     {
         if !ends_headers(view) {
             self.keep_first(view, fragment)?;
             return Ok(BlockJudged::GoesOn);
         }
         self.continuations = 0;
-        self.take_block(view, ends_stream(view), fragment, terms)
+        self.take_block(view, ends_stream(view), fragment, crowded, terms)
     }
 
     /// Takes a CONTINUATION that is right by itself (RFC 9113, section 6.10).
@@ -136,6 +146,7 @@ impl Connection {
         &mut self,
         view: View<'_>,
         fragment: &[u8],
+        crowded: bool,
         terms: Terms<'_>,
     ) -> Result<BlockJudged, AllocError>
         requires kind { (frame_of view).kind ≡ continuation_kind }
@@ -143,7 +154,7 @@ impl Connection {
         requires short { length view.payload.now ≤ 16384 }
         requires sound { (outside : Outside) → first_of (frame_rows_in (told_of outside self.old) (frame_of view)) ≡ None }
         requires few { length terms.routes.now ≤ u32.MAX }
-        ensures { IfOk result (λ answer. (setup : Setup) (outside : Outside) → IsFor setup terms.entry → IsFragmentJudged setup outside self.old (frame_of view.entry) self.new answer) }
+        ensures { IfOk result (λ answer. (setup : Setup) (outside : Outside) → IsFor setup terms.entry → is_crowded_in (told_of outside self.old) ≡ crowded → IsFragmentJudged setup outside self.old (frame_of view.entry) self.new answer) }
     {
         if !ends_headers(view) {
             self.keep_more(view, fragment)?;
@@ -154,25 +165,29 @@ impl Connection {
             unreachable!();
         };
         self.continuations += 1;
-        self.take_block(view, block.ends(), block.fragments(), terms)
+        self.take_block(view, block.ends(), block.fragments(), crowded, terms)
     }
 
     /// Judges a HEADERS or a CONTINUATION, and does what it says. Where it isn't as it should be, its fault is the first row of the error table that
     /// applies (RFC 9113, section 5.4); the block that it completes is read all the same, unless the connection ends with the fault. Behind an error
-    /// of a stream that stream is reset. An `Err` says that memory was refused, and nothing else then.
+    /// of a stream that stream is reset. `crowded` says that more octets are untaken than any but parts of responses may wait behind. An `Err`
+    /// says that memory was refused, and nothing else then.
     pub fn judge_fragment(
         &mut self,
         view: View<'_>,
+        crowded: bool,
         terms: Terms<'_>,
     ) -> Result<BlockJudged, AllocError>
         requires kind { IsOfBlock (frame_of view) }
         requires short { length view.payload.now ≤ 16384 }
         requires few { length terms.routes.now ≤ u32.MAX }
-        ensures { IfOk result (λ answer. (setup : Setup) (outside : Outside) → IsFor setup terms.entry → IsFragmentJudged setup outside self.old (frame_of view.entry) self.new answer) }
+        ensures { IfOk result (λ answer. (setup : Setup) (outside : Outside) → IsFor setup terms.entry → is_crowded_in (told_of outside self.old) ≡ crowded → IsFragmentJudged setup outside self.old (frame_of view.entry) self.new answer) }
     {
         match self.parts(view) {
-            Ok(Frame::Headers(fragment)) => self.take_headers(view, fragment, terms),
-            Ok(Frame::Continuation(fragment)) => self.take_continuation(view, fragment, terms),
+            Ok(Frame::Headers(fragment)) => self.take_headers(view, fragment, crowded, terms),
+            Ok(Frame::Continuation(fragment)) => self.take_continuation(
+                view, fragment, crowded, terms,
+            ),
             Ok(_) => unreachable!(),
             Err(code) => Ok(BlockJudged::Failed(Fault::Connection(code))),
         }

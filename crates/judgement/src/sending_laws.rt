@@ -1,6 +1,6 @@
 //! What the gateway's own doing leads to in conduct's book.
 
-ghost use Rattle.std.specs.Prelude.{◌≡◌, ℕ, ◌-◌, ◌<◌, Bool, true, false, ◌==◌, List, [], ◌∷◌, ◌++◌, Some, None};
+ghost use Rattle.std.specs.Prelude.{◌≡◌, ℕ, ◌-◌, ◌<◌, Bool, true, false, not, ◌&&◌, ◌==◌, List, [], ◌∷◌, ◌++◌, Some, None};
 ghost use Rattle.model.specs.Messages.{Field};
 ghost use Rattle.model.specs.Messages.Item.{Block};
 ghost use Rattle.model.specs.Frames.{Frame, data_kind, rst_stream_kind, window_update_kind, ends_headers, ends_stream, spell_number};
@@ -14,6 +14,7 @@ ghost use Rattle.model.specs.Tapes.Entry.{Happened, Sent, Did};
 ghost use Rattle.model.specs.Decoding.{Partial, joined};
 ghost use Rattle.model.specs.Openings.{given};
 ghost use Rattle.model.specs.WindowsOnTape.{increment};
+ghost use Rattle.model.specs.ErrorClause.{is_calming};
 ghost use Rattle.model.specs.Courses.{upstream_of, is_final};
 ghost use Rattle.conduct.specs.Turn.{rest_of};
 ghost use Rattle.conduct.specs.Judging.{completed_in};
@@ -57,9 +58,10 @@ pub fn events_lead()
     ensures took { (setup : Setup) (book : Book) (count : ℕ) → AreKept book.rows → LeadsTo setup false book (Happened (ClientTook count)) (record book { ends = false; untaken = book.untaken - count }) [] }
 {}
 
-/// What is kept and owed behind an entry that leads so: a frame that is sent pays what is owed first, and an act pays nothing.
+/// What is kept and owed behind an entry that leads so: a frame that is sent pays what is owed first, unless it is a farewell in place of
+/// another, and an act pays nothing.
 pub fn desks_follow()
-    ensures sent { (setup : Setup) (fails : Bool) (desk : Desk) (noted : Noted) (new : Book) (called : List Frame) → LeadsTo setup fails desk.book (Sent noted) new called → desk_after setup desk (record { entry = Sent noted; fails = fails }) ≡ record { book = new; queue = rest_of desk.queue ++ called } }
+    ensures sent { (setup : Setup) (fails : Bool) (desk : Desk) (noted : Noted) (new : Book) (called : List Frame) → (is_calming noted.frame && not desk.book.ends) ≡ false → LeadsTo setup fails desk.book (Sent noted) new called → desk_after setup desk (record { entry = Sent noted; fails = fails }) ≡ record { book = new; queue = rest_of desk.queue ++ called } }
     ensures did { (setup : Setup) (fails : Bool) (desk : Desk) (act : Act) (new : Book) (called : List Frame) → LeadsTo setup fails desk.book (Did act) new called → desk_after setup desk (record { entry = Did act; fails = fails }) ≡ record { book = new; queue = desk.queue } }
     ensures happened { (setup : Setup) (fails : Bool) (desk : Desk) (event : Event) (new : Book) (called : List Frame) → LeadsTo setup fails desk.book (Happened event) new called → desk_after setup desk (record { entry = Happened event; fails = fails }) ≡ record { book = new; queue = called } }
 {}

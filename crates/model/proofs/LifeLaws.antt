@@ -10,7 +10,7 @@ use Rattle.model.specs.Decoding.{completed}
 use Rattle.model.specs.StreamStates.{most_streams}
 use Rattle.model.specs.Known.{Known}
 use Rattle.model.specs.Lifetimes.{opened, opens_by, ends_by, active, is_opened, is_over, is_active, is_spent, is_ended_by_client, is_ended_by_gateway, is_reset_by_client, is_reset_by_gateway}
-use Rattle.model.specs.ErrorClause.{calls_for_end, must_end}
+use Rattle.model.specs.ErrorClause.{is_calming, calls_for_end, must_end}
 
 -- ---- streams that are over
 
@@ -96,11 +96,12 @@ none_left p q fewer (id ∷ ids) none = by (none_left p q fewer ids) (p id) (q i
 
 -- a connection that is to end still is when a frame is sent
 pub ends_sent : (known : Known) (t : List Entry) (noted : Noted) → must_end known t ≡ true → must_end known (Sent noted ∷ t) ≡ true
-ends_sent known t noted ends = by (calls_for_end known t) (is_spent t) (is_spent (Sent noted ∷ t)) spent ends
+ends_sent known t noted ends = by (is_calming noted.frame) (calls_for_end known t) (is_spent t) (is_spent (Sent noted ∷ t)) spent ends
   where
-    by : (a b c : Bool) → (b ≡ true → c ≡ true) → (a || b) ≡ true → (a || c) ≡ true
-    by true b c more e = refl
-    by false b c more e = more e
+    by : (x a b c : Bool) → (b ≡ true → c ≡ true) → (a || b) ≡ true → (x || a || c) ≡ true
+    by true a b c more e = refl
+    by false true b c more e = refl
+    by false false b c more e = more e
 
     going : (id : ℕ) → not (is_over id (Sent noted ∷ t)) ≡ true → not (is_over id t) ≡ true
     going id e = elim (cases_Bool (is_over id t)) [

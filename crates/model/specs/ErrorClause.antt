@@ -1,21 +1,20 @@
 -- The clause on errors: which frames the gateway sends beside its responses and the octets that it gives back, and when it ends
 -- the connection (RFC 9113, sections 3.4, 5.4, 6.4, 6.5, 6.7 and 6.8). What is owed is read off the tape, and what was sent is
 -- just that: always there, in its order, and nothing else.
-use Rattle.std.specs.Prelude.{◌≡◌, ℕ, Bool, true, false, not, ◌&&◌, ◌||◌, ◌==◌, nat_lt, if◌then◌else◌, List, [], ◌∷◌, ◌++◌, length, map, filter, reverse, Option, Some, None}
+use Rattle.std.specs.Prelude.{◌≡◌, ℕ, Bool, true, false, not, ◌&&◌, ◌||◌, ◌==◌, ◌⊎◌, nat_lt, if◌then◌else◌, List, [], ◌∷◌, ◌++◌, length, drop, bytes_eq, map, filter, reverse, Option, Some, None}
 use Rattle.std.specs.List.{list_any}
 use Rattle.model.specs.Octets.{is_empty}
-use Rattle.model.specs.Frames.{Frame, data_kind, headers_kind, rst_stream_kind, ping_kind, window_update_kind, continuation_kind, is_ack, ends_stream, ends_headers, spell_number, settings_frame, settings_ack, goaway, no_error}
+use Rattle.model.specs.Frames.{Frame, data_kind, headers_kind, rst_stream_kind, ping_kind, goaway_kind, window_update_kind, continuation_kind, is_ack, ends_stream, ends_headers, spell_number, settings_frame, settings_ack, goaway, no_error, enhance_your_calm}
 use Rattle.model.specs.Payloads.{number_field}
 use Rattle.model.specs.Logs.Event.{ClientEnd}
 use Rattle.model.specs.Tapes.{Noted, Entry, sent, is_closed}
 use Rattle.model.specs.Tapes.Entry.{Came, Breached, Happened, Sent, Did}
-use Rattle.model.specs.Admission.{untaken, high_water}
+use Rattle.model.specs.Admission.{untaken, high_water, is_crowded}
 use Rattle.model.specs.Decoding.{completed}
-use Rattle.model.specs.StreamStates.{most_streams}
 use Rattle.model.specs.Errors.{Fault}
 use Rattle.model.specs.Errors.Fault.{Connection, Stream}
 use Rattle.model.specs.Known.{Known}
-use Rattle.model.specs.Lifetimes.{opened, highest, ends_by, is_ended_by_client, is_ended_by_gateway, is_active, is_spent}
+use Rattle.model.specs.Lifetimes.{highest, opens_last, ends_by, is_ended_by_client, is_ended_by_gateway, is_active, is_spent}
 use Rattle.model.specs.WindowsOnTape.{has_settings, increment}
 use Rattle.model.specs.Causes.{Cause, reset_code}
 use Rattle.model.specs.Courses.{course, about, fault}
@@ -32,14 +31,18 @@ ping_ack octets = record { kind = ping_kind; flags = 1; id = 0; payload = octets
 -- the farewell that the last stream calls for which a connection may have: an entry opens it
 abbrev pub last_farewell : List Entry → Entry → List Frame
 last_farewell t e =
-    if nat_lt (length (opened t)) most_streams && length (opened (e ∷ t)) == most_streams
+    if opens_last t e
     then goaway (highest (e ∷ t)) no_error ∷ []
     else []
+
+-- The code of the farewell of an error: where too many octets are untaken it asks the client to be calm, whatever the error is.
+abbrev pub code_of_farewell : List Entry → ℕ → ℕ
+code_of_farewell t code = if is_crowded t then enhance_your_calm else code
 
 -- What an entry calls for before all else: that farewell, and by its fault the reset of its stream, or the farewell with the
 -- highest stream that was opened, with the entry.
 abbrev pub owed_first : List Entry → Entry → Option Fault → List Frame
-owed_first t e (Some (Connection code)) = goaway (highest (e ∷ t)) code ∷ []
+owed_first t e (Some (Connection code)) = goaway (highest (e ∷ t)) (code_of_farewell t code) ∷ []
 owed_first t e (Some (Stream code)) = last_farewell t e ++ rst_stream (about t e) code ∷ []
 owed_first t e _ = last_farewell t e
 
@@ -77,10 +80,26 @@ abbrev pub owed_by : Known → List Entry → Entry → List Frame
 owed_by known t e =
     let found = fault known t e in owed_first t e found ++ (acks e found ++ (resets known (about t e) t e ++ reset_behind t e))
 
--- What all entries call for, the newest first: the gateway's settings come before anything else.
-abbrev pub owed : Known → List Entry → List Frame
-owed known [] = settings_frame ∷ []
-owed known (e ∷ t) = reverse (owed_by known t e) ++ owed known t
+-- ---- what calls for the end of the connection
+
+abbrev pub is_fatal : Option Fault → Bool
+is_fatal (Some (Connection code)) = true
+is_fatal _ = false
+
+-- a farewell that asks the client to be calm (section 7)
+abbrev pub is_calming : Frame → Bool
+is_calming frame = frame.kind == goaway_kind && bytes_eq (drop 4 frame.payload) (spell_number enhance_your_calm)
+
+-- The last that came in calls for the end: the client has gone, or an error of the connection. Or the gateway sent such a farewell in place of
+-- another frame.
+abbrev pub calls_for_end : Known → List Entry → Bool
+calls_for_end known [] = false
+calls_for_end known (Came noted ∷ t) = is_fatal (fault known t (Came noted))
+calls_for_end known (Breached breach ∷ t) = true
+calls_for_end known (Happened ClientEnd ∷ t) = true
+calls_for_end known (Happened event ∷ t) = false
+calls_for_end known (Sent noted ∷ t) = is_calming noted.frame || calls_for_end known t
+calls_for_end known (Did act ∷ t) = calls_for_end known t
 
 -- ---- what was sent
 
@@ -93,11 +112,35 @@ is_passing noted =
 abbrev pub controls : List Noted → List Frame
 controls frames = map (λ noted. noted.frame) (filter (λ noted. not (is_passing noted)) frames)
 
+-- A farewell that asks the client to be calm stands in place of another frame: nothing before it calls for the end.
+abbrev pub stands_in : Known → List Entry → Noted → Bool
+stands_in known t noted = is_calming noted.frame && not (calls_for_end known t)
+
+-- What all entries call for, the newest first: the gateway's settings come before anything else. Behind a farewell that stands in place of another
+-- frame nothing is called for any more but what was sent.
+abbrev pub owed : Known → List Entry → List Frame
+owed known [] = settings_frame ∷ []
+owed known (Came noted ∷ t) = reverse (owed_by known t (Came noted)) ++ owed known t
+owed known (Breached breach ∷ t) = reverse (owed_by known t (Breached breach)) ++ owed known t
+owed known (Happened event ∷ t) = reverse (owed_by known t (Happened event)) ++ owed known t
+owed known (Sent noted ∷ t) =
+    if stands_in known t noted then noted.frame ∷ controls (sent t) else reverse (owed_by known t (Sent noted)) ++ owed known t
+owed known (Did act ∷ t) = reverse (owed_by known t (Did act)) ++ owed known t
+
+-- A farewell that asks the client to be calm stands in place of what an entry calls for before all else, or of the rest of that; it is the last frame.
+pub record IsCutShort (frames first : List Frame) : Type 0 where
+  pub last : Frame
+  pub calming : is_calming last ≡ true
+  pub paid : List Frame
+  pub unpaid : List Frame
+  pub stands : frames ≡ last ∷ reverse paid
+  pub of_first : first ≡ paid ++ unpaid
+
 -- Of the frames that were sent behind an entry, which stand with the newest first, the oldest are those that it calls for
 -- before all else. Behind an error of the connection they are all.
 abbrev pub IsFollowed : List Frame → List Frame → Option Fault → Type 0
 IsFollowed frames first (Some (Connection code)) = frames ≡ first
-IsFollowed frames first _ = (newer : List Frame) × (frames ≡ newer ++ reverse first)
+IsFollowed frames first _ = ((newer : List Frame) × (frames ≡ newer ++ reverse first)) ⊎ IsCutShort frames first
 
 -- Each entry of the tape is followed so, where these frames were sent behind the tape.
 abbrev pub AreFollowed : Known → List Frame → List Entry → Type 0
@@ -130,11 +173,12 @@ abbrev pub is_plainly_flagged : Frame → Bool
 is_plainly_flagged frame = list_any (λ flags. flags == frame.flags) (flags_of frame.kind)
 
 -- octets are given back, one or more, with the reserved bit unset (section 6.9), to the connection, or to an active stream that the
--- client hasn't ended (section 5.1)
+-- client hasn't ended (section 5.1), while not too many octets are untaken
 abbrev pub is_given_back : List Entry → Frame → Bool
 is_given_back t frame =
     length frame.payload == 4 && nat_lt (number_field frame.payload) 2147483648
     && nat_lt 0 (increment frame)
+    && not (is_crowded t)
     && (frame.id == 0 || is_active frame.id t && not (is_ended_by_client frame.id t))
 
 -- a header block goes on in another frame only where this one is full (section 6.10)
@@ -157,20 +201,25 @@ AreRightlySent [] = Unit {0}
 AreRightlySent (Sent noted ∷ t) = ((not (is_passing noted) || is_rightly_sent t noted.frame) ≡ true) × AreRightlySent t
 AreRightlySent (_ ∷ t) = AreRightlySent t
 
+-- ---- floods
+
+-- The farewell stands in place of a frame that would go out while too many octets are untaken, and names the highest stream that was opened.
+pub record StandsInPlace (t : List Entry) (frame : Frame) : Type 0 where
+  pub crowded : is_crowded t ≡ true
+  pub farewell : frame ≡ goaway (highest t) enhance_your_calm
+
+-- While too many octets are untaken nothing goes out but parts of responses (octets aren't given back then, see `is_given_back`) and a farewell that
+-- asks the client to be calm; and such a farewell stands in place of another frame nowhere else.
+pub record IsCalm (known : Known) (t : List Entry) (noted : Noted) : Type 0 where
+  pub uncrowded : is_crowded t ≡ true → (is_passing noted || is_calming noted.frame) ≡ true
+  pub in_place : stands_in known t noted ≡ true → StandsInPlace t noted.frame
+
+abbrev pub AreCalm : Known → List Entry → Type 0
+AreCalm known [] = Unit {0}
+AreCalm known (Sent noted ∷ t) = IsCalm known t noted × AreCalm known t
+AreCalm known (_ ∷ t) = AreCalm known t
+
 -- ---- the end of the connection
-
-abbrev pub is_fatal : Option Fault → Bool
-is_fatal (Some (Connection code)) = true
-is_fatal _ = false
-
--- The last that came in calls for the end: the client has gone, or an error of the connection.
-abbrev pub calls_for_end : Known → List Entry → Bool
-calls_for_end known [] = false
-calls_for_end known (Came noted ∷ t) = is_fatal (fault known t (Came noted))
-calls_for_end known (Breached breach ∷ t) = true
-calls_for_end known (Happened ClientEnd ∷ t) = true
-calls_for_end known (Happened event ∷ t) = false
-calls_for_end known (_ ∷ t) = calls_for_end known t
 
 -- The connection is to end: so, or since no stream is left, nor may one be opened.
 abbrev pub must_end : Known → List Entry → Bool
@@ -192,5 +241,6 @@ pub record ErrorsHold (known : Known) (t : List Entry) : Type 0 where
   pub followed : AreFollowed known [] t
   pub farewell_first : FarewellsComeFirst t
   pub rightly_sent : AreRightlySent t
+  pub calm : AreCalm known t
   pub closed : is_closed t ≡ must_end known t
   pub in_time : EndsInTime known t

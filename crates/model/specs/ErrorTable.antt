@@ -13,7 +13,8 @@ use Rattle.model.specs.StreamStates.Standing.{Idle, ServerIdle}
 use Rattle.model.specs.StreamStates.Verdict.{Fails}
 use Rattle.model.specs.Errors.{Fault, row_start, row_too_long, first_of, or_else}
 use Rattle.model.specs.Errors.Fault.{Connection, Stream}
-use Rattle.model.specs.Lifetimes.{active, is_active, resets_active, resets_by_client, standing_on}
+use Rattle.model.specs.Admission.{is_crowded}
+use Rattle.model.specs.Lifetimes.{active, is_active, opens_last, resets_active, resets_by_client, standing_on}
 use Rattle.model.specs.FrameErrors.{fault_if, row_between, row_long_block, row_misplaced, row_payload}
 use Rattle.model.specs.WindowsOnTape.{increment, is_past, shifts_past, has_settings, first_size, stream_window, connection_window, room_on, room_on_connection}
 use Rattle.model.specs.Causes.{are_large}
@@ -152,6 +153,12 @@ abbrev pub row_refused : List Entry → Entry → Option Fault
 row_refused t (Came noted) = fault_by_standing t noted
 row_refused t _ = None
 
+-- The last stream is opened that a connection may have, and the farewell that it calls for would go out while too many octets are untaken: so the
+-- connection ends in its place, and what the head says isn't acted on. (So the code of this row is never sent on a stream.)
+abbrev pub row_no_farewell : List Entry → Entry → Option Fault
+row_no_farewell t (Came noted) = fault_if (opens_last t (Came noted) && is_crowded t) (Stream enhance_your_calm)
+row_no_farewell t _ = None
+
 -- ---- what is no request
 
 -- the header block behind what the stream carried is malformed; one that is too large is answered, whatever it says
@@ -198,6 +205,7 @@ rows_behind_block t e =
     ∷ row_stream_update t e
     ∷ row_stream_data t e
     ∷ row_refused t e
+    ∷ row_no_farewell t e
     ∷ []
 
 -- the fault by all these rows

@@ -19,14 +19,16 @@ use Rattle.model.specs.ResponseClause.{ResponsesHold}
 use Rattle.model.specs.ErrorClause.{ErrorsHold}
 use Rattle.model.specs.ProgressClause.{ProgressHolds}
 use Rattle.model.specs.WindowClause.{WindowsHold}
+use Rattle.model.specs.FloodClause.{FloodsHold}
 
--- the five clauses
+-- the six clauses
 pub record ClausesHold (known : Known) (t : List Entry) : Type 0 where
   pub requests : RequestsHold known t
   pub responses : ResponsesHold known t
   pub errors : ErrorsHold known t
   pub progress : ProgressHolds known t
   pub windows : WindowsHold known t
+  pub floods : FloodsHold known t
 
 -- It holds of the tape before each thing that comes in: so the gateway's settings stand before all else, and all that an entry causes
 -- stands behind it and before the next thing that comes in.

@@ -40,6 +40,7 @@ pub mod Readiness
 pub mod RequestClause
 pub mod ResponseClause
 pub mod ErrorClause
+pub mod FloodClause
 pub mod ProgressClause
 pub mod WindowClause
 pub mod Rooms

@@ -32,6 +32,10 @@ opened (_ ∷ t) = opened t
 abbrev pub highest : List Entry → ℕ
 highest t = fold max 0 (opened t)
 
+-- the entry opens the last stream that a connection may have
+abbrev pub opens_last : List Entry → Entry → Bool
+opens_last t e = nat_lt (length (opened t)) most_streams && length (opened (e ∷ t)) == most_streams
+
 abbrev pub is_opened : ℕ → List Entry → Bool
 is_opened stream t = list_any (λ id. id == stream) (opened t)
 

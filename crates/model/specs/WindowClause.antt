@@ -1,6 +1,6 @@
 -- The clause on windows (RFC 9113, sections 5.2 and 6.9): DATA goes out within both windows, and octets that came are given back
 -- once they are passed on.
-use Rattle.std.specs.Prelude.{◌≡◌, ℕ, ◌+◌, ◌<◌, true, false, ◌==◌, nat_lt, if◌then◌else◌, List, [], ◌∷◌, length, ℤ, pos, ◌-ℤ◌, ◌≤ℤ◌, sum_by}
+use Rattle.std.specs.Prelude.{◌≡◌, ℕ, ◌+◌, ◌<◌, true, false, ◌==◌, nat_lt, if◌then◌else◌, List, [], ◌∷◌, length, ℤ, pos, ◌-ℤ◌, ◌≤ℤ◌, ◌<ℤ◌, ◌⊎◌, sum_by}
 use Rattle.model.specs.Frames.{Frame, data_kind, window_update_kind}
 use Rattle.model.specs.Logs.Event.{UpTook}
 use Rattle.model.specs.Setup.{Passing}
@@ -71,6 +71,12 @@ pub record GivesBack (known : Known) (t : List Entry) : Type 0 where
 -- for it.
 abbrev pub HoldsBack : Passing → List Entry → Type 0
 HoldsBack passing t = (stream : ℕ) → 0 < stream → room_on stream t ≤ℤ (pos first_window -ℤ pos (kept passing stream t))
+
+-- Octets go back: there is less room than at first, but for what is kept, on the connection, or on an active stream that the client hasn't ended.
+abbrev pub GoesBack : Passing → List Entry → Type 0
+GoesBack passing t =
+    (room_on_connection t <ℤ (pos first_window -ℤ pos (kept_in_all passing t)))
+    ⊎ ((stream : ℕ) × (is_active stream t ≡ true) × (is_ended_by_client stream t ≡ false) × (room_on stream t <ℤ (pos first_window -ℤ pos (kept passing stream t))))
 
 -- how many octets of DATA may come on an id; 0 is that of the connection
 abbrev pub room_of : ℕ → List Entry → ℤ

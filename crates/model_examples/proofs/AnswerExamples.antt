@@ -223,20 +223,21 @@ errors = record {
   begins = (content.frame ∷ headers.frame ∷ settings_ack ∷ [], refl);
   just_owed = refl;
   followed = (
-    (content.frame ∷ headers.frame ∷ [], refl),
+    inl (content.frame ∷ headers.frame ∷ [], refl),
     (
-      (content.frame ∷ headers.frame ∷ [], refl),
+      inl (content.frame ∷ headers.frame ∷ [], refl),
       (
-        (content.frame ∷ headers.frame ∷ [], refl),
+        inl (content.frame ∷ headers.frame ∷ [], refl),
         (
-          (content.frame ∷ headers.frame ∷ [], refl),
-          ((content.frame ∷ headers.frame ∷ [], refl), ((content.frame ∷ headers.frame ∷ settings_ack ∷ [], refl), tt)),
+          inl (content.frame ∷ headers.frame ∷ [], refl),
+          (inl (content.frame ∷ headers.frame ∷ [], refl), (inl (content.frame ∷ headers.frame ∷ settings_ack ∷ [], refl), tt)),
         ),
       ),
     ),
   );
   farewell_first = (refl, (refl, (refl, tt)));
   rightly_sent = (refl, (refl, (refl, (refl, tt))));
+  calm = (record { uncrowded = λ so. absurd (let no : false ≡ true = so in cc); in_place = λ so. absurd (let no : false ≡ true = so in cc) }, (record { uncrowded = λ so. absurd (let no : false ≡ true = so in cc); in_place = λ so. absurd (let no : false ≡ true = so in cc) }, (record { uncrowded = λ so. absurd (let no : false ≡ true = so in cc); in_place = λ so. absurd (let no : false ≡ true = so in cc) }, (record { uncrowded = λ so. absurd (let no : false ≡ true = so in cc); in_place = λ so. absurd (let no : false ≡ true = so in cc) }, tt))));
   closed = refl;
   in_time = (refl, (refl, (refl, tt)));
 }
@@ -306,7 +307,7 @@ taped = record {
   step_is = record { spelled = (content_fits, (headers_fits, tt)); put_out = refl; event = refl; acts_follow = refl };
   told = told;
   in_turn = (before.clauses, before.in_turn);
-  clauses = record { requests = requests; responses = responses; errors = errors; progress = progress; windows = windows };
+  clauses = record { requests = requests; responses = responses; errors = errors; progress = progress; windows = windows; floods = (λ so. absurd (let no : false ≡ true = so in cc), (λ so. absurd (let no : false ≡ true = so in cc), (λ so. absurd (let no : false ≡ true = so in cc), (λ so. absurd (let no : false ≡ true = so in cc), tt)))) };
 }
 
 pub answered_log : Headline setup (first.step ∷ answer_step ∷ [])

@@ -68,7 +68,7 @@ greeted_holds = record {
     limits = (tt, tt);
     delivered = λ stream. none_read greeted stream (nothing_either (0 == stream));
   };
-  errors = record { begins = ([], refl); just_owed = refl; followed = tt; farewell_first = tt; rightly_sent = (refl, tt); closed = refl; in_time = tt };
+  errors = record { begins = ([], refl); just_owed = refl; followed = tt; farewell_first = tt; rightly_sent = (refl, tt); calm = (record { uncrowded = λ so. absurd (let no : false ≡ true = so in cc); in_place = λ so. absurd (let no : false ≡ true = so in cc) }, tt); closed = refl; in_time = tt };
   progress = record {
     forwarded = greeted_forwarded;
     streamed = not_streaming;
@@ -78,6 +78,7 @@ greeted_holds = record {
     go_to_open = tt;
   };
   windows = record { keeps = (λ kind some. absurd (omega (arith, kind)), tt); no_more = (λ kind. absurd (omega (arith, kind)), tt); holds_back = λ stream counted. omega arith; gives_back = λ on. record { shared = refl; own = λ stream on unended. refl } };
+  floods = (λ so. absurd (let no : false ≡ true = so in cc), tt);
 }
 
 -- ---- behind the client's
@@ -101,9 +102,10 @@ settled_holds = record {
   errors = record {
     begins = (settings_ack ∷ [], refl);
     just_owed = refl;
-    followed = ((settings_ack ∷ [], refl), tt);
+    followed = (inl (settings_ack ∷ [], refl), tt);
     farewell_first = tt;
     rightly_sent = (refl, (refl, tt));
+    calm = (record { uncrowded = λ so. absurd (let no : false ≡ true = so in cc); in_place = λ so. absurd (let no : false ≡ true = so in cc) }, (record { uncrowded = λ so. absurd (let no : false ≡ true = so in cc); in_place = λ so. absurd (let no : false ≡ true = so in cc) }, tt));
     closed = refl;
     in_time = (refl, tt);
   };
@@ -121,6 +123,7 @@ settled_holds = record {
     holds_back = λ stream counted. omega arith;
     gives_back = λ on. record { shared = refl; own = λ stream on unended. refl };
   };
+  floods = (λ so. absurd (let no : false ≡ true = so in cc), (λ so. absurd (let no : false ≡ true = so in cc), tt));
 }
 
 -- so they do before the client's settings, and before its first request

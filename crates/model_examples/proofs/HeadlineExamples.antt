@@ -147,9 +147,10 @@ unfolding total_size
 errors = record {
   begins = (settings_ack ∷ [], refl);
   just_owed = refl;
-  followed = (([], refl), (([], refl), (([], refl), ((settings_ack ∷ [], refl), tt))));
+  followed = (inl ([], refl), (inl ([], refl), (inl ([], refl), (inl (settings_ack ∷ [], refl), tt))));
   farewell_first = (refl, (refl, tt));
   rightly_sent = (refl, (refl, tt));
+  calm = (record { uncrowded = λ so. absurd (let no : false ≡ true = so in cc); in_place = λ so. absurd (let no : false ≡ true = so in cc) }, (record { uncrowded = λ so. absurd (let no : false ≡ true = so in cc); in_place = λ so. absurd (let no : false ≡ true = so in cc) }, tt));
   closed = refl;
   in_time = (refl, (refl, tt));
 }
@@ -175,7 +176,7 @@ told = record {
 }
 
 pub clauses : ClausesHold known tape
-clauses = record { requests = requests; responses = responses; errors = errors; progress = progress; windows = windows }
+clauses = record { requests = requests; responses = responses; errors = errors; progress = progress; windows = windows; floods = (λ so. absurd (let no : false ≡ true = so in cc), (λ so. absurd (let no : false ≡ true = so in cc), tt)) }
 
 pub in_turn : HoldsInTurn (ClausesHold known) tape
 in_turn = (settled_holds, settled_in_turn)

@@ -155,7 +155,7 @@ all_allowed = (asked_allowed, no_neighbours (map entry_of asked) refl, (reply_go
 
 all_flushed : IsFlushed (windows_on (map entry_of answered)) (state_of answered)
 unfolding total_size
-all_flushed = record { none_cut = λ stream kept found. let clash : ◌≡◌ {A = Option Kept} None (Some kept) = found in cc; none_ready = λ low. refl }
+all_flushed = record { none_cut = λ low stream kept found. let clash : ◌≡◌ {A = Option Kept} None (Some kept) = found in cc; none_ready = λ low. refl }
 
 -- The clauses hold behind it.
 pub not_found_holds : KeepClauses elsewhere (map entry_of answered)
@@ -171,7 +171,7 @@ seen (m ∷ ms) = record { move = m; sight = sight_in (summary_of elsewhere (map
 -- where nobody is kept the flush is done
 nobody_waits : (ms : List Move) → (state_of ms).kept ≡ [] → IsFlushed (windows_in (sight_of (seen ms))) (state_of ms)
 nobody_waits ms none = record {
-  none_cut = λ stream kept found. let clash : ◌≡◌ {A = Option Kept} None (Some kept) = ap (find stream) (sym none) ∙ found in cc;
+  none_cut = λ low stream kept found. let clash : ◌≡◌ {A = Option Kept} None (Some kept) = ap (find stream) (sym none) ∙ found in cc;
   none_ready = λ low. by (state_of ms).kept none;
 }
   where

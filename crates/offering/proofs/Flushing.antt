@@ -132,7 +132,7 @@ turn_ready known t s h stream (inr turn) = listed_ready known t s h stream turn.
 -- and where no stream is listed none is ready
 pub flushed : (known : Known) (t : List Entry) (s : State) → Neighbours known t → Offering known t s → IsFlushed (windows_on t) s → NoneReady known t
 flushed known t s n h done low stream r =
-    let i = listed known t s n h done.none_cut stream r in
+    let i = listed known t s n h (done.none_cut low) stream r in
     let none : length (ready (windows_on t) s) ≡ 0 = ap length (done.none_ready low) in
     let within = i.1 in
     omega (arith, within, none)

@@ -164,7 +164,8 @@ module _ (known : Known) (t : List Entry) (s : State) (before behind : Sight) (n
   pub leaves_news : (m : Move) → Holds known t s m → MayCome before behind s m
       → ((event : Event) (stream : ℕ) (news : Delivery) (box : Outbox) → m ≡ Hears event stream news → Heard known t event stream news box → P box → P (grown box news)) → LeavesNews P s.kept m
   leaves_news (Hears event stream news) holds may by = λ k found p.
-      by event stream news k.box refl (heard_of known t event stream news n holds k.box ((found_held known t s stream k h found).stands (may.0.none_cut stream k found))) p
+      let held : IsHeld known t stream k = found_held known t s stream k h found in
+      by event stream news k.box refl (heard_of known t event stream news n holds k.box (held.stands (held.uncut holds.of.no_cause))) p
   leaves_news (Takes noted c) holds may by = tt
   leaves_news (Breaks breach) holds may by = tt
   leaves_news (Notes event) holds may by = tt

@@ -76,6 +76,7 @@ hears_keep known t s event stream news n h may =
       named = kept.named;
       stands = λ c. stands_told known t (Happened event ∷ t) stream may.of.o news k.box refl (cause_stays known stream t (Happened event) none) (out_stays known stream t (Happened event) none)
           (ap is_to_head (items_stay known stream t (Happened event) refl)) n.apart may.of.given (record { is_opened = may.of.given.is_opened; is_given = may.of.given.is_given }) (inl may.of.no_cause) may.tells (kept.stands c);
+      uncut = λ free. kept.uncut may.of.no_cause;
     })
 
 -- a failure is the cause for the stream of its connection
@@ -128,6 +129,7 @@ goes_keep known t s noted item part over h may brings = record {
         record {
           named = old.named;
           stands = λ c. stands_sent known t (Sent noted ∷ t) stream (sent_quiet known t noted stream) item k.box part (brought t noted (item ∷ []) brings.brings) (subst (λ (x : Kept). IsNext x.box part) same may.next) may.is (old.stands c);
+          uncut = λ free. old.uncut ((sent_quiet known t noted stream).cause ∙ free);
         }
 
 -- ---- an act
@@ -152,6 +154,7 @@ opens_keep known t s k route h may = record {
       named = old.named;
       stands = λ c. stands_given known t u (last_stream t) (record { k = k; route = route; stream = last_stream t }) r.box refl (sym (cause_stays known (last_stream t) t (Did (Open k route)) (none_by_did known (last_stream t) t (Open k route))) ∙ may.no_cause)
           (record { is_opened = inl refl; is_given = refl }) may.unheard may.not_ended may.none_before may.no_cause (old.stands c);
+      uncut = λ free. old.uncut may.no_cause;
     }
 
 pub acts_keep : (known : Known) (t : List Entry) (s : State) (act : Act) → Offering known t s → MayDo known t act → Offering known (Did act ∷ t) (after s (Acts act))

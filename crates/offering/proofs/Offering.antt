@@ -30,10 +30,12 @@ use Rattle.model.proofs.GivenLaws.{number_above}
 use Rattle.offering.proofs.Keeping.{find_without, find_beside, some_unless}
 use Rattle.model.proofs.ActiveLaws.{active_sent, active_beside, active_control, brought_none, none_brought}
 
--- The record is the stream's, and unless a reset is owed its outbox is what is on offer behind what was read.
+-- The record is the stream's, and unless a reset is owed its outbox is what is on offer behind what was read. A reset is owed only where the gateway
+-- answers the stream itself.
 pub record IsHeld (known : Known) (t : List Entry) (stream : ℕ) (k : Kept) : Type 0 where
   pub named : k.id ≡ stream
   pub stands : k.cut ≡ false → Stands known t stream k.box
+  pub uncut : (course known stream t).cause ≡ None → k.cut ≡ false
 
 -- The stream has such a record.
 abbrev pub IsKeptIf : Known → List Entry → ℕ → Option Kept → Type 0
@@ -53,7 +55,7 @@ pub record Offering (known : Known) (t : List Entry) (s : State) : Type 0 where
 pub kept_same : (known : Known) (t : List Entry) (e : Entry) (stream : ℕ) (o : Option Kept) → SameOffer known t (e ∷ t) stream → items_on stream (sent (e ∷ t)) ≡ items_on stream (sent t)
     → IsKeptIf known t stream o → IsKeptIf known (e ∷ t) stream o
 kept_same known t e stream None q i h = absurd h
-kept_same known t e stream (Some k) q i h = record { named = h.named; stands = λ c. stands_same known t (e ∷ t) stream q k.box i (h.stands c) }
+kept_same known t e stream (Some k) q i h = record { named = h.named; stands = λ c. stands_same known t (e ∷ t) stream q k.box i (h.stands c); uncut = λ none. h.uncut (q.cause ∙ none) }
 
 -- the stream's record changes
 pub kept_by : (known : Known) (t u : List Entry) (stream : ℕ) (f : Kept → Kept) (o : Option Kept) → ((k : Kept) → o ≡ Some k → IsHeld known t stream k → IsHeld known u stream (f k)) → IsKeptIf known t stream o → IsKeptIf known u stream (option_map f o)
@@ -74,9 +76,12 @@ held_answered known t u stream cause k (Before interims head body whole) same no
       let h = stands c in
       let none : list_any is_final (items_on stream (sent t)) ≡ false = out_by_read (items_on stream (sent t)) h.read h.reads ∙ ap (λ x. is_some x) h.fits in
       stands_replied known t u stream cause (Before interims head body whole) same now (out ∙ none) heads none h;
+  uncut = λ none. let clash : ◌≡◌ {A = Option Cause} (Some cause) None = sym now ∙ none in cc;
 }
-held_answered known t u stream cause k (Behind body whole) same now out heads named stands = record { named = named; stands = λ c. let clash : true ≡ false = c in cc }
-held_answered known t u stream cause k Over same now out heads named stands = record { named = named; stands = λ c. let clash : true ≡ false = c in cc }
+held_answered known t u stream cause k (Behind body whole) same now out heads named stands =
+    record { named = named; stands = λ c. let clash : true ≡ false = c in cc; uncut = λ none. let clash : ◌≡◌ {A = Option Cause} (Some cause) None = sym now ∙ none in cc }
+held_answered known t u stream cause k Over same now out heads named stands =
+    record { named = named; stands = λ c. let clash : true ≡ false = c in cc; uncut = λ none. let clash : ◌≡◌ {A = Option Cause} (Some cause) None = sym now ∙ none in cc }
 
 -- the course with its first cause
 pub caused_now : (known : Known) (stream : ℕ) (t : List Entry) (e : Entry) (cause : Cause) → (course known stream t).cause ≡ None → cause_of known stream t e ≡ Some cause → (course known stream (e ∷ t)).cause ≡ Some cause

@@ -160,7 +160,8 @@ controls_bare noted control = by (noted.frame.kind == data_kind) (noted.frame.ki
 
 sent_bare : (known : Known) (t : List Entry) (queue : List Frame) (noted : Noted) → InTurn known t queue (Sent noted) → is_padded noted.frame ≡ false
 sent_bare known t queue noted (inl due) = controls_bare noted due.control
-sent_bare known t queue noted (inr may) = plainly_bare noted.frame (and_parts (is_plainly_flagged noted.frame) (if noted.frame.kind == window_update_kind then is_given_back t noted.frame else is_part t noted.frame) may.rightly).0
+sent_bare known t queue noted (inr (inr stand)) = ap is_padded stand.farewell
+sent_bare known t queue noted (inr (inl may)) = plainly_bare noted.frame (and_parts (is_plainly_flagged noted.frame) (if noted.frame.kind == window_update_kind then is_given_back t noted.frame else is_part t noted.frame) may.rightly).0
 
 -- By the rule of the frames that are sent none has padding.
 pub unpadded : (known : Known) (t : List Entry) → Conducted known t → AreUnpadded t

@@ -32,21 +32,22 @@ module _ (known : Known) (t : List Entry) (s : State) (noted : Noted) (effect : 
   held_other stream None other k = absurd k
   held_other stream (Some k) other kept =
       let none = none_by_other known stream t noted other in
-      record { named = kept.named; stands = λ c. stands_same known t u stream (came_quiet known t noted stream (cause_stays known stream t (Came noted) none) (out_stays known stream t (Came noted) none) (heads_stay known stream t (Came noted) none) n.begun) k.box refl (kept.stands c) }
+      record { named = kept.named; stands = λ c. stands_same known t u stream (came_quiet known t noted stream (cause_stays known stream t (Came noted) none) (out_stays known stream t (Came noted) none) (heads_stay known stream t (Came noted) none) n.begun) k.box refl (kept.stands c); uncut = λ free. kept.uncut (cause_stays known stream t (Came noted) none ∙ free) }
 
   -- a new stream's record
   held_new : (caused : Option Cause) → IsNew known t s noted.frame.id → IsCaused known t noted caused → IsHeld known u id (answered_if caused (blank id))
-  held_new None new leaves = record { named = refl; stands = λ c. stands_new known u id new.unsent (sym leaves.cause ∙ new.no_cause) (λ o g. new.not_given o (record { is_opened = g.is_opened; is_given = g.is_given })) }
+  held_new None new leaves = record { named = refl; stands = λ c. stands_new known u id new.unsent (sym leaves.cause ∙ new.no_cause) (λ o g. new.not_given o (record { is_opened = g.is_opened; is_given = g.is_given })); uncut = λ free. refl }
   held_new (Some found) new gives = record {
     named = refl;
     stands = λ c. stands_new_replied known u id found new.unsent gives.now (out_now known id t (Came noted) found gives.no_cause gives.now ∙ ap (list_any is_final) new.unsent)
         (heads_now known id t (Came noted) found gives.no_cause gives.now ∙ ap heads_in new.unsent);
+    uncut = λ free. refl;
   }
 
   -- that of a stream that was active
   held_old : (caused : Option Cause) (o : Option Kept) → IsCaused known t noted caused → IsKeptIf known t id o → IsKeptIf known u id (option_map (answered_if caused) o)
   held_old caused None is k = absurd k
-  held_old None (Some k) leaves kept = record { named = kept.named; stands = λ c. stands_same known t u id (came_quiet known t noted id leaves.cause leaves.out leaves.heads n.begun) k.box refl (kept.stands c) }
+  held_old None (Some k) leaves kept = record { named = kept.named; stands = λ c. stands_same known t u id (came_quiet known t noted id leaves.cause leaves.out leaves.heads n.begun) k.box refl (kept.stands c); uncut = λ free. kept.uncut (leaves.cause ∙ free) }
   held_old (Some found) (Some k) gives kept = held_answered known t u id found k k.box refl gives.now (out_now known id t (Came noted) found gives.no_cause gives.now) (heads_now known id t (Came noted) found gives.no_cause gives.now) kept.named kept.stands
 
   -- the record of the frame's stream

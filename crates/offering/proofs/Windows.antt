@@ -46,7 +46,7 @@ module _ (known : Known) (t : List Entry) (s : State) (h : Offering known t s) (
 
   -- a flush that is done by what is read is done by the tape
   pub flushed_by : IsFlushed read s → IsFlushed tape s
-  flushed_by done = record { none_cut = done.none_cut; none_ready = λ low. sym ready_same ∙ done.none_ready (subst (λ n. n < high_water) (sym right.untaken) low) }
+  flushed_by done = record { none_cut = λ low. done.none_cut (subst (λ n. n < high_water) (sym right.untaken) low); none_ready = λ low. sym ready_same ∙ done.none_ready (subst (λ n. n < high_water) (sym right.untaken) low) }
 
   -- a part that may go by what is read may by the tape
   pub goes_by : (noted : Noted) (item : Item) (part : Part) → MayGo read s noted item part → MayGo tape s noted item part

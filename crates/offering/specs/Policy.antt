@@ -145,9 +145,9 @@ abbrev pub AreAllowed : Known → List Move → Type 0
 AreAllowed known [] = Unit {0}
 AreAllowed known (m ∷ ms) = AreAllowed known ms × Neighbours known (map entry_of ms) × Holds known (map entry_of ms) (state_of ms) m
 
--- The flush is done: no reset is owed, and while few octets are untaken no stream has the next turn.
+-- The flush is done: while few octets are untaken no reset is owed, and no stream has the next turn.
 pub record IsFlushed (windows : Windows) (s : State) : Type 0 where
-  pub none_cut : (stream : ℕ) (kept : Kept) → find stream s.kept ≡ Some kept → kept.cut ≡ false
+  pub none_cut : windows.untaken < high_water → (stream : ℕ) (kept : Kept) → find stream s.kept ≡ Some kept → kept.cut ≡ false
   pub none_ready : windows.untaken < high_water → ready windows s ≡ []
 
 -- What was to be shown: each stream was sent a front of what is or was on offer for it, DATA went within the windows, and no

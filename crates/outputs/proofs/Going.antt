@@ -10,7 +10,7 @@ use Rattle.model.specs.WindowsOnTape.{increment}
 use Rattle.model.specs.Admission.{high_water}
 use Rattle.model.specs.ErrorClause.{is_plainly_flagged, is_filled}
 use Rattle.conduct.specs.Summary.{Summary}
-use Rattle.conduct.specs.Judging.{is_active_in}
+use Rattle.conduct.specs.Judging.{is_active_in, is_crowded_in}
 use Rattle.conduct.specs.Owing.{is_given_back_in, is_part_in, is_rightly_sent_in}
 use Rattle.outputs.specs.Sent.{data_frame, window_update}
 use Rattle.outputs.specs.Blocks.{kind_behind, IsFragment}
@@ -56,8 +56,8 @@ pub update_grants : (id number : ℕ) → number < 2147483648 → increment (win
 update_grants id number small =
     omega (arith, small)
 
-pub update_goes : (s : Summary) (id number : ℕ) → 0 < number → number < 2147483648 → (id == 0 || is_active_in id s && not (s.stream id).ended_by_client) ≡ true → is_rightly_sent_in s (window_update id number) ≡ true
-update_goes s id number some small open_yet =
+pub update_goes : (s : Summary) (id number : ℕ) → 0 < number → number < 2147483648 → is_crowded_in s ≡ false → (id == 0 || is_active_in id s && not (s.stream id).ended_by_client) ≡ true → is_rightly_sent_in s (window_update id number) ≡ true
+update_goes s id number some small free open_yet =
     let bare : nat_lt (number_field (spell_number number)) 2147483648 ≡ true = lt-ltb (number_field (spell_number number)) 2147483648 (omega (arith, small)) in
     let grants : nat_lt 0 (increment (window_update id number)) ≡ true = ap (λ n. nat_lt 0 n) (update_grants id number small) ∙ lt-ltb 0 number some in
-    both _ _ (both _ _ bare grants) open_yet
+    both _ _ (both _ _ (both _ _ bare grants) (ap not free)) open_yet

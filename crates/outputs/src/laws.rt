@@ -6,7 +6,7 @@ ghost use Rattle.model.specs.Frames.{Frame, content, ends_stream};
 ghost use Rattle.model.specs.Admission.{high_water};
 ghost use Rattle.model.specs.WindowsOnTape.{increment};
 ghost use Rattle.conduct.specs.Summary.{Summary};
-ghost use Rattle.conduct.specs.Judging.{is_active_in};
+ghost use Rattle.conduct.specs.Judging.{is_active_in, is_crowded_in};
 ghost use Rattle.conduct.specs.Owing.{is_rightly_sent_in};
 ghost use Rattle.outputs.specs.Sent.{data_frame, window_update};
 ghost use Rattle.outputs.specs.Blocks.{block_frames, IsFragment, Complete};
@@ -34,8 +34,8 @@ pub fn data_is_told()
 {}
 
 /// WINDOW_UPDATE grants the octets that were said, and may be sent where these are one or more, for the connection, and for an active
-/// stream that the client hasn't ended.
+/// stream that the client hasn't ended; unless too many octets are untaken.
 pub fn updates_are_told()
     ensures grants { (id : ℕ) (number : ℕ) → number < 2147483648 → increment (window_update id number) ≡ number }
-    ensures may_go { (s : Summary) (id : ℕ) (number : ℕ) → 0 < number → number < 2147483648 → (id == 0 || is_active_in id s && not (s.stream id).ended_by_client) ≡ true → is_rightly_sent_in s (window_update id number) ≡ true }
+    ensures may_go { (s : Summary) (id : ℕ) (number : ℕ) → 0 < number → number < 2147483648 → is_crowded_in s ≡ false → (id == 0 || is_active_in id s && not (s.stream id).ended_by_client) ≡ true → is_rightly_sent_in s (window_update id number) ≡ true }
 {}

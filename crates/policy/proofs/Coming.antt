@@ -59,6 +59,7 @@ module _ (setup : Setup) (behind : Summary) (s : State) (ready : IsReady s) wher
     in_turn = tt;
     request = record { open_yet = ready.open_yet; may = requests_come };
     gains = tt;
+    calls = λ so. absurd (let no : false ≡ true = so in cc);
     table = tt;
     window = owes_none;
   }
@@ -72,6 +73,7 @@ module _ (setup : Setup) (behind : Summary) (s : State) (ready : IsReady s) wher
     in_turn = tt;
     request = record { open_yet = ready.open_yet; may = (requests_come, none) };
     gains = tt;
+    calls = λ so. absurd (let no : false ≡ true = so in cc);
     table = tt;
     window = (owes_none, record { settled = owes_none.settled; admitted = may });
   }
@@ -95,6 +97,7 @@ module _ (setup : Setup) (behind : Summary) (s : State) (ready : IsReady s) wher
     in_turn = tt;
     request = record { open_yet = ready.open_yet; may = (requests_come, may.of_upstream, may.answer.kept) };
     gains = tt;
+    calls = λ so. absurd (let no : false ≡ true = so in cc);
     table = tt;
     window = (owes_none, record { settled = owes_none.settled; admitted = may.answer.admitted });
   }
@@ -108,6 +111,7 @@ module _ (setup : Setup) (behind : Summary) (s : State) (ready : IsReady s) wher
     in_turn = tt;
     request = record { open_yet = ready.open_yet; may = failed_may event whole may.of_upstream may.answer.kept };
     gains = tt;
+    calls = λ so. absurd (let no : false ≡ true = so in cc);
     table = tt;
     window = (owes_none, record { settled = owes_none.settled; admitted = may.answer.admitted });
   }
@@ -136,6 +140,7 @@ module _ (setup : Setup) (behind : Summary) (s : State) (ready : IsReady s) wher
     in_turn = tt;
     request = record { open_yet = ready.open_yet; may = request_may noted gain may.gained };
     gains = gains_of noted gain may.gained;
+    calls = λ so. absurd (let no : false ≡ true = so in cc);
     table = may.noted_right;
     window = record { nothing = owes_none; goes_on = ends_not; opens_it = refl; lives = lives; over_with_it = refl };
   }

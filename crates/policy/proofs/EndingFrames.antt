@@ -23,7 +23,7 @@ use Rattle.model.specs.ErrorClause.{is_fatal, acks, reset_for}
 use Rattle.model.proofs.OwedSteps.{no_reset_for}
 use Rattle.conduct.specs.Summary.{Summary}
 use Rattle.conduct.specs.Judging.{is_over_in, completed_in}
-use Rattle.conduct.specs.Owing.{fault_in, highest_in, opened_after, new_cause_in, brief_from, owed_first_in, resets_in, owes_in}
+use Rattle.conduct.specs.Owing.{fault_in, highest_in, opened_after, new_cause_in, brief_from, owed_first_in, resets_in, owes_in, code_of_farewell_in}
 use Rattle.conduct.specs.After.{after}
 use Rattle.conduct.specs.Rows.{find}
 use Rattle.conduct.specs.Rule.{point_of, known_of}
@@ -96,9 +96,9 @@ none_left p q id (k ∷ ks) less none = by (p k.id) refl (q k.id) refl (k.id == 
 flushed_unless : (w : Windows) (s : offering.State) (over : Bool) (id : ℕ) → IsFlushed w s → IsFlushed w (record { kept = unless_over over id s.kept; last = s.last })
 flushed_unless w s false id done = done
 flushed_unless w s true id done = record {
-  none_cut = λ stream k found. elim (eqb_tells id stream) [
+  none_cut = λ low stream k found. elim (eqb_tells id stream) [
     | inl x ↦ absurd (let clash : ◌≡◌ {A = Option offering.Kept} None (Some k) = sym (find_gone id s.kept) ∙ ap (λ n. offering.find n (without id s.kept)) x.1 ∙ found in cc)
-    | inr x ↦ done.none_cut stream k (sym (find_without id stream s.kept x.1) ∙ found)
+    | inr x ↦ done.none_cut low stream k (sym (find_without id stream s.kept x.1) ∙ found)
   ];
   none_ready = λ low. none_left (can_turn w s) (can_turn w (record { kept = without id s.kept; last = s.last })) id s.kept less (done.none_ready low);
 }
@@ -160,10 +160,10 @@ module _ (setup : Setup) (u : Summary) (noted : Noted) (code : ℕ) (found : fau
   cause_stays = ap (first_of_both (u.stream id).brief.cause) (no_cause (fault_in u (Came noted)) found) ∙ first_stays (u.stream id).brief.cause
 
   -- it calls for a farewell alone
-  pub owes_farewell : owes_in setup false u (Came noted) ≡ goaway (highest_in (opened_after u (Came noted))) code ∷ []
+  pub owes_farewell : owes_in setup false u (Came noted) ≡ goaway (highest_in (opened_after u (Came noted))) (code_of_farewell_in u code) ∷ []
   owes_farewell =
       ap (λ (x : Option Fault). owed_first_in u (Came noted) x ++ (acks (Came noted) x ++ (resets_in setup false u (Came noted) ++ []))) found
-      ∙ ap (λ (fs : List Frame). goaway (highest_in (opened_after u (Came noted))) code ∷ (fs ++ [])) none_reset
+      ∙ ap (λ (fs : List Frame). goaway (highest_in (opened_after u (Came noted))) (code_of_farewell_in u code) ∷ (fs ++ [])) none_reset
     where
       none_reset : resets_in setup false u (Came noted) ≡ []
       none_reset =
@@ -308,7 +308,7 @@ module _ (setup : Setup) (run : List Move) (all : AllAllowed setup run) (ready :
       by false more = ap not (more refl)
 
   pub frame_ends : Ends setup run s d
-  frame_ends = erred setup run all ready on d found.0 found.1 (record {
+  frame_ends = erred setup run all ready on d found.0 found.1 refl (record {
     allowed = (all, may_do);
     ends = may.fatal;
     open_yet = ready.open_yet;

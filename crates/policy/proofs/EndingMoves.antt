@@ -1,19 +1,20 @@
 -- Behind the entry that ends the connection: what is owed goes out, each open connection is closed, and then that to the client.
-use Rattle.std.proofs.Common.{◌≡◌, ℕ, ◌<◌, true, false, not, ◌&&◌, List, [], ◌∷◌, ◌++◌, map, reverse, append_assoc, refl, sym, ap, ◌∙◌, subst, inl, inr, arith, if◌then◌else◌}
+use Rattle.std.proofs.Common.{◌≡◌, ℕ, ◌<◌, true, false, not, ◌&&◌, nat_lt, List, [], ◌∷◌, ◌++◌, map, reverse, append_assoc, refl, sym, ap, ◌∙◌, subst, inl, inr, arith, if◌then◌else◌}
 use Rattle.std.specs.Prelude.{Option, Some, None, is_some, pos, int_lt, ◌+ℤ◌, ◌-ℤ◌}
 use Rattle.std.specs.List.{list_any}
-use Rattle.std.proofs.lemmas.Bool.{or_left}
+use Rattle.std.proofs.lemmas.Bool.{or_left, or_right, and_right}
 use Rattle.std.proofs.lemmas.List.{reverse-append}
 use Rattle.model.specs.Frames.{Frame, goaway}
 use Rattle.model.specs.FrameErrors.{is_between}
 use Rattle.model.specs.Setup.{Setup}
 use Rattle.model.specs.Tables.{Table}
-use Rattle.model.specs.Admission.{high_water}
+use Rattle.model.specs.Admission.{high_water, most_untaken}
+use Rattle.model.specs.ErrorClause.{is_calming}
 use Rattle.model.specs.Logs.Act.{Close, CloseClient}
 use Rattle.model.specs.Tapes.Entry.{Sent}
 use Rattle.conduct.specs.Summary.{Summary}
 use Rattle.conduct.specs.Judging.{window_in}
-use Rattle.conduct.specs.Owing.{must_end_in}
+use Rattle.conduct.specs.Owing.{owes_in, must_end_in}
 use Rattle.conduct.specs.Turn.{rest_of}
 use Rattle.conduct.specs.After.{after, begun_after}
 use Rattle.conduct.specs.Quiet.{noted_of}
@@ -58,7 +59,7 @@ module _ (v w : Windows) (s : offering.State) (same : (stream : ℕ) → is_some
   ready_same = filter_same (can_turn w s) (can_turn v s) turn_same (map (λ (k : offering.Kept). k.id) s.kept)
 
   pub still_flushed : (w.untaken < high_water → v.untaken < high_water) → IsFlushed v s → IsFlushed w s
-  still_flushed low done = record { none_cut = done.none_cut; none_ready = λ is_low. ready_same ∙ done.none_ready (low is_low) }
+  still_flushed low done = record { none_cut = λ is_low. done.none_cut (low is_low); none_ready = λ is_low. ready_same ∙ done.none_ready (low is_low) }
 
 -- ---- what holds between the entry and the client's close
 
@@ -99,27 +100,28 @@ module _ (setup : Setup) (run : List Move) (queue : List Frame) (live : List Liv
 
 -- ---- a frame that is owed
 
-pub farewell_goes : (setup : Setup) (run : List Move) (last code : ℕ) (live : List Live) (table : Table) → IsEnding setup run (goaway last code ∷ []) live → IsEnding setup (Does (Sends (noted_of (goaway last code)) table) ∷ run) [] live
-farewell_goes setup run last code live table e = record {
+pub farewell_goes : (setup : Setup) (run : List Move) (last code : ℕ) (live : List Live) (table : Table) → (nat_lt most_untaken (desk_of setup (conducts run)).book.untaken && not (is_calming (goaway last code))) ≡ false → IsEnding setup run (goaway last code ∷ []) live → IsEnding setup (Does (Sends (noted_of (goaway last code)) table) ∷ run) [] live
+farewell_goes setup run last code live table calm e = record {
   allowed = (
     e.allowed,
     record {
       rests = λ comes. absurd (let no : false ≡ true = comes in cc);
       conduct = record {
-        allowed = record { open_yet = e.open_yet; turn = inl (record { front = e.owes ∙ sym (ap (λ (q : List Frame). frame ∷ rest_of q) e.owes); control = refl }) };
+        allowed = record { open_yet = e.open_yet; turn = inl (record { front = e.owes ∙ sym (ap (λ (q : List Frame). frame ∷ rest_of q) e.owes); control = refl; owing = owing; calm = calm }) };
         fit = refl;
       };
       offer = record { no_block = refl; no_data = refl };
       in_turn = λ begins. absurd (let no : false ≡ true = begins in cc);
       request = record { open_yet = told_open setup run (frame ∷ []) live e; may = inl e.due };
       gains = tt;
+      calls = λ so. absurd (let no : false ≡ true = sym owing ∙ so in cc);
       table = record { together = ap (λ b. is_between b frame) (told_block setup run (frame ∷ []) live e); is_given = refl };
       window = record { kind = refl; over_with_it = refl };
     },
   );
-  ends = e.ends;
+  ends = or_right (is_calming frame) (desk_of setup (conducts run)).book.ends e.ends;
   open_yet = e.open_yet;
-  owes = ap (λ (fs : List Frame). rest_of desk_queue ++ fs) (control_owes setup false (summary_in (desk_of setup (conducts run)).book) (noted_of frame) refl) ∙ ap (λ (q : List Frame). rest_of q ++ []) e.owes;
+  owes = ap (λ b. if b then [] else rest_of desk_queue ++ owes_in setup false (summary_in (desk_of setup (conducts run)).book) (Sent (noted_of frame))) owing ∙ ap (λ (fs : List Frame). rest_of desk_queue ++ fs) (control_owes setup false (summary_in (desk_of setup (conducts run)).book) (noted_of frame) refl) ∙ ap (λ (q : List Frame). rest_of q ++ []) e.owes;
   none_begun = ap (λ b. begun_after b frame) e.none_begun;
   live = e.live;
   due = e.due;
@@ -139,6 +141,9 @@ farewell_goes setup run last code live table e = record {
     p : Point
     p = point_of setup (conducts run)
 
+    owing : (is_calming frame && not (desk_of setup (conducts run)).book.ends) ≡ false
+    owing = ap (λ b. is_calming frame && not b) e.ends ∙ and_right (is_calming frame) false refl
+
 -- ---- a connection is closed
 
 pub close_goes : (setup : Setup) (run : List Move) (l : Live) (ls : List Live) → live_of l.k ls ≡ None → IsEnding setup run [] (ls ++ l ∷ []) → IsEnding setup (Does (Acts (Close l.k)) ∷ run) [] ls
@@ -155,6 +160,7 @@ close_goes setup run l ls apart e = record {
         may = record { nothing = e.due; live = l; found = ap (λ (xs : List Live). live_of l.k xs) e.live ∙ last_found l ls apart; why = inr (told_ends setup run [] (ls ++ l ∷ []) e) };
       };
       gains = tt;
+      calls = λ so. absurd (let no : false ≡ true = so in cc);
       table = tt;
       window = tt;
     },
@@ -194,6 +200,7 @@ module _ (setup : Setup) (run : List Move) (e : IsEnding setup run [] []) where
       in_turn = tt;
       request = record { open_yet = told_open setup run [] [] e; may = record { nothing = e.due; none = e.live } };
       gains = tt;
+      calls = λ so. absurd (let no : false ≡ true = so in cc);
       table = tt;
       window = tt;
     },

@@ -3,7 +3,7 @@ use Rattle.std.proofs.Common.{◌≡◌, ℕ, ◌%◌, Bool, true, false, ◌==�
 use Rattle.std.specs.Prelude.{Option, Some, None, is_some, is_none}
 use Rattle.std.specs.List.{list_any, list_all}
 use Rattle.std.proofs.lemmas.Bool.{and_parts, or_parts, eqb-true, ltb-true, ne_eqb}
-use Rattle.model.specs.Frames.{headers_kind, protocol_error, flow_control_error, compression_error, refused_stream}
+use Rattle.model.specs.Frames.{headers_kind, protocol_error, flow_control_error, compression_error, refused_stream, enhance_your_calm}
 use Rattle.model.specs.Tables.{Table}
 use Rattle.model.specs.Tapes.{Note, Noted}
 use Rattle.model.specs.Tapes.Note.{NoBlock, Fields, Undecodable, Unread}
@@ -72,7 +72,7 @@ module _ (u : Summary) (noted : Noted) (table next : Table) (right : tables.IsNo
       ∙ refused_alone (nat_lt (length (active_in u)) most_active) in
       ap (λ (x : Option Fault). is_fatal (or_else x last)) (skip (rows_before_block_in u noted.frame) (rows_behind_block_in u noted) (none_of (first_of (rows_before_block_in u noted.frame)) sound))
       ∙ mild_first (rows_behind_block_in u noted) last
-      (ap (λ b. is_fatal (fault_if b (Connection compression_error))) readable, (mild_unless (fault_by_standing_in u noted.frame) standing, (mild_both _ _ protocol_error flow_control_error, (mild_if _ flow_control_error, (standing, tt)))))
+      (ap (λ b. is_fatal (fault_if b (Connection compression_error))) readable, (mild_unless (fault_by_standing_in u noted.frame) standing, (mild_both _ _ protocol_error flow_control_error, (mild_if _ flow_control_error, (standing, (mild_if _ enhance_your_calm, tt))))))
       (mild_if _ protocol_error)
 
   pub opens_none : opens_by u.opened (completed_in u.block noted.frame) noted.note ≡ false

@@ -1,10 +1,12 @@
 -- The entry that ends the connection, where the gateway rests: and the whole end behind it.
-use Rattle.std.proofs.Common.{◌≡◌, ℕ, ◌<◌, true, false, ◌==◌, ◌&&◌, nat_lt, List, [], ◌∷◌, ◌++◌, reverse, append_assoc, refl, sym, ap, ◌∙◌, subst, if◌then◌else◌}
+use Rattle.std.proofs.Common.{◌≡◌, ℕ, ◌<◌, Bool, true, false, not, ◌==◌, ◌&&◌, nat_lt, List, [], ◌∷◌, ◌++◌, reverse, append_assoc, refl, sym, ap, ◌∙◌, subst, inl, inr, arith, if◌then◌else◌}
 use Rattle.std.specs.Prelude.{Some, is_some, length, pos, int_lt}
 use Rattle.std.proofs.lemmas.List.{reverse-reverse}
-use Rattle.model.specs.Frames.{Frame, goaway, no_error, protocol_error, frame_size_error}
+use Rattle.std.proofs.lemmas.Bool.{ltb-true}
+use Rattle.model.specs.FrameErrors.{is_between}
+use Rattle.model.specs.Frames.{Frame, goaway, no_error, protocol_error, frame_size_error, enhance_your_calm}
 use Rattle.model.specs.Setup.{Setup}
-use Rattle.model.specs.Admission.{high_water}
+use Rattle.model.specs.Admission.{high_water, most_untaken}
 use Rattle.model.specs.Tables.{Table}
 use Rattle.model.specs.Logs.Event.{ClientEnd}
 use Rattle.model.specs.Logs.Act.{Close, CloseClient}
@@ -16,15 +18,20 @@ use Rattle.model.specs.Errors.Fault.{Connection}
 use Rattle.model.specs.Known.{Known}
 use Rattle.model.specs.Lifetimes.{is_active}
 use Rattle.model.specs.Courses.{first_of_both}
-use Rattle.model.specs.ErrorClause.{reset_for}
+use Rattle.model.specs.ErrorClause.{is_calming, reset_for}
 use Rattle.model.proofs.OwedSteps.{neither, no_reset_for}
 use Rattle.conduct.specs.Summary.{Summary}
-use Rattle.conduct.specs.Owing.{about_in, fault_in, highest_in, opened_after, next_brief, resets_in, owes_in}
+use Rattle.conduct.specs.Judging.{is_crowded_in}
+use Rattle.conduct.specs.Owing.{about_in, fault_in, highest_in, opened_after, code_of_farewell_in, next_brief, resets_in, owes_in}
 use Rattle.conduct.specs.Quiet.{noted_of}
 use Rattle.conduct.specs.Rule.{point_of, known_of}
+use Rattle.conduct.specs.Turn.{rest_of}
+use Rattle.conduct.specs.After.{begun_after}
+use Rattle.conduct.specs.Book.{desk_of}
+use Rattle.conduct.proofs.Book.{has_kept}
 use Rattle.conduct.proofs.Idle.{no_cause_if}
 use Rattle.conduct.proofs.Knowing.{known_so}
-use Rattle.offering.specs.State.{find, are_open}
+use Rattle.offering.specs.State.{Windows, find, are_open}
 use Rattle.offering.specs.Policy.{IsFlushed}
 use Rattle.offering.specs.Sight.{IsRightOf, sight_in, windows_in}
 use Rattle.offering.proofs.Sights.{right_by_summary}
@@ -36,7 +43,7 @@ use Rattle.policy.specs.State.{State, conducts, tape_of, summary_at, offers_of, 
 use Rattle.policy.specs.Rule.{MayDo, AllAllowed, RestsBehind}
 use Rattle.policy.specs.Steps.{told_by, Stands}
 use Rattle.policy.specs.Coming.{IsReady}
-use Rattle.policy.specs.Ending.{farewell_for, farewell_by, sent_all, farewell_of, closes_of, frames_sent, closed_all, by_number, Ends}
+use Rattle.policy.specs.Ending.{calming_of, IsCrowded, farewell_for, farewell_by, sent_all, farewell_of, closes_of, frames_sent, closed_all, by_number, Ends}
 use Rattle.policy.proofs.Tapes.{offers_tape}
 use Rattle.policy.proofs.Telling.{all_moved, sight_right}
 use Rattle.policy.proofs.Placing.{offers_may, offers_right, turns_may}
@@ -60,7 +67,30 @@ sends_tape table (frame ∷ frames) run =
     ∙ sends_tape table frames (Does (Sends (noted_of frame) table) ∷ run)
     ∙ sym (append_assoc (frames_sent frames) (Sent (noted_of frame) ∷ []) (tape_of run))
 
+-- a farewell asks the client to be calm where too many octets are untaken
+calm_or_uncrowded : (last code : ℕ) (crowded : Bool) → (crowded && not (is_calming (goaway last (if crowded then enhance_your_calm else code)))) ≡ false
+calm_or_uncrowded last code true = refl
+calm_or_uncrowded last code false = refl
+
 -- ---- all of it
+
+module _ (setup : Setup) (run : List Move) (all : AllAllowed setup run) where
+  -- behind the deed and its farewell
+  pub finish : (d : Deed) → IsEnding setup (farewell_of (state_of setup run) d ++ Does d ∷ run) [] (state_of setup run).requests.live → Ends setup run (state_of setup run) d
+  finish d e =
+      let back : reverse (by_number (state_of setup run)) ≡ (state_of setup run).requests.live = reverse-reverse (state_of setup run).requests.live in
+      let closing = closes_go setup (by_number (state_of setup run)) (farewell_of (state_of setup run) d ++ Does d ∷ run) (subst AreApart (sym back) (all_apart setup (turns_of setup run) (turns_may setup run all))) (subst (λ (ls : List Live). IsEnding setup (farewell_of (state_of setup run) d ++ Does d ∷ run) [] ls) (sym back) e) in
+      let same = sym (append_assoc (closes_of (by_number (state_of setup run))) (farewell_of (state_of setup run) d) (Does d ∷ run)) in
+      record {
+        allowed = subst (λ (moves : List Move). AllAllowed setup (Does (Acts CloseClient) ∷ moves)) same (client_closed setup (closes_of (by_number (state_of setup run)) ++ (farewell_of (state_of setup run) d ++ Does d ∷ run)) closing);
+        rests = subst (λ (moves : List Move). RestsBehind setup (Does (Acts CloseClient) ∷ moves)) same (rests setup (closes_of (by_number (state_of setup run)) ++ (farewell_of (state_of setup run) d ++ Does d ∷ run)) closing);
+        tape = ap (λ (x : List Entry). Did CloseClient ∷ x) (
+            ap tape_of (sym same)
+            ∙ closes_tape (by_number (state_of setup run)) (farewell_of (state_of setup run) d ++ Does d ∷ run)
+            ∙ ap (λ (x : List Entry). closed_all (by_number (state_of setup run)) ++ x) (sends_tape (state_of setup run).tables.encoding.table (farewell_by (state_of setup run) d) (Does d ∷ run) ∙ sym (append_assoc (frames_sent (farewell_by (state_of setup run) d)) (entry_of d ∷ []) (tape_of run)))
+            ∙ sym (append_assoc (closed_all (by_number (state_of setup run))) (frames_sent (farewell_by (state_of setup run) d) ++ entry_of d ∷ []) (tape_of run))
+            );
+      }
 
 module _ (setup : Setup) (run : List Move) (all : AllAllowed setup run) (ready : IsReady (state_of setup run)) (on : (state_of setup run).desk.book.ends ≡ false) where
   abbrev s : State
@@ -104,28 +134,15 @@ module _ (setup : Setup) (run : List Move) (all : AllAllowed setup run) (ready :
   pub may_here : (d : Deed) → MayDo setup (told_by s) (summary_at setup (Does d ∷ run)) s d → MayDo setup (summary_at setup run) (summary_at setup (Does d ∷ run)) s d
   may_here d may = subst (λ (u : Summary). MayDo setup u (summary_at setup (Does d ∷ run)) s d) (sym told) may
 
-  -- behind the deed and its farewell
-  pub finish : (d : Deed) → IsEnding setup (farewell_of s d ++ Does d ∷ run) [] s.requests.live → Ends setup run s d
-  finish d e =
-      let back : reverse (by_number s) ≡ s.requests.live = reverse-reverse s.requests.live in
-      let closing = closes_go setup (by_number s) (farewell_of s d ++ Does d ∷ run) (subst AreApart (sym back) (all_apart setup (turns_of setup run) (turns_may setup run all))) (subst (λ (ls : List Live). IsEnding setup (farewell_of s d ++ Does d ∷ run) [] ls) (sym back) e) in
-      let same = sym (append_assoc (closes_of (by_number s)) (farewell_of s d) (Does d ∷ run)) in
-      record {
-        allowed = subst (λ (moves : List Move). AllAllowed setup (Does (Acts CloseClient) ∷ moves)) same (client_closed setup (closes_of (by_number s) ++ (farewell_of s d ++ Does d ∷ run)) closing);
-        rests = subst (λ (moves : List Move). RestsBehind setup (Does (Acts CloseClient) ∷ moves)) same (rests setup (closes_of (by_number s) ++ (farewell_of s d ++ Does d ∷ run)) closing);
-        tape = ap (λ (x : List Entry). Did CloseClient ∷ x) (
-            ap tape_of (sym same)
-            ∙ closes_tape (by_number s) (farewell_of s d ++ Does d ∷ run)
-            ∙ ap (λ (x : List Entry). closed_all (by_number s) ++ x) (sends_tape s.tables.encoding.table (farewell_by s d) (Does d ∷ run) ∙ sym (append_assoc (frames_sent (farewell_by s d)) (entry_of d ∷ []) t))
-            ∙ sym (append_assoc (closed_all (by_number s)) (frames_sent (farewell_by s d) ++ entry_of d ∷ []) t)
-            );
-      }
-
   -- behind an error of the connection
-  pub erred : (d : Deed) (code : ℕ) → fault_in (told_by s) (entry_of d) ≡ Some (Connection code) → IsEnding setup (Does d ∷ run) (goaway (highest_in (opened_after (told_by s) (entry_of d))) code ∷ []) s.requests.live → Ends setup run s d
-  erred d code found e =
-      finish d (subst (λ (frames : List Frame). IsEnding setup (sent_all s.tables.encoding.table frames ++ Does d ∷ run) [] s.requests.live) (sym (ap (farewell_for (told_by s) (entry_of d)) found))
-      (farewell_goes setup (Does d ∷ run) (highest_in (opened_after (told_by s) (entry_of d))) code s.requests.live s.tables.encoding.table e))
+  pub erred : (d : Deed) (code : ℕ) → fault_in (told_by s) (entry_of d) ≡ Some (Connection code) → (desk_of setup (conducts (Does d ∷ run))).book.untaken ≡ s.desk.book.untaken
+      → IsEnding setup (Does d ∷ run) (goaway (highest_in (opened_after (told_by s) (entry_of d))) (code_of_farewell_in (told_by s) code) ∷ []) s.requests.live → Ends setup run s d
+  erred d code found same e =
+      finish setup run all d (subst (λ (frames : List Frame). IsEnding setup (sent_all s.tables.encoding.table frames ++ Does d ∷ run) [] s.requests.live) (sym (ap (farewell_for (told_by s) (entry_of d)) found))
+      (farewell_goes setup (Does d ∷ run) (highest_in (opened_after (told_by s) (entry_of d))) (code_of_farewell_in (told_by s) code) s.requests.live s.tables.encoding.table
+      (ap (λ n. nat_lt most_untaken n && not (is_calming (goaway (highest_in (opened_after (told_by s) (entry_of d))) (code_of_farewell_in (told_by s) code)))) same
+      ∙ calm_or_uncrowded (highest_in (opened_after (told_by s) (entry_of d))) code (is_crowded_in (told_by s)))
+      e))
 
   -- ---- the client's side ends
 
@@ -140,7 +157,7 @@ module _ (setup : Setup) (run : List Move) (all : AllAllowed setup run) (ready :
       )
 
   pub client_ends : Ends setup run s (Notes ClientEnd)
-  client_ends = finish (Notes ClientEnd) (record {
+  client_ends = finish setup run all (Notes ClientEnd) (record {
     allowed = (all, may_here (Notes ClientEnd) (may_note setup (summary_at setup (Does (Notes ClientEnd) ∷ run)) s ready ClientEnd refl refl));
     ends = refl;
     open_yet = ready.open_yet;
@@ -157,8 +174,8 @@ module _ (setup : Setup) (run : List Move) (all : AllAllowed setup run) (ready :
   no_resets : (breach : Breach) → resets_in setup false (told_by s) (Breached breach) ≡ []
   no_resets breach = no_reset_for 0 (next_brief setup false 0 (told_by s) (Breached breach)).head_out ((told_by s).stream 0).brief.cause
 
-  breaks : (breach : Breach) (code : ℕ) → fault_in (told_by s) (Breached breach) ≡ Some (Connection code) → owes_in setup false (told_by s) (Breached breach) ≡ goaway (highest_in (told_by s).opened) code ∷ [] → Ends setup run s (Breaks breach)
-  breaks breach code found owes = erred (Breaks breach) code found (record {
+  breaks : (breach : Breach) (code : ℕ) → fault_in (told_by s) (Breached breach) ≡ Some (Connection code) → owes_in setup false (told_by s) (Breached breach) ≡ goaway (highest_in (told_by s).opened) (code_of_farewell_in (told_by s) code) ∷ [] → Ends setup run s (Breaks breach)
+  breaks breach code found owes = erred (Breaks breach) code found refl (record {
     allowed = (all, may_here (Breaks breach) (may_break setup (summary_at setup (Does (Breaks breach) ∷ run)) s ready breach));
     ends = refl;
     open_yet = ready.open_yet;
@@ -171,10 +188,64 @@ module _ (setup : Setup) (run : List Move) (all : AllAllowed setup run) (ready :
   })
 
   pub breach_ends : (breach : Breach) → Ends setup run s (Breaks breach)
-  breach_ends WrongPreface = breaks WrongPreface protocol_error refl (ap (λ (fs : List Frame). goaway (highest_in (told_by s).opened) protocol_error ∷ (fs ++ [])) (no_resets WrongPreface))
-  breach_ends TooLong = breaks TooLong frame_size_error refl (ap (λ (fs : List Frame). goaway (highest_in (told_by s).opened) frame_size_error ∷ (fs ++ [])) (no_resets TooLong))
+  breach_ends WrongPreface = breaks WrongPreface protocol_error refl (ap (λ (fs : List Frame). goaway (highest_in (told_by s).opened) (code_of_farewell_in (told_by s) protocol_error) ∷ (fs ++ [])) (no_resets WrongPreface))
+  breach_ends TooLong = breaks TooLong frame_size_error refl (ap (λ (fs : List Frame). goaway (highest_in (told_by s).opened) (code_of_farewell_in (told_by s) frame_size_error) ∷ (fs ++ [])) (no_resets TooLong))
+
+-- ---- in place of another frame
+
+module _ (setup : Setup) (run : List Move) (all : AllAllowed setup run) (crowd : IsCrowded (state_of setup run)) (on : (state_of setup run).desk.book.ends ≡ false) where
+  abbrev now : State
+  now = state_of setup run
+
+  abbrev farewell : Frame
+  farewell = goaway (highest_in (told_by now).opened) enhance_your_calm
+
+  -- it is in its turn, and nothing else stands in its way
+  calming_may : MayDo setup (told_by now) (summary_at setup (Does (calming_of now) ∷ run)) now (calming_of now)
+  calming_may = record {
+    rests = λ comes. absurd (let no : false ≡ true = comes in cc);
+    conduct = record { allowed = record { open_yet = crowd.open_yet; turn = inr (inr (record { goes_on = on; crowded_so = crowd.crowded; farewell = refl })) }; fit = refl };
+    offer = record { no_block = refl; no_data = refl };
+    in_turn = λ begins. absurd (let no : false ≡ true = begins in cc);
+    request = record { open_yet = crowd.open_yet; may = inl crowd.nothing_due };
+    gains = tt;
+    calls = λ so. crowd.would_go;
+    table = record { together = ap (λ b. is_between b farewell) crowd.none_begun; is_given = refl };
+    window = record { kind = refl; over_with_it = refl };
+  }
+
+  -- far more octets are untaken behind it than those while which parts of responses begin
+  abbrev windows_behind : Windows
+  windows_behind = windows_in (sight_in (point_of setup (conducts (Does (calming_of now) ∷ run))).summary)
+
+  many : windows_behind.untaken < high_water → ⊥
+  many low =
+      let there : now.desk.book.untaken ≡ (point_of setup (conducts run)).summary.untaken = (has_kept setup (conducts run) (all_moved (known_of setup (conducts run)) run all)).tells.untaken in
+      let above = ltb-true most_untaken now.desk.book.untaken crowd.crowded in
+      omega (arith, low, there, above)
+
+  calmed_flushed : IsFlushed windows_behind now.offers
+  calmed_flushed = record { none_cut = λ low. absurd (many low); none_ready = λ low. absurd (many low) }
+
+  pub calming_ends : Ends setup run now (calming_of now)
+  calming_ends = finish setup run all (calming_of now) (record {
+    allowed = (all, subst (λ (u : Summary). MayDo setup u (summary_at setup (Does (calming_of now) ∷ run)) now (calming_of now)) (sym (ap (λ b. if b then (point_of setup (conducts run)).summary else told_by now) on)) calming_may);
+    ends = refl;
+    open_yet = crowd.open_yet;
+    owes = ap (λ b. if not b then [] else rest_of now.desk.queue ++ owes_in setup false (told_by now) (entry_of (calming_of now))) on;
+    none_begun = ap (λ b. begun_after b farewell) crowd.none_begun;
+    live = refl;
+    due = crowd.nothing_due;
+    read = crowd.read;
+    flushed = calmed_flushed;
+  })
 
 -- ---- by the state that stands behind the moves
+
+pub calming_leads : (setup : Setup) (run : List Move) (s : State) → Stands setup run s → IsCrowded s → Ends setup run s (calming_of s)
+calming_leads setup run s stands crowd =
+    subst (λ (x : State). Ends setup run x (calming_of x)) stands.is
+    (calming_ends setup run stands.allowed (subst IsCrowded (sym stands.is) crowd) (ap (λ (x : State). x.desk.book.ends) stands.is ∙ stands.goes_on))
 
 pub client_leads : (setup : Setup) (run : List Move) (s : State) → Stands setup run s → IsReady s → Ends setup run s (Notes ClientEnd)
 client_leads setup run s stands ready =

@@ -104,7 +104,7 @@ module _ (u : Summary) (noted : Noted) (plain : completed_in u.block noted.frame
 
   -- where its standing is no error of the connection, rows behind the block are none
   behind_mild : IsOther → is_fatal (fault_by_standing_in u f) ≡ false → AreMild (rows_behind_block_in u noted)
-  behind_mild o mild = (readable o, (mild_unless (fault_by_standing_in u f) mild, (mild_both _ _ protocol_error flow_control_error, (mild_if _ flow_control_error, (mild, tt)))))
+  behind_mild o mild = (readable o, (mild_unless (fault_by_standing_in u f) mild, (mild_both _ _ protocol_error flow_control_error, (mild_if _ flow_control_error, (mild, (mild_if _ enhance_your_calm, tt))))))
 
   -- ---- settings that are taken
 

@@ -1,7 +1,8 @@
 -- Frames that bring no stream an item, and acts, have their move where they are due.
 use Rattle.std.proofs.Common.{◌≡◌, ℕ, true, false, ◌&&◌, ◌||◌, ◌==◌, Option, None, refl, sym, ◌∙◌, ap, subst, inl, inr, if◌then◌else◌}
 use Rattle.std.proofs.lemmas.Bool.{or_parts}
-use Rattle.model.specs.Frames.{Frame, data_kind, headers_kind, window_update_kind, continuation_kind, has_flag}
+use Rattle.std.specs.Prelude.{drop, bytes_eq, not}
+use Rattle.model.specs.Frames.{Frame, data_kind, headers_kind, window_update_kind, continuation_kind, goaway_kind, has_flag, spell_number, enhance_your_calm}
 use Rattle.model.specs.Logs.{Act}
 use Rattle.model.specs.Logs.Act.{Open, ToUp, Close, CloseClient}
 use Rattle.model.specs.Setup.{Setup}
@@ -56,11 +57,12 @@ module _ (setup : Setup) (behind : Summary) (s : State) where
       let between = owed.between in
       record {
         rests = λ e. absurd (let no : false ≡ true = e in cc);
-        conduct = record { allowed = record { open_yet = between.open_yet; turn = inl (record { front = owed.front; control = owed.control }) }; fit = between.not_to_open };
+        conduct = record { allowed = record { open_yet = between.open_yet; turn = inl (record { front = owed.front; control = owed.control; owing = owed.owing; calm = owed.calm }) }; fit = between.not_to_open };
         offer = record { no_block = completes_none noted.frame s.desk.book.block_out plain; no_data = plain.no_data };
         in_turn = no_turn noted next between plain;
         request = record { open_yet = between.open_yet; may = between.before_due };
         gains = tt;
+        calls = λ so. absurd (let no : false ≡ true = sym owed.owing ∙ so in cc);
         table = record { together = together noted next between plain; is_given = given noted next between plain };
         window = subst (λ b. windows.MayCome setup.passing (gates_in (told_by s) s.requests) (sight_in (told_by s)) (sight_in behind) (rooms_in (told_by s) s) (given_or_sent b (sight_in (told_by s)) (sight_in behind) noted)) (sym last.1) (record { kind = last.1; over_with_it = refl });
       }
@@ -72,11 +74,12 @@ module _ (setup : Setup) (behind : Summary) (s : State) where
       let between = gives.between in
       record {
         rests = λ e. absurd (let no : false ≡ true = e in cc);
-        conduct = record { allowed = record { open_yet = between.open_yet; turn = inr (record { nothing = gives.nothing; goes_on = gives.goes_on; passing = passes noted gives.kind; rightly = gives.rightly }) }; fit = between.not_to_open };
+        conduct = record { allowed = record { open_yet = between.open_yet; turn = inr (inl (record { nothing = gives.nothing; goes_on = gives.goes_on; passing = passes noted gives.kind; rightly = gives.rightly })) }; fit = between.not_to_open };
         offer = record { no_block = completes_none noted.frame s.desk.book.block_out plain; no_data = plain.no_data };
         in_turn = no_turn noted next between plain;
         request = record { open_yet = between.open_yet; may = between.before_due };
         gains = tt;
+        calls = λ so. absurd (let no : false ≡ true = sym (ap (λ k. (k == goaway_kind && bytes_eq (drop 4 noted.frame.payload) (spell_number enhance_your_calm)) && not s.desk.book.ends) gives.kind) ∙ so in cc);
         table = record { together = together noted next between plain; is_given = given noted next between plain };
         window = subst (λ b. windows.MayCome setup.passing (gates_in (told_by s) s.requests) (sight_in (told_by s)) (sight_in behind) (rooms_in (told_by s) s) (given_or_sent b (sight_in (told_by s)) (sight_in behind) noted)) (sym (is window_update_kind)) gives.all;
       }
@@ -96,6 +99,7 @@ module _ (setup : Setup) (behind : Summary) (s : State) where
     in_turn = tt;
     request = record { open_yet = open_yet; may = may.due };
     gains = tt;
+    calls = λ so. absurd (let no : false ≡ true = so in cc);
     table = tt;
     window = may.window;
   }
@@ -106,6 +110,7 @@ module _ (setup : Setup) (behind : Summary) (s : State) where
     in_turn = tt;
     request = record { open_yet = open_yet; may = may.due };
     gains = tt;
+    calls = λ so. absurd (let no : false ≡ true = so in cc);
     table = tt;
     window = may.window;
   }
@@ -116,6 +121,7 @@ module _ (setup : Setup) (behind : Summary) (s : State) where
     in_turn = tt;
     request = record { open_yet = open_yet; may = may.may };
     gains = tt;
+    calls = λ so. absurd (let no : false ≡ true = so in cc);
     table = tt;
     window = tt;
   }
@@ -126,6 +132,7 @@ module _ (setup : Setup) (behind : Summary) (s : State) where
     in_turn = tt;
     request = record { open_yet = open_yet; may = may.none_open };
     gains = tt;
+    calls = λ so. absurd (let no : false ≡ true = so in cc);
     table = tt;
     window = tt;
   }

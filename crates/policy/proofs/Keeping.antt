@@ -38,6 +38,7 @@ use Rattle.policy.specs.Moves.Move.{Does, Settles}
 use Rattle.policy.specs.State.{conducts, tape_of, offers_of, turns_of, tables_of, windows_of, state_of, summary_at}
 use Rattle.policy.specs.Rule.{rooms_in, AllAllowed, RestsBehind}
 use Rattle.policy.specs.Answered.{IsAnswered, AreAnswered}
+use Rattle.policy.proofs.Floods.{floods_hold}
 use Rattle.policy.proofs.Tapes.{offers_tape, requests_tape, tables_tape, windows_tape}
 use Rattle.policy.proofs.Telling.{all_moved, closed_told}
 use Rattle.policy.proofs.Placing.{offers_sight, offers_may, offers_right, offers_told, parts_begin, windows_sight, windows_gates, windows_may, windows_right, turns_told, turns_may, turns_so, tables_fit, tables_judged, in_turns}
@@ -123,6 +124,7 @@ module _ (known : Known) (run : List Move) (k : IsKnown known run) (rests : Rest
       go_to_open = of_requests.go_to_open;
     };
     windows = record { keeps = of_offers.keeps; no_more = no_more; holds_back = kept_back; gives_back = gives_back };
+    floods = floods_hold known run k.knows k.all k.answered;
   }
 
   -- ---- tables and turns

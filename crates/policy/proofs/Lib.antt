@@ -2,6 +2,7 @@ pub mod Tapes
 pub mod Telling
 pub mod Adding
 pub mod Placing
+pub mod Floods
 pub mod Keeping
 pub mod Stepping
 pub mod Coming

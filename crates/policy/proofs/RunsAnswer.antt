@@ -268,7 +268,7 @@ answer_encoded = record {
 pub forwarded_rest : Rests (told_by at_forwarded) at_forwarded
 forwarded_rest = record {
   conduct = record { nothing = refl; none_begun = refl; ended = λ e. never e };
-  flushed = record { none_cut = λ stream kept found. one_whole (1 == stream) (record { id = 1; box = silent; cut = false }) kept refl found; none_ready = λ low. refl };
+  flushed = record { none_cut = λ low stream kept found. one_whole (1 == stream) (record { id = 1; box = silent; cut = false }) kept refl found; none_ready = λ low. refl };
   served = record { nothing = refl; none_done = refl; ended = λ e. never e };
   read = refl;
   given_back = λ open_yet. record { settled = refl; shared = refl; own = λ stream active goes_on. subst (λ (id : ℕ). (at_forwarded.windows.row id).debt ≡ 0) (eqb-true 1 stream (only_one (1 == stream) _ active)) refl };
@@ -283,6 +283,7 @@ heard_may = record {
   in_turn = tt;
   request = record { open_yet = refl; may = (record { nothing = refl; none_done = refl; goes_on = refl }, tt, (record { k = 1; stream = 1; whole = false }, refl)) };
   gains = tt;
+  calls = λ so. absurd (let no : false ≡ true = so in cc);
   table = tt;
   window = (forwarded_rest.given_back refl, record { settled = refl; admitted = refl });
 }
@@ -296,6 +297,7 @@ closed_may = record {
   in_turn = tt;
   request = record { open_yet = refl; may = record { nothing = refl; live = record { k = 1; stream = 1; whole = true }; found = refl; why = inl refl } };
   gains = tt;
+  calls = λ so. absurd (let no : false ≡ true = so in cc);
   table = tt;
   window = tt;
 }
@@ -309,7 +311,7 @@ pub begun_may : MayDo setup (told_by at_closed) (told_by at_begun) at_closed hea
 unfolding total_size
 begun_may = record {
   rests = λ e. never e;
-  conduct = record { allowed = record { open_yet = refl; turn = inr (record { nothing = refl; goes_on = refl; passing = refl; rightly = refl }) }; fit = refl };
+  conduct = record { allowed = record { open_yet = refl; turn = inr (inl (record { nothing = refl; goes_on = refl; passing = refl; rightly = refl })) }; fit = refl };
   offer = (
     record {
       kept = waiting;
@@ -329,6 +331,7 @@ begun_may = record {
   };
   request = record { open_yet = refl; may = inl refl };
   gains = tt;
+  calls = λ so. absurd (let no : false ≡ true = so in cc);
   table = record { together = refl; is_given = answer_encoded };
   window = record { kind = refl; over_with_it = refl };
 }
@@ -337,7 +340,7 @@ pub body_may : MayDo setup (told_by at_begun) (told_by at_answered) at_begun bod
 unfolding total_size
 body_may = record {
   rests = λ e. never e;
-  conduct = record { allowed = record { open_yet = refl; turn = inr (record { nothing = refl; goes_on = refl; passing = refl; rightly = refl }) }; fit = refl };
+  conduct = record { allowed = record { open_yet = refl; turn = inr (inl (record { nothing = refl; goes_on = refl; passing = refl; rightly = refl })) }; fit = refl };
   offer = (
     record {
       kept = half_out;
@@ -357,6 +360,7 @@ body_may = record {
   };
   request = record { open_yet = refl; may = inl refl };
   gains = tt;
+  calls = λ so. absurd (let no : false ≡ true = so in cc);
   table = record { together = refl; is_given = refl };
   window = record { kind = refl; over_with_it = refl };
 }
@@ -375,7 +379,7 @@ answered_leads = settles setup (Does body_deed ∷ begun) at_answered (goes setu
 pub answered_rests : RestsBehind setup answered
 answered_rests = rests setup answered (next setup at_answered Settles) answered_leads (record {
   conduct = record { nothing = refl; none_begun = refl; ended = λ e. never e };
-  flushed = record { none_cut = λ stream kept found. none_kept found; none_ready = λ low. refl };
+  flushed = record { none_cut = λ low stream kept found. none_kept found; none_ready = λ low. refl };
   served = record { nothing = refl; none_done = refl; ended = λ e. never e };
   read = refl;
   given_back = λ open_yet. record { settled = refl; shared = refl; own = λ stream active goes_on. subst (λ (id : ℕ). ((next setup at_answered Settles).windows.row id).debt ≡ 0) (eqb-true 1 stream (only_one (1 == stream) _ active)) refl };

@@ -273,7 +273,7 @@ between_paid =
 begins_rest : Rests (told_by at_begins) at_begins
 begins_rest = record {
   conduct = record { nothing = refl; none_begun = refl; ended = λ e. never e };
-  flushed = record { none_cut = λ stream kept found. none_cut_of (silent_one 1 ∷ silent_one 3 ∷ []) refl stream kept found; none_ready = λ low. refl };
+  flushed = record { none_cut = λ low stream kept found. none_cut_of (silent_one 1 ∷ silent_one 3 ∷ []) refl stream kept found; none_ready = λ low. refl };
   served = record { nothing = refl; none_done = refl; ended = λ e. never e };
   read = refl;
   given_back = λ open_yet. record { settled = refl; shared = refl; own = λ stream active goes_on. begins_paid stream };
@@ -282,7 +282,7 @@ begins_rest = record {
 returns_rest : Rests (told_by at_returns) at_returns
 returns_rest = record {
   conduct = record { nothing = refl; none_begun = refl; ended = λ e. never e };
-  flushed = record { none_cut = λ stream kept found. none_cut_of (silent_one 1 ∷ silent_one 3 ∷ []) refl stream kept found; none_ready = λ low. refl };
+  flushed = record { none_cut = λ low stream kept found. none_cut_of (silent_one 1 ∷ silent_one 3 ∷ []) refl stream kept found; none_ready = λ low. refl };
   served = record { nothing = refl; none_done = refl; ended = λ e. never e };
   read = refl;
   given_back = λ open_yet. record { settled = refl; shared = refl; own = λ stream active goes_on. returns_paid stream };
@@ -291,7 +291,7 @@ returns_rest = record {
 pub between_rest : Rests (told_by at_between) at_between
 between_rest = record {
   conduct = record { nothing = refl; none_begun = refl; ended = λ e. never e };
-  flushed = record { none_cut = λ stream kept found. none_cut_of (silent_one 1 ∷ silent_one 3 ∷ silent_one 5 ∷ []) refl stream kept found; none_ready = λ low. refl };
+  flushed = record { none_cut = λ low stream kept found. none_cut_of (silent_one 1 ∷ silent_one 3 ∷ silent_one 5 ∷ []) refl stream kept found; none_ready = λ low. refl };
   served = record { nothing = refl; none_done = refl; ended = λ e. never e };
   read = refl;
   given_back = λ open_yet. record { settled = refl; shared = refl; own = λ stream active goes_on. between_paid stream };
@@ -405,6 +405,7 @@ begins_may = record {
     );
   };
   gains = record { first = refl; adds = record { adds = refl; goes_on = refl } };
+  calls = λ so. absurd (let no : false ≡ true = so in cc);
   table = record { is_noted = post_read };
   window = record { nothing = forwarded_rest.given_back refl; goes_on = refl; opens_it = refl; lives = λ e. refl; over_with_it = refl };
 }
@@ -428,6 +429,7 @@ first_may = record {
     );
   };
   gains = record { adds = refl; goes_on = refl };
+  calls = λ so. absurd (let no : false ≡ true = so in cc);
   table = record { is_noted = refl };
   window = record { nothing = begins_rest.given_back refl; goes_on = refl; opens_it = refl; lives = λ e. never e; over_with_it = refl };
 }
@@ -436,11 +438,12 @@ shared_may : MayDo setup (told_by at_gathers) (told_by at_shared) at_gathers sha
 unfolding total_size
 shared_may = record {
   rests = λ e. never e;
-  conduct = record { allowed = record { open_yet = refl; turn = inr (record { nothing = refl; goes_on = refl; passing = refl; rightly = refl }) }; fit = refl };
+  conduct = record { allowed = record { open_yet = refl; turn = inr (inl (record { nothing = refl; goes_on = refl; passing = refl; rightly = refl })) }; fit = refl };
   offer = record { no_block = refl; no_data = refl };
   in_turn = λ e. never e;
   request = record { open_yet = refl; may = inl refl };
   gains = tt;
+  calls = λ so. absurd (let no : false ≡ true = so in cc);
   table = record { together = refl; is_given = refl };
   window = record { kind = refl; owed = refl };
 }
@@ -449,11 +452,12 @@ own_may : MayDo setup (told_by at_shared) (told_by at_returns) at_shared own_dee
 unfolding total_size
 own_may = record {
   rests = λ e. never e;
-  conduct = record { allowed = record { open_yet = refl; turn = inr (record { nothing = refl; goes_on = refl; passing = refl; rightly = refl }) }; fit = refl };
+  conduct = record { allowed = record { open_yet = refl; turn = inr (inl (record { nothing = refl; goes_on = refl; passing = refl; rightly = refl })) }; fit = refl };
   offer = record { no_block = refl; no_data = refl };
   in_turn = λ e. never e;
   request = record { open_yet = refl; may = inl refl };
   gains = tt;
+  calls = λ so. absurd (let no : false ≡ true = so in cc);
   table = record { together = refl; is_given = refl };
   window = record { kind = refl; owed = (refl, refl, refl) };
 }
@@ -478,6 +482,7 @@ get_may = record {
     );
   };
   gains = record { first = refl; adds = record { adds = refl; goes_on = refl } };
+  calls = λ so. absurd (let no : false ≡ true = so in cc);
   table = record { is_noted = get_read };
   window = record { nothing = returns_rest.given_back refl; goes_on = refl; opens_it = refl; lives = λ e. refl; over_with_it = refl };
 }
@@ -491,6 +496,7 @@ opened_may = record {
   in_turn = tt;
   request = record { open_yet = refl; may = record { stream = 5; text = request_text; stage = Whole; due = refl; next = refl } };
   gains = tt;
+  calls = λ so. absurd (let no : false ≡ true = so in cc);
   table = tt;
   window = record { active = refl; counted = omega arith; first = refl; unused = refl; untaken = refl };
 }
@@ -504,6 +510,7 @@ put_may = record {
   in_turn = tt;
   request = record { open_yet = refl; may = refl };
   gains = tt;
+  calls = λ so. absurd (let no : false ≡ true = so in cc);
   table = tt;
   window = record { opened = refl; in_effect = λ e. cc };
 }
@@ -517,6 +524,7 @@ cancel_may = record {
   in_turn = tt;
   request = record { open_yet = refl; may = record { nothing = refl; none_done = refl; goes_on = refl } };
   gains = refl;
+  calls = λ so. absurd (let no : false ≡ true = so in cc);
   table = record { is_noted = refl };
   window = record { nothing = between_rest.given_back refl; goes_on = refl; opens_it = refl; lives = λ e. never e; over_with_it = refl };
 }
@@ -551,7 +559,7 @@ cancelled_leads = settles setup (Does cancel_deed ∷ between) at_cancelled (goe
 pub cancelled_rests : RestsBehind setup cancelled
 cancelled_rests = rests setup cancelled (next setup at_cancelled Settles) cancelled_leads (record {
   conduct = record { nothing = refl; none_begun = refl; ended = λ e. never e };
-  flushed = record { none_cut = λ stream kept found. none_cut_of (silent_one 1 ∷ silent_one 5 ∷ []) refl stream kept found; none_ready = λ low. refl };
+  flushed = record { none_cut = λ low stream kept found. none_cut_of (silent_one 1 ∷ silent_one 5 ∷ []) refl stream kept found; none_ready = λ low. refl };
   served = record { nothing = refl; none_done = refl; ended = λ e. never e };
   read = refl;
   given_back = λ open_yet. record { settled = refl; shared = refl; own = λ stream active goes_on. change_paid 3 (owing 0) at_between.windows.row owes_no_more between_paid stream };

@@ -1,5 +1,5 @@
 -- The POST of the run comes to its end instead: it goes out whole, behind the GETs before it and between its frames.
-use Rattle.std.proofs.Common.{◌≡◌, ℕ, ◌==◌, Bool, true, false, not, if◌then◌else◌, List, [], ◌∷◌, ◌++◌, refl, sym, ap, ◌∙◌, subst, inr, arith, pos, append_assoc, append-nil, inl}
+use Rattle.std.proofs.Common.{◌≡◌, ℕ, ◌==◌, Bool, true, false, not, if◌then◌else◌, List, [], ◌∷◌, ◌++◌, refl, sym, ap, ◌∙◌, subst, inl, inr, arith, pos, append_assoc, append-nil}
 use Rattle.std.proofs.lemmas.Bool.{eqb-true}
 use Rattle.std.specs.Prelude.{codes, length, None}
 use Rattle.std.specs.List.{list_all, flat_map, concat}
@@ -145,6 +145,7 @@ comes_may = record {
     );
   };
   gains = record { adds = refl; goes_on = refl };
+  calls = λ so. absurd (let no : false ≡ true = so in cc);
   table = record { is_noted = refl };
   window = record { nothing = between_rest.given_back refl; goes_on = refl; opens_it = refl; lives = λ e. never e; over_with_it = refl };
 }
@@ -158,6 +159,7 @@ opened_may = record {
   in_turn = tt;
   request = record { open_yet = refl; may = record { stream = 3; text = whole_text; stage = Whole; due = refl; next = refl } };
   gains = tt;
+  calls = λ so. absurd (let no : false ≡ true = so in cc);
   table = tt;
   window = record { active = refl; counted = omega arith; first = refl; unused = refl; untaken = refl };
 }
@@ -171,6 +173,7 @@ put_may = record {
   in_turn = tt;
   request = record { open_yet = refl; may = refl };
   gains = tt;
+  calls = λ so. absurd (let no : false ≡ true = so in cc);
   table = tt;
   window = record { opened = refl; in_effect = λ e. cc };
 }
@@ -179,11 +182,12 @@ back_may : MayDo setup (told_by at_goes_out) (told_by at_ended) at_goes_out (Sen
 unfolding total_size
 back_may = record {
   rests = λ e. never e;
-  conduct = record { allowed = record { open_yet = refl; turn = inr (record { nothing = refl; goes_on = refl; passing = refl; rightly = refl }) }; fit = refl };
+  conduct = record { allowed = record { open_yet = refl; turn = inr (inl (record { nothing = refl; goes_on = refl; passing = refl; rightly = refl })) }; fit = refl };
   offer = record { no_block = refl; no_data = refl };
   in_turn = λ e. never e;
   request = record { open_yet = refl; may = inl refl };
   gains = tt;
+  calls = λ so. absurd (let no : false ≡ true = so in cc);
   table = record { together = refl; is_given = refl };
   window = record { kind = refl; owed = refl };
 }
@@ -212,7 +216,7 @@ ended_leads =
 pub ended_rests : RestsBehind setup ended
 ended_rests = rests setup ended at_ended ended_leads (record {
   conduct = record { nothing = refl; none_begun = refl; ended = λ e. never e };
-  flushed = record { none_cut = λ stream kept found. none_cut_of (silent_one 1 ∷ silent_one 3 ∷ silent_one 5 ∷ []) refl stream kept found; none_ready = λ low. refl };
+  flushed = record { none_cut = λ low stream kept found. none_cut_of (silent_one 1 ∷ silent_one 3 ∷ silent_one 5 ∷ []) refl stream kept found; none_ready = λ low. refl };
   served = record { nothing = refl; none_done = refl; ended = λ e. never e };
   read = refl;
   given_back = λ open_yet. record { settled = refl; shared = refl; own = λ stream active goes_on. own_back stream goes_on };

@@ -69,11 +69,12 @@ greeted_tape = refl
 ours_may : May [] ours
 ours_may = record {
   rests = λ e. never e;
-  conduct = record { allowed = record { open_yet = refl; turn = inl (record { front = refl; control = refl }) }; fit = refl };
+  conduct = record { allowed = record { open_yet = refl; turn = inl (record { front = refl; control = refl; owing = refl; calm = refl }) }; fit = refl };
   offer = record { no_block = refl; no_data = refl };
   in_turn = λ e. never e;
   request = record { open_yet = refl; may = inl refl };
   gains = tt;
+  calls = λ so. absurd (let no : false ≡ true = so in cc);
   table = record { together = refl; is_given = refl };
   window = record { kind = refl; over_with_it = refl };
 }
@@ -85,7 +86,7 @@ none_kept found = absurd (let clash : ◌≡◌ {A = Option Kept} None (Some _) 
 sent_rests : RestsBehind setup settings_sent
 sent_rests = record {
   conduct = record { nothing = refl; none_begun = refl; ended = λ e. never e };
-  flushed = record { none_cut = λ stream kept found. none_kept found; none_ready = λ low. refl };
+  flushed = record { none_cut = λ low stream kept found. none_kept found; none_ready = λ low. refl };
   served = record { nothing = refl; none_done = refl; ended = λ e. never e };
   read = refl;
   given_back = λ open_yet. record { settled = refl; shared = refl; own = λ stream active goes_on. refl };
@@ -99,6 +100,7 @@ theirs_may = record {
   in_turn = tt;
   request = record { open_yet = refl; may = record { nothing = refl; none_done = refl; goes_on = refl } };
   gains = refl;
+  calls = λ so. absurd (let no : false ≡ true = so in cc);
   table = record { is_noted = refl };
   window = record { nothing = sent_rests.given_back refl; goes_on = refl; opens_it = refl; lives = λ e. never e; over_with_it = refl };
 }
@@ -106,11 +108,12 @@ theirs_may = record {
 acked_may : May settings_came acked
 acked_may = record {
   rests = λ e. never e;
-  conduct = record { allowed = record { open_yet = refl; turn = inl (record { front = refl; control = refl }) }; fit = refl };
+  conduct = record { allowed = record { open_yet = refl; turn = inl (record { front = refl; control = refl; owing = refl; calm = refl }) }; fit = refl };
   offer = record { no_block = refl; no_data = refl };
   in_turn = λ e. never e;
   request = record { open_yet = refl; may = inl refl };
   gains = tt;
+  calls = λ so. absurd (let no : false ≡ true = so in cc);
   table = record { together = refl; is_given = refl };
   window = record { kind = refl; over_with_it = refl };
 }
@@ -123,7 +126,7 @@ greeted_allowed = (((tt, ours_may), theirs_may), acked_may)
 pub greeted_rests : RestsBehind setup greeted
 greeted_rests = record {
   conduct = record { nothing = refl; none_begun = refl; ended = λ e. never e };
-  flushed = record { none_cut = λ stream kept found. none_kept found; none_ready = λ low. refl };
+  flushed = record { none_cut = λ low stream kept found. none_kept found; none_ready = λ low. refl };
   served = record { nothing = refl; none_done = refl; ended = λ e. never e };
   read = refl;
   given_back = λ open_yet. record { settled = refl; shared = refl; own = λ stream active goes_on. never active };

@@ -143,6 +143,7 @@ limits_may = record {
   in_turn = tt;
   request = record { open_yet = refl; may = record { nothing = refl; none_done = refl; goes_on = refl } };
   gains = refl;
+  calls = λ so. absurd (let no : false ≡ true = so in cc);
   table = record { is_noted = refl };
   window = record { nothing = forwarded_rest.given_back refl; goes_on = refl; opens_it = refl; lives = λ e. never e; over_with_it = refl };
 }
@@ -151,11 +152,12 @@ ack_may : MayDo setup (told_by at_limits) (told_by at_limited) at_limits ack_dee
 unfolding total_size
 ack_may = record {
   rests = λ e. never e;
-  conduct = record { allowed = record { open_yet = refl; turn = inl (record { front = refl; control = refl }) }; fit = refl };
+  conduct = record { allowed = record { open_yet = refl; turn = inl (record { front = refl; control = refl; owing = refl; calm = refl }) }; fit = refl };
   offer = record { no_block = refl; no_data = refl };
   in_turn = λ e. never e;
   request = record { open_yet = refl; may = inl refl };
   gains = tt;
+  calls = λ so. absurd (let no : false ≡ true = so in cc);
   table = record { together = refl; is_given = refl };
   window = record { kind = refl; over_with_it = refl };
 }
@@ -163,7 +165,7 @@ ack_may = record {
 limited_rest : Rests (told_by at_limited) at_limited
 limited_rest = record {
   conduct = record { nothing = refl; none_begun = refl; ended = λ e. never e };
-  flushed = record { none_cut = λ stream kept found. one_whole (1 == stream) (record { id = 1; box = silent; cut = false }) kept refl found; none_ready = λ low. refl };
+  flushed = record { none_cut = λ low stream kept found. one_whole (1 == stream) (record { id = 1; box = silent; cut = false }) kept refl found; none_ready = λ low. refl };
   served = record { nothing = refl; none_done = refl; ended = λ e. never e };
   read = refl;
   given_back = λ open_yet. record { settled = refl; shared = refl; own = λ stream active goes_on. subst (λ (id : ℕ). (at_limited.windows.row id).debt ≡ 0) (eqb-true 1 stream (only_one (1 == stream) _ active)) refl };
@@ -178,6 +180,7 @@ failed_may = record {
   in_turn = tt;
   request = record { open_yet = refl; may = (record { nothing = refl; none_done = refl; goes_on = refl }, (record { k = 1; stream = 1; whole = false }, refl)) };
   gains = tt;
+  calls = λ so. absurd (let no : false ≡ true = so in cc);
   table = tt;
   window = (limited_rest.given_back refl, record { settled = refl; admitted = refl });
 }
@@ -186,7 +189,7 @@ reply_may : MayDo setup (told_by at_failed) (told_by at_replied) at_failed reply
 unfolding total_size
 reply_may = record {
   rests = λ e. never e;
-  conduct = record { allowed = record { open_yet = refl; turn = inr (record { nothing = refl; goes_on = refl; passing = refl; rightly = refl }) }; fit = refl };
+  conduct = record { allowed = record { open_yet = refl; turn = inr (inl (record { nothing = refl; goes_on = refl; passing = refl; rightly = refl })) }; fit = refl };
   offer = (
     record {
       kept = own_reply;
@@ -206,6 +209,7 @@ reply_may = record {
   };
   request = record { open_yet = refl; may = inl refl };
   gains = tt;
+  calls = λ so. absurd (let no : false ≡ true = so in cc);
   table = record { together = refl; is_given = limited_encoded };
   window = record { kind = refl; over_with_it = refl };
 }
@@ -223,7 +227,7 @@ replied_leads =
 pub replied_rests : RestsBehind setup replied
 replied_rests = rests setup replied (next setup at_replied Settles) replied_leads (record {
   conduct = record { nothing = refl; none_begun = refl; ended = λ e. never e };
-  flushed = record { none_cut = λ stream kept found. none_kept found; none_ready = λ low. refl };
+  flushed = record { none_cut = λ low stream kept found. none_kept found; none_ready = λ low. refl };
   served = record { nothing = refl; none_done = refl; ended = λ e. never e };
   read = refl;
   given_back = λ open_yet. record { settled = refl; shared = refl; own = λ stream active goes_on. subst (λ (id : ℕ). ((next setup at_replied Settles).windows.row id).debt ≡ 0) (eqb-true 1 stream (only_one (1 == stream) _ active)) refl };

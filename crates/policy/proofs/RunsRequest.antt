@@ -72,6 +72,7 @@ asked_may = record {
     );
   };
   gains = record { first = refl; adds = record { adds = refl; goes_on = refl } };
+  calls = λ so. absurd (let no : false ≡ true = so in cc);
   table = record { is_noted = request_read };
   window = record { nothing = greeted_rests.given_back refl; goes_on = refl; opens_it = refl; lives = λ e. refl; over_with_it = refl };
 }
@@ -85,6 +86,7 @@ connected_may = record {
   in_turn = tt;
   request = record { open_yet = refl; may = record { stream = 1; text = request_text; stage = Whole; due = refl; next = refl } };
   gains = tt;
+  calls = λ so. absurd (let no : false ≡ true = so in cc);
   table = tt;
   window = record { active = refl; counted = omega arith; first = refl; unused = refl; untaken = refl };
 }
@@ -98,6 +100,7 @@ forwarded_may = record {
   in_turn = tt;
   request = record { open_yet = refl; may = refl };
   gains = tt;
+  calls = λ so. absurd (let no : false ≡ true = so in cc);
   table = tt;
   window = record { opened = refl; in_effect = λ e. cc };
 }
@@ -121,7 +124,7 @@ pub forwarded_rests : RestsBehind setup forwarded
 unfolding total_size
 forwarded_rests = record {
   conduct = record { nothing = refl; none_begun = refl; ended = λ e. never e };
-  flushed = record { none_cut = λ stream kept found. one_whole (1 == stream) (record { id = 1; box = silent; cut = false }) kept refl found; none_ready = λ low. refl };
+  flushed = record { none_cut = λ low stream kept found. one_whole (1 == stream) (record { id = 1; box = silent; cut = false }) kept refl found; none_ready = λ low. refl };
   served = record { nothing = refl; none_done = refl; ended = λ e. never e };
   read = refl;
   given_back = λ open_yet. record { settled = refl; shared = refl; own = λ stream active goes_on. subst (λ (id : ℕ). ((state_of setup forwarded).windows.row id).debt ≡ 0) (eqb-true 1 stream (only_one (1 == stream) _ active)) refl };

@@ -162,11 +162,12 @@ at_waits = next streaming at_passed Settles
 ours_may : MayDo streaming (told_by at_start) (told_by at_ours) at_start ours
 ours_may = record {
   rests = λ e. never e;
-  conduct = record { allowed = record { open_yet = refl; turn = inl (record { front = refl; control = refl }) }; fit = refl };
+  conduct = record { allowed = record { open_yet = refl; turn = inl (record { front = refl; control = refl; owing = refl; calm = refl }) }; fit = refl };
   offer = record { no_block = refl; no_data = refl };
   in_turn = λ e. never e;
   request = record { open_yet = refl; may = inl refl };
   gains = tt;
+  calls = λ so. absurd (let no : false ≡ true = so in cc);
   table = record { together = refl; is_given = refl };
   window = record { kind = refl; over_with_it = refl };
 }
@@ -175,7 +176,7 @@ ours_may = record {
 ours_rests : Rests (told_by at_ours) at_ours
 ours_rests = record {
   conduct = record { nothing = refl; none_begun = refl; ended = λ e. never e };
-  flushed = record { none_cut = λ stream kept found. none_kept found; none_ready = λ low. refl };
+  flushed = record { none_cut = λ low stream kept found. none_kept found; none_ready = λ low. refl };
   served = record { nothing = refl; none_done = refl; ended = λ e. never e };
   read = refl;
   given_back = λ open_yet. record { settled = refl; shared = refl; own = λ stream active goes_on. never active };
@@ -189,6 +190,7 @@ theirs_may = record {
   in_turn = tt;
   request = record { open_yet = refl; may = record { nothing = refl; none_done = refl; goes_on = refl } };
   gains = refl;
+  calls = λ so. absurd (let no : false ≡ true = so in cc);
   table = record { is_noted = refl };
   window = record { nothing = ours_rests.given_back refl; goes_on = refl; opens_it = refl; lives = λ e. never e; over_with_it = refl };
 }
@@ -196,11 +198,12 @@ theirs_may = record {
 acked_may : MayDo streaming (told_by at_theirs) (told_by at_greeted) at_theirs acked
 acked_may = record {
   rests = λ e. never e;
-  conduct = record { allowed = record { open_yet = refl; turn = inl (record { front = refl; control = refl }) }; fit = refl };
+  conduct = record { allowed = record { open_yet = refl; turn = inl (record { front = refl; control = refl; owing = refl; calm = refl }) }; fit = refl };
   offer = record { no_block = refl; no_data = refl };
   in_turn = λ e. never e;
   request = record { open_yet = refl; may = inl refl };
   gains = tt;
+  calls = λ so. absurd (let no : false ≡ true = so in cc);
   table = record { together = refl; is_given = refl };
   window = record { kind = refl; over_with_it = refl };
 }
@@ -209,7 +212,7 @@ acked_may = record {
 greeted_rest : Rests (told_by at_greeted) at_greeted
 greeted_rest = record {
   conduct = record { nothing = refl; none_begun = refl; ended = λ e. never e };
-  flushed = record { none_cut = λ stream kept found. none_kept found; none_ready = λ low. refl };
+  flushed = record { none_cut = λ low stream kept found. none_kept found; none_ready = λ low. refl };
   served = record { nothing = refl; none_done = refl; ended = λ e. never e };
   read = refl;
   given_back = λ open_yet. record { settled = refl; shared = refl; own = λ stream active goes_on. never active };
@@ -235,6 +238,7 @@ asked_may = record {
     );
   };
   gains = record { first = refl; adds = record { adds = refl; goes_on = refl } };
+  calls = λ so. absurd (let no : false ≡ true = so in cc);
   table = record { is_noted = request_read };
   window = record { nothing = greeted_rest.given_back refl; goes_on = refl; opens_it = refl; lives = λ e. refl; over_with_it = refl };
 }
@@ -248,6 +252,7 @@ opened_may = record {
   in_turn = tt;
   request = record { open_yet = refl; may = record { stream = 1; text = text; stage = Chunking; due = refl; next = refl } };
   gains = tt;
+  calls = λ so. absurd (let no : false ≡ true = so in cc);
   table = tt;
   window = record { active = refl; counted = omega arith; first = refl; unused = refl; untaken = refl };
 }
@@ -261,6 +266,7 @@ put_may = record {
   in_turn = tt;
   request = record { open_yet = refl; may = refl };
   gains = tt;
+  calls = λ so. absurd (let no : false ≡ true = so in cc);
   table = tt;
   window = record { opened = refl; in_effect = λ e. refl };
 }
@@ -268,7 +274,7 @@ put_may = record {
 begun_rest : Rests (told_by at_begun) at_begun
 begun_rest = record {
   conduct = record { nothing = refl; none_begun = refl; ended = λ e. never e };
-  flushed = record { none_cut = λ stream kept found. one_whole (1 == stream) (silent_one 1) kept refl found; none_ready = λ low. refl };
+  flushed = record { none_cut = λ low stream kept found. one_whole (1 == stream) (silent_one 1) kept refl found; none_ready = λ low. refl };
   served = record { nothing = refl; none_done = refl; ended = λ e. never e };
   read = refl;
   given_back = λ open_yet. record { settled = refl; shared = refl; own = λ stream active goes_on. subst (λ (id : ℕ). (at_begun.windows.row id).debt ≡ 0) (eqb-true 1 stream (only_one (1 == stream) _ active)) refl };
@@ -294,6 +300,7 @@ octets_may = record {
     );
   };
   gains = record { adds = refl; goes_on = refl };
+  calls = λ so. absurd (let no : false ≡ true = so in cc);
   table = record { is_noted = refl };
   window = record { nothing = begun_rest.given_back refl; goes_on = refl; opens_it = refl; lives = λ e. never e; over_with_it = refl };
 }
@@ -307,6 +314,7 @@ passed_may = record {
   in_turn = tt;
   request = record { open_yet = refl; may = refl };
   gains = tt;
+  calls = λ so. absurd (let no : false ≡ true = so in cc);
   table = tt;
   window = record { opened = refl; in_effect = λ e. refl };
 }
@@ -335,7 +343,7 @@ waits_leads =
 pub waits_rest : Rests (told_by at_waits) at_waits
 waits_rest = record {
   conduct = record { nothing = refl; none_begun = refl; ended = λ e. never e };
-  flushed = record { none_cut = λ stream kept found. one_whole (1 == stream) (silent_one 1) kept refl found; none_ready = λ low. refl };
+  flushed = record { none_cut = λ low stream kept found. one_whole (1 == stream) (silent_one 1) kept refl found; none_ready = λ low. refl };
   served = record { nothing = refl; none_done = refl; ended = λ e. never e };
   read = refl;
   given_back = λ open_yet. record { settled = refl; shared = refl; own = λ stream active goes_on. subst (λ (id : ℕ). (at_waits.windows.row id).debt ≡ 0) (eqb-true 1 stream (only_one (1 == stream) _ active)) refl };
@@ -372,6 +380,7 @@ took_may = record {
   in_turn = tt;
   request = record { open_yet = refl; may = (record { nothing = refl; none_done = refl; goes_on = refl }, refl) };
   gains = tt;
+  calls = λ so. absurd (let no : false ≡ true = so in cc);
   table = tt;
   window = (waits_rest.given_back refl, record { settled = refl; admitted = refl });
 }
@@ -380,11 +389,12 @@ shared_may : MayDo streaming (told_by at_took) (told_by at_shared) at_took (Send
 unfolding total_size
 shared_may = record {
   rests = λ e. never e;
-  conduct = record { allowed = record { open_yet = refl; turn = inr (record { nothing = refl; goes_on = refl; passing = refl; rightly = refl }) }; fit = refl };
+  conduct = record { allowed = record { open_yet = refl; turn = inr (inl (record { nothing = refl; goes_on = refl; passing = refl; rightly = refl })) }; fit = refl };
   offer = record { no_block = refl; no_data = refl };
   in_turn = λ e. never e;
   request = record { open_yet = refl; may = inl refl };
   gains = tt;
+  calls = λ so. absurd (let no : false ≡ true = so in cc);
   table = record { together = refl; is_given = refl };
   window = record { kind = refl; owed = refl };
 }
@@ -393,11 +403,12 @@ own_may : MayDo streaming (told_by at_shared) (told_by at_returned) at_shared (S
 unfolding total_size
 own_may = record {
   rests = λ e. never e;
-  conduct = record { allowed = record { open_yet = refl; turn = inr (record { nothing = refl; goes_on = refl; passing = refl; rightly = refl }) }; fit = refl };
+  conduct = record { allowed = record { open_yet = refl; turn = inr (inl (record { nothing = refl; goes_on = refl; passing = refl; rightly = refl })) }; fit = refl };
   offer = record { no_block = refl; no_data = refl };
   in_turn = λ e. never e;
   request = record { open_yet = refl; may = inl refl };
   gains = tt;
+  calls = λ so. absurd (let no : false ≡ true = so in cc);
   table = record { together = refl; is_given = refl };
   window = record { kind = refl; owed = (refl, refl, refl) };
 }
@@ -412,7 +423,7 @@ returned_leads =
 pub returned_rests : RestsBehind streaming returned
 returned_rests = rests streaming returned at_returned returned_leads (record {
   conduct = record { nothing = refl; none_begun = refl; ended = λ e. never e };
-  flushed = record { none_cut = λ stream kept found. one_whole (1 == stream) (silent_one 1) kept refl found; none_ready = λ low. refl };
+  flushed = record { none_cut = λ low stream kept found. one_whole (1 == stream) (silent_one 1) kept refl found; none_ready = λ low. refl };
   served = record { nothing = refl; none_done = refl; ended = λ e. never e };
   read = refl;
   given_back = λ open_yet. record { settled = refl; shared = refl; own = λ stream active goes_on. subst (λ (id : ℕ). (at_returned.windows.row id).debt ≡ 0) (eqb-true 1 stream (only_one (1 == stream) _ active)) refl };

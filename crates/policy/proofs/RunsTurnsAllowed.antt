@@ -53,7 +53,7 @@ both_asked_paid =
 acked_rest : Rests (told_by at_acked) at_acked
 acked_rest = record {
   conduct = record { nothing = refl; none_begun = refl; ended = λ e. never e };
-  flushed = record { none_cut = λ stream kept found. none_cut_of (silent_one 1 ∷ []) refl stream kept found; none_ready = λ low. refl };
+  flushed = record { none_cut = λ low stream kept found. none_cut_of (silent_one 1 ∷ []) refl stream kept found; none_ready = λ low. refl };
   served = record { nothing = refl; none_done = refl; ended = λ e. never e };
   read = refl;
   given_back = λ open_yet. record { settled = refl; shared = refl; own = λ stream active goes_on. forwarded_paid stream };
@@ -62,7 +62,7 @@ acked_rest = record {
 both_asked_rest : Rests (told_by at_both_asked) at_both_asked
 both_asked_rest = record {
   conduct = record { nothing = refl; none_begun = refl; ended = λ e. never e };
-  flushed = record { none_cut = λ stream kept found. none_cut_of (silent_one 1 ∷ silent_one 3 ∷ []) refl stream kept found; none_ready = λ low. refl };
+  flushed = record { none_cut = λ low stream kept found. none_cut_of (silent_one 1 ∷ silent_one 3 ∷ []) refl stream kept found; none_ready = λ low. refl };
   served = record { nothing = refl; none_done = refl; ended = λ e. never e };
   read = refl;
   given_back = λ open_yet. record { settled = refl; shared = refl; own = λ stream active goes_on. both_asked_paid stream };
@@ -71,7 +71,7 @@ both_asked_rest = record {
 hinted_rest : Rests (told_by at_hinted) at_hinted
 hinted_rest = record {
   conduct = record { nothing = refl; none_begun = refl; ended = λ e. never e };
-  flushed = record { none_cut = λ stream kept found. none_cut_of (silent_one 1 ∷ silent_one 3 ∷ []) refl stream kept found; none_ready = λ low. refl };
+  flushed = record { none_cut = λ low stream kept found. none_cut_of (silent_one 1 ∷ silent_one 3 ∷ []) refl stream kept found; none_ready = λ low. refl };
   served = record { nothing = refl; none_done = refl; ended = λ e. never e };
   read = refl;
   given_back = λ open_yet. record { settled = refl; shared = refl; own = λ stream active goes_on. both_asked_paid stream };
@@ -80,7 +80,7 @@ hinted_rest = record {
 first_begun_rest : Rests (told_by at_first_begun) at_first_begun
 first_begun_rest = record {
   conduct = record { nothing = refl; none_begun = refl; ended = λ e. never e };
-  flushed = record { none_cut = λ stream kept found. none_cut_of (boxed 1 body_left ∷ silent_one 3 ∷ []) refl stream kept found; none_ready = λ low. refl };
+  flushed = record { none_cut = λ low stream kept found. none_cut_of (boxed 1 body_left ∷ silent_one 3 ∷ []) refl stream kept found; none_ready = λ low. refl };
   served = record { nothing = refl; none_done = refl; ended = λ e. never e };
   read = refl;
   given_back = λ open_yet. record { settled = refl; shared = refl; own = λ stream active goes_on. both_asked_paid stream };
@@ -90,7 +90,7 @@ first_begun_rest = record {
 both_begun_rest : Rests (told_by at_both_begun) at_both_begun
 both_begun_rest = record {
   conduct = record { nothing = refl; none_begun = refl; ended = λ e. never e };
-  flushed = record { none_cut = λ stream kept found. none_cut_of (boxed 1 body_left ∷ boxed 3 body_left ∷ []) refl stream kept found; none_ready = λ low. refl };
+  flushed = record { none_cut = λ low stream kept found. none_cut_of (boxed 1 body_left ∷ boxed 3 body_left ∷ []) refl stream kept found; none_ready = λ low. refl };
   served = record { nothing = refl; none_done = refl; ended = λ e. never e };
   read = refl;
   given_back = λ open_yet. record { settled = refl; shared = refl; own = λ stream active goes_on. both_asked_paid stream };
@@ -107,6 +107,7 @@ lower_may = record {
   in_turn = tt;
   request = record { open_yet = refl; may = record { nothing = refl; none_done = refl; goes_on = refl } };
   gains = refl;
+  calls = λ so. absurd (let no : false ≡ true = so in cc);
   table = record { is_noted = refl };
   window = record { nothing = forwarded_rest.given_back refl; goes_on = refl; opens_it = refl; lives = λ e. never e; over_with_it = refl };
 }
@@ -115,11 +116,12 @@ ack_may : MayDo setup (told_by at_lowered) (told_by at_acked) at_lowered ack_fir
 unfolding total_size
 ack_may = record {
   rests = λ e. never e;
-  conduct = record { allowed = record { open_yet = refl; turn = inl (record { front = refl; control = refl }) }; fit = refl };
+  conduct = record { allowed = record { open_yet = refl; turn = inl (record { front = refl; control = refl; owing = refl; calm = refl }) }; fit = refl };
   offer = record { no_block = refl; no_data = refl };
   in_turn = λ e. never e;
   request = record { open_yet = refl; may = inl refl };
   gains = tt;
+  calls = λ so. absurd (let no : false ≡ true = so in cc);
   table = record { together = refl; is_given = refl };
   window = record { kind = refl; over_with_it = refl };
 }
@@ -144,6 +146,7 @@ asked_may = record {
     );
   };
   gains = record { first = refl; adds = record { adds = refl; goes_on = refl } };
+  calls = λ so. absurd (let no : false ≡ true = so in cc);
   table = record { is_noted = get_read };
   window = record { nothing = acked_rest.given_back refl; goes_on = refl; opens_it = refl; lives = λ e. refl; over_with_it = refl };
 }
@@ -157,6 +160,7 @@ opened_may = record {
   in_turn = tt;
   request = record { open_yet = refl; may = record { stream = 3; text = request_text; stage = Whole; due = refl; next = refl } };
   gains = tt;
+  calls = λ so. absurd (let no : false ≡ true = so in cc);
   table = tt;
   window = record { active = refl; counted = omega arith; first = refl; unused = refl; untaken = refl };
 }
@@ -170,6 +174,7 @@ put_may = record {
   in_turn = tt;
   request = record { open_yet = refl; may = refl };
   gains = tt;
+  calls = λ so. absurd (let no : false ≡ true = so in cc);
   table = tt;
   window = record { opened = refl; in_effect = λ e. cc };
 }
@@ -183,6 +188,7 @@ told_may = record {
   in_turn = tt;
   request = record { open_yet = refl; may = (record { nothing = refl; none_done = refl; goes_on = refl }, tt, (first_live false, refl)) };
   gains = tt;
+  calls = λ so. absurd (let no : false ≡ true = so in cc);
   table = tt;
   window = (both_asked_rest.given_back refl, record { settled = refl; admitted = refl });
 }
@@ -191,7 +197,7 @@ early_may : MayDo setup (told_by at_told) (told_by at_hinted) at_told early_deed
 unfolding total_size
 early_may = record {
   rests = λ e. never e;
-  conduct = record { allowed = record { open_yet = refl; turn = inr (record { nothing = refl; goes_on = refl; passing = refl; rightly = refl }) }; fit = refl };
+  conduct = record { allowed = record { open_yet = refl; turn = inr (inl (record { nothing = refl; goes_on = refl; passing = refl; rightly = refl })) }; fit = refl };
   offer = (
     record {
       kept = boxed 1 (Before (early_head ∷ []) None [] None);
@@ -211,6 +217,7 @@ early_may = record {
   };
   request = record { open_yet = refl; may = inl refl };
   gains = tt;
+  calls = λ so. absurd (let no : false ≡ true = so in cc);
   table = record { together = refl; is_given = early_encoded };
   window = record { kind = refl; over_with_it = refl };
 }
@@ -224,6 +231,7 @@ first_heard_may = record {
   in_turn = tt;
   request = record { open_yet = refl; may = (record { nothing = refl; none_done = refl; goes_on = refl }, tt, (first_live false, refl)) };
   gains = tt;
+  calls = λ so. absurd (let no : false ≡ true = so in cc);
   table = tt;
   window = (hinted_rest.given_back refl, record { settled = refl; admitted = refl });
 }
@@ -237,6 +245,7 @@ first_closed_may = record {
   in_turn = tt;
   request = record { open_yet = refl; may = record { nothing = refl; live = first_live true; found = refl; why = inl refl } };
   gains = tt;
+  calls = λ so. absurd (let no : false ≡ true = so in cc);
   table = tt;
   window = tt;
 }
@@ -245,7 +254,7 @@ first_may : MayDo setup (told_by at_first_closed) (told_by at_first_begun) at_fi
 unfolding total_size
 first_may = record {
   rests = λ e. never e;
-  conduct = record { allowed = record { open_yet = refl; turn = inr (record { nothing = refl; goes_on = refl; passing = refl; rightly = refl }) }; fit = refl };
+  conduct = record { allowed = record { open_yet = refl; turn = inr (inl (record { nothing = refl; goes_on = refl; passing = refl; rightly = refl })) }; fit = refl };
   offer = (
     record {
       kept = boxed 1 whole;
@@ -265,6 +274,7 @@ first_may = record {
   };
   request = record { open_yet = refl; may = inl refl };
   gains = tt;
+  calls = λ so. absurd (let no : false ≡ true = so in cc);
   table = record { together = refl; is_given = first_encoded };
   window = record { kind = refl; over_with_it = refl };
 }
@@ -278,6 +288,7 @@ second_heard_may = record {
   in_turn = tt;
   request = record { open_yet = refl; may = (record { nothing = refl; none_done = refl; goes_on = refl }, tt, (second_live false, refl)) };
   gains = tt;
+  calls = λ so. absurd (let no : false ≡ true = so in cc);
   table = tt;
   window = (first_begun_rest.given_back refl, record { settled = refl; admitted = refl });
 }
@@ -291,6 +302,7 @@ second_closed_may = record {
   in_turn = tt;
   request = record { open_yet = refl; may = record { nothing = refl; live = second_live true; found = refl; why = inl refl } };
   gains = tt;
+  calls = λ so. absurd (let no : false ≡ true = so in cc);
   table = tt;
   window = tt;
 }
@@ -299,7 +311,7 @@ second_may : MayDo setup (told_by at_second_closed) (told_by at_both_begun) at_s
 unfolding total_size
 second_may = record {
   rests = λ e. never e;
-  conduct = record { allowed = record { open_yet = refl; turn = inr (record { nothing = refl; goes_on = refl; passing = refl; rightly = refl }) }; fit = refl };
+  conduct = record { allowed = record { open_yet = refl; turn = inr (inl (record { nothing = refl; goes_on = refl; passing = refl; rightly = refl })) }; fit = refl };
   offer = (
     record {
       kept = boxed 3 whole;
@@ -319,6 +331,7 @@ second_may = record {
   };
   request = record { open_yet = refl; may = inl refl };
   gains = tt;
+  calls = λ so. absurd (let no : false ≡ true = so in cc);
   table = record { together = refl; is_given = second_encoded };
   window = record { kind = refl; over_with_it = refl };
 }
@@ -332,6 +345,7 @@ raise_may = record {
   in_turn = tt;
   request = record { open_yet = refl; may = record { nothing = refl; none_done = refl; goes_on = refl } };
   gains = refl;
+  calls = λ so. absurd (let no : false ≡ true = so in cc);
   table = record { is_noted = refl };
   window = record { nothing = both_begun_rest.given_back refl; goes_on = refl; opens_it = refl; lives = λ e. never e; over_with_it = refl };
 }
@@ -340,11 +354,12 @@ ack_again_may : MayDo setup (told_by at_raised) (told_by at_acked_again) at_rais
 unfolding total_size
 ack_again_may = record {
   rests = λ e. never e;
-  conduct = record { allowed = record { open_yet = refl; turn = inl (record { front = refl; control = refl }) }; fit = refl };
+  conduct = record { allowed = record { open_yet = refl; turn = inl (record { front = refl; control = refl; owing = refl; calm = refl }) }; fit = refl };
   offer = record { no_block = refl; no_data = refl };
   in_turn = λ e. never e;
   request = record { open_yet = refl; may = inl refl };
   gains = tt;
+  calls = λ so. absurd (let no : false ≡ true = so in cc);
   table = record { together = refl; is_given = refl };
   window = record { kind = refl; over_with_it = refl };
 }
@@ -354,7 +369,7 @@ first_h_may : MayDo setup (told_by at_acked_again) (told_by at_first_half) at_ac
 unfolding total_size
 first_h_may = record {
   rests = λ e. never e;
-  conduct = record { allowed = record { open_yet = refl; turn = inr (record { nothing = refl; goes_on = refl; passing = refl; rightly = refl }) }; fit = refl };
+  conduct = record { allowed = record { open_yet = refl; turn = inr (inl (record { nothing = refl; goes_on = refl; passing = refl; rightly = refl })) }; fit = refl };
   offer = (
     record {
       kept = boxed 1 body_left;
@@ -374,6 +389,7 @@ first_h_may = record {
   };
   request = record { open_yet = refl; may = inl refl };
   gains = tt;
+  calls = λ so. absurd (let no : false ≡ true = so in cc);
   table = record { together = refl; is_given = refl };
   window = record { kind = refl; over_with_it = refl };
 }
@@ -382,7 +398,7 @@ second_h_may : MayDo setup (told_by at_first_half) (told_by at_half_out) at_firs
 unfolding total_size
 second_h_may = record {
   rests = λ e. never e;
-  conduct = record { allowed = record { open_yet = refl; turn = inr (record { nothing = refl; goes_on = refl; passing = refl; rightly = refl }) }; fit = refl };
+  conduct = record { allowed = record { open_yet = refl; turn = inr (inl (record { nothing = refl; goes_on = refl; passing = refl; rightly = refl })) }; fit = refl };
   offer = (
     record {
       kept = boxed 3 body_left;
@@ -402,6 +418,7 @@ second_h_may = record {
   };
   request = record { open_yet = refl; may = inl refl };
   gains = tt;
+  calls = λ so. absurd (let no : false ≡ true = so in cc);
   table = record { together = refl; is_given = refl };
   window = record { kind = refl; over_with_it = refl };
 }
@@ -410,7 +427,7 @@ first_i_may : MayDo setup (told_by at_half_out) (told_by at_first_out) at_half_o
 unfolding total_size
 first_i_may = record {
   rests = λ e. never e;
-  conduct = record { allowed = record { open_yet = refl; turn = inr (record { nothing = refl; goes_on = refl; passing = refl; rightly = refl }) }; fit = refl };
+  conduct = record { allowed = record { open_yet = refl; turn = inr (inl (record { nothing = refl; goes_on = refl; passing = refl; rightly = refl })) }; fit = refl };
   offer = (
     record {
       kept = boxed 1 last_left;
@@ -430,6 +447,7 @@ first_i_may = record {
   };
   request = record { open_yet = refl; may = inl refl };
   gains = tt;
+  calls = λ so. absurd (let no : false ≡ true = so in cc);
   table = record { together = refl; is_given = refl };
   window = record { kind = refl; over_with_it = refl };
 }
@@ -438,7 +456,7 @@ second_i_may : MayDo setup (told_by at_first_out) (told_by at_both_out) at_first
 unfolding total_size
 second_i_may = record {
   rests = λ e. never e;
-  conduct = record { allowed = record { open_yet = refl; turn = inr (record { nothing = refl; goes_on = refl; passing = refl; rightly = refl }) }; fit = refl };
+  conduct = record { allowed = record { open_yet = refl; turn = inr (inl (record { nothing = refl; goes_on = refl; passing = refl; rightly = refl })) }; fit = refl };
   offer = (
     record {
       kept = boxed 3 last_left;
@@ -458,6 +476,7 @@ second_i_may = record {
   };
   request = record { open_yet = refl; may = inl refl };
   gains = tt;
+  calls = λ so. absurd (let no : false ≡ true = so in cc);
   table = record { together = refl; is_given = refl };
   window = record { kind = refl; over_with_it = refl };
 }
@@ -511,7 +530,7 @@ all_out_leads =
 pub all_out_rests : RestsBehind setup all_out
 all_out_rests = rests setup all_out at_all_out all_out_leads (record {
   conduct = record { nothing = refl; none_begun = refl; ended = λ e. never e };
-  flushed = record { none_cut = λ stream kept found. none_kept found; none_ready = λ low. refl };
+  flushed = record { none_cut = λ low stream kept found. none_kept found; none_ready = λ low. refl };
   served = record { nothing = refl; none_done = refl; ended = λ e. never e };
   read = refl;
   given_back = λ open_yet. record { settled = refl; shared = refl; own = λ stream active goes_on. change_paid 0 (owing 0) at_both_asked.windows.row owes_no_more both_asked_paid stream };

@@ -182,6 +182,7 @@ lower_may = record {
   in_turn = tt;
   request = record { open_yet = refl; may = record { nothing = refl; none_done = refl; goes_on = refl } };
   gains = refl;
+  calls = λ so. absurd (let no : false ≡ true = so in cc);
   table = record { is_noted = refl };
   window = record { nothing = forwarded_rest.given_back refl; goes_on = refl; opens_it = refl; lives = λ e. never e; over_with_it = refl };
 }
@@ -190,11 +191,12 @@ ack_may : MayDo setup (told_by at_lowered) (told_by at_acked) at_lowered ack_fir
 unfolding total_size
 ack_may = record {
   rests = λ e. never e;
-  conduct = record { allowed = record { open_yet = refl; turn = inl (record { front = refl; control = refl }) }; fit = refl };
+  conduct = record { allowed = record { open_yet = refl; turn = inl (record { front = refl; control = refl; owing = refl; calm = refl }) }; fit = refl };
   offer = record { no_block = refl; no_data = refl };
   in_turn = λ e. never e;
   request = record { open_yet = refl; may = inl refl };
   gains = tt;
+  calls = λ so. absurd (let no : false ≡ true = so in cc);
   table = record { together = refl; is_given = refl };
   window = record { kind = refl; over_with_it = refl };
 }
@@ -202,7 +204,7 @@ ack_may = record {
 acked_rest : Rests (told_by at_acked) at_acked
 acked_rest = record {
   conduct = record { nothing = refl; none_begun = refl; ended = λ e. never e };
-  flushed = record { none_cut = λ stream kept found. one_whole (1 == stream) (record { id = 1; box = silent; cut = false }) kept refl found; none_ready = λ low. refl };
+  flushed = record { none_cut = λ low stream kept found. one_whole (1 == stream) (record { id = 1; box = silent; cut = false }) kept refl found; none_ready = λ low. refl };
   served = record { nothing = refl; none_done = refl; ended = λ e. never e };
   read = refl;
   given_back = λ open_yet. record { settled = refl; shared = refl; own = λ stream active goes_on. subst (λ (id : ℕ). (at_acked.windows.row id).debt ≡ 0) (eqb-true 1 stream (only_one (1 == stream) _ active)) refl };
@@ -217,6 +219,7 @@ heard_may = record {
   in_turn = tt;
   request = record { open_yet = refl; may = (record { nothing = refl; none_done = refl; goes_on = refl }, tt, (record { k = 1; stream = 1; whole = false }, refl)) };
   gains = tt;
+  calls = λ so. absurd (let no : false ≡ true = so in cc);
   table = tt;
   window = (acked_rest.given_back refl, record { settled = refl; admitted = refl });
 }
@@ -230,6 +233,7 @@ closed_may = record {
   in_turn = tt;
   request = record { open_yet = refl; may = record { nothing = refl; live = record { k = 1; stream = 1; whole = true }; found = refl; why = inl refl } };
   gains = tt;
+  calls = λ so. absurd (let no : false ≡ true = so in cc);
   table = tt;
   window = tt;
 }
@@ -238,7 +242,7 @@ head_may : MayDo setup (told_by at_closed) (told_by at_begun) at_closed head_dee
 unfolding total_size
 head_may = record {
   rests = λ e. never e;
-  conduct = record { allowed = record { open_yet = refl; turn = inr (record { nothing = refl; goes_on = refl; passing = refl; rightly = refl }) }; fit = refl };
+  conduct = record { allowed = record { open_yet = refl; turn = inr (inl (record { nothing = refl; goes_on = refl; passing = refl; rightly = refl })) }; fit = refl };
   offer = (
     record {
       kept = whole;
@@ -258,6 +262,7 @@ head_may = record {
   };
   request = record { open_yet = refl; may = inl refl };
   gains = tt;
+  calls = λ so. absurd (let no : false ≡ true = so in cc);
   table = record { together = refl; is_given = answer_encoded };
   window = record { kind = refl; over_with_it = refl };
 }
@@ -267,7 +272,7 @@ h_may : MayDo setup (told_by at_begun) (told_by at_one_out) at_begun h_deed
 unfolding total_size
 h_may = record {
   rests = λ e. never e;
-  conduct = record { allowed = record { open_yet = refl; turn = inr (record { nothing = refl; goes_on = refl; passing = refl; rightly = refl }) }; fit = refl };
+  conduct = record { allowed = record { open_yet = refl; turn = inr (inl (record { nothing = refl; goes_on = refl; passing = refl; rightly = refl })) }; fit = refl };
   offer = (
     record {
       kept = behind_head;
@@ -287,6 +292,7 @@ h_may = record {
   };
   request = record { open_yet = refl; may = inl refl };
   gains = tt;
+  calls = λ so. absurd (let no : false ≡ true = so in cc);
   table = record { together = refl; is_given = refl };
   window = record { kind = refl; over_with_it = refl };
 }
@@ -295,7 +301,7 @@ h_may = record {
 waits_rest : Rests (told_by at_waits) at_waits
 waits_rest = record {
   conduct = record { nothing = refl; none_begun = refl; ended = λ e. never e };
-  flushed = record { none_cut = λ stream kept found. one_whole (1 == stream) last_left kept refl found; none_ready = λ low. refl };
+  flushed = record { none_cut = λ low stream kept found. one_whole (1 == stream) last_left kept refl found; none_ready = λ low. refl };
   served = record { nothing = refl; none_done = refl; ended = λ e. never e };
   read = refl;
   given_back = λ open_yet. record { settled = refl; shared = refl; own = λ stream active goes_on. subst (λ (id : ℕ). (at_waits.windows.row id).debt ≡ 0) (eqb-true 1 stream (only_one (1 == stream) _ active)) refl };
@@ -310,6 +316,7 @@ raise_may = record {
   in_turn = tt;
   request = record { open_yet = refl; may = record { nothing = refl; none_done = refl; goes_on = refl } };
   gains = refl;
+  calls = λ so. absurd (let no : false ≡ true = so in cc);
   table = record { is_noted = refl };
   window = record { nothing = waits_rest.given_back refl; goes_on = refl; opens_it = refl; lives = λ e. never e; over_with_it = refl };
 }
@@ -318,11 +325,12 @@ ack_again_may : MayDo setup (told_by at_raised) (told_by at_acked_again) at_rais
 unfolding total_size
 ack_again_may = record {
   rests = λ e. never e;
-  conduct = record { allowed = record { open_yet = refl; turn = inl (record { front = refl; control = refl }) }; fit = refl };
+  conduct = record { allowed = record { open_yet = refl; turn = inl (record { front = refl; control = refl; owing = refl; calm = refl }) }; fit = refl };
   offer = record { no_block = refl; no_data = refl };
   in_turn = λ e. never e;
   request = record { open_yet = refl; may = inl refl };
   gains = tt;
+  calls = λ so. absurd (let no : false ≡ true = so in cc);
   table = record { together = refl; is_given = refl };
   window = record { kind = refl; over_with_it = refl };
 }
@@ -331,7 +339,7 @@ i_may : MayDo setup (told_by at_acked_again) (told_by at_gone_on) at_acked_again
 unfolding total_size
 i_may = record {
   rests = λ e. never e;
-  conduct = record { allowed = record { open_yet = refl; turn = inr (record { nothing = refl; goes_on = refl; passing = refl; rightly = refl }) }; fit = refl };
+  conduct = record { allowed = record { open_yet = refl; turn = inr (inl (record { nothing = refl; goes_on = refl; passing = refl; rightly = refl })) }; fit = refl };
   offer = (
     record {
       kept = last_left;
@@ -351,6 +359,7 @@ i_may = record {
   };
   request = record { open_yet = refl; may = inl refl };
   gains = tt;
+  calls = λ so. absurd (let no : false ≡ true = so in cc);
   table = record { together = refl; is_given = refl };
   window = record { kind = refl; over_with_it = refl };
 }
@@ -381,7 +390,7 @@ gone_on_leads =
 pub gone_on_rests : RestsBehind setup gone_on
 gone_on_rests = rests setup gone_on (next setup at_gone_on Settles) gone_on_leads (record {
   conduct = record { nothing = refl; none_begun = refl; ended = λ e. never e };
-  flushed = record { none_cut = λ stream kept found. none_kept found; none_ready = λ low. refl };
+  flushed = record { none_cut = λ low stream kept found. none_kept found; none_ready = λ low. refl };
   served = record { nothing = refl; none_done = refl; ended = λ e. never e };
   read = refl;
   given_back = λ open_yet. record { settled = refl; shared = refl; own = λ stream active goes_on. subst (λ (id : ℕ). ((next setup at_gone_on Settles).windows.row id).debt ≡ 0) (eqb-true 1 stream (only_one (1 == stream) _ active)) refl };

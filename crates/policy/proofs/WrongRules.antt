@@ -35,6 +35,9 @@ use Rattle.model.specs.Tapes.Note.{Fields}
 use Rattle.model.specs.Tapes.Entry.{Came, Breached, Happened, Sent, Did}
 use Rattle.model.specs.Known.{Known}
 use Rattle.conduct.specs.Summary.{Summary}
+use Rattle.conduct.specs.Judging.{is_crowded_in}
+use Rattle.conduct.specs.Rule.{IsInTurn}
+use Rattle.conduct.specs.Book.{as_point, summary_in}
 use Rattle.offering.specs.Outbox.{Outbox, Part, IsNext, silent}
 use Rattle.offering.specs.Outbox.Outbox.{Before, Behind}
 use Rattle.offering.specs.Outbox.Part.{Final, Octets}
@@ -121,12 +124,14 @@ module _ (setup : Setup) (s u : Summary) (x : State) where
 
   -- ---- a farewell twice
 
-  -- No farewell goes out that isn't owed.
-  pub no_second_farewell : (last code : ℕ) (table : Table) → x.desk.queue ≡ [] → May (Sends (record { frame = goaway last code; note = NoBlock }) table) → ⊥
-  no_second_farewell last code table none may = elim may.conduct.allowed.turn [
-    | inl due ↦ (let clash : ◌≡◌ {A = List Frame} [] (goaway last code ∷ _) = sym none ∙ due.front in cc)
-    | inr pass ↦ (let clash : false ≡ true = pass.passing in cc)
-  ]
+  -- No farewell goes out that isn't owed, while few octets are untaken.
+  pub no_second_farewell : (last code : ℕ) (table : Table) → is_crowded_in (summary_in x.desk.book) ≡ false → x.desk.queue ≡ [] → May (Sends (record { frame = goaway last code; note = NoBlock }) table) → ⊥
+  no_second_farewell last code table few none may = by may.conduct.allowed.turn
+    where
+      by : IsInTurn (as_point x.desk) (Sent (record { frame = goaway last code; note = NoBlock })) → ⊥
+      by (inl due) = let clash : ◌≡◌ {A = List Frame} [] (goaway last code ∷ _) = sym none ∙ due.front in cc
+      by (inr (inl pass)) = let clash : false ≡ true = pass.passing in cc
+      by (inr (inr stand)) = let clash : false ≡ true = sym few ∙ stand.crowded_so in cc
 
 -- ---- the tapes: those of allowed runs, with what the wrong rule lets stand behind them
 
@@ -277,7 +282,7 @@ second_head_refused u may = no_second_head one_route (told_by at_begun) u at_beg
 
 -- a farewell that isn't owed
 pub farewell_refused : (u : Summary) → MayDo one_route (told_by at_forwarded) u at_forwarded (Sends (plain (goaway 0 protocol_error)) encoded) → ⊥
-farewell_refused u may = no_second_farewell one_route (told_by at_forwarded) u at_forwarded 0 protocol_error encoded refl may
+farewell_refused u may = no_second_farewell one_route (told_by at_forwarded) u at_forwarded 0 protocol_error encoded refl refl may
 
 -- octets that aren't owed
 pub octets_refused : (u : Summary) → MayDo one_route (told_by at_forwarded) u at_forwarded (Sends (plain (frame 8 0 0 (0 ∷ 0 ∷ 0 ∷ 5 ∷ []))) encoded) → ⊥

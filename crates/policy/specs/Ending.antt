@@ -1,7 +1,7 @@
 -- The end of the connection: behind the entry that ends it goes the farewell that is owed, then a close for each open upstream
 -- connection, then that for the client.
-use Rattle.std.specs.Prelude.{◌≡◌, true, false, List, [], ◌∷◌, ◌++◌, reverse, Option, Some}
-use Rattle.model.specs.Frames.{Frame, goaway}
+use Rattle.std.specs.Prelude.{◌≡◌, ℕ, true, false, List, [], ◌∷◌, ◌++◌, reverse, Option, Some, None}
+use Rattle.model.specs.Frames.{Frame, goaway, enhance_your_calm}
 use Rattle.model.specs.Setup.{Setup}
 use Rattle.model.specs.Tables.{Table}
 use Rattle.model.specs.Logs.Act.{Close, CloseClient}
@@ -12,21 +12,24 @@ use Rattle.model.specs.ErrorClause.{is_fatal}
 use Rattle.model.specs.Errors.{Fault}
 use Rattle.model.specs.Errors.Fault.{Connection}
 use Rattle.conduct.specs.Summary.{Summary}
-use Rattle.conduct.specs.Owing.{fault_in, highest_in, opened_after}
+use Rattle.conduct.specs.Judging.{is_crowded_in}
+use Rattle.conduct.specs.Owing.{fault_in, highest_in, opened_after, code_of_farewell_in}
 use Rattle.conduct.specs.Quiet.{noted_of}
 use Rattle.serving.specs.State.{Live}
+use Rattle.serving.specs.State.Due.{Nothing}
 use Rattle.tables.specs.Rule as tables
 use Rattle.tables.specs.Verdicts.{verdict_in}
 use Rattle.policy.specs.Moves.{Deed, Move, entry_of}
 use Rattle.policy.specs.Moves.Deed.{Sends, Acts}
 use Rattle.policy.specs.Moves.Move.{Does}
 use Rattle.policy.specs.State.{State, tape_of}
-use Rattle.policy.specs.Rule.{AllAllowed, RestsBehind}
+use Rattle.policy.specs.Rule.{AllAllowed, RestsBehind, WouldGo}
 use Rattle.policy.specs.Steps.{told_by}
 
--- the farewell to a client that made an error of the connection: its last stream, and the error's code (RFC 9113, section 5.4.1)
+-- the farewell to a client that made an error of the connection: its last stream, and the error's code (RFC 9113, section 5.4.1), unless too many
+-- octets are untaken
 abbrev pub farewell_for : Summary → Entry → Option Fault → List Frame
-farewell_for s e (Some (Connection code)) = goaway (highest_in (opened_after s e)) code ∷ []
+farewell_for s e (Some (Connection code)) = goaway (highest_in (opened_after s e)) (code_of_farewell_in s code) ∷ []
 farewell_for s e found = []
 
 -- the farewell that a deed calls for
@@ -78,3 +81,16 @@ pub record IsFatal (s : State) (noted : Noted) (next : Table) : Type 0 where
   pub fatal : is_fatal (fault_in (told_by s) (Came noted)) ≡ true
   pub noted_right : tables.IsTaken s.tables noted (verdict_in (told_by s) noted.frame) next
   pub read : is_read noted.note ≡ false → (verdict_in (told_by s) noted.frame).is_error ≡ true
+
+-- The farewell that asks the client to be calm, in place of what would go out.
+abbrev pub calming_of : State → Deed
+calming_of s = Sends (noted_of (goaway (highest_in (told_by s).opened) enhance_your_calm)) s.tables.encoding.table
+
+-- Too many octets are untaken for a frame beside responses, and one would go; nothing goes to an upstream first, no header block is begun, and none was lost.
+pub record IsCrowded (s : State) : Type 0 where
+  pub open_yet : s.desk.book.closed ≡ false
+  pub crowded : is_crowded_in (told_by s) ≡ true
+  pub none_begun : s.desk.book.block_out ≡ None
+  pub nothing_due : s.requests.due ≡ Nothing
+  pub read : s.tables.lost ≡ false
+  pub would_go : WouldGo (told_by s) s

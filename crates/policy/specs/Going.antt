@@ -1,5 +1,5 @@
 -- What is left to show of a move that puts something out.
-use Rattle.std.specs.Prelude.{◌≡◌, ℕ, true, false, List, [], ◌∷◌, None}
+use Rattle.std.specs.Prelude.{◌≡◌, ℕ, true, false, not, ◌&&◌, List, [], ◌∷◌, None}
 use Rattle.model.specs.Frames.{window_update_kind}
 use Rattle.model.specs.Logs.{Act}
 use Rattle.model.specs.Logs.Act.{Open, ToUp, Close, CloseClient}
@@ -7,7 +7,8 @@ use Rattle.model.specs.Setup.{Setup}
 use Rattle.model.specs.Tapes.{Noted}
 use Rattle.model.specs.Tapes.Note.{NoBlock}
 use Rattle.model.specs.Lifetimes.{may_open}
-use Rattle.model.specs.ErrorClause.{is_passing}
+use Rattle.model.specs.ErrorClause.{is_passing, is_calming}
+use Rattle.conduct.specs.Judging.{is_crowded_in}
 use Rattle.conduct.specs.Owing.{is_rightly_sent_in, must_end_in}
 use Rattle.conduct.specs.Turn.{rest_of}
 use Rattle.offering.specs.Rule.{OpensNext}
@@ -35,6 +36,8 @@ pub record IsOwedNext (s : State) (noted : Noted) : Type 0 where
   pub between : GoesBetween s noted
   pub front : s.desk.queue ≡ noted.frame ∷ rest_of s.desk.queue
   pub control : is_passing noted ≡ false
+  pub owing : (is_calming noted.frame && not s.desk.book.ends) ≡ false
+  pub calm : (is_crowded_in (told_by s) && not (is_calming noted.frame)) ≡ false
 
 -- The frame gives back all that is owed on its id.
 pub record GivesBack (s : State) (noted : Noted) : Type 0 where

@@ -1,5 +1,5 @@
 -- Which move may come next: by what is kept, and by what is told before the move and behind it. No tape is named here.
-use Rattle.std.specs.Prelude.{◌≡◌, true, false, ◌||◌, if◌then◌else◌, List, [], ◌∷◌}
+use Rattle.std.specs.Prelude.{◌≡◌, Bool, true, false, not, ◌&&◌, ◌⊎◌, ◌||◌, if◌then◌else◌, List, [], ◌∷◌}
 use Rattle.model.specs.Messages.{Item}
 use Rattle.model.specs.Messages.Item.{Block}
 use Rattle.model.specs.Setup.{Setup}
@@ -17,13 +17,15 @@ use Rattle.offering.specs.Policy.{IsFlushed}
 use Rattle.offering.specs.Rule as offers
 use Rattle.receiving.specs.Rule as windows
 use Rattle.receiving.specs.State as receiving
-use Rattle.receiving.specs.Rule.{OwesNothing}
+use Rattle.receiving.specs.Rule.{OwesNothing, OwesSome}
+use Rattle.model.specs.ErrorClause.{is_calming}
+use Rattle.model.specs.Frames.{Frame}
 use Rattle.serving.specs.Rule as requests
 use Rattle.tables.specs.Rule as tables
 use Rattle.tables.specs.Turns.{MayBeginIf}
 use Rattle.policy.specs.Moves.{Gain, Deed, Move, entry_of, comes_in, conduct_of, offer_of, request_of, table_of, window_of, told_in}
 use Rattle.policy.specs.Moves.Gain.{Nothing, Begins, Gathers, Passes, Drops}
-use Rattle.policy.specs.Moves.Deed.{Takes}
+use Rattle.policy.specs.Moves.Deed.{Takes, Sends, Goes}
 use Rattle.policy.specs.Moves.Move.{Does, Settles}
 use Rattle.policy.specs.State.{State, gates_in, summary_at, state_of}
 
@@ -77,6 +79,19 @@ pub record Rests (s : Summary) (state : State) : Type 0 where
   pub read : state.tables.lost ≡ false
   pub given_back : s.closed ≡ false → OwesNothing (sight_in s) (rooms_in s state)
 
+-- ---- farewells in place of other frames
+
+-- a frame to the client that asks it to be calm
+abbrev pub calms : Deed → Bool
+calms (Sends noted next) = is_calming noted.frame
+calms (Goes noted item part next) = is_calming noted.frame
+calms d = false
+
+-- A frame would go: one is owed, or octets go back.
+abbrev pub WouldGo : Summary → State → Type 0
+WouldGo s state =
+    ((next : Frame) × (rest : List Frame) × (state.desk.queue ≡ next ∷ rest)) ⊎ OwesSome (sight_in s) (rooms_in s state)
+
 -- ---- deeds
 
 -- The deed may be done: each concern allows it, and what comes in comes where the gateway rests.
@@ -87,6 +102,7 @@ pub record MayDo (setup : Setup) (before behind : Summary) (state : State) (d : 
   pub in_turn : MayBeginIf (windows_in (sight_in before)) state.offers (entry_of d)
   pub request : requests.IsAllowed setup (told_in before) (told_in behind) state.requests (request_of d)
   pub gains : GainsIf setup before d
+  pub calls : (calms d && not state.desk.book.ends) ≡ true → WouldGo before state
   pub table : tables.IsFit state.tables (table_of before d)
   pub window : windows.MayCome setup.passing (gates_in before state.requests) (sight_in before) (sight_in behind) (rooms_in before state) (window_of (sight_in before) (sight_in behind) d)
 

@@ -44,7 +44,7 @@ ghost use Rattle.policy.specs.Steps.{told_by, told_behind, next, MayGoOn, Leads,
 ghost use Rattle.policy.specs.Coming.{IsReady, MayTake, MayHear, MayFail};
 ghost use Rattle.policy.specs.Going.{IsOwedNext, GivesBack, Acts};
 ghost use Rattle.policy.specs.Held.{held_on_connection, held_for, held_in_all, most_on_connection, most_for_stream, most_in_all};
-ghost use Rattle.policy.specs.Ending.{IsFatal, ending_of, Ends};
+ghost use Rattle.policy.specs.Ending.{IsFatal, IsCrowded, calming_of, ending_of, Ends};
 
 /// Whoever keeps the rule keeps the headline: its five clauses wherever the gateway rests, and before each thing that comes in;
 /// what is known of failures is right, and nothing stands behind the client's close. So it is for both policies, and however
@@ -115,11 +115,14 @@ pub fn open_connections_go_on()
 /// - `Stands`: the state stands behind the moves before, which [`states_lead`] gives;
 /// - `IsReady`: the gateway rests by what is kept, and its connection is open and not to end, which whoever performs moves knows;
 /// - `IsFatal`: of a frame, by the error table over the book that it is such an error; by the decoder that its note is right, and that
-///   the block was read (no memory was refused) unless the error is one before that.
+///   the block was read (no memory was refused) unless the error is one before that;
+/// - `IsCrowded`: too many octets for the client are untaken where a frame beside responses would go out, within a step: then a farewell that asks
+///   the client to be calm goes in its place, and the connection ends behind it (`calming`).
 pub fn ends_lead()
     ensures client { (setup : Setup) (run : List Move) (s : State) → Stands setup run s → IsReady s → Ends setup run s (Notes ClientEnd) }
     ensures breach { (setup : Setup) (run : List Move) (s : State) (breach : Breach) → Stands setup run s → IsReady s → Ends setup run s (Breaks breach) }
     ensures frame { (setup : Setup) (run : List Move) (s : State) (noted : Noted) (next : Table) → Stands setup run s → IsReady s → IsFatal s noted next → Ends setup run s (Takes noted next Nothing) }
+    ensures calming { (setup : Setup) (run : List Move) (s : State) → Stands setup run s → IsCrowded s → Ends setup run s (calming_of s) }
     ensures answered { (known : Known) (run : List Move) (s : State) (d : Deed) → AreAnswered known run → IsAnswered known (tape_of run) d → AreAnswered known (ending_of s d ++ Does d ∷ run) }
 {}
 

@@ -1,6 +1,6 @@
 -- Moves that are allowed keep the invariant, and where all is paid each receiving window is as at first but for what waits.
-use Rattle.std.proofs.Common.{◌≡◌, ℕ, ◌+◌, Bool, true, false, ◌==◌, List, [], ◌∷◌, ◌++◌, length, refl, sym, ap, subst, ◌∙◌, arith, if◌then◌else◌, pos, ◌-ℤ◌, ◌≤ℤ◌}
-use Rattle.std.specs.Prelude.{sum_by, nat_lt}
+use Rattle.std.proofs.Common.{◌≡◌, ℕ, ◌+◌, Bool, true, false, ◌==◌, List, [], ◌∷◌, ◌++◌, length, refl, sym, ap, subst, ◌∙◌, arith, if◌then◌else◌, pos, ◌-ℤ◌, ◌≤ℤ◌, ◌<◌, inl, inr}
+use Rattle.std.specs.Prelude.{sum_by, nat_lt, ◌<ℤ◌}
 use Rattle.std.proofs.lemmas.Int.{ints}
 use Rattle.std.proofs.lemmas.Bool.{eq-eqb}
 use Rattle.model.specs.Frames.{window_update_kind}
@@ -12,9 +12,9 @@ use Rattle.model.specs.Tapes.Entry.{Sent}
 use Rattle.model.specs.Known.{Known}
 use Rattle.model.specs.Openings.{connection_of, route_of, opens}
 use Rattle.model.specs.Windows.{first_window, sending_window}
-use Rattle.model.specs.Lifetimes.{is_active}
+use Rattle.model.specs.Lifetimes.{is_active, is_ended_by_client}
 use Rattle.model.specs.WindowsOnTape.{is_on, is_any, data_octets, increments, room_on, room_on_connection}
-use Rattle.model.specs.WindowClause.{taken, waiting, kept, kept_in_all, GivesBack, GivesNoMore}
+use Rattle.model.specs.WindowClause.{taken, waiting, kept, kept_in_all, GivesBack, GivesNoMore, GoesBack}
 use Rattle.receiving.specs.Marks.{total}
 use Rattle.receiving.specs.State.{exchange, fresh_of, State, Move, start, held, after, entries_of, tape_of, state_of}
 use Rattle.receiving.specs.State.Move.{Takes, Breaks, Hears, Settles, Gives, Sends, Acts}
@@ -137,6 +137,25 @@ gives_back known t s h paid = record {
       let same = held_kept t s h.counting paid.settled known.setup.passing stream stands in
       less (increments stream (sent t)) (data_octets (is_on stream) (came t)) (kept known.setup.passing stream t) (omega (arith, own, fresh, owed, same));
 }
+
+-- a window with less than that
+under : (given came rest : ℕ) → given + rest < came → sending_window first_window given came <ℤ (pos first_window -ℤ pos rest)
+under given came rest e = omega (arith, ints, e)
+
+-- Where octets are owed they go back.
+pub shared_goes_back : (passing : Passing) (t : List Entry) (s : State) → Receiving passing t s → s.count ≡ 0 → 0 < s.debt → GoesBack passing t
+shared_goes_back passing t s h none some =
+    let before = h.keeping.shared in
+    let all = all_kept t s h.counting none passing h.keeping in
+    inl (under (increments 0 (sent t)) (data_octets is_any (came t)) (kept_in_all passing t) (omega (arith, before, none, all, some)))
+
+pub own_goes_back : (passing : Passing) (t : List Entry) (s : State) (stream : ℕ) → Receiving passing t s → s.count ≡ 0 → is_active stream t ≡ true → is_ended_by_client stream t ≡ false → 0 < (s.row stream).debt → GoesBack passing t
+own_goes_back passing t s stream h none on open_yet some =
+    let stands = h.keeping.streams stream on in
+    let own = stands.own in
+    let fresh = no_fresh s stream none in
+    let same = held_kept t s h.counting none passing stream stands in
+    inr (stream, on, open_yet, under (increments stream (sent t)) (data_octets (is_on stream) (came t)) (kept passing stream t) (omega (arith, own, fresh, same, some)))
 
 -- Behind moves that are allowed it holds.
 pub gives_back_at_rest : (known : Known) (moves : List Move) → AreAllowed known.setup.passing moves → IsPaid (tape_of moves) (state_of known.setup.passing moves) → GivesBack known (tape_of moves)

@@ -1,5 +1,5 @@
 -- Runs that the rule by states alone allows are runs that are allowed by the tape: so windows go back.
-use Rattle.std.proofs.Common.{◌≡◌, ℕ, Bool, true, false, not, ◌==◌, ◌&&◌, ◌||◌, List, [], ◌∷◌, ◌++◌, refl, sym, ap, subst, ◌∙◌, if◌then◌else◌}
+use Rattle.std.proofs.Common.{◌≡◌, ℕ, Bool, true, false, not, ◌==◌, ◌&&◌, ◌||◌, List, [], ◌∷◌, ◌++◌, refl, sym, ap, subst, ◌∙◌, if◌then◌else◌, ◌<◌, ◌⊎◌, inl, inr}
 use Rattle.std.specs.List.{list_any}
 use Rattle.std.proofs.lemmas.Bool.{and_right, eq-eqb}
 use Rattle.model.specs.Tapes.{Noted, Entry, came}
@@ -10,8 +10,8 @@ use Rattle.model.specs.Setup.{Passing}
 use Rattle.model.specs.Decoding.{completed}
 use Rattle.model.specs.Known.{Known}
 use Rattle.model.specs.Openings.{last_stream}
-use Rattle.model.specs.Lifetimes.{opened, opens_by, is_opened, active, is_active}
-use Rattle.model.specs.WindowClause.{GivesBack}
+use Rattle.model.specs.Lifetimes.{is_ended_by_client, opened, opens_by, is_opened, active, is_active}
+use Rattle.model.specs.WindowClause.{GivesBack, GoesBack}
 use Rattle.model.specs.Headline.{HoldsInTurn}
 use Rattle.model.proofs.OpenedLaws.{opens_own, opens_new}
 use Rattle.offering.specs.Sight.{Sight, IsRightOf}
@@ -21,9 +21,9 @@ use Rattle.offering.proofs.Allowing.{first_right}
 use Rattle.receiving.specs.State.{State, Move, entries_of, tape_of, after, state_of, kept_of, with_told}
 use Rattle.receiving.specs.State.Move.{Takes, Breaks, Hears, Settles, Gives, Sends, Acts}
 use Rattle.receiving.specs.Policy.{IsOpened, MayTake, IsOwed, MayGive, MaySend, Holds, AreAllowed, IsPaid, KeepRooms, Gates, AreGates, gates_on, MayDo}
-use Rattle.receiving.specs.Rule.{is_over_by, TakesFrame, OwesAll, GivesAll, SendsOther, MayCome, OwesNothing, Seen, moves_of, sight_of, gates_of, state_with, state_behind, AllMayCome, AreRight}
+use Rattle.receiving.specs.Rule.{is_over_by, TakesFrame, OwesAll, GivesAll, SendsOther, MayCome, OwesNothing, Seen, moves_of, sight_of, gates_of, state_with, state_behind, AllMayCome, AreRight, OwesSome}
 use Rattle.receiving.proofs.Admitting.{come_same}
-use Rattle.receiving.proofs.Resting.{receiving, gives_back_at_rest, gives_no_more}
+use Rattle.receiving.proofs.Resting.{receiving, gives_back_at_rest, gives_no_more, shared_goes_back, own_goes_back, Receiving}
 use Rattle.receiving.proofs.Withholding.{holds_back}
 
 -- a frame opens its stream just where that wasn't opened before and is behind it
@@ -174,6 +174,32 @@ run_gives_back known run may right none =
     gives_back_at_rest known (moves_of run) (all_allowed known known.setup.passing run may right)
     (paid_by known (tape_of (moves_of run)) (state_of known.setup.passing (moves_of run)) (sight_of run) (last_right known run right)
     (subst (OwesNothing (sight_of run)) (state_same known known.setup.passing run may right) none))
+
+-- Where octets are owed they go back.
+pub run_goes_back : (known : Known) (run : List Seen) → AllMayCome known.setup.passing run → AreRight known run → OwesSome (sight_of run) (state_behind known.setup.passing run) → GoesBack known.setup.passing (tape_of (moves_of run))
+run_goes_back known run may right owes = by some.settled some.some
+  where
+    passing : Passing
+    passing = known.setup.passing
+
+    t : List Entry
+    t = tape_of (moves_of run)
+
+    some : OwesSome (sight_of run) (state_of passing (moves_of run))
+    some = subst (OwesSome (sight_of run)) (state_same known passing run may right) owes
+
+    all : Receiving passing t (state_of passing (moves_of run))
+    all = receiving passing (moves_of run) (all_allowed known passing run may right)
+
+    read : IsRightOf known t (sight_of run)
+    read = last_right known run right
+
+    by : (state_of passing (moves_of run)).count ≡ 0
+        → (0 < (state_of passing (moves_of run)).debt) ⊎ ((stream : ℕ) × ((sight_of run).active stream ≡ true) × ((sight_of run).ended stream ≡ false) × (0 < ((state_of passing (moves_of run)).row stream).debt)) → GoesBack passing t
+    by none (inl shared) = shared_goes_back passing t (state_of passing (moves_of run)) all none shared
+    by none (inr own) =
+        let on : is_active own.0 t ≡ true = sym (read.active own.0) ∙ own.1 in
+        own_goes_back passing t (state_of passing (moves_of run)) own.0 all none on (sym (read.ended own.0 on) ∙ own.2) own.3
 
 -- ---- before each thing that comes in
 

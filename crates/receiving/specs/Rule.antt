@@ -1,6 +1,6 @@
 -- Which move may come next by states alone: what is kept here, and what is read of the rest before the move and behind it. It
 -- names no tape.
-use Rattle.std.specs.Prelude.{◌≡◌, ℕ, Bool, true, false, not, ◌&&◌, ◌==◌, List, [], ◌∷◌, map}
+use Rattle.std.specs.Prelude.{◌≡◌, ℕ, ◌<◌, ◌⊎◌, Bool, true, false, not, ◌&&◌, ◌==◌, List, [], ◌∷◌, map}
 use Rattle.model.specs.Frames.{Frame, window_update_kind}
 use Rattle.model.specs.Setup.{Passing}
 use Rattle.model.specs.Tapes.{Noted}
@@ -54,6 +54,12 @@ MayCome passing gates before behind s Settles = Unit {0}
 MayCome passing gates before behind s (Gives noted) = GivesAll before s noted.frame
 MayCome passing gates before behind s (Sends noted over) = SendsOther before behind noted over
 MayCome passing gates before behind s (Acts act) = MayDo passing gates s act
+
+-- Octets are to be given back, by what is read: the last frame's effect is over, and some are owed on the connection, or on an active stream that the
+-- client hasn't ended.
+pub record OwesSome (sight : Sight) (s : State) : Type 0 where
+  pub settled : s.count ≡ 0
+  pub some : (0 < s.debt) ⊎ ((stream : ℕ) × (sight.active stream ≡ true) × (sight.ended stream ≡ false) × (0 < (s.row stream).debt))
 
 -- ---- runs
 

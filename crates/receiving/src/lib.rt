@@ -25,10 +25,10 @@ ghost use Rattle.model.specs.Headline.{HoldsInTurn};
 ghost use Rattle.model.specs.Admission.{is_admitted, room};
 ghost use Rattle.model.specs.Rooms.{IsAdmitted};
 ghost use Rattle.model.specs.Lifetimes.{is_active};
-ghost use Rattle.model.specs.WindowClause.{GivesBack, GivesNoMore, HoldsBack, waiting};
+ghost use Rattle.model.specs.WindowClause.{GivesBack, GoesBack, GivesNoMore, HoldsBack, waiting};
 ghost use Rattle.receiving.specs.State.{Move, tape_of, state_of, held, fresh_of, with_taken, add};
 ghost use Rattle.receiving.specs.Policy.{AreAllowed, IsPaid, KeepRooms, Gates, AreGates, admits, room_in};
-ghost use Rattle.receiving.specs.Rule.{Seen, moves_of, sight_of, state_behind, AllMayCome, AreRight, OwesNothing};
+ghost use Rattle.receiving.specs.Rule.{Seen, moves_of, sight_of, state_behind, AllMayCome, AreRight, OwesNothing, OwesSome};
 ghost use Rattle.receiving.specs.Rooms.{HoldsBody, AreHeld, admits_beside};
 ghost use Rattle.offering.specs.Outbox.{Outbox};
 ghost use Rattle.receiving.specs.Held.{HasOutbox, AreUnpadded, body_in};
@@ -44,11 +44,13 @@ pub fn windows_go_back()
 {}
 
 /// Moves that are allowed by the states alone, where what is read of other concerns is right, are allowed by their tape; and where
-/// nothing is owed each receiving window is as at first, but for what is kept. Something comes in only there: so it holds before each thing
+/// nothing is owed each receiving window is as at first, but for what is kept; where something is owed, octets go back (`some`). Something comes in
+/// only where nothing is: so it holds before each thing
 /// that comes in.
 pub fn states_give_back()
     ensures allowed { (known : Known) (passing : Passing) (run : List Seen) → AllMayCome passing run → AreRight known run → AreAllowed passing (moves_of run) }
     ensures at_rest { (known : Known) (run : List Seen) → AllMayCome known.setup.passing run → AreRight known run → OwesNothing (sight_of run) (state_behind known.setup.passing run) → GivesBack known (tape_of (moves_of run)) }
+    ensures some { (known : Known) (run : List Seen) → AllMayCome known.setup.passing run → AreRight known run → OwesSome (sight_of run) (state_behind known.setup.passing run) → GoesBack known.setup.passing (tape_of (moves_of run)) }
     ensures in_turn { (known : Known) (run : List Seen) → AllMayCome known.setup.passing run → AreRight known run → HoldsInTurn (KeepRooms known) (tape_of (moves_of run)) }
 {}
 

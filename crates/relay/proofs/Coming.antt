@@ -61,9 +61,13 @@ use Rattle.relay.proofs.Marking.{rooms_next, marked_came}
 
 -- ---- what is kept behind a frame
 
--- what isn't kept of the book for the client's frames doesn't matter to them
+-- What isn't kept of the book for the client's frames, of which how many octets are untaken alone matters to them.
+abbrev pub outside_of : ℕ → Outside
+outside_of untaken = record { given = []; untaken = untaken }
+
+-- where that doesn't either
 abbrev pub no_outside : Outside
-no_outside = record { given = []; untaken = 0 }
+no_outside = outside_of 0
 
 -- what is kept for the client's frames, of a book and a table
 abbrev pub inbound_in : Table → Book → Inbound
@@ -81,13 +85,13 @@ inbound_in table book = record {
 }
 
 -- what is kept for them behind a frame, whose header block leaves this table
-abbrev pub inbound_behind : Setup → Inbound → Noted → Table → Inbound
-inbound_behind setup inbound noted next_table =
-    inbound_in (tables.table_after (completed_in inbound.block noted.frame) next_table inbound.table) (book_after setup false (book_of no_outside inbound) (Came noted))
+abbrev pub inbound_behind : Setup → ℕ → Inbound → Noted → Table → Inbound
+inbound_behind setup untaken inbound noted next_table =
+    inbound_in (tables.table_after (completed_in inbound.block noted.frame) next_table inbound.table) (book_after setup false (book_of (outside_of untaken) inbound) (Came noted))
 
 -- the book behind a frame with which the connection goes on
 pub frame_book : (setup : Setup) (outside : Outside) (inbound : Inbound) (noted : Noted) (next_table : Table) → is_fatal (fault_in (told_of outside inbound) (Came noted)) ≡ false
-    → book_after setup false (book_of outside inbound) (Came noted) ≡ book_of outside (inbound_behind setup inbound noted next_table)
+    → book_after setup false (book_of outside inbound) (Came noted) ≡ book_of outside (inbound_behind setup outside.untaken inbound noted next_table)
 frame_book setup outside inbound noted next_table mild = ap (λ b. record (book_after setup false (book_of outside inbound) (Came noted)) { ends = b }) mild
 
 -- what a frame changes of its stream, by the rows before it and behind it
@@ -196,7 +200,7 @@ module _ (setup : Setup) (run : List Move) (kept : View) (s : State) (leads : Le
 
   -- what is kept for the client's frames behind it
   abbrev pub behind : Inbound
-  behind = inbound_behind setup kept.inbound noted next_table
+  behind = inbound_behind setup kept.untaken kept.inbound noted next_table
 
   -- The move may come.
   pub may_come : MayGoOn setup s (Does deed)

@@ -9,15 +9,17 @@ use Rattle.model.specs.Tapes.{Noted, Entry}
 use Rattle.model.specs.Tapes.Entry.{Came, Breached, Happened, Sent, Did}
 use Rattle.model.specs.Decoding.{Partial}
 use Rattle.model.specs.Lifetimes.{ends_by}
-use Rattle.model.specs.ErrorClause.{acks, rst_stream}
+use Rattle.model.specs.ErrorClause.{acks, rst_stream, is_calming}
 use Rattle.conduct.specs.Summary.{Stream as Kept, Summary}
 use Rattle.conduct.specs.Judging.{is_over_in, completed_in, fault_for}
 use Rattle.conduct.specs.Owing.{fault_in, owed_first_in, resets_in, reset_behind_in, owes_in}
 use Rattle.conduct.specs.After.{resets_it, kept_behind}
 use Rattle.conduct.specs.Rows.{find}
 use Rattle.conduct.specs.Rule.{Move}
+use Rattle.conduct.proofs.Few.{on_before}
+use Rattle.conduct.proofs.Farewells.{farewell_calms}
 use Rattle.conduct.specs.Turn.{rest_of, IsDue}
-use Rattle.conduct.specs.Book.{Desk, desk_of, desk_after, summary_in, MayMove, AllMoved}
+use Rattle.conduct.specs.Book.{as_point, Desk, desk_of, desk_after, summary_in, MayMove, AllMoved}
 use Rattle.conduct.proofs.Rows.{over_stays}
 use Rattle.conduct.proofs.Turns.{completes_none}
 use Rattle.policy.specs.Moves.{Move as Does}
@@ -76,8 +78,8 @@ module _ (setup : Setup) (desk : Desk) (before : AreOwed desk) where
     called = owes_in setup fails s (Sent noted)
 
     -- a frame that is owed ends nothing, and leaves what is owed behind it
-    paid : IsDue desk.queue noted → list_any (resets_it id) (rest_of desk.queue ++ called) ≡ true
-    paid due = sooner id (rest_of desk.queue) called (rest (resets_it id frame) refl)
+    paid : (ends crowded : Bool) → IsDue ends crowded desk.queue noted → list_any (resets_it id) (rest_of desk.queue ++ called) ≡ true
+    paid ends crowded due = sooner id (rest_of desk.queue) called (rest (resets_it id frame) refl)
       where
         beside : ((frame.kind == data_kind) ≡ false) × ((frame.kind == headers_kind) ≡ false) × ((frame.kind == continuation_kind) ≡ false)
         beside =
@@ -144,24 +146,30 @@ module _ (setup : Setup) (desk : Desk) (before : AreOwed desk) where
   came : (fails : Bool) (e : Entry) → ((id : ℕ) → (goes fails e id).ended_by_gateway ≡ (was fails e id).ended_by_gateway) → desk.queue ≡ [] → AreOwed (desk_after setup desk (record { entry = e; fails = fails }))
   came fails e same none = of_rows fails e (desk_after setup desk (record { entry = e; fails = fails })).queue (λ id ended on. absurd (none_owed id desk.queue none (before id (sym (same id) ∙ ended) (not_over fails e id on))))
 
-  done : (fails : Bool) (e : Entry) → MayMove desk (record { entry = e; fails = fails }) → AreOwed (desk_after setup desk (record { entry = e; fails = fails }))
-  done fails (Came noted) may = came fails (Came noted) (λ id. refl) may.allowed.turn.nothing
-  done fails (Breached breach) may = came fails (Breached breach) (λ id. refl) may.allowed.turn.nothing
-  done fails (Happened event) may = came fails (Happened event) (λ id. refl) may.allowed.turn.nothing
-  done fails (Did act) may = of_rows fails (Did act) desk.queue (λ id ended on. before id ended (not_over fails (Did act) id on))
-  done fails (Sent noted) may =
-      of_rows fails (Sent noted) (rest_of desk.queue ++ owes_in setup fails s (Sent noted)) (λ id ended on. elim may.allowed.turn [ inl due ↦ paid fails noted id ended on due | inr pass ↦ passed fails noted id ended on pass.nothing ])
+  done : (fails : Bool) (e : Entry) → MayMove desk (record { entry = e; fails = fails }) → (desk_after setup desk (record { entry = e; fails = fails })).book.ends ≡ false → AreOwed (desk_after setup desk (record { entry = e; fails = fails }))
+  done fails (Came noted) may on = came fails (Came noted) (λ id. refl) may.allowed.turn.nothing
+  done fails (Breached breach) may on = came fails (Breached breach) (λ id. refl) may.allowed.turn.nothing
+  done fails (Happened event) may on = came fails (Happened event) (λ id. refl) may.allowed.turn.nothing
+  done fails (Did act) may goes = of_rows fails (Did act) desk.queue (λ id ended on. before id ended (not_over fails (Did act) id on))
+  done fails (Sent noted) may goes =
+      let calmless : is_calming noted.frame ≡ false = (or_parts (is_calming noted.frame) desk.book.ends goes).0 in
+      subst (λ (b : Bool). AreOwed (record { book = (desk_after setup desk (record { entry = Sent noted; fails = fails })).book; queue = if b && not desk.book.ends then [] else rest_of desk.queue ++ owes_in setup fails s (Sent noted) })) (sym calmless)
+      (of_rows fails (Sent noted) (rest_of desk.queue ++ owes_in setup fails s (Sent noted)) (λ id ended on. elim may.allowed.turn [
+        | inl due ↦ paid fails noted id ended on _ _ due
+        | inr (inl pass) ↦ passed fails noted id ended on pass.nothing
+        | inr (inr stands) ↦ absurd (let no : true ≡ false = sym (farewell_calms _ noted.frame stands.farewell) ∙ calmless in cc)
+      ]))
 
-all_owed : (setup : Setup) (moves : List Move) → AllMoved setup moves → AreOwed (desk_of setup moves)
-all_owed setup [] all = λ id ended on. cc
-all_owed setup (m ∷ moves) all = done setup (desk_of setup moves) (all_owed setup moves all.0) m.fails m.entry all.1
+all_owed : (setup : Setup) (moves : List Move) → AllMoved setup moves → (desk_of setup moves).book.ends ≡ false → AreOwed (desk_of setup moves)
+all_owed setup [] all goes = λ id ended on. cc
+all_owed setup (m ∷ moves) all goes = done setup (desk_of setup moves) (all_owed setup moves all.0 (on_before (as_point (desk_of setup moves)) m.entry all.1.allowed.turn goes)) m.fails m.entry all.1 goes
 
 -- Where nothing is owed, an active stream isn't ended by the gateway.
 pub not_half_closed : (setup : Setup) (run : List Does) (s : State) → Stands setup run s → s.desk.queue ≡ [] → (id : ℕ) → is_over_in (find s.desk.book.rows id) ≡ false → (find s.desk.book.rows id).ended_by_gateway ≡ false
 not_half_closed setup run s stands none id on = by (find s.desk.book.rows id).ended_by_gateway refl
   where
     owed : AreOwed s.desk
-    owed = subst (λ (x : State). AreOwed x.desk) stands.is (all_owed setup (conducts run) (all_moved (record { setup = setup; failures = [] }) run stands.allowed))
+    owed = subst (λ (x : State). AreOwed x.desk) stands.is (all_owed setup (conducts run) (all_moved (record { setup = setup; failures = [] }) run stands.allowed) (ap (λ (x : State). x.desk.book.ends) stands.is ∙ stands.goes_on))
 
     by : (b : Bool) → (find s.desk.book.rows id).ended_by_gateway ≡ b → (find s.desk.book.rows id).ended_by_gateway ≡ false
     by false is = is

@@ -17,6 +17,7 @@ use Rattle.request_rules.specs.Heads.{HeadParts, parts_of}
 use Rattle.h1_writer.specs.Sending.{Stage, Sending, SentCounting, SentHolding, SentChunking, HasRoom}
 use Rattle.h1_writer.specs.Sending.Stage.{Whole, Counting, Holding, Chunking}
 use Rattle.h1_writer.proofs.Wholes.{room_to_push}
+use Rattle.model.specs.ErrorClause.{is_calming}
 use Rattle.conduct.specs.Summary.{Stream as Kept, Brief, Summary, brief_of, summary_of}
 use Rattle.conduct.specs.Rule.{known_of, point_of}
 use Rattle.conduct.proofs.Knowing.{known_so}
@@ -72,8 +73,8 @@ went_on setup run (Breaks breach) may on = (or_parts _ _ may.allowed.turn.goes_o
 went_on setup run (Notes event) may on = (or_parts _ _ may.allowed.turn.goes_on).0
 went_on setup run (Hears event stream news whole) may on = (or_parts _ _ may.allowed.turn.goes_on).0
 went_on setup run (Fails event stream whole) may on = (or_parts _ _ may.allowed.turn.goes_on).0
-went_on setup run (Sends noted next) may on = on
-went_on setup run (Goes noted item part next) may on = on
+went_on setup run (Sends noted next) may on = (or_parts (is_calming noted.frame) _ on).1
+went_on setup run (Goes noted item part next) may on = (or_parts (is_calming noted.frame) _ on).1
 went_on setup run (Acts act) may on = on
 
 was_open : (setup : Setup) (run : List Move) (d : Deed) → (desk_of setup (conducts (Does d ∷ run))).book.closed ≡ false → (d ≡ Acts CloseClient → ⊥)

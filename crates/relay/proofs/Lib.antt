@@ -27,3 +27,4 @@ pub mod Waits
 pub mod Halves
 pub mod Heads
 pub mod Starting
+pub mod Crowding

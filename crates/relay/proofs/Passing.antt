@@ -1,11 +1,12 @@
 -- Frames of responses may go out, and the connection goes on.
-use Rattle.std.proofs.Common.{◌≡◌, ◌==◌, Bool, true, false, not, refl, sym, subst, inl, inr}
+use Rattle.std.proofs.Common.{◌≡◌, ◌==◌, ◌&&◌, ◌||◌, Bool, true, false, not, refl, sym, ◌∙◌, ap, subst, inl, inr}
 use Rattle.model.specs.Messages.{Item}
 use Rattle.model.specs.Frames.{window_update_kind}
 use Rattle.model.specs.Setup.{Setup}
 use Rattle.model.specs.Tables.{Table}
 use Rattle.model.specs.Tapes.{Noted}
 use Rattle.conduct.specs.Summary.{Summary}
+use Rattle.conduct.proofs.Farewells.{passing_calmless}
 use Rattle.offering.specs.Outbox.{Part}
 use Rattle.offering.specs.Sight.{sight_in}
 use Rattle.receiving.specs.Rule as windows
@@ -32,11 +33,12 @@ module _ (setup : Setup) (s : State) (behind : Summary) (noted : Noted) (next : 
       let m = p.may in
       record {
         rests = λ e. absurd (let no : false ≡ true = e in cc);
-        conduct = record { allowed = record { open_yet = m.open_yet; turn = inr (record { nothing = m.nothing; goes_on = m.goes_on; passing = m.passing; rightly = m.rightly }) }; fit = m.not_to_open };
+        conduct = record { allowed = record { open_yet = m.open_yet; turn = inr (inl (record { nothing = m.nothing; goes_on = m.goes_on; passing = m.passing; rightly = m.rightly })) }; fit = m.not_to_open };
         offer = (p.goes, record { active = twice_not ((sight_in behind).active noted.frame.id); brings = p.brings });
         in_turn = m.in_turn;
         request = record { open_yet = m.open_yet; may = inl m.nothing_due };
         gains = tt;
+        calls = λ calmly. absurd (let none : true ≡ false = sym calmly ∙ ap (λ b. b && not s.desk.book.ends) (passing_calmless noted m.passing) in cc);
         table = m.table;
         window = other_window m.no_update;
       }
@@ -46,19 +48,20 @@ module _ (setup : Setup) (s : State) (behind : Summary) (noted : Noted) (next : 
       let m = p.may in
       record {
         rests = λ e. absurd (let no : false ≡ true = e in cc);
-        conduct = record { allowed = record { open_yet = m.open_yet; turn = inr (record { nothing = m.nothing; goes_on = m.goes_on; passing = m.passing; rightly = m.rightly }) }; fit = m.not_to_open };
+        conduct = record { allowed = record { open_yet = m.open_yet; turn = inr (inl (record { nothing = m.nothing; goes_on = m.goes_on; passing = m.passing; rightly = m.rightly })) }; fit = m.not_to_open };
         offer = record { no_block = p.goes_on; no_data = p.no_data };
         in_turn = m.in_turn;
         request = record { open_yet = m.open_yet; may = inl m.nothing_due };
         gains = tt;
+        calls = λ calmly. absurd (let none : true ≡ false = sym calmly ∙ ap (λ b. b && not s.desk.book.ends) (passing_calmless noted m.passing) in cc);
         table = m.table;
         window = other_window m.no_update;
       }
 
 -- A part goes, and the connection goes on where it did.
 pub part_goes_on : (setup : Setup) (s : State) (noted : Noted) (item : Item) (part : Part) (next : Table) → s.desk.book.ends ≡ false → PartGoes s noted item part next → MayGoOn setup s (Does (Goes noted item part next))
-part_goes_on setup s noted item part next on p = (on, may_part setup s (told_behind setup s (Goes noted item part next)) noted next item part p)
+part_goes_on setup s noted item part next on p = (ap (λ b. b || s.desk.book.ends) (passing_calmless noted p.may.passing) ∙ on, may_part setup s (told_behind setup s (Goes noted item part next)) noted next item part p)
 
 -- So does a frame of a header block that goes on.
 pub fragment_goes_on : (setup : Setup) (s : State) (noted : Noted) (next : Table) → s.desk.book.ends ≡ false → FragmentGoes s noted next → MayGoOn setup s (Does (Sends noted next))
-fragment_goes_on setup s noted next on p = (on, may_fragment setup s (told_behind setup s (Sends noted next)) noted next p)
+fragment_goes_on setup s noted next on p = (ap (λ b. b || s.desk.book.ends) (passing_calmless noted p.may.passing) ∙ on, may_fragment setup s (told_behind setup s (Sends noted next)) noted next p)

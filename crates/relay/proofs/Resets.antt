@@ -1,5 +1,5 @@
 -- A reset that is owed next is sent, and its stream is over with it.
-use Rattle.std.proofs.Common.{◌≡◌, ℕ, ◌+◌, Bool, true, false, not, ◌&&◌, ◌||◌, ◌==◌, List, [], ◌∷◌, ◌++◌, append-nil, length, Option, Some, None, refl, sym, ◌∙◌, ap, subst, inl, if◌then◌else◌}
+use Rattle.std.proofs.Common.{◌≡◌, ℕ, ◌+◌, Bool, true, false, not, ◌&&◌, ◌||◌, ◌==◌, nat_lt, List, [], ◌∷◌, ◌++◌, append-nil, length, Option, Some, None, refl, sym, ◌∙◌, ap, subst, inl, if◌then◌else◌}
 use Rattle.std.proofs.lemmas.Bool.{and_parts, eqb-true}
 use Rattle.std.specs.Prelude.{is_none}
 use Rattle.std.specs.List.{list_any}
@@ -8,6 +8,7 @@ use Rattle.model.specs.Logs.{Output}
 use Rattle.model.specs.Logs.Output.{ToClient}
 use Rattle.model.specs.Setup.{Setup}
 use Rattle.model.specs.Tapes.{put}
+use Rattle.model.specs.Admission.{most_untaken}
 use Rattle.model.specs.Lifetimes.{may_open}
 use Rattle.model.specs.ErrorClause.{rst_stream}
 use Rattle.model.specs.Openings.{Opened}
@@ -116,7 +117,7 @@ reset_view kept id code = record {
   untaken = kept.untaken + length (spell (rst_stream id code));
 }
 
-module _ (setup : Setup) (kept : View) (pending : Pending) (rest : List Frame) (id code : ℕ) (front : pending.owed ≡ rst_stream id code ∷ rest) (nothing_due : pending.due ≡ Nothing) (known : may_open (ids_of kept.inbound.rows) id ≡ false) (fits : Fits (rst_stream id code)) (outputs : List Output) where
+module _ (setup : Setup) (kept : View) (pending : Pending) (rest : List Frame) (id code : ℕ) (front : pending.owed ≡ rst_stream id code ∷ rest) (nothing_due : pending.due ≡ Nothing) (known : may_open (ids_of kept.inbound.rows) id ≡ false) (fits : Fits (rst_stream id code)) (calm : nat_lt most_untaken kept.untaken ≡ false) (outputs : List Output) where
   abbrev frame : Frame
   frame = rst_stream id code
 
@@ -142,7 +143,7 @@ module _ (setup : Setup) (kept : View) (pending : Pending) (rest : List Frame) (
     -- the desk behind it
     desk : desk_after setup s.desk (conduct_of deed) ≡ record { book = behind_reset book frame; queue = rest }
     desk =
-        sent_desk setup false s.desk (noted_of frame) (behind_reset book frame) [] (reset_leads setup book (noted_of frame) (rows_kept setup run s leads.stands) none_begun refl)
+        sent_desk setup false s.desk (noted_of frame) (behind_reset book frame) [] refl (reset_leads setup book (noted_of frame) (rows_kept setup run s leads.stands) none_begun refl)
         ∙ ap (λ (q : List Frame). record { book = behind_reset book frame; queue = rest_of q ++ [] }) queue
         ∙ ap (λ (q : List Frame). record { book = behind_reset book frame; queue = q }) (append-nil rest)
 
@@ -162,6 +163,8 @@ module _ (setup : Setup) (kept : View) (pending : Pending) (rest : List Frame) (
         };
         front = subst (λ (q : List Frame). q ≡ frame ∷ rest_of q) (sym queue) refl;
         control = refl;
+        owing = refl;
+        calm = ap (λ (b : Book). nat_lt most_untaken b.untaken && true) leads.keeps.book ∙ ap (λ b. b && true) calm;
       }),
     )
 

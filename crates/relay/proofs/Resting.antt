@@ -50,7 +50,7 @@ module _ (setup : Setup) (run : List Move) (kept : View) (s : State) (leads : Le
   flushed =
       subst (λ (u : Summary). IsFlushed (windows_in (sight_in u)) s.offers) (sym told)
       (subst (λ (o : offering.State). IsFlushed (windows_in (sight_in (summary_in book))) o) (sym leads.keeps.offers) (record {
-        none_cut = rest.none_cut;
+        none_cut = λ few. rest.none_cut;
         none_ready = λ few. ready_same (windows_over kept.inbound.rows kept.inbound.first_size kept.inbound.window) (windows_in (sight_in (summary_in book))) kept.offers (λ stream is. refl) ∙ rest.flushed few;
       }))
 

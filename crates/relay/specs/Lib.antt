@@ -11,3 +11,4 @@ pub mod Others
 pub mod Bringing
 pub mod Waits
 pub mod Ways
+pub mod Crowding

@@ -16,11 +16,12 @@ use Rattle.model.specs.Available.{IsIn}
 use Rattle.model.specs.Known.{Known}
 use Rattle.model.specs.Courses.{items}
 use Rattle.model.specs.RequestClause.{IsServed, RequestsHold}
-use Rattle.model.specs.ProgressClause.{AllForwarded, AreClosed, IsDoneWith, ClosesRightly}
+use Rattle.model.specs.ProgressClause.{AllForwarded, AllStreamed, AreClosed, IsDoneWith, ClosesRightly}
 use Rattle.model.specs.ProgressClause.Reason.{ClientClosed}
 use Rattle.model.proofs.Http2Readings.{one_meaning}
 use Rattle.serving.specs.Told.{Told, IsTold}
 use Rattle.serving.specs.State.{Live, live_of, State, Move, entry_of, after, start, Turn, state_of, tape_of}
+use Rattle.serving.specs.State.Due.{Nothing}
 use Rattle.serving.specs.State.Move.{Takes, Begins, Gathers, Passes, Drops, Breaks, Notes, Hears, Fails, Sends, Acts}
 use Rattle.serving.specs.Rule.{is_done, MayAct, IsAllowed, told_of, AreAllowed, Rests}
 use Rattle.serving.specs.Meaning.{IsSo, AreSo, KeepClauses}
@@ -117,6 +118,30 @@ all_stand known [] all so = at_first known
 all_stand known (turn ∷ turns) all so =
     moved known (tape_of turns) (state_of known.setup turns) (told_of turns) turn.told turn.move (all_stand known turns all.0 so.0) (all_told known turns so.0) so.1 so.2 all.1
 
+-- ---- the clauses where nothing is due
+
+module _ (known : Known) (t : List Entry) (s : State) (h : Stands known t s) (nothing : s.due ≡ Nothing) where
+  -- each whole request was forwarded
+  pub all_forwarded : AllForwarded known t
+  all_forwarded stream request place means routed not_cut = elim (h.fares stream) [
+    | inl none ↦ absurd (none.no_request request means)
+    | inr some ↦ (elim some [
+      | inl due ↦ absurd (subst (λ d. IsDueFor d stream) nothing due)
+      | inr g ↦ (let o = g.0 in
+          let here : H2Request (items known o.stream t) request = subst (λ n. H2Request (items known n t) request) (sym g.1.is_given) means in
+          elim (sent_all known t s h nothing o g.1.is_opened).reads [
+            | inl whole ↦ record { o = o; given = g.1; reads = subst (λ r. H1Requests (sent_up o.k t) (forward r ∷ []) []) (one_meaning (items known o.stream t) whole.request request whole.means here) whole.reads }
+            | inr p ↦ absurd (let clash : true ≡ false = sym (p.cut request here).0 ∙ ap (λ n. Rattle.model.specs.ProgressClause.was_cut n t) g.1.is_given ∙ not_cut in cc)
+          ])
+    ])
+  ]
+
+-- Where nothing is due to an upstream, each request was forwarded, and what came of each that is passed on as it comes.
+pub all_passed_on : (known : Known) (turns : List Turn) → AreAllowed known.setup turns → AreSo known turns → (state_of known.setup turns).due ≡ Nothing → AllForwarded known (tape_of turns) × AllStreamed known (tape_of turns)
+all_passed_on known turns all so nothing =
+    let h = all_stand known turns all so in
+    (all_forwarded known (tape_of turns) (state_of known.setup turns) h nothing, all_streamed known (tape_of turns) (state_of known.setup turns) h nothing)
+
 -- ---- the clauses at rest
 
 module _ (known : Known) (t : List Entry) (s : State) (h : Stands known t s) (told : Told) (is_told : IsTold known t told) (rests : Rests told s) where
@@ -134,21 +159,6 @@ module _ (known : Known) (t : List Entry) (s : State) (h : Stands known t s) (to
   -- the clause on requests
   pub requests_hold : RequestsHold known t
   requests_hold = record { numbered = h.numbered; apart = h.apart; in_time = h.in_time; served = served }
-
-  -- each whole request was forwarded
-  pub all_forwarded : AllForwarded known t
-  all_forwarded stream request place means routed not_cut = elim (h.fares stream) [
-    | inl none ↦ absurd (none.no_request request means)
-    | inr some ↦ (elim some [
-      | inl due ↦ absurd (subst (λ d. IsDueFor d stream) rests.nothing due)
-      | inr g ↦ (let o = g.0 in
-          let here : H2Request (items known o.stream t) request = subst (λ n. H2Request (items known n t) request) (sym g.1.is_given) means in
-          elim (sent_all known t s h rests.nothing o g.1.is_opened).reads [
-            | inl whole ↦ record { o = o; given = g.1; reads = subst (λ r. H1Requests (sent_up o.k t) (forward r ∷ []) []) (one_meaning (items known o.stream t) whole.request request whole.means here) whole.reads }
-            | inr p ↦ absurd (let clash : true ≡ false = sym (p.cut request here).0 ∙ ap (λ n. Rattle.model.specs.ProgressClause.was_cut n t) g.1.is_given ∙ not_cut in cc)
-          ])
-    ])
-  ]
 
   -- there is no reason to close one that is open
   pub are_closed : AreClosed known t
@@ -177,7 +187,7 @@ module _ (known : Known) (t : List Entry) (s : State) (h : Stands known t s) (to
   clauses_of : KeepClauses known t
   clauses_of = record {
     requests = requests_hold;
-    forwarded = all_forwarded;
+    forwarded = all_forwarded known t s h rests.nothing;
     streamed = all_streamed known t s h rests.nothing;
     closed = are_closed;
     closes = closes_rightly t h.closes;

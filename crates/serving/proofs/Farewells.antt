@@ -1,4 +1,4 @@
--- A farewell changes no stream: what is due can still be done behind it.
+-- A farewell changes no stream: what is due can still be done behind it, while the connection goes on.
 use Rattle.std.proofs.Common.{◌≡◌, ℕ, Bool, true, false, not, ◌==◌, ◌&&◌, ◌||◌, List, [], ◌∷◌, length, refl, sym, ap, ◌∙◌, subst, inl, inr, if◌then◌else◌}
 use Rattle.std.specs.Prelude.{Option, Some, None, filter, is_none, nat_lt}
 use Rattle.std.specs.List.{list_any}
@@ -12,7 +12,7 @@ use Rattle.model.specs.Lifetimes.{opened, active, is_opened, is_over, is_active,
 use Rattle.model.specs.Messages.{Item, ends_with}
 use Rattle.model.specs.Causes.{Cause}
 use Rattle.model.specs.Courses.{items, cause, first_of_both}
-use Rattle.model.specs.ErrorClause.{calls_for_end, must_end}
+use Rattle.model.specs.ErrorClause.{is_calming, calls_for_end, must_end}
 use Rattle.model.proofs.ItemLaws.{items_stay}
 use Rattle.serving.specs.Told.{is_served}
 use Rattle.serving.specs.State.{Due, State, live_of}
@@ -55,9 +55,11 @@ module _ (t : List Entry) (noted : Noted) (is : noted.frame.kind ≡ goaway_kind
       ap (λ b. if not b then id ∷ filter (λ other. not (is_over other (Sent noted ∷ t))) ids else filter (λ other. not (is_over other (Sent noted ∷ t))) ids) (over_same id)
       ∙ ap (λ xs. if not (is_over id t) then id ∷ xs else xs) (all_same ids)
 
-  -- the connection is to end behind it just where it was
-  pub end_same : (known : Known) → must_end known (Sent noted ∷ t) ≡ must_end known t
-  end_same known = ap (λ (ids : List ℕ). calls_for_end known t || length (opened t) == most_streams && length ids == 0) (all_same (opened t))
+  -- unless it ends the connection, that is to end behind it just where it was
+  pub end_same : (known : Known) → is_calming noted.frame ≡ false → must_end known (Sent noted ∷ t) ≡ must_end known t
+  end_same known mild =
+      ap (λ b. (b || calls_for_end known t) || length (opened t) == most_streams && length (filter (λ id. not (is_over id (Sent noted ∷ t))) (opened t)) == 0) mild
+      ∙ ap (λ (ids : List ℕ). calls_for_end known t || length (opened t) == most_streams && length ids == 0) (all_same (opened t))
 
 -- a frame that is sent is no cause of an answer of the gateway's own
 cause_same : (known : Known) (t : List Entry) (noted : Noted) (stream : ℕ) → cause known stream (Sent noted ∷ t) ≡ cause known stream t
@@ -80,7 +82,7 @@ served_same known t noted is stream =
 -- what is due behind a frame that may be sent can be done
 pub due_sent : (known : Known) (t : List Entry) (noted : Noted) (s u : State) → u.live ≡ s.live → MaySend s noted → IsDue known t s s.due → IsDue known (Sent noted ∷ t) u s.due
 due_sent known t noted s u same_live (inl nothing) due = subst (IsDue known (Sent noted ∷ t) u) (sym nothing) tt
-due_sent known t noted s u same_live (inr is) due = by s.due due
+due_sent known t noted s u same_live (inr (is, mild)) due = by s.due due
   where
     same : (stream : ℕ) → items known stream (Sent noted ∷ t) ≡ items known stream t
     same stream = sym (items_stay known stream t (Sent noted) refl)
@@ -97,7 +99,7 @@ due_sent known t noted s u same_live (inr is) due = by s.due due
       in_time = record {
         active = active_same t noted is stream ∙ it.in_time.active;
         no_cause = cause_same known t noted stream ∙ it.in_time.no_cause;
-        goes_on = end_same t noted is known ∙ it.in_time.goes_on;
+        goes_on = end_same t noted is known mild ∙ it.in_time.goes_on;
         whole = λ whole. ap (λ xs. list_any ends_with xs) (same stream) ∙ it.in_time.whole whole;
       };
     }

@@ -202,7 +202,7 @@ module _ (known : Known) (t : List Entry) (s : State) (h : Stands known t s) (be
   due_served_behind before (Fails k) may is = nothing_served (entry_of (Fails k)) _ s.due may.0.nothing
   due_served_behind before (Sends noted) may is = elim may [
     | inl nothing ↦ nothing_served (Sent noted) _ s.due nothing
-    | inr farewell ↦ still_served noted farewell s.due was
+    | inr farewell ↦ still_served noted farewell.0 s.due was
   ]
   due_served_behind before (Acts (Open k route)) may is = opened_served k route may
   due_served_behind before (Acts (ToUp k octets)) may is = tt

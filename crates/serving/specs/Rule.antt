@@ -10,6 +10,7 @@ use Rattle.model.specs.Logs.Event.{Up, UpEnd}
 use Rattle.model.specs.Logs.Act.{Open, ToUp, Close, CloseClient}
 use Rattle.model.specs.Tapes.{Noted}
 use Rattle.model.specs.Courses.{upstream_of}
+use Rattle.model.specs.ErrorClause.{is_calming}
 use Rattle.request_rules.specs.Heads.{parts_of}
 use Rattle.h1_writer.specs.Sending.{Stage, Sending, Continues}
 use Rattle.serving.specs.Written.{octets_of, trailers_in}
@@ -106,9 +107,9 @@ MayAct told s (ToUp k octets) = s.due ≡ ToSend k octets
 MayAct told s (Close k) = MayClose told s k
 MayAct told s CloseClient = MayShut s
 
--- A frame may be sent: nothing is due, or it is a farewell, which leaves what is due (RFC 9113, section 6.8).
+-- A frame may be sent: nothing is due, or it is a farewell behind which the connection goes on, which leaves what is due (RFC 9113, section 6.8).
 abbrev pub MaySend : State → Noted → Type 0
-MaySend s noted = (s.due ≡ Nothing) ⊎ (noted.frame.kind ≡ goaway_kind)
+MaySend s noted = (s.due ≡ Nothing) ⊎ ((noted.frame.kind ≡ goaway_kind) × (is_calming noted.frame ≡ false))
 
 -- ---- moves
 

@@ -37,7 +37,7 @@ sent_tape : (table : Table) (fs : List Frame) → tape_of (sent_all table fs) �
 sent_tape table [] = refl
 sent_tape table (f ∷ fs) = tape_behind (sent_all table fs) (Does (Sends (noted_of f) table) ∷ []) ∙ ap (λ (t : List Entry). t ++ Sent (noted_of f) ∷ []) (sent_tape table fs)
 
-end_tape : (s : State) (d : Deed) → tape_of (ending_of s d ++ Does d ∷ []) ≡ ending_on_tape s d
+pub end_tape : (s : State) (d : Deed) → tape_of (ending_of s d ++ Does d ∷ []) ≡ ending_on_tape s d
 end_tape s d =
     tape_behind (ending_of s d) (Does d ∷ [])
     ∙ ap (λ (t : List Entry). Did CloseClient ∷ (t ++ entry_of d ∷ [])) (tape_behind (closes_of (by_number s)) (farewell_of s d) ∙ ap (λ (t : List Entry). t ++ tape_of (farewell_of s d)) (closes_tape (by_number s)) ∙ ap (λ (t : List Entry). closed_all (by_number s) ++ t) (sent_tape s.tables.encoding.table (farewell_by s d)))

@@ -6,14 +6,14 @@ use Rattle.model.specs.Setup.{Setup}
 use Rattle.model.specs.Tapes.{Entry, acts, happened, put, CanBeSpelled, ActsFollow}
 use Rattle.model.specs.Tapes.Entry.{Came, Breached, Happened, Sent, Did}
 use Rattle.policy.specs.Moves.{Move}
-use Rattle.policy.specs.State.{tape_of}
+use Rattle.policy.specs.State.{tape_of, State}
 use Rattle.relay.specs.View.{View, Pending}
 use Rattle.relay.specs.Performing.{put_all}
-use Rattle.relay.specs.Bringing.{AreOwn, PerformsOwn, Brings}
+use Rattle.relay.specs.Bringing.{AreOwn, PerformsOwn, Brings, Course, OwnSegment}
 use Rattle.relay.proofs.Performing.{tape_behind, put_behind}
 use Rattle.relay.proofs.Bringing.{own_behind}
 use Rattle.steps.specs.Inputs.{Input, inputs_in, events_in}
-use Rattle.steps.specs.Comings.{StandsAt, FollowsFrom, ComesFrom, OnlyToClient}
+use Rattle.steps.specs.Comings.{StandsAt, FollowsFrom, ComesFrom, OnlyToClient, Comes, Follows}
 
 -- ---- what entries of the gateway's own are
 
@@ -147,9 +147,8 @@ module _ (setup : Setup) where
       record { moves = one.segment.moves; stands = (one.segment.state, one.segment.leads); puts = one.segment.puts; own = one.are_own }
 
   -- one part, and then another
-  pub follows_then : (a b : View) (x y z : Pending) (o p q : List Output) (now : Option View) → PerformsOwn setup a x o b y p → FollowsFrom setup b y p z now q → FollowsFrom setup a x o z now q
-  follows_then a b x y z o p q now first later run s leads =
-      let one = first run s leads in
+  pub then_follows : (run : List Move) (s : State) (b : View) (y z : Pending) (o p q : List Output) (now : Option View) → OwnSegment setup run s o b y p → FollowsFrom setup b y p z now q → Follows setup run o z now q
+  then_follows run s b y z o p q now one later =
       let two = later (one.segment.moves ++ run) one.segment.state one.segment.leads in
       record {
         moves = two.moves ++ one.segment.moves;
@@ -157,6 +156,9 @@ module _ (setup : Setup) where
         puts = puts_from two.moves one.segment.moves o p q one.segment.puts two.puts;
         own = subst AreOwn (sym (tape_behind two.moves one.segment.moves)) (own_behind (tape_of two.moves) (tape_of one.segment.moves) two.own one.are_own);
       }
+
+  pub follows_then : (a b : View) (x y z : Pending) (o p q : List Output) (now : Option View) → PerformsOwn setup a x o b y p → FollowsFrom setup b y p z now q → FollowsFrom setup a x o z now q
+  follows_then a b x y z o p q now first later run s leads = then_follows run s b y z o p q now (first run s leads) later
 
   -- what an entry that comes in is
   abbrev pub IsInput : Entry → Input → Type 0
@@ -197,10 +199,9 @@ module _ (setup : Setup) where
   pub follow_so : (t own : List Entry) (entry : Entry) (input : Input) → IsInput entry input → t ≡ own ++ entry ∷ [] → AreOwn own → ActsFollow t
   follow_so t own entry input is begins are = subst ActsFollow (sym begins) (own_follow own (entry ∷ []) are (one_follows entry input is))
 
-  -- what comes in, and then what follows
-  pub comes_then : (a b : View) (x y z : Pending) (o p q : List Output) (entry : Entry) (input : Input) (now : Option View) → IsInput entry input → Brings setup a x o entry b y p → FollowsFrom setup b y p z now q → ComesFrom setup a x o (input ∷ []) z now q
-  comes_then a b x y z o p q entry input now is first later run s leads =
-      let one = first run s leads in
+  -- what came in, and then what follows
+  pub course_then : (run : List Move) (s : State) (b : View) (y z : Pending) (o p q : List Output) (entry : Entry) (input : Input) (now : Option View) → IsInput entry input → Course setup run s o entry b y p → FollowsFrom setup b y p z now q → Comes setup run o (input ∷ []) z now q
+  course_then run s b y z o p q entry input now is one later =
       let two = later (one.segment.moves ++ run) one.segment.state one.segment.leads in
       let tape : tape_of (two.moves ++ one.segment.moves) ≡ (tape_of two.moves ++ one.own) ++ entry ∷ [] =
       tape_behind two.moves one.segment.moves ∙ ap (λ (t : List Entry). tape_of two.moves ++ t) one.begins ∙ sym (append_assoc (tape_of two.moves) one.own (entry ∷ [])) in
@@ -213,6 +214,9 @@ module _ (setup : Setup) where
         spelled = spelled_so (tape_of (two.moves ++ one.segment.moves)) (tape_of two.moves ++ one.own) entry input is tape own;
         acts_follow = follow_so (tape_of (two.moves ++ one.segment.moves)) (tape_of two.moves ++ one.own) entry input is tape own;
       }
+
+  pub comes_then : (a b : View) (x y z : Pending) (o p q : List Output) (entry : Entry) (input : Input) (now : Option View) → IsInput entry input → Brings setup a x o entry b y p → FollowsFrom setup b y p z now q → ComesFrom setup a x o (input ∷ []) z now q
+  comes_then a b x y z o p q entry input now is first later run s leads = course_then run s b y z o p q entry input now is (first run s leads) later
 
   -- what comes in, and then what comes in behind it, no event
   pub comes_both : (a b : View) (x y z : Pending) (o p q : List Output) (first last : List Input) (now : Option View) → events_in last ≡ [] → ComesFrom setup a x o first y (Some b) p → ComesFrom setup b y p last z now q → ComesFrom setup a x o (last ++ first) z now q

@@ -1,8 +1,9 @@
 -- A frame of the client comes in, and what it calls for follows; or it is an error of the connection, which ends.
-use Rattle.std.proofs.Common.{◌≡◌, ℕ, ◌<◌, ◌⊎◌, ◌==◌, true, List, [], ◌∷◌, Option, Some, None, inl, inr, refl, sym, subst}
+use Rattle.std.proofs.Common.{◌≡◌, ℕ, ◌<◌, ◌⊎◌, ◌==◌, true, false, List, [], ◌∷◌, Option, Some, None, inl, inr, refl, sym, subst}
 use Rattle.std.specs.List.{list_any}
+use Rattle.std.specs.Prelude.{is_some}
 use Rattle.model.specs.Errors.Fault.{Connection}
-use Rattle.model.specs.Frames.{Frame}
+use Rattle.model.specs.Frames.{Frame, goaway, no_error}
 use Rattle.model.specs.Logs.{Output}
 use Rattle.model.specs.Setup.{Setup}
 use Rattle.model.specs.Tables.{Table}
@@ -53,6 +54,11 @@ numbered_with a b new only few numbered id kept =
       | inr is ↦ subst (λ n. n < 2147483648) is few
     ]
 
+-- a farewell that is owed is a frame that is owed
+pub farewell_owed : (last : Option ℕ) → is_some last ≡ true → (next : Frame) × (rest : List Frame) × (farewell_frames last ≡ next ∷ rest)
+farewell_owed None some = absurd (let no : false ≡ true = some in cc)
+farewell_owed (Some last) some = (goaway last no_error, [], refl)
+
 module _ (setup : Setup) where
   -- ---- what was answered
 
@@ -96,13 +102,13 @@ module _ (setup : Setup) where
 
   -- ---- it is an error of the connection
 
-  pub fatal_comes : (before after : View) (o p q : List Output) (frame : Frame) (note : Note) (next : State → Table) (code : ℕ) → IsAtRest before → p ≡ o → after.upstreams ≡ before.upstreams → after.inbound.rows ≡ before.inbound.rows
+  pub fatal_comes : (before after : View) (o p q : List Output) (frame : Frame) (note : Note) (next : State → Table) (code : ℕ) → IsAtRest before → p ≡ o → after.upstreams ≡ before.upstreams → after.inbound.rows ≡ before.inbound.rows → after.untaken ≡ before.untaken
       → ((run : List Move) (s : State) → Leads setup run before square s → fault_in (told_by s) (Came (record { frame = frame; note = note })) ≡ Some (Connection code))
       → ((run : List Move) (s : State) → Leads setup run before square s → IsFatal s (record { frame = frame; note = note }) (next s))
-      → ((run : List Move) (s : State) (kept : View) (d : Deed) → kept.upstreams ≡ after.upstreams → kept.inbound.rows ≡ after.inbound.rows → Leads setup run kept square s → IsBy s (ending.Frame code) d → q ≡ put_all p (ending_on_tape s d))
+      → ((run : List Move) (s : State) (kept : View) (d : Deed) → kept.upstreams ≡ after.upstreams → kept.inbound.rows ≡ after.inbound.rows → kept.untaken ≡ after.untaken → Leads setup run kept square s → IsBy s (ending.Frame code) d → q ≡ put_all p (ending_on_tape s d))
       → ComesFrom setup before square o (OfFrame frame ∷ []) square None q
-  fatal_comes before after o p q frame note next code rest nothing upstreams rows fault fatal ends =
+  fatal_comes before after o p q frame note next code rest nothing upstreams rows untaken fault fatal ends =
       let noted : Noted = record { frame = frame; note = note } in
       ends_come setup before (ending.Frame code) (OfFrame frame) o q rest
       (λ run s leads. (Takes noted (next s) Nothing, (noted, next s, refl, fault run s leads, fatal run s leads), refl))
-      (λ run s d leads by. subst (λ (x : List Output). q ≡ put_all x (ending_on_tape s d)) nothing (ends run s before d (sym upstreams) (sym rows) leads by))
+      (λ run s d leads by. subst (λ (x : List Output). q ≡ put_all x (ending_on_tape s d)) nothing (ends run s before d (sym upstreams) (sym rows) (sym untaken) leads by))

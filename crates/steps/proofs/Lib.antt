@@ -1,6 +1,7 @@
 pub mod Following
 pub mod Admitting
 pub mod Ends
+pub mod Calming
 pub mod Results
 pub mod Stays
 mod Took

@@ -1,6 +1,7 @@
 mod Lists
 mod Streams
 mod Before
+mod Lasts
 mod Cases
 mod Gains
 mod Passed

@@ -3,6 +3,7 @@ pub mod Comings
 pub mod Admission
 pub mod Leaving
 pub mod Resting
+pub mod Stopping
 pub mod Closings
 pub mod paying
 pub mod plain_frames

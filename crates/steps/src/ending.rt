@@ -1,7 +1,8 @@
 //! The end of a connection to a client: GOAWAY where the client made an error of the connection (RFC 9113, section 5.4.1), a close for each connection
 //! to an upstream, and the client's own.
 //!
-//! [`end`] is for what comes in and ends the connection, [`shut`] for a connection whose streams were all opened and are over.
+//! [`end`] is for what comes in and ends the connection, [`shut`] for a connection whose streams were all opened and are over, and `calm` for one that
+//! ends in place of a frame, since too many octets for the client are untaken.
 
 ghost use Rattle.std.specs.Prelude.{List};
 ghost use Rattle.model.specs.Setup.{Setup};
@@ -16,6 +17,7 @@ ghost use Rattle.steps.specs.declared.ending.reason.Ending.{Ending as Reason};
 mod closing;
 mod reason;
 
+pub(crate) use crate::ending::closing::calm;
 pub use crate::ending::closing::{end, shut};
 pub use crate::ending::reason::Ending;
 

@@ -1,6 +1,6 @@
 //! Events of upstreams, and what the sides took.
 
-ghost use Rattle.std.specs.Prelude.{◌≡◌, [], ◌∷◌, true, IfOk};
+ghost use Rattle.std.specs.Prelude.{◌≡◌, [], ◌∷◌, true, None, IfErr, IfOk};
 ghost use Rattle.model.specs.Setup.{Setup};
 ghost use Rattle.model.specs.Logs.Event.{ClientTook, Up, UpEnd, UpFailed, UpTook};
 ghost use Rattle.relay.specs.View.{square};
@@ -9,15 +9,38 @@ ghost use Rattle.steps.specs.Admission.{admits};
 ghost use Rattle.steps.specs.Comings.{ComesFrom};
 ghost use Rattle.steps.specs.Inputs.Input.{OfEvent};
 ghost use Rattle.steps.specs.Resting.{now_of, IsSettled, RestsSo};
+ghost use Rattle.steps.specs.Stopping.{IfOver};
 
 use crate::exchanges;
 use crate::exchanges::stream_of;
 use crate::flushing::HIGH_WATER;
 use crate::paying::{note_client_took, note_up_took, return_dropped, return_taken};
-use crate::resting::{Went, rest, rest_behind};
+use crate::resting::{Went, conclude, rest, rest_behind};
+use crate::stop::Stop;
 use outputs::Outputs;
 use relay::Rooms;
 use std::alloc::{AllocError, Global};
+
+/// Octets of an open upstream, to where the gateway rests. An `Err` says that memory was refused, or that the connection was ended in place of a frame.
+fn hear_to_rest(
+    alloc: Global,
+    rooms: &mut Rooms,
+    k: u32,
+    octets: &[u8],
+    out: &mut Outputs,
+) -> Result<Went, Stop>
+    requires admitted { admits rooms.old (Up k octets.now) ≡ true }
+    requires settled { IsSettled rooms.old }
+    requires reached { (setup : Setup) × Reached setup rooms.old square }
+    ensures comes { IfOk result (λ went. (setup : Setup) → ComesFrom setup rooms.old square out.old (OfEvent (Up k octets.now) ∷ []) square (now_of went rooms.new) out.new) }
+    ensures rests { IfOk result (λ went. RestsSo went rooms.new) }
+    ensures over { IfErr result (λ stop. IfOver stop ((setup : Setup) → ComesFrom setup rooms.old square out.old (OfEvent (Up k octets.now) ∷ []) square None out.new)) }
+{
+    let stream = stream_of(rooms, k);
+    let back = exchanges::hear(alloc, rooms, k, octets, out)?;
+    return_dropped(rooms, back, out)?;
+    rest_behind(alloc, rooms, stream, out)
+}
 
 /// Takes octets of an open upstream, at most 65,536. An `Err` says that memory was refused; then what is kept and the outputs are of no use any more.
 pub fn hear(
@@ -33,8 +56,21 @@ pub fn hear(
     ensures comes { IfOk result (λ went. (setup : Setup) → ComesFrom setup rooms.old square out.old (OfEvent (Up k octets.now) ∷ []) square (now_of went rooms.new) out.new) }
     ensures rests { IfOk result (λ went. RestsSo went rooms.new) }
 {
+    conclude(hear_to_rest(alloc, rooms, k, octets, out))
+}
+
+/// The end of an open upstream's connection, to where the gateway rests. An `Err` says that memory was refused, or that the connection to the client was ended
+/// in place of a frame.
+fn end_to_rest(alloc: Global, rooms: &mut Rooms, k: u32, out: &mut Outputs) -> Result<Went, Stop>
+    requires admitted { admits rooms.old (UpEnd k) ≡ true }
+    requires settled { IsSettled rooms.old }
+    requires reached { (setup : Setup) × Reached setup rooms.old square }
+    ensures comes { IfOk result (λ went. (setup : Setup) → ComesFrom setup rooms.old square out.old (OfEvent (UpEnd k) ∷ []) square (now_of went rooms.new) out.new) }
+    ensures rests { IfOk result (λ went. RestsSo went rooms.new) }
+    ensures over { IfErr result (λ stop. IfOver stop ((setup : Setup) → ComesFrom setup rooms.old square out.old (OfEvent (UpEnd k) ∷ []) square None out.new)) }
+{
     let stream = stream_of(rooms, k);
-    let back = exchanges::hear(alloc, rooms, k, octets, out)?;
+    let back = exchanges::end(alloc, rooms, k, out)?;
     return_dropped(rooms, back, out)?;
     rest_behind(alloc, rooms, stream, out)
 }
@@ -47,8 +83,21 @@ pub fn end(alloc: Global, rooms: &mut Rooms, k: u32, out: &mut Outputs) -> Resul
     ensures comes { IfOk result (λ went. (setup : Setup) → ComesFrom setup rooms.old square out.old (OfEvent (UpEnd k) ∷ []) square (now_of went rooms.new) out.new) }
     ensures rests { IfOk result (λ went. RestsSo went rooms.new) }
 {
+    conclude(end_to_rest(alloc, rooms, k, out))
+}
+
+/// The failure of an open upstream's connection, to where the gateway rests. An `Err` says that memory was refused, or that the connection to the client was
+/// ended in place of a frame.
+fn fail_to_rest(alloc: Global, rooms: &mut Rooms, k: u32, out: &mut Outputs) -> Result<Went, Stop>
+    requires admitted { admits rooms.old (UpFailed k) ≡ true }
+    requires settled { IsSettled rooms.old }
+    requires reached { (setup : Setup) × Reached setup rooms.old square }
+    ensures comes { IfOk result (λ went. (setup : Setup) → ComesFrom setup rooms.old square out.old (OfEvent (UpFailed k) ∷ []) square (now_of went rooms.new) out.new) }
+    ensures rests { IfOk result (λ went. RestsSo went rooms.new) }
+    ensures over { IfErr result (λ stop. IfOver stop ((setup : Setup) → ComesFrom setup rooms.old square out.old (OfEvent (UpFailed k) ∷ []) square None out.new)) }
+{
     let stream = stream_of(rooms, k);
-    let back = exchanges::end(alloc, rooms, k, out)?;
+    let back = exchanges::fail(rooms, k, out)?;
     return_dropped(rooms, back, out)?;
     rest_behind(alloc, rooms, stream, out)
 }
@@ -62,10 +111,29 @@ pub fn fail(alloc: Global, rooms: &mut Rooms, k: u32, out: &mut Outputs) -> Resu
     ensures comes { IfOk result (λ went. (setup : Setup) → ComesFrom setup rooms.old square out.old (OfEvent (UpFailed k) ∷ []) square (now_of went rooms.new) out.new) }
     ensures rests { IfOk result (λ went. RestsSo went rooms.new) }
 {
-    let stream = stream_of(rooms, k);
-    let back = exchanges::fail(rooms, k, out)?;
-    return_dropped(rooms, back, out)?;
-    rest_behind(alloc, rooms, stream, out)
+    conclude(fail_to_rest(alloc, rooms, k, out))
+}
+
+/// What the client's side took, to where the gateway rests. An `Err` says that memory was refused, or that the connection was ended in place of a frame.
+fn give_to_rest(
+    alloc: Global,
+    rooms: &mut Rooms,
+    count: u64,
+    out: &mut Outputs,
+) -> Result<Went, Stop>
+    requires admitted { admits rooms.old (ClientTook count) ≡ true }
+    requires settled { IsSettled rooms.old }
+    requires reached { (setup : Setup) × Reached setup rooms.old square }
+    ensures comes { IfOk result (λ went. (setup : Setup) → ComesFrom setup rooms.old square out.old (OfEvent (ClientTook count) ∷ []) square (now_of went rooms.new) out.new) }
+    ensures rests { IfOk result (λ went. RestsSo went rooms.new) }
+    ensures over { IfErr result (λ stop. IfOver stop ((setup : Setup) → ComesFrom setup rooms.old square out.old (OfEvent (ClientTook count) ∷ []) square None out.new)) }
+{
+    let were_few = rooms.untaken < HIGH_WATER;
+    note_client_took(rooms, count);
+    if were_few {
+        return Ok(Went::On);
+    }
+    rest(alloc, rooms, out)
 }
 
 /// Notes that the client's side took so many octets; responses may go on then, where too many were untaken before. An `Err` says that memory was refused; then what is kept and the
@@ -82,11 +150,31 @@ pub fn client_took(
     ensures comes { IfOk result (λ went. (setup : Setup) → ComesFrom setup rooms.old square out.old (OfEvent (ClientTook count) ∷ []) square (now_of went rooms.new) out.new) }
     ensures rests { IfOk result (λ went. RestsSo went rooms.new) }
 {
-    let were_few = rooms.untaken < HIGH_WATER;
-    note_client_took(rooms, count);
-    if were_few {
+    conclude(give_to_rest(alloc, rooms, count, out))
+}
+
+/// What an open upstream's side took, to where the gateway rests. An `Err` says that memory was refused, or that the connection to the client was ended in place
+/// of a frame.
+fn return_to_rest(
+    alloc: Global,
+    rooms: &mut Rooms,
+    k: u32,
+    count: u64,
+    out: &mut Outputs,
+) -> Result<Went, Stop>
+    requires admitted { admits rooms.old (UpTook k count) ≡ true }
+    requires settled { IsSettled rooms.old }
+    requires reached { (setup : Setup) × Reached setup rooms.old square }
+    ensures comes { IfOk result (λ went. (setup : Setup) → ComesFrom setup rooms.old square out.old (OfEvent (UpTook k count) ∷ []) square (now_of went rooms.new) out.new) }
+    ensures rests { IfOk result (λ went. RestsSo went rooms.new) }
+    ensures over { IfErr result (λ stop. IfOver stop ((setup : Setup) → ComesFrom setup rooms.old square out.old (OfEvent (UpTook k count) ∷ []) square None out.new)) }
+{
+    let stream = stream_of(rooms, k);
+    let back = note_up_took(rooms, k, stream, count);
+    if back == 0 {
         return Ok(Went::On);
     }
+    return_taken(rooms, stream, back, out)?;
     rest(alloc, rooms, out)
 }
 
@@ -105,11 +193,5 @@ pub fn up_took(
     ensures comes { IfOk result (λ went. (setup : Setup) → ComesFrom setup rooms.old square out.old (OfEvent (UpTook k count) ∷ []) square (now_of went rooms.new) out.new) }
     ensures rests { IfOk result (λ went. RestsSo went rooms.new) }
 {
-    let stream = stream_of(rooms, k);
-    let back = note_up_took(rooms, k, stream, count);
-    if back == 0 {
-        return Ok(Went::On);
-    }
-    return_taken(rooms, stream, back, out)?;
-    rest(alloc, rooms, out)
+    conclude(return_to_rest(alloc, rooms, k, count, out))
 }

@@ -7,6 +7,7 @@
 #![tactic(auto)]
 
 pub mod block_frames;
+mod crowding;
 pub mod ending;
 pub mod exchanges;
 pub mod flushing;
@@ -15,9 +16,11 @@ mod leaving;
 pub mod paying;
 pub mod plain_frames;
 mod resting;
+mod stop;
 mod taking;
 
 pub use crate::hearing::{client_took, end, fail, hear, up_took};
 pub use crate::leaving::{Breach, leave, leave_at};
 pub use crate::resting::Went;
+pub use crate::stop::Stop;
 pub use crate::taking::{Service, take_frame};

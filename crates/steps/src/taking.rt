@@ -1,6 +1,7 @@
 //! A frame of the client, taken whole.
 
-ghost use Rattle.std.specs.Prelude.{◌≡◌, ◌≤◌, ◌<◌, ◌==◌, ◌||◌, ℕ, List, [], ◌∷◌, length, true, false, IfOk, OnOk};
+ghost use Rattle.std.specs.Prelude.{◌≡◌, ◌≤◌, ◌<◌, ◌==◌, ◌||◌, ℕ, List, [], ◌∷◌, length, true, false, None, is_some, IfErr, IfOk, OnOk};
+ghost use Rattle.model.specs.Frames.{Frame};
 ghost use Rattle.model.specs.Setup.{Setup};
 ghost use Rattle.model.specs.WindowsOnTape.{is_any, data_length};
 ghost use Rattle.frames.specs.Views.{frame_of};
@@ -18,13 +19,15 @@ ghost use Rattle.steps.specs.Closings.{NoneDoneBut};
 ghost use Rattle.steps.specs.Comings.{FollowsFrom, ComesFrom};
 ghost use Rattle.steps.specs.Inputs.Input.{OfFrame};
 ghost use Rattle.steps.specs.Resting.{now_of, IsSettled, RestsSo, IsPassedBy, IsServed};
+ghost use Rattle.steps.specs.Stopping.{IfOver, IsCalmed, EndsFrom};
 
 use crate::block_frames::{BlockTaken, take_block};
 use crate::ending::{Ending, end, shut};
 use crate::exchanges::{open, send};
 use crate::paying::{Control, pay, return_dropped, settle};
 use crate::plain_frames::{Taken, take_plain};
-use crate::resting::{Went, rest_behind};
+use crate::resting::{Went, conclude, rest_behind};
+use crate::stop::Stop;
 use answers::Passing;
 use frames::View;
 use judgement::Terms;
@@ -104,7 +107,7 @@ fn follow(
     octets: u32,
     dropped: u64,
     out: &mut Outputs,
-) -> Result<Went, AllocError>
+) -> Result<Went, Stop>
     requires reached { (setup : Setup) × Reached setup rooms.old (record square { fresh = octets; shared = dropped }) }
     requires last { id ≡ rooms.old.inbound.last }
     requires few { octets ≤ 16384 }
@@ -113,6 +116,7 @@ fn follow(
     requires numbered { (id : ℕ) → has rooms.old.inbound.rows id ≡ true → id < 2147483648 }
     ensures follows { IfOk result (λ went. (setup : Setup) → FollowsFrom setup rooms.old (record square { fresh = octets; shared = dropped }) out.old square (now_of went rooms.new) out.new) }
     ensures rests { IfOk result (λ went. RestsSo went rooms.new) }
+    ensures over { IfErr result (λ stop. IfOver stop ((setup : Setup) → EndsFrom setup rooms.old (record square { fresh = octets; shared = dropped }) out.old out.new)) }
 {
     if rooms.inbound.is_spent() {
         shut(rooms, out)?;
@@ -129,7 +133,7 @@ fn take_other(
     view: View<'_>,
     service: Service<'_>,
     out: &mut Outputs,
-) -> Result<Went, AllocError>
+) -> Result<Went, Stop>
     requires short { length view.payload.now ≤ 16384 }
     requires bounded { service.terms.max_body ≤ 1073741824 }
     requires other { has_fragment (frame_of view) ≡ false }
@@ -138,6 +142,7 @@ fn take_other(
     requires reached { (setup : Setup) × IsServed setup service × Reached setup rooms.old square }
     ensures comes { IfOk result (λ went. (setup : Setup) → IsServed setup service.entry → ComesFrom setup rooms.old square out.old (OfFrame (frame_of view.entry) ∷ []) square (now_of went rooms.new) out.new) }
     ensures rests { IfOk result (λ went. RestsSo went rooms.new) }
+    ensures over { IfErr result (λ stop. IfOver stop ((setup : Setup) → IsServed setup service.entry → ComesFrom setup rooms.old square out.old (OfFrame (frame_of view.entry) ∷ []) square None out.new)) }
 {
     match take_plain(rooms, view, service.terms.max_body, out)? {
         Taken::Fatal(code) => {
@@ -158,7 +163,7 @@ fn take_fragment(
     view: View<'_>,
     service: Service<'_>,
     out: &mut Outputs,
-) -> Result<Went, AllocError>
+) -> Result<Went, Stop>
     requires short { length view.payload.now ≤ 16384 }
     requires few { length service.terms.routes.now ≤ u32.MAX }
     requires bounded { service.terms.max_body ≤ 1073741824 }
@@ -168,6 +173,7 @@ fn take_fragment(
     requires reached { (setup : Setup) × IsServed setup service × Reached setup rooms.old square }
     ensures comes { IfOk result (λ went. (setup : Setup) → IsServed setup service.entry → ComesFrom setup rooms.old square out.old (OfFrame (frame_of view.entry) ∷ []) square (now_of went rooms.new) out.new) }
     ensures rests { IfOk result (λ went. RestsSo went rooms.new) }
+    ensures over { IfErr result (λ stop. IfOver stop ((setup : Setup) → IsServed setup service.entry → ComesFrom setup rooms.old square out.old (OfFrame (frame_of view.entry) ∷ []) square None out.new)) }
 {
     let at_once = is_streaming(service.passing);
     match take_block(rooms, view, service.terms, at_once, out)? {
@@ -193,10 +199,11 @@ pub(crate) fn say_farewell(
     rooms: &mut Rooms,
     last: Option<u32>,
     out: &mut Outputs,
-) -> Result<(), AllocError>
+) -> Result<(), Stop>
     ensures performs { OnOk result ((setup : Setup) (due : serving.Due) (back : ℕ) → PerformsOwn setup rooms.old (record square { owed = farewell_frames last; due = due; shared = back }) out.old rooms.new (record square { due = due; shared = back }) out.new) }
     ensures stays { OnOk result ((rooms.new.inbound ≡ rooms.old.inbound) × (rooms.new.offers ≡ rooms.old.offers)) }
     ensures upstreams { OnOk result (rooms.new.upstreams ≡ rooms.old.upstreams) }
+    ensures over { IfErr result (λ stop. IfOver stop ((is_some last ≡ true) × IsCalmed rooms.old out.old out.new)) }
 {
     match last {
         Some(last) => {
@@ -229,8 +236,8 @@ pub fn take_frame(
     ensures rests { IfOk result (λ went. RestsSo went rooms.new) }
 {
     if has_fragment(view) {
-        take_fragment(alloc, rooms, view, service, out)
+        conclude(take_fragment(alloc, rooms, view, service, out))
     } else {
-        take_other(alloc, rooms, view, service, out)
+        conclude(take_other(alloc, rooms, view, service, out))
     }
 }

@@ -1,7 +1,7 @@
 -- An error of the connection before a block is read ends the connection, so nothing comes behind a block that wasn't read.
 use Rattle.std.proofs.Common.{◌≡◌, Bool, true, false, not, ◌&&◌, ◌||◌, List, [], ◌∷◌, refl, sym, ◌∙◌, ap}
 use Rattle.std.specs.Prelude.{is_some}
-use Rattle.std.proofs.lemmas.Bool.{or_parts}
+use Rattle.std.proofs.lemmas.Bool.{or_parts, or_right}
 use Rattle.model.specs.Setup.{Policy}
 use Rattle.model.specs.Tapes.{Noted, Entry}
 use Rattle.model.specs.Tapes.Entry.{Came, Breached, Happened, Sent, Did}
@@ -9,7 +9,7 @@ use Rattle.model.specs.Decoding.{is_read}
 use Rattle.model.specs.Errors.{first_of}
 use Rattle.model.specs.ErrorTable.{rows_before_block}
 use Rattle.model.specs.Known.{Known}
-use Rattle.model.specs.ErrorClause.{calls_for_end, must_end}
+use Rattle.model.specs.ErrorClause.{is_calming, calls_for_end, must_end}
 use Rattle.model.specs.Lifetimes.{is_spent}
 use Rattle.conduct.specs.Turn.{queue_of, MayStand, Conducted}
 use Rattle.conduct.specs.Summary.{summary_of}
@@ -57,7 +57,7 @@ stops_step known t s (Takes noted verdict next) j on kept h =
     }
 stops_step known t s (Breaks breach) j on kept h = record { ends = λ unread same. refl }
 stops_step known t s (Hears event) j on kept h = record { ends = λ unread same. absurd (let clash : true ≡ false = sym unread ∙ all_read_by known t s h on same in cc) }
-stops_step known t s (Sends noted before next) j on kept h = record { ends = h.ends }
+stops_step known t s (Sends noted before next) j on kept h = record { ends = λ unread same. or_right (is_calming noted.frame) (calls_for_end known t) (h.ends unread same) }
 stops_step known t s (Acts act) j on kept h = record { ends = h.ends }
 
 -- ---- the rule, where conduct's holds

@@ -109,14 +109,14 @@ conducted = (
   (
     (
       (
-        (tt, record { open_yet = refl; turn = inl (record { front = refl; control = refl }) }),
+        (tt, record { open_yet = refl; turn = inl (record { front = refl; control = refl; owing = refl; calm = refl }) }),
         record { open_yet = refl; turn = record { nothing = refl; none_begun = refl; goes_on = refl } },
       ),
-      record { open_yet = refl; turn = inl (record { front = refl; control = refl }) },
+      record { open_yet = refl; turn = inl (record { front = refl; control = refl; owing = refl; calm = refl }) },
     ),
     record { open_yet = refl; turn = record { nothing = refl; none_begun = refl; goes_on = refl } },
   ),
-  record { open_yet = refl; turn = inr (record { nothing = refl; goes_on = refl; passing = refl; rightly = refl }) },
+  record { open_yet = refl; turn = inr (inl (record { nothing = refl; goes_on = refl; passing = refl; rightly = refl })) },
 )
 
 -- ---- by the tables

@@ -14,3 +14,6 @@ returns-clause-frame c = frames.frame_leads
 
 pub returns-clause-answered : goal.returns-clause-answered
 returns-clause-answered c = answers.answered
+
+pub returns-clause-calming : goal.returns-clause-calming
+returns-clause-calming c = ending.calming_leads

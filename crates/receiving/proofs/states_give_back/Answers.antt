@@ -9,3 +9,6 @@ returns-clause-at_rest c = ruling.run_gives_back
 
 pub returns-clause-in_turn : goal.returns-clause-in_turn
 returns-clause-in_turn c = ruling.rooms_in_turn
+
+pub returns-clause-some : goal.returns-clause-some
+returns-clause-some c = ruling.run_goes_back

@@ -129,7 +129,7 @@ fn told_any(
         routes,
         max_body: MOST,
     };
-    let judged = connection.judge_frame(view, terms)?;
+    let judged = connection.judge_frame(view, false, terms)?;
     Ok(told_of_any(judged))
 }
 
@@ -149,7 +149,7 @@ fn told_of_fragment(
         routes,
         max_body: MOST,
     };
-    let judged = connection.judge_fragment(view, terms)?;
+    let judged = connection.judge_fragment(view, false, terms)?;
     Ok(told_of(judged))
 }
 

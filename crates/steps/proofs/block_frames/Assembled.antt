@@ -1,5 +1,5 @@
 -- All that comes of a frame with a fragment, by the judgement's answer.
-use Rattle.std.proofs.Common.{◌≡◌, ℕ, ◌<◌, ◌≤◌, Bool, true, false, ◌||◌, ◌==◌, List, append-nil, length, Option, Some, None, refl, sym, ◌∙◌, ap}
+use Rattle.std.proofs.Common.{◌≡◌, ℕ, ◌<◌, ◌≤◌, Bool, true, false, ◌||◌, ◌==◌, List, append-nil, length, Option, Some, None, refl, sym, ◌∙◌, ap, [], ◌∷◌}
 use Rattle.std.specs.Prelude.{is_some}
 use Rattle.model.specs.Frames.{Frame, data_kind}
 use Rattle.model.specs.Logs.{Output}
@@ -30,18 +30,20 @@ use Rattle.judgement.specs.declared.answers.Fault.TheVariants as fault
 use Rattle.judgement.specs.declared.answers.BlockJudged.TheVariants as judged
 use Rattle.judgement.specs.Sending.{behind_reset}
 use Rattle.judgement.proofs.SendingBooks.{reset_leads}
-use Rattle.relay.specs.View.{View}
+use Rattle.relay.specs.View.{View, square}
 use Rattle.relay.specs.Rest.{IsAtRest}
 use Rattle.relay.proofs.Answered.{part_gain, part_owes, whole_gain, whole_owes, block_owes_at_fault, block_failed, caused_by, not_data}
 use Rattle.relay.proofs.Owing.{idle_no_cause, not_caused, no_farewell, no_more}
-use Rattle.relay.proofs.Coming.{no_outside, inbound_in, inbound_behind}
-use Rattle.steps.specs.block_frames.Following.{farewell_behind}
+use Rattle.relay.proofs.Coming.{outside_of, inbound_in, inbound_behind}
+use Rattle.steps.specs.Comings.{ComesFrom}
+use Rattle.steps.specs.Inputs.Input.{OfFrame}
+use Rattle.steps.specs.block_frames.Following.{farewell_behind, IsCalmedBehind}
 use Rattle.steps.specs.block_frames.Acting.{IsActed}
 use Rattle.steps.specs.block_frames.Taken.{IsBlockTaken}
 use Rattle.steps.specs.declared.block_frames.taking.BlockTaken.{BlockTaken}
 use Rattle.steps.specs.declared.block_frames.taking.BlockTaken.TheVariants as taken
 use Rattle.steps.proofs.block_frames.Before.{left_is}
-use Rattle.steps.proofs.block_frames.Passed.{fatal_so, farewell, passed_none, passed_reset}
+use Rattle.steps.proofs.block_frames.Passed.{fatal_so, farewell, passed_none, passed_reset, passed_stopped}
 
 -- the table that a frame leaves
 table_is : (old mid : Inbound) (noted : Noted) (next : Table) → (completed_in old.block noted.frame ≡ None → next ≡ old.table) → mid.table ≡ next → mid.table ≡ tables.table_after (completed_in old.block noted.frame) next old.table
@@ -52,45 +54,51 @@ table_is old mid noted next stays table = by (completed_in old.block noted.frame
     by (Some block) is = table
 
 -- what is kept behind a reset
-pub reset_is : (setup : Setup) (old mid : Inbound) (noted : Noted) (next : Table) (code : ℕ) → AreKept old.rows → book_of no_outside mid ≡ noted_reset setup (book_of no_outside old) noted code → (completed_in old.block noted.frame ≡ None → next ≡ old.table) → mid.table ≡ next
-    → mid ≡ record (inbound_behind setup old noted next) { rows = changed noted.frame.id (Over true) (inbound_behind setup old noted next).rows }
-reset_is setup old mid noted next code kept left stays table =
-    ap (λ (b : Book). inbound_in mid.table b) (left ∙ ap (λ (b : Book). record b { untaken = 0 }) reset)
+pub reset_is : (setup : Setup) (untaken : ℕ) (old mid : Inbound) (noted : Noted) (next : Table) (code : ℕ) → AreKept old.rows → book_of (outside_of untaken) mid ≡ noted_reset setup (book_of (outside_of untaken) old) noted code → (completed_in old.block noted.frame ≡ None → next ≡ old.table) → mid.table ≡ next
+    → mid ≡ record (inbound_behind setup untaken old noted next) { rows = changed noted.frame.id (Over true) (inbound_behind setup untaken old noted next).rows }
+reset_is setup untaken old mid noted next code kept left stays table =
+    ap (λ (b : Book). inbound_in mid.table b) (left ∙ ap (λ (b : Book). record b { untaken = untaken }) reset)
     ∙ ap (λ (t : Table). record (inbound_in t then_book) { rows = changed noted.frame.id (Over true) then_book.rows }) (table_is old mid noted next stays table)
   where
     then_book : Book
-    then_book = noted_behind setup (book_of no_outside old) noted
+    then_book = noted_behind setup (book_of (outside_of untaken) old) noted
 
     reset : book_after setup false then_book (sending (rst_stream noted.frame.id code)) ≡ behind_reset then_book (rst_stream noted.frame.id code)
-    reset = (reset_leads setup then_book (noted_of (rst_stream noted.frame.id code)) (kept_behind_entry setup false (book_of no_outside old) (Came noted) kept) refl refl).book
+    reset = (reset_leads setup then_book (noted_of (rst_stream noted.frame.id code)) (kept_behind_entry setup false (book_of (outside_of untaken) old) (Came noted) kept) refl refl).book
 
 module _ (setup : Setup) (old : View) (rest : IsAtRest old) (frame : Frame) (mid : Inbound) (of : IsOfBlock frame) (kept : AreKept old.inbound.rows) (few_rows : length (ids_of old.inbound.rows) ≤ most_streams) (outputs : List Output) (small : frame.id < 2147483648) (at_once : Bool) where
   abbrev told : Summary
-  told = told_of no_outside old.inbound
+  told = told_of (outside_of old.untaken) old.inbound
 
   abbrev book : Book
-  book = book_of no_outside old.inbound
+  book = book_of (outside_of old.untaken) old.inbound
 
   abbrev last : Option ℕ
   last = farewell_behind (length old.inbound.rows) mid.rows
 
   -- an error of the connection
-  pub fatal_taken : (code : ℕ) (is : IsFragmentJudged setup no_outside old.inbound frame mid (judged.Failed (fault.Connection code))) (result : BlockTaken) (new : View) (put_out : List Output) → IsActed frame.id at_once (judged.Failed (fault.Connection code)) last (record old { inbound = mid }) outputs result new put_out → IsBlockTaken setup old outputs frame result new put_out
+  pub fatal_taken : (code : ℕ) (is : IsFragmentJudged setup (outside_of old.untaken) old.inbound frame mid (judged.Failed (fault.Connection code))) (result : BlockTaken) (new : View) (put_out : List Output) → IsActed frame.id at_once (judged.Failed (fault.Connection code)) last (record old { inbound = mid }) outputs result new put_out → IsBlockTaken setup old outputs frame result new put_out
   fatal_taken code is (taken.Goes due farewell_left dropped) new put_out acted = absurd acted.0
   fatal_taken code is (taken.Fatal found) new put_out acted =
       fatal_so setup old rest frame mid of kept few_rows outputs small (judged.Failed (fault.Connection code)) is found (is.judged.is ∙ ap (λ c. Some (errors.Fault.Connection c)) (sym acted.0)) is.judged.left new put_out acted.1 acted.2
 
   -- an error of its stream
-  pub stream_taken : (code : ℕ) (is : IsFragmentJudged setup no_outside old.inbound frame mid (judged.Failed (fault.Stream code))) (result : BlockTaken) (new : View) (put_out : List Output) → IsActed frame.id at_once (judged.Failed (fault.Stream code)) last (record old { inbound = mid }) outputs result new put_out → IsBlockTaken setup old outputs frame result new put_out
+  pub stream_taken : (code : ℕ) (is : IsFragmentJudged setup (outside_of old.untaken) old.inbound frame mid (judged.Failed (fault.Stream code))) (result : BlockTaken) (new : View) (put_out : List Output) → IsActed frame.id at_once (judged.Failed (fault.Stream code)) last (record old { inbound = mid }) outputs result new put_out → IsBlockTaken setup old outputs frame result new put_out
   stream_taken code is result new put_out acted =
       passed_reset setup old rest frame mid of kept few_rows outputs small (judged.Failed (fault.Stream code)) is (ap is_fatal is.judged.is) code
-      (reset_is setup old.inbound mid (record { frame = frame; note = is.note }) is.next code kept is.judged.left is.stays is.table) is.judged.is result new put_out acted
+      (reset_is setup old.untaken old.inbound mid (record { frame = frame; note = is.note }) is.next code kept is.judged.left is.stays is.table) is.judged.is result new put_out acted
+
+  -- one whose stream can't be reset, so that the connection ends
+  pub stream_stopped : (code : ℕ) (is : IsFragmentJudged setup (outside_of old.untaken) old.inbound frame mid (judged.Failed (fault.Stream code))) (p : List Output) → IsCalmedBehind last (record old { inbound = mid }) outputs p → ComesFrom setup old square outputs (OfFrame frame ∷ []) square None p
+  stream_stopped code is p stopped =
+      passed_stopped setup old rest frame mid of kept few_rows outputs small (judged.Failed (fault.Stream code)) is (ap is_fatal is.judged.is) code
+      (reset_is setup old.untaken old.inbound mid (record { frame = frame; note = is.note }) is.next code kept is.judged.left is.stays is.table) is.judged.is p stopped
 
   -- one that is passed over
-  pub discarded_taken : (is : IsFragmentJudged setup no_outside old.inbound frame mid (judged.Failed fault.Discarded)) (result : BlockTaken) (new : View) (put_out : List Output) → IsActed frame.id at_once (judged.Failed fault.Discarded) last (record old { inbound = mid }) outputs result new put_out → IsBlockTaken setup old outputs frame result new put_out
+  pub discarded_taken : (is : IsFragmentJudged setup (outside_of old.untaken) old.inbound frame mid (judged.Failed fault.Discarded)) (result : BlockTaken) (new : View) (put_out : List Output) → IsActed frame.id at_once (judged.Failed fault.Discarded) last (record old { inbound = mid }) outputs result new put_out → IsBlockTaken setup old outputs frame result new put_out
   discarded_taken is result new put_out acted =
       let noted : Noted = record { frame = frame; note = is.note } in
-      let same : mid ≡ inbound_behind setup old.inbound noted is.next = left_is setup old.inbound mid noted is.next is.judged.left is.stays is.table in
+      let same : mid ≡ inbound_behind setup old.untaken old.inbound noted is.next = left_is setup old.untaken old.inbound mid noted is.next is.judged.left is.stays is.table in
       passed_none setup old rest frame mid of kept few_rows outputs small (judged.Failed fault.Discarded) is (ap is_fatal is.judged.is) same
       (block_failed setup book noted of few_rows errors.Fault.Discarded is.judged.is)
       (block_owes_at_fault setup book noted of few_rows errors.Fault.Discarded refl is.judged.is ∙ append-nil _ ∙ farewell setup old rest frame mid of kept few_rows outputs small (judged.Failed fault.Discarded) is (ap (λ (i : Inbound). ids_of i.rows) same))
@@ -98,10 +106,10 @@ module _ (setup : Setup) (old : View) (rest : IsAtRest old) (frame : Frame) (mid
       result new put_out acted
 
   -- one with which a block goes on
-  pub part_taken : (is : IsFragmentJudged setup no_outside old.inbound frame mid judged.GoesOn) (result : BlockTaken) (new : View) (put_out : List Output) → IsActed frame.id at_once judged.GoesOn last (record old { inbound = mid }) outputs result new put_out → IsBlockTaken setup old outputs frame result new put_out
+  pub part_taken : (is : IsFragmentJudged setup (outside_of old.untaken) old.inbound frame mid judged.GoesOn) (result : BlockTaken) (new : View) (put_out : List Output) → IsActed frame.id at_once judged.GoesOn last (record old { inbound = mid }) outputs result new put_out → IsBlockTaken setup old outputs frame result new put_out
   part_taken is result new put_out acted =
       let noted : Noted = record { frame = frame; note = is.note } in
-      let same : mid ≡ inbound_behind setup old.inbound noted is.next = left_is setup old.inbound mid noted is.next is.judged.left is.stays is.table in
+      let same : mid ≡ inbound_behind setup old.untaken old.inbound noted is.next = left_is setup old.untaken old.inbound mid noted is.next is.judged.left is.stays is.table in
       passed_none setup old rest frame mid of kept few_rows outputs small judged.GoesOn is (ap is_fatal is.judged.faultless) same
       (part_gain setup book noted of few_rows is.judged.says)
       (part_owes setup book noted of few_rows is.judged.faultless is.judged.says ∙ sym (no_farewell setup told noted (ap (λ (o : Option Partial). opens_by told.opened o is.note) is.judged.says)) ∙ farewell setup old rest frame mid of kept few_rows outputs small judged.GoesOn is (ap (λ (i : Inbound). ids_of i.rows) same))
@@ -109,11 +117,11 @@ module _ (setup : Setup) (old : View) (rest : IsAtRest old) (frame : Frame) (mid
       result new put_out acted
 
   -- one whose block isn't looked at any more
-  pub ignored_taken : (is : IsFragmentJudged setup no_outside old.inbound frame mid judged.Ignored) (result : BlockTaken) (new : View) (put_out : List Output) → IsActed frame.id at_once judged.Ignored last (record old { inbound = mid }) outputs result new put_out → IsBlockTaken setup old outputs frame result new put_out
+  pub ignored_taken : (is : IsFragmentJudged setup (outside_of old.untaken) old.inbound frame mid judged.Ignored) (result : BlockTaken) (new : View) (put_out : List Output) → IsActed frame.id at_once judged.Ignored last (record old { inbound = mid }) outputs result new put_out → IsBlockTaken setup old outputs frame result new put_out
   ignored_taken is result new put_out acted =
       let noted : Noted = record { frame = frame; note = is.note } in
       let says = is.judged.says in
-      let same : mid ≡ inbound_behind setup old.inbound noted is.next = left_is setup old.inbound mid noted is.next is.judged.left is.stays is.table in
+      let same : mid ≡ inbound_behind setup old.untaken old.inbound noted is.next = left_is setup old.untaken old.inbound mid noted is.next is.judged.left is.stays is.table in
       passed_none setup old rest frame mid of kept few_rows outputs small judged.Ignored is (ap is_fatal is.judged.faultless) same
       (whole_gain setup book noted of few_rows is.judged.faultless says.0 says.2 says.1 says.3 judged.Ignored says.4)
       (whole_owes setup book noted of few_rows is.judged.faultless says.0 says.2 says.1 says.3 judged.Ignored says.4 ∙ append-nil _ ∙ farewell setup old rest frame mid of kept few_rows outputs small judged.Ignored is (ap (λ (i : Inbound). ids_of i.rows) same))

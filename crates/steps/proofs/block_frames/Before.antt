@@ -48,7 +48,7 @@ use Rattle.relay.specs.View.{View, Pending, square, Leads, waiting_for}
 use Rattle.relay.specs.Rest.{IsAtRest}
 use Rattle.relay.specs.Bringing.{Course}
 use Rattle.relay.specs.Led.{IsLed}
-use Rattle.relay.proofs.Coming.{no_outside, inbound_in, inbound_behind, change_between, offers_with, encoding_with, told_of_rows}
+use Rattle.relay.proofs.Coming.{outside_of, inbound_in, inbound_behind, change_between, offers_with, encoding_with, told_of_rows}
 use Rattle.relay.proofs.Coming as coming
 use Rattle.relay.proofs.Halves.{not_half_closed}
 use Rattle.relay.proofs.Heads as heads
@@ -89,9 +89,9 @@ brings_none frame (inl is) = ap (λ k. data_length is_any (record frame { kind =
 brings_none frame (inr is) = ap (λ k. data_length is_any (record frame { kind = k })) is
 
 -- the farewell that it calls for, by the streams behind it
-pub farewell_is : (setup : Setup) (inbound : Inbound) (noted : Noted) (kept : AreKept inbound.rows) (rows : List Row) → ids_of rows ≡ ids_of (book_after setup false (book_of no_outside inbound) (Came noted)).rows
-    → last_farewell_in (told_of no_outside inbound) (Came noted) ≡ farewell_frames (farewell_behind (length inbound.rows) rows)
-farewell_is setup inbound noted kept rows same = by_ids (opened_after (told_of no_outside inbound) (Came noted)) (same ∙ ids_behind setup (book_of no_outside inbound) noted kept)
+pub farewell_is : (setup : Setup) (untaken : ℕ) (inbound : Inbound) (noted : Noted) (kept : AreKept inbound.rows) (rows : List Row) → ids_of rows ≡ ids_of (book_after setup false (book_of (outside_of untaken) inbound) (Came noted)).rows
+    → last_farewell_in (told_of (outside_of untaken) inbound) (Came noted) ≡ farewell_frames (farewell_behind (length inbound.rows) rows)
+farewell_is setup untaken inbound noted kept rows same = by_ids (opened_after (told_of (outside_of untaken) inbound) (Came noted)) (same ∙ ids_behind setup (book_of (outside_of untaken) inbound) noted kept)
   where
     chosen : (b : Bool) (last : ℕ) → (if b then goaway last no_error ∷ [] else []) ≡ farewell_frames (if b then Some last else None)
     chosen true last = refl
@@ -108,10 +108,10 @@ farewell_is setup inbound noted kept rows same = by_ids (opened_after (told_of n
 -- ---- what the judgement left
 
 -- Where the book is that behind the frame, and the table that which its block leaves, all that is kept is what the rule has.
-pub left_is : (setup : Setup) (old mid : Inbound) (noted : Noted) (next : Table) → book_of no_outside mid ≡ noted_behind setup (book_of no_outside old) noted → (completed_in old.block noted.frame ≡ None → next ≡ old.table) → mid.table ≡ next → mid ≡ inbound_behind setup old noted next
-left_is setup old mid noted next left stays table =
+pub left_is : (setup : Setup) (untaken : ℕ) (old mid : Inbound) (noted : Noted) (next : Table) → book_of (outside_of untaken) mid ≡ noted_behind setup (book_of (outside_of untaken) old) noted → (completed_in old.block noted.frame ≡ None → next ≡ old.table) → mid.table ≡ next → mid ≡ inbound_behind setup untaken old noted next
+left_is setup untaken old mid noted next left stays table =
     ap (λ (b : Book). inbound_in mid.table b) left
-    ∙ ap (λ (t : Table). inbound_in t (book_after setup false (book_of no_outside old) (Came noted))) (by (completed_in old.block noted.frame) refl)
+    ∙ ap (λ (t : Table). inbound_in t (book_after setup false (book_of (outside_of untaken) old) (Came noted))) (by (completed_in old.block noted.frame) refl)
   where
     by : (o : Option Partial) → completed_in old.block noted.frame ≡ o → mid.table ≡ tables.table_after o next old.table
     by None none = table ∙ stays none
@@ -155,11 +155,11 @@ module _ (setup : Setup) (old : View) (rest : IsAtRest old) (run : List Move) (s
       (ap (λ (o : offering.State). map (λ (k : Kept). k.id) o.kept) (sym leads.keeps.offers) ∙ boxes (known_of setup (conducts run)) run s led ∙ ap (λ (b : Book). reverse (active_in (summary_in b))) leads.keeps.book)
       above.1
 
-  module _ (noted : Noted) (next : Table) (of : IsOfBlock noted.frame) (mild : is_fatal (fault_in (told_of no_outside old.inbound) (Came noted)) ≡ false)
-      (is_noted : IsNoted (completed_in old.inbound.block noted.frame) (verdict_in (told_of no_outside old.inbound) noted.frame).is_error old.inbound.table noted.note next) (read : is_read noted.note ≡ false → (verdict_in (told_of no_outside old.inbound) noted.frame).is_error ≡ true) where
+  module _ (noted : Noted) (next : Table) (of : IsOfBlock noted.frame) (mild : is_fatal (fault_in (told_of (outside_of old.untaken) old.inbound) (Came noted)) ≡ false)
+      (is_noted : IsNoted (completed_in old.inbound.block noted.frame) (verdict_in (told_of (outside_of old.untaken) old.inbound) noted.frame).is_error old.inbound.table noted.note next) (read : is_read noted.note ≡ false → (verdict_in (told_of (outside_of old.untaken) old.inbound) noted.frame).is_error ≡ true) where
     -- The stream of the frame is one for which an outbox may be made, where one is to be.
-    pub newest_behind : IsNewest (is_active (book_after setup false (book_of no_outside old.inbound) (Came noted)).rows noted.frame.id) noted.frame.id old.offers
-    newest_behind active none = above_all noted.frame.id (may_be_opened setup (book_of no_outside old.inbound) noted kept_rows (sym (box_there noted.frame.id) ∙ none) active)
+    pub newest_behind : IsNewest (is_active (book_after setup false (book_of (outside_of old.untaken) old.inbound) (Came noted)).rows noted.frame.id) noted.frame.id old.offers
+    newest_behind active none = above_all noted.frame.id (may_be_opened setup (book_of (outside_of old.untaken) old.inbound) noted kept_rows (sym (box_there noted.frame.id) ∙ none) active)
 
     -- The frame is taken, with what it gains.
     pub is_taken : (gain : Gain) → IsGained setup (told_behind setup s (Takes noted next gain)) s noted gain → IsFrameTaken setup s noted next gain
@@ -168,7 +168,7 @@ module _ (setup : Setup) (old : View) (rest : IsAtRest old) (run : List Move) (s
       noted_right = record {
         is_noted =
             subst (λ (b : Book). IsNoted (completed_in b.block noted.frame) (verdict_in (summary_in b) noted.frame).is_error s.tables.decoding noted.note next) (sym leads.keeps.book)
-            (subst (λ (t : Table). IsNoted (completed_in old.inbound.block noted.frame) (verdict_in (told_of no_outside old.inbound) noted.frame).is_error t noted.note next) (sym leads.keeps.decoding) is_noted);
+            (subst (λ (t : Table). IsNoted (completed_in old.inbound.block noted.frame) (verdict_in (told_of (outside_of old.untaken) old.inbound) noted.frame).is_error t noted.note next) (sym leads.keeps.decoding) is_noted);
       };
       read = subst (λ (b : Book). is_read noted.note ≡ false → (verdict_in (summary_in b) noted.frame).is_error ≡ true) (sym leads.keeps.book) read;
       gained = gained;
@@ -179,16 +179,16 @@ module _ (setup : Setup) (old : View) (rest : IsAtRest old) (run : List Move) (s
       then_state = coming.then_state setup run old s leads ready noted next gain (is_taken gain gained)
 
       abbrev pub live_there : Bool
-      live_there = is_active (inbound_behind setup old.inbound noted next).rows noted.frame.id
+      live_there = is_active (inbound_behind setup old.untaken old.inbound noted next).rows noted.frame.id
 
       -- what is kept then, and what is pending
       abbrev pub there : offering.State → upstreams.State → View
-      there offers upstream = record old { inbound = inbound_behind setup old.inbound noted next; offers = offers; upstreams = upstream; marks = marks_if live_there noted.frame.id old.marks }
+      there offers upstream = record old { inbound = inbound_behind setup old.untaken old.inbound noted next; offers = offers; upstreams = upstream; marks = marks_if live_there noted.frame.id old.marks }
 
       abbrev pub pending_there : List Frame → Due → Pending
       pending_there owed due = record square { owed = owed; due = due; shared = dropped_if live_there (waiting_for noted.frame.id old) }
 
-      marks_there : unless_over (change_between old.inbound.rows (inbound_behind setup old.inbound noted next).rows noted.frame.id).over noted.frame.id old.marks ≡ marks_if live_there noted.frame.id old.marks
+      marks_there : unless_over (change_between old.inbound.rows (inbound_behind setup old.untaken old.inbound noted next).rows noted.frame.id).over noted.frame.id old.marks ≡ marks_if live_there noted.frame.id old.marks
       marks_there = by (is_active old.inbound.rows noted.frame.id) refl live_there
         where
           by : (was : Bool) → is_active old.inbound.rows noted.frame.id ≡ was → (now : Bool) → unless_over (was && not now) noted.frame.id old.marks ≡ marks_if now noted.frame.id old.marks
@@ -197,7 +197,7 @@ module _ (setup : Setup) (old : View) (rest : IsAtRest old) (run : List Move) (s
           by false is true = refl
           by false is false = sym (without_none noted.frame.id old.marks (none_marked setup run old square s leads noted.frame.id is))
 
-      back_there : dropped_of (change_between old.inbound.rows (inbound_behind setup old.inbound noted next).rows noted.frame.id).over noted.frame.id old.marks ≡ dropped_if live_there (waiting_for noted.frame.id old)
+      back_there : dropped_of (change_between old.inbound.rows (inbound_behind setup old.untaken old.inbound noted next).rows noted.frame.id).over noted.frame.id old.marks ≡ dropped_if live_there (waiting_for noted.frame.id old)
       back_there = by (is_active old.inbound.rows noted.frame.id) refl live_there
         where
           by : (was : Bool) → is_active old.inbound.rows noted.frame.id ≡ was → (now : Bool) → dropped_of (was && not now) noted.frame.id old.marks ≡ dropped_if now (waiting_for noted.frame.id old)
@@ -207,12 +207,12 @@ module _ (setup : Setup) (old : View) (rest : IsAtRest old) (run : List Move) (s
           by false is false = sym (none_waits setup run old square s leads noted.frame.id is)
 
       -- Where it leads, by what is kept then.
-      pub leads_there : (owed : List Frame) (due : Due) (offers : offering.State) (upstream : upstreams.State) → upstream.live ≡ old.upstreams.live → owes_in setup false (told_of no_outside old.inbound) (Came noted) ≡ owed
-          → offers_with noted.frame.id (change_between old.inbound.rows (inbound_behind setup old.inbound noted next).rows noted.frame.id) old.offers ≡ offers
-          → Rattle.serving.specs.State.after setup (told_of_rows (inbound_behind setup old.inbound noted next)) (upstreams.with_due old.upstreams Due.Nothing) (Rattle.policy.specs.Moves.gained noted gain) ≡ upstreams.with_due upstream due
+      pub leads_there : (owed : List Frame) (due : Due) (offers : offering.State) (upstream : upstreams.State) → upstream.live ≡ old.upstreams.live → owes_in setup false (told_of (outside_of old.untaken) old.inbound) (Came noted) ≡ owed
+          → offers_with noted.frame.id (change_between old.inbound.rows (inbound_behind setup old.untaken old.inbound noted next).rows noted.frame.id) old.offers ≡ offers
+          → Rattle.serving.specs.State.after setup (told_of_rows (inbound_behind setup old.untaken old.inbound noted next)) (upstreams.with_due old.upstreams Due.Nothing) (Rattle.policy.specs.Moves.gained noted gain) ≡ upstreams.with_due upstream due
           → (outputs : List Output) → Course setup run s outputs (Came noted) (there offers upstream) (pending_there owed due) outputs
       leads_there owed due offers upstream same owes on_offer requests outputs =
           coming.begins setup run old s leads ready noted next gain (is_taken gain gained) outputs (there offers upstream) (pending_there owed due)
-          (subst (λ (xs : List ℕ). Leads setup (Does (Takes noted next gain) ∷ run) (record (there offers upstream) { encoding = encoding_with xs old.encoding }) (pending_there owed due) then_state) (names_none (told_of no_outside old.inbound) noted.frame of)
-          (subst (λ n. Leads setup (Does (Takes noted next gain) ∷ run) (record (there offers upstream) { encoding = encoding_with (named_by (verdict_in (told_of no_outside old.inbound) noted.frame) noted.frame) old.encoding }) (record (pending_there owed due) { fresh = n }) then_state) (brings_none noted.frame of)
+          (subst (λ (xs : List ℕ). Leads setup (Does (Takes noted next gain) ∷ run) (record (there offers upstream) { encoding = encoding_with xs old.encoding }) (pending_there owed due) then_state) (names_none (told_of (outside_of old.untaken) old.inbound) noted.frame of)
+          (subst (λ n. Leads setup (Does (Takes noted next gain) ∷ run) (record (there offers upstream) { encoding = encoding_with (named_by (verdict_in (told_of (outside_of old.untaken) old.inbound) noted.frame) noted.frame) old.encoding }) (record (pending_there owed due) { fresh = n }) then_state) (brings_none noted.frame of)
           (coming.leads_then setup run old s leads ready noted next gain (is_taken gain gained) owed due offers upstream (there offers upstream).marks (pending_there owed due).shared same owes on_offer requests marks_there back_there)))

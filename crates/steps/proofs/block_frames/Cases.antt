@@ -1,5 +1,5 @@
 -- What a frame with a fragment of a header block brings, by what it gains and by what it calls for.
-use Rattle.std.proofs.Common.{◌≡◌, ℕ, ◌<◌, ◌+◌, Bool, true, false, not, ◌&&◌, ◌||◌, ◌==◌, if◌then◌else◌, List, [], ◌∷◌, ◌++◌, length, Option, Some, None, refl, sym, ◌∙◌, ap, subst, arith, inr}
+use Rattle.std.proofs.Common.{◌≡◌, ℕ, ◌<◌, ◌+◌, Bool, true, false, not, ◌&&◌, ◌||◌, ◌==◌, if◌then◌else◌, List, [], ◌∷◌, ◌++◌, length, Option, Some, None, refl, sym, ◌∙◌, ap, subst, arith, nat_lt, inl, inr}
 use Rattle.std.specs.Prelude.{is_some}
 use Rattle.std.specs.List.{list_any}
 use Rattle.std.proofs.lemmas.Bool.{eq-eqb}
@@ -49,24 +49,43 @@ use Rattle.marks_kept.specs.Sides.{Side, queue_if, queue_of}
 use Rattle.marks_kept.specs.Sides.{without as without_side}
 use Rattle.marks_kept.proofs.Looking.{gone_own}
 use Rattle.marks_kept.proofs.Rising.{without_none}
-use Rattle.relay.specs.View.{View, square, waiting_for, Leads}
+use Rattle.relay.specs.View.{View, square, waiting_for, Leads, Pending}
 use Rattle.relay.specs.Rest.{IsAtRest}
 use Rattle.relay.specs.Bringing.{Brings, PerformsOwn}
 use Rattle.relay.proofs.Bringing.{own_none, own_then, brings_then}
-use Rattle.relay.proofs.Coming.{no_outside, inbound_behind, change_between, offers_with}
+use Rattle.relay.proofs.Coming.{outside_of, inbound_behind, change_between, offers_with}
 use Rattle.relay.proofs.Coming as coming
 use Rattle.relay.proofs.Resets.{reset_view, reset_paid}
 use Rattle.steps.proofs.paying.Paying.{pays_control}
 use Rattle.steps.specs.declared.paying.control.Control.TheVariants as control
-use Rattle.steps.specs.block_frames.Following.{offers_if, held_if, marks_if, dropped_if, dropped_by, followed, forgotten, farewell_frames, with_farewell, put_farewell}
+use Rattle.std.proofs.lemmas.Bool.{ltb-false, le-ltb}
+use Rattle.model.specs.Admission.{most_untaken}
+use Rattle.upstreams.specs.Connections.{lives}
+use Rattle.steps.specs.Comings.{ComesFrom}
+use Rattle.steps.specs.Inputs.Input.{OfFrame}
+use Rattle.steps.specs.Stopping.{EndsFrom}
+use Rattle.steps.proofs.Calming.{calmed_as, calm_ends, calm_behind, calm_comes}
+use Rattle.steps.specs.block_frames.Following.{offers_if, held_if, marks_if, dropped_if, dropped_by, followed, forgotten, farewell_frames, with_farewell, put_farewell, IsCalmedBehind, WasFree}
 use Rattle.steps.proofs.block_frames.Lists.{offers_followed, offers_replied, offers_gone, held_by, held_gone}
 use Rattle.steps.proofs.block_frames.Before.{ready, box_there, is_taken, leads_there}
 
 -- the farewell is paid, if it is owed
-pub pays_farewell : (setup : Setup) (kept : View) (back : ℕ) (last : Option ℕ) (rest : List Frame) (outputs : List Output)
+pub pays_farewell : (setup : Setup) (kept : View) (back : ℕ) (last : Option ℕ) (rest : List Frame) → WasFree last kept → (outputs : List Output)
     → PerformsOwn setup kept (record square { owed = farewell_frames last ++ rest; shared = back }) outputs (with_farewell last kept) (record square { owed = rest; shared = back }) (put_farewell last outputs)
-pays_farewell setup kept back None rest outputs = own_none setup kept (record square { owed = rest; shared = back }) outputs
-pays_farewell setup kept back (Some last) rest outputs = pays_control setup kept (record square { owed = goaway last no_error ∷ rest; shared = back }) rest (control.Farewell last no_error) tt refl (inr refl) outputs
+pays_farewell setup kept back None rest free outputs = own_none setup kept (record square { owed = rest; shared = back }) outputs
+pays_farewell setup kept back (Some last) rest free outputs = pays_control setup kept (record square { owed = goaway last no_error ∷ rest; shared = back }) rest (control.Farewell last no_error) tt refl free refl (inr refl) outputs
+
+-- it could be, where not too many octets are untaken behind it
+was_free : (last : Option ℕ) (kept : View) → nat_lt most_untaken (with_farewell last kept).untaken ≡ false → WasFree last kept
+was_free None kept free = tt
+was_free (Some last) kept free = le-ltb most_untaken kept.untaken (let low = ltb-false most_untaken (kept.untaken + length (spell (goaway last no_error))) free in omega (arith, low))
+
+-- a view with the same streams, connections and untaken octets ends the same way behind a farewell
+pub calmed_behind_as : (last : Option ℕ) (a b : View) (o p : List Output) → ids_of a.inbound.rows ≡ ids_of b.inbound.rows → lives a.upstreams.live ≡ lives b.upstreams.live → a.untaken ≡ b.untaken → IsCalmedBehind last a o p → IsCalmedBehind last b o p
+calmed_behind_as last a b o p ids live untaken (inl is) = inl (calmed_as a b o p ids live untaken is)
+calmed_behind_as None a b o p ids live untaken (inr (free, is)) = inr (tt, calmed_as a b o p ids live untaken is)
+calmed_behind_as (Some last) a b o p ids live untaken (inr (free, is)) =
+    inr (ap (nat_lt most_untaken) (sym untaken) ∙ free, calmed_as (with_farewell (Some last) a) (with_farewell (Some last) b) (put_farewell (Some last) o) p ids live (ap (λ n. n + length (spell (goaway last no_error))) untaken) is)
 
 -- it changes nothing but what is untaken
 farewell_view : (last : Option ℕ) (kept : View) → with_farewell last kept ≡ record kept { untaken = (with_farewell last kept).untaken }
@@ -76,13 +95,13 @@ farewell_view (Some last) kept = refl
 fits_reset : (id code : ℕ) → id < 2147483648 → Fits (rst_stream id code)
 fits_reset id code of = record { kind = omega arith; flags = omega arith; id = of; payload = omega arith }
 
-module _ (setup : Setup) (old : View) (rest : IsAtRest old) (noted : Noted) (next : Table) (of : IsOfBlock noted.frame) (mild : is_fatal (fault_in (told_of no_outside old.inbound) (Came noted)) ≡ false)
-    (is_noted : IsNoted (completed_in old.inbound.block noted.frame) (verdict_in (told_of no_outside old.inbound) noted.frame).is_error old.inbound.table noted.note next) (read : is_read noted.note ≡ false → (verdict_in (told_of no_outside old.inbound) noted.frame).is_error ≡ true) where
+module _ (setup : Setup) (old : View) (rest : IsAtRest old) (noted : Noted) (next : Table) (of : IsOfBlock noted.frame) (mild : is_fatal (fault_in (told_of (outside_of old.untaken) old.inbound) (Came noted)) ≡ false)
+    (is_noted : IsNoted (completed_in old.inbound.block noted.frame) (verdict_in (told_of (outside_of old.untaken) old.inbound) noted.frame).is_error old.inbound.table noted.note next) (read : is_read noted.note ≡ false → (verdict_in (told_of (outside_of old.untaken) old.inbound) noted.frame).is_error ≡ true) where
   abbrev id : ℕ
   id = noted.frame.id
 
   abbrev pub behind : Inbound
-  behind = inbound_behind setup old.inbound noted next
+  behind = inbound_behind setup old.untaken old.inbound noted next
 
   abbrev pub behind_view : View
   behind_view = record old { inbound = behind }
@@ -94,12 +113,12 @@ module _ (setup : Setup) (old : View) (rest : IsAtRest old) (noted : Noted) (nex
   abbrev held_now : upstreams.State
   held_now = record old.upstreams { held = held_if served id old.upstreams.held }
 
-  module _ (adds : added_in setup (told_of no_outside old.inbound) noted ≡ []) where
+  module _ (adds : added_in setup (told_of (outside_of old.untaken) old.inbound) noted ≡ []) where
     gains_none : (run : List Move) (s : State) (leads : Leads setup run old square s) → IsGained setup (told_behind setup s (Takes noted next NoGain)) s noted NoGain
     gains_none run s leads = ap (λ (b : Book). added_in setup (summary_in b) noted) leads.keeps.book ∙ adds
 
     -- It leads on, with nothing gained.
-    pub brings_none : (owed : List Frame) (offers : offering.State) → owes_in setup false (told_of no_outside old.inbound) (Came noted) ≡ owed
+    pub brings_none : (owed : List Frame) (offers : offering.State) → owes_in setup false (told_of (outside_of old.untaken) old.inbound) (Came noted) ≡ owed
         → ((run : List Move) (s : State) → Leads setup run old square s → offers_with id (change_between old.inbound.rows behind.rows id) old.offers ≡ offers)
         → (outputs : List Output) → Brings setup old square outputs (Came noted) (record behind_view { offers = offers; upstreams = held_now; marks = marks_if (is_active behind.rows id) id old.marks }) (record square { owed = owed; shared = dropped_by id behind_view }) outputs
     brings_none owed offers owes on_offer outputs run s leads =
@@ -108,7 +127,7 @@ module _ (setup : Setup) (old : View) (rest : IsAtRest old) (noted : Noted) (nex
         outputs
 
     -- What is kept of its stream follows.
-    pub brings_followed : (owed : List Frame) → owes_in setup false (told_of no_outside old.inbound) (Came noted) ≡ owed → found_by (find old.inbound.rows id).brief.cause (find behind.rows id).brief.cause ≡ None
+    pub brings_followed : (owed : List Frame) → owes_in setup false (told_of (outside_of old.untaken) old.inbound) (Came noted) ≡ owed → found_by (find old.inbound.rows id).brief.cause (find behind.rows id).brief.cause ≡ None
         → (outputs : List Output) → Brings setup old square outputs (Came noted) (followed id behind_view) (record square { owed = owed; shared = dropped_by id behind_view }) outputs
     brings_followed owed owes no_cause outputs =
         brings_none owed (offers_if (is_active behind.rows id) id old.offers) owes (λ run s leads.
@@ -116,7 +135,7 @@ module _ (setup : Setup) (old : View) (rest : IsAtRest old) (noted : Noted) (nex
         ∙ offers_followed (is_active old.inbound.rows id) (is_active behind.rows id) id old.offers (box_there setup old rest run s leads id)) outputs
 
     -- The gateway's reply is on offer.
-    pub brings_replied : (owed : List Frame) (cause : Cause) → owes_in setup false (told_of no_outside old.inbound) (Came noted) ≡ owed → found_by (find old.inbound.rows id).brief.cause (find behind.rows id).brief.cause ≡ Some cause → is_active behind.rows id ≡ true
+    pub brings_replied : (owed : List Frame) (cause : Cause) → owes_in setup false (told_of (outside_of old.untaken) old.inbound) (Came noted) ≡ owed → found_by (find old.inbound.rows id).brief.cause (find behind.rows id).brief.cause ≡ Some cause → is_active behind.rows id ≡ true
         → (outputs : List Output) → Brings setup old square outputs (Came noted) (record (followed id behind_view) { offers = record (followed id behind_view).offers { kept = offering.change id (offering.answered cause) (followed id behind_view).offers.kept } }) (record square { owed = owed; shared = dropped_by id behind_view }) outputs
     brings_replied owed cause owes caused active outputs =
         brings_none owed (record (offers_if (is_active behind.rows id) id old.offers) { kept = offering.change id (offering.answered cause) (offers_if (is_active behind.rows id) id old.offers).kept }) owes (λ run s leads.
@@ -126,18 +145,18 @@ module _ (setup : Setup) (old : View) (rest : IsAtRest old) (noted : Noted) (nex
         ∙ ap (λ b. record (offers_if b id old.offers) { kept = offering.change id (offering.answered cause) (offers_if b id old.offers).kept }) (sym active)) outputs
 
     -- The stream is reset, behind the farewell.
-    pub brings_reset : (last : Option ℕ) (code : ℕ) → owes_in setup false (told_of no_outside old.inbound) (Came noted) ≡ farewell_frames last ++ rst_stream id code ∷ [] → may_open (ids_of behind.rows) id ≡ false → id < 2147483648
+    pub brings_reset : (last : Option ℕ) (code : ℕ) → owes_in setup false (told_of (outside_of old.untaken) old.inbound) (Came noted) ≡ farewell_frames last ++ rst_stream id code ∷ [] → may_open (ids_of behind.rows) id ≡ false → id < 2147483648 → nat_lt most_untaken (with_farewell last old).untaken ≡ false
         → (outputs : List Output)
         → Brings setup old square outputs (Came noted) (record (forgotten id (record old { inbound = record behind { rows = changed id (Over true) behind.rows } })) { untaken = (with_farewell last old).untaken + length (spell (rst_stream id code)) }) (record square { shared = waiting_for id old }) (put (put_farewell last outputs) (ToClient (spell (rst_stream id code))))
-    brings_reset last code owes known small outputs =
+    brings_reset last code owes known small free outputs =
         subst (λ n. Brings setup old square outputs (Came noted) target (record square { shared = n }) (put (put_farewell last outputs) (ToClient (spell (rst_stream id code))))) all_back
         (subst (λ (v : View). Brings setup old square outputs (Came noted) v (record square { shared = back_first + waiting_for id paid }) (put (put_farewell last outputs) (ToClient (spell (rst_stream id code))))) same
         (brings_then setup old first (reset_view paid id code) square (record square { owed = farewell_frames last ++ rst_stream id code ∷ []; shared = back_first }) (record square { shared = back_first + waiting_for id paid }) outputs outputs (put (put_farewell last outputs) (ToClient (spell (rst_stream id code)))) (Came noted)
         (brings_none (farewell_frames last ++ rst_stream id code ∷ []) (offers_with id (change_between old.inbound.rows behind.rows id) old.offers) owes (λ run s leads. refl) outputs)
         (own_then setup first paid (reset_view paid id code) (record square { owed = farewell_frames last ++ rst_stream id code ∷ []; shared = back_first }) (record square { owed = rst_stream id code ∷ []; shared = back_first }) (record square { shared = back_first + waiting_for id paid }) outputs (put_farewell last outputs) (put (put_farewell last outputs) (ToClient (spell (rst_stream id code))))
         (subst (λ (v : View). PerformsOwn setup first (record square { owed = farewell_frames last ++ rst_stream id code ∷ []; shared = back_first }) outputs v (record square { owed = rst_stream id code ∷ []; shared = back_first }) (put_farewell last outputs)) (farewell_view last first)
-        (pays_farewell setup first back_first last (rst_stream id code ∷ []) outputs))
-        (reset_paid setup paid (record square { owed = rst_stream id code ∷ []; shared = back_first }) [] id code refl refl known (fits_reset id code small) (put_farewell last outputs)))))
+        (pays_farewell setup first back_first last (rst_stream id code ∷ []) (first_free last (was_free last old free)) outputs))
+        (reset_paid setup paid (record square { owed = rst_stream id code ∷ []; shared = back_first }) [] id code refl refl known (fits_reset id code small) (ap (nat_lt most_untaken) (untaken_same last) ∙ free) (put_farewell last outputs)))))
       where
         first : View
         first = record behind_view { offers = offers_with id (change_between old.inbound.rows behind.rows id) old.offers; upstreams = held_now; marks = marks_if (is_active behind.rows id) id old.marks }
@@ -147,6 +166,10 @@ module _ (setup : Setup) (old : View) (rest : IsAtRest old) (noted : Noted) (nex
 
         paid : View
         paid = record first { untaken = (with_farewell last first).untaken }
+
+        first_free : (l : Option ℕ) → WasFree l old → WasFree l first
+        first_free None is = tt
+        first_free (Some n) is = is
 
         untaken_same : (l : Option ℕ) → (with_farewell l first).untaken ≡ (with_farewell l old).untaken
         untaken_same None = refl
@@ -176,15 +199,45 @@ module _ (setup : Setup) (old : View) (rest : IsAtRest old) (noted : Noted) (nex
         all_back : back_first + waiting_for id paid ≡ waiting_for id old
         all_back = by_back (is_active behind.rows id)
 
+    -- It can't be, and the connection ends.
+    pub brings_stopped : (last : Option ℕ) (code : ℕ) → owes_in setup false (told_of (outside_of old.untaken) old.inbound) (Came noted) ≡ farewell_frames last ++ rst_stream id code ∷ []
+        → (outputs p : List Output) → IsCalmedBehind last behind_view outputs p → ComesFrom setup old square outputs (OfFrame noted.frame ∷ []) square None p
+    brings_stopped last code owes outputs p calmed =
+        calm_comes setup old first square owing outputs outputs p (Came noted) (OfFrame noted.frame) refl
+        (brings_none (farewell_frames last ++ rst_stream id code ∷ []) (offers_with id (change_between old.inbound.rows behind.rows id) old.offers) owes (λ run s leads. refl) outputs)
+        (by last calmed)
+      where
+        back_first : ℕ
+        back_first = dropped_by id behind_view
+
+        first : View
+        first = record behind_view { offers = offers_with id (change_between old.inbound.rows behind.rows id) old.offers; upstreams = held_now; marks = marks_if (is_active behind.rows id) id old.marks }
+
+        owing : Pending
+        owing = record square { owed = farewell_frames last ++ rst_stream id code ∷ []; shared = back_first }
+
+        -- behind the farewell, or where none is owed
+        reset_left : Pending
+        reset_left = record square { owed = rst_stream id code ∷ []; shared = back_first }
+
+        by : (l : Option ℕ) → IsCalmedBehind l behind_view outputs p → EndsFrom setup first (record square { owed = farewell_frames l ++ rst_stream id code ∷ []; shared = back_first }) outputs p
+        by None (inl is) = calm_ends setup first reset_left (inl (rst_stream id code, [], refl)) refl outputs p is
+        by None (inr (free, is)) = calm_ends setup first reset_left (inl (rst_stream id code, [], refl)) refl outputs p is
+        by (Some n) (inl is) = calm_ends setup first (record square { owed = goaway n no_error ∷ rst_stream id code ∷ []; shared = back_first }) (inl (goaway n no_error, rst_stream id code ∷ [], refl)) refl outputs p is
+        by (Some n) (inr (free, is)) =
+            calm_behind setup first (with_farewell (Some n) first) (record square { owed = goaway n no_error ∷ rst_stream id code ∷ []; shared = back_first }) reset_left outputs (put_farewell (Some n) outputs) p
+            (pays_farewell setup first back_first (Some n) (rst_stream id code ∷ []) free outputs)
+            (calm_ends setup (with_farewell (Some n) first) reset_left (inl (rst_stream id code, [], refl)) refl (put_farewell (Some n) outputs) p is)
+
   -- ---- a frame with a fault
 
   -- the note says what its block is
   says_so : is_some (completed_in old.inbound.block noted.frame) ≡ true → is_told noted.note ≡ true
-  says_so = by (completed_in old.inbound.block noted.frame) (verdict_in (told_of no_outside old.inbound) noted.frame).is_error noted.note is_noted read (no_error (verdict_in (told_of no_outside old.inbound) noted.frame).is_error refl)
+  says_so = by (completed_in old.inbound.block noted.frame) (verdict_in (told_of (outside_of old.untaken) old.inbound) noted.frame).is_error noted.note is_noted read (no_error (verdict_in (told_of (outside_of old.untaken) old.inbound) noted.frame).is_error refl)
     where
-      no_error : (b : Bool) → (verdict_in (told_of no_outside old.inbound) noted.frame).is_error ≡ b → (verdict_in (told_of no_outside old.inbound) noted.frame).is_error ≡ false
+      no_error : (b : Bool) → (verdict_in (told_of (outside_of old.untaken) old.inbound) noted.frame).is_error ≡ b → (verdict_in (told_of (outside_of old.untaken) old.inbound) noted.frame).is_error ≡ false
       no_error false is = is
-      no_error true is = absurd (let no : true ≡ false = sym (fatal_before_block (told_of no_outside old.inbound) noted is) ∙ mild in cc)
+      no_error true is = absurd (let no : true ≡ false = sym (fatal_before_block (told_of (outside_of old.untaken) old.inbound) noted is) ∙ mild in cc)
 
       by : (o : Option Partial) (e : Bool) (n : Note) → IsNoted o e old.inbound.table n next → (is_read n ≡ false → e ≡ true) → e ≡ false → is_some o ≡ true → is_told n ≡ true
       by None e n right so none some = cc
@@ -195,14 +248,14 @@ module _ (setup : Setup) (old : View) (rest : IsAtRest old) (noted : Noted) (nex
       by (Some block) false Unread right so none some = absurd (let no : false ≡ true = so refl in cc)
 
   -- Its stream can't be opened any more behind it.
-  pub not_to_open : (fault : Fault) → fault_in (told_of no_outside old.inbound) (Came noted) ≡ Some fault → may_open (ids_of behind.rows) id ≡ false
+  pub not_to_open : (fault : Fault) → fault_in (told_of (outside_of old.untaken) old.inbound) (Came noted) ≡ Some fault → may_open (ids_of behind.rows) id ≡ false
   not_to_open fault is = by (opens_by (ids_of old.inbound.rows) (completed_in old.inbound.block noted.frame) noted.note) refl
     where
       rows_changed : List Row
-      rows_changed = Rattle.std.specs.Prelude.map (Rattle.conduct.specs.Rows.row_behind setup false (told_of no_outside old.inbound) (Came noted)) old.inbound.rows
+      rows_changed = Rattle.std.specs.Prelude.map (Rattle.conduct.specs.Rows.row_behind setup false (told_of (outside_of old.untaken) old.inbound) (Came noted)) old.inbound.rows
 
       front : Row
-      front = Rattle.conduct.specs.Rows.row_opened setup false (told_of no_outside old.inbound) (Came noted) id
+      front = Rattle.conduct.specs.Rows.row_opened setup false (told_of (outside_of old.untaken) old.inbound) (Came noted) id
 
       none_again : (b : Bool) → may_open (id ∷ ids_of rows_changed) id ≡ b → may_open (id ∷ ids_of rows_changed) id ≡ false
       none_again false e = e
@@ -211,9 +264,9 @@ module _ (setup : Setup) (old : View) (rest : IsAtRest old) (noted : Noted) (nex
       none_yet : opens_by (ids_of old.inbound.rows) (completed_in old.inbound.block noted.frame) noted.note ≡ false → (b : Bool) → may_open (ids_of old.inbound.rows) id ≡ b → may_open (ids_of old.inbound.rows) id ≡ false
       none_yet closed false e = e
       none_yet closed true e =
-          let idle = idle_frame_is (told_of no_outside old.inbound) noted (find old.inbound.rows id).brief e closed mild says_so in
+          let idle = idle_frame_is (told_of (outside_of old.untaken) old.inbound) noted (find old.inbound.rows id).brief e closed mild says_so in
           absurd (let no : None ≡ Some fault = sym idle.no_fault ∙ is in cc)
 
       by : (b : Bool) → opens_by (ids_of old.inbound.rows) (completed_in old.inbound.block noted.frame) noted.note ≡ b → may_open (ids_of (if b then front ∷ rows_changed else rows_changed)) id ≡ false
       by true e = none_again (may_open (id ∷ ids_of rows_changed) id) refl
-      by false e = ap (λ (ids : List ℕ). may_open ids id) (ids_changed setup false (told_of no_outside old.inbound) (Came noted) old.inbound.rows) ∙ none_yet e (may_open (ids_of old.inbound.rows) id) refl
+      by false e = ap (λ (ids : List ℕ). may_open ids id) (ids_changed setup false (told_of (outside_of old.untaken) old.inbound) (Came noted) old.inbound.rows) ∙ none_yet e (may_open (ids_of old.inbound.rows) id) refl

@@ -56,20 +56,20 @@ use Rattle.relay.specs.View.{View, square, Leads, waiting_for}
 use Rattle.relay.specs.Rest.{IsAtRest}
 use Rattle.relay.specs.Bringing.{Course, Brings}
 use Rattle.relay.specs.Ways.{IsHeldFor}
-use Rattle.relay.proofs.Coming.{no_outside, inbound_behind, change_between, offers_with, told_of_rows}
+use Rattle.relay.proofs.Coming.{outside_of, inbound_behind, change_between, offers_with, told_of_rows}
 use Rattle.steps.specs.block_frames.Following.{offers_if, held_if, marks_if, dropped_if, dropped_by, followed}
 use Rattle.steps.proofs.block_frames.Lists.{offers_followed}
 use Rattle.steps.proofs.block_frames.Streams.{goes_on_with}
 use Rattle.steps.proofs.block_frames.Before.{box_there, leads_there}
 
-module _ (setup : Setup) (old : View) (rest : IsAtRest old) (noted : Noted) (next : Table) (of : IsOfBlock noted.frame) (mild : is_fatal (fault_in (told_of no_outside old.inbound) (Came noted)) ≡ false)
-    (is_noted : IsNoted (completed_in old.inbound.block noted.frame) (verdict_in (told_of no_outside old.inbound) noted.frame).is_error old.inbound.table noted.note next) (read : is_read noted.note ≡ false → (verdict_in (told_of no_outside old.inbound) noted.frame).is_error ≡ true)
-    (counted : (noted.frame.id == 0) ≡ false) (active : is_active (inbound_behind setup old.inbound noted next).rows noted.frame.id ≡ true) (no_cause : (find (inbound_behind setup old.inbound noted next).rows noted.frame.id).brief.cause ≡ None) where
+module _ (setup : Setup) (old : View) (rest : IsAtRest old) (noted : Noted) (next : Table) (of : IsOfBlock noted.frame) (mild : is_fatal (fault_in (told_of (outside_of old.untaken) old.inbound) (Came noted)) ≡ false)
+    (is_noted : IsNoted (completed_in old.inbound.block noted.frame) (verdict_in (told_of (outside_of old.untaken) old.inbound) noted.frame).is_error old.inbound.table noted.note next) (read : is_read noted.note ≡ false → (verdict_in (told_of (outside_of old.untaken) old.inbound) noted.frame).is_error ≡ true)
+    (counted : (noted.frame.id == 0) ≡ false) (active : is_active (inbound_behind setup old.untaken old.inbound noted next).rows noted.frame.id ≡ true) (no_cause : (find (inbound_behind setup old.untaken old.inbound noted next).rows noted.frame.id).brief.cause ≡ None) where
   abbrev id : ℕ
   id = noted.frame.id
 
   abbrev behind : Inbound
-  behind = inbound_behind setup old.inbound noted next
+  behind = inbound_behind setup old.untaken old.inbound noted next
 
   abbrev behind_view : View
   behind_view = record old { inbound = behind }
@@ -82,7 +82,7 @@ module _ (setup : Setup) (old : View) (rest : IsAtRest old) (noted : Noted) (nex
   serving_now g run s leads = subst (λ (b : Book). IsServing (told_in (summary_in (book_after setup false b (Came noted)))) noted) (sym leads.keeps.book) (record {
     counted = (let some = eqb-false id 0 counted in omega (arith, some));
     served = served;
-    goes_on = goes_on_with (summary_in (book_after setup false (book_of no_outside old.inbound) (Came noted))) id mild active;
+    goes_on = goes_on_with (summary_in (book_after setup false (book_of (outside_of old.untaken) old.inbound) (Came noted))) id mild active;
   })
 
   followed_there : (run : List Move) (s : State) → Leads setup run old square s → offers_with id (change_between old.inbound.rows behind.rows id) old.offers ≡ offers_if (is_active behind.rows id) id old.offers
@@ -96,8 +96,8 @@ module _ (setup : Setup) (old : View) (rest : IsAtRest old) (noted : Noted) (nex
 
   -- ---- a request begins
 
-  module _ (fields : List Field) (ends : Bool) (route : ℕ) (adds : AddsHead setup (told_of no_outside old.inbound) noted (Block fields ends)) where
-    pub brings_begun : (at_once : Bool) → at_once ≡ is_streaming setup.passing → (owed : List Frame) → owes_in setup false (told_of no_outside old.inbound) (Came noted) ≡ owed → (parts : Rattle.request_rules.specs.Heads.HeadParts) → GoesOn setup fields ends parts route
+  module _ (fields : List Field) (ends : Bool) (route : ℕ) (adds : AddsHead setup (told_of (outside_of old.untaken) old.inbound) noted (Block fields ends)) where
+    pub brings_begun : (at_once : Bool) → at_once ≡ is_streaming setup.passing → (owed : List Frame) → owes_in setup false (told_of (outside_of old.untaken) old.inbound) (Came noted) ≡ owed → (parts : Rattle.request_rules.specs.Heads.HeadParts) → GoesOn setup fields ends parts route
         → (due : Due) (new : upstreams.State) → Begins (followed id behind_view).upstreams id route parts ends at_once due new
         → (outputs : List Output) → Brings setup old square outputs (Came noted) (record (followed id behind_view) { upstreams = new }) (record square { owed = owed; due = due; shared = dropped_by id behind_view }) outputs
     brings_begun at_once as_set owed owes parts goes due new begun outputs run s leads =
@@ -130,8 +130,8 @@ module _ (setup : Setup) (old : View) (rest : IsAtRest old) (noted : Noted) (nex
 
   -- ---- trailers end one
 
-  module _ (fields : List Field) (adds : Adds setup (told_of no_outside old.inbound) noted (Block fields true)) (was : is_active old.inbound.rows id ≡ true)
-      (run : List Move) (s : State) (leads : Leads setup run old square s) (held : IsHeldFor (find old.inbound.rows id).brief id old.upstreams.held) (owed : List Frame) (owes : owes_in setup false (told_of no_outside old.inbound) (Came noted) ≡ owed) (outputs : List Output) where
+  module _ (fields : List Field) (adds : Adds setup (told_of (outside_of old.untaken) old.inbound) noted (Block fields true)) (was : is_active old.inbound.rows id ≡ true)
+      (run : List Move) (s : State) (leads : Leads setup run old square s) (held : IsHeldFor (find old.inbound.rows id).brief id old.upstreams.held) (owed : List Frame) (owes : owes_in setup false (told_of (outside_of old.untaken) old.inbound) (Came noted) ≡ owed) (outputs : List Output) where
     abbrev upstream_then : List Held → upstreams.State
     upstream_then hs = record old.upstreams { held = hs }
 

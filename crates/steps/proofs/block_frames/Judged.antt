@@ -1,5 +1,5 @@
 -- What has to be so before the answer is acted on, and what comes of it, by where moves led.
-use Rattle.std.proofs.Common.{◌≡◌, ℕ, ◌<◌, ◌≤◌, ◌⊎◌, Bool, true, false, if◌then◌else◌, List, length, Some, None, refl, sym, ◌∙◌, ap, subst, inl, inr}
+use Rattle.std.proofs.Common.{◌≡◌, ℕ, ◌<◌, ◌≤◌, ◌⊎◌, Bool, true, false, if◌then◌else◌, List, length, Some, None, refl, sym, ◌∙◌, ap, subst, inl, inr, [], ◌∷◌}
 use Rattle.model.specs.Messages.{Field}
 use Rattle.model.specs.Frames.{Frame}
 use Rattle.model.specs.Logs.{Output}
@@ -28,19 +28,21 @@ use Rattle.policy.specs.Moves.{Move}
 use Rattle.policy.specs.State.{State}
 use Rattle.relay.specs.View.{View, square, Leads}
 use Rattle.relay.specs.Rest.{IsAtRest}
-use Rattle.relay.proofs.Coming.{no_outside, inbound_behind}
+use Rattle.relay.proofs.Coming.{outside_of, inbound_behind}
 use Rattle.relay.proofs.Heads.{none_cut_behind, begun_if_out}
 use Rattle.relay.proofs.Resets.{inactive}
 use Rattle.serving.specs.State.{is_streaming}
 use Rattle.relay.proofs.HeldFor.{go_on_so}
 use Rattle.steps.specs.block_frames.Following.{IsNewest, farewell_behind}
-use Rattle.steps.specs.block_frames.Acting.{IsActed, MayAct}
+use Rattle.steps.specs.Comings.{ComesFrom}
+use Rattle.steps.specs.Inputs.Input.{OfFrame}
+use Rattle.steps.specs.block_frames.Acting.{IsActed, MayAct, IsStopped}
 use Rattle.steps.specs.block_frames.Taken.{IsBlockTaken}
 use Rattle.steps.specs.declared.block_frames.taking.BlockTaken.{BlockTaken}
 use Rattle.steps.proofs.block_frames.Before.{left_is, kept_rows, few, not_half, box_there, newest_behind}
-use Rattle.steps.proofs.block_frames.Assembled.{reset_is, fatal_taken, stream_taken, discarded_taken, part_taken, ignored_taken}
+use Rattle.steps.proofs.block_frames.Assembled.{reset_is, fatal_taken, stream_taken, discarded_taken, part_taken, ignored_taken, stream_stopped}
 use Rattle.steps.proofs.block_frames.Requests.{active, ended_is, begun_taken, may_end_then, ended_taken}
-use Rattle.steps.proofs.block_frames.Replies.{replied_taken}
+use Rattle.steps.proofs.block_frames.Replies.{replied_taken, replied_stopped}
 
 module _ (setup : Setup) (old : View) (rest : IsAtRest old) (run : List Move) (s : State) (leads : Leads setup run old square s) (frame : Frame) (of : IsOfBlock frame) (at_once : Bool) where
   abbrev id : ℕ
@@ -92,45 +94,45 @@ module _ (setup : Setup) (old : View) (rest : IsAtRest old) (run : List Move) (s
     newest_if : (rows : List Row) → mid.rows ≡ rows → IsNewest (is_active rows id) id old.offers → IsNewest (is_active mid.rows id) id old.offers
     newest_if rows same is = subst (λ (rs : List Row). IsNewest (is_active rs id) id old.offers) (sym same) is
 
-    newest_taken : (answer : BlockJudged) (is : IsFragmentJudged setup no_outside old.inbound frame mid answer) → is_fatal (Rattle.conduct.specs.Owing.fault_in (told_of no_outside old.inbound) (Came (record { frame = frame; note = is.note }))) ≡ false
-        → mid ≡ inbound_behind setup old.inbound (record { frame = frame; note = is.note }) is.next → IsNewest (is_active mid.rows id) id old.offers
+    newest_taken : (answer : BlockJudged) (is : IsFragmentJudged setup (outside_of old.untaken) old.inbound frame mid answer) → is_fatal (Rattle.conduct.specs.Owing.fault_in (told_of (outside_of old.untaken) old.inbound) (Came (record { frame = frame; note = is.note }))) ≡ false
+        → mid ≡ inbound_behind setup old.untaken old.inbound (record { frame = frame; note = is.note }) is.next → IsNewest (is_active mid.rows id) id old.offers
     newest_taken answer is mild same =
-        newest_if (inbound_behind setup old.inbound (record { frame = frame; note = is.note }) is.next).rows (ap (λ (i : Inbound). i.rows) same)
+        newest_if (inbound_behind setup old.untaken old.inbound (record { frame = frame; note = is.note }) is.next).rows (ap (λ (i : Inbound). i.rows) same)
         (newest_behind setup old rest run s leads (record { frame = frame; note = is.note }) is.next of mild is.is_noted is.read)
 
     -- An outbox may be made for the stream, where one is to be.
-    pub newest : (answer : BlockJudged) → IsFragmentJudged setup no_outside old.inbound frame mid answer → IsNewest (is_active mid.rows id) id old.offers
+    pub newest : (answer : BlockJudged) → IsFragmentJudged setup (outside_of old.untaken) old.inbound frame mid answer → IsNewest (is_active mid.rows id) id old.offers
     newest (judged.Failed (fault.Connection code)) is = λ on none. absurd (let no : true ≡ false = sym (ap (λ (rows : List Row). is_active rows id) (sym is.judged.left) ∙ on) ∙ (sym (box_there setup old rest run s leads id) ∙ none) in cc)
     newest (judged.Failed (fault.Stream code)) is = λ on none.
-        absurd (let no : true ≡ false = sym (ap (λ (i : Inbound). is_active i.rows id) (sym (reset_is setup old.inbound mid (record { frame = frame; note = is.note }) is.next code rows_are is.judged.left is.stays is.table)) ∙ on) ∙ inactive id true (inbound_behind setup old.inbound (record { frame = frame; note = is.note }) is.next).rows in cc)
-    newest (judged.Failed fault.Discarded) is = newest_taken (judged.Failed fault.Discarded) is (ap is_fatal is.judged.is) (left_is setup old.inbound mid (record { frame = frame; note = is.note }) is.next is.judged.left is.stays is.table)
-    newest judged.GoesOn is = newest_taken judged.GoesOn is (ap is_fatal is.judged.faultless) (left_is setup old.inbound mid (record { frame = frame; note = is.note }) is.next is.judged.left is.stays is.table)
-    newest (judged.Begins head route) is = newest_taken (judged.Begins head route) is (ap is_fatal is.judged.faultless) (left_is setup old.inbound mid (record { frame = frame; note = is.note }) is.next is.judged.left is.stays is.table)
-    newest (judged.Answered why) is = newest_taken (judged.Answered why) is (ap is_fatal is.judged.faultless) (left_is setup old.inbound mid (record { frame = frame; note = is.note }) is.next is.judged.left is.stays is.table)
-    newest (judged.Trailers trailers) is = newest_taken (judged.Trailers trailers) is (ap is_fatal is.judged.faultless) (left_is setup old.inbound mid (record { frame = frame; note = is.note }) is.next is.judged.left is.stays is.table)
-    newest judged.Ignored is = newest_taken judged.Ignored is (ap is_fatal is.judged.faultless) (left_is setup old.inbound mid (record { frame = frame; note = is.note }) is.next is.judged.left is.stays is.table)
+        absurd (let no : true ≡ false = sym (ap (λ (i : Inbound). is_active i.rows id) (sym (reset_is setup old.untaken old.inbound mid (record { frame = frame; note = is.note }) is.next code rows_are is.judged.left is.stays is.table)) ∙ on) ∙ inactive id true (inbound_behind setup old.untaken old.inbound (record { frame = frame; note = is.note }) is.next).rows in cc)
+    newest (judged.Failed fault.Discarded) is = newest_taken (judged.Failed fault.Discarded) is (ap is_fatal is.judged.is) (left_is setup old.untaken old.inbound mid (record { frame = frame; note = is.note }) is.next is.judged.left is.stays is.table)
+    newest judged.GoesOn is = newest_taken judged.GoesOn is (ap is_fatal is.judged.faultless) (left_is setup old.untaken old.inbound mid (record { frame = frame; note = is.note }) is.next is.judged.left is.stays is.table)
+    newest (judged.Begins head route) is = newest_taken (judged.Begins head route) is (ap is_fatal is.judged.faultless) (left_is setup old.untaken old.inbound mid (record { frame = frame; note = is.note }) is.next is.judged.left is.stays is.table)
+    newest (judged.Answered why) is = newest_taken (judged.Answered why) is (ap is_fatal is.judged.faultless) (left_is setup old.untaken old.inbound mid (record { frame = frame; note = is.note }) is.next is.judged.left is.stays is.table)
+    newest (judged.Trailers trailers) is = newest_taken (judged.Trailers trailers) is (ap is_fatal is.judged.faultless) (left_is setup old.untaken old.inbound mid (record { frame = frame; note = is.note }) is.next is.judged.left is.stays is.table)
+    newest judged.Ignored is = newest_taken judged.Ignored is (ap is_fatal is.judged.faultless) (left_is setup old.untaken old.inbound mid (record { frame = frame; note = is.note }) is.next is.judged.left is.stays is.table)
 
     -- The answer may be acted on.
-    pub may_act : (answer : BlockJudged) → IsFragmentJudged setup no_outside old.inbound frame mid answer → MayAct id answer mid_view
+    pub may_act : (answer : BlockJudged) → IsFragmentJudged setup (outside_of old.untaken) old.inbound frame mid answer → MayAct id answer mid_view
     may_act (judged.Failed found) is = tt
     may_act judged.GoesOn is = tt
     may_act judged.Ignored is = tt
     may_act (judged.Begins head route) is =
         let says = is.judged.says in
-        let same = left_is setup old.inbound mid (record { frame = frame; note = is.note }) is.next is.judged.left is.stays is.table in
+        let same = left_is setup old.untaken old.inbound mid (record { frame = frame; note = is.note }) is.next is.judged.left is.stays is.table in
         record {
           active = ap (λ (i : Inbound). is_active i.rows id) same ∙ active setup old rest frame mid of rows_are few_are outputs small half calm (judged.Begins head route) is is.judged.faultless says.0 says.2 says.1 says.3;
           no_body = λ ended. says.4.2.no_body (sym (ended_is setup old rest frame mid of rows_are few_are outputs small half calm (judged.Begins head route) is is.judged.faultless says.0 says.2 says.1 says.3) ∙ (ap (λ (i : Inbound). (find i.rows id).ended_by_client) (sym same) ∙ ended));
         }
     may_act (judged.Answered why) is =
         let says = is.judged.says in
-        let same = left_is setup old.inbound mid (record { frame = frame; note = is.note }) is.next is.judged.left is.stays is.table in
+        let same = left_is setup old.untaken old.inbound mid (record { frame = frame; note = is.note }) is.next is.judged.left is.stays is.table in
         ap (λ (i : Inbound). is_active i.rows id) same ∙ active setup old rest frame mid of rows_are few_are outputs small half calm (judged.Answered why) is is.judged.faultless says.0 says.2 says.1 says.3
     may_act (judged.Trailers trailers) is = may_end_then setup old rest frame mid of rows_are few_are outputs small half calm trailers is run s leads
 
     -- ---- what comes of it, for any setup
 
-    pub all_taken : (judging : Setup) → at_once ≡ is_streaming judging.passing → (answer : BlockJudged) → IsFragmentJudged judging no_outside old.inbound frame mid answer → (result : BlockTaken) (new : View) (put_out : List Output) → IsActed id at_once answer (farewell_behind (length old.inbound.rows) mid.rows) mid_view outputs result new put_out → IsBlockTaken judging old outputs frame result new put_out
+    pub all_taken : (judging : Setup) → at_once ≡ is_streaming judging.passing → (answer : BlockJudged) → IsFragmentJudged judging (outside_of old.untaken) old.inbound frame mid answer → (result : BlockTaken) (new : View) (put_out : List Output) → IsActed id at_once answer (farewell_behind (length old.inbound.rows) mid.rows) mid_view outputs result new put_out → IsBlockTaken judging old outputs frame result new put_out
     all_taken judging passes (judged.Failed (fault.Connection code)) is result new put_out acted = fatal_taken judging old rest frame mid of rows_are few_are outputs small at_once code is result new put_out acted
     all_taken judging passes (judged.Failed (fault.Stream code)) is result new put_out acted = stream_taken judging old rest frame mid of rows_are few_are outputs small at_once code is result new put_out acted
     all_taken judging passes (judged.Failed fault.Discarded) is result new put_out acted = discarded_taken judging old rest frame mid of rows_are few_are outputs small at_once is result new put_out acted
@@ -140,3 +142,15 @@ module _ (setup : Setup) (old : View) (rest : IsAtRest old) (run : List Move) (s
     all_taken judging passes (judged.Trailers trailers) is result new put_out acted = ended_taken judging old rest frame mid of rows_are few_are outputs small half calm trailers is result new put_out acted
     all_taken judging passes (judged.Answered why) is result new put_out acted =
         replied_taken judging old rest frame mid of rows_are few_are outputs small half calm why is (none_cut_own judging why is.judged.says.1 is.judged.says.4.0 is.judged.says.4.1) result new put_out acted
+
+    -- Where the connection was ended in place of what it calls for, this is right.
+    pub all_stopped : (judging : Setup) (answer : BlockJudged) → IsFragmentJudged judging (outside_of old.untaken) old.inbound frame mid answer → (p : List Output) → IsStopped id answer (farewell_behind (length old.inbound.rows) mid.rows) mid_view outputs p → ComesFrom judging old square outputs (OfFrame frame ∷ []) square None p
+    all_stopped judging (judged.Failed (fault.Connection code)) is p stopped = absurd stopped
+    all_stopped judging (judged.Failed (fault.Stream code)) is p stopped = stream_stopped judging old rest frame mid of rows_are few_are outputs small at_once code is p stopped
+    all_stopped judging (judged.Failed fault.Discarded) is p stopped = absurd stopped
+    all_stopped judging judged.GoesOn is p stopped = absurd stopped
+    all_stopped judging judged.Ignored is p stopped = absurd stopped
+    all_stopped judging (judged.Begins head route) is p stopped = absurd stopped
+    all_stopped judging (judged.Trailers trailers) is p stopped = absurd stopped
+    all_stopped judging (judged.Answered why) is p stopped =
+        replied_stopped judging old rest frame mid of rows_are few_are outputs small half calm why is (none_cut_own judging why is.judged.says.1 is.judged.says.4.0 is.judged.says.4.1) p stopped

@@ -1,5 +1,6 @@
 -- What comes of a frame with a fragment, by the judgement's answer and what was done.
-use Rattle.std.proofs.Common.{◌≡◌, ℕ, ◌<◌, ◌≤◌, ◌+◌, ◌⊎◌, Bool, true, false, ◌||◌, ◌==◌, if◌then◌else◌, List, [], ◌∷◌, ◌++◌, length, Option, Some, None, refl, sym, ◌∙◌, ap, subst, inl, inr}
+use Rattle.std.proofs.Common.{◌≡◌, ℕ, ◌<◌, ◌≤◌, ◌+◌, ◌⊎◌, Bool, true, false, ◌||◌, ◌==◌, if◌then◌else◌, List, [], ◌∷◌, ◌++◌, length, Option, Some, None, refl, sym, ◌∙◌, ap, subst, inl, inr, nat_lt}
+use Rattle.std.specs.Prelude.{is_some}
 use Rattle.model.specs.Frames.{Frame}
 use Rattle.model.specs.Logs.{Output}
 use Rattle.model.specs.Setup.{Setup}
@@ -30,17 +31,21 @@ use Rattle.judgement.specs.declared.answers.BlockJudged.{BlockJudged}
 use Rattle.upstreams.specs.Connections.{lives}
 use Rattle.upstreams.specs.Requests.{due_by}
 use Rattle.serving.specs.State.{Due}
+use Rattle.serving.specs.State.Due.{Nothing}
 use Rattle.policy.specs.Rule.{added_in}
 use Rattle.relay.specs.View.{View, square, waiting_for}
 use Rattle.relay.specs.Rest.{IsAtRest, NoneCut}
 use Rattle.relay.specs.Bringing.{Brings}
 use Rattle.relay.proofs.Answered.{block_owes_at_fault, block_failed}
 use Rattle.relay.proofs.Gaining.{caused}
-use Rattle.relay.proofs.Coming.{no_outside, inbound_behind}
+use Rattle.relay.proofs.Coming.{outside_of, inbound_behind}
 use Rattle.relay.proofs.Waits.{behind_rows}
 use Rattle.steps.specs.Closings.{IsAbout}
 use Rattle.steps.proofs.Closings.{about_changed, about_then, frame_served}
-use Rattle.steps.specs.block_frames.Following.{followed, dropped_by, farewell_behind, farewell_frames, with_farewell, put_farewell}
+use Rattle.model.specs.Admission.{most_untaken}
+use Rattle.steps.specs.Comings.{ComesFrom}
+use Rattle.steps.specs.Inputs.Input.{OfFrame}
+use Rattle.steps.specs.block_frames.Following.{followed, dropped_by, farewell_behind, farewell_frames, with_farewell, put_farewell, IsCalmedBehind}
 use Rattle.steps.specs.block_frames.Acting.{IsFollowed, IsReset}
 use Rattle.steps.specs.block_frames.Taken.{IsFatalFrame, IsBlockTaken}
 use Rattle.steps.specs.declared.block_frames.taking.BlockTaken.{BlockTaken}
@@ -48,14 +53,15 @@ use Rattle.steps.specs.declared.block_frames.taking.BlockTaken.TheVariants as ta
 use Rattle.steps.proofs.block_frames.Lists.{cut_followed, cut_without}
 use Rattle.steps.proofs.block_frames.Streams.{ids_behind}
 use Rattle.steps.proofs.block_frames.Before.{farewell_is}
-use Rattle.steps.proofs.block_frames.Cases.{brings_followed, brings_reset, not_to_open}
+use Rattle.steps.proofs.block_frames.Lasts.{farewell_free}
+use Rattle.steps.proofs.block_frames.Cases.{brings_followed, brings_reset, not_to_open, brings_stopped, calmed_behind_as}
 
 module _ (setup : Setup) (old : View) (rest : IsAtRest old) (frame : Frame) (mid : Inbound) (of : IsOfBlock frame) (kept : AreKept old.inbound.rows) (few_rows : length (ids_of old.inbound.rows) ≤ most_streams) (outputs : List Output) (small : frame.id < 2147483648) where
   abbrev id : ℕ
   id = frame.id
 
   abbrev told : Summary
-  told = told_of no_outside old.inbound
+  told = told_of (outside_of old.untaken) old.inbound
 
   abbrev last : Option ℕ
   last = farewell_behind (length old.inbound.rows) mid.rows
@@ -63,12 +69,12 @@ module _ (setup : Setup) (old : View) (rest : IsAtRest old) (frame : Frame) (mid
   abbrev mid_view : View
   mid_view = record old { inbound = mid }
 
-  module _ (answer : BlockJudged) (is : IsFragmentJudged setup no_outside old.inbound frame mid answer) where
+  module _ (answer : BlockJudged) (is : IsFragmentJudged setup (outside_of old.untaken) old.inbound frame mid answer) where
     abbrev noted : Noted
     noted = record { frame = frame; note = is.note }
 
     abbrev behind : Inbound
-    behind = inbound_behind setup old.inbound noted is.next
+    behind = inbound_behind setup old.untaken old.inbound noted is.next
 
     -- ---- an error of the connection
 
@@ -96,7 +102,7 @@ module _ (setup : Setup) (old : View) (rest : IsAtRest old) (frame : Frame) (mid
     -- ---- no stream is opened but the frame's
 
     pub opened_so : (rows : List Row) → ids_of rows ≡ ids_of behind.rows → (other : ℕ) → has rows other ≡ true → (has old.inbound.rows other ≡ true) ⊎ (id ≡ other)
-    opened_so rows same other there = by (opens_by (ids_of old.inbound.rows) (completed_in old.inbound.block frame) is.note) (ap (λ (ids : List ℕ). Rattle.std.specs.List.list_any (λ n. n == other) ids) (sym (same ∙ ids_behind setup (book_of no_outside old.inbound) noted kept)) ∙ there)
+    opened_so rows same other there = by (opens_by (ids_of old.inbound.rows) (completed_in old.inbound.block frame) is.note) (ap (λ (ids : List ℕ). Rattle.std.specs.List.list_any (λ n. n == other) ids) (sym (same ∙ ids_behind setup (book_of (outside_of old.untaken) old.inbound) noted kept)) ∙ there)
       where
         by : (b : Bool) → Rattle.std.specs.List.list_any (λ n. n == other) (if b then id ∷ ids_of old.inbound.rows else ids_of old.inbound.rows) ≡ true → (has old.inbound.rows other ≡ true) ⊎ (id ≡ other)
         by false e = inl e
@@ -106,7 +112,15 @@ module _ (setup : Setup) (old : View) (rest : IsAtRest old) (frame : Frame) (mid
         ]
 
     pub farewell : ids_of mid.rows ≡ ids_of behind.rows → last_farewell_in told (Came noted) ≡ farewell_frames last
-    farewell same = farewell_is setup old.inbound noted kept mid.rows same
+    farewell same = farewell_is setup old.untaken old.inbound noted kept mid.rows same
+
+    -- where a farewell is owed behind a frame that is no fault, it can go
+    pub farewell_alone : (new : View) → new.untaken ≡ old.untaken → ids_of mid.rows ≡ ids_of behind.rows → fault_in told (Came noted) ≡ None → (left : Option ℕ) → left ≡ last → is_some left ≡ true → nat_lt most_untaken new.untaken ≡ true → (due : Due) → due ≡ Nothing
+    farewell_alone new untaken same faultless left is some crowded due =
+        absurd (
+        let no : true ≡ false = sym crowded ∙ ap (nat_lt most_untaken) untaken ∙ farewell_free told noted faultless last (farewell same) (sym (ap is_some is) ∙ some) in
+        cc
+        )
 
     -- it is no cause where its stream's cause stays
     pub none_caused : first_of_both (find old.inbound.rows id).brief.cause (caused setup told noted) ≡ (find old.inbound.rows id).brief.cause → found_by (find old.inbound.rows id).brief.cause (find behind.rows id).brief.cause ≡ None
@@ -124,7 +138,7 @@ module _ (setup : Setup) (old : View) (rest : IsAtRest old) (frame : Frame) (mid
 
     module _ (fine : is_fatal (fault_in told (Came noted)) ≡ false) where
       pub served_so : (other : ℕ) → (id == other) ≡ false → is_served behind.rows other ≡ is_served old.inbound.rows other
-      served_so other apart = frame_served setup (book_of no_outside old.inbound) noted fine kept other apart
+      served_so other apart = frame_served setup (book_of (outside_of old.untaken) old.inbound) noted fine kept other apart
 
       pub about_so : (new : View) → new.inbound.rows ≡ behind.rows → lives new.upstreams.live ≡ lives old.upstreams.live → IsAbout id old new
       about_so new rows live = record { served = λ other apart. ap (λ (rs : List Row). is_served rs other) rows ∙ served_so other apart; live = live }
@@ -151,6 +165,7 @@ module _ (setup : Setup) (old : View) (rest : IsAtRest old) (frame : Frame) (mid
             (brings_followed setup old rest noted is.next of mild is.is_noted is.read adds (farewell_frames last) owes (none_caused cause) outputs))))));
         none_cut = subst (λ (v : View). NoneCut v.offers) (sym acted.kept) (cut_followed (is_active mid.rows id) id old.offers rest.none_cut);
         about = about_so mild new (ap (λ (v : View). v.inbound.rows) acted.kept ∙ ap (λ (i : Inbound). i.rows) same) (ap (λ (v : View). lives v.upstreams.live) acted.kept);
+        alone = λ some crowded. acted.goes.0;
         ids = λ other there. opened_so new.inbound.rows (ap (λ (v : View). ids_of v.inbound.rows) acted.kept ∙ ap (λ (i : Inbound). ids_of i.rows) same) other there;
       }
 
@@ -168,16 +183,21 @@ module _ (setup : Setup) (old : View) (rest : IsAtRest old) (frame : Frame) (mid
             (subst (λ n. Brings setup old square outputs (Came noted) target (record square { owed = farewell_frames farewell_left; shared = n }) out_then) (sym acted.goes.2)
             (subst (λ (l : Option ℕ). Brings setup old square outputs (Came noted) target (record square { owed = farewell_frames l; shared = waiting_for id old }) out_then) (sym acted.goes.1)
             (subst (λ (i : Inbound). Brings setup old square outputs (Came noted) (record (Rattle.steps.specs.block_frames.Following.forgotten id (record old { inbound = i })) { untaken = (with_farewell last old).untaken + length (Rattle.model.specs.Frames.spell (rst_stream id code)) }) (record square { shared = waiting_for id old }) out_then) (sym same)
-            (brings_reset setup old rest noted is.next of mild is.is_noted is.read (block_failed setup (book_of no_outside old.inbound) noted of few_rows (errors.Fault.Stream code) fault) last code
-            (block_owes_at_fault setup (book_of no_outside old.inbound) noted of few_rows (errors.Fault.Stream code) refl fault ∙ ap (λ (fs : List Frame). fs ++ rst_stream id code ∷ []) (farewell same_rows))
-            (not_to_open setup old rest noted is.next of mild is.is_noted is.read (errors.Fault.Stream code) fault) small outputs))))));
+            (brings_reset setup old rest noted is.next of mild is.is_noted is.read (block_failed setup (book_of (outside_of old.untaken) old.inbound) noted of few_rows (errors.Fault.Stream code) fault) last code
+            (block_owes_at_fault setup (book_of (outside_of old.untaken) old.inbound) noted of few_rows (errors.Fault.Stream code) refl fault ∙ ap (λ (fs : List Frame). fs ++ rst_stream id code ∷ []) (farewell same_rows))
+            (not_to_open setup old rest noted is.next of mild is.is_noted is.read (errors.Fault.Stream code) fault) small (free_same last acted.few) outputs))))));
         none_cut = subst (λ (v : View). NoneCut v.offers) (sym acted.kept) (cut_without id old.offers rest.none_cut);
         about = reset_about mild new (ap (λ (v : View). v.inbound.rows) acted.kept ∙ ap (λ (i : Inbound). i.rows) same) (ap (λ (v : View). lives v.upstreams.live) acted.kept);
+        alone = λ some crowded. acted.goes.0;
         ids = λ other there. opened_so new.inbound.rows (ap (λ (v : View). ids_of v.inbound.rows) acted.kept ∙ same_rows) other there;
       }
         where
           same_rows : ids_of mid.rows ≡ ids_of behind.rows
           same_rows = ap (λ (i : Inbound). ids_of i.rows) same ∙ same_ids id (Over true) behind.rows
+
+          free_same : (l : Option ℕ) → nat_lt most_untaken (with_farewell l mid_view).untaken ≡ false → nat_lt most_untaken (with_farewell l old).untaken ≡ false
+          free_same None free = free
+          free_same (Some n) free = free
 
           out_then : List Output
           out_then = Rattle.model.specs.Tapes.put (put_farewell last outputs) (Rattle.model.specs.Logs.Output.ToClient (Rattle.model.specs.Frames.spell (rst_stream id code)))
@@ -188,3 +208,15 @@ module _ (setup : Setup) (old : View) (rest : IsAtRest old) (frame : Frame) (mid
           untaken_same : (l : Option ℕ) → record (Rattle.steps.specs.block_frames.Following.forgotten id mid_view) { untaken = (with_farewell l mid_view).untaken + length (Rattle.model.specs.Frames.spell (rst_stream id code)) } ≡ record (Rattle.steps.specs.block_frames.Following.forgotten id mid_view) { untaken = (with_farewell l old).untaken + length (Rattle.model.specs.Frames.spell (rst_stream id code)) }
           untaken_same None = refl
           untaken_same (Some n) = refl
+
+      -- It can't be, and the connection ends.
+      pub passed_stopped : (code : ℕ) → mid ≡ record behind { rows = changed id (Over true) behind.rows } → fault_in told (Came noted) ≡ Some (errors.Fault.Stream code)
+          → (p : List Output) → IsCalmedBehind last mid_view outputs p → ComesFrom setup old square outputs (OfFrame frame ∷ []) square None p
+      passed_stopped code same fault p calmed =
+          brings_stopped setup old rest noted is.next of mild is.is_noted is.read (block_failed setup (book_of (outside_of old.untaken) old.inbound) noted of few_rows (errors.Fault.Stream code) fault) last code
+          (block_owes_at_fault setup (book_of (outside_of old.untaken) old.inbound) noted of few_rows (errors.Fault.Stream code) refl fault ∙ ap (λ (fs : List Frame). fs ++ rst_stream id code ∷ []) (farewell same_rows))
+          outputs p
+          (calmed_behind_as last mid_view (record old { inbound = behind }) outputs p same_rows refl refl calmed)
+        where
+          same_rows : ids_of mid.rows ≡ ids_of behind.rows
+          same_rows = ap (λ (i : Inbound). ids_of i.rows) same ∙ same_ids id (Over true) behind.rows

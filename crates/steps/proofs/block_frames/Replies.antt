@@ -1,5 +1,5 @@
 -- The gateway answers a request itself, as the judgement says: all that comes of it.
-use Rattle.std.proofs.Common.{◌≡◌, ℕ, ◌<◌, ◌≤◌, ◌+◌, ◌⊎◌, Bool, true, false, not, List, [], ◌++◌, append-nil, length, Option, Some, None, refl, sym, ◌∙◌, ap, subst, inl, inr}
+use Rattle.std.proofs.Common.{◌≡◌, ℕ, ◌<◌, ◌≤◌, ◌+◌, ◌⊎◌, Bool, true, false, not, List, [], ◌++◌, append-nil, length, Option, Some, None, refl, sym, ◌∙◌, ap, subst, inl, inr, nat_lt, ◌∷◌}
 use Rattle.std.proofs.lemmas.Bool.{and_parts}
 use Rattle.model.specs.Messages.{Field}
 use Rattle.model.specs.Frames.{Frame, spell}
@@ -41,14 +41,18 @@ use Rattle.relay.specs.View.{View, square, waiting_for}
 use Rattle.relay.specs.Rest.{IsAtRest, NoneCut}
 use Rattle.relay.specs.Bringing.{Brings}
 use Rattle.relay.proofs.Answered.{whole_gain, whole_owes, caused_by}
-use Rattle.relay.proofs.Coming.{no_outside, inbound_behind}
-use Rattle.steps.specs.block_frames.Following.{followed, forgotten, dropped_by, farewell_behind, farewell_frames, with_farewell, put_farewell}
-use Rattle.steps.specs.block_frames.Acting.{IsReplied, IsReset, IsOffered}
+use Rattle.relay.proofs.Coming.{outside_of, inbound_behind}
+use Rattle.model.specs.Admission.{most_untaken}
+use Rattle.steps.specs.Comings.{ComesFrom}
+use Rattle.steps.specs.Inputs.Input.{OfFrame}
+use Rattle.steps.specs.Stopping.{reset_marked}
+use Rattle.steps.specs.block_frames.Following.{followed, forgotten, dropped_by, farewell_behind, farewell_frames, with_farewell, put_farewell, IsCalmedBehind}
+use Rattle.steps.specs.block_frames.Acting.{IsReplied, IsReset, IsOffered, IsCutShort}
 use Rattle.steps.specs.block_frames.Taken.{IsBlockTaken}
 use Rattle.steps.specs.declared.block_frames.taking.BlockTaken.{BlockTaken}
 use Rattle.steps.specs.declared.block_frames.taking.BlockTaken.TheVariants as taken
 use Rattle.steps.proofs.block_frames.Before.{left_is}
-use Rattle.steps.proofs.block_frames.Cases.{brings_replied, brings_reset}
+use Rattle.steps.proofs.block_frames.Cases.{brings_replied, brings_reset, brings_stopped, calmed_behind_as}
 use Rattle.steps.proofs.block_frames.Lists.{cut_followed, cut_without, cut_replied, cut_begun}
 use Rattle.steps.proofs.block_frames.Passed.{farewell, opened_so, about_so, reset_about}
 use Rattle.steps.proofs.block_frames.Streams.{found_behind}
@@ -56,16 +60,16 @@ use Rattle.steps.proofs.block_frames.Requests.{active}
 
 module _ (setup : Setup) (old : View) (rest : IsAtRest old) (frame : Frame) (mid : Inbound) (of : IsOfBlock frame) (kept : AreKept old.inbound.rows) (few_rows : length (ids_of old.inbound.rows) ≤ most_streams) (outputs : List Output) (small : frame.id < 2147483648)
     (not_half : is_over_in (find old.inbound.rows frame.id) ≡ false → (find old.inbound.rows frame.id).ended_by_gateway ≡ false) (calm : (find old.inbound.rows frame.id).brief.over ≡ false → (find old.inbound.rows frame.id).brief.cause ≡ None)
-    (why : Why) (is : IsFragmentJudged setup no_outside old.inbound frame mid (judged.Answered why))
+    (why : Why) (is : IsFragmentJudged setup (outside_of old.untaken) old.inbound frame mid (judged.Answered why))
     (own : (k : offering.Kept) → offering.find frame.id old.offers.kept ≡ Some k → ((find old.inbound.rows frame.id).head_out ≡ false) ⊎ (reset_code (cause_of why) ≡ None) → (offering.answered (cause_of why) k).cut ≡ false) where
   abbrev id : ℕ
   id = frame.id
 
   abbrev told : Summary
-  told = told_of no_outside old.inbound
+  told = told_of (outside_of old.untaken) old.inbound
 
   abbrev book : Book
-  book = book_of no_outside old.inbound
+  book = book_of (outside_of old.untaken) old.inbound
 
   abbrev last : Option ℕ
   last = farewell_behind (length old.inbound.rows) mid.rows
@@ -74,7 +78,7 @@ module _ (setup : Setup) (old : View) (rest : IsAtRest old) (frame : Frame) (mid
   noted = record { frame = frame; note = is.note }
 
   abbrev behind : Inbound
-  behind = inbound_behind setup old.inbound noted is.next
+  behind = inbound_behind setup old.untaken old.inbound noted is.next
 
   abbrev cause : Cause
   cause = cause_of why
@@ -83,7 +87,7 @@ module _ (setup : Setup) (old : View) (rest : IsAtRest old) (frame : Frame) (mid
   says = is.judged.says
 
   same : mid ≡ behind
-  same = left_is setup old.inbound mid noted is.next is.judged.left is.stays is.table
+  same = left_is setup old.untaken old.inbound mid noted is.next is.judged.left is.stays is.table
 
   same_rows : ids_of mid.rows ≡ ids_of behind.rows
   same_rows = ap (λ (i : Inbound). ids_of i.rows) same
@@ -131,6 +135,7 @@ module _ (setup : Setup) (old : View) (rest : IsAtRest old) (frame : Frame) (mid
         (brings_replied setup old rest noted is.next of (ap is_fatal is.judged.faultless) is.is_noted is.read none_gained (farewell_frames last) cause (owed_so ∙ none) now_caused live outputs)))));
     none_cut = subst (λ (v : View). NoneCut v.offers) (sym (acted.kept ∙ ap target same)) cut;
     about = about_so setup old rest frame mid of kept few_rows outputs small (judged.Answered why) is (ap is_fatal is.judged.faultless) new (ap (λ (v : View). v.inbound.rows) acted.kept ∙ ap (λ (i : Inbound). i.rows) same) (ap (λ (v : View). lives v.upstreams.live) acted.kept);
+    alone = λ some crowded. acted.goes.0;
     ids = λ other there. opened_so setup old rest frame mid of kept few_rows outputs small (judged.Answered why) is new.inbound.rows (ap (λ (v : View). ids_of v.inbound.rows) acted.kept ∙ same_rows) other there;
   }
     where
@@ -156,9 +161,10 @@ module _ (setup : Setup) (old : View) (rest : IsAtRest old) (frame : Frame) (mid
         (subst (λ n. Brings setup old square outputs (Came noted) (target behind) (record square { owed = farewell_frames farewell_left; shared = n }) out_then) (sym acted.goes.2)
         (subst (λ (l : Option ℕ). Brings setup old square outputs (Came noted) (target behind) (record square { owed = farewell_frames l; shared = waiting_for id old }) out_then) (sym acted.goes.1)
         (brings_reset setup old rest noted is.next of (ap is_fatal is.judged.faultless) is.is_noted is.read none_gained last code
-        (owed_so ∙ ap (λ b. farewell_frames last ++ reset_for id b None (Some cause)) out ∙ ap (λ (o : Option ℕ). farewell_frames last ++ Rattle.model.specs.ErrorClause.reset_with id o) coded) known small outputs)))));
+        (owed_so ∙ ap (λ b. farewell_frames last ++ reset_for id b None (Some cause)) out ∙ ap (λ (o : Option ℕ). farewell_frames last ++ Rattle.model.specs.ErrorClause.reset_with id o) coded) known small (free_same last acted.few) outputs)))));
     none_cut = subst (λ (v : View). NoneCut v.offers) (sym acted.kept) (cut_without id old.offers rest.none_cut);
     about = reset_about setup old rest frame mid of kept few_rows outputs small (judged.Answered why) is (ap is_fatal is.judged.faultless) new (ap (λ (v : View). v.inbound.rows) acted.kept ∙ ap (λ (i : Inbound). changed id (Over true) i.rows) same) (ap (λ (v : View). lives v.upstreams.live) acted.kept);
+    alone = λ some crowded. acted.goes.0;
     ids = λ other there. opened_so setup old rest frame mid of kept few_rows outputs small (judged.Answered why) is new.inbound.rows (ap (λ (v : View). ids_of v.inbound.rows) acted.kept ∙ same_ids id (Over true) mid.rows ∙ same_rows) other there;
   }
     where
@@ -171,6 +177,10 @@ module _ (setup : Setup) (old : View) (rest : IsAtRest old) (frame : Frame) (mid
       gone : View
       gone = record old { inbound = record mid { rows = changed id (Over true) mid.rows } }
 
+      free_same : (l : Option ℕ) → nat_lt most_untaken (with_farewell l gone).untaken ≡ false → nat_lt most_untaken (with_farewell l old).untaken ≡ false
+      free_same None free = free
+      free_same (Some n) free = free
+
       untaken_same : (l : Option ℕ) → record (forgotten id gone) { untaken = (with_farewell l gone).untaken + length (spell (rst_stream id code)) } ≡ record (forgotten id gone) { untaken = (with_farewell l old).untaken + length (spell (rst_stream id code)) }
       untaken_same None = refl
       untaken_same (Some n) = refl
@@ -182,3 +192,18 @@ module _ (setup : Setup) (old : View) (rest : IsAtRest old) (frame : Frame) (mid
       by true out (Some code) coded acted = reset_so code out coded result new put_out acted
       by true out None coded acted = offered (ap (λ b. farewell_frames last ++ reset_for id b None (Some cause)) out ∙ ap (λ (o : Option ℕ). farewell_frames last ++ Rattle.model.specs.ErrorClause.reset_with id o) coded ∙ append-nil _) (inr coded) result new put_out acted
       by false out o coded acted = offered (ap (λ b. farewell_frames last ++ reset_for id b None (Some cause)) out ∙ append-nil _) (inl out) result new put_out acted
+
+  -- The stream can't be reset, and the connection ends.
+  stopped_so : (code : ℕ) → (find old.inbound.rows id).head_out ≡ true → reset_code cause ≡ Some code → (p : List Output) → IsCalmedBehind last (reset_marked id (record old { inbound = mid })) outputs p → ComesFrom setup old square outputs (OfFrame frame ∷ []) square None p
+  stopped_so code out coded p calmed =
+      brings_stopped setup old rest noted is.next of (ap is_fatal is.judged.faultless) is.is_noted is.read none_gained last code
+      (owed_so ∙ ap (λ b. farewell_frames last ++ reset_for id b None (Some cause)) out ∙ ap (λ (o : Option ℕ). farewell_frames last ++ Rattle.model.specs.ErrorClause.reset_with id o) coded) outputs p
+      (calmed_behind_as last (reset_marked id (record old { inbound = mid })) (record old { inbound = behind }) outputs p (same_ids id (Over true) mid.rows ∙ same_rows) refl refl calmed)
+
+  pub replied_stopped : (p : List Output) → IsCutShort (find mid.rows id).head_out (reset_code cause) id last (record old { inbound = mid }) outputs p → ComesFrom setup old square outputs (OfFrame frame ∷ []) square None p
+  replied_stopped p stopped = by (find old.inbound.rows id).head_out refl (reset_code cause) refl (subst (λ b. IsCutShort b (reset_code cause) id last (record old { inbound = mid }) outputs p) out_same stopped)
+    where
+      by : (b : Bool) → (find old.inbound.rows id).head_out ≡ b → (o : Option ℕ) → reset_code cause ≡ o → IsCutShort b o id last (record old { inbound = mid }) outputs p → ComesFrom setup old square outputs (OfFrame frame ∷ []) square None p
+      by true out (Some code) coded is = stopped_so code out coded p is
+      by true out None coded is = absurd is
+      by false out o coded is = absurd is

@@ -45,7 +45,7 @@ use Rattle.relay.specs.Bringing.{Brings}
 use Rattle.relay.specs.Ways.{GoesBy, IsHeldFor}
 use Rattle.relay.proofs.Answered.{whole_gain, whole_owes, caused_by, head_none, not_reset}
 use Rattle.relay.proofs.Answered as answered
-use Rattle.relay.proofs.Coming.{no_outside, inbound_behind}
+use Rattle.relay.proofs.Coming.{outside_of, inbound_behind}
 use Rattle.relay.proofs.HeldFor.{held_for, within_length, begun_active}
 use Rattle.steps.specs.block_frames.Following.{followed, dropped_by, farewell_behind, farewell_frames}
 use Rattle.steps.specs.block_frames.Acting.{HasBegun, HasEnded}
@@ -55,7 +55,7 @@ use Rattle.steps.specs.declared.block_frames.taking.BlockTaken.TheVariants as ta
 use Rattle.steps.proofs.block_frames.Before.{left_is}
 use Rattle.steps.proofs.block_frames.Gains.{brings_begun, brings_ended, trailers_end}
 use Rattle.steps.proofs.block_frames.Lists.{cut_followed}
-use Rattle.steps.proofs.block_frames.Passed.{farewell, opened_so, about_so}
+use Rattle.steps.proofs.block_frames.Passed.{farewell, opened_so, about_so, farewell_alone}
 use Rattle.steps.proofs.block_frames.Streams.{active_behind, found_behind, unended}
 
 module _ (setup : Setup) (old : View) (rest : IsAtRest old) (frame : Frame) (mid : Inbound) (of : IsOfBlock frame) (kept : AreKept old.inbound.rows) (few_rows : length (ids_of old.inbound.rows) ≤ most_streams) (outputs : List Output) (small : frame.id < 2147483648)
@@ -64,20 +64,20 @@ module _ (setup : Setup) (old : View) (rest : IsAtRest old) (frame : Frame) (mid
   id = frame.id
 
   abbrev told : Summary
-  told = told_of no_outside old.inbound
+  told = told_of (outside_of old.untaken) old.inbound
 
   abbrev book : Book
-  book = book_of no_outside old.inbound
+  book = book_of (outside_of old.untaken) old.inbound
 
   abbrev last : Option ℕ
   last = farewell_behind (length old.inbound.rows) mid.rows
 
-  module _ (answer : BlockJudged) (is : IsFragmentJudged setup no_outside old.inbound frame mid answer) where
+  module _ (answer : BlockJudged) (is : IsFragmentJudged setup (outside_of old.untaken) old.inbound frame mid answer) where
     abbrev noted : Noted
     noted = record { frame = frame; note = is.note }
 
     abbrev behind : Inbound
-    behind = inbound_behind setup old.inbound noted is.next
+    behind = inbound_behind setup old.untaken old.inbound noted is.next
 
     module _ (faultless : fault_in told (Came noted) ≡ None) (block : Partial) (is_block : completed_in old.inbound.block frame ≡ Some block) (fields : List Field) (note : is.note ≡ Fields fields) where
       of_stream : (id == 0) ≡ false
@@ -107,7 +107,7 @@ module _ (setup : Setup) (old : View) (rest : IsAtRest old) (frame : Frame) (mid
           ∙ ap (λ (c : Option Cause). first_of_both c None) (calm on)
 
   -- a request begins
-  pub begun_taken : (at_once : Bool) → at_once ≡ is_streaming setup.passing → (head : HeadParts) (route : ℕ) (is : IsFragmentJudged setup no_outside old.inbound frame mid (judged.Begins head route)) (result : BlockTaken) (new : View) (put_out : List Output) → HasBegun id route head at_once last (record old { inbound = mid }) outputs result new put_out → IsBlockTaken setup old outputs frame result new put_out
+  pub begun_taken : (at_once : Bool) → at_once ≡ is_streaming setup.passing → (head : HeadParts) (route : ℕ) (is : IsFragmentJudged setup (outside_of old.untaken) old.inbound frame mid (judged.Begins head route)) (result : BlockTaken) (new : View) (put_out : List Output) → HasBegun id route head at_once last (record old { inbound = mid }) outputs result new put_out → IsBlockTaken setup old outputs frame result new put_out
   begun_taken at_once as_set head route is (taken.Fatal code) new put_out acted = absurd acted.begun
   begun_taken at_once as_set head route is (taken.Goes due farewell_left dropped) new put_out acted = record {
     note = is.note;
@@ -125,6 +125,7 @@ module _ (setup : Setup) (old : View) (rest : IsAtRest old) (frame : Frame) (mid
         (subst (λ (i : Inbound). Begins (followed id (record old { inbound = i })).upstreams id route head (find i.rows id).ended_by_client at_once (due_by due) new.upstreams) same acted.begun.0)) outputs))));
     none_cut = subst (λ (v : View). NoneCut v.offers) (sym acted.kept) (cut_followed (is_active mid.rows id) id old.offers rest.none_cut);
     about = about_so setup old rest frame mid of kept few_rows outputs small (judged.Begins head route) is (ap is_fatal is.judged.faultless) new (ap (λ (v : View). v.inbound.rows) acted.kept ∙ ap (λ (i : Inbound). i.rows) same) (ap (λ (u : upstreams.State). lives u.live) acted.begun.0.kept);
+    alone = λ some crowded. farewell_alone setup old rest frame mid of kept few_rows outputs small (judged.Begins head route) is new (ap (λ (v : View). v.untaken) acted.kept) (ap (λ (i : Inbound). ids_of i.rows) same) is.judged.faultless farewell_left acted.begun.1 some crowded (due_by due);
     ids = λ other found. opened_so setup old rest frame mid of kept few_rows outputs small (judged.Begins head route) is new.inbound.rows (ap (λ (v : View). ids_of v.inbound.rows) acted.kept ∙ ap (λ (i : Inbound). ids_of i.rows) same) other found;
   }
     where
@@ -132,13 +133,13 @@ module _ (setup : Setup) (old : View) (rest : IsAtRest old) (frame : Frame) (mid
       noted_here = record { frame = frame; note = is.note }
 
       there : Inbound
-      there = inbound_behind setup old.inbound noted_here is.next
+      there = inbound_behind setup old.untaken old.inbound noted_here is.next
 
       says : (block : Partial) × (fields : List Field) × (completed_in old.inbound.block frame ≡ Some block) × (is.note ≡ Fields fields) × SaysOf setup (find old.inbound.rows id).brief fields block.ends (judged.Begins head route)
       says = is.judged.says
 
       same : mid ≡ there
-      same = left_is setup old.inbound mid noted_here is.next is.judged.left is.stays is.table
+      same = left_is setup old.untaken old.inbound mid noted_here is.next is.judged.left is.stays is.table
 
       live : is_active there.rows id ≡ true
       live = active (judged.Begins head route) is is.judged.faultless says.0 says.2 says.1 says.3
@@ -154,12 +155,12 @@ module _ (setup : Setup) (old : View) (rest : IsAtRest old) (frame : Frame) (mid
       (held_for setup run s leads.stands leads.so (ap (λ (b : Book). b.closed) leads.keeps.book) (ap (λ (r : serving.State). r.due) leads.keeps.requests) id
       (subst (λ (b : Book). (find b.rows id).brief.begun ≡ true) (sym leads.keeps.book) begun) (subst (λ (b : Book). (find b.rows id).brief.over ≡ false) (sym leads.keeps.book) over)))
 
-  module _ (trailers : Vec Field Global) (is : IsFragmentJudged setup no_outside old.inbound frame mid (judged.Trailers trailers)) where
+  module _ (trailers : Vec Field Global) (is : IsFragmentJudged setup (outside_of old.untaken) old.inbound frame mid (judged.Trailers trailers)) where
     abbrev noted_then : Noted
     noted_then = record { frame = frame; note = is.note }
 
     abbrev behind_then : Inbound
-    behind_then = inbound_behind setup old.inbound noted_then is.next
+    behind_then = inbound_behind setup old.untaken old.inbound noted_then is.next
 
     says_then : (block : Partial) × (fields : List Field) × (completed_in old.inbound.block frame ≡ Some block) × (is.note ≡ Fields fields) × SaysOf setup (find old.inbound.rows id).brief fields block.ends (judged.Trailers trailers)
     says_then = is.judged.says
@@ -211,8 +212,9 @@ module _ (setup : Setup) (old : View) (rest : IsAtRest old) (frame : Frame) (mid
           outputs acted.due new.upstreams.held (subst (λ (xs : List Field). TakesOf id [] xs true old.upstreams.held (held_of id old.upstreams.held) acted.due new.upstreams.held) says_then.4.3 acted.takes))))));
       none_cut = subst (λ (v : View). NoneCut v.offers) (sym acted.kept) rest.none_cut;
       about = about_so setup old rest frame mid of kept few_rows outputs small (judged.Trailers trailers) is (ap is_fatal is.judged.faultless) new (ap (λ (v : View). v.inbound.rows) acted.kept ∙ ap (λ (i : Inbound). i.rows) same) (ap (λ (v : View). lives v.upstreams.live) acted.kept);
+      alone = λ some crowded. farewell_alone setup old rest frame mid of kept few_rows outputs small (judged.Trailers trailers) is new (ap (λ (v : View). v.untaken) acted.kept) (ap (λ (i : Inbound). ids_of i.rows) same) is.judged.faultless farewell_left acted.goes.1 some crowded (due_by due);
       ids = λ other found. opened_so setup old rest frame mid of kept few_rows outputs small (judged.Trailers trailers) is new.inbound.rows (ap (λ (v : View). ids_of v.inbound.rows) acted.kept ∙ ap (λ (i : Inbound). ids_of i.rows) same) other found;
     }
       where
         same : mid ≡ behind_then
-        same = left_is setup old.inbound mid noted_then is.next is.judged.left is.stays is.table
+        same = left_is setup old.untaken old.inbound mid noted_then is.next is.judged.left is.stays is.table

@@ -38,7 +38,7 @@ says_so known t s (Broken code) d by = subst (IsAnswered known t) (sym by.1) tt
 says_so known t s (Wrong code) d by = subst (IsAnswered known t) (sym by.2) tt
 
 -- what is known of moves is known of those before some
-known_before : (known : Known) (moves run : List Move) → AreKnown known (conducts (moves ++ run)) → AreKnown known (conducts run)
+pub known_before : (known : Known) (moves run : List Move) → AreKnown known (conducts (moves ++ run)) → AreKnown known (conducts run)
 known_before known [] run knows = knows
 known_before known (Does d ∷ moves) run knows = known_before known moves run knows.0
 known_before known (Settles ∷ moves) run knows = known_before known moves run knows

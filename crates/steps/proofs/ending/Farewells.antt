@@ -1,6 +1,6 @@
 -- What is put out where the connection ends with what came in.
-use Rattle.std.proofs.Common.{◌≡◌, ℕ, List, [], ◌∷◌, ◌++◌, reverse, Option, Some, None, sym, ◌∙◌, ap, subst, if◌then◌else◌, arith}
-use Rattle.model.specs.Frames.{Frame, goaway}
+use Rattle.std.proofs.Common.{◌≡◌, ℕ, List, [], ◌∷◌, ◌++◌, reverse, Option, Some, None, sym, ◌∙◌, ap, subst, if◌then◌else◌, arith, Bool, nat_lt}
+use Rattle.model.specs.Frames.{Frame, goaway, enhance_your_calm}
 use Rattle.model.specs.Logs.{Output}
 use Rattle.model.specs.Logs.Act.{Close, CloseClient}
 use Rattle.model.specs.Setup.{Setup}
@@ -8,7 +8,7 @@ use Rattle.model.specs.Tables.{Table}
 use Rattle.model.specs.Tapes.{Noted, put_entry}
 use Rattle.model.specs.Tapes.Entry.{Came, Did}
 use Rattle.model.specs.Errors.{Fault}
-use Rattle.conduct.specs.Owing.{highest_in, opened_after}
+use Rattle.conduct.specs.Owing.{highest_in, opened_after, code_of_farewell_in}
 use Rattle.conduct.specs.Book.{Book}
 use Rattle.conduct.specs.Rows.{Row, ids_of}
 use Rattle.serving.specs.State as serving
@@ -28,6 +28,8 @@ use Rattle.relay.specs.Performing.{put_all}
 use Rattle.relay.specs.Bringing.{AreOwn}
 use Rattle.relay.proofs.Bringing.{own_behind}
 use Rattle.relay.proofs.Performing.{put_behind}
+use Rattle.conduct.specs.Judging.{is_crowded_in}
+use Rattle.model.specs.Admission.{most_untaken}
 use Rattle.steps.specs.ending.Reasons.{code_in, IsBy}
 use Rattle.steps.specs.declared.ending.reason.Ending.{Ending}
 use Rattle.steps.specs.declared.ending.reason.Ending.TheVariants.{Gone, Breach as Broken, Frame as Wrong}
@@ -41,19 +43,24 @@ abbrev pub farewells : ℕ → Option ℕ → List Frame
 farewells last None = []
 farewells last (Some code) = goaway last code ∷ []
 
+-- the code that is told: where too many octets are untaken the client is asked to be calm, whatever the error is
+abbrev pub code_told : Bool → Option ℕ → Option ℕ
+code_told crowded None = None
+code_told crowded (Some code) = Some (if crowded then enhance_your_calm else code)
+
 module _ (s : State) where
   -- a frame that is an error of the connection opens no stream
   opened_same : (noted : Noted) (next : Table) → IsFatal s noted next → opened_after (told_by s) (Came noted) ≡ (told_by s).opened
   opened_same noted next fatal = ap (λ b. if b then noted.frame.id ∷ (told_by s).opened else (told_by s).opened) (opens_none (told_by s) noted s.tables.decoding next fatal.noted_right.is_noted fatal.fatal)
 
   -- The deed calls for the farewell with the code.
-  pub farewell_is : (why : Ending) (d : Deed) → IsBy s why d → farewell_by s d ≡ farewells (highest_in (told_by s).opened) (code_in why)
+  pub farewell_is : (why : Ending) (d : Deed) → IsBy s why d → farewell_by s d ≡ farewells (highest_in (told_by s).opened) (code_told (is_crowded_in (told_by s)) (code_in why))
   farewell_is Gone d by = ap (λ (x : Deed). farewell_by s x) by
   farewell_is (Broken code) d by = ap (λ (x : Deed). farewell_by s x) by.1 ∙ ap (λ (found : Option Fault). farewell_for (told_by s) (entry_of (Breaks by.0)) found) by.2
   farewell_is (Wrong code) d by =
       ap (λ (x : Deed). farewell_by s x) by.2
       ∙ ap (λ (found : Option Fault). farewell_for (told_by s) (Came by.0) found) by.3
-      ∙ ap (λ (ids : List ℕ). goaway (highest_in ids) code ∷ []) (opened_same by.0 by.1 by.4)
+      ∙ ap (λ (ids : List ℕ). goaway (highest_in ids) (code_of_farewell_in (told_by s) code) ∷ []) (opened_same by.0 by.1 by.4)
 
   -- it puts nothing out itself
   pub puts_none : (why : Ending) (d : Deed) (outputs : List Output) → IsBy s why d → put_entry outputs (entry_of d) ≡ outputs
@@ -75,15 +82,15 @@ farewells_own last (Some code) = (record { kind = omega arith; flags = omega ari
 pub end_own : (s : State) (why : Ending) (d : Deed) → IsBy s why d → AreOwn (Did CloseClient ∷ (closed_all (by_number s) ++ frames_sent (farewell_by s d)))
 end_own s why d by =
     own_behind (closed_all (by_number s)) (frames_sent (farewell_by s d)) (closed_own (by_number s))
-    (subst (λ (frames : List Frame). AreOwn (frames_sent frames)) (sym (farewell_is s why d by)) (farewells_own (highest_in (told_by s).opened) (code_in why)))
+    (subst (λ (frames : List Frame). AreOwn (frames_sent frames)) (sym (farewell_is s why d by)) (farewells_own (highest_in (told_by s).opened) (code_told (is_crowded_in (told_by s)) (code_in why))))
 
 -- ---- what is put out
 
 -- All that is put out: the farewell, a close for each open connection, and that for the client.
-pub ends : (setup : Setup) (run : List Move) (s : State) (before kept : View) (why : Ending) (d : Deed) (outputs told put_out : List Output) → told ≡ put_all outputs (frames_sent (farewells (highest_in (ids_of kept.inbound.rows)) (code_in why)))
+pub ends : (setup : Setup) (run : List Move) (s : State) (before kept : View) (why : Ending) (d : Deed) (outputs told put_out : List Output) → told ≡ put_all outputs (frames_sent (farewells (highest_in (ids_of kept.inbound.rows)) (code_told (nat_lt most_untaken kept.untaken) (code_in why))))
     → put_out ≡ put_all told (Did CloseClient ∷ closed_all (reverse (lives kept.upstreams.live)))
-    → before.upstreams ≡ kept.upstreams → before.inbound.rows ≡ kept.inbound.rows → Leads setup run before square s → IsBy s why d → put_out ≡ put_all outputs (ending_on_tape s d)
-ends setup run s before kept why d outputs told put_out tells closes same_upstreams same_rows leads by =
+    → before.upstreams ≡ kept.upstreams → before.inbound.rows ≡ kept.inbound.rows → before.untaken ≡ kept.untaken → Leads setup run before square s → IsBy s why d → put_out ≡ put_all outputs (ending_on_tape s d)
+ends setup run s before kept why d outputs told put_out tells closes same_upstreams same_rows same_untaken leads by =
     closes
     ∙ ap (λ (o : List Output). put_all o (Did CloseClient ∷ closed_all (reverse (lives kept.upstreams.live)))) (tells ∙ farewell)
     ∙ ap (λ (ls : List Live). put_all (put_all outputs (frames_sent (farewell_by s d) ++ entry_of d ∷ [])) (Did CloseClient ∷ closed_all (reverse ls))) (sym live)
@@ -96,10 +103,16 @@ ends setup run s before kept why d outputs told put_out tells closes same_upstre
     rows = ap (λ (b : Book). ids_of b.rows) leads.keeps.book ∙ ap (λ (r : List Row). ids_of r) same_rows
 
     frames : List Frame
-    frames = farewells (highest_in (ids_of kept.inbound.rows)) (code_in why)
+    frames = farewells (highest_in (ids_of kept.inbound.rows)) (code_told (nat_lt most_untaken kept.untaken) (code_in why))
+
+    crowded : is_crowded_in (told_by s) ≡ nat_lt most_untaken kept.untaken
+    crowded = ap (λ (b : Book). nat_lt most_untaken b.untaken) leads.keeps.book ∙ ap (nat_lt most_untaken) same_untaken
 
     farewell : put_all outputs (frames_sent frames) ≡ put_all outputs (frames_sent (farewell_by s d) ++ entry_of d ∷ [])
     farewell =
-        ap (λ (fs : List Frame). put_all outputs (frames_sent fs)) (ap (λ (ids : List ℕ). farewells (highest_in ids) (code_in why)) (sym rows) ∙ sym (farewell_is s why d by))
+        ap (λ (fs : List Frame). put_all outputs (frames_sent fs))
+        (ap (λ (ids : List ℕ). farewells (highest_in ids) (code_told (nat_lt most_untaken kept.untaken) (code_in why))) (sym rows)
+        ∙ ap (λ b. farewells (highest_in (told_by s).opened) (code_told b (code_in why))) (sym crowded)
+        ∙ sym (farewell_is s why d by))
         ∙ ap (λ (o : List Output). put_all o (frames_sent (farewell_by s d))) (sym (puts_none s why d outputs by))
         ∙ sym (put_behind outputs (frames_sent (farewell_by s d)) (entry_of d ∷ []))

@@ -153,7 +153,7 @@ module _ (setup : Setup) (run : List Move) (s : State) (spent : IsSpent setup ru
   shut_rests = record {
     conduct = record { nothing = ap (λ (d : Desk). d.queue) shut_desk ∙ spent.owes; none_begun = ap (λ (d : Desk). d.book.block_out) shut_desk ∙ spent.none_begun; ended = λ ends. is_closed };
     flushed = record {
-      none_cut = not_found s.offers.kept spent.none_kept;
+      none_cut = λ few. not_found s.offers.kept spent.none_kept;
       none_ready = λ few. ap (λ (ks : List offering.Kept). offering.ready (windows_in (sight_in (told_by shut_state))) (record { kept = ks; last = s.offers.last })) spent.none_kept;
     };
     served = record { nothing = spent.due; none_done = ap (λ (ls : List Live). list_any (is_done (told_in (told_by shut_state))) ls) spent.live; ended = λ ends. is_closed };

@@ -1,8 +1,8 @@
 -- What the calls come to, by what an upstream's octets, its end or its failure come to.
-use Rattle.std.proofs.Common.{◌≡◌, ℕ, ◌<◌, ◌≤◌, Bool, true, false, List, map, length, Option, Some, None, Result, Ok, Err, refl, sym, ◌∙◌, ap, subst, inl, inr}
+use Rattle.std.proofs.Common.{◌≡◌, ℕ, ◌<◌, ◌≤◌, Bool, true, false, List, map, length, Option, Some, None, Result, Ok, Err, refl, sym, ◌∙◌, ap, subst, inl, inr, [], ◌∷◌}
 use Rattle.std.specs.Prelude.{is_some, option_map, IfSome, IfOk, OnOk}
 use Rattle.std.proofs.lemmas.Bool.Decides.{eqb_tells}
-use Rattle.model.specs.Logs.{Output}
+use Rattle.model.specs.Logs.{Output, Event}
 use Rattle.model.specs.Logs.Event.{Up, UpEnd, UpFailed}
 use Rattle.model.specs.Setup.{Setup}
 use Rattle.model.specs.Tapes.{Entry}
@@ -29,13 +29,16 @@ use Rattle.relay.specs.Rest.{IsAtRest, NoneCut, back_of}
 use Rattle.relay.specs.Bringing.{Course, Brings}
 use Rattle.relay.proofs.Kept.{change_none}
 use Rattle.relay.proofs.Resets.{has_same}
+use Rattle.steps.specs.Stopping.{IsCalmed}
+use Rattle.steps.specs.Inputs.Input.{OfEvent}
+use Rattle.steps.specs.Comings.{ComesFrom}
 use Rattle.steps.specs.exchanges.Giving.{replied_to, reset_if, put_if, back_if, given_if, is_cut_then, closed_at, abandoned_if, put_abandoned, IsGivenUp, IsAbandoned}
 use Rattle.steps.specs.exchanges.Taking.{answered_with, AreTaken, IsEndTaken}
 use Rattle.steps.proofs.exchanges.Brings as brings
 use Rattle.steps.proofs.exchanges.FailedRows.{there}
 use Rattle.steps.proofs.exchanges.Fails.{FailsBy}
 use Rattle.steps.proofs.exchanges.Hears.{change_as}
-use Rattle.steps.proofs.exchanges.Pays.{lost_paid, abandon_paid, active_row, box_kept}
+use Rattle.steps.proofs.exchanges.Pays.{lost_paid, abandon_paid, active_row, box_kept, lost_over, abandon_over}
 
 -- ---- what calls promise that may be refused memory
 
@@ -135,11 +138,21 @@ module _ (kept : View) (rest : IsAtRest kept) (k : ℕ) (outputs : List Output) 
       subst (λ (v : View). Course setup run s outputs entry v (back_of count) put_out) (sym own.kept)
       (subst (λ (o : List Output). Course setup run s outputs entry (abandoned_if (is_cut_then c.live.stream kept) k c.live.stream (answered_with k answer kept.offers kept)) (back_of count) o) (sym own.puts)
       (subst (λ n. Course setup run s outputs entry (abandoned_if (is_cut_then c.live.stream kept) k c.live.stream (answered_with k answer kept.offers kept)) (back_of n) (put_abandoned (is_cut_then c.live.stream kept) k c.live.stream outputs)) (sym (own.back_is ∙ same_back (is_cut_then c.live.stream kept)))
-      (abandon_paid setup kept rest run s leads k c found (subst (λ n. n < 2147483648) of few) outputs entry answer (fails run s leads))))
+      (abandon_paid setup kept rest run s leads k c found (subst (λ n. n < 2147483648) of few) own.few outputs entry answer (fails run s leads))))
     where
       same_back : (b : Bool) → back_if b c.live.stream (answered_with k answer kept.offers kept) ≡ back_if b c.live.stream kept
       same_back true = refl
       same_back false = refl
+
+  -- or the connection to the client was ended in place of the reset
+  abandoned_over : (c : Connection) (stream : ℕ) (event : Event) (answer : Answer) (middle : View) (p : List Output) → find number_of k kept.upstreams.live ≡ Some c → stream ≡ c.live.stream → middle ≡ answered_with k answer kept.offers kept
+      → (is_cut_then stream middle ≡ true) × IsCalmed (replied_to stream middle) outputs p
+      → ((run : List Move) (s : State) → Leads setup run kept square s → FailsBy setup kept run s k c.live.stream outputs (Happened event))
+      → ComesFrom setup kept square outputs (OfEvent event ∷ []) square None p
+  abandoned_over c stream event answer middle p found of is stopped fails run s leads =
+      let own : (is_cut_then c.live.stream (answered_with k answer kept.offers kept) ≡ true) × IsCalmed (replied_to c.live.stream (answered_with k answer kept.offers kept)) outputs p =
+      subst (λ (v : View). (is_cut_then c.live.stream v ≡ true) × IsCalmed (replied_to c.live.stream v) outputs p) is (subst (λ n. (is_cut_then n middle ≡ true) × IsCalmed (replied_to n middle) outputs p) of stopped) in
+      abandon_over setup kept rest run s leads k c found outputs (Happened event) (OfEvent event) refl p own.0 answer (fails run s leads) own.1
 
   module _ (octets : List ℕ) (short : length octets ≤ 65536) where
     pub goes_on : (new : View) → AreTaken kept k octets heard.GoesOn new → Brings setup kept square outputs (Happened (Up k octets)) new square outputs
@@ -163,6 +176,14 @@ module _ (kept : View) (rest : IsAtRest kept) (k : ℕ) (outputs : List Output) 
         (subst (λ (o : Option Connection). IfSome o (λ c. stream ≡ c.live.stream)) taken.found of) (taken.is ∙ ap (λ (o : offering.State). answered_with k taken.answer o kept) same) few given
         (λ run s leads. brings.octets_fail setup kept rest run s leads k taken.connection taken.found outputs octets short h.hears.1)
 
+    pub fails_over : (stream : ℕ) (middle : View) (p : List Output) → AreTaken kept k octets heard.Failed middle → IfSome (find number_of k kept.upstreams.live) (λ c. stream ≡ c.live.stream) → (is_cut_then stream middle ≡ true) × IsCalmed (replied_to stream middle) outputs p → ComesFrom setup kept square outputs (OfEvent (Up k octets) ∷ []) square None p
+    fails_over stream middle p taken of stopped =
+        let h = taken.hears in
+        let same : taken.offers ≡ kept.offers = h.is ∙ ap (λ (b : Outbox). refilled taken.connection.live.stream b kept.offers) h.hears.0 ∙ refilled_same taken.connection.live.stream kept.offers h.stream h.found in
+        abandoned_over taken.connection stream (Up k octets) taken.answer middle p taken.found
+        (subst (λ (o : Option Connection). IfSome o (λ c. stream ≡ c.live.stream)) taken.found of) (taken.is ∙ ap (λ (o : offering.State). answered_with k taken.answer o kept) same) stopped
+        (λ run s leads. brings.octets_fail setup kept rest run s leads k taken.connection taken.found outputs octets short h.hears.1)
+
   -- ---- the end
 
   pub completes : (middle new : View) → IsEndTaken kept k ended.Complete middle → new ≡ record middle { upstreams = record middle.upstreams { live = map (whole_at k) middle.upstreams.live } } → Brings setup kept square outputs (Happened (UpEnd k)) new square outputs
@@ -180,6 +201,14 @@ module _ (kept : View) (rest : IsAtRest kept) (k : ℕ) (outputs : List Output) 
       (subst (λ (o : Option Connection). IfSome o (λ c. stream ≡ c.live.stream)) taken.found of) (taken.is ∙ ap (λ (o : offering.State). answered_with k taken.answer o kept) same) few given
       (λ run s leads. brings.end_fails setup kept rest run s leads k taken.connection taken.found outputs h.ends.0)
 
+  pub cut_short_over : (stream : ℕ) (middle : View) (p : List Output) → IsEndTaken kept k ended.Short middle → IfSome (find number_of k kept.upstreams.live) (λ c. stream ≡ c.live.stream) → (is_cut_then stream middle ≡ true) × IsCalmed (replied_to stream middle) outputs p → ComesFrom setup kept square outputs (OfEvent (UpEnd k) ∷ []) square None p
+  cut_short_over stream middle p taken of stopped =
+      let h = taken.ends in
+      let same : taken.offers ≡ kept.offers = h.is ∙ ap (λ (b : Outbox). refilled taken.connection.live.stream b kept.offers) h.ends.1 ∙ refilled_same taken.connection.live.stream kept.offers h.stream h.found in
+      abandoned_over taken.connection stream (UpEnd k) taken.answer middle p taken.found
+      (subst (λ (o : Option Connection). IfSome o (λ c. stream ≡ c.live.stream)) taken.found of) (taken.is ∙ ap (λ (o : offering.State). answered_with k taken.answer o kept) same) stopped
+      (λ run s leads. brings.end_fails setup kept rest run s leads k taken.connection taken.found outputs h.ends.0)
+
   -- ---- the failure
 
   pub is_gone : (stream : ℕ) (new : View) (put_out : List Output) (waited : Option ℕ) (count : ℕ) → is_some (find number_of k kept.upstreams.live) ≡ true → IfSome (find number_of k kept.upstreams.live) (λ c. stream ≡ c.live.stream) → stream < 2147483648
@@ -190,11 +219,18 @@ module _ (kept : View) (rest : IsAtRest kept) (k : ℕ) (outputs : List Output) 
       subst (λ (v : View). Course setup run s outputs (Happened (UpFailed k)) v (back_of count) put_out) (sym own.kept)
       (subst (λ (o : List Output). Course setup run s outputs (Happened (UpFailed k)) (reset_if (is_cut_then it.connection.live.stream kept) it.connection.live.stream (replied_to it.connection.live.stream (closed_at k kept))) (back_of count) o) (sym own.puts)
       (subst (λ n. Course setup run s outputs (Happened (UpFailed k)) (reset_if (is_cut_then it.connection.live.stream kept) it.connection.live.stream (replied_to it.connection.live.stream (closed_at k kept))) (back_of n) (put_if (is_cut_then it.connection.live.stream kept) it.connection.live.stream outputs)) (sym (counted ∙ ap count_of own.back_is ∙ same_back it.connection.live.stream (is_cut_then it.connection.live.stream kept)))
-      (lost_paid setup kept rest run s leads k it.connection it.found (subst (λ n. n < 2147483648) it.of few) outputs (Happened (UpFailed k)) (brings.failure_brings setup kept rest run s leads k it.connection it.found outputs))))
+      (lost_paid setup kept rest run s leads k it.connection it.found (subst (λ n. n < 2147483648) it.of few) own.few outputs (Happened (UpFailed k)) (brings.failure_brings setup kept rest run s leads k it.connection it.found outputs))))
     where
       same_back : (id : ℕ) (b : Bool) → count_of (given_if b id (closed_at k kept)) ≡ back_if b id kept
       same_back id true = refl
       same_back id false = refl
+
+  pub is_gone_over : (stream : ℕ) (p : List Output) → is_some (find number_of k kept.upstreams.live) ≡ true → IfSome (find number_of k kept.upstreams.live) (λ c. stream ≡ c.live.stream)
+      → (is_cut_then stream (closed_at k kept) ≡ true) × IsCalmed (replied_to stream (closed_at k kept)) outputs p → ComesFrom setup kept square outputs (OfEvent (UpFailed k) ∷ []) square None p
+  is_gone_over stream p opened of stopped run s leads =
+      let it = found_for k stream kept.upstreams.live opened of in
+      let own : (is_cut_then it.connection.live.stream (closed_at k kept) ≡ true) × IsCalmed (replied_to it.connection.live.stream (closed_at k kept)) outputs p = subst (λ n. (is_cut_then n (closed_at k kept) ≡ true) × IsCalmed (replied_to n (closed_at k kept)) outputs p) it.of stopped in
+      lost_over setup kept rest run s leads k it.connection it.found outputs (Happened (UpFailed k)) (OfEvent (UpFailed k)) refl p own.0 (brings.failure_brings setup kept rest run s leads k it.connection it.found outputs) own.1
 
 -- ---- what holds behind what was taken
 

@@ -1,5 +1,5 @@
 -- Behind an answer that failed: the reset that is owed, where a final head is out, is paid, and none is owed then.
-use Rattle.std.proofs.Common.{◌≡◌, ℕ, ◌<◌, Bool, true, false, ◌&&◌, ◌==◌, List, [], ◌∷◌, ◌++◌, ◌+◌, map, Option, Some, None, refl, sym, ◌∙◌, ap, subst, inl, inr, if◌then◌else◌, append_assoc, arith}
+use Rattle.std.proofs.Common.{◌≡◌, ℕ, ◌<◌, Bool, true, false, ◌&&◌, ◌==◌, List, [], ◌∷◌, ◌++◌, ◌+◌, map, Option, Some, None, refl, sym, ◌∙◌, ap, subst, inl, inr, if◌then◌else◌, append_assoc, arith, nat_lt}
 use Rattle.std.specs.Prelude.{◌⊎◌, is_some, is_none, option_map}
 use Rattle.std.specs.List.{list_any}
 use Rattle.model.specs.Frames.{Frame, Fits, spell, internal_error}
@@ -52,6 +52,12 @@ use Rattle.relay.specs.Bringing.{Course, OwnSegment, PerformsOwn}
 use Rattle.relay.proofs.Bringing.{own_behind, segments_then}
 use Rattle.relay.proofs.Performing.{tape_behind}
 use Rattle.relay.proofs.Resets.{reset_view, reset_paid, has_same}
+use Rattle.model.specs.Admission.{most_untaken}
+use Rattle.steps.specs.Comings.{Comes}
+use Rattle.steps.specs.Inputs.{Input}
+use Rattle.steps.specs.Stopping.{IsCalmed}
+use Rattle.steps.proofs.Calming.{calm_ends}
+use Rattle.steps.proofs.Following.{IsInput, course_then}
 use Rattle.steps.specs.exchanges.Giving.{replied_to, reset_behind, reset_if, put_if, back_if, is_cut_then, closed_at, abandoned_if, put_abandoned}
 use Rattle.steps.specs.exchanges.Taking.{answered_with}
 use Rattle.steps.proofs.exchanges.Coming as coming
@@ -94,12 +100,12 @@ reset_fits : (stream : ℕ) → stream < 2147483648 → Fits (rst_stream stream 
 reset_fits stream few = record { kind = omega arith; flags = omega arith; id = few; payload = omega arith }
 
 -- a reset that is owed is paid behind the reply: the octets that waited of its DATA go back
-pub pays_reset : (setup : Setup) (v : View) (stream : ℕ) → has v.inbound.rows stream ≡ true → stream < 2147483648 → (outputs : List Output)
+pub pays_reset : (setup : Setup) (v : View) (stream : ℕ) → has v.inbound.rows stream ≡ true → stream < 2147483648 → nat_lt most_untaken v.untaken ≡ false → (outputs : List Output)
     → PerformsOwn setup (replied_to stream v) (record square { owed = rst_stream stream internal_error ∷ [] }) outputs (reset_behind stream (replied_to stream v)) (record square { shared = waiting_for stream v }) (put outputs (ToClient (spell (rst_stream stream internal_error))))
-pays_reset setup v stream there few outputs run s leads =
+pays_reset setup v stream there few free outputs run s leads =
     subst (λ (x : View). OwnSegment setup run s outputs x (record square { shared = waiting_for stream v }) (put outputs (ToClient (spell (rst_stream stream internal_error))))) reset_is
     (subst (λ n. OwnSegment setup run s outputs (reset_view (replied_to stream v) stream internal_error) (record square { shared = n }) (put outputs (ToClient (spell (rst_stream stream internal_error))))) (none_more (waiting_for stream v))
-    (reset_paid setup (replied_to stream v) (record square { owed = rst_stream stream internal_error ∷ [] }) [] stream internal_error refl refl not_to_open (reset_fits stream few) outputs run s leads))
+    (reset_paid setup (replied_to stream v) (record square { owed = rst_stream stream internal_error ∷ [] }) [] stream internal_error refl refl not_to_open (reset_fits stream few) free outputs run s leads))
   where
     none_more : (n : ℕ) → 0 + n ≡ n
     none_more n = omega arith
@@ -227,16 +233,37 @@ module _ (setup : Setup) (kept : View) (rest : IsAtRest kept) (run : List Move) 
   there : has kept.inbound.rows stream ≡ true
   there = failing.there kept.inbound.rows stream active_row
 
-  module _ (few : stream < 2147483648) (outputs : List Output) (entry : Entry) where
+  module _ (outputs : List Output) (entry : Entry) (input : Input) (is_input : IsInput setup entry input) (p : List Output) (cut : is_cut_then stream kept ≡ true) where
+    abbrev owing : Pending
+    owing = record square { owed = rst_stream stream internal_error ∷ [] }
+
+    over : (v : View) → Course setup run s outputs entry v (record square { owed = resets_for kept stream }) outputs → IsCalmed v outputs p → Comes setup run outputs (input ∷ []) square None p
+    over v course calmed =
+        course_then setup run s v owing square outputs outputs p entry input None is_input
+        (subst (λ (fs : List Frame). Course setup run s outputs entry v (record square { owed = fs }) outputs) (owed_is ∙ ap (λ b. if b then rst_stream stream internal_error ∷ [] else []) cut) course)
+        (calm_ends setup v owing (inl (rst_stream stream internal_error, [], refl)) refl outputs p calmed)
+
+    -- Where the answer fails with its connection, and the reset can't go, the connection to the client ends.
+    pub lost_over : Course setup run s outputs entry (replied_to stream (closed_at k kept)) (record square { owed = resets_for kept stream }) outputs → IsCalmed (replied_to stream (closed_at k kept)) outputs p → Comes setup run outputs (input ∷ []) square None p
+    lost_over course calmed = over (replied_to stream (closed_at k kept)) course calmed
+
+    -- The same where its connection is open still.
+    pub abandon_over : (answer : Answer) → FailsBy setup kept run s k stream outputs entry → IsCalmed (replied_to stream (answered_with k answer kept.offers kept)) outputs p → Comes setup run outputs (input ∷ []) square None p
+    abandon_over answer fails calmed = over (replied_to stream (answered_with k answer kept.offers kept)) (fails.opened streams answer) calmed
+      where
+        streams : setup.passing ≡ Whole → ⊥
+        streams whole = let no : true ≡ false = sym cut ∙ whole_not_cut whole in let clash : true ≡ false = no in cc
+
+  module _ (few : stream < 2147483648) (free : is_cut_then stream kept ≡ true → nat_lt most_untaken kept.untaken ≡ false) (outputs : List Output) (entry : Entry) where
     -- Where the answer fails with its connection, and a reset that is owed is paid, octets are to go back.
     pub lost_paid : Course setup run s outputs entry (replied_to stream (closed_at k kept)) (record square { owed = resets_for kept stream }) outputs
         → Course setup run s outputs entry (reset_if (is_cut_then stream kept) stream (replied_to stream (closed_at k kept))) (record square { shared = back_if (is_cut_then stream kept) stream kept }) (put_if (is_cut_then stream kept) stream outputs)
-    lost_paid course = by (is_cut_then stream kept) (subst (λ (fs : List Frame). Course setup run s outputs entry (replied_to stream (closed_at k kept)) (record square { owed = fs }) outputs) owed_is course)
+    lost_paid course = by (is_cut_then stream kept) refl (subst (λ (fs : List Frame). Course setup run s outputs entry (replied_to stream (closed_at k kept)) (record square { owed = fs }) outputs) owed_is course)
       where
-        by : (b : Bool) → Course setup run s outputs entry (replied_to stream (closed_at k kept)) (record square { owed = if b then rst_stream stream internal_error ∷ [] else [] }) outputs
+        by : (b : Bool) → is_cut_then stream kept ≡ b → Course setup run s outputs entry (replied_to stream (closed_at k kept)) (record square { owed = if b then rst_stream stream internal_error ∷ [] else [] }) outputs
             → Course setup run s outputs entry (reset_if b stream (replied_to stream (closed_at k kept))) (record square { shared = back_if b stream kept }) (put_if b stream outputs)
-        by false done = done
-        by true owing = course_own setup run s outputs outputs (put outputs (ToClient (spell (rst_stream stream internal_error)))) (replied_to stream (closed_at k kept)) (reset_behind stream (replied_to stream (closed_at k kept))) (record square { owed = rst_stream stream internal_error ∷ [] }) (record square { shared = waiting_for stream kept }) entry owing (pays_reset setup (closed_at k kept) stream there few outputs)
+        by false is done = done
+        by true is owing = course_own setup run s outputs outputs (put outputs (ToClient (spell (rst_stream stream internal_error)))) (replied_to stream (closed_at k kept)) (reset_behind stream (replied_to stream (closed_at k kept))) (record square { owed = rst_stream stream internal_error ∷ [] }) (record square { shared = waiting_for stream kept }) entry owing (pays_reset setup (closed_at k kept) stream there few (free is) outputs)
 
     -- The same where its connection is closed behind the gateway's reply, and is open still behind a reset.
     pub abandon_paid : (answer : Answer) → FailsBy setup kept run s k stream outputs entry
@@ -256,4 +283,4 @@ module _ (setup : Setup) (kept : View) (rest : IsAtRest kept) (run : List Move) 
         by true is =
             course_own setup run s outputs outputs (put outputs (ToClient (spell (rst_stream stream internal_error)))) (replied_to stream (answered_with k answer kept.offers kept)) (reset_behind stream (replied_to stream (answered_with k answer kept.offers kept))) (record square { owed = rst_stream stream internal_error ∷ [] }) (record square { shared = waiting_for stream kept }) entry
             (subst (λ (fs : List Frame). Course setup run s outputs entry (replied_to stream (answered_with k answer kept.offers kept)) (record square { owed = fs }) outputs) (owed true is) (fails.opened (streams is) answer))
-            (pays_reset setup (answered_with k answer kept.offers kept) stream there few outputs)
+            (pays_reset setup (answered_with k answer kept.offers kept) stream there few (free is) outputs)

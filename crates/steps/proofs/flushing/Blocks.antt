@@ -12,6 +12,7 @@ use Rattle.model.specs.Logs.Output.{ToClient}
 use Rattle.model.specs.Setup.{Setup}
 use Rattle.model.specs.Tables.{Table}
 use Rattle.model.specs.Tapes.{Noted, put}
+use Rattle.model.specs.Tapes.Entry.{Sent}
 use Rattle.model.specs.Tapes.Note.{Fields}
 use Rattle.model.specs.Openings.{Opened}
 use Rattle.model.specs.Decoding.{Partial, joined}
@@ -24,6 +25,7 @@ use Rattle.conduct.specs.Owing.{is_rightly_sent_in}
 use Rattle.conduct.specs.Rows.{find}
 use Rattle.conduct.specs.Tidy.{AreKept}
 use Rattle.conduct.specs.Quiet.{noted_of}
+use Rattle.conduct.proofs.Farewells.{passing_calmless}
 use Rattle.offering.specs.Outbox.{Part, IsNext, IsItemOf}
 use Rattle.offering.specs.Outbox.Part.{Octets}
 use Rattle.offering.specs.State.{Kept}
@@ -34,7 +36,7 @@ use Rattle.tables.specs.Rule.{MayGive, IsGiven}
 use Rattle.header_blocks.specs.Encodes.{IsWrittenBy}
 use Rattle.streams_kept.specs.Asked.{is_active}
 use Rattle.streams_kept.specs.Sending.{head_sent, data_sent}
-use Rattle.judgement.specs.Sending.{AreWithin, early_reset}
+use Rattle.judgement.specs.Sending.{AreWithin, LeadsTo, early_reset}
 use Rattle.judgement.proofs.SendingBooks.{block_leads, data_leads}
 use Rattle.outputs.specs.Sent.{data_frame, put_frames}
 use Rattle.outputs.specs.Blocks.{IsFragment, Complete}
@@ -127,12 +129,19 @@ module _ (setup : Setup) (given : List Opened) (rest : tables.State) (windows : 
       brings = ap (λ (b : Option Partial). frame_items b noted) completes;
     }
 
+    -- what it leads to, which isn't the end
+    leads : LeadsTo setup false (book_at u begun given) (Sent noted) (book_at (part_gone last.id part (head_sent (is_final item) block.ends (find u.inbound.rows last.id)) u.inbound.window (record u.encoding { table = table; limits = None }) (length (spell last)) u) None given) (early_reset (book_at u None given) last.id block.ends)
+    leads =
+        subst (λ calms. LeadsTo setup false (book_at u begun given) (Sent noted) (record (book_at (part_gone last.id part (head_sent (is_final item) block.ends (find u.inbound.rows last.id)) u.inbound.window (record u.encoding { table = table; limits = None }) (length (spell last)) u) None given) { ends = calms || false }) (early_reset (book_at u None given) last.id block.ends))
+        (passing_calmless noted (is.passing (Fields fields)))
+        (block_leads setup (book_at u begun given) noted block fields rows completes refl)
+
     -- The last frame of the block goes.
     last_path : (outputs : List Output) → Path setup run u [] begun outputs (unless_active block.id (behind_block (length (spell last)) u)) (reset_then u) None (put outputs (ToClient (spell last))) given rest windows (behind_windows (length (spell last)) u)
     last_path outputs =
         subst (λ n. Path setup run u [] begun outputs (unless_active n (part_gone n part (head_sent (is_final item) block.ends (find u.inbound.rows n)) u.inbound.window (record u.encoding { table = table; limits = None }) (length (spell last)) u)) (early_reset (book_at u None given) n block.ends) None (put outputs (ToClient (spell last))) given rest windows (back_if (not (is_active (part_gone n part (head_sent (is_final item) block.ends (find u.inbound.rows n)) u.inbound.window (record u.encoding { table = table; limits = None }) (length (spell last)) u).inbound.rows n)) n u windows)) (sym on_stream)
         (whole_path setup run u begun given rest windows at noted is.no_update is.fits item part table (head_sent (is_final item) block.ends (find u.inbound.rows last.id)) u.inbound.window (record u.encoding { table = table; limits = None })
-        (early_reset (book_at u None given) last.id block.ends) may_here.active refl refl (block_leads setup (book_at u begun given) noted block fields rows completes refl)
+        (early_reset (book_at u None given) last.id block.ends) may_here.active refl refl leads
         (ap (λ (b : Option Partial). tables.encoding_after b table u.encoding) completes) goes outputs)
 
   -- All its frames go, and behind the last one the part is complete.

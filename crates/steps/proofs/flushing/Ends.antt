@@ -1,8 +1,8 @@
 -- Behind a part with which the gateway ended its stream, that is reset where the client hasn't ended it, and is over.
-use Rattle.std.proofs.Common.{◌≡◌, ℕ, ◌<◌, Bool, true, false, not, ◌&&◌, ◌||◌, if◌then◌else◌, List, [], ◌∷◌, ◌++◌, None, refl, sym, ◌∙◌, ap, subst}
+use Rattle.std.proofs.Common.{◌≡◌, ℕ, ◌<◌, Bool, true, false, not, ◌&&◌, ◌||◌, if◌then◌else◌, List, [], ◌∷◌, ◌++◌, None, refl, sym, ◌∙◌, ap, subst, nat_lt, ◌+◌, inl, arith}
 use Rattle.std.specs.Prelude.{Option, ℤ}
 use Rattle.std.proofs.lemmas.Bool.{and_parts}
-use Rattle.model.specs.Frames.{no_error, spell}
+use Rattle.model.specs.Frames.{no_error, spell, Fits, Frame}
 use Rattle.model.specs.ErrorClause.{rst_stream}
 use Rattle.model.specs.Logs.{Output}
 use Rattle.model.specs.Setup.{Setup}
@@ -20,12 +20,21 @@ use Rattle.header_blocks.specs.Encoding.{Encoding}
 use Rattle.streams_kept.specs.Asked.{has, is_active}
 use Rattle.judgement.specs.Sending.{early_reset}
 use Rattle.policy.specs.Moves.{Move}
-use Rattle.relay.specs.View.{View, waiting_for}
+use Rattle.relay.specs.View.{View, waiting_for, Pending, square}
+use Rattle.policy.specs.State.{State, tape_of}
+use Rattle.model.specs.Admission.{most_untaken}
+use Rattle.judgement.proofs.BlockRows.{active_closed}
+use Rattle.relay.specs.Bringing.{AreOwn, OwnSegment, PerformsOwn}
+use Rattle.relay.proofs.Bringing.{own_behind, segments_then}
+use Rattle.relay.proofs.Performing.{tape_behind}
+use Rattle.relay.proofs.Resets.{reset_view, reset_paid}
+use Rattle.steps.specs.Comings.{Follows}
+use Rattle.steps.specs.Stopping.{IsCalmed}
+use Rattle.steps.proofs.Calming.{calm_ends}
+use Rattle.steps.proofs.Following.{then_follows}
 use Rattle.steps.specs.flushing.Changes.{part_gone, let_go, unless_active, reset_gone, ended, put_at_end}
 use Rattle.steps.proofs.flushing.Rows.{over_told, active_own, not_flip}
-use Rattle.steps.proofs.flushing.Placed.{book_at, back_on, back_if}
-use Rattle.steps.proofs.flushing.Paths.{Path, path_then}
-use Rattle.steps.proofs.flushing.Sending.{reset_path}
+use Rattle.steps.proofs.flushing.Placed.{book_at, back_on, back_if, owing}
 
 -- what the gateway's end makes of an active stream
 by_flags : (r c e ends : Bool) → (r || c || e && false) ≡ false → (r || c || e && (ends || false)) ≡ (e && ends)
@@ -53,35 +62,73 @@ module _ (setup : Setup) (given : List Opened) (rest : tables.State) (windows : 
     over_told_by : is_over_in k ≡ (was.ended_by_client && ends)
     over_told_by = over_is ∙ ap (λ b. was.reset_by_gateway || was.reset_by_client || was.ended_by_client && (ends || b)) unended ∙ by_flags was.reset_by_gateway was.reset_by_client was.ended_by_client ends goes_on
 
-    active_then : is_active v.inbound.rows id ≡ not (was.ended_by_client && ends)
+    -- Whether it is active behind the part.
+    pub active_then : is_active v.inbound.rows id ≡ not (was.ended_by_client && ends)
     active_then = active_own id (slot_of k) u.inbound.rows there ∙ ap not (over_told k ∙ over_told_by)
 
-    -- What is kept and put out in the end.
-    abbrev pub end_view : View
-    end_view = if ends then ended id v else v
+-- ---- what is left to do at a stream's end
 
-    abbrev pub end_put : List Output → List Output
-    end_put outputs = if ends then put_at_end id v outputs else outputs
+-- the reset that is owed then
+abbrev pub owed_at : View → ℕ → Bool → List Frame
+owed_at u id ends = if ends && not (find u.inbound.rows id).ended_by_client then rst_stream id no_error ∷ [] else []
 
-    -- what waited of it goes back then
-    abbrev pub end_windows : receiving.Kept
-    end_windows = if ends then back_on (waiting_for id u) windows else windows
+-- A part went: its stream is kept while it is active, and this is owed, and goes back.
+pub record IsGone (setup : Setup) (run : List Move) (s : State) (u : View) (id : ℕ) (ends : Bool) (v : View) (outputs put_out : List Output) : Type 0 where
+  pub segment : OwnSegment setup run s outputs (unless_active id v) (owing (owed_at u id ends) (if is_active v.inbound.rows id then 0 else waiting_for id u)) put_out
+  pub active : is_active v.inbound.rows id ≡ not ((find u.inbound.rows id).ended_by_client && ends)
+  pub waits : waiting_for id v ≡ waiting_for id u
 
-    pub end_path : (outputs put_out : List Output) → Path setup run u [] begun outputs (unless_active id v) (early_reset (book_at u None given) id ends) None put_out given rest windows (back_if (not (is_active v.inbound.rows id)) id u windows)
-        → Path setup run u [] begun outputs end_view [] None (end_put put_out) given rest windows end_windows
-    end_path outputs put_out path = by ends was.ended_by_client refl active_then path
-      where
-        by : (b e : Bool) → was.ended_by_client ≡ e → is_active v.inbound.rows id ≡ not (e && b)
-            → Path setup run u [] begun outputs (unless_active id v) (if b && not e then rst_stream id no_error ∷ [] else []) None put_out given rest windows (back_if (not (is_active v.inbound.rows id)) id u windows)
-            → Path setup run u [] begun outputs (if b then ended id v else v) [] None (if b then put_at_end id v put_out else put_out) given rest windows (if b then back_on (waiting_for id u) windows else windows)
-        by false true client on path = subst (λ a. Path setup run u [] begun outputs (if a then v else let_go id v) [] None put_out given rest windows (back_if (not a) id u windows)) on path
-        by false false client on path = subst (λ a. Path setup run u [] begun outputs (if a then v else let_go id v) [] None put_out given rest windows (back_if (not a) id u windows)) on path
-        by true true client off path =
-            subst (λ a. Path setup run u [] begun outputs (let_go id (if a then reset_gone id no_error v else v)) [] None (if a then put put_out (ToClient (spell (rst_stream id no_error))) else put_out) given rest windows (back_on (waiting_for id u) windows)) (sym off)
-            (subst (λ a. Path setup run u [] begun outputs (if a then v else let_go id v) [] None put_out given rest windows (back_if (not a) id u windows)) off path)
-        by true false client on path =
-            let first : Path setup run u [] begun outputs v (rst_stream id no_error ∷ []) None put_out given rest windows windows = subst (λ a. Path setup run u [] begun outputs (if a then v else let_go id v) (rst_stream id no_error ∷ []) None put_out given rest windows (back_if (not a) id u windows)) on path in
-            let out = put put_out (ToClient (spell (rst_stream id no_error))) in
-            subst (λ a. Path setup run u [] begun outputs (let_go id (if a then reset_gone id no_error v else v)) [] None (if a then out else put_out) given rest windows (back_on (waiting_for id u) windows)) (sym on)
-            (path_then setup given rest windows windows (back_on (waiting_for id u) windows) run u v (let_go id (reset_gone id no_error v)) [] (rst_stream id no_error ∷ []) [] begun None None outputs put_out out first
-            (reset_path setup (first.moves ++ run) v id no_error given rest windows first.at on small put_out))
+-- one part, and then another of the gateway's own
+own_behind_segment : (setup : Setup) (run : List Move) (s : State) (o p q : List Output) (b c : View) (y z : Pending) → OwnSegment setup run s o b y p → PerformsOwn setup b y p c z q → OwnSegment setup run s o c z q
+own_behind_segment setup run s o p q b c y z one later =
+    let two = later (one.segment.moves ++ run) one.segment.state one.segment.leads in
+    record {
+      segment = segments_then setup run s o p q b c y z one.segment two.segment;
+      are_own = subst AreOwn (sym (tape_behind two.segment.moves one.segment.moves)) (own_behind (tape_of two.segment.moves) (tape_of one.segment.moves) two.are_own one.are_own);
+    }
+
+module _ (setup : Setup) (run : List Move) (s : State) (u : View) (id : ℕ) (small : id < 2147483648) (v : View) (outputs put_out : List Output) where
+  reset_fits : Fits (rst_stream id no_error)
+  reset_fits = record { kind = omega arith; flags = omega arith; id = small; payload = omega arith }
+
+  none_plus : (n : ℕ) → 0 + n ≡ n
+  none_plus n = omega arith
+
+  -- a stream that the client hasn't ended is reset
+  reset_it : is_active v.inbound.rows id ≡ true → waiting_for id v ≡ waiting_for id u → nat_lt most_untaken v.untaken ≡ false
+      → PerformsOwn setup v (owing (rst_stream id no_error ∷ []) 0) put_out (ended id v) (record square { shared = waiting_for id u }) (put_at_end id v put_out)
+  reset_it on waits free =
+      subst (λ a. PerformsOwn setup v (owing (rst_stream id no_error ∷ []) 0) put_out (let_go id (if a then reset_gone id no_error v else v)) (record square { shared = waiting_for id u }) (if a then put put_out (ToClient (spell (rst_stream id no_error))) else put_out)) (sym on)
+      (subst (λ n. PerformsOwn setup v (owing (rst_stream id no_error ∷ []) 0) put_out (reset_view v id no_error) (record square { shared = n }) (put put_out (ToClient (spell (rst_stream id no_error))))) (none_plus (waiting_for id v) ∙ waits)
+      (reset_paid setup v (owing (rst_stream id no_error ∷ []) 0) [] id no_error refl refl (active_closed v.inbound.rows id on) reset_fits free put_out))
+
+  -- What is kept and put out in the end.
+  pub ends_gone : (ends : Bool) → IsGone setup run s u id ends v outputs put_out → (ends ≡ true → is_active v.inbound.rows id ≡ true → nat_lt most_untaken v.untaken ≡ false)
+      → OwnSegment setup run s outputs (if ends then ended id v else v) (record square { shared = if ends then waiting_for id u else 0 }) (if ends then put_at_end id v put_out else put_out)
+  ends_gone ends gone free = by ends (find u.inbound.rows id).ended_by_client refl gone.active free gone.segment
+    where
+      by : (b e : Bool) → (find u.inbound.rows id).ended_by_client ≡ e → is_active v.inbound.rows id ≡ not (e && b) → (b ≡ true → is_active v.inbound.rows id ≡ true → nat_lt most_untaken v.untaken ≡ false)
+          → OwnSegment setup run s outputs (if is_active v.inbound.rows id then v else let_go id v) (owing (if b && not e then rst_stream id no_error ∷ [] else []) (if is_active v.inbound.rows id then 0 else waiting_for id u)) put_out
+          → OwnSegment setup run s outputs (if b then ended id v else v) (record square { shared = if b then waiting_for id u else 0 }) (if b then put_at_end id v put_out else put_out)
+      by false true client on free one = subst (λ a. OwnSegment setup run s outputs (if a then v else let_go id v) (owing [] (if a then 0 else waiting_for id u)) put_out) on one
+      by false false client on free one = subst (λ a. OwnSegment setup run s outputs (if a then v else let_go id v) (owing [] (if a then 0 else waiting_for id u)) put_out) on one
+      by true true client off free one =
+          subst (λ a. OwnSegment setup run s outputs (let_go id (if a then reset_gone id no_error v else v)) (record square { shared = waiting_for id u }) (if a then put put_out (ToClient (spell (rst_stream id no_error))) else put_out)) (sym off)
+          (subst (λ a. OwnSegment setup run s outputs (if a then v else let_go id v) (owing [] (if a then 0 else waiting_for id u)) put_out) off one)
+      by true false client on free one =
+          own_behind_segment setup run s outputs put_out (put_at_end id v put_out) v (ended id v) (owing (rst_stream id no_error ∷ []) 0) (record square { shared = waiting_for id u })
+          (subst (λ a. OwnSegment setup run s outputs (if a then v else let_go id v) (owing (rst_stream id no_error ∷ []) (if a then 0 else waiting_for id u)) put_out) on one)
+          (reset_it on gone.waits (free refl on))
+
+  -- The stream ended, and its reset can't go: the connection ends.
+  pub gone_over : IsGone setup run s u id true v outputs put_out → is_active v.inbound.rows id ≡ true → (p : List Output) → IsCalmed v put_out p → Follows setup run outputs square None p
+  gone_over gone on p calmed = by (find u.inbound.rows id).ended_by_client gone.active gone.segment
+    where
+      by : (e : Bool) → is_active v.inbound.rows id ≡ not (e && true)
+          → OwnSegment setup run s outputs (if is_active v.inbound.rows id then v else let_go id v) (owing (if true && not e then rst_stream id no_error ∷ [] else []) (if is_active v.inbound.rows id then 0 else waiting_for id u)) put_out
+          → Follows setup run outputs square None p
+      by true off one = absurd (let no : true ≡ false = sym on ∙ off in cc)
+      by false is one =
+          then_follows setup run s v (owing (rst_stream id no_error ∷ []) 0) square outputs put_out p None
+          (subst (λ a. OwnSegment setup run s outputs (if a then v else let_go id v) (owing (rst_stream id no_error ∷ []) (if a then 0 else waiting_for id u)) put_out) on one)
+          (calm_ends setup v (owing (rst_stream id no_error ∷ []) 0) (inl (rst_stream id no_error, [], refl)) refl put_out p calmed)

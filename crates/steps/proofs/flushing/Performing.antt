@@ -1,5 +1,5 @@
 -- A part of the stream whose turn it is goes: this performs.
-use Rattle.std.proofs.Common.{◌≡◌, ◌≢◌, ℕ, ◌<◌, ◌≤◌, Bool, true, false, not, ◌||◌, if◌then◌else◌, List, [], ◌∷◌, ◌++◌, length, length-append, Option, Some, None, refl, sym, ◌∙◌, ap, subst, inl, inr, arith}
+use Rattle.std.proofs.Common.{◌≡◌, ◌≢◌, ℕ, ◌<◌, ◌≤◌, Bool, true, false, not, ◌||◌, if◌then◌else◌, List, [], ◌∷◌, ◌++◌, length, length-append, Option, Some, None, refl, sym, ◌∙◌, ap, subst, inl, inr, arith, nat_lt, ◌&&◌}
 use Rattle.std.specs.Prelude.{nat_le, option_and_then, ◌-ℤ◌, pos}
 use Rattle.std.proofs.lemmas.Bool.{and_parts, le-leb, leb-true}
 use Rattle.model.proofs.BlockLaws.{field_some}
@@ -8,7 +8,7 @@ use Rattle.model.specs.Messages.{Field}
 use Rattle.model.specs.Messages.Item.{Block}
 use Rattle.model.specs.Frames.{spell}
 use Rattle.model.specs.Blocks as blocks
-use Rattle.model.specs.Admission.{high_water}
+use Rattle.model.specs.Admission.{high_water, most_untaken}
 use Rattle.model.specs.ResponseHeads.{Head}
 use Rattle.model.specs.Logs.{Output}
 use Rattle.model.specs.Logs.Output.{ToClient}
@@ -43,15 +43,16 @@ use Rattle.policy.specs.State.{State}
 use Rattle.relay.specs.View.{View, square, Leads, Pending, waiting_for}
 use Rattle.relay.specs.Rest.{NoneCut}
 use Rattle.relay.specs.Bringing.{OwnSegment, PerformsOwn}
-use Rattle.steps.specs.flushing.Changes.{part_gone, ended, put_at_end, octets_of_frames, IsHeadPart, AreOctetsPart, IsHeadSent, AreOctetsSent, AreTrailersSent, IsPartSent}
+use Rattle.steps.specs.Stopping.{IsCalmed, EndsFrom}
+use Rattle.steps.specs.flushing.Changes.{part_gone, ended, put_at_end, octets_of_frames, IsHeadPart, AreOctetsPart, IsHeadSent, AreOctetsSent, AreTrailersSent, IsPartSent, unless_active}
 use Rattle.steps.proofs.flushing.Rows.{not_flip}
 use Rattle.steps.proofs.flushing.Facts.{ready_active, ready_unended}
 use Rattle.steps.proofs.flushing.Statuses.{HasStatuses, statuses_right, final_told, never_final, IsLate}
-use Rattle.steps.proofs.flushing.Placed.{At, led_at, owing, back_on}
-use Rattle.steps.proofs.flushing.Paths.{path_performs}
+use Rattle.steps.proofs.flushing.Placed.{At, led_at, owing, back_on, back_if}
+use Rattle.steps.proofs.flushing.Paths.{path_performs, Path}
 use Rattle.steps.proofs.flushing.Sending.{MaySend}
 use Rattle.steps.proofs.flushing.Blocks.{block_path, data_path}
-use Rattle.steps.proofs.flushing.Ends.{end_path}
+use Rattle.steps.proofs.flushing.Ends.{IsGone, owed_at, active_then, ends_gone, gone_over}
 
 -- ---- whose turn it is
 
@@ -164,15 +165,26 @@ module _ (u : View) (id : ℕ) (none_cut : NoneCut u.offers) (turn : IsNextTurn 
     at : At setup run u [] None s.desk.book.given s.tables s.windows
     at = led_at setup run u [] 0 s leads
 
-    -- what goes back in the end
-    back_then : (b : Bool) → (if b then back_on (waiting_for id u) s.windows else s.windows).debt ≡ (if b then waiting_for id u else 0)
-    back_then true = let none = leads.keeps.credited.shared in omega (arith, none)
-    back_then false = leads.keeps.credited.shared
+    -- what goes back then
+    back_then : (active : Bool) → (if not active then back_on (waiting_for id u) s.windows else s.windows).debt ≡ (if active then 0 else waiting_for id u)
+    back_then false = let none = leads.keeps.credited.shared in omega (arith, none)
+    back_then true = leads.keeps.credited.shared
 
-  -- A head goes, and where it ends the response the stream is over.
-  pub head_performs : (setup : Setup) (outputs : List Output) (is_final_one ends : Bool) (v : View) (put_out : List Output) → IsHeadSent u outputs id is_final_one ends v put_out
-      → PerformsOwn setup u square outputs (if ends then ended id v else v) (behind ends) (if ends then put_at_end id v put_out else put_out)
-  head_performs setup outputs is_final_one ends v put_out h run s leads =
+    -- A path to where its part is out says so.
+    gone_by : (ends : Bool) (v : View) (outputs out : List Output) → is_active v.inbound.rows id ≡ not ((find_row u.inbound.rows id).ended_by_client && ends) → waiting_for id v ≡ waiting_for id u
+        → Path setup run u [] None outputs (unless_active id v) (owed_at u id ends) None out s.desk.book.given s.tables s.windows (back_if (not (is_active v.inbound.rows id)) id u s.windows) → IsGone setup run s u id ends v outputs out
+    gone_by ends v outputs out active waits path = record {
+      segment =
+          subst (λ n. OwnSegment setup run s outputs (unless_active id v) (owing (owed_at u id ends) n) out) (back_then (is_active v.inbound.rows id))
+          (path_performs setup run s u (unless_active id v) [] (owed_at u id ends) outputs out 0 (back_if (not (is_active v.inbound.rows id)) id u s.windows) leads path);
+      active = active;
+      waits = waits;
+    }
+
+  -- A head goes.
+  head_goes : (setup : Setup) (outputs : List Output) (is_final_one ends : Bool) (v : View) (put_out : List Output) → IsHeadSent u outputs id is_final_one ends v put_out
+      → (run : List Move) (s : State) → Leads setup run u square s → IsGone setup run s u id ends v outputs put_out
+  head_goes setup outputs is_final_one ends v put_out h run s leads =
       let may = may_send setup run s leads in
       let next = chosen_next 1 it.stream.box h.part (omega arith) (part_here 1 id u.offers.kept it.stream h.part it.found h.next) in
       let right = item_right it.stream.box h.part is_final_one ends h.head h.fields next (statuses_right setup run s leads.stands leads.so id it.stream (found_in_state setup run s leads)) h.says h.is_head h.section in
@@ -181,29 +193,30 @@ module _ (u : View) (id : ℕ) (none_cut : NoneCut u.offers) (turn : IsNextTurn 
       (record { found = it.found; next = next; is = right.0; written = h.written }) (λ none. in_time)
       (block_completes id ends h.block small (section_some h.fields h.head u.encoding h.table h.block h.section h.written)) outputs in
       let gone : Bool → View = λ f. part_gone id h.part (head_sent f ends (find_row u.inbound.rows id)) u.inbound.window (record u.encoding { table = h.table; limits = None }) (octets_of_frames (block_frames id ends h.block)) u in
-      let whole = end_path setup s.desk.book.given s.tables s.windows run u None id may.active may.unended small h.part (head_sent (is_final (Block h.fields ends)) ends (find_row u.inbound.rows id)) u.inbound.window (record u.encoding { table = h.table; limits = None }) (octets_of_frames (block_frames id ends h.block)) ends refl outputs (put_frames outputs (block_frames id ends h.block)) path in
-      subst (λ (w : View). OwnSegment setup run s outputs (if ends then ended id w else w) (behind ends) (if ends then put_at_end id w put_out else put_out)) (sym h.kept)
-      (subst (λ f. OwnSegment setup run s outputs (if ends then ended id (gone f) else gone f) (behind ends) (if ends then put_at_end id (gone f) put_out else put_out)) right.1
-      (subst (λ (o : List Output). OwnSegment setup run s outputs (if ends then ended id (gone (is_final (Block h.fields ends))) else gone (is_final (Block h.fields ends))) (behind ends) (if ends then put_at_end id (gone (is_final (Block h.fields ends))) o else o)) (sym h.puts)
-      (subst (λ n. OwnSegment setup run s outputs (if ends then ended id (gone (is_final (Block h.fields ends))) else gone (is_final (Block h.fields ends))) (owing [] n) (if ends then put_at_end id (gone (is_final (Block h.fields ends))) (put_frames outputs (block_frames id ends h.block)) else put_frames outputs (block_frames id ends h.block))) (back_then setup run s leads ends)
-      (path_performs setup run s u (if ends then ended id (gone (is_final (Block h.fields ends))) else gone (is_final (Block h.fields ends))) [] [] outputs (if ends then put_at_end id (gone (is_final (Block h.fields ends))) (put_frames outputs (block_frames id ends h.block)) else put_frames outputs (block_frames id ends h.block)) 0 (if ends then back_on (waiting_for id u) s.windows else s.windows) leads whole))))
+      let told : Bool = is_final (Block h.fields ends) in
+      subst (λ (w : View). IsGone setup run s u id ends w outputs put_out) (sym h.kept)
+      (subst (λ f. IsGone setup run s u id ends (gone f) outputs put_out) right.1
+      (subst (λ (o : List Output). IsGone setup run s u id ends (gone told) outputs o) (sym h.puts)
+      (gone_by setup run s leads ends (gone told) outputs (put_frames outputs (block_frames id ends h.block))
+      (active_then setup s.desk.book.given s.tables s.windows run u None id may.active may.unended small h.part (head_sent told ends (find_row u.inbound.rows id)) u.inbound.window (record u.encoding { table = h.table; limits = None }) (octets_of_frames (block_frames id ends h.block)) ends refl)
+      refl path)))
 
   -- So do octets.
-  pub octets_perform : (setup : Setup) (outputs : List Output) (ends : Bool) (v : View) (put_out : List Output) → AreOctetsSent u outputs id ends v put_out
-      → PerformsOwn setup u square outputs (if ends then ended id v else v) (behind ends) (if ends then put_at_end id v put_out else put_out)
-  octets_perform setup outputs ends v put_out h run s leads =
+  octets_go : (setup : Setup) (outputs : List Output) (ends : Bool) (v : View) (put_out : List Output) → AreOctetsSent u outputs id ends v put_out
+      → (run : List Move) (s : State) → Leads setup run u square s → IsGone setup run s u id ends v outputs put_out
+  octets_go setup outputs ends v put_out h run s leads =
       let may = may_send setup run s leads in
       let part_is : h.part ≡ Octets h.octets ends = octets_part h.part h.octets ends h.are in
       let next : IsNext it.stream.box (Octets h.octets ends) = subst (IsNext it.stream.box) part_is (chosen_next h.most it.stream.box h.part h.some (part_here h.most id u.offers.kept it.stream h.part it.found h.next)) in
       let path = data_path setup s.desk.book.given s.tables s.windows run u (at setup run s leads) id may in_time h.octets ends it.stream it.found next (some_go it.stream.box h.octets ends next) h.few h.within outputs in
       let gone : Part → View = λ p. part_gone id p (data_sent (length h.octets) ends (find_row u.inbound.rows id)) (u.inbound.window -ℤ pos (length h.octets)) u.encoding (length (spell (data_frame id ends h.octets))) u in
       let out = put outputs (ToClient (spell (data_frame id ends h.octets))) in
-      let whole = end_path setup s.desk.book.given s.tables s.windows run u None id may.active may.unended small (Octets h.octets ends) (data_sent (length h.octets) ends (find_row u.inbound.rows id)) (u.inbound.window -ℤ pos (length h.octets)) u.encoding (length (spell (data_frame id ends h.octets))) ends refl outputs out path in
-      subst (λ (w : View). OwnSegment setup run s outputs (if ends then ended id w else w) (behind ends) (if ends then put_at_end id w put_out else put_out)) (sym h.kept)
-      (subst (λ p. OwnSegment setup run s outputs (if ends then ended id (gone p) else gone p) (behind ends) (if ends then put_at_end id (gone p) put_out else put_out)) (sym part_is)
-      (subst (λ (o : List Output). OwnSegment setup run s outputs (if ends then ended id (gone (Octets h.octets ends)) else gone (Octets h.octets ends)) (behind ends) (if ends then put_at_end id (gone (Octets h.octets ends)) o else o)) (sym h.puts)
-      (subst (λ n. OwnSegment setup run s outputs (if ends then ended id (gone (Octets h.octets ends)) else gone (Octets h.octets ends)) (owing [] n) (if ends then put_at_end id (gone (Octets h.octets ends)) out else out)) (back_then setup run s leads ends)
-      (path_performs setup run s u (if ends then ended id (gone (Octets h.octets ends)) else gone (Octets h.octets ends)) [] [] outputs (if ends then put_at_end id (gone (Octets h.octets ends)) out else out) 0 (if ends then back_on (waiting_for id u) s.windows else s.windows) leads whole))))
+      subst (λ (w : View). IsGone setup run s u id ends w outputs put_out) (sym h.kept)
+      (subst (λ p. IsGone setup run s u id ends (gone p) outputs put_out) (sym part_is)
+      (subst (λ (o : List Output). IsGone setup run s u id ends (gone (Octets h.octets ends)) outputs o) (sym h.puts)
+      (gone_by setup run s leads ends (gone (Octets h.octets ends)) outputs out
+      (active_then setup s.desk.book.given s.tables s.windows run u None id may.active may.unended small (Octets h.octets ends) (data_sent (length h.octets) ends (find_row u.inbound.rows id)) (u.inbound.window -ℤ pos (length h.octets)) u.encoding (length (spell (data_frame id ends h.octets))) ends refl)
+      refl path)))
     where
       octets_part : (part : Part) (octets : List ℕ) (last : Bool) → AreOctetsPart (Some part) octets last → part ≡ Octets octets last
       octets_part (Octets octets last) sent e are = ap (λ xs. Octets xs last) (sym are.0) ∙ ap (λ b. Octets sent b) (sym are.1)
@@ -219,10 +232,10 @@ module _ (u : View) (id : ℕ) (none_cut : NoneCut u.offers) (turn : IsNextTurn 
       some_go (Before [] head body whole) octets last next = absurd next
       some_go Over octets last next = absurd next
 
-  -- So do trailers, and the stream is over.
-  pub trailers_perform : (setup : Setup) (outputs : List Output) (v : View) (put_out : List Output) → AreTrailersSent u outputs id v put_out
-      → PerformsOwn setup u square outputs (ended id v) (behind true) (put_at_end id v put_out)
-  trailers_perform setup outputs v put_out h run s leads =
+  -- So do trailers.
+  trailers_go : (setup : Setup) (outputs : List Output) (v : View) (put_out : List Output) → AreTrailersSent u outputs id v put_out
+      → (run : List Move) (s : State) → Leads setup run u square s → IsGone setup run s u id true v outputs put_out
+  trailers_go setup outputs v put_out h run s leads =
       let may = may_send setup run s leads in
       let part : Part = Trailing h.trailers in
       let next = chosen_next 1 it.stream.box part (omega arith) (part_here 1 id u.offers.kept it.stream part it.found h.next) in
@@ -233,28 +246,37 @@ module _ (u : View) (id : ℕ) (none_cut : NoneCut u.offers) (turn : IsNextTurn 
       let gone : Bool → View = λ f. part_gone id part (head_sent f true (find_row u.inbound.rows id)) u.inbound.window (record u.encoding { table = h.table; limits = None }) (octets_of_frames (block_frames id true h.block)) u in
       let told : Bool = is_final (Block h.trailers true) in
       let out : List Output = put_frames outputs (block_frames id true h.block) in
-      let whole = end_path setup s.desk.book.given s.tables s.windows run u None id may.active may.unended small part (head_sent told true (find_row u.inbound.rows id)) u.inbound.window (record u.encoding { table = h.table; limits = None }) (octets_of_frames (block_frames id true h.block)) true refl outputs out path in
-      subst (λ (w : View). OwnSegment setup run s outputs (ended id w) (behind true) (put_at_end id w put_out)) (sym h.kept)
-      (subst (λ f. OwnSegment setup run s outputs (ended id (gone f)) (behind true) (put_at_end id (gone f) put_out)) (never_final h.trailers true h.can_trail.plain)
-      (subst (λ (o : List Output). OwnSegment setup run s outputs (ended id (gone told)) (behind true) (put_at_end id (gone told) o)) (sym h.puts)
-      (subst (λ n. OwnSegment setup run s outputs (ended id (gone told)) (owing [] n) (put_at_end id (gone told) out)) (back_then setup run s leads true)
-      (path_performs setup run s u (ended id (gone told)) [] [] outputs (put_at_end id (gone told) out) 0 (back_on (waiting_for id u) s.windows) leads whole))))
+      subst (λ (w : View). IsGone setup run s u id true w outputs put_out) (sym h.kept)
+      (subst (λ f. IsGone setup run s u id true (gone f) outputs put_out) (never_final h.trailers true h.can_trail.plain)
+      (subst (λ (o : List Output). IsGone setup run s u id true (gone told) outputs o) (sym h.puts)
+      (gone_by setup run s leads true (gone told) outputs out
+      (active_then setup s.desk.book.given s.tables s.windows run u None id may.active may.unended small part (head_sent told true (find_row u.inbound.rows id)) u.inbound.window (record u.encoding { table = h.table; limits = None }) (octets_of_frames (block_frames id true h.block)) true refl)
+      refl path)))
 
   -- So does a part of any kind.
-  pub part_performs : (setup : Setup) (outputs : List Output) (ends : Bool) (v : View) (put_out : List Output) → IsPartSent u outputs id ends v put_out
+  part_goes : (setup : Setup) (outputs : List Output) (ends : Bool) (v : View) (put_out : List Output) → IsPartSent u outputs id ends v put_out
+      → (run : List Move) (s : State) → Leads setup run u square s → IsGone setup run s u id ends v outputs put_out
+  part_goes setup outputs ends v put_out (inl head) run s leads = head_goes setup outputs head.0 ends v put_out head.1 run s leads
+  part_goes setup outputs ends v put_out (inr (inl octets)) run s leads = octets_go setup outputs ends v put_out octets run s leads
+  part_goes setup outputs ends v put_out (inr (inr (last, trailers))) run s leads =
+      subst (λ b. IsGone setup run s u id b v outputs put_out) (sym last) (trailers_go setup outputs v put_out trailers run s leads)
+
+  -- Behind it its stream is over where it ended that, and is reset where the client hasn't ended it.
+  pub part_performs : (setup : Setup) (outputs : List Output) (ends : Bool) (v : View) (put_out : List Output) → IsPartSent u outputs id ends v put_out → (ends ≡ true → is_active v.inbound.rows id ≡ true → nat_lt most_untaken v.untaken ≡ false)
       → PerformsOwn setup u square outputs (if ends then ended id v else v) (behind ends) (if ends then put_at_end id v put_out else put_out)
-  part_performs setup outputs ends v put_out (inl head) = head_performs setup outputs head.0 ends v put_out head.1
-  part_performs setup outputs ends v put_out (inr (inl octets)) = octets_perform setup outputs ends v put_out octets
-  part_performs setup outputs ends v put_out (inr (inr (last, trailers))) =
-      subst (λ b. PerformsOwn setup u square outputs (if b then ended id v else v) (behind b) (if b then put_at_end id v put_out else put_out)) (sym last) (trailers_perform setup outputs v put_out trailers)
+  part_performs setup outputs ends v put_out sent free run s leads = ends_gone setup run s u id small v outputs put_out ends (part_goes setup outputs ends v put_out sent run s leads) free
 
   -- The last part went, and the stream ended: what waited of it goes back.
-  pub ends_then : (setup : Setup) (outputs : List Output) (v : View) (put_out : List Output) → IsPartSent u outputs id true v put_out
+  pub ends_then : (setup : Setup) (outputs : List Output) (v : View) (put_out : List Output) → IsPartSent u outputs id true v put_out → (is_active v.inbound.rows id ≡ true → nat_lt most_untaken v.untaken ≡ false)
       → (dropped : ℕ) (w : View) (out_then : List Output) → dropped ≡ waiting_for id u → w ≡ ended id v → out_then ≡ put_at_end id v put_out → PerformsOwn setup u square outputs w (record square { shared = dropped }) out_then
-  ends_then setup outputs v put_out sent dropped w out_then waits kept puts =
+  ends_then setup outputs v put_out sent free dropped w out_then waits kept puts =
       subst (λ (x : View). PerformsOwn setup u square outputs x (record square { shared = dropped }) out_then) (sym kept)
       (subst (λ n. PerformsOwn setup u square outputs (ended id v) (record square { shared = n }) out_then) (sym waits)
-      (subst (λ (o : List Output). PerformsOwn setup u square outputs (ended id v) (record square { shared = waiting_for id u }) o) (sym puts) (part_performs setup outputs true v put_out sent)))
+      (subst (λ (o : List Output). PerformsOwn setup u square outputs (ended id v) (record square { shared = waiting_for id u }) o) (sym puts) (part_performs setup outputs true v put_out sent (λ ends. free))))
+
+  -- It went, and the reset of its stream can't: the connection ends.
+  pub part_over : (setup : Setup) (outputs : List Output) (v : View) (put_out : List Output) → IsPartSent u outputs id true v put_out → is_active v.inbound.rows id ≡ true → (p : List Output) → IsCalmed v put_out p → EndsFrom setup u square outputs p
+  part_over setup outputs v put_out sent on p calmed run s leads = gone_over setup run s u id small v outputs put_out (part_goes setup outputs true v put_out sent run s leads) on p calmed
 
 -- The stream whose turn it is is active.
 pub turn_active : (setup : Setup) (run : List Move) (s : State) (u : View) (pending : Pending) (id : ℕ) → Leads setup run u pending s → IsNextTurn u.offers.last (ready (windows_over u.inbound.rows u.inbound.first_size u.inbound.window) u.offers) (Some id) → is_active u.inbound.rows id ≡ true

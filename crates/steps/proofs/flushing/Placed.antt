@@ -1,5 +1,5 @@
 -- The state as it is kept, in one form, and moves from one such state to the next.
-use Rattle.std.proofs.Common.{◌≡◌, ℕ, ◌+◌, Bool, true, false, not, ◌==◌, List, [], ◌∷◌, ◌++◌, Option, Some, None, refl, sym, ◌∙◌, ap, subst, if◌then◌else◌, add-zero}
+use Rattle.std.proofs.Common.{◌≡◌, ℕ, ◌+◌, Bool, true, false, not, ◌==◌, List, [], ◌∷◌, ◌++◌, Option, Some, None, refl, sym, ◌∙◌, ap, subst, if◌then◌else◌, add-zero, ◌&&◌}
 use Rattle.std.proofs.lemmas.Bool.{and_parts}
 use Rattle.model.specs.Messages.{Item}
 use Rattle.model.specs.Frames.{Frame, rst_stream_kind, window_update_kind}
@@ -9,6 +9,7 @@ use Rattle.model.specs.Tapes.{Noted}
 use Rattle.model.specs.Tapes.Entry.{Sent}
 use Rattle.model.specs.Openings.{Opened}
 use Rattle.model.specs.Decoding.{Partial}
+use Rattle.model.specs.ErrorClause.{is_calming}
 use Rattle.conduct.specs.Summary.{Summary}
 use Rattle.conduct.specs.Judging.{completed_in, is_active_in}
 use Rattle.conduct.specs.Turn.{rest_of}
@@ -190,9 +191,9 @@ module _ (setup : Setup) (u : View) (owed : List Frame) (begun : Option Partial)
       subst (λ b. AreMarked setup.passing (unless_over over noted.frame.id u.marks) (receiving.after setup.passing rooms (given_or_sent b before (sight_in behind) noted))) (sym no_update)
       (subst (λ b. AreMarked setup.passing (unless_over over noted.frame.id u.marks) (receiving.with_sent rooms noted b)) (sym is) (marked_sent setup.passing u.marks rooms marked noted over))
 
-  module _ (leads : LeadsTo setup false (book_at u begun given) (Sent noted) new called) (no_update : (noted.frame.kind == window_update_kind) ≡ false) (over : Bool) (gone : over_is over) (run : List Move) (stands : Stands setup run s) (so : AreSo setup run) (marked : AreMarked setup.passing u.marks rooms) (held : List Held) (held_is : serving.kept (told_in behind) u.upstreams.held ≡ held) where
+  module _ (leads : LeadsTo setup false (book_at u begun given) (Sent noted) new called) (mild : is_calming noted.frame ≡ false) (no_update : (noted.frame.kind == window_update_kind) ≡ false) (over : Bool) (gone : over_is over) (run : List Move) (stands : Stands setup run s) (so : AreSo setup run) (marked : AreMarked setup.passing u.marks rooms) (held : List Held) (held_is : serving.kept (told_in behind) u.upstreams.held ≡ held) where
     desk_is : (d : Deed) → conduct_of d ≡ record { entry = Sent noted; fails = false } → desk_after setup s.desk (conduct_of d) ≡ desk_then
-    desk_is d same = ap (desk_after setup s.desk) same ∙ sent_desk setup false s.desk noted new called leads
+    desk_is d same = ap (desk_after setup s.desk) same ∙ sent_desk setup false s.desk noted new called (ap (λ b. b && true) mild) leads
 
     -- what is kept of DATA stands for the windows behind either
     pub marked_behind : (d : Deed) → conduct_of d ≡ record { entry = Sent noted; fails = false } → window_of before (sight_in behind) d ≡ given_or_sent (noted.frame.kind == window_update_kind) before (sight_in behind) noted

@@ -60,6 +60,7 @@ use Rattle.relay.specs.Passing.{MayPass, PartGoes}
 use Rattle.relay.proofs.Kept.{AreServed, held_behind}
 use Rattle.relay.proofs.Passing.{part_goes_on, fragment_goes_on}
 use Rattle.relay.proofs.Staying.{rows_kept, all_held_served}
+use Rattle.conduct.proofs.Farewells.{passing_calmless}
 use Rattle.steps.specs.flushing.Changes.{part_gone, let_go, unless_active, reset_gone}
 use Rattle.steps.proofs.flushing.Rows.{found_other, found_own, over_told, active_other, active_own, not_flip}
 use Rattle.steps.proofs.flushing.Placed.{book_at, state_at, back_on, back_if, At, held_same, marked_behind, behind_sent, behind_part}
@@ -163,7 +164,9 @@ module _ (setup : Setup) (run : List Move) (u : View) (begun : Option Partial) (
       unended = goes_on_with begun frame more.0 more.1 goes
 
       leads : LeadsTo setup false (book_at u begun given) (Sent (noted_of frame)) (book_at v (Some more.0) given) []
-      leads = fragment_leads setup (book_at u begun given) (noted_of frame) more.0 rows unended more.1
+      leads =
+          subst (λ calms. LeadsTo setup false (book_at u begun given) (Sent (noted_of frame)) (record (book_at v (Some more.0) given) { ends = calms || false }) []) (passing_calmless (noted_of frame) (is.passing NoBlock))
+          (fragment_leads setup (book_at u begun given) (noted_of frame) more.0 rows unended more.1)
 
       abbrev table : Table
       table = u.encoding.table
@@ -180,7 +183,7 @@ module _ (setup : Setup) (run : List Move) (u : View) (begun : Option Partial) (
 
       fragment_next : next setup s (Does (Sends (noted_of frame) table)) ≡ state_at v [] (Some more.0) given rest windows
       fragment_next =
-          behind_sent setup u [] begun given rest windows (noted_of frame) table (book_at v (Some more.0) given) [] leads is.no_update false (stays_active (is_active u.inbound.rows frame.id)) run at.stands at.so at.marked u.upstreams.held (held_same (told_in (told_by s)) (told_in (summary_in (book_at v (Some more.0) given))) (λ id. refl) u.upstreams.held served)
+          behind_sent setup u [] begun given rest windows (noted_of frame) table (book_at v (Some more.0) given) [] leads (passing_calmless (noted_of frame) (is.passing NoBlock)) is.no_update false (stays_active (is_active u.inbound.rows frame.id)) run at.stands at.so at.marked u.upstreams.held (held_same (told_in (told_by s)) (told_in (summary_in (book_at v (Some more.0) given))) (λ id. refl) u.upstreams.held served)
           ∙ ap (λ b. record (state_at v [] (Some more.0) given rest windows) { offers = record u.offers { kept = offering.unless_over b frame.id u.offers.kept }; tables = record rest { decoding = u.inbound.table; lost = false; encoding = tables.encoding_after (completed_in begun frame) table u.encoding } }) is.no_reset
           ∙ ap (λ (b : Option Partial). record (state_at v [] (Some more.0) given rest windows) { tables = record rest { decoding = u.inbound.table; lost = false; encoding = tables.encoding_after b table u.encoding } }) goes
 
@@ -189,7 +192,7 @@ module _ (setup : Setup) (run : List Move) (u : View) (begun : Option Partial) (
       fragment_path outputs =
           subst (λ (b : Option Partial). Path setup run u [] begun outputs v [] b (put outputs (ToClient (spell frame))) given rest windows windows) (sym (ap (λ x. if x then None else joined begun frame) unended ∙ more.1))
           (sends_path setup given rest windows run u [] begun at v [] (Some more.0) outputs refl false frame.id refl at.credited (noted_of frame) table is.fits fragment_may fragment_next
-          (marked_behind setup u [] begun given rest windows (noted_of frame) table (book_at v (Some more.0) given) [] leads is.no_update false (stays_active (is_active u.inbound.rows frame.id)) run at.stands at.so at.marked u.upstreams.held (held_same (told_in (told_by s)) (told_in (summary_in (book_at v (Some more.0) given))) (λ id. refl) u.upstreams.held served) (Sends (noted_of frame) table) refl refl))
+          (marked_behind setup u [] begun given rest windows (noted_of frame) table (book_at v (Some more.0) given) [] leads (passing_calmless (noted_of frame) (is.passing NoBlock)) is.no_update false (stays_active (is_active u.inbound.rows frame.id)) run at.stands at.so at.marked u.upstreams.held (held_same (told_in (told_by s)) (told_in (summary_in (book_at v (Some more.0) given))) (λ id. refl) u.upstreams.held served) (Sends (noted_of frame) table) refl refl))
 
 -- ---- octets go back on the same streams
 
@@ -294,14 +297,14 @@ module _ (setup : Setup) (run : List Move) (u : View) (begun : Option Partial) (
         step : (b : Bool) → is_active gone.inbound.rows id ≡ b → (held : List Held) → serving.kept told_then u.upstreams.held ≡ held
             → next setup state (Does (Goes noted item part table)) ≡ record (state_at gone called None given rest (back_if (not b) id u windows)) { offers = record { kept = offering.unless_over (not b) id (offering.change id (offering.gone part) u.offers.kept); last = id }; requests = upstreams.with_due (record u.upstreams { held = held }) serving.Due.Nothing }
         step b is held same =
-            behind_part setup u [] begun given rest windows noted table (book_at gone None given) called leads no_update (not b) (over_then b is) run at.stands at.so at.marked held same item part
+            behind_part setup u [] begun given rest windows noted table (book_at gone None given) called leads (passing_calmless noted goes.may.passing) no_update (not b) (over_then b is) run at.stands at.so at.marked held same item part
             ∙ ap (λ x. record (state_at gone called None given rest (back_if (not b) id u windows)) { offers = record { kept = offering.unless_over (not x) id (offering.change id (offering.gone part) u.offers.kept); last = id }; requests = upstreams.with_due (record u.upstreams { held = held }) serving.Due.Nothing; tables = record rest { decoding = u.inbound.table; lost = false; encoding = tables.encoding_after (completed_in begun noted.frame) table u.encoding } }) is
             ∙ ap (λ (e : Encoding). record (state_at gone called None given rest (back_if (not b) id u windows)) { offers = record { kept = offering.unless_over (not b) id (offering.change id (offering.gone part) u.offers.kept); last = id }; requests = upstreams.with_due (record u.upstreams { held = held }) serving.Due.Nothing; tables = record rest { decoding = u.inbound.table; lost = false; encoding = e } }) encoded
 
         marked_now : (b : Bool) → is_active gone.inbound.rows id ≡ b → (held : List Held) → serving.kept told_then u.upstreams.held ≡ held
             → AreMarked setup.passing (unless_over (not b) id u.marks) (receiving.after setup.passing (rooms_in (told_by state) state) (window_of (sight_in (told_by state)) (sight_in (told_behind setup state (Goes noted item part table))) (Goes noted item part table)))
         marked_now b is held same =
-            marked_behind setup u [] begun given rest windows noted table (book_at gone None given) called leads no_update (not b) (over_then b is) run at.stands at.so at.marked held same (Goes noted item part table) refl refl
+            marked_behind setup u [] begun given rest windows noted table (book_at gone None given) called leads (passing_calmless noted goes.may.passing) no_update (not b) (over_then b is) run at.stands at.so at.marked held same (Goes noted item part table) refl refl
 
         by : (b : Bool) → is_active gone.inbound.rows id ≡ b → Path setup run u [] begun outputs (if b then gone else let_go id gone) called None (put outputs (ToClient (spell noted.frame))) given rest windows (back_if (not b) id u windows)
         by true is =
@@ -311,65 +314,3 @@ module _ (setup : Setup) (run : List Move) (u : View) (begun : Option Partial) (
         by false is =
             part_path setup given rest windows run u [] begun at (let_go id gone) called None outputs refl true id refl credited_over noted item part table fits may_go
             (step false is (serving.without id_of id u.upstreams.held) (gone_held is)) (marked_now false is (serving.without id_of id u.upstreams.held) (gone_held is))
-
--- ---- a reset that is owed
-
-module _ (setup : Setup) (run : List Move) (u : View) (id code : ℕ) (given : List Opened) (rest : tables.State) (windows : receiving.Kept) (at : At setup run u (rst_stream id code ∷ []) None given rest windows) (active : is_active u.inbound.rows id ≡ true) (small : id < 2147483648) where
-  abbrev cut : View
-  cut = reset_gone id code u
-
-  abbrev reset_noted : Noted
-  reset_noted = noted_of (rst_stream id code)
-
-  abbrev before_reset : State
-  before_reset = state_at u (rst_stream id code ∷ []) None given rest windows
-
-  abbrev encoding_table : Table
-  encoding_table = u.encoding.table
-
-  reset_there : has u.inbound.rows id ≡ true
-  reset_there = (and_parts (has u.inbound.rows id) (not (is_over_in (find u.inbound.rows id))) active).0
-
-  reset_leads_to : LeadsTo setup false (book_at u None given) (Sent reset_noted) (book_at cut None given) []
-  reset_leads_to = reset_leads setup (book_at u None given) reset_noted (rows_kept setup run before_reset at.stands) refl refl
-
-  reset_may : MayGoOn setup before_reset (Does (Sends reset_noted encoding_table))
-  reset_may = (
-    refl,
-    may_pay setup (told_behind setup before_reset (Sends reset_noted encoding_table)) before_reset reset_noted encoding_table (record {
-      between = record { open_yet = refl; none_begun = refl; before_due = inl refl; no_note = refl; not_to_open = active_closed u.inbound.rows id active };
-      front = refl;
-      control = refl;
-    }),
-  )
-
-  others_as_before : (other : ℕ) → (id == other) ≡ false → (told_in (summary_in (book_at cut None given))).served other ≡ (told_in (told_by before_reset)).served other
-  others_as_before other apart =
-      ap (λ b. b && is_none (find cut.inbound.rows other).brief.cause) (active_other id (Over true) u.inbound.rows other apart)
-      ∙ ap (λ (x : Kept). is_active u.inbound.rows other && is_none x.brief.cause) (found_other id (Over true) u.inbound.rows other apart)
-
-  not_active : is_active cut.inbound.rows id ≡ false
-  not_active = active_own id (Over true) u.inbound.rows reset_there
-
-  over_now : (is_active u.inbound.rows id && not (is_active cut.inbound.rows id)) ≡ true
-  over_now = ap (λ b. b && not (is_active cut.inbound.rows id)) active ∙ ap not not_active
-
-  held_now : serving.kept (told_in (summary_in (book_at cut None given))) u.upstreams.held ≡ serving.without id_of id u.upstreams.held
-  held_now =
-      held_behind (told_in (told_by before_reset)) (told_in (summary_in (book_at cut None given))) id others_as_before u.upstreams.held (all_held_served setup run before_reset at.stands at.so)
-      ∙ ap (λ b. if b && is_none (find cut.inbound.rows id).brief.cause then u.upstreams.held else serving.without id_of id u.upstreams.held) not_active
-
-  reset_next : next setup before_reset (Does (Sends reset_noted encoding_table)) ≡ state_at (let_go id cut) [] None given rest (back_on (waiting_for id u) windows)
-  reset_next =
-      behind_sent setup u (rst_stream id code ∷ []) None given rest windows reset_noted encoding_table (book_at cut None given) [] reset_leads_to refl true over_now run at.stands at.so at.marked (serving.without id_of id u.upstreams.held) held_now
-
-  reset_fits : Fits (rst_stream id code)
-  reset_fits = record { kind = omega arith; flags = omega arith; id = small; payload = omega arith }
-
-  -- The stream is reset, and over.
-  pub reset_path : (outputs : List Output) → Path setup run u (rst_stream id code ∷ []) None outputs (let_go id cut) [] None (put outputs (ToClient (spell (rst_stream id code)))) given rest windows (back_on (waiting_for id u) windows)
-  reset_path outputs =
-      let still = credited_still u.inbound u.inbound.window id (Over true) active (λ off. absurd (let clash : true ≡ false = off in cc)) (record square { shared = windows.debt }) windows at.credited in
-      sends_path setup given rest windows run u (rst_stream id code ∷ []) None at (let_go id cut) [] None outputs refl true id refl (record { fresh = still.fresh; shared = refl; own = still.own })
-      reset_noted encoding_table reset_fits reset_may reset_next
-      (marked_behind setup u (rst_stream id code ∷ []) None given rest windows reset_noted encoding_table (book_at cut None given) [] reset_leads_to refl true over_now run at.stands at.so at.marked (serving.without id_of id u.upstreams.held) held_now (Sends reset_noted encoding_table) refl refl)

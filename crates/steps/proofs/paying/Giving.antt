@@ -1,6 +1,8 @@
 -- Octets are given back: this performs.
-use Rattle.std.proofs.Common.{◌≡◌, ℕ, Bool, true, false, ◌&&◌, ◌||◌, ◌==◌, List, [], ◌∷◌, ◌++◌, Option, Some, None, refl, sym, ◌∙◌, ap, subst, if◌then◌else◌, inl}
-use Rattle.model.specs.Frames.{Frame, Fits, spell, headers_kind, continuation_kind, rst_stream_kind, window_update_kind, has_flag}
+use Rattle.std.proofs.Common.{◌≡◌, ℕ, Bool, true, false, not, ◌&&◌, ◌||◌, ◌==◌, List, [], ◌∷◌, ◌++◌, Option, Some, None, refl, sym, ◌∙◌, ap, subst, if◌then◌else◌, inl}
+use Rattle.model.specs.Frames.{Frame, Fits, spell, spell_number, headers_kind, continuation_kind, rst_stream_kind, goaway_kind, window_update_kind, has_flag, enhance_your_calm}
+use Rattle.std.specs.Prelude.{drop, bytes_eq}
+use Rattle.model.specs.ErrorClause.{is_calming}
 use Rattle.model.specs.Logs.{Output}
 use Rattle.model.specs.Logs.Output.{ToClient}
 use Rattle.model.specs.Setup.{Setup}
@@ -73,8 +75,11 @@ module _ (setup : Setup) (kept : View) (inbound : Inbound) (untaken : ℕ) (same
     queue : s.desk.queue ≡ []
     queue = leads.keeps.owed ∙ nothing
 
+    asks_no_calm : (is_calming frame && not s.desk.book.ends) ≡ false
+    asks_no_calm = ap (λ n. (n == goaway_kind && bytes_eq (drop 4 frame.payload) (spell_number enhance_your_calm)) && not s.desk.book.ends) kind
+
     desk : desk_after setup s.desk (conduct_of deed) ≡ record { book = is.book; queue = [] }
-    desk = sent_desk setup false s.desk (noted_of frame) is.book [] is.leads_to ∙ ap (λ (q : List Frame). record { book = is.book; queue = rest_of q ++ [] }) queue
+    desk = sent_desk setup false s.desk (noted_of frame) is.book [] asks_no_calm is.leads_to ∙ ap (λ (q : List Frame). record { book = is.book; queue = rest_of q ++ [] }) queue
 
     may : MayGoOn setup s (Does deed)
     may = (

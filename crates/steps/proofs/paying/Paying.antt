@@ -1,6 +1,6 @@
 -- A control frame that is owed next is sent: this performs.
-use Rattle.std.proofs.Common.{◌≡◌, ℕ, ◌+◌, Bool, true, false, not, ◌&&◌, ◌||◌, ◌==◌, List, [], ◌∷◌, ◌++◌, append-nil, length, Option, Some, None, Result, Ok, Err, OnOk, refl, sym, ◌∙◌, ap, subst, inl, inr, if◌then◌else◌, arith}
-use Rattle.model.specs.Frames.{Frame, Fits, spell, continuation_kind, has_flag}
+use Rattle.std.proofs.Common.{◌≡◌, ℕ, ◌+◌, nat_lt, Bool, true, false, not, ◌&&◌, ◌||◌, ◌==◌, List, [], ◌∷◌, ◌++◌, append-nil, length, Option, Some, None, Result, Ok, Err, OnOk, refl, sym, ◌∙◌, ap, subst, inl, inr, if◌then◌else◌, arith}
+use Rattle.model.specs.Frames.{Frame, Fits, spell, continuation_kind, has_flag, goaway, no_error}
 use Rattle.model.specs.Logs.{Output}
 use Rattle.model.specs.Logs.Output.{ToClient}
 use Rattle.model.specs.Setup.{Setup}
@@ -8,6 +8,8 @@ use Rattle.model.specs.Tapes.{put}
 use Rattle.model.specs.Openings.{Opened}
 use Rattle.model.specs.Decoding.{Partial, joined}
 use Rattle.model.specs.Lifetimes.{may_open}
+use Rattle.model.specs.Admission.{most_untaken}
+use Rattle.model.specs.ErrorClause.{is_calming}
 use Rattle.conduct.specs.Summary.{Summary}
 use Rattle.conduct.specs.Judging.{completed_in}
 use Rattle.conduct.specs.Turn.{rest_of}
@@ -39,7 +41,7 @@ use Rattle.relay.specs.View.{View, Pending, Keeps, AreMarked, IsInEffect, Leads,
 use Rattle.relay.specs.Bringing.{PerformsOwn}
 use Rattle.steps.proofs.paying.Held.{all_kept}
 use Rattle.relay.proofs.Staying.{so_stays, heard_stays, rows_kept, all_held_served}
-use Rattle.steps.specs.paying.Controls.{frame_of, IsShort, MayPay}
+use Rattle.steps.specs.paying.Controls.{frame_of, IsOwed, IsShort, MayPay}
 use Rattle.steps.specs.declared.paying.control.Control.{Control}
 use Rattle.steps.specs.declared.paying.control.Control.TheVariants as control
 use Rattle.relay.proofs.Marking.{rooms_next, marked_sent}
@@ -51,7 +53,7 @@ completes_none before frame c =
     ap (λ b. if (b || frame.kind == continuation_kind) && has_flag 4 frame then joined before frame else None) c.no_headers
     ∙ ap (λ b. if b && has_flag 4 frame then joined before frame else None) c.no_continuation
 
-module _ (setup : Setup) (kept : View) (pending : Pending) (rest : List Frame) (frame : Frame) (control : IsControl frame) (of_connection : frame.id ≡ 0) (fits : Fits frame) (front : pending.owed ≡ frame ∷ rest) (may_pay_it : MayPay pending.due frame) (outputs : List Output) where
+module _ (setup : Setup) (kept : View) (pending : Pending) (rest : List Frame) (frame : Frame) (control : IsControl frame) (of_connection : frame.id ≡ 0) (fits : Fits frame) (front : pending.owed ≡ frame ∷ rest) (may_pay_it : MayPay pending.due frame) (mild : is_calming frame ≡ false) (few : nat_lt most_untaken kept.untaken ≡ false) (outputs : List Output) where
   -- what is kept then, and what is pending
   abbrev pub paid_view : View
   paid_view = record kept { untaken = kept.untaken + length (spell frame) }
@@ -75,13 +77,16 @@ module _ (setup : Setup) (kept : View) (pending : Pending) (rest : List Frame) (
     goes_on : book.ends ≡ false
     goes_on = ap (λ (b : Book). b.ends) leads.keeps.book
 
+    owing : (is_calming frame && not book.ends) ≡ false
+    owing = ap (λ b. b && not book.ends) mild
+
     queue : s.desk.queue ≡ frame ∷ rest
     queue = leads.keeps.owed ∙ front
 
     -- the desk behind it
     desk : desk_after setup s.desk (conduct_of deed) ≡ record { book = paid_of book frame; queue = rest }
     desk =
-        sent_desk setup false s.desk (noted_of frame) (paid_of book frame) [] (control_leads setup book frame (rows_kept setup run s leads.stands) none_begun control)
+        sent_desk setup false s.desk (noted_of frame) (paid_of book frame) [] owing (control_leads setup book frame (rows_kept setup run s leads.stands) none_begun control)
         ∙ ap (λ (q : List Frame). record { book = paid_of book frame; queue = rest_of q ++ [] }) queue
         ∙ ap (λ (q : List Frame). record { book = paid_of book frame; queue = q }) (append-nil rest)
 
@@ -90,11 +95,11 @@ module _ (setup : Setup) (kept : View) (pending : Pending) (rest : List Frame) (
 
     -- nothing is due before it, unless it is a farewell
     before_due : MaySend s.requests (noted_of frame)
-    before_due = elim may_pay_it [ inl nothing ↦ inl (ap (λ (r : serving.State). r.due) leads.keeps.requests ∙ nothing) | inr farewell ↦ inr farewell ]
+    before_due = elim may_pay_it [ inl nothing ↦ inl (ap (λ (r : serving.State). r.due) leads.keeps.requests ∙ nothing) | inr farewell ↦ inr (farewell, mild) ]
 
     may : MayGoOn setup s (Does deed)
     may = (
-      ap (λ (d : Desk). d.book.ends) desk ∙ goes_on,
+      ap (λ (d : Desk). d.book.ends) desk ∙ ap (λ b. b || book.ends) mild ∙ goes_on,
       may_pay setup (told_behind setup s deed) s (noted_of frame) s.tables.encoding.table (record {
         between = record {
           open_yet = open_yet;
@@ -105,6 +110,8 @@ module _ (setup : Setup) (kept : View) (pending : Pending) (rest : List Frame) (
         };
         front = subst (λ (q : List Frame). q ≡ frame ∷ rest_of q) (sym queue) refl;
         control = no_passing frame control;
+        owing = owing;
+        calm = ap (λ (b : Book). nat_lt most_untaken b.untaken && not (is_calming frame)) leads.keeps.book ∙ ap (λ b. b && not (is_calming frame)) few;
       }),
     )
 
@@ -116,6 +123,7 @@ module _ (setup : Setup) (kept : View) (pending : Pending) (rest : List Frame) (
     book_kept =
         ap (λ (d : Desk). d.book) desk
         ∙ ap (λ (b : Book). paid_of b frame) leads.keeps.book
+        ∙ ap (λ x. record (book_of (record { given = book.given; untaken = paid_view.untaken }) kept.inbound) { ends = x || false }) mild
         ∙ ap (λ (os : List Opened). book_of (record { given = os; untaken = paid_view.untaken }) kept.inbound) (sym (ap (λ (d : Desk). d.book.given) desk))
 
     offers_kept : then_state.offers ≡ kept.offers
@@ -193,28 +201,44 @@ module _ (setup : Setup) (kept : View) (pending : Pending) (rest : List Frame) (
 
 -- ---- the frames that are control frames
 
-abbrev is_control : (frame : Control) → IsControl (frame_of frame)
-is_control control.Settings = record { no_data = refl; no_headers = refl; no_reset = refl; no_update = refl; no_continuation = refl }
-is_control control.SettingsAck = record { no_data = refl; no_headers = refl; no_reset = refl; no_update = refl; no_continuation = refl }
-is_control (control.PingAck octets) = record { no_data = refl; no_headers = refl; no_reset = refl; no_update = refl; no_continuation = refl }
-is_control (control.Farewell last code) = record { no_data = refl; no_headers = refl; no_reset = refl; no_update = refl; no_continuation = refl }
+abbrev is_control : (frame : Control) → IsOwed frame → IsControl (frame_of frame)
+is_control control.Settings owed = record { no_data = refl; no_headers = refl; no_reset = refl; no_update = refl; no_continuation = refl }
+is_control control.SettingsAck owed = record { no_data = refl; no_headers = refl; no_reset = refl; no_update = refl; no_continuation = refl }
+is_control (control.PingAck octets) owed = record { no_data = refl; no_headers = refl; no_reset = refl; no_update = refl; no_continuation = refl }
+is_control (control.Farewell last code) owed = record { no_data = refl; no_headers = refl; no_reset = refl; no_update = refl; no_continuation = refl }
+is_control (control.Reset stream code) owed = absurd owed
+is_control (control.Update stream octets) owed = absurd owed
 
-on_connection : (frame : Control) → (frame_of frame).id ≡ 0
-on_connection control.Settings = refl
-on_connection control.SettingsAck = refl
-on_connection (control.PingAck octets) = refl
-on_connection (control.Farewell last code) = refl
+on_connection : (frame : Control) → IsOwed frame → (frame_of frame).id ≡ 0
+on_connection control.Settings owed = refl
+on_connection control.SettingsAck owed = refl
+on_connection (control.PingAck octets) owed = refl
+on_connection (control.Farewell last code) owed = refl
+on_connection (control.Reset stream code) owed = absurd owed
+on_connection (control.Update stream octets) owed = absurd owed
+
+-- it doesn't ask the client to be calm
+asks_no_calm : (frame : Control) → IsOwed frame → is_calming (frame_of frame) ≡ false
+asks_no_calm control.Settings owed = refl
+asks_no_calm control.SettingsAck owed = refl
+asks_no_calm (control.PingAck octets) owed = refl
+asks_no_calm (control.Farewell last code) owed = let same : is_calming (goaway last code) ≡ is_calming (goaway last no_error) = ap (λ n. is_calming (goaway last n)) owed in same
+asks_no_calm (control.Reset stream code) owed = absurd owed
+asks_no_calm (control.Update stream octets) owed = absurd owed
 
 all_fit : (frame : Control) → IsShort frame → Fits (frame_of frame)
 all_fit control.Settings short = record { kind = omega arith; flags = omega arith; id = omega arith; payload = omega arith }
 all_fit control.SettingsAck short = record { kind = omega arith; flags = omega arith; id = omega arith; payload = omega arith }
 all_fit (control.PingAck octets) short = record { kind = omega arith; flags = omega arith; id = omega arith; payload = short }
 all_fit (control.Farewell last code) short = record { kind = omega arith; flags = omega arith; id = omega arith; payload = omega arith }
+all_fit (control.Reset stream code) short = record { kind = omega arith; flags = omega arith; id = short; payload = omega arith }
+all_fit (control.Update stream octets) short = record { kind = omega arith; flags = omega arith; id = short; payload = omega arith }
 
 -- So what code does when it pays performs.
-pub pays_control : (setup : Setup) (kept : View) (pending : Pending) (rest : List Frame) (frame : Control) → IsShort frame → pending.owed ≡ frame_of frame ∷ rest → MayPay pending.due (frame_of frame) → (outputs : List Output)
+pub pays_control : (setup : Setup) (kept : View) (pending : Pending) (rest : List Frame) (frame : Control) → IsShort frame → IsOwed frame → nat_lt most_untaken kept.untaken ≡ false → pending.owed ≡ frame_of frame ∷ rest → MayPay pending.due (frame_of frame) → (outputs : List Output)
     → PerformsOwn setup kept pending outputs (record kept { untaken = kept.untaken + length (spell (frame_of frame)) }) (record pending { owed = rest }) (put outputs (ToClient (spell (frame_of frame))))
-pays_control setup kept pending rest frame short front may outputs = pays setup kept pending rest (frame_of frame) (is_control frame) (on_connection frame) (all_fit frame short) front may outputs
+pays_control setup kept pending rest frame short owed few front may outputs =
+    pays setup kept pending rest (frame_of frame) (is_control frame owed) (on_connection frame owed) (all_fit frame short) front may (asks_no_calm frame owed) few outputs
 
 -- What is promised where something succeeds may be said in other words.
 pub on_ok : {T : Type 0} {E : Type 0} {A : Type 0} {B : Type 0} (r : Result T E) → (A → B) → OnOk r A → OnOk r B

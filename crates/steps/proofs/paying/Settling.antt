@@ -8,7 +8,9 @@ use Rattle.model.specs.Logs.Output.{ToClient}
 use Rattle.model.specs.Setup.{Setup, Passing}
 use Rattle.model.specs.Setup.Passing.{Whole, Streaming}
 use Rattle.model.specs.Tapes.{put}
+use Rattle.conduct.specs.Judging.{is_crowded_in}
 use Rattle.conduct.specs.Owing.{must_end_in}
+use Rattle.model.specs.Admission.{most_untaken}
 use Rattle.conduct.specs.Rows as rows
 use Rattle.conduct.specs.Quiet.{noted_of}
 use Rattle.conduct.specs.Book.{Book, summary_in}
@@ -253,7 +255,11 @@ update_fits id count small = record { kind = omega arith; flags = omega arith; i
 goes_on_told : (setup : Setup) (run : List Move) (kept : View) (pending : Pending) (s : State) → Leads setup run kept pending s → GoesOn kept → must_end_in (told_by s) ≡ false
 goes_on_told setup run kept pending s leads on = ap (λ (b : Book). must_end_in (summary_in b)) leads.keeps.book ∙ on
 
-module _ (setup : Setup) (kept : View) (count : ℕ) (own : ℕ → ℕ) (some : 0 < count) (small : count < 2147483648) (on : GoesOn kept) (outputs : List Output) where
+-- not too many octets are untaken by what is told
+uncrowded : (setup : Setup) (run : List Move) (kept : View) (pending : Pending) (s : State) → Leads setup run kept pending s → nat_lt most_untaken kept.untaken ≡ false → is_crowded_in (told_by s) ≡ false
+uncrowded setup run kept pending s leads few = ap (λ (b : Book). nat_lt most_untaken b.untaken) leads.keeps.book ∙ few
+
+module _ (setup : Setup) (kept : View) (count : ℕ) (own : ℕ → ℕ) (some : 0 < count) (small : count < 2147483648) (on : GoesOn kept) (few : nat_lt most_untaken kept.untaken ≡ false) (outputs : List Output) where
   -- what is to go back, on the connection too and then on streams alone
   abbrev both : Pending
   both = record square { shared = count; own = own }
@@ -275,7 +281,7 @@ module _ (setup : Setup) (kept : View) (count : ℕ) (own : ℕ → ℕ) (some :
     served = λ hs are. are;
     not_to_open = refl;
     goes_on = goes_on_told setup run kept both s leads on;
-    rightly = update_goes (told_by s) 0 count some small refl;
+    rightly = update_goes (told_by s) 0 count some small (uncrowded setup run kept both s leads few) refl;
     owed = update_grants 0 count small ∙ sym leads.keeps.credited.shared;
     credited =
         let was = leads.keeps.credited in
@@ -289,7 +295,7 @@ module _ (setup : Setup) (kept : View) (count : ℕ) (own : ℕ → ℕ) (some :
   pub gives_shared : PerformsOwn setup kept both outputs (given_on_connection kept count) streams (put outputs (ToClient (spell (window_update 0 count))))
   gives_shared = gives setup kept with_room (kept.untaken + 13) refl both streams refl refl refl refl (window_update 0 count) refl (update_fits 0 count (omega arith)) outputs shared_shown
 
-module _ (setup : Setup) (kept : View) (id count : ℕ) (goes : goes_back_on kept.inbound.rows id ≡ true) (in_range : id < 2147483648) (of_stream : (id == 0) ≡ false) (some : 0 < count) (small : count < 2147483648) (on : GoesOn kept) (outputs : List Output) where
+module _ (setup : Setup) (kept : View) (id count : ℕ) (goes : goes_back_on kept.inbound.rows id ≡ true) (in_range : id < 2147483648) (of_stream : (id == 0) ≡ false) (some : 0 < count) (small : count < 2147483648) (on : GoesOn kept) (few : nat_lt most_untaken kept.untaken ≡ false) (outputs : List Output) where
   abbrev frame : Frame
   frame = window_update id count
 
@@ -361,7 +367,7 @@ module _ (setup : Setup) (kept : View) (id count : ℕ) (goes : goes_back_on kep
       served = served_same;
       not_to_open = not_to_open (told_by s).opened id (and_parts ((sight_in (told_by s)).opened id) _ told_live).0;
       goes_on = goes_on_told setup run kept (due_on_stream id count) s leads on;
-      rightly = update_goes (told_by s) id count some small (ap (λ b. b || (sight_in (told_by s)).active id && not ((sight_in (told_by s)).ended id)) of_stream ∙ and_from ((sight_in (told_by s)).active id) (not ((sight_in (told_by s)).ended id)) told_live (ap not told_open));
+      rightly = update_goes (told_by s) id count some small (uncrowded setup run kept (due_on_stream id count) s leads few) (ap (λ b. b || (sight_in (told_by s)).active id && not ((sight_in (told_by s)).ended id)) of_stream ∙ and_from ((sight_in (told_by s)).active id) (not ((sight_in (told_by s)).ended id)) told_live (ap not told_open));
       owed = owed_own;
       credited = subst (λ b. IsCredited square with_row (kept_of (with_given b (rooms_in (told_by s) s) (noted_of frame)))) (sym of_stream) credited_own;
     }

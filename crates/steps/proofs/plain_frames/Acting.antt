@@ -52,11 +52,15 @@ use Rattle.relay.specs.Bringing.{Brings}
 use Rattle.relay.proofs.Answered.{plain_gain, plain_owes}
 use Rattle.relay.proofs.Bringing.{brings_then}
 use Rattle.relay.proofs.Staying.{rows_kept}
-use Rattle.relay.proofs.Coming.{no_outside, encoding_with}
+use Rattle.relay.proofs.Coming.{outside_of, encoding_with}
 use Rattle.relay.specs.Gains.{GoesOn}
 use Rattle.steps.specs.Closings.{IsAbout}
 use Rattle.steps.proofs.Closings.{about_changed, about_then, frame_served}
-use Rattle.steps.specs.plain_frames.Acting.{goes_on, Goes, Ends, IsPaid, IsActed, IsContentIf, IsRepliedBy, IsLeft, MayAct}
+use Rattle.steps.specs.plain_frames.Acting.{goes_on, Goes, Ends, IsPaid, IsActed, IsContentIf, IsRepliedBy, IsLeft, MayAct, IsStopped}
+use Rattle.steps.specs.Comings.{ComesFrom}
+use Rattle.steps.specs.Inputs.Input.{OfFrame}
+use Rattle.steps.specs.Stopping.{IsCalmed}
+use Rattle.steps.proofs.Calming.{calm_ends, calm_comes}
 use Rattle.steps.specs.plain_frames.Kept.{limited}
 use Rattle.steps.specs.plain_frames.Taken.{IsPassed, IsPlainTaken}
 use Rattle.steps.specs.declared.plain_frames.taking.Taken.{Taken}
@@ -65,10 +69,10 @@ use Rattle.steps.proofs.plain_frames.Streams.{none_completed, ids_now}
 use Rattle.steps.proofs.plain_frames.Faults.{names_none}
 use Rattle.steps.proofs.plain_frames.Coming.{few, kept_rows}
 use Rattle.steps.proofs.plain_frames.Quiet.{quiet, taken_by, passed_over}
-use Rattle.steps.proofs.plain_frames.Ending.{none_cut_without, reset_by_client, refused}
+use Rattle.steps.proofs.plain_frames.Ending.{none_cut_without, reset_by_client, refused, refused_over}
 use Rattle.steps.proofs.plain_frames.Bodies.{is_active_now}
 use Rattle.steps.proofs.plain_frames.Contents.{left_alone, may_take, content_comes}
-use Rattle.steps.proofs.plain_frames.Replies.{head_same, offered, offered_cuts_none, cut_short}
+use Rattle.steps.proofs.plain_frames.Replies.{head_same, offered, offered_cuts_none, cut_short, cut_over}
 
 -- a reset fits to be spelled
 fits : (id code : ℕ) → id < 2147483648 → Fits (rst_stream id code)
@@ -122,7 +126,7 @@ module _ (s : Summary) (frame : Frame) (has : has_settings frame ≡ true) (faul
 
 module _ (setup : Setup) (old : View) (rest : IsAtRest old) (setup' : Setup) (reached : Reached setup' old square) (frame : Frame) (plain : IsPlain frame) (small : frame.id < 2147483648) (inbound : Inbound) (table : inbound.table ≡ old.inbound.table) where
   abbrev b : Book
-  b = book_of no_outside old.inbound
+  b = book_of (outside_of old.untaken) old.inbound
 
   abbrev mid : View
   mid = record old { inbound = inbound }
@@ -148,7 +152,7 @@ module _ (setup : Setup) (old : View) (rest : IsAtRest old) (setup' : Setup) (re
         last = last;
       }))
 
-  module _ (left : book_of no_outside inbound ≡ behind setup b frame) where
+  module _ (left : book_of (outside_of old.untaken) inbound ≡ behind setup b frame) where
     ids_left : ids_of inbound.rows ≡ ids_of old.inbound.rows
     ids_left = ap (λ (x : Book). ids_of x.rows) left ∙ ids_now setup b frame plain kept
 
@@ -172,7 +176,7 @@ module _ (setup : Setup) (old : View) (rest : IsAtRest old) (setup' : Setup) (re
     upstreams = ap (λ (v : View). v.upstreams) new_is;
     encoding = ap (λ (v : View). v.encoding) new_is;
     untaken = ap (λ (v : View). v.untaken) new_is;
-    rows = ap (λ (v : View). v.inbound.rows) new_is ∙ ap (λ (x : Book). x.rows) (failed no_outside).left;
+    rows = ap (λ (v : View). v.inbound.rows) new_is ∙ ap (λ (x : Book). x.rows) (failed (outside_of old.untaken)).left;
     fault = λ run s leads. by_book run s leads ∙ ap (λ n. Some (Connection n)) (sym ends);
     fatal = λ run s leads. record {
       fatal = ap is_fatal (by_book run s leads);
@@ -194,7 +198,7 @@ module _ (setup : Setup) (old : View) (rest : IsAtRest old) (setup' : Setup) (re
       finish Nothing 0 given outputs outputs put_out mid new left.goes left.kept left.puts
       (quiet setup old rest frame plain inbound table answer taken (ap (λ k. k == data_kind) is ∙ no_data) (ap (λ k. k == rst_stream_kind) is ∙ no_reset) [] old.encoding owes
       (λ outside. names_none (told_of outside old.inbound) frame (ap (λ k. has_settings (record frame { kind = k })) is ∙ no_settings) old.encoding) adds outputs)
-      rest.none_cut (about_left (taken no_outside).left (ap is_fatal (taken no_outside).faultless)) (ids_left (taken no_outside).left) (last_left (taken no_outside).left)
+      rest.none_cut (about_left (taken (outside_of old.untaken)).left (ap is_fatal (taken (outside_of old.untaken)).faultless)) (ids_left (taken (outside_of old.untaken)).left) (last_left (taken (outside_of old.untaken)).left)
 
   -- a control frame is owed, and was sent
   paid_so : (answer : Judged) → ((outside : Outside) → IsTaken setup (book_of outside old.inbound) frame (book_of outside inbound) answer) → (kind : ℕ) → frame.kind ≡ kind → (kind == data_kind) ≡ false → (kind == rst_stream_kind) ≡ false → (encoding : Encoding)
@@ -207,9 +211,9 @@ module _ (setup : Setup) (old : View) (rest : IsAtRest old) (setup' : Setup) (re
       (quiet setup old rest frame plain inbound table answer taken (ap (λ k. k == data_kind) is ∙ no_data) (ap (λ k. k == rst_stream_kind) is ∙ no_reset) (owed ∷ []) encoding owes encodes adds outputs)
       (paid.performs setup [] (record square { owed = owed ∷ []; fresh = data_length is_any frame }) refl (inl refl)))
       (subst (λ (v : View). NoneCut v.offers) (sym paid.kept) rest.none_cut)
-      (subst (λ (v : View). IsAbout frame.id old v) (sym paid.kept) (let about = about_left (taken no_outside).left (ap is_fatal (taken no_outside).faultless) in record { served = about.served; live = about.live }))
-      (ap (λ (v : View). ids_of v.inbound.rows) paid.kept ∙ ids_left (taken no_outside).left)
-      (ap (λ (v : View). v.inbound.last) paid.kept ∙ last_left (taken no_outside).left)
+      (subst (λ (v : View). IsAbout frame.id old v) (sym paid.kept) (let about = about_left (taken (outside_of old.untaken)).left (ap is_fatal (taken (outside_of old.untaken)).faultless) in record { served = about.served; live = about.live }))
+      (ap (λ (v : View). ids_of v.inbound.rows) paid.kept ∙ ids_left (taken (outside_of old.untaken)).left)
+      (ap (λ (v : View). v.inbound.last) paid.kept ∙ last_left (taken (outside_of old.untaken)).left)
 
   -- DATA
   content_so : (answer : Judged) (so : (outside : Outside) → IsTaken setup (book_of outside old.inbound) frame (book_of outside inbound) answer) (kind : frame.kind ≡ data_kind)
@@ -220,11 +224,11 @@ module _ (setup : Setup) (old : View) (rest : IsAtRest old) (setup' : Setup) (re
   content_so answer so kind octets ends a c d owes gains false on given outputs put_out new left =
       finish Nothing 0 given outputs outputs put_out mid new left.goes left.kept left.puts
       (left_alone setup old rest frame plain inbound table answer so kind octets ends a c d owes gains on outputs)
-      rest.none_cut (let about = about_left (so no_outside).left (ap is_fatal (so no_outside).faultless) in record { served = about.served; live = about.live }) (ids_left (so no_outside).left) (last_left (so no_outside).left)
+      rest.none_cut (let about = about_left (so (outside_of old.untaken)).left (ap is_fatal (so (outside_of old.untaken)).faultless) in record { served = about.served; live = about.live }) (ids_left (so (outside_of old.untaken)).left) (last_left (so (outside_of old.untaken)).left)
   content_so answer so kind octets ends a c d owes gains true on given outputs put_out new done =
       finish done.0.due 0 given outputs outputs put_out _ new done.0.goes done.0.kept done.1
       (content_comes setup old rest frame plain inbound table answer so kind octets ends a c d owes gains on done.0.due new.upstreams.held done.0.takes outputs)
-      rest.none_cut (let about = about_left (so no_outside).left (ap is_fatal (so no_outside).faultless) in record { served = about.served; live = about.live }) (ids_left (so no_outside).left) (last_left (so no_outside).left)
+      rest.none_cut (let about = about_left (so (outside_of old.untaken)).left (ap is_fatal (so (outside_of old.untaken)).faultless) in record { served = about.served; live = about.live }) (ids_left (so (outside_of old.untaken)).left) (last_left (so (outside_of old.untaken)).left)
 
   -- a body that is too long
   replied_so : (taken : (outside : Outside) → IsTaken setup (book_of outside old.inbound) frame (book_of outside inbound) judged.LargeBody) → ((outside : Outside) → IsTaken setup' (book_of outside old.inbound) frame (book_of outside inbound) judged.LargeBody) → (out : Bool) → (find old.inbound.rows frame.id).head_out ≡ out
@@ -233,14 +237,14 @@ module _ (setup : Setup) (old : View) (rest : IsAtRest old) (setup' : Setup) (re
       finish Nothing 0 given outputs outputs put_out _ new done.goes done.kept done.puts
       (offered setup old rest frame plain inbound table taken out outputs)
       (offered_cuts_none setup' old rest frame plain inbound table taken' out reached.0 reached.1 reached.2)
-      (let about = about_left (taken no_outside).left (ap is_fatal (taken no_outside).faultless) in record { served = about.served; live = about.live })
-      (ids_left (taken no_outside).left) (last_left (taken no_outside).left)
+      (let about = about_left (taken (outside_of old.untaken)).left (ap is_fatal (taken (outside_of old.untaken)).faultless) in record { served = about.served; live = about.live })
+      (ids_left (taken (outside_of old.untaken)).left) (last_left (taken (outside_of old.untaken)).left)
   replied_so taken taken' true out given outputs put_out new done =
       finish Nothing (waiting_for frame.id old) given outputs _ put_out _ new done.goes done.kept done.puts
-      (cut_short setup old rest frame plain inbound table taken out (fits frame.id enhance_your_calm small) outputs)
+      (cut_short setup old rest frame plain inbound table taken out (fits frame.id enhance_your_calm small) done.few outputs)
       (none_cut_without frame.id old.offers rest.none_cut)
-      (about_then frame.id old mid _ (about_left (taken no_outside).left (ap is_fatal (taken no_outside).faultless)) (about_changed frame.id (Over true) mid _ refl refl))
-      (same_ids frame.id (Over true) inbound.rows ∙ ids_left (taken no_outside).left) (last_left (taken no_outside).left)
+      (about_then frame.id old mid _ (about_left (taken (outside_of old.untaken)).left (ap is_fatal (taken (outside_of old.untaken)).faultless)) (about_changed frame.id (Over true) mid _ refl refl))
+      (same_ids frame.id (Over true) inbound.rows ∙ ids_left (taken (outside_of old.untaken)).left) (last_left (taken (outside_of old.untaken)).left)
 
   -- What is done by an answer is right of the frame.
   pub acted_so : (answer : Judged) → ((outside : Outside) → IsJudged setup (book_of outside old.inbound) frame (book_of outside inbound) answer) → ((outside : Outside) → IsJudged setup' (book_of outside old.inbound) frame (book_of outside inbound) answer) → (given : Taken) (outputs put_out : List Output) (new : View)
@@ -248,9 +252,9 @@ module _ (setup : Setup) (old : View) (rest : IsAtRest old) (setup' : Setup) (re
   acted_so (judged.Failed (fault.Connection code)) so so' given outputs put_out new done = fatal_so code given outputs put_out new so done.0 done.1 done.2
   acted_so (judged.Failed (fault.Stream code)) so so' given outputs put_out new done =
       finish Nothing (waiting_for frame.id old) given outputs _ put_out _ new done.goes done.kept done.puts
-      (refused setup old rest frame plain inbound table code (fits frame.id code small) (λ outside. (so outside).is) (so no_outside).left outputs)
+      (refused setup old rest frame plain inbound table code (fits frame.id code small) (λ outside. (so outside).is) (so (outside_of old.untaken)).left done.few outputs)
       (none_cut_without frame.id old.offers rest.none_cut)
-      (record { served = λ other apart. ap (λ (rows : List Row). is_served rows other) (reset_book ∙ ap (λ (x : Book). x.rows) reset) ∙ (about_changed frame.id (Over true) left_view (record left_view { inbound = record inbound { rows = changed frame.id (Over true) left_rows } }) refl refl).served other apart ∙ frame_served setup b (noted_of frame) (ap is_fatal (so no_outside).is) kept other apart; live = refl })
+      (record { served = λ other apart. ap (λ (rows : List Row). is_served rows other) (reset_book ∙ ap (λ (x : Book). x.rows) reset) ∙ (about_changed frame.id (Over true) left_view (record left_view { inbound = record inbound { rows = changed frame.id (Over true) left_rows } }) refl refl).served other apart ∙ frame_served setup b (noted_of frame) (ap is_fatal (so (outside_of old.untaken)).is) kept other apart; live = refl })
       ids last
     where
       left_rows : List Row
@@ -263,7 +267,7 @@ module _ (setup : Setup) (old : View) (rest : IsAtRest old) (setup' : Setup) (re
       reset = (reset_leads setup (behind setup b frame) (noted_of (rst_stream frame.id code)) (kept_behind_entry setup false b (coming frame) kept) refl refl).book
 
       reset_book : inbound.rows ≡ (book_after setup false (behind setup b frame) (sending (rst_stream frame.id code))).rows
-      reset_book = ap (λ (x : Book). x.rows) (so no_outside).left
+      reset_book = ap (λ (x : Book). x.rows) (so (outside_of old.untaken)).left
 
       ids : ids_of inbound.rows ≡ ids_of old.inbound.rows
       ids =
@@ -272,11 +276,11 @@ module _ (setup : Setup) (old : View) (rest : IsAtRest old) (setup' : Setup) (re
           ∙ ids_now setup b frame plain kept
 
       last : inbound.last ≡ frame.id
-      last = ap (λ (x : Book). x.last) (so no_outside).left
+      last = ap (λ (x : Book). x.last) (so (outside_of old.untaken)).left
   acted_so (judged.Failed fault.Discarded) so so' given outputs put_out new done =
       finish Nothing 0 given outputs outputs put_out mid new done.goes done.kept done.puts
       (passed_over setup old rest frame plain inbound table (λ outside. (so outside).left) (λ outside. (so outside).is) outputs)
-      rest.none_cut (about_left (so no_outside).left (ap is_fatal (so no_outside).is)) (ids_left (so no_outside).left) (last_left (so no_outside).left)
+      rest.none_cut (about_left (so (outside_of old.untaken)).left (ap is_fatal (so (outside_of old.untaken)).is)) (ids_left (so (outside_of old.untaken)).left) (last_left (so (outside_of old.untaken)).left)
   acted_so judged.Ignored so so' given outputs put_out new done =
       quiet_so judged.Ignored so frame.kind refl parts.0 parts.1 parts.2
       (λ outside. plain_owes setup (book_of outside old.inbound) frame plain (book_of outside inbound) judged.Ignored (so outside))
@@ -292,32 +296,32 @@ module _ (setup : Setup) (old : View) (rest : IsAtRest old) (setup' : Setup) (re
       ignored false false false false true is = cc
 
       parts : ((frame.kind == data_kind) ≡ false) × ((frame.kind == rst_stream_kind) ≡ false) × (has_settings frame ≡ false)
-      parts = ignored (frame.kind == data_kind) (frame.kind == rst_stream_kind) (frame.kind == window_update_kind) (has_settings frame) (frame.kind == ping_kind && not (is_ack frame)) (so no_outside).says
+      parts = ignored (frame.kind == data_kind) (frame.kind == rst_stream_kind) (frame.kind == window_update_kind) (has_settings frame) (frame.kind == ping_kind && not (is_ack frame)) (so (outside_of old.untaken)).says
   acted_so judged.Granted so so' given outputs put_out new done =
-      quiet_so judged.Granted so window_update_kind (so no_outside).says refl refl refl
+      quiet_so judged.Granted so window_update_kind (so (outside_of old.untaken)).says refl refl refl
       (λ outside. plain_owes setup (book_of outside old.inbound) frame plain (book_of outside inbound) judged.Granted (so outside))
       (λ run s leads. plain_gain setup s.desk.book frame plain (few setup run old s leads) (book_of (record { given = s.desk.book.given; untaken = old.untaken }) inbound) judged.Granted (taken_by setup old rest frame plain inbound table judged.Granted so run s leads))
       given outputs put_out new done
   acted_so (judged.Settings change) so so' given outputs put_out new done =
-      paid_so (judged.Settings change) so settings_kind (eqb-true frame.kind settings_kind (and_parts (frame.kind == settings_kind) (not (is_ack frame)) (so no_outside).says.0).0) refl refl (limited (values_of header_table_size (settings_in frame.payload)) old.encoding)
+      paid_so (judged.Settings change) so settings_kind (eqb-true frame.kind settings_kind (and_parts (frame.kind == settings_kind) (not (is_ack frame)) (so (outside_of old.untaken)).says.0).0) refl refl (limited (values_of header_table_size (settings_in frame.payload)) old.encoding)
       (λ outside. settings_named (told_of outside old.inbound) frame (so outside).says.0 (so outside).faultless old.encoding) settings_ack
       (λ outside. plain_owes setup (book_of outside old.inbound) frame plain (book_of outside inbound) (judged.Settings change) (so outside))
       (λ run s leads. plain_gain setup s.desk.book frame plain (few setup run old s leads) (book_of (record { given = s.desk.book.given; untaken = old.untaken }) inbound) (judged.Settings change) (taken_by setup old rest frame plain inbound table (judged.Settings change) so run s leads))
-      given outputs put_out new (done (settings_in frame.payload) (so no_outside).says.1.smallest (so no_outside).says.1.last)
+      given outputs put_out new (done (settings_in frame.payload) (so (outside_of old.untaken)).says.1.smallest (so (outside_of old.untaken)).says.1.last)
   acted_so (judged.Ping octets) so so' given outputs put_out new done =
-      paid_so (judged.Ping octets) so ping_kind (so no_outside).says.0 refl refl old.encoding
-      (λ outside. names_none (told_of outside old.inbound) frame (ap (λ k. has_settings (record frame { kind = k })) (so no_outside).says.0) old.encoding) (ping_ack octets.now)
+      paid_so (judged.Ping octets) so ping_kind (so (outside_of old.untaken)).says.0 refl refl old.encoding
+      (λ outside. names_none (told_of outside old.inbound) frame (ap (λ k. has_settings (record frame { kind = k })) (so (outside_of old.untaken)).says.0) old.encoding) (ping_ack octets.now)
       (λ outside. plain_owes setup (book_of outside old.inbound) frame plain (book_of outside inbound) (judged.Ping octets) (so outside))
       (λ run s leads. plain_gain setup s.desk.book frame plain (few setup run old s leads) (book_of (record { given = s.desk.book.given; untaken = old.untaken }) inbound) (judged.Ping octets) (taken_by setup old rest frame plain inbound table (judged.Ping octets) so run s leads))
       given outputs put_out new done
   acted_so judged.Reset so so' given outputs put_out new done =
       finish Nothing (waiting_for frame.id old) given outputs outputs put_out _ new done.goes done.kept done.puts
-      (reset_by_client setup old rest frame plain inbound table so (so no_outside).says outputs)
+      (reset_by_client setup old rest frame plain inbound table so (so (outside_of old.untaken)).says outputs)
       (none_cut_without frame.id old.offers rest.none_cut)
-      (let about = about_left (so no_outside).left (ap is_fatal (so no_outside).faultless) in record { served = about.served; live = about.live })
-      (ids_left (so no_outside).left) (last_left (so no_outside).left)
+      (let about = about_left (so (outside_of old.untaken)).left (ap is_fatal (so (outside_of old.untaken)).faultless) in record { served = about.served; live = about.live })
+      (ids_left (so (outside_of old.untaken)).left) (last_left (so (outside_of old.untaken)).left)
   acted_so (judged.Content octets ends) so so' given outputs put_out new done =
-      content_so (judged.Content octets ends) so (so no_outside).says.0 octets.now ends (so no_outside).says.1 (so no_outside).says.2 (so no_outside).says.3
+      content_so (judged.Content octets ends) so (so (outside_of old.untaken)).says.0 octets.now ends (so (outside_of old.untaken)).says.1 (so (outside_of old.untaken)).says.2 (so (outside_of old.untaken)).says.3
       (λ outside. plain_owes setup (book_of outside old.inbound) frame plain (book_of outside inbound) (judged.Content octets ends) (so outside))
       (λ run s leads. plain_gain setup s.desk.book frame plain (few setup run old s leads) (book_of (record { given = s.desk.book.given; untaken = old.untaken }) inbound) (judged.Content octets ends) (taken_by setup old rest frame plain inbound table (judged.Content octets ends) so run s leads))
       (goes_on old.inbound.rows frame.id) refl given outputs put_out new done
@@ -325,17 +329,54 @@ module _ (setup : Setup) (old : View) (rest : IsAtRest old) (setup' : Setup) (re
       replied_so so so' (find old.inbound.rows frame.id).head_out refl given outputs put_out new
       (subst (λ out. IsRepliedBy out frame.id mid outputs given new put_out) (head_same setup' old rest frame plain inbound table so' reached.0 reached.1 reached.2) done)
 
+  -- ---- the connection ends in place of a frame
+
+  -- a control frame is owed, and can't go
+  paid_over : (answer : Judged) → ((outside : Outside) → IsTaken setup (book_of outside old.inbound) frame (book_of outside inbound) answer) → (kind : ℕ) → frame.kind ≡ kind → (kind == data_kind) ≡ false → (kind == rst_stream_kind) ≡ false → (encoding : Encoding)
+      → ((outside : Outside) → encoding_with (named_by (verdict_in (told_of outside old.inbound) frame) frame) old.encoding ≡ encoding) → (owed : Frame)
+      → ((outside : Outside) → owes_in setup false (told_of outside old.inbound) (coming frame) ≡ owed ∷ []) → ((run : List Move) (s : State) → Leads setup run old square s → added_in setup (told_by s) (noted_of frame) ≡ [])
+      → (outputs p : List Output) → IsCalmed mid outputs p → ComesFrom setup old square outputs (OfFrame frame ∷ []) square None p
+  paid_over answer taken kind is no_data no_reset encoding encodes owed owes adds outputs p calmed =
+      calm_comes setup old (record mid { encoding = encoding }) square (record square { owed = owed ∷ []; fresh = data_length is_any frame }) outputs outputs p (coming frame) (OfFrame frame) refl
+      (quiet setup old rest frame plain inbound table answer taken (ap (λ k. k == data_kind) is ∙ no_data) (ap (λ k. k == rst_stream_kind) is ∙ no_reset) (owed ∷ []) encoding owes encodes adds outputs)
+      (calm_ends setup (record mid { encoding = encoding }) (record square { owed = owed ∷ []; fresh = data_length is_any frame }) (inl (owed, [], refl)) refl outputs p calmed)
+
+  -- Where the connection was ended in place of what an answer calls for, this is right.
+  pub stopped_so : (answer : Judged) → ((outside : Outside) → IsJudged setup (book_of outside old.inbound) frame (book_of outside inbound) answer) → ((outside : Outside) → IsJudged setup' (book_of outside old.inbound) frame (book_of outside inbound) answer) → (outputs p : List Output)
+      → IsStopped frame.id answer mid outputs p → ComesFrom setup old square outputs (OfFrame frame ∷ []) square None p
+  stopped_so (judged.Failed (fault.Connection code)) so so' outputs p stopped = absurd stopped
+  stopped_so (judged.Failed (fault.Stream code)) so so' outputs p stopped = refused_over setup old rest frame plain inbound table code (fits frame.id code small) (λ outside. (so outside).is) (so (outside_of old.untaken)).left outputs p stopped
+  stopped_so (judged.Failed fault.Discarded) so so' outputs p stopped = absurd stopped
+  stopped_so judged.Ignored so so' outputs p stopped = absurd stopped
+  stopped_so judged.Granted so so' outputs p stopped = absurd stopped
+  stopped_so (judged.Settings change) so so' outputs p stopped =
+      paid_over (judged.Settings change) so settings_kind (eqb-true frame.kind settings_kind (and_parts (frame.kind == settings_kind) (not (is_ack frame)) (so (outside_of old.untaken)).says.0).0) refl refl (limited (values_of header_table_size (settings_in frame.payload)) old.encoding)
+      (λ outside. settings_named (told_of outside old.inbound) frame (so outside).says.0 (so outside).faultless old.encoding) settings_ack
+      (λ outside. plain_owes setup (book_of outside old.inbound) frame plain (book_of outside inbound) (judged.Settings change) (so outside))
+      (λ run s leads. plain_gain setup s.desk.book frame plain (few setup run old s leads) (book_of (record { given = s.desk.book.given; untaken = old.untaken }) inbound) (judged.Settings change) (taken_by setup old rest frame plain inbound table (judged.Settings change) so run s leads))
+      outputs p stopped
+  stopped_so (judged.Ping octets) so so' outputs p stopped =
+      paid_over (judged.Ping octets) so ping_kind (so (outside_of old.untaken)).says.0 refl refl old.encoding
+      (λ outside. names_none (told_of outside old.inbound) frame (ap (λ k. has_settings (record frame { kind = k })) (so (outside_of old.untaken)).says.0) old.encoding) (ping_ack octets.now)
+      (λ outside. plain_owes setup (book_of outside old.inbound) frame plain (book_of outside inbound) (judged.Ping octets) (so outside))
+      (λ run s leads. plain_gain setup s.desk.book frame plain (few setup run old s leads) (book_of (record { given = s.desk.book.given; untaken = old.untaken }) inbound) (judged.Ping octets) (taken_by setup old rest frame plain inbound table (judged.Ping octets) so run s leads))
+      outputs p stopped
+  stopped_so judged.Reset so so' outputs p stopped = absurd stopped
+  stopped_so (judged.Content octets ends) so so' outputs p stopped = absurd stopped
+  stopped_so judged.LargeBody so so' outputs p stopped =
+      cut_over setup old rest frame plain inbound table so (sym (head_same setup' old rest frame plain inbound table so' reached.0 reached.1 reached.2) ∙ stopped.0) outputs p stopped.1
+
   -- What has to be so for it is.
   pub may_act : (answer : Judged) → ((outside : Outside) → IsJudged setup' (book_of outside old.inbound) frame (book_of outside inbound) answer) → length frame.payload ≤ 16384 → MayAct (goes_on old.inbound.rows frame.id) frame.id answer mid
   may_act (judged.Failed fault) so short = tt
   may_act judged.Ignored so short = tt
   may_act (judged.Settings change) so short = tt
-  may_act (judged.Ping octets) so short = subst (λ (xs : List ℕ). length xs ≤ 16384) (sym (so no_outside).says.2) short
+  may_act (judged.Ping octets) so short = subst (λ (xs : List ℕ). length xs ≤ 16384) (sym (so (outside_of old.untaken)).says.2) short
   may_act judged.Granted so short = tt
   may_act judged.Reset so short = tt
   may_act (judged.Content octets ends) so short = λ on.
-      may_take setup' old rest frame plain inbound table (judged.Content octets ends) so (so no_outside).says.0 octets.now ends (so no_outside).says.1 (so no_outside).says.2 (so no_outside).says.3
+      may_take setup' old rest frame plain inbound table (judged.Content octets ends) so (so (outside_of old.untaken)).says.0 octets.now ends (so (outside_of old.untaken)).says.1 (so (outside_of old.untaken)).says.2 (so (outside_of old.untaken)).says.3
       (λ outside. plain_owes setup' (book_of outside old.inbound) frame plain (book_of outside inbound) (judged.Content octets ends) (so outside))
       (λ run s leads. plain_gain setup' s.desk.book frame plain (few setup' run old s leads) (book_of (record { given = s.desk.book.given; untaken = old.untaken }) inbound) (judged.Content octets ends) (taken_by setup' old rest frame plain inbound table (judged.Content octets ends) so run s leads))
       on reached.0 reached.1 reached.2
-  may_act judged.LargeBody so short = is_active_now setup' old rest frame plain inbound table judged.LargeBody so (so no_outside).says.0 reached.0 reached.1 reached.2
+  may_act judged.LargeBody so short = is_active_now setup' old rest frame plain inbound table judged.LargeBody so (so (outside_of old.untaken)).says.0 reached.0 reached.1 reached.2

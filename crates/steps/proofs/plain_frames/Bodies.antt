@@ -25,7 +25,7 @@ use Rattle.policy.specs.State.{State}
 use Rattle.relay.specs.View.{View, square, Leads}
 use Rattle.relay.specs.Rest.{IsAtRest}
 use Rattle.relay.proofs.Halves.{not_half_closed}
-use Rattle.relay.proofs.Coming.{no_outside, encoding_with}
+use Rattle.relay.proofs.Coming.{outside_of, encoding_with}
 use Rattle.steps.proofs.plain_frames.Streams.{behind_frame, none_completed, lives, over_half}
 use Rattle.steps.proofs.plain_frames.Faults.{names_none}
 use Rattle.steps.proofs.plain_frames.Standing.{active_with}
@@ -71,7 +71,7 @@ none_if true fault is = cc
 
 module _ (setup : Setup) (old : View) (rest : IsAtRest old) (frame : Frame) (plain : IsPlain frame) (inbound : Inbound) (table : inbound.table ≡ old.inbound.table) (answer : Judged) (taken : (outside : Outside) → IsTaken setup (book_of outside old.inbound) frame (book_of outside inbound) answer) (kind : frame.kind ≡ data_kind) where
   abbrev b : Book
-  b = book_of no_outside old.inbound
+  b = book_of (outside_of old.untaken) old.inbound
 
   abbrev k : Kept
   k = find old.inbound.rows frame.id
@@ -80,7 +80,7 @@ module _ (setup : Setup) (old : View) (rest : IsAtRest old) (frame : Frame) (pla
   mild outside = ap is_fatal (taken outside).faultless
 
   rows_are : inbound.rows ≡ (book_after setup false b (coming frame)).rows
-  rows_are = ap (λ (x : Book). x.rows) (taken no_outside).left
+  rows_are = ap (λ (x : Book). x.rows) (taken (outside_of old.untaken)).left
 
   pub names : (outside : Outside) → encoding_with (named_by (verdict_in (told_of outside old.inbound) frame) frame) old.encoding ≡ old.encoding
   names outside = names_none (told_of outside old.inbound) frame (ap (λ k. has_settings (record frame { kind = k })) kind) old.encoding
@@ -92,7 +92,7 @@ module _ (setup : Setup) (old : View) (rest : IsAtRest old) (frame : Frame) (pla
     -- its stream is active before it and behind it
     pub was_active : is_active old.inbound.rows frame.id ≡ true
     was_active =
-        active_with b frame data_kind kind refl refl refl (none_completed setup b frame plain kept) (subst (λ (x : Book). length (ids_of x.rows) ≤ most_streams) leads.keeps.book (few setup run old s leads)) (taken no_outside).faultless
+        active_with b frame data_kind kind refl refl refl (none_completed setup b frame plain kept) (subst (λ (x : Book). length (ids_of x.rows) ≤ most_streams) leads.keeps.book (few setup run old s leads)) (taken (outside_of old.untaken)).faultless
 
     on : is_over_in (behind_frame setup b frame) ≡ false
     on =

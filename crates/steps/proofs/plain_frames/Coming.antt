@@ -54,7 +54,7 @@ use Rattle.relay.proofs.Resting.{rests_are_ready}
 use Rattle.relay.proofs.Coming as coming
 use Rattle.marks_kept.specs.Sides.{Side, unless_over}
 use Rattle.marks_kept.specs.Standing.{dropped_of}
-use Rattle.relay.proofs.Coming.{no_outside, inbound_in, inbound_behind, change_between, offers_with, encoding_with, told_of_rows, leads_then, begins}
+use Rattle.relay.proofs.Coming.{outside_of, inbound_in, inbound_behind, change_between, offers_with, encoding_with, told_of_rows, leads_then, begins}
 use Rattle.steps.proofs.plain_frames.Streams.{none_completed, change_is_none}
 
 -- ---- where moves led
@@ -89,7 +89,7 @@ without_none told id (h ∷ hs) are none = elim (eqb_tells h.id id) [
 
 -- ---- the frame
 
-module _ (setup : Setup) (old : View) (rest : IsAtRest old) (frame : Frame) (plain : IsPlain frame) (inbound : Inbound) (table : inbound.table ≡ old.inbound.table) (left : book_of no_outside inbound ≡ behind setup (book_of no_outside old.inbound) frame) (mild : (outside : Outside) → is_fatal (fault_in (told_of outside old.inbound) (coming frame)) ≡ false) where
+module _ (setup : Setup) (old : View) (rest : IsAtRest old) (frame : Frame) (plain : IsPlain frame) (inbound : Inbound) (table : inbound.table ≡ old.inbound.table) (left : book_of (outside_of old.untaken) inbound ≡ behind setup (book_of (outside_of old.untaken) old.inbound) frame) (mild : (outside : Outside) → is_fatal (fault_in (told_of outside old.inbound) (coming frame)) ≡ false) where
   abbrev noted : Noted
   noted = noted_of frame
 
@@ -100,10 +100,10 @@ module _ (setup : Setup) (old : View) (rest : IsAtRest old) (frame : Frame) (pla
   completes_none b kept = none_completed setup b frame plain kept
 
   -- what is kept behind the frame is what the judgement leaves
-  same_inbound : AreKept old.inbound.rows → inbound_behind setup old.inbound noted old.inbound.table ≡ inbound
+  same_inbound : AreKept old.inbound.rows → inbound_behind setup old.untaken old.inbound noted old.inbound.table ≡ inbound
   same_inbound kept =
       ap (λ (b : Book). inbound_in (tables.table_after (completed_in old.inbound.block frame) old.inbound.table old.inbound.table) b) (sym left)
-      ∙ ap (λ (t : Table). record inbound { table = t }) (block_none (completed_in old.inbound.block frame) (completes_none (book_of no_outside old.inbound) kept) ∙ sym table)
+      ∙ ap (λ (t : Table). record inbound { table = t }) (block_none (completed_in old.inbound.block frame) (completes_none (book_of (outside_of old.untaken) old.inbound) kept) ∙ sym table)
 
   -- What it gains its request, what is kept of requests then, what is on offer, and what is kept of DATA that waits, with what goes back of it.
   pub record Passes (offers : offering.State) (upstream : upstreams.State) (sides : List Side) (shared : ℕ) (due : Due) (s : State) : Type 0 where
@@ -134,13 +134,13 @@ module _ (setup : Setup) (old : View) (rest : IsAtRest old) (frame : Frame) (pla
       let taken = taken_with run s leads p.gain p.right in
       let same = same_inbound (kept_rows setup run old s leads) in
       let outside : Outside = record { given = s.desk.book.given; untaken = old.untaken } in
-      let on_offer : offers_with frame.id (change_between old.inbound.rows (inbound_behind setup old.inbound noted old.inbound.table).rows frame.id) old.offers ≡ offers =
+      let on_offer : offers_with frame.id (change_between old.inbound.rows (inbound_behind setup old.untaken old.inbound noted old.inbound.table).rows frame.id) old.offers ≡ offers =
       ap (λ (i : Inbound). offers_with frame.id (change_between old.inbound.rows i.rows frame.id) old.offers) same ∙ p.on_offer in
-      let requests : serving.after setup (told_of_rows (inbound_behind setup old.inbound noted old.inbound.table)) (upstreams.with_due old.upstreams Due.Nothing) (gained noted p.gain) ≡ upstreams.with_due upstream due =
+      let requests : serving.after setup (told_of_rows (inbound_behind setup old.untaken old.inbound noted old.inbound.table)) (upstreams.with_due old.upstreams Due.Nothing) (gained noted p.gain) ≡ upstreams.with_due upstream due =
       ap (λ (i : Inbound). serving.after setup (told_of_rows i) (upstreams.with_due old.upstreams Due.Nothing) (gained noted p.gain)) same ∙ p.requests in
-      let marked : unless_over (change_between old.inbound.rows (inbound_behind setup old.inbound noted old.inbound.table).rows frame.id).over frame.id old.marks ≡ sides =
+      let marked : unless_over (change_between old.inbound.rows (inbound_behind setup old.untaken old.inbound noted old.inbound.table).rows frame.id).over frame.id old.marks ≡ sides =
       ap (λ (i : Inbound). unless_over (change_between old.inbound.rows i.rows frame.id).over frame.id old.marks) same ∙ p.marked in
-      let returned : dropped_of (change_between old.inbound.rows (inbound_behind setup old.inbound noted old.inbound.table).rows frame.id).over frame.id old.marks ≡ shared =
+      let returned : dropped_of (change_between old.inbound.rows (inbound_behind setup old.untaken old.inbound noted old.inbound.table).rows frame.id).over frame.id old.marks ≡ shared =
       ap (λ (i : Inbound). dropped_of (change_between old.inbound.rows i.rows frame.id).over frame.id old.marks) same ∙ p.returned in
       begins setup run old s leads ready noted old.inbound.table p.gain taken outputs _ _
       (subst (λ (e : Encoding). Leads setup (Does (Takes noted old.inbound.table p.gain) ∷ run) (record { inbound = inbound; offers = offers; upstreams = upstream; marks = sides; encoding = e; untaken = old.untaken }) (record square { owed = owed; due = due; fresh = data_length is_any frame; shared = shared }) (next setup s (Does (Takes noted old.inbound.table p.gain)))) (encodes outside)
@@ -171,7 +171,7 @@ module _ (setup : Setup) (old : View) (rest : IsAtRest old) (frame : Frame) (pla
     -- Nothing changes where the stream is as before.
     pub passes_same : (is_active inbound.rows frame.id ≡ is_active old.inbound.rows frame.id) × ((find inbound.rows frame.id).brief.cause ≡ (find old.inbound.rows frame.id).brief.cause) → Passes old.offers old.upstreams old.marks 0 Due.Nothing s
     passes_same same =
-        let b : Book = book_of no_outside old.inbound in
+        let b : Book = book_of (outside_of old.untaken) old.inbound in
         let kept = kept_rows setup run old s leads in
         let rows : inbound.rows ≡ (book_after setup false b (coming frame)).rows = ap (λ (x : Book). x.rows) left in
         let there = subst (λ (rows : List Row). (is_active rows frame.id ≡ is_active old.inbound.rows frame.id) × ((find rows frame.id).brief.cause ≡ (find old.inbound.rows frame.id).brief.cause)) rows same in

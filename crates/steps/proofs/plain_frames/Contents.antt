@@ -52,7 +52,7 @@ use Rattle.relay.proofs.Kept.{change_none}
 use Rattle.relay.proofs.HeldFor.{go_on_so, held_for}
 use Rattle.marks_kept.specs.Sides.{unless_over}
 use Rattle.marks_kept.specs.Standing.{dropped_of}
-use Rattle.relay.proofs.Coming.{no_outside, change_between, offers_with, told_of_rows}
+use Rattle.relay.proofs.Coming.{outside_of, change_between, offers_with, told_of_rows}
 use Rattle.steps.specs.plain_frames.Acting.{goes_on}
 use Rattle.steps.proofs.plain_frames.Streams.{none_completed, change_is_none}
 use Rattle.steps.proofs.plain_frames.Standing.{of_rows}
@@ -76,9 +76,9 @@ right_within true ends right is = refl
 right_within false ends right is = cc
 
 module _ (setup : Setup) (old : View) (rest : IsAtRest old) (frame : Frame) (plain : IsPlain frame) (inbound : Inbound) (table : inbound.table ≡ old.inbound.table) (answer : Judged) (taken : (outside : Outside) → IsTaken setup (book_of outside old.inbound) frame (book_of outside inbound) answer) (kind : frame.kind ≡ data_kind)
-    (octets : List ℕ) (ends : Bool) (octets_are : octets ≡ content frame) (ends_is : ends ≡ ends_stream frame) (same_cause : judgement.cause_behind setup (book_of no_outside old.inbound) frame ≡ judgement.cause_before (book_of no_outside old.inbound) frame) where
+    (octets : List ℕ) (ends : Bool) (octets_are : octets ≡ content frame) (ends_is : ends ≡ ends_stream frame) (same_cause : judgement.cause_behind setup (book_of (outside_of old.untaken) old.inbound) frame ≡ judgement.cause_before (book_of (outside_of old.untaken) old.inbound) frame) where
   abbrev b : Book
-  b = book_of no_outside old.inbound
+  b = book_of (outside_of old.untaken) old.inbound
 
   abbrev k : Kept
   k = find old.inbound.rows frame.id
@@ -95,7 +95,7 @@ module _ (setup : Setup) (old : View) (rest : IsAtRest old) (frame : Frame) (pla
 
   offers_same : (run : List Move) (s : State) → Leads setup run old square s → offers_with frame.id (change_between old.inbound.rows inbound.rows frame.id) old.offers ≡ old.offers
   offers_same run s leads =
-      let rows : inbound.rows ≡ (book_after setup false b (coming frame)).rows = ap (λ (x : Book). x.rows) (taken no_outside).left in
+      let rows : inbound.rows ≡ (book_after setup false b (coming frame)).rows = ap (λ (x : Book). x.rows) (taken (outside_of old.untaken)).left in
       let there = subst (λ (rows : List Row). (is_active rows frame.id ≡ is_active old.inbound.rows frame.id) × ((find rows frame.id).brief.cause ≡ k.brief.cause)) rows (stream_same run s leads) in
       ap (λ (rows : List Row). offers_with frame.id (change_between old.inbound.rows rows frame.id) old.offers) rows
       ∙ ap (λ (c : offering.Change). offers_with frame.id c old.offers) (change_is_none setup b frame plain (kept_rows setup run old s leads) there)
@@ -104,7 +104,7 @@ module _ (setup : Setup) (old : View) (rest : IsAtRest old) (frame : Frame) (pla
   -- nothing that waits of its DATA goes
   change_same : (run : List Move) (s : State) → Leads setup run old square s → (change_between old.inbound.rows inbound.rows frame.id).over ≡ false
   change_same run s leads =
-      let rows : inbound.rows ≡ (book_after setup false b (coming frame)).rows = ap (λ (x : Book). x.rows) (taken no_outside).left in
+      let rows : inbound.rows ≡ (book_after setup false b (coming frame)).rows = ap (λ (x : Book). x.rows) (taken (outside_of old.untaken)).left in
       let there = subst (λ (rows : List Row). (is_active rows frame.id ≡ is_active old.inbound.rows frame.id) × ((find rows frame.id).brief.cause ≡ k.brief.cause)) rows (stream_same run s leads) in
       ap (λ (rows : List Row). (change_between old.inbound.rows rows frame.id).over) rows
       ∙ ap (λ (c : offering.Change). c.over) (change_is_none setup b frame plain (kept_rows setup run old s leads) there)
@@ -113,10 +113,10 @@ module _ (setup : Setup) (old : View) (rest : IsAtRest old) (frame : Frame) (pla
     abbrev mild_so : (outside : Outside) → is_fatal (fault_in (told_of outside old.inbound) (coming frame)) ≡ false
     mild_so = mild setup old rest frame plain inbound table answer taken kind
 
-    passes_with : (upstream : upstreams.State) (due : Due) → upstream.live ≡ old.upstreams.live → ((run : List Move) (s : State) → Leads setup run old square s → Passes setup old rest frame plain inbound table (taken no_outside).left mild_so old.offers upstream old.marks 0 due s) → (outputs : List Output)
+    passes_with : (upstream : upstreams.State) (due : Due) → upstream.live ≡ old.upstreams.live → ((run : List Move) (s : State) → Leads setup run old square s → Passes setup old rest frame plain inbound table (taken (outside_of old.untaken)).left mild_so old.offers upstream old.marks 0 due s) → (outputs : List Output)
         → Brings setup old square outputs (coming frame) (record old { inbound = inbound; upstreams = upstream }) (record square { due = due; fresh = data_length is_any frame }) outputs
     passes_with upstream due live passes outputs =
-        came setup old rest frame plain inbound table (taken no_outside).left mild_so [] due old.offers upstream old.marks 0 old.encoding live owes (names setup old rest frame plain inbound table answer taken kind) passes outputs
+        came setup old rest frame plain inbound table (taken (outside_of old.untaken)).left mild_so [] due old.offers upstream old.marks 0 old.encoding live owes (names setup old rest frame plain inbound table answer taken kind) passes outputs
 
     -- ---- where nothing more of the request is looked at
 
@@ -124,7 +124,7 @@ module _ (setup : Setup) (old : View) (rest : IsAtRest old) (frame : Frame) (pla
     left_alone none outputs =
         passes_with old.upstreams Due.Nothing refl
         (λ run s leads.
-        passes_same setup old rest frame plain inbound table (taken no_outside).left mild_so run s leads
+        passes_same setup old rest frame plain inbound table (taken (outside_of old.untaken)).left mild_so run s leads
         ((gains run s leads).1 (ap (λ (x : Book). (find x.rows frame.id).brief.over) leads.keeps.book ∙ over k.brief.over (sym (ap (λ x. x && not k.brief.over) (was_active setup old rest frame plain inbound table answer taken kind run s leads)) ∙ none)))
         (stream_same run s leads))
         outputs
@@ -182,7 +182,7 @@ module _ (setup : Setup) (old : View) (rest : IsAtRest old) (frame : Frame) (pla
             ∙ row
           where
             row : (not (is_some k.brief.cause) && is_malformed (carried_in k.brief) (completed_in old.inbound.block frame) (noted_of frame)) ≡ false
-            row = none_if _ (Stream protocol_error) (second_none (first_of (rows_in (summary_in b) (noted_of frame))) (malformed_in k.brief (summary_in b) (coming frame)) (taken no_outside).faultless)
+            row = none_if _ (Stream protocol_error) (second_none (first_of (rows_in (summary_in b) (noted_of frame))) (malformed_in k.brief (summary_in b) (coming frame)) (taken (outside_of old.untaken)).faultless)
 
         -- octets keep within what was declared, and those that end the body reach it
         within : is_within k.brief.declared (k.brief.octets + length octets) ≡ true
@@ -230,7 +230,7 @@ module _ (setup : Setup) (old : View) (rest : IsAtRest old) (frame : Frame) (pla
         -- It comes with what it gains, where that leaves this.
         passes_by : (due : Due) (hs : List Held) (gain : Gain) → IsGained setup (told_behind setup s (Takes (noted_of frame) old.inbound.table gain)) s (noted_of frame) gain
             → serving.after setup (told_of_rows inbound) (upstreams.with_due old.upstreams Due.Nothing) (gained (noted_of frame) gain) ≡ upstreams.with_due (upstream_then hs) due
-            → Passes setup old rest frame plain inbound table (taken no_outside).left mild_so old.offers (upstream_then hs) old.marks 0 due s
+            → Passes setup old rest frame plain inbound table (taken (outside_of old.untaken)).left mild_so old.offers (upstream_then hs) old.marks 0 due s
         passes_by due hs gain right requests = record {
           gain = gain;
           right = right;
@@ -244,7 +244,7 @@ module _ (setup : Setup) (old : View) (rest : IsAtRest old) (frame : Frame) (pla
 
         waiting_passes : (route : ℕ) (text : List ℕ) (stage : Stage) (body : List ℕ) → is_whole stage ≡ false → held_of frame.id s.requests.held ≡ Some (record { id = frame.id; way = Waiting route text stage body })
             → (last : Bool) → ends ≡ last → (due : Due) (next : Option Way) (hs : List Held) → Gathers frame.id octets [] last route text stage body due next → hs ≡ held_with frame.id next old.upstreams.held
-            → Passes setup old rest frame plain inbound table (taken no_outside).left mild_so old.offers (upstream_then hs) old.marks 0 due s
+            → Passes setup old rest frame plain inbound table (taken (outside_of old.untaken)).left mild_so old.offers (upstream_then hs) old.marks 0 due s
         waiting_passes route text stage body part found false more due next hs gathers held_then =
             passes_by due hs gain_now
             (subst (λ x. Adds setup (told_by s) (noted_of frame) (Content octets x)) more adds, record { serving = serves gain_now; found = found; gathered = (refl, refl) })
@@ -267,7 +267,7 @@ module _ (setup : Setup) (old : View) (rest : IsAtRest old) (frame : Frame) (pla
 
         going_passes : (number : ℕ) (stage : Stage) → held_of frame.id s.requests.held ≡ Some (record { id = frame.id; way = Going number stage })
             → (due : Due) (next : Option Way) (hs : List Held) → IsPassed octets [] ends number stage due next → hs ≡ held_with frame.id next old.upstreams.held
-            → Passes setup old rest frame plain inbound table (taken no_outside).left mild_so old.offers (upstream_then hs) old.marks 0 due s
+            → Passes setup old rest frame plain inbound table (taken (outside_of old.untaken)).left mild_so old.offers (upstream_then hs) old.marks 0 due s
         going_passes number stage found due next hs passed held_then =
             passes_by due hs gain_now
             (adds, record { serving = serves gain_now; found = found; continues = passed.continues; whole = passed.whole })
@@ -280,16 +280,16 @@ module _ (setup : Setup) (old : View) (rest : IsAtRest old) (frame : Frame) (pla
         -- ---- what comes of it is dropped
 
         dropped_passes : held_of frame.id s.requests.held ≡ Some (record { id = frame.id; way = Dropped }) → (due : Due) (hs : List Held) → due ≡ Due.Nothing → hs ≡ old.upstreams.held
-            → Passes setup old rest frame plain inbound table (taken no_outside).left mild_so old.offers (upstream_then hs) old.marks 0 due s
+            → Passes setup old rest frame plain inbound table (taken (outside_of old.untaken)).left mild_so old.offers (upstream_then hs) old.marks 0 due s
         dropped_passes found due hs nothing same =
             passes_by due hs (Gain.Drops (Content octets ends)) (adds, record { serving = serves (Gain.Drops (Content octets ends)); found = found })
             (ap (λ (hs : List Held). upstreams.with_due (upstream_then hs) Due.Nothing) (sym same) ∙ ap (λ (d : Due). upstreams.with_due (upstream_then hs) d) (sym nothing))
 
-        content_passes : (due : Due) (hs : List Held) → TakesOf frame.id octets [] ends old.upstreams.held (held_of frame.id old.upstreams.held) due hs → Passes setup old rest frame plain inbound table (taken no_outside).left mild_so old.offers (upstream_then hs) old.marks 0 due s
+        content_passes : (due : Due) (hs : List Held) → TakesOf frame.id octets [] ends old.upstreams.held (held_of frame.id old.upstreams.held) due hs → Passes setup old rest frame plain inbound table (taken (outside_of old.untaken)).left mild_so old.offers (upstream_then hs) old.marks 0 due s
         content_passes due hs takes = by held.way held.found held.goes (subst (λ (o : Option Held). TakesOf frame.id octets [] ends old.upstreams.held o due hs) held_found takes)
           where
             by : (way : Way) → held_of frame.id s.requests.held ≡ Some (record { id = frame.id; way = way }) → GoesBy k.brief way → TakesBy frame.id octets [] ends old.upstreams.held way due hs
-                → Passes setup old rest frame plain inbound table (taken no_outside).left mild_so old.offers (upstream_then hs) old.marks 0 due s
+                → Passes setup old rest frame plain inbound table (taken (outside_of old.untaken)).left mild_so old.offers (upstream_then hs) old.marks 0 due s
             by (Waiting route text stage body) found goes takes = waiting_passes route text stage body goes.part found ends refl due takes.0 hs takes.1 takes.2
             by (Going number stage) found goes takes = going_passes number stage found due takes.0 hs takes.1 takes.2
             by Dropped found goes takes = dropped_passes found due hs takes.0 takes.1

@@ -1,5 +1,5 @@
 -- A stream that is over with a frame: the client resets it, or it is reset since the frame is an error of it.
-use Rattle.std.proofs.Common.{◌≡◌, ℕ, ◌≤◌, ◌+◌, Bool, true, false, not, ◌&&◌, ◌||◌, ◌==◌, if◌then◌else◌, List, [], ◌∷◌, length, Option, Some, None, refl, sym, ◌∙◌, ap, subst, inl, inr, arith}
+use Rattle.std.proofs.Common.{◌≡◌, ℕ, ◌≤◌, ◌+◌, Bool, true, false, not, ◌&&◌, ◌||◌, ◌==◌, if◌then◌else◌, List, [], ◌∷◌, length, Option, Some, None, refl, sym, ◌∙◌, ap, subst, inl, inr, arith, nat_lt}
 use Rattle.std.proofs.lemmas.Bool.{eq-eqb}
 use Rattle.std.proofs.lemmas.Bool.Decides.{eqb_tells}
 use Rattle.std.specs.Prelude.{is_none}
@@ -54,7 +54,13 @@ use Rattle.marks_kept.specs.Sides.{without as without_side}
 use Rattle.marks_kept.specs.Standing.{dropped_of}
 use Rattle.marks_kept.proofs.Looking.{gone_own}
 use Rattle.marks_kept.proofs.Rising.{without_none}
-use Rattle.relay.proofs.Coming.{no_outside, inbound_in, inbound_behind, frame_book, change_between, offers_with, told_of_rows}
+use Rattle.relay.proofs.Coming.{outside_of, inbound_in, inbound_behind, frame_book, change_between, offers_with, told_of_rows}
+use Rattle.model.specs.Admission.{most_untaken}
+use Rattle.streams_kept.proofs.Changes.{same_ids}
+use Rattle.steps.specs.Comings.{ComesFrom}
+use Rattle.steps.specs.Inputs.Input.{OfFrame}
+use Rattle.steps.specs.Stopping.{IsCalmed}
+use Rattle.steps.proofs.Calming.{calm_ends, calm_comes, calmed_as}
 use Rattle.steps.specs.plain_frames.Kept.{forgotten}
 use Rattle.steps.proofs.plain_frames.Streams.{behind_frame, none_completed, ids_now, stays_idle, dies}
 use Rattle.steps.proofs.plain_frames.Faults.{names_none, fault_names_none, fault_not_idle}
@@ -106,7 +112,7 @@ or_second false b c is = ap (λ x. x || c) is
 
 module _ (setup : Setup) (old : View) (rest : IsAtRest old) (frame : Frame) (plain : IsPlain frame) (inbound : Inbound) (table : inbound.table ≡ old.inbound.table) where
   abbrev b : Book
-  b = book_of no_outside old.inbound
+  b = book_of (outside_of old.untaken) old.inbound
 
   -- no stream is opened
   opens_none : AreKept old.inbound.rows → (not (is_active old.inbound.rows frame.id) && is_active (book_after setup false b (coming frame)).rows frame.id) ≡ false
@@ -130,17 +136,17 @@ module _ (setup : Setup) (old : View) (rest : IsAtRest old) (frame : Frame) (pla
     -- Nothing is kept of the stream any more.
     pub reset_by_client : (outputs : List Output) → Brings setup old square outputs (coming frame) (forgotten frame.id (record old { inbound = inbound })) (record square { fresh = data_length is_any frame; shared = waiting_for frame.id old }) outputs
     reset_by_client outputs =
-        came setup old rest frame plain inbound table (taken no_outside).left (λ outside. ap is_fatal (taken outside).faultless) [] Due.Nothing
+        came setup old rest frame plain inbound table (taken (outside_of old.untaken)).left (λ outside. ap is_fatal (taken outside).faultless) [] Due.Nothing
         (record old.offers { kept = offering.without frame.id old.offers.kept }) (record old.upstreams { held = without id_of frame.id old.upstreams.held }) (without_side frame.id old.marks) (waiting_for frame.id old) old.encoding refl
         (λ outside. plain_owes setup (book_of outside old.inbound) frame plain (book_of outside inbound) judged.Reset (taken outside))
         (λ outside. names_none (told_of outside old.inbound) frame (ap (λ k. has_settings (record frame { kind = k })) kind) old.encoding)
         passes outputs
       where
-        passes : (run : List Move) (s : State) (leads : Leads setup run old square s) → Passes setup old rest frame plain inbound table (taken no_outside).left (λ outside. ap is_fatal (taken outside).faultless) (record old.offers { kept = offering.without frame.id old.offers.kept }) (record old.upstreams { held = without id_of frame.id old.upstreams.held }) (without_side frame.id old.marks) (waiting_for frame.id old) Due.Nothing s
+        passes : (run : List Move) (s : State) (leads : Leads setup run old square s) → Passes setup old rest frame plain inbound table (taken (outside_of old.untaken)).left (λ outside. ap is_fatal (taken outside).faultless) (record old.offers { kept = offering.without frame.id old.offers.kept }) (record old.upstreams { held = without id_of frame.id old.upstreams.held }) (without_side frame.id old.marks) (waiting_for frame.id old) Due.Nothing s
         passes run s leads =
             let kept : AreKept old.inbound.rows = kept_rows setup run old s leads in
-            let rows : inbound.rows ≡ (book_after setup false b (coming frame)).rows = ap (λ (x : Book). x.rows) (taken no_outside).left in
-            let was : is_active old.inbound.rows frame.id ≡ true = active_with b frame rst_stream_kind kind refl refl refl (none_completed setup b frame plain kept) (few_kept run s leads) (taken no_outside).faultless in
+            let rows : inbound.rows ≡ (book_after setup false b (coming frame)).rows = ap (λ (x : Book). x.rows) (taken (outside_of old.untaken)).left in
+            let was : is_active old.inbound.rows frame.id ≡ true = active_with b frame rst_stream_kind kind refl refl refl (none_completed setup b frame plain kept) (few_kept run s leads) (taken (outside_of old.untaken)).faultless in
             let off : is_active inbound.rows frame.id ≡ false = ap (λ (rows : List Row). is_active rows frame.id) rows ∙ dies setup b frame plain kept over_now in
             let caused : Option Cause = (change_between old.inbound.rows inbound.rows frame.id).caused in
             let change : change_between old.inbound.rows inbound.rows frame.id ≡ record { opens = false; over = true; caused = caused } =
@@ -152,7 +158,7 @@ module _ (setup : Setup) (old : View) (rest : IsAtRest old) (frame : Frame) (pla
               right = none;
               requests =
                   ap (λ (hs : List Held). upstreams.with_due (record old.upstreams { held = hs }) Due.Nothing)
-                  (held_goes setup old rest frame plain inbound table (taken no_outside).left (λ outside. ap is_fatal (taken outside).faultless) run s leads none (ap (λ x. x && is_none (find inbound.rows frame.id).brief.cause) off));
+                  (held_goes setup old rest frame plain inbound table (taken (outside_of old.untaken)).left (λ outside. ap is_fatal (taken outside).faultless) run s leads none (ap (λ x. x && is_none (find inbound.rows frame.id).brief.cause) off));
               on_offer =
                   ap (λ (c : Change). offers_with frame.id c old.offers) change
                   ∙ ap (λ (ks : List offering.Kept). record old.offers { kept = ks }) (changed_goes frame.id (offering.answered_if caused) (answered_if_id caused) old.offers.kept);
@@ -162,12 +168,12 @@ module _ (setup : Setup) (old : View) (rest : IsAtRest old) (frame : Frame) (pla
 
 -- ---- a reset behind a frame
 
-module _ (setup : Setup) (old : View) (rest : IsAtRest old) (frame : Frame) (plain : IsPlain frame) (inbound : Inbound) (table : inbound.table ≡ old.inbound.table) (code : ℕ) (fits : Fits (rst_stream frame.id code)) (fault : (outside : Outside) → fault_in (told_of outside old.inbound) (coming frame) ≡ Some (Stream code)) (left : book_of no_outside inbound ≡ reset_behind setup (book_of no_outside old.inbound) frame code) where
+module _ (setup : Setup) (old : View) (rest : IsAtRest old) (frame : Frame) (plain : IsPlain frame) (inbound : Inbound) (table : inbound.table ≡ old.inbound.table) (code : ℕ) (fits : Fits (rst_stream frame.id code)) (fault : (outside : Outside) → fault_in (told_of outside old.inbound) (coming frame) ≡ Some (Stream code)) (left : book_of (outside_of old.untaken) inbound ≡ reset_behind setup (book_of (outside_of old.untaken) old.inbound) frame code) where
   abbrev before : Book
-  before = book_of no_outside old.inbound
+  before = book_of (outside_of old.untaken) old.inbound
 
   abbrev mid : Inbound
-  mid = inbound_behind setup old.inbound (noted_of frame) old.inbound.table
+  mid = inbound_behind setup old.untaken old.inbound (noted_of frame) old.inbound.table
 
   mild : (outside : Outside) → is_fatal (fault_in (told_of outside old.inbound) (coming frame)) ≡ false
   mild outside = ap is_fatal (fault outside)
@@ -221,8 +227,8 @@ module _ (setup : Setup) (old : View) (rest : IsAtRest old) (frame : Frame) (pla
     table_mid : mid.table ≡ old.inbound.table
     table_mid = ap (λ (o : Option Partial). tables.table_after o old.inbound.table old.inbound.table) none
 
-    left_mid : book_of no_outside mid ≡ behind setup before frame
-    left_mid = sym (frame_book setup no_outside old.inbound (noted_of frame) old.inbound.table (mild no_outside))
+    left_mid : book_of (outside_of old.untaken) mid ≡ behind setup before frame
+    left_mid = sym (frame_book setup (outside_of old.untaken) old.inbound (noted_of frame) old.inbound.table (mild (outside_of old.untaken)))
 
     comes : (outputs : List Output) → Brings setup old square outputs (coming frame) view_mid owing outputs
     comes outputs =
@@ -242,7 +248,7 @@ module _ (setup : Setup) (old : View) (rest : IsAtRest old) (frame : Frame) (pla
     known : may_open (ids_of mid.rows) frame.id ≡ false
     known =
         ap (λ (ids : List ℕ). may_open ids frame.id) (ids_now setup before frame plain kept)
-        ∙ fault_not_idle (told_of no_outside old.inbound) frame plain none (Stream code) refl (fault no_outside)
+        ∙ fault_not_idle (told_of (outside_of old.untaken) old.inbound) frame plain none (Stream code) refl (fault (outside_of old.untaken))
 
     -- the judgement leaves what is kept behind the reset
     inbound_is : record mid { rows = changed frame.id (Over true) mid.rows } ≡ inbound
@@ -250,7 +256,7 @@ module _ (setup : Setup) (old : View) (rest : IsAtRest old) (frame : Frame) (pla
         sym (
         ap (λ (x : Book). inbound_in inbound.table x) (
         left
-        ∙ ap (λ (x : Book). record x { untaken = 0 }) (reset_leads setup (behind setup before frame) (noted_of (rst_stream frame.id code)) (kept_behind_entry setup false before (coming frame) kept) refl refl).book)
+        ∙ ap (λ (x : Book). record x { untaken = old.untaken }) (reset_leads setup (behind setup before frame) (noted_of (rst_stream frame.id code)) (kept_behind_entry setup false before (coming frame) kept) refl refl).book)
         ∙ ap (λ (t : Table). record mid { rows = changed frame.id (Over true) mid.rows; table = t }) (table ∙ sym table_mid))
 
     opens_no : (change_between old.inbound.rows mid.rows frame.id).opens ≡ false
@@ -277,12 +283,20 @@ module _ (setup : Setup) (old : View) (rest : IsAtRest old) (frame : Frame) (pla
         ∙ ap (λ (hs : List Held). record final { upstreams = record old.upstreams { held = hs }; marks = without_side frame.id view_mid.marks }) held_is
         ∙ ap (λ (ms : List Side). record final { marks = ms }) marks_gone
 
-    resets : (outputs : List Output) → PerformsOwn setup view_mid owing outputs final paid (put outputs (ToClient (spell (rst_stream frame.id code))))
-    resets outputs =
+    resets : nat_lt most_untaken old.untaken ≡ false → (outputs : List Output) → PerformsOwn setup view_mid owing outputs final paid (put outputs (ToClient (spell (rst_stream frame.id code))))
+    resets free outputs =
         subst (λ n. PerformsOwn setup view_mid owing outputs final (record square { fresh = data_length is_any frame; shared = n }) (put outputs (ToClient (spell (rst_stream frame.id code))))) all_back
-        (subst (λ (v : View). PerformsOwn setup view_mid owing outputs v (record square { fresh = data_length is_any frame; shared = owing.shared + waiting_for frame.id view_mid }) (put outputs (ToClient (spell (rst_stream frame.id code))))) final_is (reset_paid setup view_mid owing [] frame.id code refl refl known fits outputs))
+        (subst (λ (v : View). PerformsOwn setup view_mid owing outputs v (record square { fresh = data_length is_any frame; shared = owing.shared + waiting_for frame.id view_mid }) (put outputs (ToClient (spell (rst_stream frame.id code))))) final_is (reset_paid setup view_mid owing [] frame.id code refl refl known fits free outputs))
 
   -- The stream is reset, and nothing is kept of it any more.
-  pub refused : (outputs : List Output) → Brings setup old square outputs (coming frame) final paid (put outputs (ToClient (spell (rst_stream frame.id code))))
-  refused outputs run s leads =
-      brings_then setup old view_mid final square owing paid outputs outputs (put outputs (ToClient (spell (rst_stream frame.id code)))) (coming frame) (comes run s leads outputs) (resets run s leads outputs) run s leads
+  pub refused : nat_lt most_untaken old.untaken ≡ false → (outputs : List Output) → Brings setup old square outputs (coming frame) final paid (put outputs (ToClient (spell (rst_stream frame.id code))))
+  refused free outputs run s leads =
+      brings_then setup old view_mid final square owing paid outputs outputs (put outputs (ToClient (spell (rst_stream frame.id code)))) (coming frame) (comes run s leads outputs) (resets run s leads free outputs) run s leads
+
+  -- It can't be, and the connection ends.
+  pub refused_over : (outputs p : List Output) → IsCalmed (record old { inbound = inbound }) outputs p → ComesFrom setup old square outputs (OfFrame frame ∷ []) square None p
+  refused_over outputs p calmed run s leads =
+      calm_comes setup old view_mid square owing outputs outputs p (coming frame) (OfFrame frame) refl (comes run s leads outputs)
+      (calm_ends setup view_mid owing (inl (rst_stream frame.id code, [], refl)) refl outputs p
+      (calmed_as (record old { inbound = inbound }) view_mid outputs p (ap (λ (i : Inbound). ids_of i.rows) (sym (inbound_is run s leads)) ∙ same_ids frame.id (Over true) mid.rows) refl refl calmed))
+      run s leads

@@ -13,7 +13,7 @@ use Rattle.model.specs.ErrorClause.{is_fatal}
 use Rattle.model.specs.Decoding.{Partial}
 use Rattle.model.specs.Tapes.Note.{NoBlock}
 use Rattle.conduct.specs.Summary.{Brief, Summary}
-use Rattle.conduct.specs.Judging.{completed_in, fault_for, malformed_in, stream_update_in, stream_data_in, fault_by_standing_in, is_active_in, shifts_past_in}
+use Rattle.conduct.specs.Judging.{completed_in, fault_for, malformed_in, no_farewell_in, stream_update_in, stream_data_in, fault_by_standing_in, is_active_in, shifts_past_in}
 use Rattle.model.specs.ErrorTable.{unless_of_stream}
 use Rattle.model.specs.SettingValues.{initial_window_after, settings_fault, settings_in}
 use Rattle.conduct.specs.Owing.{fault_in, cause_in}
@@ -24,11 +24,12 @@ use Rattle.tables.specs.State.{named_by}
 use Rattle.tables.specs.Verdicts.{verdict_in}
 use Rattle.header_blocks.specs.Encoding.{Encoding}
 use Rattle.judgement.specs.Judgement.{IsPlain}
+use Rattle.judgement.proofs.Rows.{opens_no_last}
 use Rattle.relay.proofs.Gaining.{caused}
 use Rattle.relay.proofs.Coming.{encoding_with}
 
 -- rows of which each asks for what isn't so
-quiet_later : (a c : Bool) → or_else (first_of (None ∷ first_of (fault_if (a && false) (Stream protocol_error) ∷ fault_if (a && false) (Stream flow_control_error) ∷ []) ∷ fault_if (a && false) (Stream flow_control_error) ∷ None ∷ [])) (fault_if (c && false) (Stream protocol_error)) ≡ None
+quiet_later : (a c : Bool) → or_else (first_of (None ∷ first_of (fault_if (a && false) (Stream protocol_error) ∷ fault_if (a && false) (Stream flow_control_error) ∷ []) ∷ fault_if (a && false) (Stream flow_control_error) ∷ None ∷ None ∷ [])) (fault_if (c && false) (Stream protocol_error)) ≡ None
 quiet_later true true = refl
 quiet_later true false = refl
 quiet_later false true = refl
@@ -38,13 +39,18 @@ module _ (s : Summary) (brief : Brief) (frame : Frame) where
   abbrev settings : Frame
   settings = record frame { kind = settings_kind }
 
+  -- the rows behind those of a header block, with this last one
+  abbrev later_with : Option Fault → List (Option Fault)
+  later_with last = unless_of_stream (fault_by_standing_in s settings) ∷ stream_update_in s settings ∷ stream_data_in s settings ∷ fault_by_standing_in s settings ∷ last ∷ []
+
   abbrev later : List (Option Fault)
-  later = unless_of_stream (fault_by_standing_in s settings) ∷ stream_update_in s settings ∷ stream_data_in s settings ∷ fault_by_standing_in s settings ∷ []
+  later = later_with (no_farewell_in s (noted_of settings))
 
   none_of_settings : is_fatal (fault_for brief s (coming settings)) ≡ false → fault_for brief s (coming settings) ≡ None
   none_of_settings mild =
       ap (λ (o : Option Fault). or_else o (malformed_in brief s (coming settings)))
       (skip (early_rows s (noted_of settings)) later (calm (early_rows s (noted_of settings)) later (malformed_in brief s (coming settings)) (early_fatal s (noted_of settings)) mild))
+      ∙ ap (λ (last : Option Fault). or_else (first_of (later_with last)) (malformed_in brief s (coming settings))) (opens_no_last s settings)
       ∙ quiet_later (is_active_in frame.id s) (not (is_some brief.cause))
 
   -- Settings that are no error of the connection have no fault.

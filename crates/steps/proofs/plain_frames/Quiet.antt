@@ -33,7 +33,7 @@ use Rattle.relay.specs.Bringing.{Brings}
 use Rattle.relay.proofs.Gaining.{none_at_fault}
 use Rattle.relay.proofs.Owing.{idle_no_cause}
 use Rattle.relay.proofs.Answered.{plain_owes_at_fault}
-use Rattle.relay.proofs.Coming.{no_outside, encoding_with}
+use Rattle.relay.proofs.Coming.{outside_of, encoding_with}
 use Rattle.steps.proofs.plain_frames.Streams.{none_completed, unchanged, over_calm, cause_kept}
 use Rattle.steps.proofs.plain_frames.Faults.{fault_names_none}
 use Rattle.steps.proofs.plain_frames.Standing.{active_not_discarded}
@@ -49,10 +49,10 @@ active_on rows id active = flipped (is_over_in (find rows id)) (and_parts (has r
 
 module _ (setup : Setup) (old : View) (rest : IsAtRest old) (frame : Frame) (plain : IsPlain frame) (inbound : Inbound) (table : inbound.table ≡ old.inbound.table) where
   abbrev b : Book
-  b = book_of no_outside old.inbound
+  b = book_of (outside_of old.untaken) old.inbound
 
   -- what is told of the stream behind the frame, where the judgement leaves this
-  same_told : (left : book_of no_outside inbound ≡ behind setup b frame) → (is_active (book_after setup false b (coming frame)).rows frame.id ≡ is_active old.inbound.rows frame.id) × ((find (book_after setup false b (coming frame)).rows frame.id).brief.cause ≡ (find old.inbound.rows frame.id).brief.cause)
+  same_told : (left : book_of (outside_of old.untaken) inbound ≡ behind setup b frame) → (is_active (book_after setup false b (coming frame)).rows frame.id ≡ is_active old.inbound.rows frame.id) × ((find (book_after setup false b (coming frame)).rows frame.id).brief.cause ≡ (find old.inbound.rows frame.id).brief.cause)
       → (is_active inbound.rows frame.id ≡ is_active old.inbound.rows frame.id) × ((find inbound.rows frame.id).brief.cause ≡ (find old.inbound.rows frame.id).brief.cause)
   same_told left same = subst (λ (rows : List Row). (is_active rows frame.id ≡ is_active old.inbound.rows frame.id) × ((find rows frame.id).brief.cause ≡ (find old.inbound.rows frame.id).brief.cause)) (sym (ap (λ (x : Book). x.rows) left)) same
 
@@ -66,15 +66,15 @@ module _ (setup : Setup) (old : View) (rest : IsAtRest old) (frame : Frame) (pla
         → ((run : List Move) (s : State) → Leads setup run old square s → added_in setup (told_by s) (noted_of frame) ≡ []) → (outputs : List Output)
         → Brings setup old square outputs (coming frame) (record old { inbound = inbound; encoding = encoding }) (record square { owed = owed; fresh = data_length is_any frame }) outputs
     quiet no_data no_reset owed encoding owes encodes adds outputs =
-        came setup old rest frame plain inbound table (taken no_outside).left (λ outside. ap is_fatal (taken outside).faultless) owed Due.Nothing old.offers old.upstreams old.marks 0 encoding refl owes encodes passes outputs
+        came setup old rest frame plain inbound table (taken (outside_of old.untaken)).left (λ outside. ap is_fatal (taken outside).faultless) owed Due.Nothing old.offers old.upstreams old.marks 0 encoding refl owes encodes passes outputs
       where
-        passes : (run : List Move) (s : State) (leads : Leads setup run old square s) → Passes setup old rest frame plain inbound table (taken no_outside).left (λ outside. ap is_fatal (taken outside).faultless) old.offers old.upstreams old.marks 0 Due.Nothing s
+        passes : (run : List Move) (s : State) (leads : Leads setup run old square s) → Passes setup old rest frame plain inbound table (taken (outside_of old.untaken)).left (λ outside. ap is_fatal (taken outside).faultless) old.offers old.upstreams old.marks 0 Due.Nothing s
         passes run s leads =
             let kept : AreKept old.inbound.rows = kept_rows setup run old s leads in
-            passes_same setup old rest frame plain inbound table (taken no_outside).left (λ outside. ap is_fatal (taken outside).faultless) run s leads (adds run s leads)
-            (same_told (taken no_outside).left (unchanged setup b frame plain kept (λ active. (
+            passes_same setup old rest frame plain inbound table (taken (outside_of old.untaken)).left (λ outside. ap is_fatal (taken outside).faultless) run s leads (adds run s leads)
+            (same_told (taken (outside_of old.untaken)).left (unchanged setup b frame plain kept (λ active. (
               over_calm setup b frame plain kept no_reset no_data ∙ active_on old.inbound.rows frame.id active,
-              cause_kept setup b frame plain kept (idle_no_cause setup (summary_in b) (noted_of frame) (taken no_outside).faultless (ap (λ (o : Option Partial). is_some o || frame.kind == data_kind) (none_completed setup b frame plain kept) ∙ no_data)),
+              cause_kept setup b frame plain kept (idle_no_cause setup (summary_in b) (noted_of frame) (taken (outside_of old.untaken)).faultless (ap (λ (o : Option Partial). is_some o || frame.kind == data_kind) (none_completed setup b frame plain kept) ∙ no_data)),
             ))))
 
     -- by the state's book
@@ -87,14 +87,14 @@ module _ (setup : Setup) (old : View) (rest : IsAtRest old) (frame : Frame) (pla
     -- It comes, and nothing changes.
     pub passed_over : (outputs : List Output) → Brings setup old square outputs (coming frame) (record old { inbound = inbound }) (record square { fresh = data_length is_any frame }) outputs
     passed_over outputs =
-        came setup old rest frame plain inbound table (left no_outside) (λ outside. ap is_fatal (discarded outside)) [] Due.Nothing old.offers old.upstreams old.marks 0 old.encoding refl
+        came setup old rest frame plain inbound table (left (outside_of old.untaken)) (λ outside. ap is_fatal (discarded outside)) [] Due.Nothing old.offers old.upstreams old.marks 0 old.encoding refl
         (λ outside. plain_owes_at_fault setup (book_of outside old.inbound) frame plain Discarded refl (discarded outside))
         (λ outside. fault_names_none (told_of outside old.inbound) frame Discarded refl (discarded outside) old.encoding)
         passes outputs
       where
-        passes : (run : List Move) (s : State) (leads : Leads setup run old square s) → Passes setup old rest frame plain inbound table (left no_outside) (λ outside. ap is_fatal (discarded outside)) old.offers old.upstreams old.marks 0 Due.Nothing s
+        passes : (run : List Move) (s : State) (leads : Leads setup run old square s) → Passes setup old rest frame plain inbound table (left (outside_of old.untaken)) (λ outside. ap is_fatal (discarded outside)) old.offers old.upstreams old.marks 0 Due.Nothing s
         passes run s leads =
             let kept : AreKept old.inbound.rows = kept_rows setup run old s leads in
-            passes_same setup old rest frame plain inbound table (left no_outside) (λ outside. ap is_fatal (discarded outside)) run s leads
+            passes_same setup old rest frame plain inbound table (left (outside_of old.untaken)) (λ outside. ap is_fatal (discarded outside)) run s leads
             (none_at_fault setup (told_by s) (noted_of frame) Discarded (ap (λ (x : Book). fault_in (summary_in x) (coming frame)) leads.keeps.book ∙ discarded (record { given = s.desk.book.given; untaken = old.untaken })))
-            (same_told (left no_outside) (unchanged setup b frame plain kept (λ active. absurd (active_not_discarded b frame kept active (discarded no_outside)))))
+            (same_told (left (outside_of old.untaken)) (unchanged setup b frame plain kept (λ active. absurd (active_not_discarded b frame kept active (discarded (outside_of old.untaken))))))

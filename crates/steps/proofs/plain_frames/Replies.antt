@@ -1,5 +1,5 @@
 -- A body that is longer than the gateway takes: it replies itself, or resets the stream where the final head of a response is out.
-use Rattle.std.proofs.Common.{◌≡◌, ◌+◌, true, false, not, ◌&&◌, List, [], ◌∷◌, length, Option, Some, None, refl, sym, ◌∙◌, ap, subst, inl, inr, arith, ℕ}
+use Rattle.std.proofs.Common.{◌≡◌, ◌+◌, true, false, not, ◌&&◌, List, [], ◌∷◌, length, Option, Some, None, refl, sym, ◌∙◌, ap, subst, inl, inr, arith, ℕ, nat_lt}
 use Rattle.std.proofs.lemmas.Bool.Decides.{eqb_tells}
 use Rattle.std.specs.Prelude.{is_none, option_map}
 use Rattle.model.specs.Frames.{Frame, Fits, spell, data_kind, enhance_your_calm}
@@ -38,8 +38,14 @@ use Rattle.relay.proofs.Kept.{changed_goes}
 use Rattle.relay.proofs.Resets.{reset_view, reset_paid}
 use Rattle.marks_kept.specs.Sides.{unless_over}
 use Rattle.marks_kept.specs.Standing.{dropped_of}
-use Rattle.relay.proofs.Coming.{no_outside, change_between, offers_with}
+use Rattle.relay.proofs.Coming.{outside_of, change_between, offers_with}
 use Rattle.relay.specs.Owed.{owed_for}
+use Rattle.model.specs.Admission.{most_untaken}
+use Rattle.streams_kept.proofs.Changes.{same_ids}
+use Rattle.steps.specs.Comings.{ComesFrom}
+use Rattle.steps.specs.Inputs.Input.{OfFrame}
+use Rattle.steps.specs.Stopping.{IsCalmed, reset_marked}
+use Rattle.steps.proofs.Calming.{calm_ends, calm_comes, calmed_as}
 use Rattle.steps.specs.plain_frames.Kept.{forgotten}
 use Rattle.steps.proofs.plain_frames.Coming.{Passes, few, held_goes, came}
 use Rattle.steps.proofs.plain_frames.Quiet.{taken_by}
@@ -48,7 +54,7 @@ use Rattle.steps.proofs.plain_frames.Bodies.{mild, names, was_active, is_active_
 
 module _ (setup : Setup) (old : View) (rest : IsAtRest old) (frame : Frame) (plain : IsPlain frame) (inbound : Inbound) (table : inbound.table ≡ old.inbound.table) (taken : (outside : Outside) → IsTaken setup (book_of outside old.inbound) frame (book_of outside inbound) judged.LargeBody) where
   abbrev kind : frame.kind ≡ data_kind
-  kind = (taken no_outside).says.0
+  kind = (taken (outside_of old.untaken)).says.0
 
   abbrev replied : List offering.Kept
   replied = offering.change frame.id (answered Cause.LargeBody) old.offers.kept
@@ -65,25 +71,25 @@ module _ (setup : Setup) (old : View) (rest : IsAtRest old) (frame : Frame) (pla
     head_same = ap (λ (k : Kept). k.head_out) (found_now setup old rest frame plain inbound table judged.LargeBody taken kind run s leads)
 
     caused : (find inbound.rows frame.id).brief.cause ≡ Some Cause.LargeBody
-    caused = ap (λ (k : Kept). k.brief.cause) (found_now setup old rest frame plain inbound table judged.LargeBody taken kind run s leads) ∙ (taken no_outside).says.2
+    caused = ap (λ (k : Kept). k.brief.cause) (found_now setup old rest frame plain inbound table judged.LargeBody taken kind run s leads) ∙ (taken (outside_of old.untaken)).says.2
 
     change : change_between old.inbound.rows inbound.rows frame.id ≡ record { opens = false; over = false; caused = Some Cause.LargeBody }
     change =
         ap (λ x. let c : Change = record { opens = not (is_active old.inbound.rows frame.id) && x; over = is_active old.inbound.rows frame.id && not x; caused = found_by (find old.inbound.rows frame.id).brief.cause (find inbound.rows frame.id).brief.cause } in c) now_active
         ∙ ap (λ x. let c : Change = record { opens = not x && true; over = x && false; caused = found_by (find old.inbound.rows frame.id).brief.cause (find inbound.rows frame.id).brief.cause } in c) (was_active setup old rest frame plain inbound table judged.LargeBody taken kind run s leads)
-        ∙ ap (λ (o : Option Cause). let c : Change = record { opens = false; over = false; caused = found_by o (find inbound.rows frame.id).brief.cause } in c) (taken no_outside).says.1
+        ∙ ap (λ (o : Option Cause). let c : Change = record { opens = false; over = false; caused = found_by o (find inbound.rows frame.id).brief.cause } in c) (taken (outside_of old.untaken)).says.1
         ∙ ap (λ (o : Option Cause). let c : Change = record { opens = false; over = false; caused = found_by None o } in c) caused
 
   comes : (owed : List Frame) → ((outside : Outside) → owed_for frame.id (find old.inbound.rows frame.id).head_out judged.LargeBody ≡ owed) → (outputs : List Output)
       → Brings setup old square outputs (coming frame) mid (record square { owed = owed; fresh = data_length is_any frame }) outputs
   comes owed owes outputs =
-      came setup old rest frame plain inbound table (taken no_outside).left (mild setup old rest frame plain inbound table judged.LargeBody taken kind) owed Due.Nothing
+      came setup old rest frame plain inbound table (taken (outside_of old.untaken)).left (mild setup old rest frame plain inbound table judged.LargeBody taken kind) owed Due.Nothing
       (record old.offers { kept = replied }) (record old.upstreams { held = without id_of frame.id old.upstreams.held }) old.marks 0 old.encoding refl
       (λ outside. plain_owes setup (book_of outside old.inbound) frame plain (book_of outside inbound) judged.LargeBody (taken outside) ∙ owes outside)
       (names setup old rest frame plain inbound table judged.LargeBody taken kind)
       passes outputs
     where
-      passes : (run : List Move) (s : State) (leads : Leads setup run old square s) → Passes setup old rest frame plain inbound table (taken no_outside).left (mild setup old rest frame plain inbound table judged.LargeBody taken kind) (record old.offers { kept = replied }) (record old.upstreams { held = without id_of frame.id old.upstreams.held }) old.marks 0 Due.Nothing s
+      passes : (run : List Move) (s : State) (leads : Leads setup run old square s) → Passes setup old rest frame plain inbound table (taken (outside_of old.untaken)).left (mild setup old rest frame plain inbound table judged.LargeBody taken kind) (record old.offers { kept = replied }) (record old.upstreams { held = without id_of frame.id old.upstreams.held }) old.marks 0 Due.Nothing s
       passes run s leads =
           let none = plain_gain setup s.desk.book frame plain (few setup run old s leads) (book_of (record { given = s.desk.book.given; untaken = old.untaken }) inbound) judged.LargeBody (taken_by setup old rest frame plain inbound table judged.LargeBody taken run s leads) in
           record {
@@ -91,7 +97,7 @@ module _ (setup : Setup) (old : View) (rest : IsAtRest old) (frame : Frame) (pla
             right = none;
             requests =
                 ap (λ (hs : List Held). upstreams.with_due (record old.upstreams { held = hs }) Due.Nothing)
-                (held_goes setup old rest frame plain inbound table (taken no_outside).left (mild setup old rest frame plain inbound table judged.LargeBody taken kind) run s leads none
+                (held_goes setup old rest frame plain inbound table (taken (outside_of old.untaken)).left (mild setup old rest frame plain inbound table judged.LargeBody taken kind) run s leads none
                 (ap (λ x. x && is_none (find inbound.rows frame.id).brief.cause) (now_active run s leads) ∙ ap (λ (o : Option Cause). is_none o) (caused run s leads)));
             on_offer = ap (λ (c : Change). offers_with frame.id c old.offers) (change run s leads);
             marked = ap (λ (c : Change). unless_over c.over frame.id old.marks) (change run s leads);
@@ -125,14 +131,14 @@ module _ (setup : Setup) (old : View) (rest : IsAtRest old) (frame : Frame) (pla
   owing = record square { owed = rst_stream frame.id enhance_your_calm ∷ []; fresh = data_length is_any frame }
 
   -- The stream is reset, and nothing is kept of it any more.
-  pub cut_short : (find old.inbound.rows frame.id).head_out ≡ true → Fits (rst_stream frame.id enhance_your_calm) → (outputs : List Output)
+  pub cut_short : (find old.inbound.rows frame.id).head_out ≡ true → Fits (rst_stream frame.id enhance_your_calm) → nat_lt most_untaken old.untaken ≡ false → (outputs : List Output)
       → Brings setup old square outputs (coming frame) final (record square { fresh = data_length is_any frame; shared = waiting_for frame.id old }) (put outputs (ToClient (spell (rst_stream frame.id enhance_your_calm))))
-  cut_short out fits outputs run s leads =
+  cut_short out fits free outputs run s leads =
       brings_then setup old mid final square owing (record square { fresh = data_length is_any frame; shared = waiting_for frame.id old }) outputs outputs (put outputs (ToClient (spell (rst_stream frame.id enhance_your_calm)))) (coming frame)
       (comes (rst_stream frame.id enhance_your_calm ∷ []) (λ outside. ap (λ out. reset_for frame.id out None (Some Cause.LargeBody)) out) outputs)
       (subst (λ (v : View). PerformsOwn setup mid owing outputs v (record square { fresh = data_length is_any frame; shared = waiting_for frame.id old }) (put outputs (ToClient (spell (rst_stream frame.id enhance_your_calm))))) final_is
       (subst (λ n. PerformsOwn setup mid owing outputs (reset_view mid frame.id enhance_your_calm) (record square { fresh = data_length is_any frame; shared = n }) (put outputs (ToClient (spell (rst_stream frame.id enhance_your_calm))))) (none_plus (waiting_for frame.id old))
-      (reset_paid setup mid owing [] frame.id enhance_your_calm refl refl (active_closed inbound.rows frame.id (now_active run s leads)) fits outputs)))
+      (reset_paid setup mid owing [] frame.id enhance_your_calm refl refl (active_closed inbound.rows frame.id (now_active run s leads)) fits free outputs)))
       run s leads
     where
       none_plus : (n : ℕ) → 0 + n ≡ n
@@ -142,3 +148,11 @@ module _ (setup : Setup) (old : View) (rest : IsAtRest old) (frame : Frame) (pla
       final_is =
           ap (λ (ks : List offering.Kept). record (reset_view mid frame.id enhance_your_calm) { offers = record old.offers { kept = ks } }) (changed_goes frame.id (answered Cause.LargeBody) (answered_id Cause.LargeBody) old.offers.kept)
           ∙ ap (λ (hs : List Held). record final { upstreams = record old.upstreams { held = hs } }) (held_twice frame.id old.upstreams.held)
+
+  -- It can't be, and the connection ends.
+  pub cut_over : (find old.inbound.rows frame.id).head_out ≡ true → (outputs p : List Output) → IsCalmed (reset_marked frame.id (record old { inbound = inbound })) outputs p → ComesFrom setup old square outputs (OfFrame frame ∷ []) square None p
+  cut_over out outputs p calmed =
+      calm_comes setup old mid square owing outputs outputs p (coming frame) (OfFrame frame) refl
+      (comes (rst_stream frame.id enhance_your_calm ∷ []) (λ outside. ap (λ out. reset_for frame.id out None (Some Cause.LargeBody)) out) outputs)
+      (calm_ends setup mid owing (inl (rst_stream frame.id enhance_your_calm, [], refl)) refl outputs p
+      (calmed_as (reset_marked frame.id (record old { inbound = inbound })) mid outputs p (same_ids frame.id (Over true) inbound.rows) refl refl calmed))

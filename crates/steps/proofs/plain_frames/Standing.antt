@@ -14,7 +14,7 @@ use Rattle.model.specs.ErrorTable.{fault_of, judged, unless_of_stream, grants_no
 use Rattle.model.specs.ErrorClause.{is_fatal}
 use Rattle.model.specs.Decoding.{Partial}
 use Rattle.conduct.specs.Summary.{Brief, Stream as Kept, Summary, carried_in}
-use Rattle.conduct.specs.Judging.{is_over_in, is_active_in, active_in, completed_in, rows_in, fault_on_in, fault_by_standing_in, malformed_in, misplaced_in, standing_in, stream_update_in, stream_data_in, window_in}
+use Rattle.conduct.specs.Judging.{is_over_in, is_active_in, active_in, completed_in, rows_in, fault_on_in, fault_by_standing_in, malformed_in, misplaced_in, no_farewell_in, standing_in, stream_update_in, stream_data_in, window_in}
 use Rattle.conduct.specs.Owing.{fault_in}
 use Rattle.conduct.specs.Rows.{Row, ids_of, find}
 use Rattle.conduct.specs.Quiet.{noted_of, coming}
@@ -24,6 +24,7 @@ use Rattle.conduct.proofs.Calm.{calm, early_rows, early_fatal, skip}
 use Rattle.conduct.proofs.Seen.{none_at}
 use Rattle.conduct.proofs.Wanted.{Tells, standing_tells}
 use Rattle.streams_kept.specs.Asked.{has, is_active}
+use Rattle.judgement.proofs.Rows.{opens_no_last}
 use Rattle.judgement.proofs.Standings.{opened_standing}
 
 -- ---- frames that pass
@@ -116,7 +117,7 @@ live_not_discarded kind false false false true on = refl
 live_not_discarded kind false false false false on = refl
 
 -- rows of which none is discarded
-none_of_rows : (x u d m : Option Fault) → is_discarded x ≡ false → is_discarded u ≡ false → is_discarded d ≡ false → is_discarded m ≡ false → is_discarded (or_else (first_of (unless_of_stream x ∷ u ∷ d ∷ x ∷ [])) m) ≡ false
+none_of_rows : (x u d m : Option Fault) → is_discarded x ≡ false → is_discarded u ≡ false → is_discarded d ≡ false → is_discarded m ≡ false → is_discarded (or_else (first_of (unless_of_stream x ∷ u ∷ d ∷ x ∷ None ∷ [])) m) ≡ false
 none_of_rows (Some (Connection code)) u d m a b c e = refl
 none_of_rows (Some Discarded) u d m a b c e = cc
 none_of_rows (Some (Stream code)) (Some fault) d m a b c e = b
@@ -146,13 +147,18 @@ active_not_discarded b frame kept active is =
     brief : Brief
     brief = (s.stream frame.id).brief
 
-    later : List (Option Fault)
-    later = unless_of_stream (fault_by_standing_in s frame) ∷ stream_update_in s frame ∷ stream_data_in s frame ∷ fault_by_standing_in s frame ∷ []
+    -- the rows behind those of a header block, with this last one
+    later_with : Option Fault → List (Option Fault)
+    later_with last = unless_of_stream (fault_by_standing_in s frame) ∷ stream_update_in s frame ∷ stream_data_in s frame ∷ fault_by_standing_in s frame ∷ last ∷ []
 
-    whole : fault_in s (coming frame) ≡ or_else (first_of later) (malformed_in brief s (coming frame))
+    later : List (Option Fault)
+    later = later_with (no_farewell_in s (noted_of frame))
+
+    whole : fault_in s (coming frame) ≡ or_else (first_of (later_with None)) (malformed_in brief s (coming frame))
     whole =
         ap (λ (o : Option Fault). or_else o (malformed_in brief s (coming frame)))
         (skip (early_rows s (noted_of frame)) later (calm (early_rows s (noted_of frame)) later (malformed_in brief s (coming frame)) (early_fatal s (noted_of frame)) (ap is_fatal is)))
+        ∙ ap (λ (last : Option Fault). or_else (first_of (later_with last)) (malformed_in brief s (coming frame))) (opens_no_last s frame)
 
     one : (code : ℕ) (x : Bool) → is_discarded (fault_if x (Stream code)) ≡ false
     one code true = refl

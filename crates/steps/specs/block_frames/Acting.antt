@@ -1,5 +1,6 @@
 -- What is done by the judgement's answer to a frame with a fragment of a header block, from what is kept behind the judgement.
-use Rattle.std.specs.Prelude.{◌≡◌, ◌+◌, ℕ, Bool, true, List, [], length, Option, Some, None}
+use Rattle.std.specs.Prelude.{◌≡◌, ◌+◌, ℕ, Bool, true, false, nat_lt, List, [], length, Option, Some, None}
+use Rattle.model.specs.Admission.{most_untaken}
 use Rattle.model.specs.Frames.{spell}
 use Rattle.model.specs.Http2.{HasLength}
 use Rattle.model.specs.Messages.{Field}
@@ -23,7 +24,8 @@ use Rattle.upstreams.specs.Kept as upstreams
 use Rattle.upstreams.specs.Kept.{Begins}
 use Rattle.upstreams.specs.Requests.{due_by, MayTakeOf, Takes}
 use Rattle.relay.specs.View.{View, waiting_for}
-use Rattle.steps.specs.block_frames.Following.{followed, forgotten, dropped_by, with_farewell, put_farewell}
+use Rattle.steps.specs.Stopping.{reset_marked}
+use Rattle.steps.specs.block_frames.Following.{followed, forgotten, dropped_by, with_farewell, put_farewell, IsCalmedBehind}
 use Rattle.steps.specs.declared.block_frames.taking.BlockTaken.{BlockTaken}
 use Rattle.steps.specs.declared.block_frames.taking.BlockTaken.TheVariants as taken
 
@@ -48,6 +50,7 @@ pub record IsReset (id code : ℕ) (last : Option ℕ) (old : View) (outputs : L
   pub goes : Goes None (waiting_for id old) answer
   pub kept : new ≡ record (forgotten id old) { untaken = (with_farewell last old).untaken + length (spell (rst_stream id code)) }
   pub puts : put_out ≡ put (put_farewell last outputs) (ToClient (spell (rst_stream id code)))
+  pub few : nat_lt most_untaken (with_farewell last old).untaken ≡ false
 
 -- The gateway's reply is on offer.
 pub record IsOffered (id : ℕ) (cause : model.Cause) (last : Option ℕ) (old : View) (outputs : List Output) (answer : BlockTaken) (new : View) (put_out : List Output) : Type 0 where
@@ -95,6 +98,18 @@ IsActed id at_once (judged.Answered cause) last old outputs answer new put_out =
     IsReplied (find old.inbound.rows id).head_out (model.reset_code (cause_of cause)) id (cause_of cause) last old outputs answer new put_out
 IsActed id at_once (judged.Trailers trailers) last old outputs answer new put_out = HasEnded id trailers.items last old outputs answer new put_out
 IsActed id at_once other last old outputs answer new put_out = IsFollowed id last old outputs answer new put_out
+
+-- The stream would be reset, as a final head is out, and the connection was ended in place of one of the frames.
+abbrev pub IsCutShort : Bool → Option ℕ → ℕ → Option ℕ → View → List Output → List Output → Type 0
+IsCutShort true (Some code) id last old outputs put_out = IsCalmedBehind last (reset_marked id old) outputs put_out
+IsCutShort _ _ id last old outputs put_out = ⊥
+
+-- A frame beside responses is called for, and the connection was ended in its place.
+abbrev pub IsStopped : ℕ → BlockJudged → Option ℕ → View → List Output → List Output → Type 0
+IsStopped id (judged.Failed (fault.Stream code)) last old outputs put_out = IsCalmedBehind last old outputs put_out
+IsStopped id (judged.Answered cause) last old outputs put_out =
+    IsCutShort (find old.inbound.rows id).head_out (model.reset_code (cause_of cause)) id last old outputs put_out
+IsStopped id other last old outputs put_out = ⊥
 
 -- A request that begins is on an active stream, and declares no body where its head ends it.
 pub record MayBegin (id : ℕ) (parts : HeadParts) (old : View) : Type 0 where

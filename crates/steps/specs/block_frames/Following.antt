@@ -1,6 +1,7 @@
 -- What is kept of a stream follows what the judgement left of it, and a farewell that is owed.
-use Rattle.std.specs.Prelude.{◌≡◌, ◌+◌, ℕ, Bool, true, false, if◌then◌else◌, List, [], ◌∷◌, ◌++◌, length, Option, Some, None, nat_lt, ◌==◌, ◌&&◌}
+use Rattle.std.specs.Prelude.{◌≡◌, ◌⊎◌, ◌+◌, ℕ, Bool, true, false, if◌then◌else◌, List, [], ◌∷◌, ◌++◌, length, Option, Some, None, nat_lt, ◌==◌, ◌&&◌}
 use Rattle.model.specs.Frames.{Frame, spell, goaway, no_error}
+use Rattle.model.specs.Admission.{most_untaken}
 use Rattle.model.specs.StreamStates.{most_streams}
 use Rattle.model.specs.Logs.{Output}
 use Rattle.model.specs.Logs.Output.{ToClient}
@@ -16,6 +17,7 @@ use Rattle.streams_kept.specs.Sending.{is_served}
 use Rattle.marks_kept.specs.Sides.{Side}
 use Rattle.marks_kept.specs.Sides as marks
 use Rattle.relay.specs.View.{View, waiting_for}
+use Rattle.steps.specs.Stopping.{IsCalmed}
 
 -- ---- one stream
 
@@ -80,3 +82,13 @@ with_farewell (Some last) kept = record kept { untaken = kept.untaken + length (
 abbrev pub put_farewell : Option ℕ → List Output → List Output
 put_farewell None outputs = outputs
 put_farewell (Some last) outputs = put outputs (ToClient (spell (goaway last no_error)))
+
+-- Not too many octets were untaken for the farewell, where it is owed.
+abbrev pub WasFree : Option ℕ → View → Type 0
+WasFree None kept = Unit {0}
+WasFree (Some last) kept = nat_lt most_untaken kept.untaken ≡ false
+
+-- The connection was ended in place of the farewell, or behind it in place of another frame.
+abbrev pub IsCalmedBehind : Option ℕ → View → List Output → List Output → Type 0
+IsCalmedBehind farewell old outputs put_out =
+    IsCalmed old outputs put_out ⊎ (WasFree farewell old × IsCalmed (with_farewell farewell old) (put_farewell farewell outputs) put_out)

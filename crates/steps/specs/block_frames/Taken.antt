@@ -1,5 +1,7 @@
 -- What comes of a frame of the client with a fragment of a header block.
-use Rattle.std.specs.Prelude.{◌≡◌, ◌⊎◌, ℕ, true, List, Option, Some}
+use Rattle.std.specs.Prelude.{◌≡◌, ◌⊎◌, ℕ, true, nat_lt, List, Option, Some, is_some}
+use Rattle.model.specs.Admission.{most_untaken}
+use Rattle.serving.specs.State.Due.{Nothing}
 use Rattle.model.specs.Frames.{Frame}
 use Rattle.model.specs.Logs.{Output}
 use Rattle.model.specs.Setup.{Setup}
@@ -25,12 +27,14 @@ use Rattle.steps.specs.declared.block_frames.taking.BlockTaken.TheVariants as ta
 
 -- The connection goes on: the frame came, with what is noted of its block, and what it calls for was sent; a request or a text may be due, the
 -- farewell of the last stream may be owed yet, and octets that waited of a stream that is over go back. It was about its stream alone, and no other is opened.
+-- Where too many octets are untaken for the farewell, nothing is due beside it.
 pub record IsPassed (setup : Setup) (old : View) (outputs : List Output) (frame : Frame) (due : Due) (farewell : Option ℕ) (dropped : ℕ) (new : View) (put_out : List Output) : Type 0 where
   pub note : Note
   pub brings : Brings setup old square outputs (Came (record { frame = frame; note = note })) new (record square { owed = farewell_frames farewell; due = due_by due; shared = dropped }) put_out
   pub none_cut : NoneCut new.offers
   pub about : IsAbout frame.id old new
   pub ids : (id : ℕ) → has new.inbound.rows id ≡ true → (has old.inbound.rows id ≡ true) ⊎ (frame.id ≡ id)
+  pub alone : is_some farewell ≡ true → nat_lt most_untaken new.untaken ≡ true → due_by due ≡ Nothing
 
 -- The frame is an error of the connection with this code. Nothing is put out yet, and all that the end needs is as it was.
 pub record IsFatalFrame (setup : Setup) (old : View) (outputs : List Output) (frame : Frame) (code : ℕ) (new : View) (put_out : List Output) : Type 0 where

@@ -1,5 +1,6 @@
 -- What is kept where the gateway replies to a stream itself, since its upstream's answer failed, and what is put out then.
-use Rattle.std.specs.Prelude.{◌≡◌, ℕ, ◌+◌, Bool, true, false, List, length, map, Option, Some, None}
+use Rattle.std.specs.Prelude.{◌≡◌, ℕ, ◌+◌, Bool, true, false, nat_lt, List, length, map, Option, Some, None}
+use Rattle.model.specs.Admission.{most_untaken}
 use Rattle.model.specs.Frames.{spell, internal_error}
 use Rattle.model.specs.Causes.Cause.{BadAnswer}
 use Rattle.model.specs.ErrorClause.{rst_stream}
@@ -69,6 +70,7 @@ pub record IsGivenUp (stream : ℕ) (old : View) (outputs : List Output) (back :
   pub kept : new ≡ reset_if (is_cut_then stream old) stream (replied_to stream old)
   pub puts : put_out ≡ put_if (is_cut_then stream old) stream outputs
   pub back_is : back ≡ given_if (is_cut_then stream old) stream old
+  pub few : is_cut_then stream old ≡ true → nat_lt most_untaken old.untaken ≡ false
 
 -- all that is kept, without a connection: what goes out there is dropped
 abbrev pub closed_at : ℕ → View → View
@@ -96,3 +98,4 @@ pub record IsAbandoned (k stream : ℕ) (old : View) (outputs : List Output) (ba
   pub kept : new ≡ abandoned_if (is_cut_then stream old) k stream old
   pub puts : put_out ≡ put_abandoned (is_cut_then stream old) k stream outputs
   pub back_is : back ≡ back_if (is_cut_then stream old) stream old
+  pub few : is_cut_then stream old ≡ true → nat_lt most_untaken old.untaken ≡ false

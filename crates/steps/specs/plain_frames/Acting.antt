@@ -1,5 +1,6 @@
 -- What is done by the judgement's answer, from what is kept behind the judgement.
-use Rattle.std.specs.Prelude.{◌≡◌, ◌≤◌, ◌+◌, ℕ, Bool, true, false, not, ◌&&◌, List, [], ◌∷◌, length}
+use Rattle.std.specs.Prelude.{◌≡◌, ◌≤◌, ◌+◌, ℕ, Bool, true, false, not, ◌&&◌, nat_lt, List, [], ◌∷◌, length}
+use Rattle.model.specs.Admission.{most_untaken}
 use Rattle.model.specs.Frames.{Frame, spell, settings_ack, enhance_your_calm}
 use Rattle.model.specs.Logs.{Output}
 use Rattle.model.specs.Logs.Output.{ToClient}
@@ -22,6 +23,7 @@ use Rattle.judgement.specs.declared.answers.Judged.TheVariants as judged
 use Rattle.upstreams.specs.Requests.{due_by, MayTakeOf, Takes}
 use Rattle.relay.specs.View.{View, Pending, waiting_for}
 use Rattle.relay.specs.Bringing.{PerformsOwn}
+use Rattle.steps.specs.Stopping.{IsCalmed, reset_marked}
 use Rattle.steps.specs.plain_frames.Kept.{forgotten, limited}
 use Rattle.steps.specs.declared.plain_frames.taking.Taken.{Taken}
 use Rattle.steps.specs.declared.plain_frames.taking.Taken.TheVariants as taken
@@ -57,6 +59,7 @@ pub record IsReset (id code : ℕ) (old : View) (outputs : List Output) (answer 
   pub goes : Goes Nothing (waiting_for id old) answer
   pub kept : new ≡ record (forgotten id old) { untaken = old.untaken + length (spell (rst_stream id code)) }
   pub puts : put_out ≡ put outputs (ToClient (spell (rst_stream id code)))
+  pub few : nat_lt most_untaken old.untaken ≡ false
 
 -- Nothing is kept any more of a stream that the client reset.
 pub record IsForgotten (id : ℕ) (old : View) (outputs : List Output) (answer : Taken) (new : View) (put_out : List Output) : Type 0 where
@@ -102,6 +105,14 @@ IsActed on id judged.Reset old outputs answer new put_out = IsForgotten id old o
 IsActed on id (judged.Content octets ends) old outputs answer new put_out = IsContentIf on ends id octets.now old outputs answer new put_out
 IsActed on id judged.LargeBody old outputs answer new put_out = IsRepliedBy (find old.inbound.rows id).head_out id old outputs answer new put_out
 IsActed on id other old outputs answer new put_out = IsLeft old outputs answer new put_out
+
+-- A frame beside responses is called for, and the connection was ended in its place.
+abbrev pub IsStopped : ℕ → Judged → View → List Output → List Output → Type 0
+IsStopped id (judged.Failed (fault.Stream code)) old outputs put_out = IsCalmed old outputs put_out
+IsStopped id (judged.Settings change) old outputs put_out = IsCalmed old outputs put_out
+IsStopped id (judged.Ping octets) old outputs put_out = IsCalmed old outputs put_out
+IsStopped id judged.LargeBody old outputs put_out = ((find old.inbound.rows id).head_out ≡ true) × IsCalmed (reset_marked id old) outputs put_out
+IsStopped id other old outputs put_out = ⊥
 
 -- What has to be so: octets of a PING fit a frame, octets of a body may come of what is held of its request, and the gateway replies to an active stream alone.
 abbrev pub MayAct : Bool → ℕ → Judged → View → Type 0

@@ -1,6 +1,7 @@
 //! What is done behind the judgement of a frame.
 
-ghost use Rattle.std.specs.Prelude.{◌≡◌, ◌+◌, ◌<◌, true, length, if◌then◌else◌, IfOk, OnOk};
+ghost use Rattle.std.specs.Prelude.{◌≡◌, ◌+◌, ◌<◌, true, false, nat_lt, length, if◌then◌else◌, IfErr, IfOk, OnOk};
+ghost use Rattle.model.specs.Admission.{most_untaken};
 ghost use Rattle.model.specs.Frames.{spell};
 ghost use Rattle.model.specs.ErrorClause.{rst_stream};
 ghost use Rattle.model.specs.Logs.Output.{ToClient};
@@ -10,9 +11,11 @@ ghost use Rattle.streams_kept.specs.Asked.{is_active};
 ghost use Rattle.receiving.specs.Marks.{total};
 ghost use Rattle.marks_kept.specs.Sides.{queue_of};
 ghost use Rattle.relay.specs.View.{waiting_for};
-ghost use Rattle.steps.specs.block_frames.Following.{followed, forgotten, dropped_by, farewell_behind, held_if, marks_if, offers_if, put_farewell, with_farewell, IsNewest};
+ghost use Rattle.steps.specs.Stopping.{IfOver, IsCalmed};
+ghost use Rattle.steps.specs.block_frames.Following.{followed, forgotten, dropped_by, farewell_behind, held_if, marks_if, offers_if, put_farewell, with_farewell, IsCalmedBehind, IsNewest, WasFree};
 
 use crate::paying::{Control, pay};
+use crate::stop::Stop;
 use judgement::Connection;
 use marks_kept::Marks;
 use offers::Offers;
@@ -21,9 +24,6 @@ use relay::Rooms;
 use std::alloc::AllocError;
 use streams_kept::Streams;
 use upstreams::Upstreams;
-
-/// The octets of a RST_STREAM on the wire (RFC 9113, sections 4.1 and 6.4).
-const RESET_OCTETS: u64 = 13;
 
 /// The end of a connection without an error (RFC 9113, section 7).
 const NO_ERROR: u32 = 0;
@@ -116,14 +116,12 @@ pub(crate) fn follow(rooms: &mut Rooms, id: u32) -> Result<u64, AllocError>
     Ok(follow_marks(&mut rooms.marks, id, active))
 }
 
-/// Pays the farewell, where it is owed (RFC 9113, section 6.8). An `Err` says that memory was refused.
-fn pay_farewell(
-    rooms: &mut Rooms,
-    farewell: Option<u32>,
-    out: &mut Outputs,
-) -> Result<(), AllocError>
+/// Pays the farewell, where it is owed (RFC 9113, section 6.8). An `Err` says that memory was refused, or that the connection was ended in its place.
+fn pay_farewell(rooms: &mut Rooms, farewell: Option<u32>, out: &mut Outputs) -> Result<(), Stop>
     ensures kept { OnOk result (rooms.new ≡ with_farewell farewell rooms.old) }
     ensures sent { OnOk result (out.new ≡ put_farewell farewell out.old) }
+    ensures free { OnOk result (WasFree farewell rooms.old) }
+    ensures over { IfErr result (λ stop. IfOver stop (IsCalmed rooms.old out.old out.new)) }
 {
     match farewell {
         Some(last) => pay(
@@ -139,27 +137,24 @@ fn pay_farewell(
 }
 
 /// Sends the reset of a stream behind the farewell, if that is owed; nothing is kept of the stream any more (RFC 9113, section 6.4), and so many
-/// octets that waited of its DATA go back. An `Err` says that memory was refused.
+/// octets that waited of its DATA go back. An `Err` says that memory was refused, or that the connection was ended in place of one of the frames.
 pub(crate) fn reset(
     rooms: &mut Rooms,
     id: u32,
     code: u32,
     farewell: Option<u32>,
     out: &mut Outputs,
-) -> Result<u64, AllocError>
+) -> Result<u64, Stop>
     requires { id < 2147483648 }
     ensures dropped { IfOk result (λ dropped. dropped ≡ waiting_for id rooms.old) }
     ensures kept { OnOk result (rooms.new ≡ record (forgotten id rooms.old) { untaken = (with_farewell farewell rooms.old).untaken + length (spell (rst_stream id code)) }) }
     ensures sent { OnOk result (out.new ≡ put (put_farewell farewell out.old) (ToClient (spell (rst_stream id code)))) }
+    ensures few { OnOk result (nat_lt most_untaken (with_farewell farewell rooms.old).untaken ≡ false) }
+    ensures over { IfErr result (λ stop. IfOver stop (IsCalmedBehind farewell rooms.old out.old out.new)) }
 {
     pay_farewell(rooms, farewell, out)?;
+    pay(rooms, Control::Reset { stream: id, code }, out)?;
     rooms.offers.close(id);
     rooms.upstreams.forget(id);
-    let dropped = rooms.marks.close(id);
-    let Some(untaken) = rooms.untaken.checked_add(RESET_OCTETS) else {
-        return Err(AllocError);
-    };
-    rooms.untaken = untaken;
-    out.send_rst_stream(id, code)?;
-    Ok(dropped)
+    Ok(rooms.marks.close(id))
 }

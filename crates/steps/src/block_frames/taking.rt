@@ -1,6 +1,6 @@
 //! A frame of the client with a fragment of a header block is taken.
 
-ghost use Rattle.std.specs.Prelude.{◌≡◌, ◌≤◌, ◌<◌, true, [], length, IfOk};
+ghost use Rattle.std.specs.Prelude.{◌≡◌, ◌≤◌, ◌<◌, true, [], ◌∷◌, None, length, IfErr, IfOk};
 ghost use Rattle.model.specs.Causes.{reset_code};
 ghost use Rattle.model.specs.Setup.{Setup};
 ghost use Rattle.causes.specs.Views.{cause_of};
@@ -13,11 +13,16 @@ ghost use Rattle.serving.specs.State.{held_of, is_streaming};
 ghost use Rattle.upstreams.specs.Requests.{MayTakeOf};
 ghost use Rattle.relay.specs.View.{square};
 ghost use Rattle.relay.specs.Rest.{IsAtRest, Reached};
-ghost use Rattle.steps.specs.block_frames.Following.{IsNewest};
-ghost use Rattle.steps.specs.block_frames.Acting.{HasBegun, HasEnded, IsActed, IsFollowed, IsReplied, IsReset, MayAct, MayBegin};
+ghost use Rattle.steps.specs.Comings.{ComesFrom};
+ghost use Rattle.steps.specs.Inputs.Input.{OfFrame};
+ghost use Rattle.steps.specs.Stopping.{IfOver};
+ghost use Rattle.steps.specs.block_frames.Following.{IsCalmedBehind, IsNewest};
+ghost use Rattle.steps.specs.block_frames.Acting.{HasBegun, HasEnded, IsActed, IsCutShort, IsFollowed, IsReplied, IsReset, IsStopped, MayAct, MayBegin};
 ghost use Rattle.steps.specs.block_frames.Taken.{IsBlockTaken};
 
 use crate::block_frames::doing::{farewell_behind, follow, has_ended, head_out, reset};
+use crate::crowding::is_crowded;
+use crate::stop::Stop;
 use causes::Cause;
 use frames::View;
 use header_blocks::Field;
@@ -69,9 +74,10 @@ pub(crate) fn refuse(
     code: u32,
     farewell: Option<u32>,
     out: &mut Outputs,
-) -> Result<BlockTaken, AllocError>
+) -> Result<BlockTaken, Stop>
     requires { id < 2147483648 }
-    ensures { IfOk result (λ taken. IsReset id code farewell rooms.old out.old taken rooms.new out.new) }
+    ensures taken { IfOk result (λ taken. IsReset id code farewell rooms.old out.old taken rooms.new out.new) }
+    ensures over { IfErr result (λ stop. IfOver stop (IsCalmedBehind farewell rooms.old out.old out.new)) }
 {
     let dropped = reset(rooms, id, code, farewell, out)?;
     Ok(BlockTaken::Goes {
@@ -112,11 +118,12 @@ fn reply(
     cause: Cause,
     farewell: Option<u32>,
     out: &mut Outputs,
-) -> Result<BlockTaken, AllocError>
+) -> Result<BlockTaken, Stop>
     requires newest { IsNewest (is_active rooms.old.inbound.rows id) id rooms.old.offers }
     requires live { is_active rooms.old.inbound.rows id ≡ true }
     requires of_stream { id < 2147483648 }
-    ensures { IfOk result (λ taken. IsReplied (find rooms.old.inbound.rows id).head_out (reset_code (cause_of cause)) id (cause_of cause) farewell rooms.old out.old taken rooms.new out.new) }
+    ensures taken { IfOk result (λ taken. IsReplied (find rooms.old.inbound.rows id).head_out (reset_code (cause_of cause)) id (cause_of cause) farewell rooms.old out.old taken rooms.new out.new) }
+    ensures over { IfErr result (λ stop. IfOver stop (IsCutShort (find rooms.old.inbound.rows id).head_out (reset_code (cause_of cause)) id farewell rooms.old out.old out.new)) }
 {
     if head_out(&rooms.inbound, id) {
         if let Some(code) = cause.reset_code() {
@@ -160,47 +167,50 @@ fn act(
     answer: BlockJudged,
     farewell: Option<u32>,
     out: &mut Outputs,
-) -> Result<BlockTaken, AllocError>
+) -> Result<BlockTaken, Stop>
     requires newest { IsNewest (is_active rooms.old.inbound.rows id) id rooms.old.offers }
     requires may { MayAct id answer rooms.old }
     requires of_stream { id < 2147483648 }
-    ensures { IfOk result (λ taken. IsActed id at_once answer farewell rooms.old out.old taken rooms.new out.new) }
+    ensures taken { IfOk result (λ taken. IsActed id at_once answer farewell rooms.old out.old taken rooms.new out.new) }
+    ensures over { IfErr result (λ stop. IfOver stop (IsStopped id answer farewell rooms.old out.old out.new)) }
 {
     match answer {
         BlockJudged::Failed(Fault::Connection(code)) => Ok(BlockTaken::Fatal(code)),
         BlockJudged::Failed(Fault::Stream(code)) => refuse(rooms, id, code, farewell, out),
         BlockJudged::Begins { head, route } => {
-            begin(rooms, id, &head, route, at_once, farewell, out)
+            Ok(begin(rooms, id, &head, route, at_once, farewell, out)?)
         },
         BlockJudged::Answered(cause) => reply(rooms, id, cause, farewell, out),
-        BlockJudged::Trailers(trailers) => finish(rooms, id, &trailers, farewell, out),
+        BlockJudged::Trailers(trailers) => Ok(finish(rooms, id, &trailers, farewell, out)?),
         BlockJudged::Failed(Fault::Discarded) | BlockJudged::GoesOn | BlockJudged::Ignored => {
-            pass(rooms, id, farewell, out)
+            Ok(pass(rooms, id, farewell, out)?)
         }
     }
 }
 
 /// Takes a frame of the client that has a fragment of a header block: HEADERS or CONTINUATION. Its stream is reset where it is in error, or where it is
 /// too late to reply (RFC 9113, section 5.4.2); then the farewell goes before that, if it is owed. A request goes out at once, before its body came, where
-/// bodies are passed on as they come. An `Err` says that memory was refused; then
-/// neither the rooms nor the outputs are of use any more.
+/// bodies are passed on as they come. An `Err` says that memory was refused, or that the connection was ended in place of such a frame; then neither
+/// the rooms nor, in the first case, the outputs are of use any more.
 pub fn take_block(
     rooms: &mut Rooms,
     view: View<'_>,
     terms: Terms<'_>,
     at_once: bool,
     out: &mut Outputs,
-) -> Result<BlockTaken, AllocError>
+) -> Result<BlockTaken, Stop>
     requires kind { IsOfBlock (frame_of view) }
     requires short { length view.payload.now ≤ 16384 }
     requires few { length terms.routes.now ≤ u32.MAX }
     requires of_stream { view.id < 2147483648 }
     requires rest { IsAtRest rooms.old }
     requires reached { (setup : Setup) × IsFor setup terms × (at_once ≡ is_streaming setup.passing) × Reached setup rooms.old square }
-    ensures { IfOk result (λ taken. (setup : Setup) → IsFor setup terms.entry → at_once ≡ is_streaming setup.passing → IsBlockTaken setup rooms.old out.old (frame_of view.entry) taken rooms.new out.new) }
+    ensures taken { IfOk result (λ taken. (setup : Setup) → IsFor setup terms.entry → at_once ≡ is_streaming setup.passing → IsBlockTaken setup rooms.old out.old (frame_of view.entry) taken rooms.new out.new) }
+    ensures over { IfErr result (λ stop. IfOver stop ((setup : Setup) → IsFor setup terms.entry → at_once ≡ is_streaming setup.passing → ComesFrom setup rooms.old square out.old (OfFrame (frame_of view.entry) ∷ []) square None out.new)) }
 {
     let before = rooms.inbound.streams().count();
-    let answer = rooms.inbound.judge_fragment(view, terms)?;
+    let crowded = is_crowded(rooms);
+    let answer = rooms.inbound.judge_fragment(view, crowded, terms)?;
     let farewell = farewell_behind(before, rooms.inbound.streams());
     act(rooms, view.id, at_once, answer, farewell, out)
 }

@@ -1,6 +1,8 @@
 //! Connections are closed.
 
-ghost use Rattle.std.specs.Prelude.{◌≡◌, ℕ, List, ◌∷◌, reverse, true, OnOk};
+ghost use Rattle.std.specs.Prelude.{◌≡◌, ℕ, List, ◌∷◌, reverse, true, nat_lt, if◌then◌else◌, OnOk};
+ghost use Rattle.model.specs.Admission.{most_untaken};
+ghost use Rattle.model.specs.Frames.{enhance_your_calm};
 ghost use Rattle.model.specs.Setup.{Setup};
 ghost use Rattle.model.specs.Logs.Act.{CloseClient};
 ghost use Rattle.model.specs.Tapes.Entry.{Did};
@@ -12,23 +14,51 @@ ghost use Rattle.relay.specs.View.{View, square, Leads};
 ghost use Rattle.relay.specs.Performing.{put_all};
 ghost use Rattle.relay.specs.Rest.{told_view};
 ghost use Rattle.steps.specs.ending.Closing.{IsShut};
+ghost use Rattle.steps.specs.Stopping.{calmed};
 ghost use Rattle.steps.specs.ending.Reasons.{IsBy};
 
+use crate::crowding::is_crowded;
 use crate::ending::reason::Ending;
 use outputs::Outputs;
 use relay::Rooms;
 use std::alloc::AllocError;
 use upstreams::Upstreams;
 
-/// Ends a connection with what came in: it says farewell where that is an error, with the highest stream and the code (RFC 9113, section 6.8),
-/// and closes each open connection to an upstream, by rising number, and the client's. What is kept is of no use behind it, whatever it answers. An `Err` says
+/// The client asks for too much (RFC 9113, section 7).
+const ENHANCE_YOUR_CALM: u32 = 11;
+
+/// Ends a connection with what came in: it says farewell where that is an error, with the highest stream and the code (RFC 9113, section 6.8), which
+/// asks the client to be calm where more than 1,048,576 octets for it are untaken, whatever the error is, and closes each open connection to an upstream,
+/// by rising number, and the client's. What is kept is of no use behind it, whatever it answers. An `Err` says
 /// that memory was refused.
 pub fn end(rooms: &mut Rooms, why: Ending, out: &mut Outputs) -> Result<(), AllocError>
-    ensures { OnOk result ((setup : Setup) (run : List Move) (s : State) (before : View) (d : Deed) → before.upstreams ≡ rooms.old.upstreams → before.inbound.rows ≡ rooms.old.inbound.rows → Leads setup run before square s → IsBy s why d → out.new ≡ put_all out.old (ending_on_tape s d)) }
+    ensures { OnOk result ((setup : Setup) (run : List Move) (s : State) (before : View) (d : Deed) → before.upstreams ≡ rooms.old.upstreams → before.inbound.rows ≡ rooms.old.inbound.rows → before.untaken ≡ rooms.old.untaken → Leads setup run before square s → IsBy s why d → out.new ≡ put_all out.old (ending_on_tape s d)) }
 {
     if let Some(code) = why.code() {
+        let code = farewell_code(rooms, code);
         out.send_goaway(rooms.inbound.streams().highest(), code)?;
     }
+    close_all(&rooms.upstreams, out)
+}
+
+/// The code of the farewell of an error.
+fn farewell_code(rooms: &Rooms, code: u32) -> u32
+    ensures { result ≡ (if nat_lt most_untaken rooms.now.untaken then enhance_your_calm else code) }
+{
+    if is_crowded(rooms) {
+        ENHANCE_YOUR_CALM
+    } else {
+        code
+    }
+}
+
+/// Ends a connection in place of a frame, since too many octets for the client are untaken: it asks the client to be calm (RFC 9113, section 7), and closes
+/// each open connection to an upstream, by rising number, and the client's. What is kept is of no use behind it, whatever it answers. An `Err` says that
+/// memory was refused.
+pub(crate) fn calm(rooms: &mut Rooms, out: &mut Outputs) -> Result<(), AllocError>
+    ensures { OnOk result (out.new ≡ put_all out.old (calmed rooms.old)) }
+{
+    out.send_goaway(rooms.inbound.streams().highest(), ENHANCE_YOUR_CALM)?;
     close_all(&rooms.upstreams, out)
 }
 

@@ -1,6 +1,6 @@
 //! Upstreams are heard: octets of one, the end of its connection, and its failure.
 
-ghost use Rattle.std.specs.Prelude.{◌≡◌, ℕ, ◌<◌, ◌≤◌, true, length, IfSome, IfOk, OnOk, is_some};
+ghost use Rattle.std.specs.Prelude.{◌≡◌, ℕ, ◌<◌, ◌≤◌, true, [], ◌∷◌, None, length, IfSome, IfErr, IfOk, OnOk, is_some};
 ghost use Rattle.model.specs.Logs.Event.{Up, UpEnd, UpFailed};
 ghost use Rattle.model.specs.Setup.{Setup};
 ghost use Rattle.model.specs.Tapes.Entry.{Happened};
@@ -11,25 +11,30 @@ ghost use Rattle.relay.specs.View.{square};
 ghost use Rattle.relay.specs.Rest.{IsAtRest, NoneCut, Reached, back_of};
 ghost use Rattle.relay.specs.Bringing.{Brings};
 ghost use Rattle.steps.specs.Closings.{NoneDoneBut};
+ghost use Rattle.steps.specs.Comings.{ComesFrom};
+ghost use Rattle.steps.specs.Inputs.Input.{OfEvent};
+ghost use Rattle.steps.specs.Stopping.{IfOver};
 
 use crate::exchanges::failing::give_up;
 use crate::exchanges::listening::{abandon, close, stream_of, take_end, take_octets};
+use crate::stop::Stop;
 use answers::{Ended, Heard};
 use outputs::Outputs;
 use relay::Rooms;
-use std::alloc::{AllocError, Global};
+use std::alloc::Global;
 
 /// Octets came of the upstream whose open connection has this number, at most 65,536 of them: what is news of its response is on offer. Where
 /// that is whole with them the connection is closed; where it fails with them (RFC 9110, section 15.6.3) it is too, and the gateway replies itself, or
 /// resets the stream, whose connection is closed once octets of its DATA that waited are given back: so many are the answer, as from each
-/// call here. An `Err` says that memory was refused; then neither the rooms nor the outputs are of use any more.
+/// call here. An `Err` says that memory was refused, or that the connection was ended in place of that reset; then neither the rooms nor, in the first
+/// case, the outputs are of use any more.
 pub fn hear(
     alloc: Global,
     rooms: &mut Rooms,
     k: u32,
     octets: &[u8],
     out: &mut Outputs,
-) -> Result<u64, AllocError>
+) -> Result<u64, Stop>
     requires opened { is_some (find number_of k rooms.old.upstreams.live) ≡ true }
     requires short { length octets.now ≤ 65536 }
     requires rest { IsAtRest rooms.old }
@@ -39,6 +44,7 @@ pub fn hear(
     ensures none_cut { OnOk result (NoneCut rooms.new.offers) }
     ensures none_but { OnOk result (IfSome (find number_of k rooms.old.upstreams.live) (λ connection. NoneDoneBut connection.live.stream rooms.new)) }
     ensures numbered { OnOk result ((id : ℕ) → has rooms.new.inbound.rows id ≡ true → id < 2147483648) }
+    ensures over { IfErr result (λ stop. IfOver stop ((setup : Setup) → ComesFrom setup rooms.old square out.old (OfEvent (Up k octets.now) ∷ []) square None out.new)) }
 {
     let stream = stream_of(rooms, k);
     match take_octets(alloc, rooms, k, octets)? {
@@ -54,7 +60,7 @@ pub fn hear(
 
 /// The upstream ended the open connection with this number (RFC 9112, section 8): its response is whole with that, and it is closed, or else
 /// fails.
-pub fn end(alloc: Global, rooms: &mut Rooms, k: u32, out: &mut Outputs) -> Result<u64, AllocError>
+pub fn end(alloc: Global, rooms: &mut Rooms, k: u32, out: &mut Outputs) -> Result<u64, Stop>
     requires opened { is_some (find number_of k rooms.old.upstreams.live) ≡ true }
     requires rest { IsAtRest rooms.old }
     requires numbered { (id : ℕ) → has rooms.old.inbound.rows id ≡ true → id < 2147483648 }
@@ -63,6 +69,7 @@ pub fn end(alloc: Global, rooms: &mut Rooms, k: u32, out: &mut Outputs) -> Resul
     ensures none_cut { OnOk result (NoneCut rooms.new.offers) }
     ensures none_but { OnOk result (IfSome (find number_of k rooms.old.upstreams.live) (λ connection. NoneDoneBut connection.live.stream rooms.new)) }
     ensures numbered { OnOk result ((id : ℕ) → has rooms.new.inbound.rows id ≡ true → id < 2147483648) }
+    ensures over { IfErr result (λ stop. IfOver stop ((setup : Setup) → ComesFrom setup rooms.old square out.old (OfEvent (UpEnd k) ∷ []) square None out.new)) }
 {
     let stream = stream_of(rooms, k);
     match take_end(alloc, rooms, k)? {
@@ -76,7 +83,7 @@ pub fn end(alloc: Global, rooms: &mut Rooms, k: u32, out: &mut Outputs) -> Resul
 }
 
 /// The open connection with this number failed, and is gone: its response fails with it.
-pub fn fail(rooms: &mut Rooms, k: u32, out: &mut Outputs) -> Result<u64, AllocError>
+pub fn fail(rooms: &mut Rooms, k: u32, out: &mut Outputs) -> Result<u64, Stop>
     requires opened { is_some (find number_of k rooms.old.upstreams.live) ≡ true }
     requires rest { IsAtRest rooms.old }
     requires numbered { (id : ℕ) → has rooms.old.inbound.rows id ≡ true → id < 2147483648 }
@@ -85,6 +92,7 @@ pub fn fail(rooms: &mut Rooms, k: u32, out: &mut Outputs) -> Result<u64, AllocEr
     ensures none_cut { OnOk result (NoneCut rooms.new.offers) }
     ensures none_but { OnOk result (IfSome (find number_of k rooms.old.upstreams.live) (λ connection. NoneDoneBut connection.live.stream rooms.new)) }
     ensures numbered { OnOk result ((id : ℕ) → has rooms.new.inbound.rows id ≡ true → id < 2147483648) }
+    ensures over { IfErr result (λ stop. IfOver stop ((setup : Setup) → ComesFrom setup rooms.old square out.old (OfEvent (UpFailed k) ∷ []) square None out.new)) }
 {
     let stream = stream_of(rooms, k);
     rooms.upstreams.close(k);

@@ -1,6 +1,6 @@
 //! What comes of an upstream goes to its answer, and what is news of that is on offer.
 
-ghost use Rattle.std.specs.Prelude.{◌≡◌, ◌<◌, true, IfSome, IfOk, OnOk, is_some};
+ghost use Rattle.std.specs.Prelude.{◌≡◌, ◌<◌, true, IfSome, IfErr, IfOk, OnOk, is_some};
 ghost use Rattle.model.specs.Logs.Act.{Close};
 ghost use Rattle.model.specs.Logs.Output.{Does};
 ghost use Rattle.model.specs.Tapes.{put};
@@ -8,10 +8,12 @@ ghost use Rattle.offers.specs.Asked.{is_kept};
 ghost use Rattle.serving.specs.State.{find};
 ghost use Rattle.streams_kept.specs.Asked.{is_active};
 ghost use Rattle.upstreams.specs.Connections.{number_of};
-ghost use Rattle.steps.specs.exchanges.Giving.{closed_at, IsAbandoned};
+ghost use Rattle.steps.specs.Stopping.{IfOver, IsCalmed};
+ghost use Rattle.steps.specs.exchanges.Giving.{closed_at, is_cut_then, replied_to, IsAbandoned};
 ghost use Rattle.steps.specs.exchanges.Taking.{AreTaken, IsEndTaken};
 
 use crate::exchanges::failing::give_up;
+use crate::stop::Stop;
 use answers::{Answer, Ended, Heard, Passing};
 use outputs::Outputs;
 use relay::Rooms;
@@ -72,16 +74,17 @@ pub(crate) fn close(rooms: &mut Rooms, k: u32, out: &mut Outputs) -> Result<(), 
 
 /// Gives up the stream of the connection whose answer failed. Where the gateway replies, the connection is closed at once. Where the stream is reset
 /// it isn't closed yet, since the octets of its DATA that waited go back before that: so many are the answer. An `Err` says that memory was
-/// refused.
+/// refused, or that the connection was ended in place of the reset.
 pub(crate) fn abandon(
     rooms: &mut Rooms,
     k: u32,
     stream: u32,
     out: &mut Outputs,
-) -> Result<u64, AllocError>
+) -> Result<u64, Stop>
     requires live { is_active rooms.old.inbound.rows stream ≡ true }
     requires numbered { stream < 2147483648 }
-    ensures { IfOk result (λ back. IsAbandoned k stream rooms.old out.old back rooms.new out.new) }
+    ensures given { IfOk result (λ back. IsAbandoned k stream rooms.old out.old back rooms.new out.new) }
+    ensures over { IfErr result (λ stop. IfOver stop ((is_cut_then stream rooms.old ≡ true) × IsCalmed (replied_to stream rooms.old) out.old out.new)) }
 {
     match give_up(rooms, stream, out)? {
         Some(waiting) => Ok(waiting),

@@ -1,16 +1,19 @@
 //! The next part of a stream's response goes out, and what is left of it is kept.
 
-ghost use Rattle.std.specs.Prelude.{◌≡◌, ◌+◌, ◌*◌, ◌-◌, ◌/◌, ◌<◌, ◌≤◌, ◌^◌, true, false, ◌≤ℤ◌, pos, IfOk, OnOk};
-ghost use Rattle.model.specs.Admission.{high_water};
+ghost use Rattle.std.specs.Prelude.{◌≡◌, ◌+◌, ◌*◌, ◌-◌, ◌/◌, ◌<◌, ◌≤◌, ◌^◌, true, false, nat_lt, ◌≤ℤ◌, pos, IfErr, IfOk, OnOk};
+ghost use Rattle.model.specs.Admission.{high_water, most_untaken};
 ghost use Rattle.conduct.specs.Judging.{window_in};
 ghost use Rattle.conduct.specs.Rows.{find};
 ghost use Rattle.offering.specs.State.{are_open, can_turn};
 ghost use Rattle.streams_kept.specs.Asked.{is_active};
 ghost use Rattle.offers.specs.Asked.{are_trailers, is_head, part_for, windows_over};
 ghost use Rattle.relay.specs.View.{waiting_for};
+ghost use Rattle.steps.specs.Stopping.{IfOver, IsCalmed};
 ghost use Rattle.steps.specs.flushing.Changes.{ended, put_at_end, AreTrailersSent, IsHeadPart, IsHeadSent, AreOctetsSent, IsPartSent};
 ghost use Rattle.steps.specs.flushing.Next.{IsNext};
 
+use crate::paying::{Control, pay};
+use crate::stop::Stop;
 use judgement::Connection;
 use offers::Offers;
 use outbox::Part;
@@ -23,9 +26,6 @@ const LONGEST: usize = 16384;
 
 /// The octets of a frame's header (RFC 9113, section 4.1).
 const HEADER: u64 = 9;
-
-/// The octets of RST_STREAM's payload (RFC 9113, section 6.4).
-const CODE: u64 = 4;
 
 /// The error code NO_ERROR (RFC 9113, section 7).
 const NO_ERROR: u32 = 0;
@@ -203,17 +203,22 @@ pub fn send_part(
 }
 
 /// A stream is over that the gateway ended: where the client hasn't ended it, it is reset (RFC 9113, section 8.1). Nothing is on offer for it any
-/// more, and nothing is held of its request; so many octets that waited of its DATA go back. An `Err` says that memory was refused.
-pub fn end_stream(rooms: &mut Rooms, id: u32, out: &mut Outputs) -> Result<u64, AllocError>
+/// more, and nothing is held of its request; so many octets that waited of its DATA go back. An `Err` says that memory was refused, or that the connection was ended in
+/// place of the reset.
+pub fn end_stream(rooms: &mut Rooms, id: u32, out: &mut Outputs) -> Result<u64, Stop>
     requires small { id < 2147483648 }
-    requires room { rooms.old.untaken + 13 < 2 ^ 64 }
     ensures dropped { IfOk result (λ dropped. dropped ≡ waiting_for id rooms.old) }
     ensures kept { OnOk result (rooms.new ≡ ended id rooms.old) }
     ensures puts { OnOk result (out.new ≡ put_at_end id rooms.old out.old) }
+    ensures few { OnOk result (is_active rooms.old.inbound.rows id ≡ true → nat_lt most_untaken rooms.old.untaken ≡ false) }
+    ensures over { IfErr result (λ stop. IfOver stop ((is_active rooms.old.inbound.rows id ≡ true) × IsCalmed rooms.old out.old out.new)) }
 {
     if rooms.inbound.streams().find(id).is_some() {
-        out.send_rst_stream(id, NO_ERROR)?;
-        rooms.untaken += HEADER + CODE;
+        let control = Control::Reset {
+            stream: id,
+            code: NO_ERROR,
+        };
+        pay(rooms, control, out)?;
         rooms.inbound.sent_reset(id);
     }
     rooms.offers.close(id);

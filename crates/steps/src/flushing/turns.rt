@@ -1,6 +1,6 @@
 //! Streams have their turns, as long as something can go.
 
-ghost use Rattle.std.specs.Prelude.{◌≡◌, ℕ, ◌<◌, true, Some, OnOk};
+ghost use Rattle.std.specs.Prelude.{◌≡◌, ℕ, ◌<◌, true, Some, IfErr, OnOk};
 ghost use Rattle.model.specs.Admission.{high_water};
 ghost use Rattle.model.specs.Setup.{Setup};
 ghost use Rattle.model.specs.Turns.{IsNextTurn};
@@ -8,19 +8,21 @@ ghost use Rattle.offering.specs.State.{ready};
 ghost use Rattle.streams_kept.specs.Asked.{has};
 ghost use Rattle.offers.specs.Asked.{windows_over};
 ghost use Rattle.relay.specs.Rest.{NoneCut, NoneDone, IsFlushed, Reached, back_of, IsBack, PerformsBack};
+ghost use Rattle.steps.specs.Stopping.{IfOver, EndsBack};
 
 use crate::flushing::parts::{end_stream, send_part};
 use crate::paying::{close_unserved, return_dropped};
+use crate::stop::Stop;
 use outputs::Outputs;
 use relay::Rooms;
-use std::alloc::{AllocError, Global};
+use std::alloc::Global;
 
 /// As long as fewer octets for the client are untaken, parts of responses begin (this project's profile).
 pub const HIGH_WATER: u64 = 65536;
 
 /// Sends the next part of the stream whose turn it is; where that ends the stream, what waited of its DATA goes back, and no connection of it stays
-/// open. An `Err` says that memory was refused.
-fn pass_one(alloc: Global, rooms: &mut Rooms, id: u32, out: &mut Outputs) -> Result<(), AllocError>
+/// open. An `Err` says that memory was refused, or that the connection was ended in place of a frame.
+fn pass_one(alloc: Global, rooms: &mut Rooms, id: u32, out: &mut Outputs) -> Result<(), Stop>
     requires reached { (setup : Setup) × (back : ℕ) × IsBack rooms.old back × Reached setup rooms.old (back_of back) }
     requires none_done { NoneDone rooms.old }
     requires turn { IsNextTurn rooms.old.offers.last (ready (windows_over rooms.old.inbound.rows rooms.old.inbound.first_size rooms.old.inbound.window) rooms.old.offers) (Some id) }
@@ -32,6 +34,7 @@ fn pass_one(alloc: Global, rooms: &mut Rooms, id: u32, out: &mut Outputs) -> Res
     ensures none_done { OnOk result (NoneDone rooms.new) }
     ensures numbered { OnOk result ((id : ℕ) → has rooms.new.inbound.rows id ≡ true → id < 2147483648) }
     ensures more { OnOk result (rooms.old.untaken < rooms.new.untaken) }
+    ensures over { IfErr result (λ stop. IfOver stop (EndsBack rooms.old out.old out.new)) }
 {
     let ends = send_part(alloc, rooms, id, out)?;
     if ends {
@@ -55,8 +58,9 @@ pub fn next_turn(rooms: &Rooms) -> Option<u32>
 
 /// Sends the parts of responses that can go, each stream in its turn, while fewer than 65,536 octets for the client are untaken (RFC 9113, sections
 /// 5.1, 6.9.1 and 8.1). A stream whose response ends before its request did is reset. Nothing is on offer any more for a stream that is over, and nothing
-/// held of its request, and no connection of it is open. An `Err` says that memory was refused; then the rooms and the outputs are of no use any more.
-pub fn flush(alloc: Global, rooms: &mut Rooms, out: &mut Outputs) -> Result<(), AllocError>
+/// held of its request, and no connection of it is open. An `Err` says that memory was refused, or that the connection was ended in place of a frame; then
+/// the rooms and, in the first case, the outputs are of no use any more.
+pub fn flush(alloc: Global, rooms: &mut Rooms, out: &mut Outputs) -> Result<(), Stop>
     requires reached { (setup : Setup) × (back : ℕ) × IsBack rooms.old back × Reached setup rooms.old (back_of back) }
     requires none_cut { NoneCut rooms.old.offers }
     requires none_done { NoneDone rooms.old }
@@ -66,6 +70,7 @@ pub fn flush(alloc: Global, rooms: &mut Rooms, out: &mut Outputs) -> Result<(), 
     ensures none_cut { OnOk result (NoneCut rooms.new.offers) }
     ensures none_done { OnOk result (NoneDone rooms.new) }
     ensures numbered { OnOk result ((id : ℕ) → has rooms.new.inbound.rows id ≡ true → id < 2147483648) }
+    ensures over { IfErr result (λ stop. IfOver stop (EndsBack rooms.old out.old out.new)) }
 {
     while rooms.untaken < HIGH_WATER {
         let Some(id) = next_turn(rooms) else {

@@ -1,22 +1,28 @@
-//! A control frame that is owed is sent.
+//! A frame beside responses is sent: all of them here, so that it is asked once whether too many octets are untaken for it.
 
-ghost use Rattle.std.specs.Prelude.{◌≡◌, ◌+◌, ◌∷◌, List, length, OnOk};
-ghost use Rattle.model.specs.Frames.{Frame, spell};
+ghost use Rattle.std.specs.Prelude.{◌≡◌, ◌+◌, ◌∷◌, List, length, false, nat_lt, IfErr, OnOk};
+ghost use Rattle.model.specs.Admission.{most_untaken};
+ghost use Rattle.model.specs.Frames.{Frame, spell, settings_frame};
 ghost use Rattle.model.specs.Setup.{Setup};
 ghost use Rattle.model.specs.Logs.Output.{ToClient};
 ghost use Rattle.model.specs.Tapes.{put};
+ghost use Rattle.serving.specs.State.Due.{Nothing};
 ghost use Rattle.relay.specs.View.{Pending};
 ghost use Rattle.relay.specs.Bringing.{PerformsOwn};
-ghost use Rattle.steps.specs.paying.Controls.{frame_of, IsShort, MayPay};
+ghost use Rattle.steps.specs.Stopping.{IfOver, IsCalmed};
+ghost use Rattle.steps.specs.paying.Controls.{frame_of, IsOwed, IsShort, MayPay};
 
+use crate::crowding::is_crowded;
+use crate::ending::calm;
 use crate::paying::counting::count_untaken;
+use crate::stop::Stop;
 use outputs::Outputs;
 use relay::Rooms;
 use std::alloc::AllocError;
 
-/// A control frame that the gateway owes (RFC 9113, sections 6.5, 6.7 and 6.8).
+/// A frame beside responses (RFC 9113, sections 6.4, 6.5, 6.7, 6.8 and 6.9).
 #[derive(Clone, Copy)]
-pub enum Control<'a> {
+pub(crate) enum Control<'a> {
     /// The gateway's settings.
     Settings,
     /// An acknowledgement of the client's.
@@ -30,6 +36,20 @@ pub enum Control<'a> {
         /// The error code.
         code: u32,
     },
+    /// RST_STREAM.
+    Reset {
+        /// The stream, below 2^31.
+        stream: u32,
+        /// The error code.
+        code: u32,
+    },
+    /// WINDOW_UPDATE.
+    Update {
+        /// The stream, below 2^31, or 0 for the connection.
+        stream: u32,
+        /// How many octets are given back.
+        octets: u32,
+    },
 }
 
 /// How many octets its frame is spelled with (RFC 9113, section 4.1).
@@ -42,6 +62,7 @@ fn spelled_length(control: Control<'_>) -> u64
         Control::SettingsAck => 9,
         Control::PingAck(octets) => 9 + octets.len() as u64,
         Control::Farewell { .. } => 17,
+        Control::Reset { .. } | Control::Update { .. } => 13,
     }
 }
 
@@ -55,16 +76,43 @@ fn put_out(control: Control<'_>, out: &mut Outputs) -> Result<(), AllocError>
         Control::SettingsAck => out.send_settings_ack(),
         Control::PingAck(octets) => out.send_ping_ack(octets),
         Control::Farewell { last, code } => out.send_goaway(last, code),
+        Control::Reset { stream, code } => out.send_rst_stream(stream, code),
+        Control::Update { stream, octets } => out.send_window_update(stream, octets),
     }
 }
 
-/// Sends a control frame that is owed next, where nothing is due to an upstream; a farewell goes before that. An `Err` says that memory was refused; then neither the rooms nor the outputs are of use any more.
-pub fn pay(rooms: &mut Rooms, control: Control<'_>, out: &mut Outputs) -> Result<(), AllocError>
+/// Sends a frame beside responses; nothing is due to an upstream then, unless it is a farewell. Where more than 1,048,576 octets for the client are untaken, the connection is ended in its place, with a
+/// farewell that asks the client to be calm (RFC 9113, section 7).
+///
+/// # Errors
+/// [`Stop::Over`] where it was ended so, [`Stop::Memory`] where memory was refused.
+pub(crate) fn pay(rooms: &mut Rooms, control: Control<'_>, out: &mut Outputs) -> Result<(), Stop>
     requires short { IsShort control }
-    ensures performs { OnOk result ((setup : Setup) (rest : List Frame) (pending : Pending) → pending.owed ≡ frame_of control.entry ∷ rest → MayPay pending.due (frame_of control.entry) → PerformsOwn setup rooms.old pending out.old rooms.new (record pending { owed = rest }) out.new) }
+    ensures performs { OnOk result ((setup : Setup) (rest : List Frame) (pending : Pending) → IsOwed control.entry → pending.owed ≡ frame_of control.entry ∷ rest → MayPay pending.due (frame_of control.entry) → PerformsOwn setup rooms.old pending out.old rooms.new (record pending { owed = rest }) out.new) }
     ensures puts { OnOk result (out.new ≡ put out.old (ToClient (spell (frame_of control.entry)))) }
     ensures counts { OnOk result (rooms.new ≡ record rooms.old { untaken = rooms.old.untaken + length (spell (frame_of control.entry)) }) }
+    ensures few { OnOk result (nat_lt most_untaken rooms.old.untaken ≡ false) }
+    ensures over { IfErr result (λ stop. IfOver stop (IsCalmed rooms.old out.old out.new)) }
 {
+    if is_crowded(rooms) {
+        calm(rooms, out)?;
+        return Err(Stop::Over);
+    }
     count_untaken(rooms, spelled_length(control))?;
-    put_out(control, out)
+    put_out(control, out)?;
+    Ok(())
+}
+
+/// Sends the gateway's settings, before all else (RFC 9113, section 3.4). An `Err` says that memory was refused.
+pub fn greet(rooms: &mut Rooms, out: &mut Outputs) -> Result<(), AllocError>
+    requires { nat_lt most_untaken rooms.old.untaken ≡ false }
+    ensures performs { OnOk result ((setup : Setup) (rest : List Frame) (pending : Pending) → pending.owed ≡ settings_frame ∷ rest → pending.due ≡ Nothing → PerformsOwn setup rooms.old pending out.old rooms.new (record pending { owed = rest }) out.new) }
+    ensures puts { OnOk result (out.new ≡ put out.old (ToClient (spell settings_frame))) }
+    ensures counts { OnOk result (rooms.new ≡ record rooms.old { untaken = rooms.old.untaken + length (spell settings_frame) }) }
+{
+    match pay(rooms, Control::Settings, out) {
+        Ok(()) => Ok(()),
+        Err(Stop::Memory) => Err(AllocError),
+        Err(Stop::Over) => unreachable!(),
+    }
 }

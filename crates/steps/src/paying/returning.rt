@@ -1,6 +1,7 @@
 //! Octets of DATA that came are given back (RFC 9113, section 6.9), at once or once their stream's upstream took what was put out for it.
 
-ghost use Rattle.std.specs.Prelude.{◌≡◌, ◌<◌, ◌≤◌, ℕ, true, IfOk, OnOk, pos, ◌+ℤ◌, ◌≤ℤ◌};
+ghost use Rattle.std.specs.Prelude.{◌≡◌, ◌<◌, ◌≤◌, ℕ, true, false, nat_lt, IfErr, IfOk, OnOk, pos, ◌+ℤ◌, ◌≤ℤ◌};
+ghost use Rattle.model.specs.Admission.{most_untaken};
 ghost use Rattle.model.specs.Frames.{spell};
 ghost use Rattle.model.specs.Setup.{Setup};
 ghost use Rattle.model.specs.Logs.Output.{ToClient};
@@ -14,18 +15,17 @@ ghost use Rattle.outputs.specs.Sent.{window_update};
 ghost use Rattle.relay.specs.View.{square};
 ghost use Rattle.relay.specs.Rest.{GoesOn, Reached, back_of, IsBack};
 ghost use Rattle.relay.specs.Bringing.{PerformsOwn};
+ghost use Rattle.steps.specs.Stopping.{IfOver, IsCalmed, EndsFrom};
 ghost use Rattle.steps.specs.paying.Returning.{back_on, goes_back_on, given_on_connection, given_on_stream, IsReturned};
 
-use crate::paying::counting::count_untaken;
+use crate::paying::control::{Control, pay};
+use crate::stop::Stop;
 use outputs::Outputs;
 use relay::Rooms;
 use std::alloc::AllocError;
 
 /// The most octets that one gives back (RFC 9113, section 6.9).
 const GREATEST: u64 = 2147483647;
-
-/// How many octets a WINDOW_UPDATE is spelled with (RFC 9113, sections 4.1 and 6.9).
-const UPDATE: u64 = 13;
 
 /// Whether octets go back on a stream: it is active, and its client hasn't ended it (RFC 9113, section 5.1).
 pub(crate) fn goes_back_on(rooms: &Rooms, stream: u32) -> bool
@@ -38,32 +38,29 @@ pub(crate) fn goes_back_on(rooms: &Rooms, stream: u32) -> bool
 }
 
 /// Gives so many octets back on the connection.
-pub(crate) fn give_back(rooms: &mut Rooms, octets: u32, out: &mut Outputs) -> Result<(), AllocError>
+pub(crate) fn give_back(rooms: &mut Rooms, octets: u32, out: &mut Outputs) -> Result<(), Stop>
     requires { (rooms.old.inbound.room +ℤ pos octets) ≤ℤ pos greatest_window }
     ensures given { OnOk result (rooms.new ≡ given_on_connection rooms.old octets) }
     ensures put_out { OnOk result (out.new ≡ put out.old (ToClient (spell (window_update 0 octets)))) }
+    ensures few { OnOk result (nat_lt most_untaken rooms.old.untaken ≡ false) }
+    ensures over { IfErr result (λ stop. IfOver stop (IsCalmed rooms.old out.old out.new)) }
 {
-    count_untaken(rooms, UPDATE)?;
-    out.send_window_update(0, octets)?;
+    pay(rooms, Control::Update { stream: 0, octets }, out)?;
     rooms.inbound.gave_back(octets);
     Ok(())
 }
 
 /// Gives so many octets back on an active stream.
-fn give_back_on(
-    rooms: &mut Rooms,
-    stream: u32,
-    octets: u32,
-    out: &mut Outputs,
-) -> Result<(), AllocError>
+fn give_back_on(rooms: &mut Rooms, stream: u32, octets: u32, out: &mut Outputs) -> Result<(), Stop>
     requires live { is_active rooms.old.inbound.rows stream ≡ true }
     requires fits { AreReturnable octets (find rooms.old.inbound.rows stream) }
     requires small { stream < 2147483648 }
     ensures given { OnOk result (rooms.new ≡ given_on_stream rooms.old stream octets) }
     ensures put_out { OnOk result (out.new ≡ put out.old (ToClient (spell (window_update stream octets)))) }
+    ensures few { OnOk result (nat_lt most_untaken rooms.old.untaken ≡ false) }
+    ensures over { IfErr result (λ stop. IfOver stop (IsCalmed rooms.old out.old out.new)) }
 {
-    count_untaken(rooms, UPDATE)?;
-    out.send_window_update(stream, octets)?;
+    pay(rooms, Control::Update { stream, octets }, out)?;
     rooms.inbound.gave_back_on(stream, octets);
     Ok(())
 }
@@ -79,11 +76,13 @@ fn returnable(octets: u64) -> Result<u32, AllocError>
 }
 
 /// Octets that waited of a stream that is over are given back, on the connection, unless that is to end (RFC 9113, section 6.9): then they don't go back any
-/// more. An `Err` says that memory was refused; then neither the rooms nor the outputs are of use any more.
-pub fn return_dropped(rooms: &mut Rooms, dropped: u64, out: &mut Outputs) -> Result<(), AllocError>
+/// more. An `Err` says that memory was refused, or that the connection was ended in place of the frame; then neither the rooms nor, in the first case, the
+/// outputs are of use any more.
+pub fn return_dropped(rooms: &mut Rooms, dropped: u64, out: &mut Outputs) -> Result<(), Stop>
     requires reached { (setup : Setup) × Reached setup rooms.old (back_of dropped) }
     ensures performs { OnOk result ((back : ℕ) × IsBack rooms.new back × ((setup : Setup) → PerformsOwn setup rooms.old (back_of dropped) out.old rooms.new (back_of back) out.new)) }
     ensures stays { OnOk result (IsReturned rooms.old rooms.new) }
+    ensures over { IfErr result (λ stop. IfOver stop ((setup : Setup) → EndsFrom setup rooms.old (back_of dropped) out.old out.new)) }
 {
     if dropped == 0 {
         return Ok(());
@@ -118,7 +117,7 @@ pub fn settle(
     octets: u32,
     dropped: u64,
     out: &mut Outputs,
-) -> Result<(), AllocError>
+) -> Result<(), Stop>
     requires reached { (setup : Setup) × Reached setup rooms.old (record square { fresh = octets; shared = dropped }) }
     requires goes_on { GoesOn rooms.old }
     requires few { octets ≤ 16384 }
@@ -126,6 +125,7 @@ pub fn settle(
     requires numbered { (id : ℕ) → has rooms.old.inbound.rows id ≡ true → id < 2147483648 }
     ensures performs { OnOk result ((setup : Setup) → PerformsOwn setup rooms.old (record square { fresh = octets; shared = dropped }) out.old rooms.new square out.new) }
     ensures stays { OnOk result (IsReturned rooms.old rooms.new) }
+    ensures over { IfErr result (λ stop. IfOver stop ((setup : Setup) → EndsFrom setup rooms.old (record square { fresh = octets; shared = dropped }) out.old out.new)) }
 {
     if octets == 0 {
         return return_dropped(rooms, dropped, out);
@@ -135,7 +135,7 @@ pub fn settle(
         return return_dropped(rooms, dropped, out);
     }
     let Some(sum) = dropped.checked_add(u64::from(octets)) else {
-        return Err(AllocError);
+        return Err(Stop::Memory);
     };
     let all = returnable(sum)?;
     give_back(rooms, all, out)?;
@@ -152,12 +152,13 @@ pub fn return_taken(
     stream: u32,
     back: u64,
     out: &mut Outputs,
-) -> Result<(), AllocError>
+) -> Result<(), Stop>
     requires reached { (setup : Setup) × Reached setup rooms.old (back_on stream back) }
     requires goes_on { GoesOn rooms.old }
     requires numbered { (id : ℕ) → has rooms.old.inbound.rows id ≡ true → id < 2147483648 }
     ensures performs { OnOk result ((setup : Setup) → PerformsOwn setup rooms.old (back_on stream back) out.old rooms.new square out.new) }
     ensures stays { OnOk result (IsReturned rooms.old rooms.new) }
+    ensures over { IfErr result (λ stop. IfOver stop ((setup : Setup) → EndsFrom setup rooms.old (back_on stream back) out.old out.new)) }
 {
     if back == 0 {
         return Ok(());

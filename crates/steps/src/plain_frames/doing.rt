@@ -1,22 +1,22 @@
 //! What is done behind the judgement of a frame.
 
-ghost use Rattle.std.specs.Prelude.{◌≡◌, ◌+◌, ◌<◌, List, length, IfOk, OnOk};
+ghost use Rattle.std.specs.Prelude.{◌≡◌, ◌+◌, ◌<◌, List, length, false, nat_lt, IfErr, IfOk, OnOk};
+ghost use Rattle.model.specs.Admission.{most_untaken};
 ghost use Rattle.model.specs.Frames.{spell};
 ghost use Rattle.model.specs.ErrorClause.{rst_stream};
 ghost use Rattle.model.specs.Logs.Output.{ToClient};
 ghost use Rattle.model.specs.SettingValues.{Setting, smallest_value, last_value, values_of, header_table_size};
 ghost use Rattle.model.specs.Tapes.{put};
 ghost use Rattle.relay.specs.View.{waiting_for};
+ghost use Rattle.steps.specs.Stopping.{IfOver, IsCalmed};
 ghost use Rattle.steps.specs.plain_frames.Kept.{forgotten, limited};
 
+use crate::paying::{Control, pay};
+use crate::stop::Stop;
 use header_blocks::Encoder;
 use outputs::Outputs;
 use relay::Rooms;
 use settings::Change;
-use std::alloc::AllocError;
-
-/// The octets of a RST_STREAM on the wire (RFC 9113, sections 4.1 and 6.4).
-const RESET_OCTETS: u64 = 13;
 
 /// Nothing is kept any more of a stream that is over: so many octets that waited of its DATA go back (RFC 9113, section 6.9).
 pub(crate) fn forget(rooms: &mut Rooms, id: u32) -> u64
@@ -29,25 +29,17 @@ pub(crate) fn forget(rooms: &mut Rooms, id: u32) -> u64
 }
 
 /// Sends the reset of a stream (RFC 9113, section 6.4), of which nothing is kept any more; the octets that waited of its DATA are the answer. An
-/// `Err` says that memory was refused.
-pub(crate) fn reset(
-    rooms: &mut Rooms,
-    id: u32,
-    code: u32,
-    out: &mut Outputs,
-) -> Result<u64, AllocError>
+/// `Err` says that memory was refused, or that the connection was ended in its place.
+pub(crate) fn reset(rooms: &mut Rooms, id: u32, code: u32, out: &mut Outputs) -> Result<u64, Stop>
     requires { id < 2147483648 }
     ensures dropped { IfOk result (λ dropped. dropped ≡ waiting_for id rooms.old) }
     ensures kept { OnOk result (rooms.new ≡ record (forgotten id rooms.old) { untaken = rooms.old.untaken + length (spell (rst_stream id code)) }) }
     ensures sent { OnOk result (out.new ≡ put out.old (ToClient (spell (rst_stream id code)))) }
+    ensures few { OnOk result (nat_lt most_untaken rooms.old.untaken ≡ false) }
+    ensures over { IfErr result (λ stop. IfOver stop (IsCalmed rooms.old out.old out.new)) }
 {
-    let dropped = forget(rooms, id);
-    let Some(untaken) = rooms.untaken.checked_add(RESET_OCTETS) else {
-        return Err(AllocError);
-    };
-    rooms.untaken = untaken;
-    out.send_rst_stream(id, code)?;
-    Ok(dropped)
+    pay(rooms, Control::Reset { stream: id, code }, out)?;
+    Ok(forget(rooms, id))
 }
 
 /// Notes the limits of the header table that settings name: the smallest and the last stand for all (RFC 7541, section 4.2).

@@ -1,6 +1,6 @@
 //! A frame of the client without a fragment of a header block is taken.
 
-ghost use Rattle.std.specs.Prelude.{◌≡◌, ◌≤◌, ◌<◌, true, length, IfOk};
+ghost use Rattle.std.specs.Prelude.{◌≡◌, ◌≤◌, ◌<◌, true, [], ◌∷◌, None, length, IfErr, IfOk};
 ghost use Rattle.model.specs.ErrorClause.{ping_ack};
 ghost use Rattle.model.specs.Setup.{Setup};
 ghost use Rattle.conduct.specs.Rows.{find};
@@ -12,11 +12,15 @@ ghost use Rattle.upstreams.specs.Requests.{MayTakeOf};
 ghost use Rattle.relay.specs.View.{square};
 ghost use Rattle.relay.specs.Rest.{IsAtRest, Reached};
 ghost use Rattle.serving.specs.State.Due.{Nothing};
-ghost use Rattle.steps.specs.plain_frames.Acting.{goes_on, Goes, IsActed, IsContent, IsPaid, IsRepliedBy, IsReset, IsSet, MayAct};
+ghost use Rattle.steps.specs.Comings.{ComesFrom};
+ghost use Rattle.steps.specs.Inputs.Input.{OfFrame};
+ghost use Rattle.steps.specs.Stopping.{IfOver, IsCalmed, reset_marked};
+ghost use Rattle.steps.specs.plain_frames.Acting.{goes_on, Goes, IsActed, IsContent, IsPaid, IsRepliedBy, IsReset, IsSet, IsStopped, MayAct};
 ghost use Rattle.steps.specs.plain_frames.Taken.{IsPlainTaken};
 
 use crate::paying::{Control, pay};
 use crate::plain_frames::doing::{forget, note_limits, reset};
+use crate::stop::Stop;
 use causes::Cause;
 use frames::View;
 use judgement::{Connection, Fault, Judged};
@@ -82,8 +86,9 @@ pub(crate) fn acknowledge(
     rooms: &mut Rooms,
     change: Change,
     out: &mut Outputs,
-) -> Result<Taken, AllocError>
-    ensures { IfOk result (λ taken. IsSet change rooms.old out.old taken rooms.new out.new) }
+) -> Result<Taken, Stop>
+    ensures taken { IfOk result (λ taken. IsSet change rooms.old out.old taken rooms.new out.new) }
+    ensures over { IfErr result (λ stop. IfOver stop (IsCalmed rooms.old out.old out.new)) }
 {
     note_limits(&mut rooms.encoder, change);
     pay(rooms, Control::SettingsAck, out)?;
@@ -95,9 +100,10 @@ pub(crate) fn answer_ping(
     rooms: &mut Rooms,
     octets: &[u8],
     out: &mut Outputs,
-) -> Result<Taken, AllocError>
+) -> Result<Taken, Stop>
     requires { length octets.now ≤ 16384 }
-    ensures { IfOk result (λ taken. IsPaid (ping_ack octets.now) rooms.old out.old taken rooms.new out.new) }
+    ensures taken { IfOk result (λ taken. IsPaid (ping_ack octets.now) rooms.old out.old taken rooms.new out.new) }
+    ensures over { IfErr result (λ stop. IfOver stop (IsCalmed rooms.old out.old out.new)) }
 {
     pay(rooms, Control::PingAck(octets), out)?;
     Ok(goes(0))
@@ -109,9 +115,10 @@ pub(crate) fn refuse(
     id: u32,
     code: u32,
     out: &mut Outputs,
-) -> Result<Taken, AllocError>
+) -> Result<Taken, Stop>
     requires { id < 2147483648 }
-    ensures { IfOk result (λ taken. IsReset id code rooms.old out.old taken rooms.new out.new) }
+    ensures taken { IfOk result (λ taken. IsReset id code rooms.old out.old taken rooms.new out.new) }
+    ensures over { IfErr result (λ stop. IfOver stop (IsCalmed rooms.old out.old out.new)) }
 {
     let dropped = reset(rooms, id, code, out)?;
     Ok(goes(dropped))
@@ -132,10 +139,11 @@ pub(crate) fn take_content(
 }
 
 /// Replies to a request whose body is too long (RFC 9110, section 15.5.14), or resets its stream where it is too late to reply.
-pub(crate) fn reply(rooms: &mut Rooms, id: u32, out: &mut Outputs) -> Result<Taken, AllocError>
+pub(crate) fn reply(rooms: &mut Rooms, id: u32, out: &mut Outputs) -> Result<Taken, Stop>
     requires live { is_active rooms.old.inbound.rows id ≡ true }
     requires of_stream { id < 2147483648 }
-    ensures { IfOk result (λ taken. IsRepliedBy (find rooms.old.inbound.rows id).head_out id rooms.old out.old taken rooms.new out.new) }
+    ensures taken { IfOk result (λ taken. IsRepliedBy (find rooms.old.inbound.rows id).head_out id rooms.old out.old taken rooms.new out.new) }
+    ensures over { IfErr result (λ stop. IfOver stop (((find rooms.old.inbound.rows id).head_out ≡ true) × IsCalmed (reset_marked id rooms.old) out.old out.new)) }
 {
     if head_out(&rooms.inbound, id) {
         rooms.inbound.sent_reset(id);
@@ -153,10 +161,11 @@ fn act(
     goes_on: bool,
     answer: Judged<'_>,
     out: &mut Outputs,
-) -> Result<Taken, AllocError>
+) -> Result<Taken, Stop>
     requires may { MayAct goes_on id answer rooms.old }
     requires of_stream { id < 2147483648 }
-    ensures { IfOk result (λ taken. IsActed goes_on id answer.entry rooms.old out.old taken rooms.new out.new) }
+    ensures taken { IfOk result (λ taken. IsActed goes_on id answer.entry rooms.old out.old taken rooms.new out.new) }
+    ensures over { IfErr result (λ stop. IfOver stop (IsStopped id answer.entry rooms.old out.old out.new)) }
 {
     match answer {
         Judged::Failed(Fault::Connection(code)) => Ok(Taken::Fatal(code)),
@@ -164,7 +173,7 @@ fn act(
         Judged::Settings(change) => acknowledge(rooms, change, out),
         Judged::Ping(octets) => answer_ping(rooms, octets, out),
         Judged::Reset => Ok(goes(forget(rooms, id))),
-        Judged::Content(octets, ends) if goes_on => take_content(rooms, id, octets, ends),
+        Judged::Content(octets, ends) if goes_on => Ok(take_content(rooms, id, octets, ends)?),
         Judged::LargeBody => reply(rooms, id, out),
         Judged::Failed(Fault::Discarded)
         | Judged::Ignored
@@ -175,21 +184,22 @@ fn act(
 
 /// Takes a frame of the client that has no fragment of a header block: any but HEADERS and CONTINUATION. A body may have `max_body` octets, at most
 /// 1,073,741,824. What it calls for goes out with it: settings and PING are acknowledged, and its stream is reset where it is in error, or where
-/// it is too late to reply (RFC 9113, sections 5.4, 6.5.3 and 6.7). An `Err` says that memory was refused; then neither the rooms nor the outputs are
-/// of use any more.
+/// it is too late to reply (RFC 9113, sections 5.4, 6.5.3 and 6.7). An `Err` says that memory was refused, or that the connection was ended in place of such
+/// a frame; then neither the rooms nor, in the first case, the outputs are of use any more.
 pub fn take_plain(
     rooms: &mut Rooms,
     view: View<'_>,
     max_body: u64,
     out: &mut Outputs,
-) -> Result<Taken, AllocError>
+) -> Result<Taken, Stop>
     requires short { length view.payload.now ≤ 16384 }
     requires bounded { max_body ≤ 1073741824 }
     requires plain { IsPlain (frame_of view) }
     requires of_stream { view.id < 2147483648 }
     requires rest { IsAtRest rooms.old }
     requires reached { (setup : Setup) × (setup.max_body ≡ max_body) × Reached setup rooms.old square }
-    ensures { IfOk result (λ taken. (setup : Setup) → setup.max_body ≡ max_body → IsPlainTaken setup rooms.old out.old (frame_of view.entry) taken rooms.new out.new) }
+    ensures taken { IfOk result (λ taken. (setup : Setup) → setup.max_body ≡ max_body → IsPlainTaken setup rooms.old out.old (frame_of view.entry) taken rooms.new out.new) }
+    ensures over { IfErr result (λ stop. IfOver stop ((setup : Setup) → setup.max_body ≡ max_body → ComesFrom setup rooms.old square out.old (OfFrame (frame_of view.entry) ∷ []) square None out.new)) }
 {
     let goes_on = goes_on(&rooms.inbound, view.id);
     let answer = rooms.inbound.judge(view, max_body);

@@ -1,42 +1,21 @@
-use Rattle.std.proofs.Common.{◌≡◌, ◌==◌, ℕ, true, false, List, Some, None, sym, ◌∙◌, ap}
-use Rattle.std.specs.Prelude.{option_map}
-use Rattle.model.specs.Errors.{Fault}
-use Rattle.model.specs.Errors.Fault.{Connection, Stream, Discarded}
-use Rattle.model.specs.ErrorTable.{fault_of, unless_of_stream}
-use Rattle.stream_state.specs.Views.{verdict_in}
-use Rattle.stream_state.specs.declared.verdicts.Verdict.{Verdict as Answer}
-use Rattle.conduct.specs.Rows.{Row}
-use Rattle.streams_kept.specs.Asked as asked
-use Rattle.streams_kept.specs.Asked.{AllowsOpening}
-use Rattle.judgement.specs.Judgement.{fault_told, is_of_stream}
-use Rattle.judgement.specs.Blocks.{IsOpenOrIdle}
-use Rattle.judgement.proofs.BlockRows.{wanted_by}
+use Rattle.std.proofs.Common.{◌≡◌, Bool, true, false, if◌then◌else◌, List, Some, sym, ◌∙◌, ap}
+use Rattle.model.specs.Errors.Fault.{Stream}
+use Rattle.judgement.proofs.Kept.{if_ok}
+use Rattle.judgement.proofs.Settling.{not_crowded, settles_alike}
 use Rattle.judgement.proofs.blocks.settle.Goals as goal
+use Rattle.judgement.proofs.blocks.settle.Goals.{else-crowded-via-then-crowded+else-is_last, else-crowded-via-else-crowded}
+use Rattle.judgement.specs.Blocks.{fault_with, fault_on}
 
--- where the state of its stream allows a block
-passing : (rows : List Row) (id : ℕ) (a : Answer) → (id == 0) ≡ false → verdict_in a ≡ asked.verdict rows id 1 → AllowsOpening a rows id → fault_of (asked.verdict rows id 1) ≡ None → IsOpenOrIdle rows id
-passing rows id a of_stream is allows passes =
-    wanted_by rows id a of_stream is allows (ap unless_of_stream passes) (λ discarded. let no : None ≡ Some Discarded = sym passes ∙ discarded in cc)
-
--- where it is an error of the stream
-failing : (rows : List Row) (id : ℕ) (a : Answer) (f : Fault) → (id == 0) ≡ false → verdict_in a ≡ asked.verdict rows id 1 → AllowsOpening a rows id → fault_of (asked.verdict rows id 1) ≡ Some f → is_of_stream (Some f) ≡ true → IsOpenOrIdle rows id
-failing rows id a (Stream code) of_stream is allows fails soft =
-    wanted_by rows id a of_stream is allows (ap unless_of_stream fails) (λ discarded. let no : Some (Stream code) ≡ Some Discarded = sym fails ∙ discarded in cc)
-failing rows id a (Connection code) of_stream is allows fails soft = absurd (let no : false ≡ true = soft in cc)
-failing rows id a Discarded of_stream is allows fails soft = absurd (let no : false ≡ true = soft in cc)
-
-pub refuse-requires-clause-wanted : goal.refuse-requires-clause-wanted
-refuse-requires-clause-wanted c = failing c.args.streams.now c.args.id c.verdict.result (fault_told c.in-Some.fault) c.requires.of_stream c.verdict.ensures.is c.verdict.ensures.allows
-    (ap fault_of (sym c.verdict.ensures.is) ∙ sym c.fault_of.ensures ∙ ap (option_map fault_told) c.in-Some.is)
-
-pub kept_before-before-requires : goal.kept_before-before-requires
-kept_before-before-requires c = record { wanted = passing c.args.streams.now c.args.id c.verdict.result c.requires.of_stream c.verdict.ensures.is c.verdict.ensures.allows (ap fault_of (sym c.verdict.ensures.is) ∙ sym c.fault_of.ensures ∙ ap (option_map fault_told) c.in_default.is) }
-
-pub pass_over-requires-clause-wanted : goal.pass_over-requires-clause-wanted
-pass_over-requires-clause-wanted c = passing c.args.streams.now c.args.id c.verdict.result c.requires.of_stream c.verdict.ensures.is c.verdict.ensures.allows (ap fault_of (sym c.verdict.ensures.is) ∙ sym c.fault_of.ensures ∙ ap (option_map fault_told) c.in_default.is)
-
-pub answer-requires-clause-wanted : goal.answer-requires-clause-wanted
-answer-requires-clause-wanted c = passing c.args.streams.now c.args.id c.verdict.result c.requires.of_stream c.verdict.ensures.is c.verdict.ensures.allows (ap fault_of (sym c.verdict.ensures.is) ∙ sym c.fault_of.ensures ∙ ap (option_map fault_told) c.in_default.is)
-
-pub take_fields-requires-clause-wanted : goal.take_fields-requires-clause-wanted
-take_fields-requires-clause-wanted c = passing c.args.streams.now c.args.id c.verdict.result c.requires.of_stream c.verdict.ensures.is c.verdict.ensures.allows (ap fault_of (sym c.verdict.ensures.is) ∙ sym c.fault_of.ensures ∙ ap (option_map fault_told) c.in_default.is)
+pub returns-clause-settled : goal.returns-clause-settled
+returns-clause-settled c = if_ok c.judge_block.result c.judge_block.ensures.settled (λ answer settles setup fields for read.
+    settles_alike (fault_with c.args.crowded c.args.streams.now c.args.id fields c.args.ends) setup c.args.streams.now c.judge_block.new.streams c.args.id fields c.args.ends answer
+    (elim c.else-crowded.branch [
+      | else-crowded-via-then-crowded+else-is_last w ↦
+          ap (λ x. fault_with x c.args.streams.now c.args.id fields c.args.ends) w.if-crowded.true
+          ∙ w.is_last.ensures.is fields c.args.ends
+          ∙ ap (λ x. if x then Some (Stream 11) else fault_on c.args.streams.now c.args.id fields c.args.ends) w.if-is_last.false
+      | else-crowded-via-else-crowded w ↦
+          ap (λ x. fault_with x c.args.streams.now c.args.id fields c.args.ends) w.if-crowded.false
+          ∙ not_crowded c.args.streams.now c.args.id fields c.args.ends
+    ])
+    (settles setup fields for read))

@@ -1,52 +1,16 @@
-use Rattle.std.proofs.Common.{Some, refl, sym, subst}
+use Rattle.std.proofs.Common.{[], ◌∷◌, Option}
 use Rattle.model.specs.Logs.Event.{UpTook}
-use Rattle.model.specs.Tapes.Entry.{Happened}
-use Rattle.relay.specs.View.{square}
-use Rattle.relay.specs.Rest.{GoesOn, NoneDone}
+use Rattle.model.specs.Setup.{Setup}
+use Rattle.relay.specs.View.{View, square}
+use Rattle.steps.specs.Comings.{ComesFrom}
 use Rattle.steps.specs.Inputs.Input.{OfEvent}
-use Rattle.steps.specs.Resting.{now_of, IsSettled}
-use Rattle.steps.specs.paying.Returning.{back_on}
-use Rattle.steps.proofs.Following.{comes_then, follows_own, follows_then}
-use Rattle.steps.proofs.Results.{if_ok}
-use Rattle.steps.proofs.Took.{up_rests, done_returned}
-use Rattle.steps.proofs.paying.Taken.{none_taken}
+use Rattle.steps.proofs.Results.{concluded, concluded_rests}
 use Rattle.steps.proofs.hearing.up_took.Goals as goal
-
-pub returns-then-back-eq0-clause-comes : goal.returns-then-back-eq0-clause-comes
-returns-then-back-eq0-clause-comes c = λ setup.
-    comes_then setup c.args.rooms.now c.note_up_took-back.new.rooms square (back_on c.stream_of-stream.result c.note_up_took-back.result) square c.args.out.now c.args.out.now c.args.out.now (Happened (UpTook c.args.k c.args.count)) (OfEvent (UpTook c.args.k c.args.count)) (Some c.note_up_took-back.new.rooms) refl
-    (c.note_up_took-back.ensures.brings setup c.args.out.now)
-    (follows_own setup c.note_up_took-back.new.rooms c.note_up_took-back.new.rooms (back_on c.stream_of-stream.result c.note_up_took-back.result) square c.args.out.now c.args.out.now (none_taken setup c.note_up_took-back.new.rooms c.stream_of-stream.result c.note_up_took-back.result c.args.out.now c.if-back-eq0.true))
-
-pub returns-then-back-eq0-clause-rests : goal.returns-then-back-eq0-clause-rests
-returns-then-back-eq0-clause-rests c = subst IsSettled (sym c.note_up_took-back.ensures.counts) (up_rests c.args.rooms.now c.args.k c.stream_of-stream.result c.args.count c.requires.settled)
-
-pub return_taken-requires-clause-reached : goal.return_taken-requires-clause-reached
-return_taken-requires-clause-reached c =
-    let r = c.requires.reached in
-    let course = c.note_up_took-back.ensures.brings r.0 c.args.out.now r.1.0 r.1.1 r.1.2 in
-    (r.0, (_, course.segment.state, course.segment.leads))
-
-pub return_taken-requires-clause-goes_on : goal.return_taken-requires-clause-goes_on
-return_taken-requires-clause-goes_on c = subst GoesOn (sym c.note_up_took-back.ensures.counts) c.requires.settled.rest.goes_on
-
-pub rest-requires-clause-reached : goal.rest-requires-clause-reached
-rest-requires-clause-reached c =
-    let r = c.requires.reached in
-    let course = c.note_up_took-back.ensures.brings r.0 c.args.out.now r.1.0 r.1.1 r.1.2 in
-    let own = c.in_ok-return_taken.ensures.performs r.0 _ course.segment.state course.segment.leads in
-    (r.0, 0, (λ on. refl), (_, own.segment.state, own.segment.leads))
-
-pub rest-requires-clause-none_done : goal.rest-requires-clause-none_done
-rest-requires-clause-none_done c =
-    done_returned c.note_up_took-back.new.rooms c.return_taken.new.rooms c.in_ok-return_taken.ensures.stays
-    (subst NoneDone (sym c.note_up_took-back.ensures.counts) (up_rests c.args.rooms.now c.args.k c.stream_of-stream.result c.args.count c.requires.settled).rest.none_done)
 
 pub returns-clause-comes : goal.returns-clause-comes
 returns-clause-comes c =
-    if_ok c.rest.result
-    (λ went follows setup.
-    comes_then setup c.args.rooms.now c.note_up_took-back.new.rooms square (back_on c.stream_of-stream.result c.note_up_took-back.result) square c.args.out.now c.args.out.now c.rest.new.out (Happened (UpTook c.args.k c.args.count)) (OfEvent (UpTook c.args.k c.args.count)) (now_of went c.rest.new.rooms) refl
-    (c.note_up_took-back.ensures.brings setup c.args.out.now)
-    (follows_then setup c.note_up_took-back.new.rooms c.return_taken.new.rooms (back_on c.stream_of-stream.result c.note_up_took-back.result) square square c.args.out.now c.return_taken.new.out c.rest.new.out (now_of went c.rest.new.rooms)
-    (c.in_ok-return_taken.ensures.performs setup) (follows 0 (λ on. refl) setup))) c.rest.ensures.follows
+    concluded (λ (now : Option View). (setup : Setup) → ComesFrom setup c.args.rooms.now square c.args.out.now (OfEvent (UpTook c.args.k c.args.count) ∷ []) square now c.return_to_rest.new.out)
+    c.return_to_rest.new.rooms c.return_to_rest.result c.conclude.result c.conclude.ensures c.return_to_rest.ensures.comes c.return_to_rest.ensures.over
+
+pub returns-clause-rests : goal.returns-clause-rests
+returns-clause-rests c = concluded_rests c.return_to_rest.new.rooms c.return_to_rest.result c.conclude.result c.conclude.ensures c.return_to_rest.ensures.rests

@@ -9,4 +9,4 @@ use Rattle.steps.proofs.leaving.leave.Goals as goal
 
 pub returns : goal.returns
 returns c =
-    on_ok c.end.result (λ ends. λ setup. ends_come setup c.args.rooms.now Gone (OfEvent ClientEnd) c.args.out.now c.end.new.out c.requires (λ run s leads. (Notes ClientEnd, refl, refl)) (λ run s d leads by. ends setup run s c.args.rooms.now d refl refl leads by)) c.end.ensures
+    on_ok c.end.result (λ ends. λ setup. ends_come setup c.args.rooms.now Gone (OfEvent ClientEnd) c.args.out.now c.end.new.out c.requires (λ run s leads. (Notes ClientEnd, refl, refl)) (λ run s d leads by. ends setup run s c.args.rooms.now d refl refl refl leads by)) c.end.ensures

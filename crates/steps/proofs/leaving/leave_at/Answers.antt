@@ -20,10 +20,10 @@ returns c =
           on_ok c.end.result (λ ends. λ setup.
           subst (λ (b : Breach). ComesFrom setup c.args.rooms.now square c.args.out.now (OfBreach (breach_of b) ∷ []) square None c.end.new.out) (sym w.in-WrongPreface.is)
           (ends_come setup c.args.rooms.now (Broken 1) (OfBreach WrongPreface) c.args.out.now c.end.new.out c.requires (λ run s leads. (Breaks WrongPreface, (WrongPreface, refl, refl), refl))
-          (λ run s d leads by. ends setup run s c.args.rooms.now d refl refl leads (subst (λ n. IsBy s (Broken n) d) (sym w.code-is) by)))) c.end.ensures
+          (λ run s d leads by. ends setup run s c.args.rooms.now d refl refl refl leads (subst (λ n. IsBy s (Broken n) d) (sym w.code-is) by)))) c.end.ensures
       | in-TooLong w ↦
           on_ok c.end.result (λ ends. λ setup.
           subst (λ (b : Breach). ComesFrom setup c.args.rooms.now square c.args.out.now (OfBreach (breach_of b) ∷ []) square None c.end.new.out) (sym w.in-TooLong.is)
           (ends_come setup c.args.rooms.now (Broken 6) (OfBreach TooLong) c.args.out.now c.end.new.out c.requires (λ run s leads. (Breaks TooLong, (TooLong, refl, refl), refl))
-          (λ run s d leads by. ends setup run s c.args.rooms.now d refl refl leads (subst (λ n. IsBy s (Broken n) d) (sym w.code-is) by)))) c.end.ensures
+          (λ run s d leads by. ends setup run s c.args.rooms.now d refl refl refl leads (subst (λ n. IsBy s (Broken n) d) (sym w.code-is) by)))) c.end.ensures
     ]

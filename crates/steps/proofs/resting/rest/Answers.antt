@@ -2,6 +2,7 @@ use Rattle.std.proofs.Common.{None, ◌∙◌, subst}
 use Rattle.relay.specs.View.{square}
 use Rattle.relay.specs.Rest.{back_of}
 use Rattle.relay.specs.Bringing.{PerformsOwn}
+use Rattle.steps.proofs.Results.{stopped}
 use Rattle.steps.proofs.Ends.{shut_follows}
 use Rattle.steps.proofs.Following.{follows_own, follows_then}
 use Rattle.steps.proofs.Stays.{ends_as}
@@ -35,3 +36,6 @@ returns-clause-rests c =
       };
       numbered = flushed.numbered;
     }
+
+pub returns-in_err-flush-clause-over : goal.returns-in_err-flush-clause-over
+returns-in_err-flush-clause-over c = stopped c.from_residual.result c.in_err-flush.field-0.0 c.from_residual.ensures.1 (λ ends. ends) c.in_err-flush.ensures.over

@@ -4,9 +4,10 @@ use Rattle.offering.specs.State as offering
 use Rattle.streams_kept.specs.Asked.{has}
 use Rattle.relay.specs.View.{square}
 use Rattle.relay.specs.Rest.{NoneCut, back_of}
+use Rattle.steps.proofs.Calming.{calm_behind}
 use Rattle.steps.specs.Resting.{now_of}
 use Rattle.steps.proofs.Following.{follows_then}
-use Rattle.steps.proofs.Results.{if_ok}
+use Rattle.steps.proofs.Results.{if_ok, on_over}
 use Rattle.steps.proofs.Stays.{on_as}
 use Rattle.steps.proofs.resting.rest_behind.Goals as goal
 
@@ -28,3 +29,10 @@ returns-clause-follows c =
     (λ went follows back is_back setup.
     follows_then setup c.args.rooms.now c.close_unserved.new.rooms (back_of back) (back_of back) square c.args.out.now c.close_unserved.new.out c.rest.new.out (now_of went c.rest.new.rooms) (c.in_ok-close_unserved.ensures.performs setup back)
     (follows back (λ on. is_back (on_as c.args.rooms.now c.close_unserved.new.rooms c.in_ok-close_unserved.ensures.inbound on)) setup)) c.rest.ensures.follows
+
+pub returns-clause-over : goal.returns-clause-over
+returns-clause-over c =
+    on_over c.rest.result
+    (λ ends back is_back setup.
+    calm_behind setup c.args.rooms.now c.close_unserved.new.rooms (back_of back) (back_of back) c.args.out.now c.close_unserved.new.out c.rest.new.out (c.in_ok-close_unserved.ensures.performs setup back)
+    (ends back (λ on. is_back (on_as c.args.rooms.now c.close_unserved.new.rooms c.in_ok-close_unserved.ensures.inbound on)) setup)) c.rest.ensures.over

@@ -4,11 +4,12 @@ use Rattle.upstreams.specs.Kept.{State}
 use Rattle.upstreams.specs.Connections.{lives}
 use Rattle.relay.specs.View.{square}
 use Rattle.relay.specs.Rest.{NoneCut}
+use Rattle.steps.proofs.Calming.{calm_behind}
 use Rattle.steps.specs.Resting.{now_of}
 use Rattle.steps.proofs.Closings.{but_stays}
 use Rattle.steps.proofs.Ends.{shut_follows}
 use Rattle.steps.proofs.Following.{follows_then}
-use Rattle.steps.proofs.Results.{if_ok}
+use Rattle.steps.proofs.Results.{if_ok, on_over, stopped}
 use Rattle.steps.proofs.Stays.{ends_as}
 use Rattle.steps.proofs.taking.follow.Goals as goal
 
@@ -42,3 +43,12 @@ rest_behind-requires-clause-numbered c id there = c.requires.numbered id (sym (c
 pub rest_behind-requires-clause-none_but : goal.rest_behind-requires-clause-none_but
 rest_behind-requires-clause-none_but c =
     but_stays c.args.id c.args.rooms.now c.settle.new.rooms c.in_ok-settle.ensures.stays.served (ap (λ (u : State). lives u.live) c.in_ok-settle.ensures.stays.upstreams) c.requires.none_but
+
+pub returns-in_err-settle-clause-over : goal.returns-in_err-settle-clause-over
+returns-in_err-settle-clause-over c = stopped c.from_residual-in_err-settle.result c.in_err-settle.field-0.0 c.from_residual-in_err-settle.ensures.1 (λ ends. ends) c.in_err-settle.ensures.over
+
+pub returns-clause-over : goal.returns-clause-over
+returns-clause-over c =
+    on_over c.rest_behind.result
+    (λ ends setup.
+    calm_behind setup c.args.rooms.now c.settle.new.rooms (record square { fresh = c.args.octets; shared = c.args.dropped }) square c.args.out.now c.settle.new.out c.rest_behind.new.out (c.in_ok-settle.ensures.performs setup) (ends 0 (λ on. refl) setup)) c.rest_behind.ensures.over

@@ -1,10 +1,11 @@
-use Rattle.std.proofs.Common.{ℕ, [], ◌∷◌, Option, refl, sym, subst, inr}
+use Rattle.std.proofs.Common.{ℕ, [], ◌∷◌, Option, refl, sym, ap, ◌∙◌, subst, inr}
+use Rattle.std.specs.Prelude.{is_some}
 use Rattle.model.specs.Frames.{goaway, no_error}
 use Rattle.relay.specs.View.{square}
 use Rattle.relay.specs.Bringing.{PerformsOwn}
 use Rattle.relay.proofs.Bringing.{own_none}
 use Rattle.steps.specs.block_frames.Following.{farewell_frames}
-use Rattle.steps.proofs.Results.{on_ok}
+use Rattle.steps.proofs.Results.{on_ok, on_over}
 use Rattle.steps.proofs.taking.say_farewell.Goals as goal
 
 pub returns-in-Some-clause-performs : goal.returns-in-Some-clause-performs
@@ -12,9 +13,12 @@ returns-in-Some-clause-performs c =
     on_ok c.pay.result
     (λ performs setup due back.
     subst (λ (last : Option ℕ). PerformsOwn setup c.args.rooms.now (record square { owed = farewell_frames last; due = due; shared = back }) c.args.out.now c.pay.new.rooms (record square { due = due; shared = back }) c.pay.new.out) (sym c.in-Some.is)
-    (performs setup [] (record square { owed = goaway c.in-Some.last no_error ∷ []; due = due; shared = back }) refl (inr refl))) c.pay.ensures.performs
+    (performs setup [] (record square { owed = goaway c.in-Some.last no_error ∷ []; due = due; shared = back }) refl refl (inr refl))) c.pay.ensures.performs
 
 pub returns-in-None-clause-performs : goal.returns-in-None-clause-performs
 returns-in-None-clause-performs c setup due back =
     subst (λ (last : Option ℕ). PerformsOwn setup c.args.rooms.now (record square { owed = farewell_frames last; due = due; shared = back }) c.args.out.now c.args.rooms.now (record square { due = due; shared = back }) c.args.out.now) (sym c.in-None.is)
     (own_none setup c.args.rooms.now (record square { due = due; shared = back }) c.args.out.now)
+
+pub returns-in-Some-clause-over : goal.returns-in-Some-clause-over
+returns-in-Some-clause-over c = on_over c.pay.result (λ is. (ap is_some c.in-Some.is, is)) c.pay.ensures.over

@@ -1,4 +1,4 @@
-use Rattle.std.proofs.Common.{◌≡◌, Bool, true, sym, ◌∙◌, ap, refl, subst}
+use Rattle.std.proofs.Common.{◌≡◌, Bool, true, sym, ◌∙◌, ap, refl, subst, inl}
 use Rattle.model.specs.Setup.{Setup}
 use Rattle.model.specs.Tapes.Entry.{Came}
 use Rattle.answers.specs.declared.answer.Passing.{Passing}
@@ -11,6 +11,9 @@ use Rattle.streams_kept.specs.Asked.{has}
 use Rattle.streams_kept.specs.Sending.{is_served}
 use Rattle.upstreams.specs.Kept.{State}
 use Rattle.upstreams.specs.Connections.{lives}
+use Rattle.upstreams.specs.Requests.{due_by}
+use Rattle.steps.proofs.Calming.{calm_ends, calm_comes}
+use Rattle.steps.specs.block_frames.Following.{farewell_frames}
 use Rattle.relay.specs.View.{square}
 use Rattle.relay.specs.Rest.{NoneCut, back_of}
 use Rattle.relay.proofs.Bringing.{brings_then}
@@ -18,8 +21,8 @@ use Rattle.steps.specs.Inputs.Input.{OfFrame}
 use Rattle.steps.specs.Resting.{now_of, IsPassedBy}
 use Rattle.steps.proofs.Closings.{about_but, but_stays}
 use Rattle.steps.proofs.Following.{comes_then}
-use Rattle.steps.proofs.Frames.{numbered_with, block_goes, block_ends, farewell_brings, block_brings, fatal_comes}
-use Rattle.steps.proofs.Results.{if_ok}
+use Rattle.steps.proofs.Frames.{numbered_with, block_goes, block_ends, farewell_brings, block_brings, farewell_owed, fatal_comes}
+use Rattle.steps.proofs.Results.{if_ok, on_over, stopped}
 use Rattle.steps.proofs.taking.take_fragment.Goals as goal
 
 -- bodies are passed on as they come just where the service says so
@@ -30,7 +33,7 @@ pub serve-requires : goal.serve-requires
 serve-requires c =
     let before = c.requires.reached in
     let passed =
-    block_goes before.0 c.args.rooms.now c.take_block.new.rooms c.args.out.now c.take_block.new.out (frame_of c.args.view) c.in_ok-code.field-0 c.in-Goes.due c.in-Goes.farewell c.in-Goes.dropped c.in-Goes.is (c.in_ok-code.ensures before.0 before.1.terms (streams_so before.0 c.args.service.passing c.is_streaming-at_once.result before.1.passing c.is_streaming-at_once.ensures)) in
+    block_goes before.0 c.args.rooms.now c.take_block.new.rooms c.args.out.now c.take_block.new.out (frame_of c.args.view) c.in_ok-code.field-0 c.in-Goes.due c.in-Goes.farewell c.in-Goes.dropped c.in-Goes.is (c.in_ok-code.ensures.taken before.0 before.1.terms (streams_so before.0 c.args.service.passing c.is_streaming-at_once.result before.1.passing c.is_streaming-at_once.ensures)) in
     let here =
     farewell_brings before.0 c.args.rooms.now c.take_block.new.rooms c.say_farewell.new.rooms c.args.out.now c.take_block.new.out c.say_farewell.new.out (frame_of c.args.view) c.in-Goes.due c.in-Goes.farewell c.in-Goes.dropped passed
     (λ due back. c.in_ok-say_farewell-in-Goes.ensures.performs before.0 due back) before.2.0 before.2.1 before.2.2 in
@@ -40,7 +43,7 @@ pub return_dropped-requires : goal.return_dropped-requires
 return_dropped-requires c =
     let before = c.requires.reached in
     let passed =
-    block_goes before.0 c.args.rooms.now c.take_block.new.rooms c.args.out.now c.take_block.new.out (frame_of c.args.view) c.in_ok-code.field-0 c.in-Goes.due c.in-Goes.farewell c.in-Goes.dropped c.in-Goes.is (c.in_ok-code.ensures before.0 before.1.terms (streams_so before.0 c.args.service.passing c.is_streaming-at_once.result before.1.passing c.is_streaming-at_once.ensures)) in
+    block_goes before.0 c.args.rooms.now c.take_block.new.rooms c.args.out.now c.take_block.new.out (frame_of c.args.view) c.in_ok-code.field-0 c.in-Goes.due c.in-Goes.farewell c.in-Goes.dropped c.in-Goes.is (c.in_ok-code.ensures.taken before.0 before.1.terms (streams_so before.0 c.args.service.passing c.is_streaming-at_once.result before.1.passing c.is_streaming-at_once.ensures)) in
     let here =
     block_brings before.0 c.args.rooms.now c.take_block.new.rooms c.say_farewell.new.rooms c.serve.new.rooms c.args.out.now c.take_block.new.out c.say_farewell.new.out c.serve.new.out (frame_of c.args.view) c.in-Goes.due c.in-Goes.farewell c.in-Goes.dropped passed
     (λ due back. c.in_ok-say_farewell-in-Goes.ensures.performs before.0 due back) (λ n back. c.in_ok-serve-in-Goes.ensures.performs before.0 n back before.1.passing) before.2.0 before.2.1 before.2.2 in
@@ -50,7 +53,7 @@ pub rest_behind-requires-clause-reached : goal.rest_behind-requires-clause-reach
 rest_behind-requires-clause-reached c =
     let before = c.requires.reached in
     let passed =
-    block_goes before.0 c.args.rooms.now c.take_block.new.rooms c.args.out.now c.take_block.new.out (frame_of c.args.view) c.in_ok-code.field-0 c.in-Goes.due c.in-Goes.farewell c.in-Goes.dropped c.in-Goes.is (c.in_ok-code.ensures before.0 before.1.terms (streams_so before.0 c.args.service.passing c.is_streaming-at_once.result before.1.passing c.is_streaming-at_once.ensures)) in
+    block_goes before.0 c.args.rooms.now c.take_block.new.rooms c.args.out.now c.take_block.new.out (frame_of c.args.view) c.in_ok-code.field-0 c.in-Goes.due c.in-Goes.farewell c.in-Goes.dropped c.in-Goes.is (c.in_ok-code.ensures.taken before.0 before.1.terms (streams_so before.0 c.args.service.passing c.is_streaming-at_once.result before.1.passing c.is_streaming-at_once.ensures)) in
     let here =
     block_brings before.0 c.args.rooms.now c.take_block.new.rooms c.say_farewell.new.rooms c.serve.new.rooms c.args.out.now c.take_block.new.out c.say_farewell.new.out c.serve.new.out (frame_of c.args.view) c.in-Goes.due c.in-Goes.farewell c.in-Goes.dropped passed
     (λ due back. c.in_ok-say_farewell-in-Goes.ensures.performs before.0 due back) (λ n back. c.in_ok-serve-in-Goes.ensures.performs before.0 n back before.1.passing) before.2.0 before.2.1 before.2.2 in
@@ -62,14 +65,14 @@ pub rest_behind-requires-clause-none_cut : goal.rest_behind-requires-clause-none
 rest_behind-requires-clause-none_cut c =
     let before = c.requires.reached in
     let passed =
-    block_goes before.0 c.args.rooms.now c.take_block.new.rooms c.args.out.now c.take_block.new.out (frame_of c.args.view) c.in_ok-code.field-0 c.in-Goes.due c.in-Goes.farewell c.in-Goes.dropped c.in-Goes.is (c.in_ok-code.ensures before.0 before.1.terms (streams_so before.0 c.args.service.passing c.is_streaming-at_once.result before.1.passing c.is_streaming-at_once.ensures)) in
+    block_goes before.0 c.args.rooms.now c.take_block.new.rooms c.args.out.now c.take_block.new.out (frame_of c.args.view) c.in_ok-code.field-0 c.in-Goes.due c.in-Goes.farewell c.in-Goes.dropped c.in-Goes.is (c.in_ok-code.ensures.taken before.0 before.1.terms (streams_so before.0 c.args.service.passing c.is_streaming-at_once.result before.1.passing c.is_streaming-at_once.ensures)) in
     subst (λ (o : offering.State). NoneCut o) (sym (c.in_ok-return_dropped-in-Goes.ensures.stays.offers ∙ c.in_ok-serve-in-Goes.ensures.stays.1 ∙ c.in_ok-say_farewell-in-Goes.ensures.stays.1)) passed.none_cut
 
 pub rest_behind-requires-clause-none_but : goal.rest_behind-requires-clause-none_but
 rest_behind-requires-clause-none_but c =
     let before = c.requires.reached in
     let passed =
-    block_goes before.0 c.args.rooms.now c.take_block.new.rooms c.args.out.now c.take_block.new.out (frame_of c.args.view) c.in_ok-code.field-0 c.in-Goes.due c.in-Goes.farewell c.in-Goes.dropped c.in-Goes.is (c.in_ok-code.ensures before.0 before.1.terms (streams_so before.0 c.args.service.passing c.is_streaming-at_once.result before.1.passing c.is_streaming-at_once.ensures)) in
+    block_goes before.0 c.args.rooms.now c.take_block.new.rooms c.args.out.now c.take_block.new.out (frame_of c.args.view) c.in_ok-code.field-0 c.in-Goes.due c.in-Goes.farewell c.in-Goes.dropped c.in-Goes.is (c.in_ok-code.ensures.taken before.0 before.1.terms (streams_so before.0 c.args.service.passing c.is_streaming-at_once.result before.1.passing c.is_streaming-at_once.ensures)) in
     but_stays c.args.view.id c.serve.new.rooms c.return_dropped.new.rooms c.in_ok-return_dropped-in-Goes.ensures.stays.served (ap (λ (u : State). lives u.live) c.in_ok-return_dropped-in-Goes.ensures.stays.upstreams)
     (c.in_ok-serve-in-Goes.ensures.none_but c.args.view.id
     (but_stays c.args.view.id c.take_block.new.rooms c.say_farewell.new.rooms (λ stream. ap (λ (i : Inbound). is_served i.rows stream) c.in_ok-say_farewell-in-Goes.ensures.stays.0) (ap (λ (u : State). lives u.live) c.in_ok-say_farewell-in-Goes.ensures.upstreams)
@@ -79,15 +82,15 @@ pub rest_behind-requires-clause-numbered : goal.rest_behind-requires-clause-numb
 rest_behind-requires-clause-numbered c id kept =
     let before = c.requires.reached in
     let passed =
-    block_goes before.0 c.args.rooms.now c.take_block.new.rooms c.args.out.now c.take_block.new.out (frame_of c.args.view) c.in_ok-code.field-0 c.in-Goes.due c.in-Goes.farewell c.in-Goes.dropped c.in-Goes.is (c.in_ok-code.ensures before.0 before.1.terms (streams_so before.0 c.args.service.passing c.is_streaming-at_once.result before.1.passing c.is_streaming-at_once.ensures)) in
+    block_goes before.0 c.args.rooms.now c.take_block.new.rooms c.args.out.now c.take_block.new.out (frame_of c.args.view) c.in_ok-code.field-0 c.in-Goes.due c.in-Goes.farewell c.in-Goes.dropped c.in-Goes.is (c.in_ok-code.ensures.taken before.0 before.1.terms (streams_so before.0 c.args.service.passing c.is_streaming-at_once.result before.1.passing c.is_streaming-at_once.ensures)) in
     numbered_with c.args.rooms.now c.take_block.new.rooms c.args.view.id passed.ids c.requires.of_stream c.requires.settled.numbered id
     (subst (λ (i : Inbound). has i.rows id ≡ true) (c.in_ok-serve-in-Goes.ensures.stays.0 ∙ c.in_ok-say_farewell-in-Goes.ensures.stays.0) (sym (c.in_ok-return_dropped-in-Goes.ensures.stays.opened id) ∙ kept))
 
 pub returns-in_ok-end-in-Fatal-clause-comes : goal.returns-in_ok-end-in-Fatal-clause-comes
 returns-in_ok-end-in-Fatal-clause-comes c setup served =
     let fatal =
-    block_ends setup c.args.rooms.now c.take_block.new.rooms c.args.out.now c.take_block.new.out (frame_of c.args.view) c.in_ok-code.field-0 c.in-Fatal.code c.in-Fatal.is (c.in_ok-code.ensures setup served.terms (streams_so setup c.args.service.passing c.is_streaming-at_once.result served.passing c.is_streaming-at_once.ensures)) in
-    fatal_comes setup c.args.rooms.now c.take_block.new.rooms c.args.out.now c.take_block.new.out c.end.new.out (frame_of c.args.view) fatal.note (λ s. fatal.next) c.in-Fatal.code c.requires.settled.rest fatal.nothing_put fatal.upstreams fatal.rows fatal.fault fatal.fatal
+    block_ends setup c.args.rooms.now c.take_block.new.rooms c.args.out.now c.take_block.new.out (frame_of c.args.view) c.in_ok-code.field-0 c.in-Fatal.code c.in-Fatal.is (c.in_ok-code.ensures.taken setup served.terms (streams_so setup c.args.service.passing c.is_streaming-at_once.result served.passing c.is_streaming-at_once.ensures)) in
+    fatal_comes setup c.args.rooms.now c.take_block.new.rooms c.args.out.now c.take_block.new.out c.end.new.out (frame_of c.args.view) fatal.note (λ s. fatal.next) c.in-Fatal.code c.requires.settled.rest fatal.nothing_put fatal.upstreams fatal.rows fatal.untaken fatal.fault fatal.fatal
     (λ run s kept d. c.in_ok-end-in-Fatal.ensures setup run s kept d)
 
 pub returns-in_ok-return_dropped-in-Goes-clause-comes : goal.returns-in_ok-return_dropped-in-Goes-clause-comes
@@ -95,10 +98,50 @@ returns-in_ok-return_dropped-in-Goes-clause-comes c =
     if_ok c.rest_behind.result
     (λ went follows setup served.
     let passed =
-    block_goes setup c.args.rooms.now c.take_block.new.rooms c.args.out.now c.take_block.new.out (frame_of c.args.view) c.in_ok-code.field-0 c.in-Goes.due c.in-Goes.farewell c.in-Goes.dropped c.in-Goes.is (c.in_ok-code.ensures setup served.terms (streams_so setup c.args.service.passing c.is_streaming-at_once.result served.passing c.is_streaming-at_once.ensures)) in
+    block_goes setup c.args.rooms.now c.take_block.new.rooms c.args.out.now c.take_block.new.out (frame_of c.args.view) c.in_ok-code.field-0 c.in-Goes.due c.in-Goes.farewell c.in-Goes.dropped c.in-Goes.is (c.in_ok-code.ensures.taken setup served.terms (streams_so setup c.args.service.passing c.is_streaming-at_once.result served.passing c.is_streaming-at_once.ensures)) in
     let returned = c.in_ok-return_dropped-in-Goes.ensures.performs in
     comes_then setup c.args.rooms.now c.return_dropped.new.rooms square (back_of returned.0) square c.args.out.now c.return_dropped.new.out c.rest_behind.new.out (Came (record { frame = frame_of c.args.view; note = passed.note })) (OfFrame (frame_of c.args.view)) (now_of went c.rest_behind.new.rooms) refl
     (brings_then setup c.args.rooms.now c.serve.new.rooms c.return_dropped.new.rooms square (back_of c.in-Goes.dropped) (back_of returned.0) c.args.out.now c.serve.new.out c.return_dropped.new.out (Came (record { frame = frame_of c.args.view; note = passed.note }))
     (block_brings setup c.args.rooms.now c.take_block.new.rooms c.say_farewell.new.rooms c.serve.new.rooms c.args.out.now c.take_block.new.out c.say_farewell.new.out c.serve.new.out (frame_of c.args.view) c.in-Goes.due c.in-Goes.farewell c.in-Goes.dropped passed
     (λ due back. c.in_ok-say_farewell-in-Goes.ensures.performs setup due back) (λ n back. c.in_ok-serve-in-Goes.ensures.performs setup n back served.passing))
     (returned.2 setup)) (follows returned.0 returned.1 setup)) c.rest_behind.ensures.follows
+
+-- ---- the connection ends in place of a frame
+
+pub returns-in_err-code-clause-over : goal.returns-in_err-code-clause-over
+returns-in_err-code-clause-over c =
+    stopped c.from_residual.result c.in_err-code.field-0.0 c.from_residual.ensures.1
+    (λ comes setup served. comes setup served.terms (streams_so setup c.args.service.passing c.is_streaming-at_once.result served.passing c.is_streaming-at_once.ensures)) c.in_err-code.ensures.over
+
+pub returns-in_err-say_farewell-in-Goes-clause-over : goal.returns-in_err-say_farewell-in-Goes-clause-over
+returns-in_err-say_farewell-in-Goes-clause-over c =
+    stopped c.from_residual-in_err-say_farewell-in-Goes.result c.in_err-say_farewell-in-Goes.field-0.0 c.from_residual-in_err-say_farewell-in-Goes.ensures.1
+    (λ ends setup served.
+    let passed =
+    block_goes setup c.args.rooms.now c.take_block.new.rooms c.args.out.now c.take_block.new.out (frame_of c.args.view) c.in_ok-code.field-0 c.in-Goes.due c.in-Goes.farewell c.in-Goes.dropped c.in-Goes.is (c.in_ok-code.ensures.taken setup served.terms (streams_so setup c.args.service.passing c.is_streaming-at_once.result served.passing c.is_streaming-at_once.ensures)) in
+    calm_comes setup c.args.rooms.now c.take_block.new.rooms square (record square { owed = farewell_frames c.in-Goes.farewell; due = due_by c.in-Goes.due; shared = c.in-Goes.dropped }) c.args.out.now c.take_block.new.out c.say_farewell.new.out (Came (record { frame = frame_of c.args.view; note = passed.note })) (OfFrame (frame_of c.args.view)) refl
+    passed.brings
+    (calm_ends setup c.take_block.new.rooms (record square { owed = farewell_frames c.in-Goes.farewell; due = due_by c.in-Goes.due; shared = c.in-Goes.dropped }) (inl (farewell_owed c.in-Goes.farewell ends.0)) (passed.alone ends.0 ends.1.0) c.take_block.new.out c.say_farewell.new.out ends.1)) c.in_err-say_farewell-in-Goes.ensures.over
+
+pub returns-in_err-return_dropped-in-Goes-clause-over : goal.returns-in_err-return_dropped-in-Goes-clause-over
+returns-in_err-return_dropped-in-Goes-clause-over c =
+    stopped c.from_residual-in_err-return_dropped-in-Goes.result c.in_err-return_dropped-in-Goes.field-0.0 c.from_residual-in_err-return_dropped-in-Goes.ensures.1
+    (λ ends setup served.
+    let passed =
+    block_goes setup c.args.rooms.now c.take_block.new.rooms c.args.out.now c.take_block.new.out (frame_of c.args.view) c.in_ok-code.field-0 c.in-Goes.due c.in-Goes.farewell c.in-Goes.dropped c.in-Goes.is (c.in_ok-code.ensures.taken setup served.terms (streams_so setup c.args.service.passing c.is_streaming-at_once.result served.passing c.is_streaming-at_once.ensures)) in
+    calm_comes setup c.args.rooms.now c.serve.new.rooms square (back_of c.in-Goes.dropped) c.args.out.now c.serve.new.out c.return_dropped.new.out (Came (record { frame = frame_of c.args.view; note = passed.note })) (OfFrame (frame_of c.args.view)) refl
+    (block_brings setup c.args.rooms.now c.take_block.new.rooms c.say_farewell.new.rooms c.serve.new.rooms c.args.out.now c.take_block.new.out c.say_farewell.new.out c.serve.new.out (frame_of c.args.view) c.in-Goes.due c.in-Goes.farewell c.in-Goes.dropped passed
+    (λ due back. c.in_ok-say_farewell-in-Goes.ensures.performs setup due back) (λ n back. c.in_ok-serve-in-Goes.ensures.performs setup n back served.passing)) (ends setup)) c.in_err-return_dropped-in-Goes.ensures.over
+
+pub returns-in_ok-return_dropped-in-Goes-clause-over : goal.returns-in_ok-return_dropped-in-Goes-clause-over
+returns-in_ok-return_dropped-in-Goes-clause-over c =
+    on_over c.rest_behind.result
+    (λ ends setup served.
+    let passed =
+    block_goes setup c.args.rooms.now c.take_block.new.rooms c.args.out.now c.take_block.new.out (frame_of c.args.view) c.in_ok-code.field-0 c.in-Goes.due c.in-Goes.farewell c.in-Goes.dropped c.in-Goes.is (c.in_ok-code.ensures.taken setup served.terms (streams_so setup c.args.service.passing c.is_streaming-at_once.result served.passing c.is_streaming-at_once.ensures)) in
+    let returned = c.in_ok-return_dropped-in-Goes.ensures.performs in
+    calm_comes setup c.args.rooms.now c.return_dropped.new.rooms square (back_of returned.0) c.args.out.now c.return_dropped.new.out c.rest_behind.new.out (Came (record { frame = frame_of c.args.view; note = passed.note })) (OfFrame (frame_of c.args.view)) refl
+    (brings_then setup c.args.rooms.now c.serve.new.rooms c.return_dropped.new.rooms square (back_of c.in-Goes.dropped) (back_of returned.0) c.args.out.now c.serve.new.out c.return_dropped.new.out (Came (record { frame = frame_of c.args.view; note = passed.note }))
+    (block_brings setup c.args.rooms.now c.take_block.new.rooms c.say_farewell.new.rooms c.serve.new.rooms c.args.out.now c.take_block.new.out c.say_farewell.new.out c.serve.new.out (frame_of c.args.view) c.in-Goes.due c.in-Goes.farewell c.in-Goes.dropped passed
+    (λ due back. c.in_ok-say_farewell-in-Goes.ensures.performs setup due back) (λ n back. c.in_ok-serve-in-Goes.ensures.performs setup n back served.passing))
+    (returned.2 setup)) (ends returned.0 returned.1 setup)) c.rest_behind.ensures.over

@@ -8,19 +8,20 @@ use Rattle.offering.specs.State as offering
 use Rattle.streams_kept.specs.Asked.{has}
 use Rattle.relay.specs.View.{square}
 use Rattle.relay.specs.Rest.{NoneCut}
+use Rattle.steps.proofs.Calming.{calm_comes}
 use Rattle.steps.specs.Inputs.Input.{OfFrame}
 use Rattle.steps.specs.Resting.{now_of}
 use Rattle.steps.proofs.Closings.{about_but}
 use Rattle.steps.proofs.Following.{comes_then}
 use Rattle.steps.proofs.Frames.{numbered_as, plain_goes, plain_ends, plain_brings, fatal_comes}
-use Rattle.steps.proofs.Results.{if_ok}
+use Rattle.steps.proofs.Results.{if_ok, on_over, stopped}
 use Rattle.steps.proofs.taking.take_other.Goals as goal
 
 pub serve-requires : goal.serve-requires
 serve-requires c =
     let before = c.requires.reached in
     let passed =
-    plain_goes before.0 c.args.rooms.now c.take_plain.new.rooms c.args.out.now c.take_plain.new.out (frame_of c.args.view) c.in_ok-code.field-0 c.in-Goes.due c.in-Goes.dropped c.in-Goes.is (c.in_ok-code.ensures before.0 before.1.terms.max_body) in
+    plain_goes before.0 c.args.rooms.now c.take_plain.new.rooms c.args.out.now c.take_plain.new.out (frame_of c.args.view) c.in_ok-code.field-0 c.in-Goes.due c.in-Goes.dropped c.in-Goes.is (c.in_ok-code.ensures.taken before.0 before.1.terms.max_body) in
     let here = passed.brings before.2.0 before.2.1 before.2.2 in
     record { reached = (before.0, before.1.passing, data_length is_any (frame_of c.args.view), c.in-Goes.dropped, (_, here.segment.state, here.segment.leads)) }
 
@@ -28,7 +29,7 @@ pub follow-requires-clause-reached : goal.follow-requires-clause-reached
 follow-requires-clause-reached c =
     let before = c.requires.reached in
     let passed =
-    plain_goes before.0 c.args.rooms.now c.take_plain.new.rooms c.args.out.now c.take_plain.new.out (frame_of c.args.view) c.in_ok-code.field-0 c.in-Goes.due c.in-Goes.dropped c.in-Goes.is (c.in_ok-code.ensures before.0 before.1.terms.max_body) in
+    plain_goes before.0 c.args.rooms.now c.take_plain.new.rooms c.args.out.now c.take_plain.new.out (frame_of c.args.view) c.in_ok-code.field-0 c.in-Goes.due c.in-Goes.dropped c.in-Goes.is (c.in_ok-code.ensures.taken before.0 before.1.terms.max_body) in
     let here =
     plain_brings before.0 c.args.rooms.now c.take_plain.new.rooms c.serve.new.rooms c.args.out.now c.take_plain.new.out c.serve.new.out (frame_of c.args.view) c.in-Goes.due c.in-Goes.dropped c.data_octets.result c.data_octets.ensures passed
     (λ n back. c.in_ok-serve-in-Goes.ensures.performs before.0 n back before.1.passing) before.2.0 before.2.1 before.2.2 in
@@ -38,35 +39,35 @@ pub follow-requires-clause-last : goal.follow-requires-clause-last
 follow-requires-clause-last c =
     let before = c.requires.reached in
     let passed =
-    plain_goes before.0 c.args.rooms.now c.take_plain.new.rooms c.args.out.now c.take_plain.new.out (frame_of c.args.view) c.in_ok-code.field-0 c.in-Goes.due c.in-Goes.dropped c.in-Goes.is (c.in_ok-code.ensures before.0 before.1.terms.max_body) in
+    plain_goes before.0 c.args.rooms.now c.take_plain.new.rooms c.args.out.now c.take_plain.new.out (frame_of c.args.view) c.in_ok-code.field-0 c.in-Goes.due c.in-Goes.dropped c.in-Goes.is (c.in_ok-code.ensures.taken before.0 before.1.terms.max_body) in
     sym (ap (λ (i : Inbound). i.last) c.in_ok-serve-in-Goes.ensures.stays.0 ∙ passed.last)
 
 pub follow-requires-clause-none_cut : goal.follow-requires-clause-none_cut
 follow-requires-clause-none_cut c =
     let before = c.requires.reached in
     let passed =
-    plain_goes before.0 c.args.rooms.now c.take_plain.new.rooms c.args.out.now c.take_plain.new.out (frame_of c.args.view) c.in_ok-code.field-0 c.in-Goes.due c.in-Goes.dropped c.in-Goes.is (c.in_ok-code.ensures before.0 before.1.terms.max_body) in
+    plain_goes before.0 c.args.rooms.now c.take_plain.new.rooms c.args.out.now c.take_plain.new.out (frame_of c.args.view) c.in_ok-code.field-0 c.in-Goes.due c.in-Goes.dropped c.in-Goes.is (c.in_ok-code.ensures.taken before.0 before.1.terms.max_body) in
     subst (λ (o : offering.State). NoneCut o) (sym c.in_ok-serve-in-Goes.ensures.stays.1) passed.none_cut
 
 pub follow-requires-clause-none_but : goal.follow-requires-clause-none_but
 follow-requires-clause-none_but c =
     let before = c.requires.reached in
     let passed =
-    plain_goes before.0 c.args.rooms.now c.take_plain.new.rooms c.args.out.now c.take_plain.new.out (frame_of c.args.view) c.in_ok-code.field-0 c.in-Goes.due c.in-Goes.dropped c.in-Goes.is (c.in_ok-code.ensures before.0 before.1.terms.max_body) in
+    plain_goes before.0 c.args.rooms.now c.take_plain.new.rooms c.args.out.now c.take_plain.new.out (frame_of c.args.view) c.in_ok-code.field-0 c.in-Goes.due c.in-Goes.dropped c.in-Goes.is (c.in_ok-code.ensures.taken before.0 before.1.terms.max_body) in
     c.in_ok-serve-in-Goes.ensures.none_but c.args.view.id (about_but c.args.view.id c.args.rooms.now c.take_plain.new.rooms passed.about c.requires.settled.rest.none_done)
 
 pub follow-requires-clause-numbered : goal.follow-requires-clause-numbered
 follow-requires-clause-numbered c id kept =
     let before = c.requires.reached in
     let passed =
-    plain_goes before.0 c.args.rooms.now c.take_plain.new.rooms c.args.out.now c.take_plain.new.out (frame_of c.args.view) c.in_ok-code.field-0 c.in-Goes.due c.in-Goes.dropped c.in-Goes.is (c.in_ok-code.ensures before.0 before.1.terms.max_body) in
+    plain_goes before.0 c.args.rooms.now c.take_plain.new.rooms c.args.out.now c.take_plain.new.out (frame_of c.args.view) c.in_ok-code.field-0 c.in-Goes.due c.in-Goes.dropped c.in-Goes.is (c.in_ok-code.ensures.taken before.0 before.1.terms.max_body) in
     numbered_as c.args.rooms.now c.take_plain.new.rooms passed.ids c.requires.settled.numbered id (subst (λ (i : Inbound). has i.rows id ≡ true) c.in_ok-serve-in-Goes.ensures.stays.0 kept)
 
 pub returns-in_ok-end-in-Fatal-clause-comes : goal.returns-in_ok-end-in-Fatal-clause-comes
 returns-in_ok-end-in-Fatal-clause-comes c setup served =
     let fatal =
-    plain_ends setup c.args.rooms.now c.take_plain.new.rooms c.args.out.now c.take_plain.new.out (frame_of c.args.view) c.in_ok-code.field-0 c.in-Fatal.code c.in-Fatal.is (c.in_ok-code.ensures setup served.terms.max_body) in
-    fatal_comes setup c.args.rooms.now c.take_plain.new.rooms c.args.out.now c.take_plain.new.out c.end.new.out (frame_of c.args.view) (noted_of (frame_of c.args.view)).note (λ s. s.tables.decoding) c.in-Fatal.code c.requires.settled.rest fatal.nothing_put fatal.upstreams fatal.rows fatal.fault fatal.fatal
+    plain_ends setup c.args.rooms.now c.take_plain.new.rooms c.args.out.now c.take_plain.new.out (frame_of c.args.view) c.in_ok-code.field-0 c.in-Fatal.code c.in-Fatal.is (c.in_ok-code.ensures.taken setup served.terms.max_body) in
+    fatal_comes setup c.args.rooms.now c.take_plain.new.rooms c.args.out.now c.take_plain.new.out c.end.new.out (frame_of c.args.view) (noted_of (frame_of c.args.view)).note (λ s. s.tables.decoding) c.in-Fatal.code c.requires.settled.rest fatal.nothing_put fatal.upstreams fatal.rows fatal.untaken fatal.fault fatal.fatal
     (λ run s kept d. c.in_ok-end-in-Fatal.ensures setup run s kept d)
 
 pub returns-in_ok-serve-in-Goes-clause-comes : goal.returns-in_ok-serve-in-Goes-clause-comes
@@ -75,5 +76,19 @@ returns-in_ok-serve-in-Goes-clause-comes c =
     (λ went follows setup served.
     comes_then setup c.args.rooms.now c.serve.new.rooms square (record square { fresh = c.data_octets.result; shared = c.in-Goes.dropped }) square c.args.out.now c.serve.new.out c.follow.new.out (Came (noted_of (frame_of c.args.view))) (OfFrame (frame_of c.args.view)) (now_of went c.follow.new.rooms) refl
     (plain_brings setup c.args.rooms.now c.take_plain.new.rooms c.serve.new.rooms c.args.out.now c.take_plain.new.out c.serve.new.out (frame_of c.args.view) c.in-Goes.due c.in-Goes.dropped c.data_octets.result c.data_octets.ensures
-    (plain_goes setup c.args.rooms.now c.take_plain.new.rooms c.args.out.now c.take_plain.new.out (frame_of c.args.view) c.in_ok-code.field-0 c.in-Goes.due c.in-Goes.dropped c.in-Goes.is (c.in_ok-code.ensures setup served.terms.max_body))
+    (plain_goes setup c.args.rooms.now c.take_plain.new.rooms c.args.out.now c.take_plain.new.out (frame_of c.args.view) c.in_ok-code.field-0 c.in-Goes.due c.in-Goes.dropped c.in-Goes.is (c.in_ok-code.ensures.taken setup served.terms.max_body))
     (λ n back. c.in_ok-serve-in-Goes.ensures.performs setup n back served.passing)) (follows setup)) c.follow.ensures.follows
+
+-- ---- the connection ends in place of a frame
+
+pub returns-in_err-code-clause-over : goal.returns-in_err-code-clause-over
+returns-in_err-code-clause-over c = stopped c.from_residual.result c.in_err-code.field-0.0 c.from_residual.ensures.1 (λ comes setup served. comes setup served.terms.max_body) c.in_err-code.ensures.over
+
+pub returns-in_ok-serve-in-Goes-clause-over : goal.returns-in_ok-serve-in-Goes-clause-over
+returns-in_ok-serve-in-Goes-clause-over c =
+    on_over c.follow.result
+    (λ ends setup served.
+    calm_comes setup c.args.rooms.now c.serve.new.rooms square (record square { fresh = c.data_octets.result; shared = c.in-Goes.dropped }) c.args.out.now c.serve.new.out c.follow.new.out (Came (noted_of (frame_of c.args.view))) (OfFrame (frame_of c.args.view)) refl
+    (plain_brings setup c.args.rooms.now c.take_plain.new.rooms c.serve.new.rooms c.args.out.now c.take_plain.new.out c.serve.new.out (frame_of c.args.view) c.in-Goes.due c.in-Goes.dropped c.data_octets.result c.data_octets.ensures
+    (plain_goes setup c.args.rooms.now c.take_plain.new.rooms c.args.out.now c.take_plain.new.out (frame_of c.args.view) c.in_ok-code.field-0 c.in-Goes.due c.in-Goes.dropped c.in-Goes.is (c.in_ok-code.ensures.taken setup served.terms.max_body))
+    (λ n back. c.in_ok-serve-in-Goes.ensures.performs setup n back served.passing)) (ends setup)) c.follow.ensures.over

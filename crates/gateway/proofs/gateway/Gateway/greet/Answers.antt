@@ -1,8 +1,11 @@
+use Rattle.std.specs.Prelude.{nat_lt}
 use Rattle.std.proofs.Common.{◌≡◌, true, false, ap, subst, sym, ◌∙◌}
+use Rattle.model.specs.Admission.{most_untaken}
 use Rattle.steps.specs.Resting.{IsSettled}
-use Rattle.gateway.specs.Stands.{Standing}
+use Rattle.gateway.specs.Stands.{Standing, IsFresh}
 use Rattle.gateway.specs.Receiving.{Greets}
 use Rattle.gateway.proofs.Pieces.{greets_none, greets_first}
+use Rattle.gateway.specs.declared.phase.Phase.{Phase}
 use Rattle.gateway.specs.declared.phase.Phase.TheVariants as phase
 use Rattle.gateway.proofs.gateway.Gateway.greet.Goals as goal
 use Rattle.gateway.proofs.gateway.Gateway.greet.Goals.{in-New, in_default}
@@ -14,11 +17,22 @@ returns-else-matches c = subst (λ o. Greets c.args.self.now c.args.self.now o) 
       | in_default w ↦ λ is. w.in_default.not-New (ap (λ (g : Standing). g.phase) c.self.view_is ∙ is)
     ]) c.requires.settled)
 
-pub returns-in_ok-pay : goal.returns-in_ok-pay
-returns-in_ok-pay c =
+pub returns-in_ok-greet : goal.returns-in_ok-greet
+returns-in_ok-greet c =
     let new : c.args.self.now.phase ≡ phase.New =
     elim c.match-matches.branch [
       | in-New w ↦ ap (λ (g : Standing). g.phase) (sym c.self.view_is) ∙ w.in-New.is
       | in_default w ↦ absurd (let both : true ≡ false = sym c.if-matches.true ∙ w.matches-is in cc)
     ] in
-    rw (← c.self.view_is) (greets_first _ c.pay.new.rooms c.args.out.now c.pay.new.out (ap (λ (g : Standing). g.phase) c.self.view_is ∙ new) (subst (λ (g : Standing). IsSettled g.kept) (sym c.self.view_is) c.requires.settled) c.requires.nothing c.in_ok-pay.ensures.performs c.in_ok-pay.ensures.puts c.in_ok-pay.ensures.counts)
+    rw (← c.self.view_is) (greets_first _ c.greet.new.rooms c.args.out.now c.greet.new.out (ap (λ (g : Standing). g.phase) c.self.view_is ∙ new) (subst (λ (g : Standing). IsSettled g.kept) (sym c.self.view_is) c.requires.settled) c.requires.nothing c.in_ok-greet.ensures.performs c.in_ok-greet.ensures.puts c.in_ok-greet.ensures.counts)
+
+-- nothing was put out yet
+pub greet-requires : goal.greet-requires
+greet-requires c =
+    let new : c.args.self.now.phase ≡ phase.New =
+    elim c.match-matches.branch [
+      | in-New w ↦ ap (λ (g : Standing). g.phase) (sym c.self.view_is) ∙ w.in-New.is
+      | in_default w ↦ absurd (let both : true ≡ false = sym c.if-matches.true ∙ w.matches-is in cc)
+    ] in
+    let none : c.args.self.now.kept.untaken ≡ 0 = subst (λ (p : Phase). IsFresh p c.args.self.now.kept) new c.requires.fresh in
+    ap (nat_lt most_untaken) (ap (λ (g : Standing). g.kept.untaken) c.self.view_is ∙ none)

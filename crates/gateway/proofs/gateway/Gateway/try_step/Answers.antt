@@ -1,13 +1,20 @@
 use Rattle.std.proofs.Common.{◌≡◌, ◌∙◌, reverse, ap, sym, subst, true, false}
 use Rattle.std.proofs.lemmas.Bool.{and_parts}
+use Rattle.model.specs.Logs.{client_in}
 use Rattle.outputs.specs.Views.{event_of}
 use Rattle.steps.specs.Admission.{admits as admits_kept}
 use Rattle.gateway.specs.declared.phase.Phase.TheVariants as phase
 use Rattle.gateway.specs.Stands.{Standing, StandsNext, is_open}
 use Rattle.gateway.proofs.Admitting.{admitted_in}
-use Rattle.gateway.proofs.Going.{serves_mid, mid_leads, stands_next, ended, on_ok_map}
+use Rattle.gateway.proofs.Going.{open_in, serves_mid, mid_leads, stands_next, ended, on_ok_map}
 use Rattle.gateway.proofs.gateway.Gateway.try_step.Goals.{in-Over, in_default, then-matches, else-matches}
 use Rattle.gateway.proofs.gateway.Gateway.try_step.Goals as goal
+
+pub greet-requires-clause-fresh : goal.greet-requires-clause-fresh
+greet-requires-clause-fresh c =
+    let st = c.requires.stands in
+    let goes = (and_parts (is_open c.args.self.now.phase) (admits_kept c.args.self.now.kept (event_of c.args.event.now)) c.requires.admitted).0 in
+    (open_in c.args.self.now.phase st.0 c.args.self.now.partial c.args.self.now.kept (client_in st.1) st.2 goes st.3.is_in).fresh
 
 pub happen-requires-clause-reached : goal.happen-requires-clause-reached
 happen-requires-clause-reached c =

@@ -4,7 +4,7 @@ use Rattle.model.specs.Frames.{headers_kind, continuation_kind}
 use Rattle.judgement.proofs.connection.Connection.judge_frame.Goals as goal
 
 pub returns : goal.returns
-returns c = λ setup outside for.
+returns c = λ setup outside for crowded.
     let none = or_parts (c.args.view.kind == headers_kind) (c.args.view.kind == continuation_kind) (sym c.has_fragment.ensures ∙ c.if-has_fragment.false) in
     record {
       plain = record { no_headers = none.0; no_continuation = none.1 };

@@ -56,7 +56,7 @@ take_block-requires-clause-of_stream c =
     ap (λ n. n == 0) (eqb-true frame.id begun.block.id begun.same) ∙ c.self.invariant.of_stream begun.block begun.is
 
 pub returns : goal.returns
-returns c = if_ok c.take_block.result c.take_block.ensures (λ answer told setup outside for.
+returns c = if_ok c.take_block.result c.take_block.ensures (λ answer told setup outside for crowded.
     let i : Inbound = the_view c.self.inside in
     let frame : Frame = frame_of c.args.view in
     let by : IsBegun c.args.self.now frame = continuation_later c.args.self.now frame c.requires.kind c.requires.sound in
@@ -65,7 +65,7 @@ returns c = if_ok c.take_block.result c.take_block.ensures (λ answer told setup
     sym c.in-Some.is ∙ c.finish.ensures.block ∙ ap (λ (j : Joining). j.begun) c.in_ok-more.ensures.begun
     ∙ more_is c.self.inside.joiner by.block c.args.fragment.now (content frame) (ap (λ (o : Inbound). o.block) c.self.view_is ∙ by.is) c.requires.fragment
     ) in
-    told setup outside c.args.self.now block for
+    told setup outside c.args.self.now block for crowded
     (continuation_completes c.args.self.now _ frame c.requires.kind (sym c.ends_headers.ensures ∙ c.if-not-ends_headers.false) c.requires.sound by (
     ap (λ (j : Joining). record i { block = j.begun; continuations = c.self.inside.continuations + 1 }) c.finish.ensures.nothing
     ∙ ap (λ n. record i { block = None; continuations = n }) (omega arith)
@@ -75,6 +75,6 @@ returns c = if_ok c.take_block.result c.take_block.ensures (λ answer told setup
     (sym (c.fragments.ensures ∙ ap (λ (p : Partial). p.fragments) whole)))
 
 pub returns-then-not-ends_headers : goal.returns-then-not-ends_headers
-returns-then-not-ends_headers c = λ setup outside for.
+returns-then-not-ends_headers c = λ setup outside for crowded.
     goes_on_judged setup outside c.args.self.now c.keep_more.new.self (frame_of c.args.view) (ap (λ b. if b then joined c.args.self.now.block (frame_of c.args.view) else None) (sym c.ends_headers.ensures ∙ c.if-not-ends_headers.true))
     (c.in_ok-keep_more.ensures.faultless outside) (c.in_ok-keep_more.ensures.left setup outside) c.in_ok-keep_more.ensures.table

@@ -28,13 +28,13 @@ pub take_block-requires-clause-of_stream : goal.take_block-requires-clause-of_st
 take_block-requires-clause-of_stream c = headers_of_stream c.args.self.now (frame_of c.args.view) c.requires.kind c.requires.sound
 
 pub returns : goal.returns
-returns c = if_ok c.take_block.result c.take_block.ensures (λ answer told setup outside for.
-    told setup outside c.args.self.now (record { id = c.args.view.id; ends = ends_stream (frame_of c.args.view); fragments = content (frame_of c.args.view) }) for
+returns c = if_ok c.take_block.result c.take_block.ensures (λ answer told setup outside for crowded.
+    told setup outside c.args.self.now (record { id = c.args.view.id; ends = ends_stream (frame_of c.args.view); fragments = content (frame_of c.args.view) }) for crowded
     (headers_complete c.args.self.now _ (frame_of c.args.view) c.requires.kind (sym c.ends_headers.ensures ∙ c.if-not-ends_headers.false) c.requires.sound (ap (λ (o : Inbound). record o { continuations = 0 }) c.self.view_is))
     (sym c.ends_stream.ensures)
     (sym c.requires.fragment))
 
 pub returns-then-not-ends_headers : goal.returns-then-not-ends_headers
-returns-then-not-ends_headers c = λ setup outside for.
+returns-then-not-ends_headers c = λ setup outside for crowded.
     goes_on_judged setup outside c.args.self.now c.keep_first.new.self (frame_of c.args.view) (ap (λ b. if b then joined c.args.self.now.block (frame_of c.args.view) else None) (sym c.ends_headers.ensures ∙ c.if-not-ends_headers.true))
     (c.in_ok-keep_first.ensures.faultless outside) (c.in_ok-keep_first.ensures.left setup outside) c.in_ok-keep_first.ensures.table

@@ -1,4 +1,4 @@
-use Rattle.std.proofs.Common.{◌≡◌, ℕ, List, ◌∷◌, reverse, Option, sym, ◌∙◌, ap, subst}
+use Rattle.std.proofs.Common.{◌≡◌, ℕ, List, ◌∷◌, reverse, Option, sym, ◌∙◌, ap, subst, Bool, nat_lt}
 use Rattle.model.specs.Frames.{spell, goaway}
 use Rattle.model.specs.Logs.Act.{CloseClient}
 use Rattle.model.specs.Logs.Output.{ToClient}
@@ -10,9 +10,10 @@ use Rattle.upstreams.specs.Connections.{lives}
 use Rattle.policy.specs.Ending.{frames_sent, closed_all}
 use Rattle.relay.specs.Performing.{put_all}
 use Rattle.relay.specs.View.{View}
+use Rattle.model.specs.Admission.{most_untaken}
 use Rattle.steps.specs.ending.Reasons.{code_in}
 use Rattle.steps.proofs.ending.Closes.{on_ok}
-use Rattle.steps.proofs.ending.Farewells.{farewells, ends}
+use Rattle.steps.proofs.ending.Farewells.{farewells, ends, code_told}
 use Rattle.steps.proofs.ending.closing.end.Goals as goal
 use Rattle.steps.proofs.ending.closing.end.Goals.{in-Some+in_ok-send_goaway, in_default}
 
@@ -20,17 +21,19 @@ pub returns : goal.returns
 returns c =
     let last : ℕ = highest_in (ids_of c.args.rooms.now.inbound.rows) in
     -- the farewell is put out, where there is one
-    let told : c.match-code.out ≡ put_all c.args.out.now (frames_sent (farewells last (code_in c.args.why))) = elim c.match-code.branch [
+    let crowded : Bool = nat_lt most_untaken c.args.rooms.now.untaken in
+    let told : c.match-code.out ≡ put_all c.args.out.now (frames_sent (farewells last (code_told crowded (code_in c.args.why)))) = elim c.match-code.branch [
       | in-Some+in_ok-send_goaway w ↦
           w.out-is
           ∙ w.in_ok-send_goaway.ensures
-          ∙ ap (λ (n : ℕ). put c.args.out.now (ToClient (spell (goaway n w.in-Some.code)))) (w.highest.ensures ∙ ap (λ (rows : List Row). highest_in (ids_of rows)) (w.streams.ensures.is ∙ ap (λ (v : View). v.inbound.rows) c.rooms.view_is))
-          ∙ ap (λ (code : Option ℕ). put_all c.args.out.now (frames_sent (farewells last code))) (sym w.in-Some.is ∙ c.code.ensures)
-      | in_default w ↦ w.out-is ∙ ap (λ (code : Option ℕ). put_all c.args.out.now (frames_sent (farewells last code))) (sym w.in_default.is ∙ c.code.ensures)
+          ∙ ap (λ (n : ℕ). put c.args.out.now (ToClient (spell (goaway n w.farewell_code-code.result)))) (w.highest.ensures ∙ ap (λ (rows : List Row). highest_in (ids_of rows)) (w.streams.ensures.is ∙ ap (λ (v : View). v.inbound.rows) c.rooms.view_is))
+          ∙ ap (λ (n : ℕ). put c.args.out.now (ToClient (spell (goaway last n)))) w.farewell_code-code.ensures
+          ∙ ap (λ (code : Option ℕ). put_all c.args.out.now (frames_sent (farewells last (code_told crowded code)))) (sym w.in-Some.is ∙ c.code.ensures)
+      | in_default w ↦ w.out-is ∙ ap (λ (code : Option ℕ). put_all c.args.out.now (frames_sent (farewells last (code_told crowded code)))) (sym w.in_default.is ∙ c.code.ensures)
     ] in
     on_ok c.close_all.result
-    (λ closes setup run s before d same rows leads by.
+    (λ closes setup run s before d same rows untaken leads by.
     ends setup run s before c.args.rooms.now c.args.why d c.args.out.now c.match-code.out c.close_all.new.out told
     (subst (λ (v : View). c.close_all.new.out ≡ put_all c.match-code.out (Did CloseClient ∷ closed_all (reverse (lives v.upstreams.live)))) c.rooms.view_is closes)
-    same rows leads by)
+    same rows untaken leads by)
     c.close_all.ensures

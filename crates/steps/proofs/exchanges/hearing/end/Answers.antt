@@ -12,8 +12,8 @@ use Rattle.relay.specs.Rest.{NoneCut, NoneDone}
 use Rattle.steps.specs.exchanges.Giving.{closed_at}
 use Rattle.steps.specs.exchanges.Taking.{IsEndTaken}
 use Rattle.steps.proofs.Closings.{but_one, if_stream}
-use Rattle.steps.proofs.Results.{if_ok}
-use Rattle.steps.proofs.exchanges.Closes.{if_then, stream_active, stream_numbered, stream_kept, completes, cut_short, end_none_cut, abandoned_none_cut, abandoned_numbered}
+use Rattle.steps.proofs.Results.{if_ok, on_over}
+use Rattle.steps.proofs.exchanges.Closes.{if_then, stream_active, stream_numbered, stream_kept, completes, cut_short, end_none_cut, abandoned_none_cut, abandoned_numbered, cut_short_over}
 use Rattle.steps.proofs.exchanges.Done.{marked, answered_none, answered_found, abandoned_none_but, whole_closes, whole_goes}
 use Rattle.steps.proofs.exchanges.hearing.end.Goals as goal
 
@@ -68,7 +68,7 @@ returns-in-Short-clause-brings c =
     cut_short c.args.rooms.now c.requires.rest c.args.k c.args.out.now setup c.stream_of-stream.result c.take_end.new.rooms c.abandon.new.rooms c.abandon.new.out back
     (subst (λ (h : Ended). IsEndTaken c.args.rooms.now c.args.k h c.take_end.new.rooms) c.in-Short.is c.in_ok-take_end.ensures)
     c.stream_of-stream.ensures few given)
-    c.abandon.ensures
+    c.abandon.ensures.given
 
 pub returns-in-Short-clause-none_cut : goal.returns-in-Short-clause-none_cut
 returns-in-Short-clause-none_cut c =
@@ -76,7 +76,7 @@ returns-in-Short-clause-none_cut c =
     (λ back given.
     abandoned_none_cut c.args.k c.stream_of-stream.result c.take_end.new.rooms c.abandon.new.rooms c.args.out.now c.abandon.new.out back
     (end_none_cut c.args.rooms.now c.args.k c.in_ok-take_end.field-0 c.take_end.new.rooms c.requires.rest.none_cut c.in_ok-take_end.ensures) given)
-    c.abandon.ensures
+    c.abandon.ensures.given
 
 pub returns-in-Short-clause-numbered : goal.returns-in-Short-clause-numbered
 returns-in-Short-clause-numbered c =
@@ -84,7 +84,7 @@ returns-in-Short-clause-numbered c =
     (λ back given.
     abandoned_numbered c.args.k c.stream_of-stream.result c.take_end.new.rooms c.abandon.new.rooms c.args.out.now c.abandon.new.out back
     (λ id there. c.requires.numbered id (sym (ap (λ (v : View). has v.inbound.rows id) c.in_ok-take_end.ensures.is) ∙ there)) given)
-    c.abandon.ensures
+    c.abandon.ensures.given
 
 pub returns-in-Short-clause-none_but : goal.returns-in-Short-clause-none_but
 returns-in-Short-clause-none_but c =
@@ -93,4 +93,13 @@ returns-in-Short-clause-none_but c =
     (λ back given.
     if_stream (find number_of c.args.k c.args.rooms.now.upstreams.live) c.stream_of-stream.result c.abandon.new.rooms c.stream_of-stream.ensures
     (abandoned_none_but c.args.k c.stream_of-stream.result c.take_end.new.rooms c.abandon.new.rooms c.args.out.now c.abandon.new.out back (answered_none c.args.rooms.now c.take_end.new.rooms c.args.k taken.answer taken.offers taken.is c.requires.rest.none_done) given))
-    c.abandon.ensures
+    c.abandon.ensures.given
+
+pub returns-in-Short-clause-over : goal.returns-in-Short-clause-over
+returns-in-Short-clause-over c =
+    on_over c.abandon.result
+    (λ is setup.
+    cut_short_over c.args.rooms.now c.requires.rest c.args.k c.args.out.now setup c.stream_of-stream.result c.take_end.new.rooms c.abandon.new.out
+    (subst (λ (h : Ended). IsEndTaken c.args.rooms.now c.args.k h c.take_end.new.rooms) c.in-Short.is c.in_ok-take_end.ensures)
+    c.stream_of-stream.ensures is)
+    c.abandon.ensures.over

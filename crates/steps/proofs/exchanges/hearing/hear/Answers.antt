@@ -12,8 +12,8 @@ use Rattle.relay.specs.Rest.{NoneCut, NoneDone}
 use Rattle.steps.specs.exchanges.Giving.{closed_at}
 use Rattle.steps.specs.exchanges.Taking.{AreTaken}
 use Rattle.steps.proofs.Closings.{but_one, if_stream}
-use Rattle.steps.proofs.Results.{if_ok}
-use Rattle.steps.proofs.exchanges.Closes.{if_then, stream_active, stream_numbered, stream_kept, goes_on, is_whole, fails, taken_none_cut, abandoned_none_cut, abandoned_numbered}
+use Rattle.steps.proofs.Results.{if_ok, on_over}
+use Rattle.steps.proofs.exchanges.Closes.{if_then, stream_active, stream_numbered, stream_kept, goes_on, is_whole, fails, taken_none_cut, abandoned_none_cut, abandoned_numbered, fails_over}
 use Rattle.steps.proofs.exchanges.Done.{marked, answered_none, answered_found, abandoned_none_but, whole_closes, whole_goes}
 use Rattle.steps.proofs.exchanges.hearing.hear.Goals as goal
 
@@ -82,7 +82,7 @@ returns-in-Failed-clause-brings c =
     fails c.args.rooms.now c.requires.rest c.args.k c.args.out.now setup c.args.octets.now c.requires.short c.stream_of-stream.result c.take_octets.new.rooms c.abandon.new.rooms c.abandon.new.out back
     (subst (λ (h : Heard). AreTaken c.args.rooms.now c.args.k c.args.octets.now h c.take_octets.new.rooms) c.in-Failed.is c.in_ok-take_octets.ensures)
     c.stream_of-stream.ensures few given)
-    c.abandon.ensures
+    c.abandon.ensures.given
 
 pub returns-in-Failed-clause-none_cut : goal.returns-in-Failed-clause-none_cut
 returns-in-Failed-clause-none_cut c =
@@ -90,7 +90,7 @@ returns-in-Failed-clause-none_cut c =
     (λ back given.
     abandoned_none_cut c.args.k c.stream_of-stream.result c.take_octets.new.rooms c.abandon.new.rooms c.args.out.now c.abandon.new.out back
     (taken_none_cut c.args.rooms.now c.args.k c.args.octets.now c.in_ok-take_octets.field-0 c.take_octets.new.rooms c.requires.rest.none_cut c.in_ok-take_octets.ensures) given)
-    c.abandon.ensures
+    c.abandon.ensures.given
 
 pub returns-in-Failed-clause-numbered : goal.returns-in-Failed-clause-numbered
 returns-in-Failed-clause-numbered c =
@@ -98,7 +98,7 @@ returns-in-Failed-clause-numbered c =
     (λ back given.
     abandoned_numbered c.args.k c.stream_of-stream.result c.take_octets.new.rooms c.abandon.new.rooms c.args.out.now c.abandon.new.out back
     (λ id there. c.requires.numbered id (sym (ap (λ (v : View). has v.inbound.rows id) c.in_ok-take_octets.ensures.is) ∙ there)) given)
-    c.abandon.ensures
+    c.abandon.ensures.given
 
 pub returns-in-Failed-clause-none_but : goal.returns-in-Failed-clause-none_but
 returns-in-Failed-clause-none_but c =
@@ -107,4 +107,13 @@ returns-in-Failed-clause-none_but c =
     (λ back given.
     if_stream (find number_of c.args.k c.args.rooms.now.upstreams.live) c.stream_of-stream.result c.abandon.new.rooms c.stream_of-stream.ensures
     (abandoned_none_but c.args.k c.stream_of-stream.result c.take_octets.new.rooms c.abandon.new.rooms c.args.out.now c.abandon.new.out back (answered_none c.args.rooms.now c.take_octets.new.rooms c.args.k taken.answer taken.offers taken.is c.requires.rest.none_done) given))
-    c.abandon.ensures
+    c.abandon.ensures.given
+
+pub returns-in-Failed-clause-over : goal.returns-in-Failed-clause-over
+returns-in-Failed-clause-over c =
+    on_over c.abandon.result
+    (λ is setup.
+    fails_over c.args.rooms.now c.requires.rest c.args.k c.args.out.now setup c.args.octets.now c.requires.short c.stream_of-stream.result c.take_octets.new.rooms c.abandon.new.out
+    (subst (λ (h : Heard). AreTaken c.args.rooms.now c.args.k c.args.octets.now h c.take_octets.new.rooms) c.in-Failed.is c.in_ok-take_octets.ensures)
+    c.stream_of-stream.ensures is)
+    c.abandon.ensures.over

@@ -1,5 +1,7 @@
 use Rattle.relay.specs.Rest.{back_of}
 use Rattle.relay.proofs.Bringing.{own_none, own_then}
+use Rattle.steps.proofs.Calming.{calm_behind}
+use Rattle.steps.proofs.Results.{stopped}
 use Rattle.steps.proofs.flushing.turns.flush.Goals as goal
 
 pub loop-rooms-init : goal.loop-rooms-init
@@ -24,3 +26,12 @@ loop-rooms-preserved c =
       passed.numbered,
       passed.none_done,
     )
+
+-- the connection ends in place of a frame
+pub returns-in_err-pass_one-clause-over : goal.returns-in_err-pass_one-clause-over
+returns-in_err-pass_one-clause-over c =
+    stopped c.from_residual.result c.in_err-pass_one.field-0.0 c.from_residual.ensures.1
+    (λ ends back is_back setup.
+    let done = c.loop-rooms.invariant.0 back is_back in
+    calm_behind setup c.args.rooms.now c.loop-rooms.rooms (back_of back) (back_of done.0) c.args.out.now c.loop-rooms.out c.pass_one.new.out (done.2 setup) (ends done.0 done.1 setup))
+    c.in_err-pass_one.ensures.over

@@ -1,4 +1,4 @@
-use Rattle.std.proofs.Common.{◌<◌, ◌≤◌, sym, ◌∙◌, ap, subst, refl, if◌then◌else◌, arith}
+use Rattle.std.proofs.Common.{◌<◌, ◌≤◌, sym, ◌∙◌, ap, subst, refl, if◌then◌else◌, arith, ◌≡◌, true, false}
 use Rattle.judgement.specs.Inbound.{Inbound}
 use Rattle.offering.specs.State as offering
 use Rattle.offers.specs.Asked.{windows_over}
@@ -9,8 +9,11 @@ use Rattle.relay.specs.View.{View, square, waiting_for}
 use Rattle.relay.specs.Rest.{NoneCut, back_of}
 use Rattle.relay.specs.Bringing.{PerformsOwn}
 use Rattle.relay.proofs.Bringing.{own_then}
+use Rattle.steps.specs.Stopping.{EndsFrom}
+use Rattle.steps.proofs.Calming.{calm_behind}
+use Rattle.steps.proofs.Results.{stopped}
 use Rattle.steps.specs.flushing.Changes.{ended, put_at_end, IsPartSent}
-use Rattle.steps.proofs.flushing.Performing.{turn_active, turn_ready, part_performs, ends_then, active_has}
+use Rattle.steps.proofs.flushing.Performing.{turn_active, turn_ready, part_performs, ends_then, active_has, part_over}
 use Rattle.steps.specs.Closings.{IsAbout}
 use Rattle.steps.proofs.Stays.{on_as}
 use Rattle.steps.proofs.Closings.{about_but, but_stays}
@@ -31,10 +34,10 @@ send_part-requires-clause-live c =
 pub send_part-requires-clause-small : goal.send_part-requires-clause-small
 send_part-requires-clause-small c = c.requires.numbered c.args.id (active_has c.args.rooms.now.inbound.rows c.args.id (send_part-requires-clause-live c))
 
-pub end_stream-requires-clause-small : goal.end_stream-requires-clause-small
-end_stream-requires-clause-small c =
+pub end_stream-requires : goal.end_stream-requires
+end_stream-requires c =
     let moves = c.requires.reached in
-    c.requires.numbered c.args.id (active_has c.args.rooms.now.inbound.rows c.args.id (turn_active moves.0 moves.3.0 moves.3.1 c.args.rooms.now (back_of moves.1) c.args.id moves.3.2 c.requires.turn))
+    record { small = c.requires.numbered c.args.id (active_has c.args.rooms.now.inbound.rows c.args.id (turn_active moves.0 moves.3.0 moves.3.1 c.args.rooms.now (back_of moves.1) c.args.id moves.3.2 c.requires.turn)) }
 
 pub return_dropped-requires : goal.return_dropped-requires
 return_dropped-requires c =
@@ -46,7 +49,7 @@ return_dropped-requires c =
     let none = moves.2 (active_goes_on u c.args.id live) in
     let first = subst (λ n. Rattle.relay.specs.View.Leads moves.0 moves.3.0 u (back_of n) moves.3.1) none moves.3.2 in
     let here =
-    ends_then u c.args.id c.requires.none_cut c.requires.turn small c.requires.few moves.0 c.args.out.now v c.send_part.new.out (subst (λ b. IsPartSent u c.args.out.now c.args.id b v c.send_part.new.out) c.if-ends.true c.in_ok-ends.ensures.sent) c.in_ok-dropped.dropped c.end_stream.new.rooms c.end_stream.new.out
+    ends_then u c.args.id c.requires.none_cut c.requires.turn small c.requires.few moves.0 c.args.out.now v c.send_part.new.out (subst (λ b. IsPartSent u c.args.out.now c.args.id b v c.send_part.new.out) c.if-ends.true c.in_ok-ends.ensures.sent) c.in_ok-dropped.ensures.few c.in_ok-dropped.dropped c.end_stream.new.rooms c.end_stream.new.out
     (c.in_ok-dropped.ensures.dropped ∙ sent_waits u c.args.out.now c.args.id c.in_ok-ends.ends v c.send_part.new.out c.in_ok-ends.ensures.sent) c.in_ok-dropped.ensures.kept c.in_ok-dropped.ensures.puts moves.3.0 moves.3.1 first in
     record { reached = (moves.0, (_, here.segment.state, here.segment.leads)) }
 
@@ -74,7 +77,7 @@ returns-in_ok-close_unserved-clause-performs c back is_back =
           subst (λ n. PerformsOwn setup u (back_of n) c.args.out.now c.close_unserved.new.rooms (back_of returned.0) c.close_unserved.new.out) (sym none)
           (own_then setup u c.return_dropped.new.rooms c.close_unserved.new.rooms square (back_of returned.0) (back_of returned.0) c.args.out.now c.return_dropped.new.out c.close_unserved.new.out
           (own_then setup u c.end_stream.new.rooms c.return_dropped.new.rooms square (back_of c.in_ok-dropped.dropped) (back_of returned.0) c.args.out.now c.end_stream.new.out c.return_dropped.new.out
-          (ends_then u c.args.id c.requires.none_cut c.requires.turn small c.requires.few setup c.args.out.now v c.send_part.new.out (subst (λ b. IsPartSent u c.args.out.now c.args.id b v c.send_part.new.out) c.if-ends.true c.in_ok-ends.ensures.sent) c.in_ok-dropped.dropped c.end_stream.new.rooms c.end_stream.new.out
+          (ends_then u c.args.id c.requires.none_cut c.requires.turn small c.requires.few setup c.args.out.now v c.send_part.new.out (subst (λ b. IsPartSent u c.args.out.now c.args.id b v c.send_part.new.out) c.if-ends.true c.in_ok-ends.ensures.sent) c.in_ok-dropped.ensures.few c.in_ok-dropped.dropped c.end_stream.new.rooms c.end_stream.new.out
           (c.in_ok-dropped.ensures.dropped ∙ sent_waits u c.args.out.now c.args.id c.in_ok-ends.ends v c.send_part.new.out c.in_ok-ends.ensures.sent) c.in_ok-dropped.ensures.kept c.in_ok-dropped.ensures.puts)
           (returned.2 setup))
           (c.in_ok-close_unserved.ensures.performs setup returned.0)),
@@ -113,7 +116,7 @@ returns-else-ends-clause-performs c back is_back =
       λ setup.
           subst (λ n. PerformsOwn setup u (back_of n) c.args.out.now v square c.send_part.new.out) (sym (is_back (active_goes_on u c.args.id live)))
           (subst (λ b. PerformsOwn setup u square c.args.out.now (if b then ended c.args.id v else v) (record square { shared = if b then waiting_for c.args.id u else 0 }) (if b then put_at_end c.args.id v c.send_part.new.out else c.send_part.new.out)) c.if-ends.false
-          (part_performs u c.args.id c.requires.none_cut c.requires.turn small c.requires.few setup c.args.out.now c.in_ok-ends.ends v c.send_part.new.out c.in_ok-ends.ensures.sent)),
+          (part_performs u c.args.id c.requires.none_cut c.requires.turn small c.requires.few setup c.args.out.now c.in_ok-ends.ends v c.send_part.new.out c.in_ok-ends.ensures.sent (λ ends. absurd (let no : false ≡ true = sym c.if-ends.false ∙ ends in cc)))),
     )
 
 pub returns-else-ends-clause-none_cut : goal.returns-else-ends-clause-none_cut
@@ -141,3 +144,34 @@ returns-else-ends-clause-none_done c =
     let moves = c.requires.reached in
     sent_none_done u c.args.out.now c.args.id v c.send_part.new.out (turn_active moves.0 moves.3.0 moves.3.1 u (back_of moves.1) c.args.id moves.3.2 c.requires.turn)
     (subst (λ b. IsPartSent u c.args.out.now c.args.id b v c.send_part.new.out) c.if-ends.false c.in_ok-ends.ensures.sent) c.requires.none_done
+
+-- ---- the connection ends in place of a frame
+
+pub returns-in_err-dropped-clause-over : goal.returns-in_err-dropped-clause-over
+returns-in_err-dropped-clause-over c =
+    let u = c.args.rooms.now in
+    let v = c.send_part.new.rooms in
+    let moves = c.requires.reached in
+    let live = turn_active moves.0 moves.3.0 moves.3.1 u (back_of moves.1) c.args.id moves.3.2 c.requires.turn in
+    let small = c.requires.numbered c.args.id (active_has u.inbound.rows c.args.id live) in
+    stopped c.from_residual-in_err-dropped.result c.in_err-dropped.field-0.0 c.from_residual-in_err-dropped.ensures.1
+    (λ is back is_back setup.
+    subst (λ n. EndsFrom setup u (back_of n) c.args.out.now c.end_stream.new.out) (sym (is_back (active_goes_on u c.args.id live)))
+    (part_over u c.args.id c.requires.none_cut c.requires.turn small c.requires.few setup c.args.out.now v c.send_part.new.out (subst (λ b. IsPartSent u c.args.out.now c.args.id b v c.send_part.new.out) c.if-ends.true c.in_ok-ends.ensures.sent) is.0 c.end_stream.new.out is.1))
+    c.in_err-dropped.ensures.over
+
+pub returns-in_err-return_dropped-clause-over : goal.returns-in_err-return_dropped-clause-over
+returns-in_err-return_dropped-clause-over c =
+    let u = c.args.rooms.now in
+    let v = c.send_part.new.rooms in
+    let moves = c.requires.reached in
+    let live = turn_active moves.0 moves.3.0 moves.3.1 u (back_of moves.1) c.args.id moves.3.2 c.requires.turn in
+    let small = c.requires.numbered c.args.id (active_has u.inbound.rows c.args.id live) in
+    stopped c.from_residual-in_err-return_dropped.result c.in_err-return_dropped.field-0.0 c.from_residual-in_err-return_dropped.ensures.1
+    (λ ends back is_back setup.
+    subst (λ n. EndsFrom setup u (back_of n) c.args.out.now c.return_dropped.new.out) (sym (is_back (active_goes_on u c.args.id live)))
+    (calm_behind setup u c.end_stream.new.rooms square (back_of c.in_ok-dropped.dropped) c.args.out.now c.end_stream.new.out c.return_dropped.new.out
+    (ends_then u c.args.id c.requires.none_cut c.requires.turn small c.requires.few setup c.args.out.now v c.send_part.new.out (subst (λ b. IsPartSent u c.args.out.now c.args.id b v c.send_part.new.out) c.if-ends.true c.in_ok-ends.ensures.sent) c.in_ok-dropped.ensures.few c.in_ok-dropped.dropped c.end_stream.new.rooms c.end_stream.new.out
+    (c.in_ok-dropped.ensures.dropped ∙ sent_waits u c.args.out.now c.args.id c.in_ok-ends.ends v c.send_part.new.out c.in_ok-ends.ensures.sent) c.in_ok-dropped.ensures.kept c.in_ok-dropped.ensures.puts)
+    (ends setup)))
+    c.in_err-return_dropped.ensures.over

@@ -1,17 +1,25 @@
-use Rattle.std.proofs.Common.{◌≡◌, ◌+◌, List, length, sym, ◌∙◌, ap, subst}
+use Rattle.std.proofs.Common.{◌≡◌, ◌+◌, true, false, nat_lt, List, length, sym, ◌∙◌, ap, subst}
+use Rattle.model.specs.Admission.{most_untaken}
 use Rattle.model.specs.Frames.{spell}
 use Rattle.model.specs.Logs.{Output}
 use Rattle.relay.specs.View.{View}
 use Rattle.relay.specs.Bringing.{PerformsOwn}
+use Rattle.steps.specs.Stopping.{IsCalmed}
 use Rattle.steps.specs.paying.Controls.{frame_of}
-use Rattle.steps.proofs.paying.Paying.{on_ok, pays_control}
+use Rattle.steps.proofs.paying.Paying.{pays_control}
 use Rattle.steps.proofs.paying.control.pay.Goals as goal
 
+pub returns-then-is_crowded-clause-over : goal.returns-then-is_crowded-clause-over
+returns-then-is_crowded-clause-over c = (sym c.is_crowded.ensures ∙ c.if-is_crowded.true, c.in_ok-calm.ensures)
+
 pub returns-clause-performs : goal.returns-clause-performs
-returns-clause-performs c =
+returns-clause-performs c setup rest pending owed front none =
+    let few : nat_lt most_untaken c.args.rooms.now.untaken ≡ false = sym c.is_crowded.ensures ∙ c.if-is_crowded.false in
     let counted : c.count_untaken.new.rooms ≡ record c.args.rooms.now { untaken = c.args.rooms.now.untaken + length (spell (frame_of c.args.control)) } =
     c.in_ok-count_untaken.ensures ∙ ap (λ n. record c.args.rooms.now { untaken = c.args.rooms.now.untaken + n }) c.spelled_length.ensures in
-    on_ok c.put_out.result (λ put. λ setup rest pending front none.
     subst (λ (v : View). PerformsOwn setup c.args.rooms.now pending c.args.out.now v (record pending { owed = rest }) c.put_out.new.out) (sym counted)
-    (subst (λ (os : List Output). PerformsOwn setup c.args.rooms.now pending c.args.out.now (record c.args.rooms.now { untaken = c.args.rooms.now.untaken + length (spell (frame_of c.args.control)) }) (record pending { owed = rest }) os) (sym put)
-    (pays_control setup c.args.rooms.now pending rest c.args.control c.requires.short front none c.args.out.now))) c.put_out.ensures
+    (subst (λ (os : List Output). PerformsOwn setup c.args.rooms.now pending c.args.out.now (record c.args.rooms.now { untaken = c.args.rooms.now.untaken + length (spell (frame_of c.args.control)) }) (record pending { owed = rest }) os) (sym c.in_ok-put_out.ensures)
+    (pays_control setup c.args.rooms.now pending rest c.args.control c.requires.short owed few front none c.args.out.now))
+
+pub returns-clause-few : goal.returns-clause-few
+returns-clause-few c = sym c.is_crowded.ensures ∙ c.if-is_crowded.false

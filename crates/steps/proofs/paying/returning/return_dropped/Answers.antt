@@ -9,11 +9,11 @@ use Rattle.relay.specs.Rest.{GoesOn, back_of}
 use Rattle.relay.specs.Bringing.{PerformsOwn}
 use Rattle.relay.proofs.Bringing.{own_none}
 use Rattle.steps.specs.paying.Returning.{given_on_connection, IsReturned}
-use Rattle.steps.proofs.Results.{on_ok, on_both}
+use Rattle.steps.proofs.Results.{on_ok, on_three, on_over}
 use Rattle.steps.proofs.Stays.{ends_as}
 use Rattle.steps.proofs.paying.Fitting.{fits_shared}
 use Rattle.steps.proofs.paying.Returned.{returned_none, returned_on_connection}
-use Rattle.steps.proofs.paying.Settled.{none_back, dropped_back}
+use Rattle.steps.proofs.paying.Settled.{none_back, dropped_back, dropped_ends}
 use Rattle.steps.proofs.paying.returning.return_dropped.Goals as goal
 
 pub returns-then-dropped-eq0-clause-performs : goal.returns-then-dropped-eq0-clause-performs
@@ -47,8 +47,8 @@ returns-clause-performs c =
     let some : 0 < c.args.dropped = omega (arith, not_none) in
     let few : c.args.dropped < 2147483648 = let least = c.in_ok-octets.ensures.1 in omega (arith, same, least) in
     let on : GoesOn c.args.rooms.now = ends_as c.args.rooms.now _ c.is_spent.result c.rooms.view_is c.is_spent.ensures ∙ c.if-is_spent.false in
-    on_both c.give_back.result
-    (λ given puts. (
+    on_three c.give_back.result
+    (λ given puts free. (
       0,
       (λ still. refl),
       λ setup.
@@ -56,10 +56,16 @@ returns-clause-performs c =
           let outs : c.give_back.new.out ≡ put c.args.out.now (ToClient (spell (window_update 0 c.args.dropped))) = puts ∙ ap (λ n. put c.args.out.now (ToClient (spell (window_update 0 n)))) same in
           subst (λ (v : View). PerformsOwn setup c.args.rooms.now (back_of c.args.dropped) c.args.out.now v square c.give_back.new.out) (sym views)
           (subst (λ (os : List Output). PerformsOwn setup c.args.rooms.now (back_of c.args.dropped) c.args.out.now (given_on_connection c.args.rooms.now c.args.dropped) square os) (sym outs)
-          (dropped_back setup c.args.rooms.now c.args.dropped c.args.out.now some few on)),
-    )) c.give_back.ensures.given c.give_back.ensures.put_out
+          (dropped_back setup c.args.rooms.now c.args.dropped c.args.out.now some few on free)),
+    )) c.give_back.ensures.given c.give_back.ensures.put_out c.give_back.ensures.few
 
 pub returns-clause-stays : goal.returns-clause-stays
 returns-clause-stays c =
     on_ok c.give_back.result
     (λ given. subst (λ (v : View). IsReturned c.args.rooms.now v) (sym given) (returned_on_connection c.args.rooms.now c.in_ok-octets.octets)) c.give_back.ensures.given
+
+-- it can't go
+pub returns-clause-over : goal.returns-clause-over
+returns-clause-over c =
+    let not_none = c.if-dropped-eq0.false in
+    on_over c.give_back.result (λ is setup. dropped_ends setup c.args.rooms.now c.args.dropped c.args.out.now c.give_back.new.out (omega (arith, not_none)) is) c.give_back.ensures.over

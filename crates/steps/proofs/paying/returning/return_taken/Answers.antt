@@ -1,5 +1,6 @@
-use Rattle.std.proofs.Common.{◌≡◌, ℕ, ◌+◌, ◌<◌, true, false, not, if◌then◌else◌, List, refl, sym, ◌∙◌, ap, subst, arith}
+use Rattle.std.proofs.Common.{◌≡◌, ℕ, ◌+◌, ◌<◌, true, false, not, nat_lt, if◌then◌else◌, List, refl, sym, ◌∙◌, ap, subst, arith}
 use Rattle.std.proofs.lemmas.Bool.{and_parts, not-true, eq-eqb}
+use Rattle.model.specs.Admission.{most_untaken}
 use Rattle.model.specs.Frames.{spell}
 use Rattle.model.specs.Logs.{Output}
 use Rattle.model.specs.Logs.Output.{ToClient}
@@ -12,10 +13,12 @@ use Rattle.streams_kept.specs.Sending.{AreReturnable}
 use Rattle.relay.specs.View.{View, square, GoBack}
 use Rattle.relay.specs.Bringing.{PerformsOwn}
 use Rattle.judgement.specs.Inbound.{Inbound}
+use Rattle.steps.specs.Stopping.{IsCalmed}
 use Rattle.steps.specs.paying.Returning.{back_on, goes_back_on, given_on_connection, given_on_stream, IsReturned}
+use Rattle.steps.proofs.Results.{stopped}
 use Rattle.steps.proofs.paying.Fitting.{fits_shared, fits_due}
 use Rattle.steps.proofs.paying.Returned.{returned_on_connection, returned_on_stream, returned_then}
-use Rattle.steps.proofs.paying.Taken.{none_taken, taken_on_connection, taken_on_both}
+use Rattle.steps.proofs.paying.Taken.{none_taken, taken_ends, taken_own_ends, taken_on_connection, taken_on_both}
 use Rattle.steps.proofs.paying.returning.return_taken.Goals as goal
 
 pub returns-then-back-eq0-clause-performs : goal.returns-then-back-eq0-clause-performs
@@ -67,7 +70,8 @@ returns-in_ok-give_back_on-clause-performs c = λ setup.
     ∙ ap (λ n. put (put c.args.out.now (ToClient (spell (window_update 0 n)))) (ToClient (spell (window_update c.args.stream n)))) same in
     subst (λ (v : View). PerformsOwn setup c.args.rooms.now (back_on c.args.stream c.args.back) c.args.out.now v square c.give_back_on.new.out) (sym views)
     (subst (λ (os : List Output). PerformsOwn setup c.args.rooms.now (back_on c.args.stream c.args.back) c.args.out.now (given_on_stream first c.args.stream c.args.back) square os) (sym outs)
-    (taken_on_both setup c.args.rooms.now c.args.stream c.args.back some few c.requires.goes_on c.args.out.now here (c.requires.numbered c.args.stream has_row.0)))
+    (taken_on_both setup c.args.rooms.now c.args.stream c.args.back some few c.requires.goes_on c.in_ok-give_back.ensures.few c.args.out.now here (c.requires.numbered c.args.stream has_row.0)
+    (ap (λ (v : View). nat_lt most_untaken v.untaken) (sym (given ∙ ap (given_on_connection c.args.rooms.now) same)) ∙ c.in_ok-give_back_on.ensures.few)))
 
 pub returns-in_ok-give_back_on-clause-stays : goal.returns-in_ok-give_back_on-clause-stays
 returns-in_ok-give_back_on-clause-stays c =
@@ -92,4 +96,30 @@ returns-else-goes_back_on-clause-performs c = λ setup.
     let outs : c.give_back.new.out ≡ put c.args.out.now (ToClient (spell (window_update 0 c.args.back))) = c.in_ok-give_back.ensures.put_out ∙ ap (λ n. put c.args.out.now (ToClient (spell (window_update 0 n)))) same in
     subst (λ (v : View). PerformsOwn setup c.args.rooms.now (back_on c.args.stream c.args.back) c.args.out.now v square c.give_back.new.out) (sym views)
     (subst (λ (os : List Output). PerformsOwn setup c.args.rooms.now (back_on c.args.stream c.args.back) c.args.out.now (given_on_connection c.args.rooms.now c.args.back) square os) (sym outs)
-    (taken_on_connection setup c.args.rooms.now c.args.stream c.args.back some few c.requires.goes_on c.args.out.now here))
+    (taken_on_connection setup c.args.rooms.now c.args.stream c.args.back some few c.requires.goes_on c.in_ok-give_back.ensures.few c.args.out.now here))
+
+-- ---- they can't go back
+
+pub returns-in_err-give_back-clause-over : goal.returns-in_err-give_back-clause-over
+returns-in_err-give_back-clause-over c =
+    let not_none = c.if-back-eq0.false in
+    stopped c.from_residual-in_err-give_back.result c.in_err-give_back.field-0.0 c.from_residual-in_err-give_back.ensures.1
+    (λ is setup. taken_ends setup c.args.rooms.now c.args.stream c.args.back c.args.out.now c.give_back.new.out (omega (arith, not_none)) is) c.in_err-give_back.ensures.over
+
+pub returns-in_err-give_back_on-clause-over : goal.returns-in_err-give_back_on-clause-over
+returns-in_err-give_back_on-clause-over c =
+    let given = c.in_ok-give_back.ensures.given in
+    let same = c.in_ok-octets.ensures.0 in
+    let least = c.in_ok-octets.ensures.1 in
+    let not_none = c.if-back-eq0.false in
+    let some : 0 < c.args.back = omega (arith, not_none) in
+    let few : c.args.back < 2147483648 = omega (arith, same, least) in
+    let on : goes_back_on c.give_back.new.rooms.inbound.rows c.args.stream ≡ true = sym c.goes_back_on.ensures ∙ c.if-goes_back_on.true in
+    let here : goes_back_on c.args.rooms.now.inbound.rows c.args.stream ≡ true = ap (λ (v : View). goes_back_on v.inbound.rows c.args.stream) (sym given) ∙ on in
+    let view : c.give_back.new.rooms ≡ given_on_connection c.args.rooms.now c.args.back = given ∙ ap (given_on_connection c.args.rooms.now) same in
+    let outs : c.give_back.new.out ≡ put c.args.out.now (ToClient (spell (window_update 0 c.args.back))) = c.in_ok-give_back.ensures.put_out ∙ ap (λ n. put c.args.out.now (ToClient (spell (window_update 0 n)))) same in
+    stopped c.from_residual-in_err-give_back_on.result c.in_err-give_back_on.field-0.0 c.from_residual-in_err-give_back_on.ensures.1
+    (λ is setup.
+    taken_own_ends setup c.args.rooms.now c.args.stream c.args.back some few c.requires.goes_on c.in_ok-give_back.ensures.few c.args.out.now here c.give_back_on.new.out
+    (subst (λ (v : View). IsCalmed v (put c.args.out.now (ToClient (spell (window_update 0 c.args.back)))) c.give_back_on.new.out) view
+    (subst (λ (os : List Output). IsCalmed c.give_back.new.rooms os c.give_back_on.new.out) outs is))) c.in_err-give_back_on.ensures.over

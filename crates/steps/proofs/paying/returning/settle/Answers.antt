@@ -1,5 +1,6 @@
-use Rattle.std.proofs.Common.{◌≡◌, ℕ, ◌+◌, ◌<◌, true, false, not, List, sym, ◌∙◌, ap, subst, arith}
+use Rattle.std.proofs.Common.{◌≡◌, ℕ, ◌+◌, ◌<◌, true, false, not, nat_lt, List, sym, ◌∙◌, ap, subst, arith}
 use Rattle.std.proofs.lemmas.Bool.{and_parts}
+use Rattle.model.specs.Admission.{most_untaken}
 use Rattle.model.specs.Frames.{spell}
 use Rattle.model.specs.Logs.{Output}
 use Rattle.model.specs.Logs.Output.{ToClient}
@@ -14,12 +15,14 @@ use Rattle.relay.specs.View.{View, square}
 use Rattle.relay.specs.Rest.{GoesOn, IsBack, back_of}
 use Rattle.relay.specs.Bringing.{PerformsOwn}
 use Rattle.relay.proofs.Bringing.{own_then}
+use Rattle.steps.specs.Stopping.{IsCalmed}
 use Rattle.steps.specs.paying.Returning.{goes_back_on, given_on_connection, given_on_stream, IsReturned}
-use Rattle.steps.proofs.Results.{on_ok, on_both}
+use Rattle.steps.proofs.Calming.{calm_behind}
+use Rattle.steps.proofs.Results.{on_ok, on_both, on_over, stopped}
 use Rattle.steps.proofs.paying.Settling.{fresh, defers}
 use Rattle.steps.proofs.paying.Fitting.{fits_shared, fits_own}
 use Rattle.steps.proofs.paying.Returned.{returned_marks, returned_on_connection, returned_on_stream, returned_then}
-use Rattle.steps.proofs.paying.Settled.{none_fresh, back_on_connection, back_on_both}
+use Rattle.steps.proofs.paying.Settled.{none_fresh, fresh_ends, own_ends, back_on_connection, back_on_both}
 use Rattle.steps.proofs.paying.returning.settle.Goals as goal
 
 -- where the connection goes on nothing is left to go back
@@ -114,7 +117,8 @@ returns-in_ok-give_back_on-clause-performs c = λ setup.
     let has_row = and_parts (has c.args.rooms.now.inbound.rows c.args.stream) _ (goes c.args.rooms.now.inbound.rows c.args.stream here) in
     let sum : all ≡ c.args.octets + c.args.dropped = omega (arith, c.in_ok-all.ensures.0, c.in-Some.ensures) in
     let none : has_untaken c.args.rooms.now.inbound.last c.args.rooms.now.marks ≡ false = subst (λ n. has_untaken n c.args.rooms.now.marks ≡ false) c.requires.last (sym (c.has_untaken.ensures ∙ ap (λ (v : View). has_untaken c.args.stream v.marks) c.rooms.view_is) ∙ c.if-has_untaken.false) in
-    let performs = back_on_both setup c.args.rooms.now c.args.octets c.args.dropped all some sum c.in_ok-all.ensures.1 c.requires.goes_on none c.args.out.now c.args.stream c.requires.last here (c.requires.numbered c.args.stream has_row.0) in
+    let still_free : nat_lt most_untaken (given_on_connection c.args.rooms.now all).untaken ≡ false = ap (λ (v : View). nat_lt most_untaken v.untaken) (sym given) ∙ c.in_ok-give_back_on.ensures.few in
+    let performs = back_on_both setup c.args.rooms.now c.args.octets c.args.dropped all some sum c.in_ok-all.ensures.1 c.requires.goes_on c.in_ok-give_back.ensures.few none c.args.out.now c.args.stream c.requires.last here (c.requires.numbered c.args.stream has_row.0) still_free in
     let views : c.give_back_on.new.rooms ≡ given_on_stream (given_on_connection c.args.rooms.now all) c.args.stream c.args.octets = second ∙ ap (λ (v : View). given_on_stream v c.args.stream c.args.octets) given in
     let outs : c.give_back_on.new.out ≡ put (put c.args.out.now (ToClient (spell (window_update 0 all)))) (ToClient (spell (window_update c.args.stream c.args.octets))) = out_second ∙ ap (λ (os : List Output). put os (ToClient (spell (window_update c.args.stream c.args.octets)))) out_first in
     subst (λ (v : View). PerformsOwn setup c.args.rooms.now (fresh c.args.octets c.args.dropped) c.args.out.now v square c.give_back_on.new.out) (sym views)
@@ -141,7 +145,46 @@ returns-else-goes_back_on-clause-performs c = λ setup.
     let none : has_untaken c.args.rooms.now.inbound.last c.args.rooms.now.marks ≡ false = subst (λ n. has_untaken n c.args.rooms.now.marks ≡ false) c.requires.last (sym (c.has_untaken.ensures ∙ ap (λ (v : View). has_untaken c.args.stream v.marks) c.rooms.view_is) ∙ c.if-has_untaken.false) in
     subst (λ (v : View). PerformsOwn setup c.args.rooms.now (fresh c.args.octets c.args.dropped) c.args.out.now v square c.give_back.new.out) (sym given)
     (subst (λ (os : List Output). PerformsOwn setup c.args.rooms.now (fresh c.args.octets c.args.dropped) c.args.out.now (given_on_connection c.args.rooms.now all) square os) (sym out_first)
-    (back_on_connection setup c.args.rooms.now c.args.octets c.args.dropped all some sum c.in_ok-all.ensures.1 c.requires.goes_on none c.args.out.now here))
+    (back_on_connection setup c.args.rooms.now c.args.octets c.args.dropped all some sum c.in_ok-all.ensures.1 c.requires.goes_on c.in_ok-give_back.ensures.few none c.args.out.now here))
 
 pub returns-else-goes_back_on-clause-stays : goal.returns-else-goes_back_on-clause-stays
 returns-else-goes_back_on-clause-stays c = subst (λ (v : View). IsReturned c.args.rooms.now v) (sym c.in_ok-give_back.ensures.given) (returned_on_connection c.args.rooms.now c.in_ok-all.all)
+
+-- ---- they can't go back
+
+pub returns-then-octets-eq0-clause-over : goal.returns-then-octets-eq0-clause-over
+returns-then-octets-eq0-clause-over c =
+    on_over c.return_dropped.result
+    (λ ends setup.
+    calm_behind setup c.args.rooms.now c.args.rooms.now (fresh c.args.octets c.args.dropped) (back_of c.args.dropped) c.args.out.now c.args.out.now c.return_dropped.new.out
+    (none_fresh setup c.args.rooms.now c.args.octets c.args.dropped c.args.out.now c.if-octets-eq0.true) (ends setup)) c.return_dropped.ensures.over
+
+pub returns-then-has_untaken-clause-over : goal.returns-then-has_untaken-clause-over
+returns-then-has_untaken-clause-over c =
+    on_over c.return_dropped-then-has_untaken.result
+    (λ ends setup.
+    calm_behind setup c.args.rooms.now c.wait.new.rooms (fresh c.args.octets c.args.dropped) (back_of c.args.dropped) c.args.out.now c.args.out.now c.return_dropped-then-has_untaken.new.out
+    (waits_here c.args.rooms.now c.wait.new.rooms c.args.stream c.args.octets c.args.dropped c.args.out.now c.requires.last (sym (c.has_untaken.ensures ∙ ap (λ (v : View). has_untaken c.args.stream v.marks) c.rooms.view_is) ∙ c.if-has_untaken.true) c.in_ok-wait.ensures setup)
+    (ends setup)) c.return_dropped-then-has_untaken.ensures.over
+
+pub returns-in_err-give_back-clause-over : goal.returns-in_err-give_back-clause-over
+returns-in_err-give_back-clause-over c =
+    let not_none = c.if-octets-eq0.false in
+    let none : has_untaken c.args.rooms.now.inbound.last c.args.rooms.now.marks ≡ false = subst (λ n. has_untaken n c.args.rooms.now.marks ≡ false) c.requires.last (sym (c.has_untaken.ensures ∙ ap (λ (v : View). has_untaken c.args.stream v.marks) c.rooms.view_is) ∙ c.if-has_untaken.false) in
+    stopped c.from_residual-in_err-give_back.result c.in_err-give_back.field-0.0 c.from_residual-in_err-give_back.ensures.1
+    (λ is setup. fresh_ends setup c.args.rooms.now c.args.octets c.args.dropped c.args.out.now c.give_back.new.out (omega (arith, not_none)) none is) c.in_err-give_back.ensures.over
+
+pub returns-in_err-give_back_on-clause-over : goal.returns-in_err-give_back_on-clause-over
+returns-in_err-give_back_on-clause-over c =
+    let given = c.in_ok-give_back.ensures.given in
+    let all = c.in_ok-all.all in
+    let on : goes_back_on c.give_back.new.rooms.inbound.rows c.args.stream ≡ true = sym c.goes_back_on.ensures ∙ c.if-goes_back_on.true in
+    let here : goes_back_on c.args.rooms.now.inbound.rows c.args.rooms.now.inbound.last ≡ true = ap (goes_back_on c.args.rooms.now.inbound.rows) (sym c.requires.last) ∙ ap (λ (v : View). goes_back_on v.inbound.rows c.args.stream) (sym given) ∙ on in
+    let not_none = c.if-octets-eq0.false in let some : 0 < c.args.octets = omega (arith, not_none) in
+    let sum : all ≡ c.args.octets + c.args.dropped = omega (arith, c.in_ok-all.ensures.0, c.in-Some.ensures) in
+    let none : has_untaken c.args.rooms.now.inbound.last c.args.rooms.now.marks ≡ false = subst (λ n. has_untaken n c.args.rooms.now.marks ≡ false) c.requires.last (sym (c.has_untaken.ensures ∙ ap (λ (v : View). has_untaken c.args.stream v.marks) c.rooms.view_is) ∙ c.if-has_untaken.false) in
+    stopped c.from_residual-in_err-give_back_on.result c.in_err-give_back_on.field-0.0 c.from_residual-in_err-give_back_on.ensures.1
+    (λ is setup.
+    own_ends setup c.args.rooms.now c.args.octets c.args.dropped all some sum c.in_ok-all.ensures.1 c.requires.goes_on c.in_ok-give_back.ensures.few none c.args.out.now here c.give_back_on.new.out
+    (subst (λ (v : View). IsCalmed v (put c.args.out.now (ToClient (spell (window_update 0 all)))) c.give_back_on.new.out) given
+    (subst (λ (os : List Output). IsCalmed c.give_back.new.rooms os c.give_back_on.new.out) c.in_ok-give_back.ensures.put_out is))) c.in_err-give_back_on.ensures.over

@@ -1,26 +1,27 @@
 -- What is promised of the log for which a gateway stands.
-use Rattle.std.proofs.Common.{◌≡◌, ℕ, ◌≤◌, List, [], ◌∷◌, ◌++◌, reverse, refl, sym, ◌∙◌, ap, subst, arith}
+use Rattle.std.proofs.Common.{◌≡◌, ℕ, ◌≤◌, true, false, List, [], ◌∷◌, ◌++◌, reverse, refl, sym, ◌∙◌, ap, subst, arith}
 use Rattle.std.proofs.lemmas.List.{reverse-reverse}
 use Rattle.model.specs.Logs.{Step, client_in}
 use Rattle.model.specs.Setup.{Setup}
-use Rattle.model.specs.Tables.{first_table}
+use Rattle.model.specs.Tables.{Table, first_table}
 use Rattle.model.specs.Tapes.{Entry, IsRead}
 use Rattle.model.specs.Known.{Known}
-use Rattle.model.specs.Synchrony.{IsReadyAtEach, turns_on}
+use Rattle.model.specs.Synchrony.{InStep, IsReadyAtEach, turns_on}
 use Rattle.model.specs.Headline.{ClausesHold, HoldsInTurn, IsTold, HasTape}
 use Rattle.conduct.specs.Rule.{AreKnown, known_of}
 use Rattle.conduct.proofs.Knowing.{known_so}
 use Rattle.policy.specs.Moves.{Move, entry_of}
 use Rattle.policy.specs.Moves.Move.{Does, Settles}
-use Rattle.policy.specs.State.{conducts, tape_of, state_of}
+use Rattle.policy.specs.State.{State, conducts, tape_of, state_of}
 use Rattle.policy.specs.Rule.{AllAllowed, RestsBehind}
 use Rattle.policy.specs.Steps.{AreAnsweredBy}
 use Rattle.policy.proofs.Keeping.{IsKnown, clauses, in_step, in_turn, judged, ends_with_close}
-use Rattle.relay.specs.View.{View, AreSo}
+use Rattle.header_blocks.specs.Encoding.{Encoding}
+use Rattle.relay.specs.View.{View, Pending, AreSo, Leads}
 use Rattle.gateway.specs.declared.phase.Phase.{Phase}
 use Rattle.gateway.specs.declared.phase.Phase.TheVariants as phase
-use Rattle.gateway.specs.Stands.{Standing, Stands, IsIn}
-use Rattle.gateway.specs.Promises.{Promise, AreInStep}
+use Rattle.gateway.specs.Stands.{Standing, Stands, IsIn, is_open, pending_in}
+use Rattle.gateway.specs.Promises.{OwnInStep, Promise}
 
 -- ---- a tape of the log, as the rule's own law of logs has it
 
@@ -77,20 +78,18 @@ so_in phase.Closed setup partial kept text run o = o.so
 so_in phase.Dead setup partial kept text run o = absurd o
 
 -- before anything came both tables are empty
-in_step_first : (known : Known) (t : List Entry) → t ≡ [] → AreInStep known t
-in_step_first known t e = rw e (record { encoding = first_table; decoding = first_table; in_step = record { of_sent = refl; of_came = refl; all_read = tt; written = tt; fair = none } })
+in_step_first : (known : Known) (t : List Entry) → t ≡ [] → InStep known t first_table first_table
+in_step_first known t e = rw e (record { of_sent = refl; of_came = refl; all_read = tt; written = tt; fair = none })
   where
     none : (later stretch before : List Entry) → [] ≡ later ++ stretch ++ before → (waits other : ℕ) → IsReadyAtEach known waits before stretch → turns_on waits stretch ≡ 0 → turns_on other stretch ≤ 1
     none later [] before is waits other stays no_turn = omega arith
     none [] (e ∷ stretch) before is waits other stays no_turn = absurd (let no : [] ≡ e ∷ (stretch ++ before) = is in cc)
     none (l ∷ later) (e ∷ stretch) before is waits other stays no_turn = absurd (let no : [] ≡ l ∷ ((later ++ e ∷ stretch) ++ before) = is in cc)
 
--- behind a step they are in step, since the gateway rests
-in_step_behind : (known : Known) (log : List Step) (run : List Move) → IsKnown known run → AreAnsweredBy known log run → AreInStep known (tape_of run)
-in_step_behind known [] run k answered = in_step_first known (tape_of run) (ap tape_of answered)
-in_step_behind known (step ∷ earlier) run k answered =
-    let rests : RestsBehind known.setup run = subst (RestsBehind known.setup) (sym answered.2) answered.3.rests in
-    record { encoding = (state_of known.setup run).tables.encoding.table; decoding = (state_of known.setup run).tables.decoding; in_step = in_step known run k rests }
+-- behind a step the tables that are kept are, since the gateway rests
+in_step_behind : (known : Known) (log : List Step) (run : List Move) → IsKnown known run → AreAnsweredBy known log run → InStep known (tape_of run) (state_of known.setup run).tables.encoding.table (state_of known.setup run).tables.decoding
+in_step_behind known [] run k answered = rw answered (in_step_first known [] refl)
+in_step_behind known (step ∷ earlier) run k answered = in_step known run k (subst (RestsBehind known.setup) (sym answered.2) answered.3.rests)
 
 -- what is promised of the log, by the tape of these moves
 pub promised_by : (setup : Setup) (g : Standing) (log : List Step) (run : List Move) → Stands setup g log run → (promise : Promise setup (reverse log)) × (promise.tape ≡ tape_of run) × (promise.known ≡ known_of setup (conducts run))
@@ -100,7 +99,7 @@ promised_by setup g log run stands = (
     of_setup = refl;
     tape = tape_of run;
     has_tape = subst (λ l. HasTape known l (tape_of run)) (sym (reverse-reverse log)) (has_tape known log run k by);
-    in_step = in_step_behind known log run k by;
+    in_step = record { encoding = (state_of setup run).tables.encoding.table; decoding = (state_of setup run).tables.decoding; in_step = in_step_behind known log run k by };
   },
   refl,
   refl,
@@ -120,3 +119,32 @@ promised_by setup g log run stands = (
 
 pub promised : (setup : Setup) (g : Standing) (log : List Step) (run : List Move) → Stands setup g log run → Promise setup (reverse log)
 promised setup g log run stands = (promised_by setup g log run stands).0
+
+-- ---- the gateway's own tables
+
+tables_kept : (setup : Setup) (run : List Move) (kept : View) (pending : Pending) (s : State) → Leads setup run kept pending s → ((state_of setup run).tables.encoding.table ≡ kept.encoding.table) × ((state_of setup run).tables.decoding ≡ kept.inbound.table)
+tables_kept setup run kept pending s leads = (
+  ap (λ (x : State). x.tables.encoding.table) leads.stands.is ∙ ap (λ (e : Encoding). e.table) leads.keeps.encoding,
+  ap (λ (x : State). x.tables.decoding) leads.stands.is ∙ leads.keeps.decoding,
+)
+
+-- the state by the rule is the one that is kept, while the connection is open
+kept_in : (p : Phase) (setup : Setup) (partial : List ℕ) (kept : View) (text : List ℕ) (run : List Move) → IsIn p setup partial kept text run → is_open p ≡ true → ((state_of setup run).tables.encoding.table ≡ kept.encoding.table) × ((state_of setup run).tables.decoding ≡ kept.inbound.table)
+kept_in phase.New setup partial kept text run o open_yet = tables_kept setup run kept (pending_in phase.New) o.state o.leads
+kept_in phase.Preface setup partial kept text run o open_yet = tables_kept setup run kept (pending_in phase.Preface) o.state o.leads
+kept_in phase.Frames setup partial kept text run o open_yet = tables_kept setup run kept (pending_in phase.Frames) o.state o.leads
+kept_in phase.Closed setup partial kept text run o open_yet = absurd (let no : false ≡ true = open_yet in cc)
+kept_in phase.Dead setup partial kept text run o open_yet = absurd o
+
+pub own_in_step : (setup : Setup) (g : Standing) (log : List Step) (run : List Move) → Stands setup g log run → is_open g.phase ≡ true → OwnInStep setup (reverse log) g.kept
+unfolding promised_by
+own_in_step setup g log run stands open_yet =
+    let same = kept_in g.phase setup g.partial g.kept (client_in log) run stands.is_in open_yet in
+    let known : Known = known_of setup (conducts run) in
+    let promise = (promised_by setup g log run stands).0 in
+    record {
+      promise = promise;
+      in_step =
+          subst (λ (t : Table). InStep known (tape_of run) g.kept.encoding.table t) same.1
+          (subst (λ (t : Table). InStep known (tape_of run) t (state_of setup run).tables.decoding) same.0 promise.in_step.in_step);
+    }

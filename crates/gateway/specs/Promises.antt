@@ -7,6 +7,7 @@ use Rattle.model.specs.Tapes.{Entry}
 use Rattle.model.specs.Known.{Known}
 use Rattle.model.specs.Headline.{HasTape}
 use Rattle.model.specs.Synchrony.{InStep}
+use Rattle.relay.specs.View.{View}
 
 -- Tables are in step behind a tape: those of the gateway are those of the other side, and turns were fair.
 pub record AreInStep (known : Known) (t : List Entry) : Type 0 where
@@ -21,3 +22,9 @@ pub record Promise (setup : Setup) (log : List Step) : Type 0 where
   pub tape : List Entry
   pub has_tape : HasTape known (reverse log) tape
   pub in_step : AreInStep known tape
+
+-- The tables of a gateway's own are those: behind that tape the table of its encoder is what all header blocks that were sent leave, and that of its
+-- decoder what all that came leave.
+pub record OwnInStep (setup : Setup) (log : List Step) (kept : View) : Type 0 where
+  pub promise : Promise setup log
+  pub in_step : InStep promise.known promise.tape kept.encoding.table kept.inbound.table

@@ -46,7 +46,7 @@ pub(crate) fn next_fields(
 /// Checks a request's fields and writes its text.
 fn send_one(alloc: Global, fields: &[Field], out: &mut Vec<u8>) -> Option<()> {
     let head = check_head(alloc, fields, true).ok()?;
-    Sender::start(&head, true, out).ok()?;
+    Sender::start(&head, true, false, out).ok()?;
     Some(())
 }
 

@@ -38,6 +38,7 @@ fn config(alloc: Global) -> Option<Config>
         passing: Passing::Whole,
         max_body: 1_048_576,
         max_response: 1_048_576,
+        keep: false,
     })
 }
 

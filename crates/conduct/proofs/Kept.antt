@@ -18,7 +18,7 @@ use Rattle.model.specs.SettingValues.{Setting, settings_in, settings_fault, init
 use Rattle.model.proofs.LayersSettings.{applied_in_order}
 use Rattle.model.specs.Windows.{balance, sending_window, first_window}
 use Rattle.model.specs.Known.{Known, fails_behind}
-use Rattle.model.specs.Openings.{opens, last_stream}
+use Rattle.model.specs.Openings.{exchanges, last_stream}
 use Rattle.model.specs.FrameErrors.{frame_fault, sound, last_continuations}
 use Rattle.model.specs.WindowsOnTape.{has_settings, increments, data_octets, data_length, is_on, is_any, shifts_past, are_taken, client_settings, first_size}
 use Rattle.model.specs.Lifetimes.{is_ended_by_client, is_ended_by_gateway, is_reset_by_client, is_reset_by_gateway, resets_by_client}
@@ -59,7 +59,7 @@ block_out_kept t (Happened event) = refl
 block_out_kept t (Sent noted) = refl
 block_out_kept t (Did act) = refl
 
-given_kept : (t : List Entry) (e : Entry) → given_after (opens t) (last_stream t) e ≡ opens (e ∷ t)
+given_kept : (t : List Entry) (e : Entry) → given_after (exchanges t) (last_stream t) e ≡ exchanges (e ∷ t)
 given_kept t (Came noted) = refl
 given_kept t (Breached breach) = refl
 given_kept t (Happened event) = refl

@@ -4,14 +4,14 @@ use Rattle.std.specs.List.{list_any}
 use Rattle.model.specs.Frames.{Frame, rst_stream_kind, window_update_kind, ends_headers, spell}
 use Rattle.model.specs.Setup.{Setup}
 use Rattle.model.specs.Logs.Event.{ClientEnd, ClientTook}
-use Rattle.model.specs.Logs.Act.{Open, CloseClient}
+use Rattle.model.specs.Logs.Act.{Open, CloseClient, ToUp}
 use Rattle.model.specs.Tapes.{Entry}
 use Rattle.model.specs.Tapes.Entry.{Came, Breached, Happened, Sent, Did}
 use Rattle.model.specs.Decoding.{Partial, joined}
 use Rattle.model.specs.Streams.{frame_items}
 use Rattle.model.specs.SettingValues.{settings_in, settings_fault, initial_window_after}
 use Rattle.model.specs.Errors.{Fault, first_of}
-use Rattle.model.specs.Openings.{Opened}
+use Rattle.model.specs.Openings.{Opened, given, route_of, begins_another}
 use Rattle.model.specs.Lifetimes.{ends_by}
 use Rattle.model.specs.WindowsOnTape.{has_settings, increment, data_length, is_on, is_any}
 use Rattle.model.specs.Courses.{is_final}
@@ -83,6 +83,7 @@ room_after before test id _ = before
 -- the upstream connections that were given to streams
 abbrev pub given_after : List Opened → ℕ → Entry → List Opened
 given_after before last (Did (Open k route)) = record { k = k; route = route; stream = last } ∷ before
+given_after before last (Did (ToUp k octets)) = if begins_another (given k before) last octets then record { k = k; route = route_of k before; stream = last } ∷ before else before
 given_after before last _ = before
 
 -- the stream of the last frame of the client

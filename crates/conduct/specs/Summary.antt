@@ -11,7 +11,7 @@ use Rattle.model.specs.Errors.{has_come}
 use Rattle.model.specs.Available.{items_on}
 use Rattle.model.specs.Decoding.{Partial, begun}
 use Rattle.model.specs.Known.{Known}
-use Rattle.model.specs.Openings.{Opened, opens, last_stream}
+use Rattle.model.specs.Openings.{Opened, exchanges, last_stream}
 use Rattle.model.specs.Lifetimes.{opened, is_ended_by_client, is_ended_by_gateway, is_reset_by_client, is_reset_by_gateway, resets_by_client}
 use Rattle.model.specs.FrameErrors.{last_continuations}
 use Rattle.model.specs.WindowsOnTape.{balance_on, first_size, connection_window, room_on, room_on_connection}
@@ -68,7 +68,7 @@ pub record Summary : Type 0 where
   pub stream : ℕ → Stream
   -- how many active streams the client reset
   pub resets : ℕ
-  -- the upstream connections, and the stream of the last frame, to which the next one is given
+  -- the exchanges on upstream connections, and the stream of the last frame, to which a connection is given next
   pub given : List Opened
   pub last : ℕ
   -- the last that came in calls for the end, or a farewell went in place of another frame
@@ -114,7 +114,7 @@ summary_of known t = record {
   opened = opened t;
   stream = stream_of known t;
   resets = resets_by_client t;
-  given = opens t;
+  given = exchanges t;
   last = last_stream t;
   ends = calls_for_end known t;
   closed = is_closed t;

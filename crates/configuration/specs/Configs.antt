@@ -56,6 +56,8 @@ pub record IsConfig (entries : Members) (config : Config) : Type 0 where
   pub passing : IsPassing (text_at (codes "passing") entries) config.passing
   pub max_body : IsMost (number_at (codes "max_body") entries) config.max_body
   pub max_response : IsMost (number_at (codes "max_response") entries) config.max_response
+  -- no table says that connections are kept
+  pub unkept : config.keep ≡ false
   pub tables : List Members
   pub are_tables : AreTables (array_at (codes "route") entries) tables
   pub routes : AreRoutes tables config.routes.items

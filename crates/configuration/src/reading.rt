@@ -85,6 +85,7 @@ fn read_table(alloc: Global, table: &Table) -> Result<Config, ConfigFault>
         passing,
         max_body,
         max_response,
+        keep: false,
     })
 }
 

@@ -8,7 +8,6 @@ use Rattle.model.specs.Setup.{Setup, Passing}
 use Rattle.model.specs.Setup.Passing.{Whole, Streaming}
 use Rattle.model.specs.Tapes.{Entry, is_closed}
 use Rattle.model.specs.Known.{Known}
-use Rattle.model.specs.Openings.{exchange_on}
 use Rattle.model.specs.Rooms.{IsAdmitted}
 use Rattle.model.specs.Admission as admission
 use Rattle.conduct.specs.Rule.{AreKnown, known_of}
@@ -17,7 +16,7 @@ use Rattle.offering.specs.Outbox.{Outbox}
 use Rattle.offering.specs.Outbox.Outbox.{Before, Behind, Over}
 use Rattle.offering.specs.Held.{body_waiting}
 use Rattle.receiving.specs.Held.{body_in}
-use Rattle.receiving.specs.Rooms.{HoldsBody, IsHeld, AreHeld}
+use Rattle.receiving.specs.Rooms.{IsHeld, AreHeld}
 use Rattle.serving.specs.State as serving
 use Rattle.serving.specs.State.{find, live_of}
 use Rattle.serving.specs.Meaning.{AreSo}
@@ -64,7 +63,7 @@ module _ (setup : Setup) (run : List Move) (kept : View) (pending : Pending) (s 
           let h : HoldsFor known (tape_of run) k c.live.stream kept.offers.kept = holds_for known run kept pending s leads_known knows settled.rest.none_cut settled.rest.none_done k c found is in
           let count : length (body_in h.box.box) ≡ takes_room (passing_in c.answer.way) kept.offers c.live.stream =
           same_body h.box.box ∙ sym (ap held_if h.found) ∙ sym (ap (λ p. takes_room p kept.offers c.live.stream) (passed ∙ is)) in
-          subst (HoldsBody known (exchange_on k (tape_of run)) (tape_of run)) count h.holds
+          subst (IsHeld Streaming known (tape_of run) k) count h.holds
 
   held_there : (k : ℕ) → is_up kept k ≡ true → IsHeld known.setup.passing known (tape_of run) k (held_on kept k)
   held_there k up = by (find number_of k kept.upstreams.live) refl up

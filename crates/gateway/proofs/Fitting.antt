@@ -8,9 +8,10 @@ use Rattle.model.specs.Setup.Passing.{Whole, Streaming}
 use Rattle.model.specs.Tapes.{Noted, Entry, acts, sent, ActsFollow}
 use Rattle.model.specs.Tapes.Entry.{Came, Breached, Happened, Sent, Did}
 use Rattle.model.specs.Known.{Known}
-use Rattle.model.specs.Available.{heard}
+use Rattle.model.specs.Available.{heard_by}
 use Rattle.model.specs.Offers.{is_to_head}
-use Rattle.model.specs.Openings.{opens, given}
+use Rattle.model.specs.Openings.{Opened, exchanges, exchange_on, given}
+use Rattle.model.specs.Idle.{is_asked_for_head, IsTooLong, LeavesOpen, MayBeKept, IsIdle}
 use Rattle.model.specs.Responses.{Seen}
 use Rattle.model.specs.Rooms.{IsRoom, FitsRoom}
 use Rattle.model.specs.WindowsOnTape.{is_on, data_octets}
@@ -21,18 +22,55 @@ use Rattle.steps.specs.Inputs.Input.{OfFrame, OfBreach, OfEvent}
 
 -- ---- frames that are sent leave no less room
 
+-- a frame that is sent leaves what a request asks for
+same_asked : (known : Known) (t : List Entry) (noted : Noted) (o : Opened) → is_asked_for_head known o (Sent noted ∷ t) ≡ is_asked_for_head known o t
+same_asked known t noted o = ap is_to_head (sym (items_stay known o.stream t (Sent noted) refl))
+
+kept_before : (known : Known) (t : List Entry) (noted : Noted) (o : Opened) → MayBeKept known (Sent noted ∷ t) o → MayBeKept known t o
+kept_before known t noted o kept = record {
+  keeps = kept.keeps;
+  goes_on = kept.goes_on;
+  request = kept.request;
+  sent = kept.sent;
+  answered = subst (λ b. LeavesOpen (heard_by o t) b) (same_asked known t noted o) kept.answered;
+  fits = subst (λ b. IsTooLong known (heard_by o t) b → ⊥) (same_asked known t noted o) kept.fits;
+  not_ended = kept.not_ended;
+}
+
+kept_behind : (known : Known) (t : List Entry) (noted : Noted) (o : Opened) → MayBeKept known t o → MayBeKept known (Sent noted ∷ t) o
+kept_behind known t noted o kept = record {
+  keeps = kept.keeps;
+  goes_on = kept.goes_on;
+  request = kept.request;
+  sent = kept.sent;
+  answered = subst (λ b. LeavesOpen (heard_by o t) b) (sym (same_asked known t noted o)) kept.answered;
+  fits = subst (λ b. IsTooLong known (heard_by o t) b → ⊥) (sym (same_asked known t noted o)) kept.fits;
+  not_ended = kept.not_ended;
+}
+
+-- so just the connections are idle that were
+idle_before : (known : Known) (t : List Entry) (noted : Noted) (k : ℕ) → IsIdle known (Sent noted ∷ t) k → IsIdle known t k
+idle_before known t noted k idle = record { is_open = idle.is_open; kept = kept_before known t noted (exchange_on k t) idle.kept }
+
+idle_behind : (known : Known) (t : List Entry) (noted : Noted) (k : ℕ) → IsIdle known t k → IsIdle known (Sent noted ∷ t) k
+idle_behind known t noted k idle = record { is_open = idle.is_open; kept = kept_behind known t noted (exchange_on k t) idle.kept }
+
 -- what there was room for before a frame went there is behind it
 room_sent : (passing : Passing) (known : Known) (k : ℕ) (t : List Entry) (noted : Noted) (length_of count : ℕ) → ((before : ℕ) → IsRoom passing known k t before → length_of ≤ before) → IsRoom passing known k (Sent noted ∷ t) count → length_of ≤ count
 room_sent Whole known k t noted length_of count fits room = fits count room
-room_sent Streaming known k t noted length_of count fits room =
-    let before : ℕ = Rattle.model.specs.Admission.room k t - (length room.octets - data_octets (is_on (given k (opens t))) (sent t)) in
-    let less : length_of ≤ before = fits before (record {
-      interims = room.interims;
-      head = room.head;
-      octets = room.octets;
-      seen = subst (λ xs. Seen (heard k t) (is_to_head xs) room.interims room.head room.octets) (sym (items_stay known (given k (opens t)) t (Sent noted) refl)) room.seen;
-      is = refl;
-    }) in
+room_sent Streaming known k t noted length_of count fits (inl idle) = fits count (inl (idle_before known t noted k idle.0, idle.1))
+room_sent Streaming known k t noted length_of count fits (inr (busy, room)) =
+    let before : ℕ = Rattle.model.specs.Admission.room k t - (length room.octets - data_octets (is_on (given k (exchanges t))) (sent t)) in
+    let less : length_of ≤ before = fits before (inr (
+      λ idle. busy (idle_behind known t noted k idle),
+      record {
+        interims = room.interims;
+        head = room.head;
+        octets = room.octets;
+        seen = subst (λ b. Seen (heard_by (exchange_on k t) t) b room.interims room.head room.octets) (same_asked known t noted (exchange_on k t)) room.seen;
+        is = refl;
+      },
+    )) in
     let is = room.is in
     omega (arith, less, is)
 

@@ -41,9 +41,9 @@ text_more : (head text octets : List ℕ) (pieces : List (List ℕ)) → text �
 text_more head text octets pieces e =
     ap (λ (t : List ℕ). t ++ octets) e ∙ append_assoc head (concat pieces) octets ∙ ap (λ (rest : List ℕ). head ++ rest) (sym (concat_more pieces octets))
 
-pub push_counting : (parts : HeadParts) (ended : Bool) (text octets : List ℕ) (pieces : List (List ℕ)) (left : ℕ) → length octets < left → SentCounting parts ended text pieces left
-    → SentCounting parts ended (text ++ octets) (pieces ++ piece_of octets) (left - length octets)
-push_counting parts ended text octets pieces left short s =
+pub push_counting : (keep : Bool) (parts : HeadParts) (ended : Bool) (text octets : List ℕ) (pieces : List (List ℕ)) (left : ℕ) → length octets < left → SentCounting keep parts ended text pieces left
+    → SentCounting keep parts ended (text ++ octets) (pieces ++ piece_of octets) (left - length octets)
+push_counting keep parts ended text octets pieces left short s =
     let lengths : length (concat (pieces ++ piece_of octets)) ≡ length (concat pieces) + length octets = ap length (concat_more pieces octets) ∙ length-append (concat pieces) octets in
     let sum : length (concat pieces) + left ≡ length (concat (pieces ++ piece_of octets)) + (left - length octets) = omega arith in
     record {
@@ -51,7 +51,7 @@ push_counting parts ended text octets pieces left short s =
       full = more_full pieces octets s.full;
       declared = s.declared ∙ ap {A = ℕ} {B = Option ℕ} (λ n. Some n) sum;
       more = omega arith;
-      is = text_more (head_of parts false) text octets pieces s.is;
+      is = text_more (head_of keep parts false) text octets pieces s.is;
     }
 
 front_and_last : (octets : List ℕ) → 0 < length octets → take (length octets - 1) octets ++ get_or octets (length octets - 1) 0 ∷ [] ≡ octets
@@ -59,9 +59,9 @@ front_and_last octets some =
     let whole : length octets - 1 + 1 ≡ length octets = omega arith in
     sym (take_more octets (length octets - 1) 0 (omega arith)) ∙ ap (λ (n : ℕ). take n octets) whole ∙ take_all (length octets) octets (omega arith)
 
-pub push_last : (parts : HeadParts) (ended : Bool) (text octets : List ℕ) (pieces : List (List ℕ)) (left : ℕ) → 0 < length octets → length octets ≡ left → SentCounting parts ended text pieces left
-    → SentHolding parts ended (text ++ take (length octets - 1) octets) (pieces ++ piece_of octets) (get_or octets (length octets - 1) 0)
-push_last parts ended text octets pieces left some all s =
+pub push_last : (keep : Bool) (parts : HeadParts) (ended : Bool) (text octets : List ℕ) (pieces : List (List ℕ)) (left : ℕ) → 0 < length octets → length octets ≡ left → SentCounting keep parts ended text pieces left
+    → SentHolding keep parts ended (text ++ take (length octets - 1) octets) (pieces ++ piece_of octets) (get_or octets (length octets - 1) 0)
+push_last keep parts ended text octets pieces left some all s =
     let lengths : length (concat (pieces ++ piece_of octets)) ≡ length (concat pieces) + length octets = ap length (concat_more pieces octets) ∙ length-append (concat pieces) octets in
     let sum : length (concat pieces) + left ≡ length (concat (pieces ++ piece_of octets)) = omega arith in
     record {
@@ -69,72 +69,72 @@ push_last parts ended text octets pieces left some all s =
       full = more_full pieces octets s.full;
       declared = s.declared ∙ ap {A = ℕ} {B = Option ℕ} (λ n. Some n) sum;
       is = append_assoc text (take (length octets - 1) octets) (get_or octets (length octets - 1) 0 ∷ []) ∙ ap (λ (rest : List ℕ). text ++ rest) (front_and_last octets some)
-          ∙ text_more (head_of parts false) text octets pieces s.is;
+          ∙ text_more (head_of keep parts false) text octets pieces s.is;
     }
 
 chunk_joined : (octets : List ℕ) → 0 < length octets → flat_map chunk_text (piece_of octets) ≡ chunk_text octets
 chunk_joined [] some = absurd (omega arith)
 chunk_joined (octet ∷ octets) some = append-nil (chunk_text (octet ∷ octets))
 
-pub push_chunked : (parts : HeadParts) (ended : Bool) (text octets : List ℕ) (pieces : List (List ℕ)) → 0 < length octets → SentChunking parts ended text pieces
-    → SentChunking parts ended (text ++ chunk_text octets) (pieces ++ piece_of octets)
-push_chunked parts ended text octets pieces some s = record {
+pub push_chunked : (keep : Bool) (parts : HeadParts) (ended : Bool) (text octets : List ℕ) (pieces : List (List ℕ)) → 0 < length octets → SentChunking keep parts ended text pieces
+    → SentChunking keep parts ended (text ++ chunk_text octets) (pieces ++ piece_of octets)
+push_chunked keep parts ended text octets pieces some s = record {
   not_ended = s.not_ended;
   full = more_full pieces octets s.full;
   undeclared = s.undeclared;
-  is = ap (λ (t : List ℕ). t ++ chunk_text octets) s.is ∙ append_assoc (head_of parts false) (flat_map chunk_text pieces) (chunk_text octets)
-      ∙ ap (λ (rest : List ℕ). head_of parts false ++ rest) (sym (flat_map-append chunk_text pieces (piece_of octets) ∙ ap (λ (rest : List ℕ). flat_map chunk_text pieces ++ rest) (chunk_joined octets some)));
+  is = ap (λ (t : List ℕ). t ++ chunk_text octets) s.is ∙ append_assoc (head_of keep parts false) (flat_map chunk_text pieces) (chunk_text octets)
+      ∙ ap (λ (rest : List ℕ). head_of keep parts false ++ rest) (sym (flat_map-append chunk_text pieces (piece_of octets) ∙ ap (λ (rest : List ℕ). flat_map chunk_text pieces ++ rest) (chunk_joined octets some)));
 }
 
 -- a stage that is known stands for the value
 pub counts_on : (stage : Stage) (left : ℕ) (octets : List ℕ) → stage ≡ Counting left → length octets < left → Continues stage octets octets [] (Counting (left - length octets))
-counts_on stage left octets e short parts ended text pieces s =
-    push_counting parts ended text octets pieces left short (subst (λ (t : Stage). Sending parts ended text pieces [] t) e s)
+counts_on stage left octets e short keep parts ended text pieces s =
+    push_counting keep parts ended text octets pieces left short (subst (λ (t : Stage). Sending keep parts ended text pieces [] t) e s)
 
 pub holds_last : (stage : Stage) (left : ℕ) (octets : List ℕ) → stage ≡ Counting left → 0 < length octets → left ≤ length octets → MayPush stage (length octets)
     → Continues stage (take (length octets - 1) octets) octets [] (Holding (get_or octets (length octets - 1) 0))
-holds_last stage left octets e some long may parts ended text pieces s =
+holds_last stage left octets e some long may keep parts ended text pieces s =
     let most : length octets ≤ left = subst (λ (t : Stage). MayPush t (length octets)) e may in
-    push_last parts ended text octets pieces left some (omega arith) (subst (λ (t : Stage). Sending parts ended text pieces [] t) e s)
+    push_last keep parts ended text octets pieces left some (omega arith) (subst (λ (t : Stage). Sending keep parts ended text pieces [] t) e s)
 
 pub adds_chunk : (stage : Stage) (octets : List ℕ) → stage ≡ Chunking → 0 < length octets → Continues stage (chunk_text octets) octets [] stage
-adds_chunk stage octets e some parts ended text pieces s =
-    subst (λ (t : Stage). Sending parts ended (text ++ chunk_text octets) (pieces ++ piece_of octets) [] t) (sym e)
-    (push_chunked parts ended text octets pieces some (subst (λ (t : Stage). Sending parts ended text pieces [] t) e s))
+adds_chunk stage octets e some keep parts ended text pieces s =
+    subst (λ (t : Stage). Sending keep parts ended (text ++ chunk_text octets) (pieces ++ piece_of octets) [] t) (sym e)
+    (push_chunked keep parts ended text octets pieces some (subst (λ (t : Stage). Sending keep parts ended text pieces [] t) e s))
 
 -- the last chunk ends a text of chunks
-ends_chunks : (parts : HeadParts) (ended : Bool) (text : List ℕ) (pieces : List (List ℕ)) (trailers : List Field) → SentChunking parts ended text pieces → SentWhole parts ended (text ++ last_chunk trailers) pieces trailers
-ends_chunks parts ended text pieces trailers s = record {
+ends_chunks : (keep : Bool) (parts : HeadParts) (ended : Bool) (text : List ℕ) (pieces : List (List ℕ)) (trailers : List Field) → SentChunking keep parts ended text pieces → SentWhole keep parts ended (text ++ last_chunk trailers) pieces trailers
+ends_chunks keep parts ended text pieces trailers s = record {
   none_ended = λ e. absurd (let clash : true ≡ false = sym e ∙ s.not_ended in cc);
   full = s.full;
   has_length = subst (λ (o : Option ℕ). HasLength o (concat pieces)) (sym s.undeclared) tt;
-  is = ap (λ (t : List ℕ). t ++ last_chunk trailers) s.is ∙ append_assoc (head_of parts false) (flat_map chunk_text pieces) (last_chunk trailers)
-      ∙ ap (λ (b : Bool). head_of parts b ++ content_of None b pieces trailers) (sym s.not_ended)
-      ∙ ap (λ (o : Option ℕ). head_of parts ended ++ content_of o ended pieces trailers) (sym s.undeclared);
+  is = ap (λ (t : List ℕ). t ++ last_chunk trailers) s.is ∙ append_assoc (head_of keep parts false) (flat_map chunk_text pieces) (last_chunk trailers)
+      ∙ ap (λ (b : Bool). head_of keep parts b ++ content_of None b pieces trailers) (sym s.not_ended)
+      ∙ ap (λ (o : Option ℕ). head_of keep parts ended ++ content_of o ended pieces trailers) (sym s.undeclared);
 }
 
 -- a body in one chunk ends it
 pub closes : (stage : Stage) (octets : List ℕ) (trailers : List Field) → stage ≡ Chunking → 0 < length octets → Continues stage (chunk_text octets ++ last_chunk trailers) octets trailers Whole
-closes stage octets trailers e some parts ended text pieces s =
-    subst (λ (t : List ℕ). SentWhole parts ended t (pieces ++ piece_of octets) trailers) (append_assoc text (chunk_text octets) (last_chunk trailers))
-    (ends_chunks parts ended (text ++ chunk_text octets) (pieces ++ piece_of octets) trailers (push_chunked parts ended text octets pieces some (subst (λ (t : Stage). Sending parts ended text pieces [] t) e s)))
+closes stage octets trailers e some keep parts ended text pieces s =
+    subst (λ (t : List ℕ). SentWhole keep parts ended t (pieces ++ piece_of octets) trailers) (append_assoc text (chunk_text octets) (last_chunk trailers))
+    (ends_chunks keep parts ended (text ++ chunk_text octets) (pieces ++ piece_of octets) trailers (push_chunked keep parts ended text octets pieces some (subst (λ (t : Stage). Sending keep parts ended text pieces [] t) e s)))
 
 -- so do chunks that were written before, with the last one
 pub ends : (stage : Stage) (trailers : List Field) → stage ≡ Chunking → Continues stage (last_chunk trailers) [] trailers Whole
-ends stage trailers e parts ended text pieces s =
-    subst (λ (ps : List (List ℕ)). SentWhole parts ended (text ++ last_chunk trailers) ps trailers) (sym (append-nil pieces))
-    (ends_chunks parts ended text pieces trailers (subst (λ (t : Stage). Sending parts ended text pieces [] t) e s))
+ends stage trailers e keep parts ended text pieces s =
+    subst (λ (ps : List (List ℕ)). SentWhole keep parts ended (text ++ last_chunk trailers) ps trailers) (sym (append-nil pieces))
+    (ends_chunks keep parts ended text pieces trailers (subst (λ (t : Stage). Sending keep parts ended text pieces [] t) e s))
 
 -- beside a declared length no trailers are written
 pub releases : (stage : Stage) (octet : ℕ) (trailers : List Field) → stage ≡ Holding octet → Continues stage (octet ∷ []) [] trailers Whole
-releases stage octet trailers e parts ended text pieces s =
-    let held : SentHolding parts ended text pieces octet = subst (λ (t : Stage). Sending parts ended text pieces [] t) e s in
-    subst (λ (ps : List (List ℕ)). SentWhole parts ended (text ++ octet ∷ []) ps trailers) (sym (append-nil pieces)) (record {
+releases stage octet trailers e keep parts ended text pieces s =
+    let held : SentHolding keep parts ended text pieces octet = subst (λ (t : Stage). Sending keep parts ended text pieces [] t) e s in
+    subst (λ (ps : List (List ℕ)). SentWhole keep parts ended (text ++ octet ∷ []) ps trailers) (sym (append-nil pieces)) (record {
       none_ended = λ e. absurd (let clash : true ≡ false = sym e ∙ held.not_ended in cc);
       full = held.full;
       has_length = subst (λ (o : Option ℕ). HasLength o (concat pieces)) (sym held.declared) refl;
-      is = held.is ∙ ap (λ (o : Option ℕ). head_of parts false ++ content_of o false pieces trailers) (sym held.declared)
-          ∙ ap (λ (b : Bool). head_of parts b ++ content_of parts.length b pieces trailers) (sym held.not_ended);
+      is = held.is ∙ ap (λ (o : Option ℕ). head_of keep parts false ++ content_of o false pieces trailers) (sym held.declared)
+          ∙ ap (λ (b : Bool). head_of keep parts b ++ content_of parts.length b pieces trailers) (sym held.not_ended);
     })
 
 -- some octets stand behind a place within

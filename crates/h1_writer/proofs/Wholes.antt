@@ -4,12 +4,12 @@ use Rattle.std.specs.List.{list_all, concat, flat_map}
 use Rattle.std.proofs.lemmas.List.{append-nil, nil_from_length, length-replicate}
 use Rattle.std.proofs.lemmas.List.Concat.{flat_map-append}
 use Rattle.model.specs.Octets.{IsFront, IsStrictFront}
-use Rattle.model.specs.Http1.{H1Request, BeginsNoRequest, forward}
+use Rattle.model.specs.Http1.{BeginsNoRequest, forward, H1Kept}
 use Rattle.model.specs.Http1Text.{framing_of}
 use Rattle.model.specs.Messages.{Field}
 use Rattle.model.specs.Http2.{HasLength, WellFormedTrailers, passed_trailers, trailers_beside}
 use Rattle.model.proofs.Http1Readings.{one_request}
-use Rattle.model.proofs.Http1Texts.{has_line, Frames, IsSendable, text_read, no_framing}
+use Rattle.model.proofs.Http1Texts.{has_line, Frames, IsSendable, text_kept, kept_reads, no_framing}
 use Rattle.model.proofs.Http2Sends.{head_sendable, trailers_have_lines}
 use Rattle.request_rules.specs.Heads.{HeadParts, IsRequestHead, request_with}
 use Rattle.h1_writer.specs.Sending.{Stage, Sending, SentWhole, SentCounting, SentHolding, SentChunking, content_of, head_of, piece_of, chunk_text, last_chunk, GoesOnTo, HoldsAll, LacksAtMostOne, HasRoom, MayPush, MayFinish}
@@ -33,12 +33,12 @@ content_frames None false pieces trailers fits full held none lines = chunk_fram
 content_frames None true pieces trailers fits full held none lines =
     subst (λ (ps : List (List ℕ)). Frames [] [] (concat ps) trailers) (sym (none refl).0) (subst (λ (ls : List Field). Frames [] [] [] ls) (sym (none refl).1) no_framing)
 
-pub whole_read : (parts : HeadParts) (ended : Bool) (text : List ℕ) (pieces : List (List ℕ)) (given : List Field) → IsRequestHead parts → WellFormedTrailers given → SentWhole parts ended text pieces (passed_trailers given)
-    → H1Request text (forward (request_with parts (concat pieces) (passed_trailers given)))
-whole_read parts ended text pieces given p w s =
+pub whole_read : (keep : Bool) (parts : HeadParts) (ended : Bool) (text : List ℕ) (pieces : List (List ℕ)) (given : List Field) → IsRequestHead parts → WellFormedTrailers given → SentWhole keep parts ended text pieces (passed_trailers given)
+    → H1Kept keep text (forward (request_with parts (concat pieces) (passed_trailers given)))
+whole_read keep parts ended text pieces given p w s =
     let trailers = passed_trailers given in
-    subst (λ (t : List ℕ). H1Request t (forward (request_with parts (concat pieces) trailers))) (sym s.is)
-    (text_read (request_with parts (concat pieces) trailers) (framing_of parts.length ended) (content_of parts.length ended pieces trailers) (sendable parts (concat pieces) trailers p)
+    subst (λ (t : List ℕ). H1Kept keep t (forward (request_with parts (concat pieces) trailers))) (sym s.is)
+    (text_kept keep (request_with parts (concat pieces) trailers) (framing_of parts.length ended) (content_of parts.length ended pieces trailers) (sendable parts (concat pieces) trailers p)
     (content_frames parts.length ended pieces trailers (λ n e. length_fits parts n p e) s.full s.has_length s.none_ended (trailers_have_lines given w)))
 
 -- ---- what a text that isn't whole may become
@@ -48,13 +48,13 @@ strict_front text [] some = absurd (omega arith)
 strict_front text (next ∷ rest) some = record { next = next; rest = rest; is = refl }
 
 -- the text of a declared body
-declared_text : (parts : HeadParts) (text body more : List ℕ) (trailers : List Field) → IsRequestHead parts → parts.length ≡ Some (length body) → text ++ more ≡ head_of parts false ++ body → 0 < length more → GoesOnTo parts text body trailers
-declared_text parts text body more trailers p declared is some =
+declared_text : (keep : Bool) (parts : HeadParts) (text body more : List ℕ) (trailers : List Field) → IsRequestHead parts → parts.length ≡ Some (length body) → text ++ more ≡ head_of keep parts false ++ body → 0 < length more → GoesOnTo keep parts text body trailers
+declared_text keep parts text body more trailers p declared is some =
     let framing : Frames (framing_of parts.length false) body body (trailers_beside parts.length trailers) =
     subst (λ (d : Option ℕ). Frames (framing_of d false) body body (trailers_beside d trailers)) (sym declared) (length_frames (length body) false body (length_fits parts (length body) p declared) refl) in
     record {
       whole = text ++ more;
-      reads = subst (λ (t : List ℕ). H1Request t (forward (request_with parts body trailers))) (sym is) (text_read (request_with parts body trailers) (framing_of parts.length false) body (sendable parts body trailers p) framing);
+      reads = subst (λ (t : List ℕ). H1Kept keep t (forward (request_with parts body trailers))) (sym is) (text_kept keep (request_with parts body trailers) (framing_of parts.length false) body (sendable parts body trailers p) framing);
       is_front = strict_front text more some;
     }
 
@@ -63,71 +63,71 @@ declared_body parts n body e held =
     let is : length body ≡ n = subst (λ (d : Option ℕ). HasLength d body) e held in
     e ∙ ap {A = ℕ} {B = Option ℕ} (λ m. Some m) (sym is)
 
-pub counting_front : (parts : HeadParts) (ended : Bool) (text : List ℕ) (pieces : List (List ℕ)) (left : ℕ) (body : List ℕ) (trailers : List Field) → IsRequestHead parts → SentCounting parts ended text pieces left
-    → IsFront (concat pieces) body → HasLength parts.length body → GoesOnTo parts text body trailers
-counting_front parts ended text pieces left body trailers p s front held =
+pub counting_front : (keep : Bool) (parts : HeadParts) (ended : Bool) (text : List ℕ) (pieces : List (List ℕ)) (left : ℕ) (body : List ℕ) (trailers : List Field) → IsRequestHead parts → SentCounting keep parts ended text pieces left
+    → IsFront (concat pieces) body → HasLength parts.length body → GoesOnTo keep parts text body trailers
+counting_front keep parts ended text pieces left body trailers p s front held =
     let is : length body ≡ length (concat pieces) + left = subst (λ (d : Option ℕ). HasLength d body) s.declared held in
     let lengths : length body ≡ length (concat pieces) + length front.rest = ap length front.is ∙ length-append (concat pieces) front.rest in
     let more : 0 < left = s.more in
-    declared_text parts text body front.rest trailers p (declared_body parts _ body s.declared held)
-    (ap (λ (t : List ℕ). t ++ front.rest) s.is ∙ append_assoc (head_of parts false) (concat pieces) front.rest ∙ ap (λ (b : List ℕ). head_of parts false ++ b) (sym front.is))
+    declared_text keep parts text body front.rest trailers p (declared_body parts _ body s.declared held)
+    (ap (λ (t : List ℕ). t ++ front.rest) s.is ∙ append_assoc (head_of keep parts false) (concat pieces) front.rest ∙ ap (λ (b : List ℕ). head_of keep parts false ++ b) (sym front.is))
     (omega arith)
 
-pub holding_front : (parts : HeadParts) (ended : Bool) (text : List ℕ) (pieces : List (List ℕ)) (octet : ℕ) (body : List ℕ) (trailers : List Field) → IsRequestHead parts → SentHolding parts ended text pieces octet
-    → IsFront (concat pieces) body → HasLength parts.length body → GoesOnTo parts text body trailers
-holding_front parts ended text pieces octet body trailers p s front held =
+pub holding_front : (keep : Bool) (parts : HeadParts) (ended : Bool) (text : List ℕ) (pieces : List (List ℕ)) (octet : ℕ) (body : List ℕ) (trailers : List Field) → IsRequestHead parts → SentHolding keep parts ended text pieces octet
+    → IsFront (concat pieces) body → HasLength parts.length body → GoesOnTo keep parts text body trailers
+holding_front keep parts ended text pieces octet body trailers p s front held =
     let is : length body ≡ length (concat pieces) = subst (λ (d : Option ℕ). HasLength d body) s.declared held in
     let lengths : length body ≡ length (concat pieces) + length front.rest = ap length front.is ∙ length-append (concat pieces) front.rest in
     let rest : front.rest ≡ [] = nil_from_length front.rest (omega arith) in
     let same : body ≡ concat pieces = front.is ∙ ap (λ (r : List ℕ). concat pieces ++ r) rest ∙ append-nil (concat pieces) in
-    declared_text parts text body (octet ∷ []) trailers p (declared_body parts _ body s.declared held) (s.is ∙ ap (λ (b : List ℕ). head_of parts false ++ b) (sym same)) (omega arith)
+    declared_text keep parts text body (octet ∷ []) trailers p (declared_body parts _ body s.declared held) (s.is ∙ ap (λ (b : List ℕ). head_of keep parts false ++ b) (sym same)) (omega arith)
 
-chunking_text : (parts : HeadParts) (pieces : List (List ℕ)) (given : List Field) → IsRequestHead parts → WellFormedTrailers given → parts.length ≡ None → are_full pieces ≡ true
-    → H1Request (head_of parts false ++ (flat_map chunk_text pieces ++ last_chunk (passed_trailers given))) (forward (request_with parts (concat pieces) (passed_trailers given)))
-chunking_text parts pieces given p w none full =
+chunking_text : (keep : Bool) (parts : HeadParts) (pieces : List (List ℕ)) (given : List Field) → IsRequestHead parts → WellFormedTrailers given → parts.length ≡ None → are_full pieces ≡ true
+    → H1Kept keep (head_of keep parts false ++ (flat_map chunk_text pieces ++ last_chunk (passed_trailers given))) (forward (request_with parts (concat pieces) (passed_trailers given)))
+chunking_text keep parts pieces given p w none full =
     let trailers = passed_trailers given in
-    text_read (request_with parts (concat pieces) trailers) (framing_of parts.length false) (flat_map chunk_text pieces ++ last_chunk trailers) (sendable parts (concat pieces) trailers p)
+    text_kept keep (request_with parts (concat pieces) trailers) (framing_of parts.length false) (flat_map chunk_text pieces ++ last_chunk trailers) (sendable parts (concat pieces) trailers p)
     (subst (λ (d : Option ℕ). Frames (framing_of d false) (flat_map chunk_text pieces ++ last_chunk trailers) (concat pieces) (trailers_beside d trailers)) (sym none)
     (chunk_frames pieces trailers full (trailers_have_lines given w)))
 
 last_some : (trailers : List Field) → 0 < length (last_chunk trailers)
 last_some trailers = simp length-append (omega arith)
 
-pub chunking_front : (parts : HeadParts) (ended : Bool) (text : List ℕ) (pieces : List (List ℕ)) (body : List ℕ) (given : List Field) → IsRequestHead parts → WellFormedTrailers given → SentChunking parts ended text pieces
-    → IsFront (concat pieces) body → GoesOnTo parts text body (passed_trailers given)
-chunking_front parts ended text pieces body given p w s front =
+pub chunking_front : (keep : Bool) (parts : HeadParts) (ended : Bool) (text : List ℕ) (pieces : List (List ℕ)) (body : List ℕ) (given : List Field) → IsRequestHead parts → WellFormedTrailers given → SentChunking keep parts ended text pieces
+    → IsFront (concat pieces) body → GoesOnTo keep parts text body (passed_trailers given)
+chunking_front keep parts ended text pieces body given p w s front =
     let trailers = passed_trailers given in
     let all = pieces ++ piece_of front.rest in
     let more = flat_map chunk_text (piece_of front.rest) ++ last_chunk trailers in
-    let whole : text ++ more ≡ head_of parts false ++ (flat_map chunk_text all ++ last_chunk trailers) =
-    ap (λ (t : List ℕ). t ++ more) s.is ∙ append_assoc (head_of parts false) (flat_map chunk_text pieces) more
-    ∙ ap (λ (t : List ℕ). head_of parts false ++ t)
+    let whole : text ++ more ≡ head_of keep parts false ++ (flat_map chunk_text all ++ last_chunk trailers) =
+    ap (λ (t : List ℕ). t ++ more) s.is ∙ append_assoc (head_of keep parts false) (flat_map chunk_text pieces) more
+    ∙ ap (λ (t : List ℕ). head_of keep parts false ++ t)
     (sym (append_assoc (flat_map chunk_text pieces) (flat_map chunk_text (piece_of front.rest)) (last_chunk trailers)) ∙ ap (λ (t : List ℕ). t ++ last_chunk trailers) (sym (flat_map-append chunk_text pieces (piece_of front.rest)))) in
     let body_is : concat all ≡ body = concat_more pieces front.rest ∙ sym front.is in
     let lengths : length more ≡ length (flat_map chunk_text (piece_of front.rest)) + length (last_chunk trailers) = length-append (flat_map chunk_text (piece_of front.rest)) (last_chunk trailers) in
     let some = last_some trailers in
     record {
       whole = text ++ more;
-      reads = subst (λ (t : List ℕ). H1Request t (forward (request_with parts body trailers))) (sym whole)
-          (subst (λ (b : List ℕ). H1Request (head_of parts false ++ (flat_map chunk_text all ++ last_chunk trailers)) (forward (request_with parts b trailers))) body_is
-          (chunking_text parts all given p w s.undeclared (more_full pieces front.rest s.full)));
+      reads = subst (λ (t : List ℕ). H1Kept keep t (forward (request_with parts body trailers))) (sym whole)
+          (subst (λ (b : List ℕ). H1Kept keep (head_of keep parts false ++ (flat_map chunk_text all ++ last_chunk trailers)) (forward (request_with parts b trailers))) body_is
+          (chunking_text keep parts all given p w s.undeclared (more_full pieces front.rest s.full)));
       is_front = strict_front text more (omega (arith, lengths, some));
     }
 
-pub unfinished_front : (parts : HeadParts) (ended : Bool) (text : List ℕ) (pieces : List (List ℕ)) (stage : Stage) (body : List ℕ) (given : List Field) → IsRequestHead parts → WellFormedTrailers given → Sending parts ended text pieces [] stage
-    → (stage ≡ Whole → ⊥) → IsFront (concat pieces) body → HasLength parts.length body → GoesOnTo parts text body (passed_trailers given)
-unfinished_front parts ended text pieces Whole body given p w s open' front held = absurd (open' refl)
-unfinished_front parts ended text pieces (Counting left) body given p w s open' front held = counting_front parts ended text pieces left body (passed_trailers given) p s front held
-unfinished_front parts ended text pieces (Holding octet) body given p w s open' front held = holding_front parts ended text pieces octet body (passed_trailers given) p s front held
-unfinished_front parts ended text pieces Chunking body given p w s open' front held = chunking_front parts ended text pieces body given p w s front
+pub unfinished_front : (keep : Bool) (parts : HeadParts) (ended : Bool) (text : List ℕ) (pieces : List (List ℕ)) (stage : Stage) (body : List ℕ) (given : List Field) → IsRequestHead parts → WellFormedTrailers given → Sending keep parts ended text pieces [] stage
+    → (stage ≡ Whole → ⊥) → IsFront (concat pieces) body → HasLength parts.length body → GoesOnTo keep parts text body (passed_trailers given)
+unfinished_front keep parts ended text pieces Whole body given p w s open' front held = absurd (open' refl)
+unfinished_front keep parts ended text pieces (Counting left) body given p w s open' front held = counting_front keep parts ended text pieces left body (passed_trailers given) p s front held
+unfinished_front keep parts ended text pieces (Holding octet) body given p w s open' front held = holding_front keep parts ended text pieces octet body (passed_trailers given) p s front held
+unfinished_front keep parts ended text pieces Chunking body given p w s open' front held = chunking_front keep parts ended text pieces body given p w s front
 
 -- a strict front of a request's text begins with none
-pub none_begun : (parts : HeadParts) (text body : List ℕ) (trailers : List Field) → GoesOnTo parts text body trailers → BeginsNoRequest text
-none_begun parts text body trailers m a more request q e =
+pub none_begun : (keep : Bool) (parts : HeadParts) (text body : List ℕ) (trailers : List Field) → GoesOnTo keep parts text body trailers → BeginsNoRequest text
+none_begun keep parts text body trailers m a more request q e =
     let front = m.is_front in
     let whole : a ++ (more ++ front.next ∷ front.rest) ≡ m.whole ++ [] =
     sym (append_assoc a more (front.next ∷ front.rest)) ∙ ap (λ (t : List ℕ). t ++ front.next ∷ front.rest) (sym e) ∙ sym front.is ∙ sym (append-nil m.whole) in
-    let same = one_request a m.whole (more ++ front.next ∷ front.rest) [] request (forward (request_with parts body trailers)) q m.reads whole in
+    let same = one_request a m.whole (more ++ front.next ∷ front.rest) [] request (forward (request_with parts body trailers)) q (kept_reads keep m.whole _ m.reads) whole in
     let first : length a ≡ length m.whole = ap length same.0 in
     let second : length text ≡ length a + length more = ap length e ∙ length-append a more in
     let third : length m.whole ≡ length text + length (front.next ∷ front.rest) = ap length front.is ∙ length-append text (front.next ∷ front.rest) in
@@ -138,54 +138,54 @@ no_trailers : WellFormedTrailers []
 no_trailers = record { no_pseudo_field = refl; names_hold = refl; values_hold = refl; no_connection_field = refl }
 
 -- some body that a text may go on to
-some_body : (parts : HeadParts) (ended : Bool) (text : List ℕ) (pieces : List (List ℕ)) (stage : Stage) → Sending parts ended text pieces [] stage → (stage ≡ Whole → ⊥)
+some_body : (keep : Bool) (parts : HeadParts) (ended : Bool) (text : List ℕ) (pieces : List (List ℕ)) (stage : Stage) → Sending keep parts ended text pieces [] stage → (stage ≡ Whole → ⊥)
     → (body : List ℕ) × IsFront (concat pieces) body × HasLength parts.length body
-some_body parts ended text pieces Whole s open' = absurd (open' refl)
-some_body parts ended text pieces (Counting left) s open' = (
+some_body keep parts ended text pieces Whole s open' = absurd (open' refl)
+some_body keep parts ended text pieces (Counting left) s open' = (
   concat pieces ++ replicate left 0,
   record { rest = replicate left 0; is = refl },
   subst (λ (d : Option ℕ). HasLength d (concat pieces ++ replicate left 0)) (sym s.declared)
       (length-append (concat pieces) (replicate left 0) ∙ ap (λ (n : ℕ). length (concat pieces) + n) (length-replicate left 0)),
 )
-some_body parts ended text pieces (Holding octet) s open' = (
+some_body keep parts ended text pieces (Holding octet) s open' = (
   concat pieces,
   record { rest = []; is = sym (append-nil (concat pieces)) },
   subst (λ (d : Option ℕ). HasLength d (concat pieces)) (sym s.declared) refl,
 )
-some_body parts ended text pieces Chunking s open' = (
+some_body keep parts ended text pieces Chunking s open' = (
   concat pieces,
   record { rest = []; is = sym (append-nil (concat pieces)) },
   subst (λ (d : Option ℕ). HasLength d (concat pieces)) (sym s.undeclared) tt,
 )
 
-pub unfinished_none : (parts : HeadParts) (ended : Bool) (text : List ℕ) (pieces : List (List ℕ)) (stage : Stage) → IsRequestHead parts → Sending parts ended text pieces [] stage → (stage ≡ Whole → ⊥)
+pub unfinished_none : (keep : Bool) (parts : HeadParts) (ended : Bool) (text : List ℕ) (pieces : List (List ℕ)) (stage : Stage) → IsRequestHead parts → Sending keep parts ended text pieces [] stage → (stage ≡ Whole → ⊥)
     → BeginsNoRequest text
-unfinished_none parts ended text pieces stage p s open' =
-    let some = some_body parts ended text pieces stage s open' in
-    none_begun parts text some.0 [] (unfinished_front parts ended text pieces stage some.0 [] p no_trailers s open' some.1 some.2)
+unfinished_none keep parts ended text pieces stage p s open' =
+    let some = some_body keep parts ended text pieces stage s open' in
+    none_begun keep parts text some.0 [] (unfinished_front keep parts ended text pieces stage some.0 [] p no_trailers s open' some.1 some.2)
 
 -- ---- what may be called
 
-pub room_to_push : (parts : HeadParts) (ended : Bool) (text : List ℕ) (pieces : List (List ℕ)) (stage : Stage) (count : ℕ) → Sending parts ended text pieces [] stage → (stage ≡ Whole → ⊥)
+pub room_to_push : (keep : Bool) (parts : HeadParts) (ended : Bool) (text : List ℕ) (pieces : List (List ℕ)) (stage : Stage) (count : ℕ) → Sending keep parts ended text pieces [] stage → (stage ≡ Whole → ⊥)
     → HasRoom parts.length pieces count → MayPush stage count
-room_to_push parts ended text pieces Whole count s open' room = absurd (open' refl)
-room_to_push parts ended text pieces (Counting left) count s open' room =
+room_to_push keep parts ended text pieces Whole count s open' room = absurd (open' refl)
+room_to_push keep parts ended text pieces (Counting left) count s open' room =
     let fits : length (concat pieces) + count ≤ length (concat pieces) + left = subst (λ (d : Option ℕ). HasRoom d pieces count) s.declared room in
     omega arith
-room_to_push parts ended text pieces (Holding octet) count s open' room =
+room_to_push keep parts ended text pieces (Holding octet) count s open' room =
     let fits : length (concat pieces) + count ≤ length (concat pieces) = subst (λ (d : Option ℕ). HasRoom d pieces count) s.declared room in
     omega arith
-room_to_push parts ended text pieces Chunking count s open' room = tt
+room_to_push keep parts ended text pieces Chunking count s open' room = tt
 
-pub end_to_finish : (parts : HeadParts) (ended : Bool) (text : List ℕ) (pieces : List (List ℕ)) (stage : Stage) → Sending parts ended text pieces [] stage → (stage ≡ Whole → ⊥)
+pub end_to_finish : (keep : Bool) (parts : HeadParts) (ended : Bool) (text : List ℕ) (pieces : List (List ℕ)) (stage : Stage) → Sending keep parts ended text pieces [] stage → (stage ≡ Whole → ⊥)
     → HasLength parts.length (concat pieces) → MayFinish stage
-end_to_finish parts ended text pieces Whole s open' held = absurd (open' refl)
-end_to_finish parts ended text pieces (Counting left) s open' held =
+end_to_finish keep parts ended text pieces Whole s open' held = absurd (open' refl)
+end_to_finish keep parts ended text pieces (Counting left) s open' held =
     let whole : length (concat pieces) ≡ length (concat pieces) + left = subst (λ (d : Option ℕ). HasLength d (concat pieces)) s.declared held in
     let more : 0 < left = s.more in
     absurd (omega arith)
-end_to_finish parts ended text pieces (Holding octet) s open' held = tt
-end_to_finish parts ended text pieces Chunking s open' held = tt
+end_to_finish keep parts ended text pieces (Holding octet) s open' held = tt
+end_to_finish keep parts ended text pieces Chunking s open' held = tt
 
 -- ---- nothing waits but the last octet
 
@@ -194,32 +194,32 @@ whole_holds (Some n) ended pieces trailers none = refl
 whole_holds None false pieces trailers none = record { rest = last_chunk trailers; is = refl }
 whole_holds None true pieces trailers none = record { rest = []; is = sym (append-nil (flat_map chunk_text pieces) ∙ ap (flat_map chunk_text) (none refl).0) }
 
-pub lacks_one : (parts : HeadParts) (ended : Bool) (text : List ℕ) (pieces : List (List ℕ)) (trailers : List Field) (stage : Stage) → Sending parts ended text pieces trailers stage → LacksAtMostOne parts ended text pieces
-lacks_one parts ended text pieces trailers Whole s = record {
+pub lacks_one : (keep : Bool) (parts : HeadParts) (ended : Bool) (text : List ℕ) (pieces : List (List ℕ)) (trailers : List Field) (stage : Stage) → Sending keep parts ended text pieces trailers stage → LacksAtMostOne keep parts ended text pieces
+lacks_one keep parts ended text pieces trailers Whole s = record {
   missing = [];
   is_last = tt;
   content = content_of parts.length ended pieces trailers;
   is = append-nil text ∙ s.is;
   holds_all = whole_holds parts.length ended pieces trailers s.none_ended;
 }
-lacks_one parts ended text pieces trailers (Counting left) s = record {
+lacks_one keep parts ended text pieces trailers (Counting left) s = record {
   missing = [];
   is_last = tt;
   content = concat pieces;
-  is = append-nil text ∙ s.is ∙ ap (λ (e : Bool). head_of parts e ++ concat pieces) (sym s.not_ended);
+  is = append-nil text ∙ s.is ∙ ap (λ (e : Bool). head_of keep parts e ++ concat pieces) (sym s.not_ended);
   holds_all = subst (λ (d : Option ℕ). HoldsAll d pieces (concat pieces)) (sym s.declared) refl;
 }
-lacks_one parts ended text pieces trailers (Holding octet) s = record {
+lacks_one keep parts ended text pieces trailers (Holding octet) s = record {
   missing = octet ∷ [];
   is_last = s.declared;
   content = concat pieces;
-  is = s.is ∙ ap (λ (e : Bool). head_of parts e ++ concat pieces) (sym s.not_ended);
+  is = s.is ∙ ap (λ (e : Bool). head_of keep parts e ++ concat pieces) (sym s.not_ended);
   holds_all = subst (λ (d : Option ℕ). HoldsAll d pieces (concat pieces)) (sym s.declared) refl;
 }
-lacks_one parts ended text pieces trailers Chunking s = record {
+lacks_one keep parts ended text pieces trailers Chunking s = record {
   missing = [];
   is_last = tt;
   content = flat_map chunk_text pieces;
-  is = append-nil text ∙ s.is ∙ ap (λ (e : Bool). head_of parts e ++ flat_map chunk_text pieces) (sym s.not_ended);
+  is = append-nil text ∙ s.is ∙ ap (λ (e : Bool). head_of keep parts e ++ flat_map chunk_text pieces) (sym s.not_ended);
   holds_all = subst (λ (d : Option ℕ). HoldsAll d pieces (flat_map chunk_text pieces)) (sym s.undeclared) (record { rest = []; is = sym (append-nil (flat_map chunk_text pieces)) });
 }

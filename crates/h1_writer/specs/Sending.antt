@@ -3,7 +3,7 @@ use Rattle.std.specs.Prelude.{◌≡◌, not, ℕ, ◌+◌, ◌<◌, ◌≤◌, 
 use Rattle.std.specs.List.{concat, flat_map, list_all}
 use Rattle.std.specs.Int.Digits.{digits_of}
 use Rattle.model.specs.Octets.{IsFront, IsStrictFront, is_empty}
-use Rattle.model.specs.Http1.{crlf, H1Request, forward}
+use Rattle.model.specs.Http1.{crlf, H1Kept, forward}
 use Rattle.model.specs.Messages.{Field}
 use Rattle.model.specs.Http1Text.{lines_text, framing_of, head_text}
 use Rattle.model.specs.Http2.{HasLength}
@@ -36,9 +36,9 @@ chunk_text piece = hex_size (length piece) ++ crlf ++ piece ++ crlf
 abbrev pub last_chunk : List Field → List ℕ
 last_chunk trailers = codes "0" ++ crlf ++ lines_text trailers ++ crlf
 
--- the text of a head that ended its stream or didn't
-abbrev pub head_of : HeadParts → Bool → List ℕ
-head_of parts ended = head_text (request_with parts [] []) (framing_of parts.length ended)
+-- the text of a head that ended its stream or didn't, on a connection that is kept or isn't
+abbrev pub head_of : Bool → HeadParts → Bool → List ℕ
+head_of keep parts ended = head_text keep (request_with parts [] []) (framing_of parts.length ended)
 
 -- what follows a head, for a body that came in these pieces, and trailers: chunks, with the trailers behind them, where no length was
 -- declared, and else the body alone
@@ -48,41 +48,41 @@ content_of None true pieces trailers = []
 content_of None false pieces trailers = flat_map chunk_text pieces ++ last_chunk trailers
 
 -- The whole text was sent, for a body of these pieces, and these trailers.
-pub record SentWhole (parts : HeadParts) (ended : Bool) (text : List ℕ) (pieces : List (List ℕ)) (trailers : List Field) : Type 0 where
+pub record SentWhole (keep : Bool) (parts : HeadParts) (ended : Bool) (text : List ℕ) (pieces : List (List ℕ)) (trailers : List Field) : Type 0 where
   pub none_ended : ended ≡ true → (pieces ≡ []) × (trailers ≡ [])
   pub full : list_all (λ piece. not (is_empty piece)) pieces ≡ true
   pub has_length : HasLength parts.length (concat pieces)
-  pub is : text ≡ head_of parts ended ++ content_of parts.length ended pieces trailers
+  pub is : text ≡ head_of keep parts ended ++ content_of parts.length ended pieces trailers
 
 -- The head was sent and these pieces, and so many octets of the declared body are still to come.
-pub record SentCounting (parts : HeadParts) (ended : Bool) (text : List ℕ) (pieces : List (List ℕ)) (left : ℕ) : Type 0 where
+pub record SentCounting (keep : Bool) (parts : HeadParts) (ended : Bool) (text : List ℕ) (pieces : List (List ℕ)) (left : ℕ) : Type 0 where
   pub not_ended : ended ≡ false
   pub full : list_all (λ piece. not (is_empty piece)) pieces ≡ true
   pub declared : parts.length ≡ Some (length (concat pieces) + left)
   pub more : 0 < left
-  pub is : text ≡ head_of parts false ++ concat pieces
+  pub is : text ≡ head_of keep parts false ++ concat pieces
 
 -- The whole text but its last octet was sent.
-pub record SentHolding (parts : HeadParts) (ended : Bool) (text : List ℕ) (pieces : List (List ℕ)) (octet : ℕ) : Type 0 where
+pub record SentHolding (keep : Bool) (parts : HeadParts) (ended : Bool) (text : List ℕ) (pieces : List (List ℕ)) (octet : ℕ) : Type 0 where
   pub not_ended : ended ≡ false
   pub full : list_all (λ piece. not (is_empty piece)) pieces ≡ true
   pub declared : parts.length ≡ Some (length (concat pieces))
-  pub is : text ++ octet ∷ [] ≡ head_of parts false ++ concat pieces
+  pub is : text ++ octet ∷ [] ≡ head_of keep parts false ++ concat pieces
 
 -- The head was sent and these pieces as chunks.
-pub record SentChunking (parts : HeadParts) (ended : Bool) (text : List ℕ) (pieces : List (List ℕ)) : Type 0 where
+pub record SentChunking (keep : Bool) (parts : HeadParts) (ended : Bool) (text : List ℕ) (pieces : List (List ℕ)) : Type 0 where
   pub not_ended : ended ≡ false
   pub full : list_all (λ piece. not (is_empty piece)) pieces ≡ true
   pub undeclared : parts.length ≡ None
-  pub is : text ≡ head_of parts false ++ flat_map chunk_text pieces
+  pub is : text ≡ head_of keep parts false ++ flat_map chunk_text pieces
 
 -- This text was sent for a head, which ended its stream or didn't, the pieces of its body that came, and its trailers. These are written
 -- with the last of the text, so that one which isn't whole has none, whatever they will be.
-abbrev pub Sending : HeadParts → Bool → List ℕ → List (List ℕ) → List Field → Stage → Type 0
-Sending parts ended text pieces trailers Whole = SentWhole parts ended text pieces trailers
-Sending parts ended text pieces trailers (Counting left) = SentCounting parts ended text pieces left
-Sending parts ended text pieces trailers (Holding octet) = SentHolding parts ended text pieces octet
-Sending parts ended text pieces trailers Chunking = SentChunking parts ended text pieces
+abbrev pub Sending : Bool → HeadParts → Bool → List ℕ → List (List ℕ) → List Field → Stage → Type 0
+Sending keep parts ended text pieces trailers Whole = SentWhole keep parts ended text pieces trailers
+Sending keep parts ended text pieces trailers (Counting left) = SentCounting keep parts ended text pieces left
+Sending keep parts ended text pieces trailers (Holding octet) = SentHolding keep parts ended text pieces octet
+Sending keep parts ended text pieces trailers Chunking = SentChunking keep parts ended text pieces
 
 -- This text of a head is sent, and then that is waited for.
 abbrev pub Begins : Option ℕ → Bool → List ℕ → List ℕ → Stage → Type 0
@@ -113,13 +113,13 @@ piece_of (octet ∷ octets) = (octet ∷ octets) ∷ []
 -- Whatever was sent and pushed before a call, with what it writes and is given, octets and trailers, it is so again.
 abbrev pub Continues : Stage → List ℕ → List ℕ → List Field → Stage → Type 0
 Continues old written octets trailers new =
-    (parts : HeadParts) (ended : Bool) (text : List ℕ) (pieces : List (List ℕ))
-    → Sending parts ended text pieces [] old → Sending parts ended (text ++ written) (pieces ++ piece_of octets) trailers new
+    (keep : Bool) (parts : HeadParts) (ended : Bool) (text : List ℕ) (pieces : List (List ℕ))
+    → Sending keep parts ended text pieces [] old → Sending keep parts ended (text ++ written) (pieces ++ piece_of octets) trailers new
 
 -- A text goes on to a whole one, which reads as the forwarded request with this body and these trailers: it is a strict front of it.
-pub record GoesOnTo (parts : HeadParts) (text body : List ℕ) (trailers : List Field) : Type 0 where
+pub record GoesOnTo (keep : Bool) (parts : HeadParts) (text body : List ℕ) (trailers : List Field) : Type 0 where
   pub whole : List ℕ
-  pub reads : H1Request whole (forward (request_with parts body trailers))
+  pub reads : H1Kept keep whole (forward (request_with parts body trailers))
   pub is_front : IsStrictFront text whole
 
 -- with so many octets more, the pieces are at most as long as declared
@@ -139,9 +139,9 @@ MissesLast declared pieces (_ ∷ []) = declared ≡ Some (length (concat pieces
 MissesLast declared pieces (_ ∷ _ ∷ _) = ⊥
 
 -- With what is missing, an octet at most and that the last of a declared length, a text is its whole head and all octets that came.
-pub record LacksAtMostOne (parts : HeadParts) (ended : Bool) (text : List ℕ) (pieces : List (List ℕ)) : Type 0 where
+pub record LacksAtMostOne (keep : Bool) (parts : HeadParts) (ended : Bool) (text : List ℕ) (pieces : List (List ℕ)) : Type 0 where
   pub missing : List ℕ
   pub is_last : MissesLast parts.length pieces missing
   pub content : List ℕ
-  pub is : text ++ missing ≡ head_of parts ended ++ content
+  pub is : text ++ missing ≡ head_of keep parts ended ++ content
   pub holds_all : HoldsAll parts.length pieces content

@@ -1,7 +1,7 @@
 //! Lines of a head.
 
 ghost use Rattle.std.specs.Prelude.{◌≡◌, ◌++◌, OnOk, length};
-ghost use Rattle.model.specs.Http1Text.{line_text, lines_text, framing_of};
+ghost use Rattle.model.specs.Http1Text.{line_text, lines_text, framing_of, closing};
 
 use crate::numbers;
 use hpack_table::Field;
@@ -42,4 +42,14 @@ pub fn push_framing(length: Option<u64>, ended: bool, out: &mut Vec<u8>) -> Resu
     numbers::push_decimal(length, out)?;
     out.extend_from_slice(b"\r\n")?;
     Ok(())
+}
+
+/// Adds the line that says that no other request is sent on the connection, unless that is kept (RFC 9112, section 9.6).
+pub fn push_closing(keep: bool, out: &mut Vec<u8>) -> Result<(), AllocError>
+    ensures { OnOk result (out.new.items ≡ out.old.items ++ lines_text (closing keep)) }
+{
+    if keep {
+        return Ok(());
+    }
+    push_line(b"connection", b"close", out)
 }

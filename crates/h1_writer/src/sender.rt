@@ -47,8 +47,13 @@ impl Model for Sender {
 const ROOM: usize = 1024;
 
 /// Adds the head (RFC 9112, section 2.1).
-fn push_head(head: &RequestHead, ended: bool, out: &mut Vec<u8>) -> Result<(), AllocError>
-    ensures { OnOk result (out.new.items ≡ out.old.items ++ head_of head.now ended) }
+fn push_head(
+    head: &RequestHead,
+    ended: bool,
+    keep: bool,
+    out: &mut Vec<u8>,
+) -> Result<(), AllocError>
+    ensures { OnOk result (out.new.items ≡ out.old.items ++ head_of keep head.now ended) }
 {
     out.extend_from_slice(head.method())?;
     out.extend_from_slice(b" ")?;
@@ -58,7 +63,7 @@ fn push_head(head: &RequestHead, ended: bool, out: &mut Vec<u8>) -> Result<(), A
     lines::push_lines(head.fields(), out)?;
     lines::push_line(b"via", b"2.0 h2gw", out)?;
     lines::push_framing(head.length(), ended, out)?;
-    lines::push_line(b"connection", b"close", out)?;
+    lines::push_closing(keep, out)?;
     out.extend_from_slice(b"\r\n")?;
     Ok(())
 }
@@ -127,16 +132,21 @@ fn push_last(trailers: &[Field], out: &mut Vec<u8>) -> Result<(), AllocError>
 impl Sender {
     /// Adds the head of a request, and answers what sends the rest; `ended` where the head ended its stream, so that
     /// there is no body: then, and only then, the text is whole. Of a head that declares an empty body whose stream goes
-    /// on, the last octet is held back. An error is refused memory; nothing is added then.
-    pub fn start(head: &RequestHead, ended: bool, out: &mut Vec<u8>) -> Result<Self, AllocError>
+    /// on, the last octet is held back. Where the connection is to be kept, the head doesn't ask the server to close it. An error is refused memory; nothing is added then.
+    pub fn start(
+        head: &RequestHead,
+        ended: bool,
+        keep: bool,
+        out: &mut Vec<u8>,
+    ) -> Result<Self, AllocError>
         requires { ended ≡ true → HasLength head.now.length [] }
-        ensures ok { IfOk result (λ sender. (written : List ℕ) × (out.new.items ≡ out.old.items ++ written) × Sending head.now ended written [] [] sender) }
+        ensures ok { IfOk result (λ sender. (written : List ℕ) × (out.new.items ≡ out.old.items ++ written) × Sending keep head.now ended written [] [] sender) }
         ensures whole { IfOk result (λ sender. ended ≡ true → sender ≡ Whole) }
         ensures goes_on { IfOk result (λ sender. ended ≡ false → sender ≡ Whole → ⊥) }
         ensures refused { OnErr result (out.new.items ≡ out.old.items) }
     {
         let mut text = Vec::with_capacity(*out.allocator(), ROOM)?;
-        push_head(head, ended, &mut text)?;
+        push_head(head, ended, keep, &mut text)?;
         let waiting = begin(head.length(), ended, &mut text);
         out.extend_from_slice(&text)?;
         Ok(Sender { waiting })

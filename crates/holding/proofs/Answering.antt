@@ -8,16 +8,17 @@ use Rattle.model.specs.ResponseHeads.{Head, longest_section}
 use Rattle.model.specs.Responses.{Seen, IsComplete}
 use Rattle.model.specs.Setup.Passing.{Whole, Streaming}
 use Rattle.model.specs.Tapes.{Entry}
-use Rattle.model.specs.Openings.{Opened, opens, given}
+use Rattle.model.specs.Openings.{Opened, opens, exchanges, exchange_on}
 use Rattle.model.specs.Deliveries.{Delivery}
-use Rattle.model.specs.Available.{heard, has_ended, shown, IsIn, IsShown}
+use Rattle.model.specs.Available.{heard_by, ended_by, shown, IsIn, IsShown}
 use Rattle.model.specs.Known.{Known}
 use Rattle.model.specs.Causes.{Cause}
 use Rattle.model.specs.Courses.{course, cause, items}
 use Rattle.model.specs.Offers.{is_to_head}
 use Rattle.model.specs.Lifetimes.{is_active}
 use Rattle.model.proofs.DeliveryReadings.{one_connection}
-use Rattle.model.proofs.GivenLaws.{given_is}
+use Rattle.model.specs.Idle.{IsAllHeard}
+use Rattle.model.proofs.ExchangeLaws.{none_kept, opened_exchange}
 use Rattle.read_answers.specs.Telling.{head_of, body_of, trailers_of, all_told}
 use Rattle.read_answers.proofs.Reading.{told_shown}
 use Rattle.answers.specs.Waiting.{Answer, Waits}
@@ -32,7 +33,8 @@ use Rattle.offering.proofs.Limits.{NoneTooLong, seen_kept}
 use Rattle.serving.specs.Told.{is_served, Told, IsTold}
 use Rattle.serving.specs.State.{Live, live_of, State}
 use Rattle.serving.specs.Rule.{is_done, Rests}
-use Rattle.serving.specs.Meaning.{IsAllHeard, Verdict}
+use Rattle.serving.specs.Meaning.{Verdict}
+use Rattle.model.proofs.AloneLaws.{newest_is}
 use Rattle.serving.proofs.Standing.{Stands}
 use Rattle.serving.proofs.Fitting.{not_not}
 use Rattle.serving.proofs.Clauses.{none_done}
@@ -41,10 +43,12 @@ use Rattle.relay.specs.Hearing.{IsHeard}
 use Rattle.holding.specs.Held.{head_waiting, octets_of}
 use Rattle.holding.proofs.Untold.{no_trailers}
 
--- An open connection that isn't done with.
+-- An open connection that isn't done with, and its newest exchange.
 pub record Answering (known : Known) (t : List Entry) (k : ℕ) (live : Live) : Type 0 where
   pub o : Opened
   pub there : IsIn o (opens t)
+  pub begun : IsIn o (exchanges t)
+  pub newest : exchange_on k t ≡ o
   pub number : o.k ≡ k
   pub of : o.stream ≡ live.stream
   pub active : is_active live.stream t ≡ true
@@ -68,6 +72,8 @@ answering_by known t s told h is_told no_done k live found =
     record {
       o = it.0;
       there = it.1;
+      begun = opened_exchange it.0 t it.1;
+      newest = newest_is t (none_kept known t h.off h.in_time) h.numbered k it.0 it.1 it.2;
       number = it.2;
       of = sym it.3.same ∙ ap (λ (x : Live). x.stream) same;
       active = both.0;
@@ -92,13 +98,13 @@ pub none_waits : (known : Known) (t : List Entry) (k : ℕ) (live : Live) (box :
 none_waits known t k live box whole n a h = elim h.offer [
   | inl (inl r) ↦ absurd (let clash : ◌≡◌ {A = Option Cause} None (Some r.cause) = sym a.no_cause ∙ r.has_cause in cc)
   | inl (inr q) ↦ (
-      let same : q.o ≡ a.o = one_connection (opens t) q.o a.o n.apart q.given.is_opened a.there (q.given.is_given ∙ sym a.of) in
-      by (subst (λ (x : Opened). IsShown known.setup.passing (heard x.k t) (has_ended x.k t) (is_to_head (items known live.stream t)) (offered_by h.read box)) same q.shows))
-  | inr none ↦ absurd (none.no_connection a.o (record { is_opened = a.there; is_given = a.of }))
+      let same : q.o ≡ a.o = one_connection (exchanges t) q.o a.o n.apart q.given.is_opened a.begun (q.given.is_given ∙ sym a.of) in
+      by (subst (λ (x : Opened). IsShown known.setup.passing (heard_by x t) (ended_by x t) (is_to_head (items known live.stream t)) (offered_by h.read box)) same q.shows))
+  | inr none ↦ absurd (none.no_connection a.o (record { is_opened = a.begun; is_given = a.of }))
 ]
   where
-    by : IsShown known.setup.passing (heard a.o.k t) (has_ended a.o.k t) (is_to_head (items known live.stream t)) (offered_by h.read box) → length (body_waiting box) ≡ 0
-    by (inl w) = absurd (a.not_whole (subst (λ n. IsComplete (heard a.o.k t) (has_ended a.o.k t) (is_to_head (items known n t))) (sym a.of) (w.response, w.is_whole)))
+    by : IsShown known.setup.passing (heard_by a.o t) (ended_by a.o t) (is_to_head (items known live.stream t)) (offered_by h.read box) → length (body_waiting box) ≡ 0
+    by (inl w) = absurd (a.not_whole (subst (λ n. IsComplete (heard_by a.o t) (ended_by a.o t) (is_to_head (items known n t))) (sym a.of) (w.response, w.is_whole)))
     by (inr b) =
         let none : length (offered_by h.read box).body ≡ 0 = ap (λ (x : Delivery). length x.body) b.says ∙ ap (λ p. length (shown p b.interims b.head b.octets).body) whole in
         let within = within_offered h.read box in
@@ -111,36 +117,40 @@ short_head None short = omega arith
 short_head (Some head) short = short
 
 module _ (known : Known) (t : List Entry) (k : ℕ) (live : Live) (answer : Answer) (whole : known.setup.passing ≡ Whole) (n : Neighbours known t) (a : Answering known t k live) (h : IsHeard known t k answer) (fits : NoneTooLong known t) where
+  -- its newest exchange
+  abbrev own : Opened
+  own = exchange_on k t
+
   -- what waits is what was told
   waits : (answer.head ≡ head_of h.parts) × (answer.body ≡ body_of h.parts) × (answer.trailers ≡ trailers_of h.parts)
   waits = subst (λ p. Waits p h.parts answer) (h.set_up.passing ∙ whole) h.waits
 
   -- that is what is shown of the answer, as if it were passed on as it comes
-  told : IsShown Streaming (heard k t) false answer.reader.to_head (all_told h.parts)
-  told = told_shown Streaming (heard k t) h.parts answer.reader h.stands
+  told : IsShown Streaming (heard_by own t) false answer.reader.to_head (all_told h.parts)
+  told = told_shown Streaming (heard_by own t) h.parts answer.reader h.stands
 
   head_short : head_waiting answer.head ≤ longest_section
   head_short =
-      let few = shown_few Streaming (heard k t) false answer.reader.to_head (all_told h.parts) told in
+      let few = shown_few Streaming (heard_by own t) false answer.reader.to_head (all_told h.parts) told in
       subst (λ x. head_waiting x ≤ longest_section) (sym waits.0) (short_head (head_of h.parts) few.final)
 
   -- whether the request asks for a head alone
   to_head : answer.reader.to_head ≡ is_to_head (items known a.o.stream t)
-  to_head = h.asked ∙ ap (λ m. is_to_head (items known m t)) (ap (λ m. given m (opens t)) (sym a.number) ∙ given_is (opens t) a.o n.numbered a.there)
+  to_head = h.asked ∙ ap (λ (x : Opened). is_to_head (items known x.stream t)) a.newest
 
   -- no more of a body is seen than may be kept
-  seen_short : (interims : List Head) (head : Option Head) (octets : List ℕ) → Seen (heard k t) answer.reader.to_head interims head octets → length octets ≤ known.setup.max_response
+  seen_short : (interims : List Head) (head : Option Head) (octets : List ℕ) → Seen (heard_by own t) answer.reader.to_head interims head octets → length octets ≤ known.setup.max_response
   seen_short interims head octets seen =
-      seen_kept known t a.o interims head octets fits whole a.there (ap (λ m. (course known m t).cause) a.of ∙ a.no_cause)
-      (subst (λ j. Seen (heard j t) (is_to_head (items known a.o.stream t)) interims head octets) (sym a.number)
-      (subst (λ b. Seen (heard k t) b interims head octets) to_head seen))
+      seen_kept known t a.o interims head octets fits whole a.begun (ap (λ m. (course known m t).cause) a.of ∙ a.no_cause)
+      (subst (λ (x : Opened). Seen (heard_by x t) (is_to_head (items known a.o.stream t)) interims head octets) a.newest
+      (subst (λ b. Seen (heard_by own t) b interims head octets) to_head seen))
 
   body_short : length answer.body ≤ known.setup.max_response
   body_short = let all = by told in let same : length answer.body ≡ length (body_of h.parts) = ap length waits.1 in omega (arith, all, same)
     where
-      by : IsShown Streaming (heard k t) false answer.reader.to_head (all_told h.parts) → length (body_of h.parts) ≤ known.setup.max_response
+      by : IsShown Streaming (heard_by own t) false answer.reader.to_head (all_told h.parts) → length (body_of h.parts) ≤ known.setup.max_response
       by (inl w) =
-          let short = seen_short w.response.interims (Some w.response.head) w.response.body (whole_seen (heard k t) false answer.reader.to_head w.response w.is_whole) in
+          let short = seen_short w.response.interims (Some w.response.head) w.response.body (whole_seen (heard_by own t) false answer.reader.to_head w.response w.is_whole) in
           let same : length (body_of h.parts) ≡ length w.response.body = ap (λ (d : Delivery). length d.body) w.says in
           omega (arith, short, same)
       by (inr b) =
@@ -154,7 +164,7 @@ module _ (known : Known) (t : List Entry) (k : ℕ) (live : Live) (answer : Answ
       let named = h.few_named in
       let head = head_short in
       let body = body_short in
-      let none = no_trailers answer h.parts waits.2 (heard k t) answer.reader h.stands h.goes_on in
+      let none = no_trailers answer h.parts waits.2 (heard_by own t) answer.reader h.stands h.goes_on in
       omega (arith, unread, named, head, body, none)
 
 -- Where it is passed on as it comes nothing of it waits but what is unread, and the fields Connection of its head.
@@ -165,5 +175,5 @@ answer_streamed known t k answer streaming h =
     let waits : (answer.head ≡ None) × (answer.body ≡ []) × (answer.trailers ≡ trailers_of h.parts) = subst (λ p. Waits p h.parts answer) (h.set_up.passing ∙ streaming) h.waits in
     let head : head_waiting answer.head ≡ 0 = ap head_waiting waits.0 in
     let body : length answer.body ≡ 0 = ap length waits.1 in
-    let none = no_trailers answer h.parts waits.2 (heard k t) answer.reader h.stands h.goes_on in
+    let none = no_trailers answer h.parts waits.2 (heard_by (exchange_on k t) t) answer.reader h.stands h.goes_on in
     omega (arith, unread, named, head, body, none)

@@ -8,8 +8,8 @@ use Rattle.model.specs.Frames.{Frame, is_padded, has_priority, has_flag, content
 use Rattle.model.specs.Setup.Passing.{Streaming}
 use Rattle.model.specs.Tapes.{Entry, sent}
 use Rattle.model.specs.Tapes.Entry.{Came, Breached, Happened, Sent, Did}
-use Rattle.model.specs.Openings.{Opened, opens, exchange_on}
-use Rattle.model.specs.Available.{heard, has_ended, items_on, IsShown, IsBegun}
+use Rattle.model.specs.Openings.{Opened, exchanges}
+use Rattle.model.specs.Available.{heard_by, ended_by, items_on, IsShown, IsBegun}
 use Rattle.model.specs.Responses.{IsComplete}
 use Rattle.model.specs.Known.{Known}
 use Rattle.model.specs.Causes.{Cause}
@@ -30,8 +30,8 @@ use Rattle.offering.proofs.SentOctets.{unpadded}
 use Rattle.offering.proofs.Standing.{Stands as Offers}
 use Rattle.receiving.specs.Held as receiving
 use Rattle.receiving.specs.Held.{body_in, HasOutbox}
-use Rattle.receiving.specs.Rooms.{HoldsBody}
-use Rattle.receiving.proofs.Holding.{holds_body}
+use Rattle.receiving.specs.Rooms.{IsHeld}
+use Rattle.receiving.proofs.Holding.{busy, holds_body}
 use Rattle.serving.specs.Rule.{is_done}
 use Rattle.serving.specs.State as serving
 use Rattle.serving.specs.State.{find, live_of}
@@ -80,7 +80,7 @@ all_bare (Did act ∷ t) bare = all_bare t bare
 pub record HoldsFor (known : Known) (t : List Entry) (k stream : ℕ) (boxes : List Kept) : Type 0 where
   pub box : Kept
   pub found : offering.find stream boxes ≡ Some box
-  pub holds : HoldsBody known (exchange_on k t) t (length (body_in box.box))
+  pub holds : IsHeld Streaming known t k (length (body_in box.box))
 
 module _ (known : Known) (run : List Move) (kept : View) (pending : Pending) (s : State) (leads : Leads known.setup run kept pending s) (knows : AreKnown known (conducts run)) (none_cut : NoneCut kept.offers) (none_done : NoneDone kept) where
   abbrev t : List Entry
@@ -127,7 +127,7 @@ module _ (known : Known) (run : List Move) (kept : View) (pending : Pending) (s 
       has_outbox : (x : Kept) → Offers known t c.live.stream x.box → HasOutbox known t k x.box
       has_outbox x h = record {
         o = a.o;
-        there = a.there;
+        there = a.begun;
         number = a.number;
         read = h.read;
         reads = subst (λ n. ReadsAs (items_on n (sent t)) h.read) (sym a.of) h.reads;
@@ -135,18 +135,17 @@ module _ (known : Known) (run : List Move) (kept : View) (pending : Pending) (s 
         begun = elim h.offer [
           | inl (inl r) ↦ absurd (let clash : ◌≡◌ {A = Option Cause} None (Some r.cause) = sym a.no_cause ∙ r.has_cause in cc)
           | inl (inr q) ↦ (
-              let same : q.o ≡ a.o = one_connection (opens t) q.o a.o place.neighbours.apart q.given.is_opened a.there (q.given.is_given ∙ sym a.of) in
-              by (subst (λ (o : Opened). IsShown known.setup.passing (heard o.k t) (has_ended o.k t) (is_to_head (items known c.live.stream t)) (offered_by h.read x.box)) same q.shows))
-          | inr none ↦ absurd (none.no_connection a.o (record { is_opened = a.there; is_given = a.of }))
+              let same : q.o ≡ a.o = one_connection (exchanges t) q.o a.o place.neighbours.apart q.given.is_opened a.begun (q.given.is_given ∙ sym a.of) in
+              by (subst (λ (o : Opened). IsShown known.setup.passing (heard_by o t) (ended_by o t) (is_to_head (items known c.live.stream t)) (offered_by h.read x.box)) same q.shows))
+          | inr none ↦ absurd (none.no_connection a.o (record { is_opened = a.begun; is_given = a.of }))
         ];
       }
         where
-          by : IsShown known.setup.passing (heard a.o.k t) (has_ended a.o.k t) (is_to_head (items known c.live.stream t)) (offered_by h.read x.box) → IsBegun Streaming (heard k t) (has_ended k t) (is_to_head (items known a.o.stream t)) (offered_by h.read x.box)
-          by (inl w) = absurd (a.not_whole (subst (λ n. IsComplete (heard a.o.k t) (has_ended a.o.k t) (is_to_head (items known n t))) (sym a.of) (w.response, w.is_whole)))
+          by : IsShown known.setup.passing (heard_by a.o t) (ended_by a.o t) (is_to_head (items known c.live.stream t)) (offered_by h.read x.box) → IsBegun Streaming (heard_by a.o t) (ended_by a.o t) (is_to_head (items known a.o.stream t)) (offered_by h.read x.box)
+          by (inl w) = absurd (a.not_whole (subst (λ n. IsComplete (heard_by a.o t) (ended_by a.o t) (is_to_head (items known n t))) (sym a.of) (w.response, w.is_whole)))
           by (inr b) =
-              subst (λ n. IsBegun Streaming (heard k t) (has_ended k t) (is_to_head (items known n t)) (offered_by h.read x.box)) (sym a.of)
-              (subst (λ j. IsBegun Streaming (heard j t) (has_ended j t) (is_to_head (items known c.live.stream t)) (offered_by h.read x.box)) a.number
-              (subst (λ p. IsBegun p (heard a.o.k t) (has_ended a.o.k t) (is_to_head (items known c.live.stream t)) (offered_by h.read x.box)) streaming b))
+              subst (λ n. IsBegun Streaming (heard_by a.o t) (ended_by a.o t) (is_to_head (items known n t)) (offered_by h.read x.box)) (sym a.of)
+              (subst (λ p. IsBegun p (heard_by a.o t) (ended_by a.o t) (is_to_head (items known c.live.stream t)) (offered_by h.read x.box)) streaming b)
 
       bare : receiving.AreUnpadded (sent t)
       bare = all_bare t (unpadded known t (in_turns known run knows leads.stands.allowed))
@@ -159,4 +158,5 @@ module _ (known : Known) (run : List Move) (kept : View) (pending : Pending) (s 
           by None is h = absurd h
           by (Some x) is h =
               let there : offering.find c.live.stream kept.offers.kept ≡ Some x = sym (ap (λ (b : offering.State). offering.find c.live.stream b.kept) leads.keeps.offers) ∙ is in
-              record { box = x; found = there; holds = holds_body known t k x.box stand.numbered (has_outbox x (h.stands (none_cut c.live.stream x there))) bare }
+              let outbox : HasOutbox known t k x.box = has_outbox x (h.stands (none_cut c.live.stream x there)) in
+              record { box = x; found = there; holds = inr (busy known t k x.box place.neighbours.numbered outbox bare, holds_body known t k x.box place.neighbours.numbered outbox bare) }

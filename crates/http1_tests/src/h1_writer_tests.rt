@@ -19,7 +19,7 @@ fn started(alloc: Global, lines: &[u8], out: &mut Vec<u8>) -> Result<Option<Send
     let Some(head) = head_of(alloc, lines, false)? else {
         return Ok(None);
     };
-    Ok(Some(Sender::start(&head, false, out)?))
+    Ok(Some(Sender::start(&head, false, false, out)?))
 }
 
 /// Pushes octets where they may be, and says whether they may.
@@ -269,20 +269,24 @@ fn trailers_stand_behind_the_last_chunk(rt: HostRuntime) -> Result<(), Fail> {
 type HeadRow = (&'static [u8], &'static [u8]);
 
 /// What is written of a request whose head ends its stream and declares no body.
-fn whole_sender(head: &RequestHead, out: &mut Vec<u8>) -> Result<Option<Sender>, AllocError> {
+fn whole_sender(
+    head: &RequestHead,
+    keep: bool,
+    out: &mut Vec<u8>,
+) -> Result<Option<Sender>, AllocError> {
     if !matches!(head.length(), None | Some(0)) {
         return Ok(None);
     }
-    Ok(Some(Sender::start(head, true, out)?))
+    Ok(Some(Sender::start(head, true, keep, out)?))
 }
 
 /// Whether the text of such a head is this one, and nothing may be added to it.
-fn is_whole(alloc: Global, lines: &[u8], text: &[u8]) -> Result<bool, AllocError> {
+fn is_whole(alloc: Global, lines: &[u8], keep: bool, text: &[u8]) -> Result<bool, AllocError> {
     let Some(head) = head_of(alloc, lines, true)? else {
         return Ok(false);
     };
     let mut out = Vec::new(alloc);
-    Ok(match whole_sender(&head, &mut out)? {
+    Ok(match whole_sender(&head, keep, &mut out)? {
         Some(sender) => { out.as_slice() == text && !sender.may_push(0) && !sender.may_finish() }
         None => false,
     })
@@ -291,7 +295,7 @@ fn is_whole(alloc: Global, lines: &[u8], text: &[u8]) -> Result<bool, AllocError
 /// The first head that has another text.
 fn first_head_that_differs(alloc: Global, rows: &[HeadRow]) -> Result<Option<usize>, AllocError> {
     for (place, (lines, text)) in rows.iter().enumerate() {
-        if !is_whole(alloc, lines, text)? {
+        if !is_whole(alloc, lines, false, text)? {
             return Ok(Some(place));
         }
     }
@@ -336,5 +340,19 @@ static HEADS: [HeadRow; 8] = [
 #[test]
 fn requests_of_heads_alone(rt: HostRuntime) -> Result<(), Fail> {
     assert_eq!(rt; first_head_that_differs(rt.alloc(), &HEADS)?, None);
+    Ok(())
+}
+
+/// A GET on a connection that is kept: another request may stand behind it.
+static KEPT: HeadRow = (
+    b":method=GET|:scheme=http|:path=/|:authority=www.example.com",
+    b"GET / HTTP/1.1\r\nhost: www.example.com\r\nvia: 2.0 h2gw\r\n\r\n",
+);
+
+#[test]
+fn a_head_leaves_a_kept_connection_open(rt: HostRuntime) -> Result<(), Fail> {
+    let (lines, text) = KEPT;
+    assert!(rt; is_whole(rt.alloc(), lines, true, text)?);
+    assert!(rt; !is_whole(rt.alloc(), lines, false, text)?);
     Ok(())
 }

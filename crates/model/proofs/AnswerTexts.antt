@@ -14,6 +14,8 @@ use Rattle.model.specs.Octets.{Joined}
 use Rattle.model.specs.ResponseHeads.{Head, Framing, Interim, Final}
 use Rattle.model.specs.ResponseHeads.Framing.{Chunks, Sized}
 use Rattle.model.specs.Responses.{Response, H1Response, IsBadHead, IsPlainlyBad}
+use Rattle.model.specs.Idle.{LeavesOpen}
+use Rattle.model.proofs.PastLaws.{no_shorter}
 use Rattle.model.proofs.ResponseHeadReadings.{one_spelled, none_at_final, one_final}
 
 abbrev pub answer_head : List ℕ
@@ -83,6 +85,17 @@ answered = record {
   few_interims = omega arith;
   is_final = final;
   body = (record { past = []; is = refl; has_count = refl }, refl);
+}
+
+-- no octet stands behind it, and the connection stays open
+pub leaves_open : LeavesOpen answer false
+unfolding trim_ows answered final
+leaves_open = record {
+  response = response;
+  reads = answered;
+  version = refl;
+  no_close = refl;
+  no_more = λ front strict whole. no_shorter answer front false response answered refl strict whole;
 }
 
 -- ---- it can't be given up

@@ -1,5 +1,5 @@
 -- What a client reads of a stream is determined, and so is the stream that a connection was given to.
-use Rattle.std.proofs.Common.{◌≡◌, ℕ, suc, ◌<◌, ◌≤◌, Bool, true, false, List, [], ◌∷◌, ◌++◌, length, refl, sym, ap, ◌∙◌, subst, arith, inl, inr}
+use Rattle.std.proofs.Common.{◌≡◌, ℕ, suc, ◌<◌, ◌≤◌, true, false, List, [], ◌∷◌, ◌++◌, length, refl, sym, ap, ◌∙◌, subst, arith, inl, inr}
 use Rattle.std.specs.Prelude.{Option, Some, None, codes}
 use Rattle.std.specs.Str.Parse.{digits_value}
 use Rattle.model.specs.Messages.{Field, Item}
@@ -138,7 +138,7 @@ one_number (q ∷ os) o p n (inl a) (inr j) e = let k : o.k ≡ q.k = ap (λ (x 
 one_number (q ∷ os) o p n (inr i) (inl b) e = let k : p.k ≡ q.k = ap (λ (x : Opened). x.k) b in let first : q.k ≡ suc (length os) = n.0 in let less = number_within os o n.1 i in absurd (omega (arith, k, first, less, e))
 one_number (q ∷ os) o p n (inr i) (inr j) e = one_number os o p n.1 i j e
 
-given_none : (os : List Opened) (stream : ℕ) (o : Opened) → IsGivenNone stream os → IsIn o os → stream ≡ o.stream → ⊥
+pub given_none : (os : List Opened) (stream : ℕ) (o : Opened) → IsGivenNone stream os → IsIn o os → stream ≡ o.stream → ⊥
 given_none [] stream o n i e = i
 given_none (p ∷ os) stream o n (inl same) e = n.0 (e ∙ ap (λ (x : Opened). x.stream) same)
 given_none (p ∷ os) stream o n (inr i) e = given_none os stream o n.1 i e

@@ -10,14 +10,15 @@ use Rattle.model.specs.Tapes.Entry.{Came, Breached, Happened, Sent, Did}
 use Rattle.model.specs.Errors.{Fault}
 use Rattle.model.specs.Streams.{items_of}
 use Rattle.model.specs.Openings.{Opened, exchange_on}
-use Rattle.model.specs.Available.{heard, items_on}
+use Rattle.model.specs.Available.{heard_by, items_on}
 use Rattle.model.specs.Known.{Known, fails_behind, with_failure}
 use Rattle.model.specs.Causes.{Cause, cause_if}
 use Rattle.model.specs.Causes.Cause.{BadAnswer}
 use Rattle.model.specs.ErrorTable.{fault_with}
 use Rattle.model.specs.Courses.{Course, carried, cause_at, new_cause, next_course, interrupts, course_behind, about, course}
 use Rattle.model.specs.Offers.{is_to_head}
-use Rattle.model.specs.Failures.{is_asked_for_head, IsTooLong, IsBroken, IsPlainlyBroken, MayFail, MustFail, IsJudged, AreJudged}
+use Rattle.model.specs.Idle.{is_asked_for_head, IsTooLong, LeavesOpen, MayBeKept, IsIdle}
+use Rattle.model.specs.Failures.{IsBroken, IsPlainlyBroken, MayFail, MustFail, IsJudged, AreJudged}
 
 not_here : (place : ℕ) (known : Known) (t : List Entry) → length t < place → fails_behind (with_failure place known) t ≡ fails_behind known t
 not_here place known t lt = elim (eqb_tells place (length t)) [
@@ -64,12 +65,42 @@ module _ (place : ℕ) (known : Known) where
   long_less : (text : List ℕ) (to_head : Bool) → IsTooLong more text to_head → IsTooLong known text to_head
   long_less text to_head h = record { whole = h.whole; interims = h.interims; head = h.head; octets = h.octets; seen = h.seen; over = h.over }
 
+  -- an exchange that is over so that its connection may be kept, and an idle connection, were so
+  kept_less : (t : List Entry) (o : Opened) → length t ≤ place → MayBeKept more t o → MayBeKept known t o
+  kept_less t o le m = record {
+    keeps = m.keeps;
+    goes_on = m.goes_on;
+    request = m.request;
+    sent = m.sent;
+    answered = subst (λ (b : Bool). LeavesOpen (heard_by o t) b) (asked_same o t le) m.answered;
+    fits = λ long. m.fits (subst (λ (b : Bool). IsTooLong more (heard_by o t) b) (sym (asked_same o t le)) (long_more (heard_by o t) (is_asked_for_head known o t) long));
+    not_ended = m.not_ended;
+  }
+
+  idle_less : (t : List Entry) (k : ℕ) → length t ≤ place → IsIdle more t k → IsIdle known t k
+  idle_less t k le i = record { is_open = i.is_open; kept = kept_less t (exchange_on k t) le i.kept }
+
+  -- and stay so
+  kept_more : (t : List Entry) (o : Opened) → length t ≤ place → MayBeKept known t o → MayBeKept more t o
+  kept_more t o le m = record {
+    keeps = m.keeps;
+    goes_on = m.goes_on;
+    request = m.request;
+    sent = m.sent;
+    answered = subst (λ (b : Bool). LeavesOpen (heard_by o t) b) (sym (asked_same o t le)) m.answered;
+    fits = λ long. m.fits (long_less (heard_by o t) (is_asked_for_head known o t) (subst (λ (b : Bool). IsTooLong more (heard_by o t) b) (asked_same o t le) long));
+    not_ended = m.not_ended;
+  }
+
+  idle_more : (t : List Entry) (k : ℕ) → length t ≤ place → IsIdle known t k → IsIdle more t k
+  idle_more t k le i = record { is_open = i.is_open; kept = kept_more t (exchange_on k t) le i.kept }
+
   -- an event with which an answer may be given up stays one
   may_more : (t : List Entry) (event : Event) → length t ≤ place → MayFail known t event → MayFail more t event
   may_more t (Up k piece) le h =
-      subst (λ (b : Bool). IsBroken more (heard k (Happened (Up k piece) ∷ t)) b) (sym (asked_same (exchange_on k t) t le)) (elim h [ inl spoilt ↦ inl spoilt | inr long ↦ inr (long_more (heard k (Happened (Up k piece) ∷ t)) (is_asked_for_head known (exchange_on k t) t) long) ])
-  may_more t (UpEnd k) le h = λ complete. h (subst (λ (b : Bool). IsComplete (heard k t) true b) (asked_same (exchange_on k t) t le) complete)
-  may_more t (UpFailed k) le h = tt
+      subst (λ (b : Bool). IsBroken more (heard_by (exchange_on k t) (Happened (Up k piece) ∷ t)) b) (sym (asked_same (exchange_on k t) t le)) (elim h [ inl spoilt ↦ inl spoilt | inr long ↦ inr (long_more (heard_by (exchange_on k t) (Happened (Up k piece) ∷ t)) (is_asked_for_head known (exchange_on k t) t) long) ])
+  may_more t (UpEnd k) le h = λ complete. h (subst (λ (b : Bool). IsComplete (heard_by (exchange_on k t) t) true b) (asked_same (exchange_on k t) t le) complete)
+  may_more t (UpFailed k) le h = λ idle. h (idle_less t k le idle)
   may_more t (Client piece) le h = absurd h
   may_more t ClientEnd le h = absurd h
   may_more t (ClientTook count) le h = absurd h
@@ -78,10 +109,10 @@ module _ (place : ℕ) (known : Known) where
   -- and one with which it must be was one
   must_less : (t : List Entry) (event : Event) → length t ≤ place → MustFail more t event → MustFail known t event
   must_less t (Up k piece) le h =
-      let here : IsPlainlyBroken more (heard k (Happened (Up k piece) ∷ t)) (is_asked_for_head known (exchange_on k t) t) = subst (λ (b : Bool). IsPlainlyBroken more (heard k (Happened (Up k piece) ∷ t)) b) (asked_same (exchange_on k t) t le) h in
-      elim here [ inl bad ↦ inl bad | inr long ↦ inr (long_less (heard k (Happened (Up k piece) ∷ t)) (is_asked_for_head known (exchange_on k t) t) long) ]
-  must_less t (UpEnd k) le h = λ complete. h (subst (λ (b : Bool). IsComplete (heard k t) true b) (sym (asked_same (exchange_on k t) t le)) complete)
-  must_less t (UpFailed k) le h = tt
+      let here : IsPlainlyBroken more (heard_by (exchange_on k t) (Happened (Up k piece) ∷ t)) (is_asked_for_head known (exchange_on k t) t) = subst (λ (b : Bool). IsPlainlyBroken more (heard_by (exchange_on k t) (Happened (Up k piece) ∷ t)) b) (asked_same (exchange_on k t) t le) h in
+      elim here [ inl bad ↦ inl bad | inr long ↦ inr (long_less (heard_by (exchange_on k t) (Happened (Up k piece) ∷ t)) (is_asked_for_head known (exchange_on k t) t) long) ]
+  must_less t (UpEnd k) le h = λ complete. h (subst (λ (b : Bool). IsComplete (heard_by (exchange_on k t) t) true b) (sym (asked_same (exchange_on k t) t le)) complete)
+  must_less t (UpFailed k) le h = λ idle. h (idle_more t k le idle)
   must_less t (Client piece) le h = absurd h
   must_less t ClientEnd le h = absurd h
   must_less t (ClientTook count) le h = absurd h

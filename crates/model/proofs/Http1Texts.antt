@@ -7,8 +7,8 @@ use Rattle.std.proofs.lemmas.List.{append-nil}
 use Rattle.std.proofs.lemmas.List.Elements.{filter-append}
 use Rattle.model.specs.Octets.{begins_with_space, is_space, is_value_octet, some_of, is_between, is_token_octet, is_visible, is_value, lower, lower_octet}
 use Rattle.model.specs.Messages.{Field, Request}
-use Rattle.model.specs.Http1.{crlf, Line, Lines, values_of, without, is_close, framing_names, via, Framed, is_target, H1Head, H1Request, forward}
-use Rattle.model.specs.Http1Text.{line_text, lines_text, written_fields, head_text}
+use Rattle.model.specs.Http1.{crlf, Line, Lines, values_of, without, is_close, framing_names, via, Framed, is_target, H1Head, H1Request, H1Open, H1Kept, forward}
+use Rattle.model.specs.Http1Text.{line_text, lines_text, closing, written_fields, head_text}
 use Rattle.model.specs.Http2.{is_name_octet}
 use Rattle.model.proofs.Http1Bodies.{cons-append}
 use Rattle.model.proofs.Http1Runs.{run_weaker, run_of_some}
@@ -142,78 +142,116 @@ pub record Frames (framing : List Field) (content body : List ℕ) (trailers : L
   pub not_kept : without framing_names framing ≡ []
   pub framed : Framed (values_of (codes "content-length") framing) (values_of (codes "transfer-encoding") framing) content body trailers
 
-abbrev close : Field
-close = record { name = codes "connection"; value = codes "close" }
-
 -- a name that none of the other lines has is one of the framing's
-others_apart : (name : List ℕ) (fields framing : List Field) → bytes_eq (codes "connection") name ≡ false → bytes_eq (codes "via") name ≡ false
-    → values_of name fields ≡ [] → values_of name (fields ++ via ∷ framing ++ close ∷ []) ≡ values_of name framing
-others_apart name fields framing no_close no_via none =
-    let last : values_of name (close ∷ []) ≡ [] = cond-false (bytes_eq (codes "connection") name) (close.value ∷ []) [] no_close in
+closing_apart : (keep : Bool) (name : List ℕ) → bytes_eq (codes "connection") name ≡ false → values_of name (closing keep) ≡ []
+closing_apart true name no_close = refl
+closing_apart false name no_close = cond-false (bytes_eq (codes "connection") name) (codes "close" ∷ []) [] no_close
+
+others_apart : (keep : Bool) (name : List ℕ) (fields framing : List Field) → bytes_eq (codes "connection") name ≡ false → bytes_eq (codes "via") name ≡ false
+    → values_of name fields ≡ [] → values_of name (fields ++ via ∷ framing ++ closing keep) ≡ values_of name framing
+others_apart keep name fields framing no_close no_via none =
+    let last : values_of name (closing keep) ≡ [] = closing_apart keep name no_close in
     let middle : values_of name (via ∷ framing) ≡ values_of name framing = cond-false (bytes_eq (codes "via") name) (via.value ∷ values_of name framing) (values_of name framing) no_via in
-    values_of-append name (fields ++ via ∷ framing) (close ∷ [])
-    ∙ ap (λ (vs : List (List ℕ)). vs ++ values_of name (close ∷ [])) (values_of-append name fields (via ∷ framing))
+    values_of-append name (fields ++ via ∷ framing) (closing keep)
+    ∙ ap (λ (vs : List (List ℕ)). vs ++ values_of name (closing keep)) (values_of-append name fields (via ∷ framing))
     ∙ rw (none, middle, last) (append-nil (values_of name framing))
 
--- the one connection line is the writer's
-options_apart : (fields framing : List Field) → values_of (codes "connection") fields ≡ [] → values_of (codes "connection") framing ≡ []
-    → values_of (codes "connection") (fields ++ via ∷ framing ++ close ∷ []) ≡ codes "close" ∷ []
-options_apart fields framing none no_option =
-    values_of-append (codes "connection") (fields ++ via ∷ framing) (close ∷ [])
-    ∙ ap (λ (vs : List (List ℕ)). vs ++ codes "close" ∷ []) (values_of-append (codes "connection") fields (via ∷ framing))
+-- a connection line, if there is one, is the writer's
+options_apart : (keep : Bool) (fields framing : List Field) → values_of (codes "connection") fields ≡ [] → values_of (codes "connection") framing ≡ []
+    → values_of (codes "connection") (fields ++ via ∷ framing ++ closing keep) ≡ values_of (codes "connection") (closing keep)
+options_apart keep fields framing none no_option =
+    values_of-append (codes "connection") (fields ++ via ∷ framing) (closing keep)
+    ∙ ap (λ (vs : List (List ℕ)). vs ++ values_of (codes "connection") (closing keep)) (values_of-append (codes "connection") fields (via ∷ framing))
     ∙ rw (none, no_option) refl
+
+closing_says_close : (keep : Bool) → list_all is_close (values_of (codes "connection") (closing keep)) ≡ true
+closing_says_close true = refl
+closing_says_close false = refl
+
+closing_has_line : (keep : Bool) → list_all has_line (closing keep) ≡ true
+closing_has_line true = refl
+closing_has_line false = refl
+
+closing_not_kept : (keep : Bool) → without framing_names (closing keep) ≡ []
+closing_not_kept true = refl
+closing_not_kept false = refl
 
 none_named : (name : List ℕ) (fields : List Field) → ((field : Field) → Apart field → not (bytes_eq field.name name) ≡ true) → list_all can_send fields ≡ true → values_of name fields ≡ []
 none_named name fields says p = values_none name fields (all_weaker can_send (λ field. not (bytes_eq field.name name)) (λ field q. says field (apart field q)) fields p)
 
-written_have_lines : (request : Request) (framing : List Field) → IsSendable request → list_all has_line framing ≡ true → list_all has_line (written_fields request framing) ≡ true
-written_have_lines request framing p q =
+written_have_lines : (keep : Bool) (request : Request) (framing : List Field) → IsSendable request → list_all has_line framing ≡ true → list_all has_line (written_fields keep request framing) ≡ true
+written_have_lines keep request framing p q =
     let fields = all_weaker can_send has_line (λ field r. (apart field r).has_line) request.fields p.fields in
-    let rest : list_all has_line (request.fields ++ via ∷ framing ++ close ∷ []) ≡ true =
-    all-append has_line (request.fields ++ via ∷ framing) (close ∷ []) (all-append has_line request.fields (via ∷ framing) fields q) refl in
+    let rest : list_all has_line (request.fields ++ via ∷ framing ++ closing keep) ≡ true =
+    all-append has_line (request.fields ++ via ∷ framing) (closing keep) (all-append has_line request.fields (via ∷ framing) fields q) (closing_has_line keep) in
     and_from (is_value request.authority) _ p.authority rest
 
-written_kept : (request : Request) (framing : List Field) → IsSendable request → without framing_names framing ≡ [] → request.fields ++ via ∷ [] ≡ without framing_names (written_fields request framing)
-written_kept request framing p q =
+written_kept : (keep : Bool) (request : Request) (framing : List Field) → IsSendable request → without framing_names framing ≡ [] → request.fields ++ via ∷ [] ≡ without framing_names (written_fields keep request framing)
+written_kept keep request framing p q =
     let test : Field → Bool = λ field. not (list_any (bytes_eq field.name) framing_names) in
     let fields : filter test request.fields ≡ request.fields = filter_all test request.fields (all_weaker can_send test (λ field r. (apart field r).outside) request.fields p.fields) in
     let middle : filter test (via ∷ framing) ≡ via ∷ [] = ap (λ (fs : List Field). via ∷ fs) q in
-    sym (filter-append test (request.fields ++ via ∷ framing) (close ∷ [])
+    sym (filter-append test (request.fields ++ via ∷ framing) (closing keep)
+    ∙ ap (λ (fs : List Field). filter test (request.fields ++ via ∷ framing) ++ fs) (closing_not_kept keep)
     ∙ ap (λ (fs : List Field). fs ++ []) (filter-append test request.fields (via ∷ framing))
     ∙ append-nil (filter test request.fields ++ filter test (via ∷ framing)) ∙ cc (fields, middle))
 
 -- A head that is written is read with the fields that are written.
-pub head_read : (request : Request) (framing : List Field) → IsSendable request → list_all has_line framing ≡ true
-    → H1Head (head_text request framing) (record { method = request.method; target = request.target; fields = written_fields request framing })
-head_read request framing p q = record {
-  lines = lines_text (written_fields request framing);
+pub head_read : (keep : Bool) (request : Request) (framing : List Field) → IsSendable request → list_all has_line framing ≡ true
+    → H1Head (head_text keep request framing) (record { method = request.method; target = request.target; fields = written_fields keep request framing })
+head_read keep request framing p q = record {
+  lines = lines_text (written_fields keep request framing);
   is = refl;
   method = p.method;
   target = p.target;
-  are_lines = lines_read (written_fields request framing) (written_have_lines request framing p q);
+  are_lines = lines_read (written_fields keep request framing) (written_have_lines keep request framing p q);
 }
 
 -- A head that is written, and octets that its framing makes this body, are the request with that body.
-pub text_read : (request : Request) (framing : List Field) (content : List ℕ) → IsSendable request → Frames framing content request.body request.trailers
-    → H1Request (head_text request framing ++ content) (forward request)
-text_read request framing content p q =
-    let host = others_apart (codes "host") request.fields framing refl refl (none_named (codes "host") request.fields (λ field a. a.host) p.fields) in
-    let lengths = others_apart (codes "content-length") request.fields framing refl refl (none_named (codes "content-length") request.fields (λ field a. a.content_length) p.fields) in
-    let codings = others_apart (codes "transfer-encoding") request.fields framing refl refl (none_named (codes "transfer-encoding") request.fields (λ field a. a.transfer_encoding) p.fields) in
-    let options = options_apart request.fields framing (none_named (codes "connection") request.fields (λ field a. a.connection) p.fields) q.no_option in
+pub text_read : (keep : Bool) (request : Request) (framing : List Field) (content : List ℕ) → IsSendable request → Frames framing content request.body request.trailers
+    → H1Request (head_text keep request framing ++ content) (forward request)
+text_read keep request framing content p q =
+    let host = others_apart keep (codes "host") request.fields framing refl refl (none_named (codes "host") request.fields (λ field a. a.host) p.fields) in
+    let lengths = others_apart keep (codes "content-length") request.fields framing refl refl (none_named (codes "content-length") request.fields (λ field a. a.content_length) p.fields) in
+    let codings = others_apart keep (codes "transfer-encoding") request.fields framing refl refl (none_named (codes "transfer-encoding") request.fields (λ field a. a.transfer_encoding) p.fields) in
+    let options = options_apart keep request.fields framing (none_named (codes "connection") request.fields (λ field a. a.connection) p.fields) q.no_option in
     record {
-      head = record { method = request.method; target = request.target; fields = written_fields request framing };
-      head_text = head_text request framing;
+      head = record { method = request.method; target = request.target; fields = written_fields keep request framing };
+      head_text = head_text keep request framing;
       content = content;
       is = refl;
-      has_head = head_read request framing p q.lines;
+      has_head = head_read keep request framing p q.lines;
       method = refl;
       target = refl;
       authority = ap (λ (vs : List (List ℕ)). request.authority ∷ vs) (host ∙ q.no_host);
-      options = ap (λ (vs : List (List ℕ)). list_all is_close vs) options;
-      fields = written_kept request framing p q.not_kept;
+      options = ap (λ (vs : List (List ℕ)). list_all is_close vs) options ∙ closing_says_close keep;
+      fields = written_kept keep request framing p q.not_kept;
       body = rw (lengths, codings) q.framed;
     }
+
+-- Where the connection is kept, another request may stand behind it.
+pub text_open : (request : Request) (framing : List Field) (content : List ℕ) → IsSendable request → Frames framing content request.body request.trailers
+    → H1Open (head_text true request framing ++ content) (forward request)
+unfolding text_read
+text_open request framing content p q = record {
+  reads = text_read true request framing content p q;
+  stays_open = ap (λ (vs : List (List ℕ)). list_any is_close vs) (options_apart true request.fields framing (none_named (codes "connection") request.fields (λ field a. a.connection) p.fields) q.no_option);
+}
+
+pub text_kept : (keep : Bool) (request : Request) (framing : List Field) (content : List ℕ) → IsSendable request → Frames framing content request.body request.trailers
+    → H1Kept keep (head_text keep request framing ++ content) (forward request)
+text_kept false request framing content p q = text_read false request framing content p q
+text_kept true request framing content p q = text_open request framing content p q
+
+-- it is a request
+pub kept_reads : (keep : Bool) (text : List ℕ) (request : Request) → H1Kept keep text request → H1Request text request
+kept_reads false text request r = r
+kept_reads true text request r = r.reads
+
+-- and where the connection is kept, another may stand behind it
+pub kept_open : (keep : Bool) (text : List ℕ) (request : Request) → keep ≡ true → H1Kept keep text request → H1Open text request
+kept_open false text request on r = absurd (let clash : false ≡ true = on in cc)
+kept_open true text request on r = r
 
 -- ---- a request without a body
 
@@ -258,7 +296,7 @@ five_parts m b t c a f = simp append_assoc
 ten_parts : (m b t c d h a e f g : List ℕ) → (m ++ b ++ t ++ c ++ d ++ (h ++ a ++ e ++ f) ++ g) ++ [] ≡ m ++ (b ++ (t ++ ((c ++ (d ++ h)) ++ (a ++ (e ++ (f ++ g))))))
 ten_parts m b t c d h a e f g = simp (append_assoc, append-nil)
 
-pub get_spelled : (method target authority : List ℕ) → get_text method target authority ≡ head_text (bare_request method target authority) [] ++ []
+pub get_spelled : (method target authority : List ℕ) → get_text method target authority ≡ head_text false (bare_request method target authority) [] ++ []
 get_spelled method target authority =
     five_parts method (codes " ") target (codes " HTTP/1.1\r\nhost: ") authority (codes "\r\nvia: 2.0 h2gw\r\nconnection: close\r\n\r\n")
     ∙ sym (ten_parts method (codes " ") target (codes " HTTP/1.1") crlf (codes "host: ") authority crlf (codes "via: 2.0 h2gw\r\nconnection: close\r\n") crlf)
@@ -269,4 +307,21 @@ get_read method target authority is_method may_be_target is_authority =
     let sendable : IsSendable (bare_request method target authority) =
     record { method = is_method; target = may_be_target; authority = visible_is_value authority (run_of_some is_visible authority is_authority); fields = refl } in
     subst (λ (text : List ℕ). H1Request text (forward (bare_request method target authority))) (sym (get_spelled method target authority))
-    (text_read (bare_request method target authority) [] [] sendable no_framing)
+    (text_read false (bare_request method target authority) [] [] sendable no_framing)
+
+-- the same where the connection is kept
+abbrev pub kept_get_text : List ℕ → List ℕ → List ℕ → List ℕ
+kept_get_text method target authority = method ++ codes " " ++ target ++ codes " HTTP/1.1\r\nhost: " ++ authority ++ codes "\r\nvia: 2.0 h2gw\r\n\r\n"
+
+kept_spelled : (method target authority : List ℕ) → kept_get_text method target authority ≡ head_text true (bare_request method target authority) [] ++ []
+kept_spelled method target authority =
+    five_parts method (codes " ") target (codes " HTTP/1.1\r\nhost: ") authority (codes "\r\nvia: 2.0 h2gw\r\n\r\n")
+    ∙ sym (ten_parts method (codes " ") target (codes " HTTP/1.1") crlf (codes "host: ") authority crlf (codes "via: 2.0 h2gw\r\n") crlf)
+
+pub kept_get_open : (method target authority : List ℕ) → some_of is_token_octet method ≡ true → is_target target ≡ true → some_of is_visible authority ≡ true
+    → H1Open (kept_get_text method target authority) (forward (bare_request method target authority))
+kept_get_open method target authority is_method may_be_target is_authority =
+    let sendable : IsSendable (bare_request method target authority) =
+    record { method = is_method; target = may_be_target; authority = visible_is_value authority (run_of_some is_visible authority is_authority); fields = refl } in
+    subst (λ (text : List ℕ). H1Open text (forward (bare_request method target authority))) (sym (kept_spelled method target authority))
+    (text_open (bare_request method target authority) [] [] sendable no_framing)

@@ -39,3 +39,7 @@ pub mod LifeLaws
 pub mod ItemLaws
 pub mod AnswerTexts
 pub mod TrailerTexts
+pub mod AloneLaws
+pub mod ExchangeLaws
+pub mod OpenLaws
+pub mod PastLaws

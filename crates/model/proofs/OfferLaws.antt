@@ -4,7 +4,7 @@ use Rattle.std.specs.Prelude.{Option, Some, None}
 use Rattle.model.specs.Responses.{Response}
 use Rattle.model.specs.Setup.{Passing}
 use Rattle.model.specs.Tapes.{Entry}
-use Rattle.model.specs.Openings.{Opened, opens, AreApart}
+use Rattle.model.specs.Openings.{Opened, exchanges, AreApart}
 use Rattle.model.specs.Deliveries.{Delivery}
 use Rattle.model.specs.Available.{heard_by, ended_by, shown, IsAnswered, IsBegun, IsShown}
 use Rattle.model.specs.Known.{Known}
@@ -46,10 +46,10 @@ not_both known t stream d e p q = elim q.no_reply [
   | inr out ↦ let clash : true ≡ false = sym out ∙ p.head_not_out in cc
 ]
 
-module _ (known : Known) (t : List Entry) (stream : ℕ) (apart : AreApart (opens t)) where
+module _ (known : Known) (t : List Entry) (stream : ℕ) (apart : AreApart (exchanges t)) where
   one_passed : (d e : Delivery) → IsPassedOn known t stream d → IsPassedOn known t stream e → d ≡ e
   one_passed d e p q =
-      let same : p.o ≡ q.o = one_connection (opens t) p.o q.o apart p.given.is_opened q.given.is_opened (p.given.is_given ∙ sym q.given.is_given) in
+      let same : p.o ≡ q.o = one_connection (exchanges t) p.o q.o apart p.given.is_opened q.given.is_opened (p.given.is_given ∙ sym q.given.is_given) in
       let to_head = is_to_head (items known stream t) in
       one_shown known.setup.passing (heard_by q.o t) (ended_by q.o t) to_head d e (subst (λ (o : Opened). IsShown known.setup.passing (heard_by o t) (ended_by o t) to_head d) same p.shows) q.shows
 

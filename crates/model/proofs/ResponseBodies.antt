@@ -127,7 +127,7 @@ none_at_last line more last front past octets chunk e =
     let none : 0 ≡ length octets = lines.1 in
     absurd (omega arith)
 
-last_regrouped : (front line section past : List ℕ) → front ++ line ++ section ++ past ≡ front ++ (line ++ (section ++ past))
+pub last_regrouped : (front line section past : List ℕ) → front ++ line ++ section ++ past ≡ front ++ (line ++ (section ++ past))
 last_regrouped front line section past = simp append_assoc
 
 -- trailers of the grammar end in one place, and have one list of lines

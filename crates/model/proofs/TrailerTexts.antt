@@ -9,7 +9,9 @@ use Rattle.httparse.specs.Grammar.{is_token_byte, is_value_byte, IsField, IsResp
 use Rattle.model.specs.Messages.{Field}
 use Rattle.model.specs.ResponseHeads.{Head, Final}
 use Rattle.model.specs.ResponseHeads.Framing.{Chunks}
-use Rattle.model.specs.Responses.{Chunked, H1Response, ChunkLine, IsTrailers}
+use Rattle.model.specs.Responses.{Response, Chunked, H1Response, ChunkLine, IsTrailers}
+use Rattle.model.specs.Idle.{LeavesOpen}
+use Rattle.model.proofs.PastLaws.{no_shorter}
 use Rattle.model.proofs.FirstLog.{field}
 
 abbrev pub x_b : Field
@@ -125,4 +127,22 @@ answered = record {
   few_interims = omega arith;
   is_final = final;
   body = chunks_read;
+}
+
+abbrev pub response : Response
+response = record { interims = []; head = head; body = codes "hi"; trailers = x_b ∷ [] }
+
+none_past : chunks_read.past ≡ []
+unfolding chunks_read
+none_past = refl
+
+-- no octet stands behind its trailers, and the connection stays open
+pub leaves_open : LeavesOpen (answer_head ++ answer_rest) false
+unfolding trim_ows answered final
+leaves_open = record {
+  response = response;
+  reads = answered;
+  version = refl;
+  no_close = refl;
+  no_more = λ front strict whole. no_shorter (answer_head ++ answer_rest) front false response answered (chunks_read, none_past) strict whole;
 }

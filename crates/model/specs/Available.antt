@@ -12,27 +12,20 @@ use Rattle.model.specs.Tapes.Note.{NoBlock, Fields, Undecodable, Unread}
 use Rattle.model.specs.Tapes.Entry.{Happened}
 use Rattle.model.specs.Decoding.{completed}
 use Rattle.model.specs.Streams.{frame_items}
-use Rattle.model.specs.Openings.{Opened}
+use Rattle.model.specs.Openings.{Opened, exchanges, given, is_of}
 use Rattle.model.specs.Deliveries.{Delivery}
 
--- all octets that came of the upstream k
-abbrev pub heard : ℕ → List Entry → List ℕ
-heard k [] = []
-heard k (Happened (Up j piece) ∷ t) = if k == j then heard k t ++ piece else heard k t
-heard k (_ ∷ t) = heard k t
-
--- whether the upstream k ended its connection
-abbrev pub has_ended : ℕ → List Entry → Bool
-has_ended k [] = false
-has_ended k (Happened (UpEnd j) ∷ t) = if k == j then true else has_ended k t
-has_ended k (_ ∷ t) = has_ended k t
-
--- all octets that came of an exchange, and whether its upstream ended it
+-- All octets that came of an exchange: what came of its connection while that was given to its stream.
 abbrev pub heard_by : Opened → List Entry → List ℕ
-heard_by o t = heard o.k t
+heard_by o [] = []
+heard_by o (Happened (Up k piece) ∷ t) = if is_of o k (given k (exchanges t)) then heard_by o t ++ piece else heard_by o t
+heard_by o (_ ∷ t) = heard_by o t
 
+-- whether its upstream ended the connection then
 abbrev pub ended_by : Opened → List Entry → Bool
-ended_by o t = has_ended o.k t
+ended_by o [] = false
+ended_by o (Happened (UpEnd k) ∷ t) = if is_of o k (given k (exchanges t)) then true else ended_by o t
+ended_by o (_ ∷ t) = ended_by o t
 
 -- The items that frames to the client bring a stream, the oldest first; the frames stand with the newest first.
 abbrev pub items_on : ℕ → List Noted → List Item

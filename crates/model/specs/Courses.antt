@@ -19,7 +19,7 @@ use Rattle.model.specs.Tapes.Entry.{Came, Happened}
 use Rattle.model.specs.Decoding.{Partial, completed}
 use Rattle.model.specs.Errors.{Fault}
 use Rattle.model.specs.Streams.{is_on, is_reset, is_ended_by, items_of}
-use Rattle.model.specs.Openings.{opens, given}
+use Rattle.model.specs.Openings.{exchanges, given}
 use Rattle.model.specs.Available.{items_on}
 use Rattle.model.specs.Setup.{Setup}
 use Rattle.model.specs.Known.{Known, fails_behind}
@@ -60,7 +60,7 @@ upstream_of _ = 0
 -- the stream that an entry is about, or 0
 abbrev pub about : List Entry → Entry → ℕ
 about t (Came noted) = noted.frame.id
-about t (Happened event) = given (upstream_of event) (opens t)
+about t (Happened event) = given (upstream_of event) (exchanges t)
 about t _ = 0
 
 -- why a header block is answered: the first one is the head, any other is of trailers

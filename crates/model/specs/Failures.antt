@@ -1,30 +1,14 @@
 -- At which events an upstream's answer fails (RFC 9110, section 15.6.3): where it may be given up, and where it must be.
-use Rattle.std.specs.Prelude.{◌≡◌, ℕ, ◌<◌, Bool, true, false, ◌⊎◌, List, [], ◌∷◌, length, Option}
+use Rattle.std.specs.Prelude.{◌≡◌, ℕ, Bool, true, false, ◌⊎◌, List, [], ◌∷◌}
 use Rattle.model.specs.Logs.{Event}
 use Rattle.model.specs.Logs.Event.{Up, UpEnd, UpFailed}
-use Rattle.model.specs.Setup.Passing.{Whole}
 use Rattle.model.specs.Tapes.{Entry}
 use Rattle.model.specs.Tapes.Entry.{Happened}
-use Rattle.model.specs.ResponseHeads.{Head}
-use Rattle.model.specs.Responses.{IsComplete, IsSpoilt, Seen, IsPlainlyBad}
-use Rattle.model.specs.Openings.{Opened, exchange_on}
+use Rattle.model.specs.Responses.{IsComplete, IsSpoilt, IsPlainlyBad}
+use Rattle.model.specs.Openings.{exchange_on}
 use Rattle.model.specs.Available.{heard_by}
 use Rattle.model.specs.Known.{Known, fails_behind}
-use Rattle.model.specs.Courses.{items}
-use Rattle.model.specs.Offers.{is_to_head}
-
--- the request of an exchange has the method HEAD
-abbrev pub is_asked_for_head : Known → Opened → List Entry → Bool
-is_asked_for_head known o t = is_to_head (items known o.stream t)
-
--- Where responses are passed on whole, more octets of a body stand there than the gateway keeps (this project's profile).
-pub record IsTooLong (known : Known) (text : List ℕ) (to_head : Bool) : Type 0 where
-  pub whole : known.setup.passing ≡ Whole
-  pub interims : List Head
-  pub head : Option Head
-  pub octets : List ℕ
-  pub seen : Seen text to_head interims head octets
-  pub over : known.setup.max_response < length octets
+use Rattle.model.specs.Idle.{is_asked_for_head, IsTooLong, IsIdle}
 
 -- The octets so far can't be an answer any more, or are too long.
 abbrev pub IsBroken : Known → List ℕ → Bool → Type 0
@@ -35,11 +19,11 @@ abbrev pub IsPlainlyBroken : Known → List ℕ → Bool → Type 0
 IsPlainlyBroken known text to_head = IsPlainlyBad text to_head ⊎ IsTooLong known text to_head
 
 -- An event with which an answer may be given up: octets that break it, the connection's end where it makes no whole response,
--- the connection's failure.
+-- the connection's failure, unless it is idle.
 abbrev pub MayFail : Known → List Entry → Event → Type 0
 MayFail known t (Up k piece) = let o = exchange_on k t in IsBroken known (heard_by o (Happened (Up k piece) ∷ t)) (is_asked_for_head known o t)
 MayFail known t (UpEnd k) = let o = exchange_on k t in IsComplete (heard_by o t) true (is_asked_for_head known o t) → ⊥
-MayFail known t (UpFailed k) = Unit {0}
+MayFail known t (UpFailed k) = IsIdle known t k → ⊥
 MayFail known t event = ⊥
 
 -- An event with which it must be.

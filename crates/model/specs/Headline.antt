@@ -1,7 +1,7 @@
 -- Which logs keep the headline. Whatever the client and the upstreams send, and however it is cut and interleaved: an upstream
--- connection was sent the request that its stream means, and nothing else; a client that has read a whole response has read its
--- upstream's, or a reply of the gateway's own for which there was a cause; every fault is answered as the error table says, and
--- a stream with a fault becomes no request; and what could go on does, unless there is no room for it.
+-- connection was sent just the requests that its streams mean, in their order, and nothing else; a client that has read a whole
+-- response has read its upstream's, or a reply of the gateway's own for which there was a cause; every fault is answered as the
+-- error table says, and a stream with a fault becomes no request; and what could go on does, unless there is no room for it.
 use Rattle.std.specs.Prelude.{◌≡◌, ℕ, Bool, not, ◌&&◌, List, [], ◌∷◌, ◌++◌, reverse, is_some}
 use Rattle.model.specs.Tables.{Table}
 use Rattle.model.specs.Logs.{Step, client_in}

@@ -127,6 +127,11 @@ pub record H1Open (text : List ℕ) (request : Request) : Type 0 where
   pub reads : H1Request text request
   pub stays_open : asks_to_close reads.head ≡ false
 
+-- A request, and where its connection is kept one behind which another may stand.
+abbrev pub H1Kept : Bool → List ℕ → Request → Type 0
+H1Kept false text request = H1Request text request
+H1Kept true text request = H1Open text request
+
 -- These requests, one after another; behind one that asks to close the connection no other is read (RFC 9112, section 9.6).
 abbrev pub AreRequests : List ℕ → List Request → Type 0
 AreRequests text [] = text ≡ []

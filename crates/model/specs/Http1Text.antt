@@ -17,12 +17,16 @@ framing_of (Some declared) ended = record { name = codes "content-length"; value
 framing_of None false = record { name = codes "transfer-encoding"; value = codes "chunked" } ∷ []
 framing_of None true = []
 
+-- the line that says that no other request is sent on the connection, unless that is kept
+abbrev pub closing : Bool → List Field
+closing true = []
+closing false = record { name = codes "connection"; value = codes "close" } ∷ []
+
 -- the fields in the order in which they are written
-abbrev pub written_fields : Request → List Field → List Field
-written_fields request framing =
-    record { name = codes "host"; value = request.authority } ∷ request.fields ++ via ∷ framing ++ record { name = codes "connection"; value = codes "close" } ∷ []
+abbrev pub written_fields : Bool → Request → List Field → List Field
+written_fields keep request framing = record { name = codes "host"; value = request.authority } ∷ request.fields ++ via ∷ framing ++ closing keep
 
 -- the request line, the lines and the empty line
-abbrev pub head_text : Request → List Field → List ℕ
-head_text request framing =
-    request.method ++ codes " " ++ request.target ++ codes " HTTP/1.1" ++ crlf ++ lines_text (written_fields request framing) ++ crlf
+abbrev pub head_text : Bool → Request → List Field → List ℕ
+head_text keep request framing =
+    request.method ++ codes " " ++ request.target ++ codes " HTTP/1.1" ++ crlf ++ lines_text (written_fields keep request framing) ++ crlf

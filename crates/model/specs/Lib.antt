@@ -35,6 +35,7 @@ pub mod Malformed
 pub mod ErrorTable
 pub mod Courses
 pub mod Offers
+pub mod Idle
 pub mod Failures
 pub mod Readiness
 pub mod RequestClause

@@ -3,7 +3,7 @@ use Rattle.std.specs.Prelude.{◌≡◌, ℕ, Bool, true, false, ◌⊎◌, List
 use Rattle.model.specs.Messages.{Item}
 use Rattle.model.specs.Messages.Item.{Block}
 use Rattle.model.specs.Tapes.{Entry, sent}
-use Rattle.model.specs.Openings.{Opened, opens}
+use Rattle.model.specs.Openings.{Opened, exchanges}
 use Rattle.model.specs.Deliveries.{Delivery, nothing, ReadsAs, IsPartOf}
 use Rattle.model.specs.Available.{heard_by, ended_by, items_on, asks_for_head, IsIn, IsShown}
 use Rattle.model.specs.Known.{Known}
@@ -15,9 +15,9 @@ abbrev pub is_to_head : List Item → Bool
 is_to_head (Block fields ends ∷ items) = asks_for_head fields
 is_to_head _ = false
 
--- a connection that was given to the stream
+-- an exchange of the stream
 pub record IsGiven (t : List Entry) (stream : ℕ) (o : Opened) : Type 0 where
-  pub is_opened : IsIn o (opens t)
+  pub is_opened : IsIn o (exchanges t)
   pub is_given : o.stream ≡ stream
 
 -- The gateway answers the stream itself: a cause came before the final head of any response was out. Its reply stands behind

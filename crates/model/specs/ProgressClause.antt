@@ -13,20 +13,19 @@ use Rattle.model.specs.Setup.Passing.{Streaming}
 use Rattle.model.specs.Tapes.{Noted, Entry, came, is_closed}
 use Rattle.model.specs.Tapes.Entry.{Came, Did}
 use Rattle.model.specs.Decoding.{completed}
-use Rattle.model.specs.Responses.{IsComplete}
 use Rattle.model.specs.Admission.{untaken, high_water, is_open}
-use Rattle.model.specs.Openings.{Opened, opens, sent_for, GoToOpen}
-use Rattle.model.specs.Available.{heard_by, ended_by, IsIn}
+use Rattle.model.specs.Openings.{Opened, exchanges, exchange_on, sent_for, GoToOpen}
 use Rattle.model.specs.Known.{Known}
 use Rattle.model.specs.Lifetimes.{ends_by, is_ended_by_client, is_active}
 use Rattle.model.specs.Causes.{Cause}
 use Rattle.model.specs.Courses.{items, cause}
-use Rattle.model.specs.Offers.{is_to_head, IsGiven}
+use Rattle.model.specs.Offers.{IsGiven}
+use Rattle.model.specs.Idle.{IsAllHeard, MayBeKept, FewAreIdle, IsOneTooMany}
 use Rattle.model.specs.Readiness.{IsReady}
 
 -- ---- requests
 
--- a connection of the stream was opened and isn't open any more
+-- a connection was given to the stream and isn't open any more
 abbrev pub had_closed : ℕ → List Opened → List Entry → Bool
 had_closed stream os t = list_any (λ o. o.stream == stream && not (is_open o.k t)) os
 
@@ -38,7 +37,7 @@ is_first_end stream t noted =
 -- the stream's connection was closed before the client ended the stream
 abbrev pub was_cut : ℕ → List Entry → Bool
 was_cut stream [] = false
-was_cut stream (Came noted ∷ t) = if is_first_end stream t noted then had_closed stream (opens t) t else was_cut stream t
+was_cut stream (Came noted ∷ t) = if is_first_end stream t noted then had_closed stream (exchanges t) t else was_cut stream t
 was_cut stream (_ ∷ t) = was_cut stream t
 
 -- A connection of the stream was sent the request.
@@ -104,36 +103,37 @@ NoneReady known t = untaken t < high_water → (stream : ℕ) → IsReady known 
 
 -- ---- the ends of upstream connections
 
--- Why a connection is done with: its stream isn't active, its response is whole, the gateway answers the stream itself, or the
--- client is closed. Where the upstream ended it, its response is whole or has failed.
+-- Why a connection is done with, by its last exchange: the stream isn't active, the response is whole, the gateway answers the stream
+-- itself, or the client is closed. Where the upstream ended it, its response is whole or has failed.
 pub data Reason (known : Known) (t : List Entry) (o : Opened) : Type 0 where
   Over : is_active o.stream t ≡ false → Reason known t o
-  Complete : IsComplete (heard_by o t) (ended_by o t) (is_to_head (items known o.stream t)) → Reason known t o
+  Complete : IsAllHeard known t o → Reason known t o
   Answered : (found : Cause) → cause known o.stream t ≡ Some found → Reason known t o
   ClientClosed : is_closed t ≡ true → Reason known t o
 
--- Connections that are done with aren't open.
+-- Connections that are done with aren't open, but for those that may be kept.
 abbrev pub AreClosed : Known → List Entry → Type 0
-AreClosed known t = (o : Opened) → IsIn o (opens t) → is_open o.k t ≡ true → Reason known t o → ⊥
+AreClosed known t = (k : ℕ) → is_open k t ≡ true → Reason known t (exchange_on k t) → MayBeKept known t (exchange_on k t)
 
--- A connection is done with.
-pub record IsDoneWith (known : Known) (t : List Entry) (k : ℕ) : Type 0 where
-  pub o : Opened
-  pub is_opened : IsIn o (opens t)
-  pub number : o.k ≡ k
-  pub reason : Reason known t o
+-- A connection that was closed behind a tape is done with, and may not be kept, or was one too many.
+pub record IsDoneWith (known : Known) (t : List Entry) (k : ℕ) (earlier : List Entry) : Type 0 where
+  pub was_open : is_open k earlier ≡ true
+  pub reason : Reason known t (exchange_on k t)
+  pub not_kept : MayBeKept known t (exchange_on k t) → IsOneTooMany known earlier k
 
 -- Each connection that was closed was open where it was, and is done with.
 abbrev pub ClosesRightly : Known → List Entry → List Entry → Type 0
 ClosesRightly known t [] = Unit {0}
-ClosesRightly known t (Did (Close k) ∷ earlier) = (is_open k earlier ≡ true) × IsDoneWith known t k × ClosesRightly known t earlier
+ClosesRightly known t (Did (Close k) ∷ earlier) = IsDoneWith known t k earlier × ClosesRightly known t earlier
 ClosesRightly known t (_ ∷ earlier) = ClosesRightly known t earlier
 
--- Nothing is due, connections that are done with are closed, and others aren't. Octets go to connections that are open.
+-- Nothing is due; connections that are done with are closed, or idle, few of them, and others aren't closed. Octets go to connections
+-- that are open.
 pub record ProgressHolds (known : Known) (t : List Entry) : Type 0 where
   pub forwarded : AllForwarded known t
   pub streamed : AllStreamed known t
   pub none_ready : NoneReady known t
   pub closed : AreClosed known t
   pub closes : ClosesRightly known t t
+  pub few_idle : FewAreIdle known t
   pub go_to_open : GoToOpen t

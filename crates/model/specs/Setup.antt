@@ -1,5 +1,5 @@
 -- What a gateway is set up with, and the route that a request takes.
-use Rattle.std.specs.Prelude.{◌≡◌, ℕ, ◌<◌, ◌⊎◌, List, [], slice_get, Some, codes}
+use Rattle.std.specs.Prelude.{◌≡◌, ℕ, ◌<◌, ◌⊎◌, Bool, List, [], slice_get, Some, codes}
 use Rattle.model.specs.Octets.{IsFront, lower}
 
 -- A route to one upstream: the authority that it is for, empty where it is for any, and a front of the paths.
@@ -22,6 +22,8 @@ pub record Setup : Type 0 where
   pub passing : Passing
   pub max_body : ℕ
   pub max_response : ℕ
+  -- upstream connections are kept for further requests
+  pub keep : Bool
 
 -- The authority is the route's, in letters of either case (RFC 9110, section 4.2.3).
 abbrev pub IsForAuthority : Route → List ℕ → Type 0

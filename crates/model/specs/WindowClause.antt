@@ -5,10 +5,10 @@ use Rattle.model.specs.Frames.{Frame, data_kind, window_update_kind}
 use Rattle.model.specs.Logs.Event.{UpTook}
 use Rattle.model.specs.Setup.{Passing}
 use Rattle.model.specs.Setup.Passing.{Whole, Streaming}
-use Rattle.model.specs.Tapes.{Entry, is_closed}
+use Rattle.model.specs.Tapes.{Entry, is_closed, sent_up}
 use Rattle.model.specs.Tapes.Entry.{Came, Breached, Happened, Sent}
 use Rattle.model.specs.Windows.{first_window}
-use Rattle.model.specs.Openings.{Opened, exchange_for, sent_for}
+use Rattle.model.specs.Openings.{Opened, exchange_for}
 use Rattle.model.specs.Known.{Known}
 use Rattle.model.specs.Lifetimes.{active, is_active, is_ended_by_client}
 use Rattle.model.specs.WindowsOnTape.{is_on, data_length, stream_window, connection_window, room_on, room_on_connection}
@@ -34,22 +34,26 @@ taken k [] = 0
 taken k (Happened (UpTook j count) ∷ t) = if k == j then taken k t + count else taken k t
 taken k (_ ∷ t) = taken k t
 
--- those of an exchange
+-- Those of an exchange's connection, and how many were put out for it: with those of the exchanges before, since its side takes all in
+-- their order.
 abbrev pub taken_of : Opened → List Entry → ℕ
 taken_of o t = taken o.k t
 
--- The octets of DATA on an exchange's stream behind which more had been put out for it than these that are taken. `put_out` is
+abbrev pub put_out_on : Opened → List Entry → ℕ
+put_out_on o t = length (sent_up o.k t)
+
+-- The octets of DATA on an exchange's stream behind which more had been put out for its connection than these that are taken. `put_out` is
 -- how many were put out until the next thing came in, so that what a frame itself causes is counted with it.
 abbrev pub waiting : Opened → ℕ → List Entry → ℕ → ℕ
 waiting o taken_now [] put_out = 0
 waiting o taken_now (Came noted ∷ t) put_out =
-    (if nat_lt taken_now put_out then data_length (is_on o.stream) noted.frame else 0) + waiting o taken_now t (length (sent_for o t))
-waiting o taken_now (Breached breach ∷ t) put_out = waiting o taken_now t (length (sent_for o t))
-waiting o taken_now (Happened event ∷ t) put_out = waiting o taken_now t (length (sent_for o t))
+    (if nat_lt taken_now put_out then data_length (is_on o.stream) noted.frame else 0) + waiting o taken_now t (put_out_on o t)
+waiting o taken_now (Breached breach ∷ t) put_out = waiting o taken_now t (put_out_on o t)
+waiting o taken_now (Happened event ∷ t) put_out = waiting o taken_now t (put_out_on o t)
 waiting o taken_now (_ ∷ t) put_out = waiting o taken_now t put_out
 
 abbrev pub waiting_for : Opened → List Entry → ℕ
-waiting_for o t = waiting o (taken_of o t) t (length (sent_for o t))
+waiting_for o t = waiting o (taken_of o t) t (put_out_on o t)
 
 -- The octets of DATA that are kept for a stream: none where requests are passed on whole; else those of each frame, padding
 -- included, behind which more was put out than its connection's side has taken.

@@ -3,7 +3,7 @@
 ghost use Rattle.std.specs.Prelude.{◌≡◌, ℕ, ◌≤◌, Bool, List, length, false, true, Some, slice_get};
 ghost use Rattle.model.specs.Messages.{Item, Field};
 ghost use Rattle.model.specs.Deliveries.{Delivery, ReadsAs};
-ghost use Rattle.model.specs.Openings.{Opened, opens, AreNumbered, AreApart};
+ghost use Rattle.model.specs.Openings.{Opened, exchanges, AreNumbered, AreApart};
 ghost use Rattle.model.specs.Available.{IsIn, IsShown};
 ghost use Rattle.model.specs.Http2.{WellFormedHead, WellFormedTrailers, authority_of, path_of};
 ghost use Rattle.model.specs.Malformed.{is_well_formed, are_trailers};
@@ -36,7 +36,7 @@ pub fn one_shown()
 
 /// One thing is on offer for a stream, where no stream was given two connections.
 pub fn one_offer()
-    ensures { (known : Known) (t : List Entry) (stream : ℕ) (d e : Delivery) → AreApart (opens t) → IsOffered known t stream d → IsOffered known t stream e → d ≡ e }
+    ensures { (known : Known) (t : List Entry) (stream : ℕ) (d e : Delivery) → AreApart (exchanges t) → IsOffered known t stream d → IsOffered known t stream e → d ≡ e }
 {}
 
 /// A stream is opened once, and none has the id 0 (RFC 9113, section 5.1.1).

@@ -3,6 +3,7 @@
 #![tactic(auto)]
 
 pub mod clauses;
+pub mod exchanges;
 pub mod frame_laws;
 pub mod hpack;
 pub mod http1;

@@ -24,11 +24,13 @@ use Rattle.model.specs.Available.{IsIn, items_on}
 use Rattle.model.specs.Courses.{items}
 use Rattle.model.specs.Offers.{IsOffered, IsDelivered}
 use Rattle.model.specs.Lifetimes.{is_active, is_over}
-use Rattle.model.specs.Failures.{IsTooLong, MustFail}
-use Rattle.model.specs.RequestClause.{IsServed, RequestsHold}
+use Rattle.model.specs.Idle.{IsTooLong}
+use Rattle.model.specs.Failures.{MustFail}
+use Rattle.model.specs.RequestClause.{IsServed, IsSent, RequestsHold}
+use Rattle.model.proofs.ExchangeLaws.{few_kept}
+use Rattle.model.proofs.OpenLaws.{sent_alone}
 use Rattle.model.specs.ErrorClause.{ErrorsHold}
-use Rattle.model.specs.Admission.{is_open}
-use Rattle.model.specs.Openings.{Opened, opens}
+use Rattle.model.specs.Openings.{Opened, opens, exchanges, exchanges_of}
 use Rattle.model.specs.ProgressClause.{AreClosed, IsForwarded, AllForwarded, ProgressHolds}
 use Rattle.model.specs.ProgressClause.Reason.{Over}
 use Rattle.model.specs.WindowClause.{WindowsHold}
@@ -165,15 +167,21 @@ served = record {
   has_head = refl;
   well_formed = well_formed;
   by_route = before.by_route;
-  sent = inl (record { request = request; means = means; reads = sends });
 }
 
-all_served : (o : Opened) → IsIn o (opens tape) → IsServed known tape o
+sent_whole : IsSent known tape (record { k = 1; route = 0; stream = 1 } ∷ []) (sent_up 1 tape)
+sent_whole = inl (sent_alone known tape (record { k = 1; route = 0; stream = 1 }) (sent_up 1 tape) request refl means sends)
+
+all_sent : (o : Opened) → IsIn o (opens tape) → IsSent known tape (exchanges_of o.k (exchanges tape)) (sent_up o.k tape)
+all_sent o (inl same) = subst (λ (p : Opened). IsSent known tape (exchanges_of p.k (exchanges tape)) (sent_up p.k tape)) (sym same) sent_whole
+all_sent o (inr none) = absurd none
+
+all_served : (o : Opened) → IsIn o (exchanges tape) → IsServed known tape o
 all_served o (inl same) = subst (λ p. IsServed known tape p) (sym same) served
 all_served o (inr none) = absurd none
 
 requests : RequestsHold known tape
-requests = record { numbered = (refl, tt); apart = (tt, tt); in_time = before.requests.in_time; served = all_served }
+requests = record { numbered = (refl, tt); apart = (tt, tt); in_time = before.requests.in_time; served = all_served; sent = all_sent }
 
 nothing_beside : (of_first : Bool) → of_first ≡ false → (if of_first then Block first.head true ∷ [] else []) ≡ []
 nothing_beside of_first e = ap (λ b. if b then Block first.head true ∷ [] else []) e
@@ -204,8 +212,11 @@ none_active stream on = elim (eqb_tells 1 stream) [
 
 -- the one connection is closed
 all_closed : AreClosed known tape
-all_closed o (inl same) on reason = let clash : false ≡ true = subst (λ (p : Opened). is_open p.k tape ≡ true) same on in cc
-all_closed o (inr none) on reason = none
+all_closed k on reason = absurd (none_open (k == 1) on)
+  where
+    none_open : (first : Bool) → (if first then false else (if first then true else false)) ≡ true → ⊥
+    none_open true e = let clash : false ≡ true = e in cc
+    none_open false e = let clash : false ≡ true = e in cc
 
 progress : ProgressHolds known tape
 progress = record {
@@ -213,7 +224,8 @@ progress = record {
   streamed = not_streaming;
   none_ready = λ room stream ready. none_active stream ready.is_active;
   closed = all_closed;
-  closes = (refl, record { o = record { k = 1; route = 0; stream = 1 }; is_opened = inl refl; number = refl; reason = Over refl }, tt);
+  closes = (record { was_open = refl; reason = Over refl; not_kept = λ kept. absurd (let clash : false ≡ true = kept.keeps in cc) }, tt);
+  few_idle = few_kept known tape refl;
   go_to_open = (refl, tt);
 }
 

@@ -14,6 +14,7 @@ use Rattle.model.specs.Known.{Known}
 use Rattle.model.specs.Courses.{items}
 use Rattle.model.specs.Offers.{IsDelivered}
 use Rattle.model.specs.ProgressClause.{AllForwarded, AllStreamed}
+use Rattle.model.proofs.ExchangeLaws.{few_kept}
 use Rattle.model.specs.Headline.{ClausesHold, HoldsInTurn}
 use Rattle.model.proofs.FirstLog.{setup, settings_came, nothing_on}
 use Rattle.model.proofs.OfferLemmas.{no_items}
@@ -58,7 +59,7 @@ greeted_forwarded stream r place m routed cut = absurd (no_request (items known 
 pub greeted_holds : ClausesHold known greeted
 unfolding total_size
 greeted_holds = record {
-  requests = record { numbered = tt; apart = tt; in_time = tt; served = λ o i. absurd i };
+  requests = record { numbered = tt; apart = tt; in_time = tt; served = λ o i. absurd i; sent = λ o i. absurd i };
   responses = record {
     table = first_table;
     decodes = (first_table, refl, (refl, refl), refl);
@@ -73,8 +74,9 @@ greeted_holds = record {
     forwarded = greeted_forwarded;
     streamed = not_streaming;
     none_ready = λ room stream ready. let clash : false ≡ true = ready.is_active in cc;
-    closed = λ o i is_open reason. i;
+    closed = λ k on reason. absurd (let clash : false ≡ true = on in cc);
     closes = tt;
+    few_idle = few_kept known greeted refl;
     go_to_open = tt;
   };
   windows = record { keeps = (λ kind some. absurd (omega (arith, kind)), tt); no_more = (λ kind. absurd (omega (arith, kind)), tt); holds_back = λ stream counted. omega arith; gives_back = λ on. record { shared = refl; own = λ stream on unended. refl } };
@@ -89,7 +91,7 @@ settled_forwarded stream r place m routed cut = absurd (no_request (items known 
 pub settled_holds : ClausesHold known settled
 unfolding total_size
 settled_holds = record {
-  requests = record { numbered = tt; apart = tt; in_time = tt; served = λ o i. absurd i };
+  requests = record { numbered = tt; apart = tt; in_time = tt; served = λ o i. absurd i; sent = λ o i. absurd i };
   responses = record {
     table = first_table;
     decodes = (first_table, (first_table, refl, (refl, refl), refl), (refl, refl), refl);
@@ -113,8 +115,9 @@ settled_holds = record {
     forwarded = settled_forwarded;
     streamed = not_streaming;
     none_ready = λ room stream ready. let clash : false ≡ true = ready.is_active in cc;
-    closed = λ o i is_open reason. i;
+    closed = λ k on reason. absurd (let clash : false ≡ true = on in cc);
     closes = tt;
+    few_idle = few_kept known settled refl;
     go_to_open = tt;
   };
   windows = record {

@@ -5,12 +5,14 @@ use Rattle.std.specs.Prelude.{suc, codes, replicate}
 use Rattle.std.proofs.lemmas.List.{append_cancel_left}
 use Rattle.model.specs.Tables.{total_size}
 use Rattle.model.specs.Octets.{some_of, is_hex_digit, is_token_octet, is_value, lower, Joined}
-use Rattle.model.specs.Messages.{Field, Item}
 use Rattle.model.specs.Http1.{crlf, Line, Chunk, Head, H1Head}
 use Rattle.model.specs.Logs.Act.{Open, ToUp, Close}
 use Rattle.model.specs.Tapes.{Entry}
 use Rattle.model.specs.Tapes.Entry.{Did}
+use Rattle.model.specs.Openings.{Opened}
+use Rattle.model.specs.Known.{Known}
 use Rattle.model.specs.RequestClause.{IsSentInPart, RequestsHold}
+use Rattle.model.proofs.OpenLaws.{whole_alone, part_alone}
 use Rattle.model.proofs.Http1Runs.{run_of_some, one_run}
 use Rattle.model.proofs.Http1Bodies.{cons-append, one_chunk}
 use Rattle.model_examples.proofs.RowTapes.{by_streaming, frame, plain, headed, field, post, post_block, begun, reset}
@@ -109,8 +111,10 @@ behind_one more none (piece ∷ pieces) (first, others, chunk, is, rest) =
 -- ---- gateways
 
 -- Whatever the stream's items, they don't stand behind the chunks of a request that isn't whole.
-pub nothing_behind_chunks : (more : List ℕ) (items : List Item) → AreNoChunks more → IsSentInPart (posting_text ++ hello_chunk ++ more) items → ⊥
-nothing_behind_chunks more items none part = let w = part.in_chunks posting_text (hello_chunk ++ more) posting_head refl has_posting_head in behind_one more none w.0 w.1
+pub nothing_behind_chunks : (known : Known) (t : List Entry) (o : Opened) (more : List ℕ) → AreNoChunks more → IsSentInPart known t o [] (posting_text ++ hello_chunk ++ more) → ⊥
+nothing_behind_chunks known t o more none part =
+    let w = (part_alone known t o (posting_text ++ hello_chunk ++ more) part).in_chunks posting_text (hello_chunk ++ more) posting_head refl has_posting_head in
+    behind_one more none w.0 w.1
 
 -- The head of a request and five octets of its body were passed on. Then the client resets the stream, and before the connection is
 -- closed more goes out.
@@ -118,11 +122,15 @@ abbrev pub resetting : List ℕ → List Entry
 resetting more =
     Did (Close 1) ∷ Did (ToUp 1 more) ∷ plain (reset 1 8) ∷ Did (ToUp 1 hello_chunk) ∷ plain (frame 0 0 1 (codes "hello")) ∷ Did (ToUp 1 posting_text) ∷ Did (Open 1 0) ∷ headed (frame 1 4 1 post_block) post ∷ begun
 
+abbrev posting : Opened
+posting = record { k = 1; route = 0; stream = 1 }
+
 refused : (more : List ℕ) → AreNoChunks more → RequestsHold by_streaming (resetting more) → ⊥
 unfolding total_size
-refused more none c = elim (c.served (record { k = 1; route = 0; stream = 1 }) (inl refl)).sent [
-  | inl whole ↦ (let clash : false ≡ true = whole.means.ends.1 in cc)
-  | inr part ↦ nothing_behind_chunks more _ none part
+refused [] none c = none [] refl
+refused (octet ∷ more) none c = elim (c.sent posting (inl refl)) [
+  | inl whole ↦ (let ends = (whole_alone by_streaming (resetting (octet ∷ more)) posting _ whole).means.ends in let clash : false ≡ true = ends.1 in cc)
+  | inr part ↦ nothing_behind_chunks by_streaming (resetting (octet ∷ more)) posting (octet ∷ more) none part
 ]
 
 -- The digit of a last chunk's size.

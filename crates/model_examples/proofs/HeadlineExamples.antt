@@ -9,14 +9,17 @@ use Rattle.model.specs.Frames.{preface, spell, settings_ack}
 use Rattle.model.specs.Http2.{H2Request}
 use Rattle.model.specs.Setup.{IsFirstMatch}
 use Rattle.model.specs.Setup.Passing.{Whole}
-use Rattle.model.specs.Openings.{Opened, opens}
+use Rattle.model.specs.Tapes.{sent_up}
+use Rattle.model.specs.Openings.{Opened, opens, exchanges, exchanges_of, exchange_on}
+use Rattle.model.proofs.ExchangeLaws.{no_idle, few_kept}
+use Rattle.model.proofs.OpenLaws.{sent_alone}
 use Rattle.model.specs.Deliveries.{Delivery}
 use Rattle.model.specs.Available.{heard_by, ended_by, IsIn, IsShown}
 use Rattle.model.specs.Lifetimes.{is_active, is_over}
 use Rattle.model.specs.Causes.{Cause}
 use Rattle.model.specs.Courses.{items}
 use Rattle.model.specs.Offers.{is_to_head, IsOffered}
-use Rattle.model.specs.RequestClause.{IsServed, OpenInTime, RequestsHold}
+use Rattle.model.specs.RequestClause.{IsServed, IsSent, BeginInTime, RequestsHold}
 use Rattle.model.specs.ResponseClause.{ResponsesHold}
 use Rattle.model.specs.ErrorClause.{ErrorsHold}
 use Rattle.model.specs.ProgressClause.{AllForwarded, AllStreamed, NoneReady, Reason, AreClosed, ProgressHolds, IsForwarded}
@@ -45,19 +48,25 @@ served = record {
   has_head = refl;
   well_formed = well_formed;
   by_route = by_route;
-  sent = inl (record { request = request; means = means; reads = record { front = text; is = refl; are_requests = reads; no_more = nothing_begins_none } });
 }
 
-all_served : (o : Opened) → IsIn o (opens tape) → IsServed known tape o
+sent_whole : IsSent known tape (record { k = 1; route = 0; stream = 1 } ∷ []) text
+sent_whole = inl (sent_alone known tape (record { k = 1; route = 0; stream = 1 }) text request refl means (record { front = text; is = refl; are_requests = reads; no_more = nothing_begins_none }))
+
+all_sent : (o : Opened) → IsIn o (opens tape) → IsSent known tape (exchanges_of o.k (exchanges tape)) (sent_up o.k tape)
+all_sent o (inl same) = subst (λ (p : Opened). IsSent known tape (exchanges_of p.k (exchanges tape)) (sent_up p.k tape)) (sym same) sent_whole
+all_sent o (inr none) = absurd none
+
+all_served : (o : Opened) → IsIn o (exchanges tape) → IsServed known tape o
 all_served o (inl same) = subst (λ p. IsServed known tape p) (sym same) served
 all_served o (inr none) = absurd none
 
-in_time : OpenInTime known tape
+in_time : BeginInTime known tape
 unfolding total_size
-in_time = (record { active = refl; no_cause = refl; goes_on = refl; whole = λ passing. refl }, tt)
+in_time = (tt, (record { active = refl; no_cause = refl; goes_on = refl; whole = λ passing. refl }, λ j idle route. no_idle known _ j refl idle, tt))
 
 pub requests : RequestsHold known tape
-requests = record { numbered = (refl, tt); apart = (tt, tt); in_time = in_time; served = all_served }
+requests = record { numbered = (refl, tt); apart = (tt, tt); in_time = in_time; served = all_served; sent = all_sent }
 
 -- ---- streams beside the first
 
@@ -96,7 +105,7 @@ none_offered delivery (inr passed) = of_opened passed.given.is_opened
     answers (inl all) = nothing_offered false false delivery all
     answers (inr part) = nothing_begun Whole false false delivery part
 
-    of_opened : IsIn passed.o (opens tape) → OffersNothing delivery
+    of_opened : IsIn passed.o (exchanges tape) → OffersNothing delivery
     of_opened (inl same) = answers (subst (λ (o : Opened). IsShown Whole (heard_by o tape) (ended_by o tape) (is_to_head (items known 1 tape)) delivery) same passed.shows)
     of_opened (inr none) = absurd none
 
@@ -114,8 +123,10 @@ no_reason (Answered found e) = let clash : ◌≡◌ {A = Option Cause} None (So
 no_reason (ClientClosed e) = let clash : false ≡ true = e in cc
 
 all_closed : AreClosed known tape
-all_closed o (inl same) on reason = no_reason (subst (λ p. Reason known tape p) same reason)
-all_closed o (inr none) on reason = none
+all_closed k on reason = elim (eqb_tells k 1) [
+  | inl same ↦ absurd (no_reason (subst (λ n. Reason known tape (exchange_on n tape)) same.1 reason))
+  | inr apart ↦ absurd (let clash : false ≡ true = sym (ap (λ b. if b then true else false) apart.0) ∙ on in cc)
+]
 
 progress : ProgressHolds known tape
 progress = record {
@@ -124,6 +135,7 @@ progress = record {
   none_ready = none_ready;
   closed = all_closed;
   closes = tt;
+  few_idle = few_kept known tape refl;
   go_to_open = (refl, tt);
 }
 

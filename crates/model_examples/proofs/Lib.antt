@@ -21,3 +21,7 @@ mod ServingRefusals
 mod TrailerExamples
 mod TurnRefusals
 mod WindowExamples
+pub mod KeepExamples
+pub mod KeepAnswers
+pub mod KeepRefusals
+pub mod KeepMeets

@@ -9,8 +9,6 @@ use Rattle.model.specs.Logs.Act.{Close}
 use Rattle.model.specs.Tapes.{Entry, sent}
 use Rattle.model.specs.Tapes.Note.{Unread}
 use Rattle.model.specs.Tapes.Entry.{Came, Breached, Happened, Sent, Did}
-use Rattle.model.specs.Openings.{Opened, opens}
-use Rattle.model.specs.Available.{IsIn}
 use Rattle.model.specs.Known.{Known}
 use Rattle.model.specs.Causes.{Cause}
 use Rattle.model.specs.StreamStates.{most_streams}
@@ -110,17 +108,13 @@ waits_for_all c = let given = c refl 1 (post ++ field (codes "content-length") (
 -- It closes an upstream once the request is sent: nothing is done with.
 pub closes_at_once : ProgressHolds by_whole (Did (Close 1) ∷ got) → ⊥
 unfolding total_size
-closes_at_once c = let done = c.closes.1 in of_opened done.o done.is_opened done.reason
+closes_at_once c = none c.closes.0.reason
   where
     none : Reason by_whole (Did (Close 1) ∷ got) (record { k = 1; route = 0; stream = 1 }) → ⊥
     none (Over e) = let clash : true ≡ false = e in cc
     none (Complete whole) = nothing_complete false false whole
     none (Answered found e) = let clash : ◌≡◌ {A = Option Cause} None (Some found) = e in cc
     none (ClientClosed e) = let clash : false ≡ true = e in cc
-
-    of_opened : (o : Opened) → IsIn o (opens (Did (Close 1) ∷ got)) → Reason by_whole (Did (Close 1) ∷ got) o → ⊥
-    of_opened o (inl same) reason = none (subst (λ p. Reason by_whole (Did (Close 1) ∷ got) p) same reason)
-    of_opened o (inr more) reason = absurd more
 
 -- It drops a block undecoded whose stream was reset before: no error of the connection came before it.
 pub undecoded : (known : Known) (text : List ℕ) → IsTold known text (Came (record { frame = frame 1 5 1 (190 ∷ []); note = Unread }) ∷ out (rst_stream 1 stream_closed) ∷ headed (frame 1 4 1 post_block) post ∷ begun) → ⊥

@@ -17,23 +17,26 @@ use Rattle.model.specs.StreamStates.Standing.{Beyond}
 use Rattle.model.specs.Errors.{Fault, first_of, or_else}
 use Rattle.model.specs.Errors.Fault.{Connection, Stream, Discarded}
 use Rattle.model.specs.Streams.{is_ended_by, is_reset, items_of}
-use Rattle.model.specs.Openings.{Opened, sent_for}
+use Rattle.model.specs.Openings.{Opened}
 use Rattle.model.specs.Known.{Known}
 use Rattle.model.specs.Lifetimes.{active, standing_on}
 use Rattle.model.specs.Malformed.{Carried}
 use Rattle.model.specs.ErrorTable.{fault_of, fault_on, judged, unless_of_stream, row_closed, rows_before_block, rows_behind_block, fault_with, row_block, row_stream_update, row_stream_data, row_refused, row_malformed, row_no_farewell}
 use Rattle.model.specs.Courses.{course, carried, items, interrupts, new_cause}
-use Rattle.model.specs.RequestClause.{IsServed, IsSentInPart}
+use Rattle.model.specs.RequestClause.{IsServed, IsSentInPart, IsSent}
+use Rattle.model.proofs.OpenLaws.{one_alone, whole_alone, part_alone}
 use Rattle.model.proofs.Http1Readings.{one_head}
 use Rattle.model_examples.proofs.RowTapes.{field}
 use Rattle.model_examples.proofs.Http1Examples.{both_lines, both_framings}
 
 -- Whatever the tape, a connection that was sent both framing lines is refused, on an unfinished stream as on a whole one.
-pub both_framing_lines : (known : Known) (t : List Entry) (o : Opened) → sent_for o t ≡ both_lines → IsServed known t o → ⊥
-both_framing_lines known t o sent s = elim s.sent [
-  | inl whole ↦ (let r = whole.reads in absurd (both_framings [] r.front [] _ r.are_requests (append-nil both_lines ∙ sym sent ∙ r.is)))
-  | inr part ↦ (let may = part.some in let more = part.goes_on may.0 may.1 in absurd (both_framings (more.2.next ∷ more.2.rest) more.0 [] _ more.1 (ap (λ x. x ++ more.2.next ∷ more.2.rest) (sym sent) ∙ sym more.2.is ∙ sym (append-nil more.0))))
-]
+pub both_framing_lines : (known : Known) (t : List Entry) (o : Opened) (text : List ℕ) → text ≡ both_lines → IsSent known t (o ∷ []) text → ⊥
+both_framing_lines known t o text sent (inl whole) = let r = (whole_alone known t o text whole).reads in absurd (both_framings [] r.front [] _ r.are_requests (append-nil both_lines ∙ sym sent ∙ r.is))
+both_framing_lines known t o text sent (inr p) =
+    let part = part_alone known t o text p in
+    let may = part.some in
+    let more = part.goes_on may.0 may.1 in
+    absurd (both_framings (more.is_front.next ∷ more.is_front.rest) more.whole [] _ (one_alone more.whole _ more.all.reads) (ap (λ x. x ++ more.is_front.next ∷ more.is_front.rest) (sym sent) ∙ sym more.is_front.is ∙ sym (append-nil more.whole)))
 
 -- A connection that was given to a stream without items is refused.
 pub without_items : (known : Known) (t : List Entry) (o : Opened) → items known o.stream t ≡ [] → IsServed known t o → ⊥
@@ -145,12 +148,13 @@ may_get : MayBecome (Block five false ∷ []) (request_of five (codes "aaaaa") [
 may_get = record { head = five; has_head = refl; begun = record { rest = codes "aaaaa"; is = refl }; length_holds = refl; trailers = []; well_formed = record { no_pseudo_field = refl; names_hold = refl; values_hold = refl; no_connection_field = refl }; is = refl }
 
 -- Its head is sent, and behind it an octet, though no DATA came.
-pub invents : IsSentInPart (five_text ++ codes "z") (Block five false ∷ []) → ⊥
-invents part =
-    let on = part.goes_on (request_of five (codes "aaaaa") []) may_get in
-    let r = on.1 in
-    let more : List ℕ = on.2.next ∷ on.2.rest in
-    let whole : five_text ++ (codes "z" ++ more) ≡ r.head_text ++ r.content = sym on.2.is ∙ r.is in
+pub invents : (known : Known) (t : List Entry) (o : Opened) → items known o.stream t ≡ Block five false ∷ [] → IsSentInPart known t o [] (five_text ++ codes "z") → ⊥
+invents known t o has p =
+    let part = part_alone known t o (five_text ++ codes "z") p in
+    let on = part.goes_on (request_of five (codes "aaaaa") []) (subst (λ (l : List Item). MayBecome l (request_of five (codes "aaaaa") [])) (sym has) may_get) in
+    let r = one_alone on.whole _ on.all.reads in
+    let more : List ℕ = on.is_front.next ∷ on.is_front.rest in
+    let whole : five_text ++ (codes "z" ++ more) ≡ r.head_text ++ r.content = sym on.is_front.is ∙ r.is in
     let same = one_head five_text r.head_text (codes "z" ++ more) r.content five_head r.head has_five_head r.has_head whole in
     let rest : codes "z" ++ more ≡ r.content = append_cancel_left r.head_text (codes "z" ++ more) r.content (ap (λ x. x ++ (codes "z" ++ more)) (sym same.0) ∙ whole) in
     let framed : Framed (values_of (codes "content-length") five_head.fields) (values_of (codes "transfer-encoding") five_head.fields) r.content (codes "aaaaa") [] = subst (λ (h : Head). Framed (values_of (codes "content-length") h.fields) (values_of (codes "transfer-encoding") h.fields) r.content (codes "aaaaa") []) (sym same.1) r.body in

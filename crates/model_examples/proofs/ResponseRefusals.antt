@@ -11,9 +11,11 @@ use Rattle.model.specs.Tapes.{Note, Entry}
 use Rattle.model.specs.Tapes.Note.{NoBlock, Fields, Undecodable, Unread}
 use Rattle.model.specs.Tapes.Entry.{Happened, Sent, Did}
 use Rattle.model.specs.ResponseHeads.{Head}
-use Rattle.model.specs.Openings.{Opened, opens}
+use Rattle.model.specs.Openings.{Opened, exchanges, given, is_of}
+use Rattle.model.specs.Logs.Act.{ToUp}
+use Rattle.model.proofs.ExchangeLaws.{kept_in}
 use Rattle.model.specs.Deliveries.{Delivery, ReadsAs, AreInterims, IsAnsweredBy, IsPart, IsPartOf}
-use Rattle.model.specs.Available.{heard, ended_by, IsIn, IsShown}
+use Rattle.model.specs.Available.{heard_by, ended_by, IsIn, IsShown}
 use Rattle.model.specs.Known.{Known}
 use Rattle.model.specs.Causes.{Cause}
 use Rattle.model.specs.Courses.{course, items, first_of_both}
@@ -34,7 +36,7 @@ cause_before known stream e t none = stays (course known stream t).cause _ none
     stays None later e = refl
     stays (Some c) later e = e
 
-cause_earlier : (known : Known) (stream : ℕ) (later earlier : List Entry) → (course known stream (later ++ earlier)).cause ≡ None → (course known stream earlier).cause ≡ None
+pub cause_earlier : (known : Known) (stream : ℕ) (later earlier : List Entry) → (course known stream (later ++ earlier)).cause ≡ None → (course known stream earlier).cause ≡ None
 cause_earlier known stream [] earlier none = none
 cause_earlier known stream (e ∷ later) earlier none = cause_earlier known stream later earlier (cause_before known stream e (later ++ earlier) none)
 
@@ -43,19 +45,20 @@ nothing_before true [] piece e = refl
 nothing_before true (octet ∷ text) piece e = cc
 nothing_before false text piece e = e
 
-heard_before : (k : ℕ) (e : Entry) (t : List Entry) → heard k (e ∷ t) ≡ [] → heard k t ≡ []
-heard_before k (Happened (Up j piece)) t none = nothing_before (k == j) (heard k t) piece none
-heard_before k e t none = none
+heard_before : (o : Opened) (e : Entry) (t : List Entry) → heard_by o (e ∷ t) ≡ [] → heard_by o t ≡ []
+heard_before o (Happened (Up j piece)) t none = nothing_before (is_of o j (given j (exchanges t))) (heard_by o t) piece none
+heard_before o e t none = none
 
-heard_earlier : (k : ℕ) (later earlier : List Entry) → heard k (later ++ earlier) ≡ [] → heard k earlier ≡ []
-heard_earlier k [] earlier none = none
-heard_earlier k (e ∷ later) earlier none = heard_earlier k later earlier (heard_before k e (later ++ earlier) none)
+heard_earlier : (o : Opened) (later earlier : List Entry) → heard_by o (later ++ earlier) ≡ [] → heard_by o earlier ≡ []
+heard_earlier o [] earlier none = none
+heard_earlier o (e ∷ later) earlier none = heard_earlier o later earlier (heard_before o e (later ++ earlier) none)
 
-opened_before : (o : Opened) (e : Entry) (t : List Entry) → IsIn o (opens t) → IsIn o (opens (e ∷ t))
+opened_before : (o : Opened) (e : Entry) (t : List Entry) → IsIn o (exchanges t) → IsIn o (exchanges (e ∷ t))
 opened_before o (Did (Open k route)) t is = inr is
+opened_before o (Did (ToUp k octets)) t is = kept_in o k octets t is
 opened_before o e t is = is
 
-opened_earlier : (o : Opened) (later earlier : List Entry) → IsIn o (opens earlier) → IsIn o (opens (later ++ earlier))
+pub opened_earlier : (o : Opened) (later earlier : List Entry) → IsIn o (exchanges earlier) → IsIn o (exchanges (later ++ earlier))
 opened_earlier o [] earlier is = is
 opened_earlier o (e ∷ later) earlier is = opened_before o e (later ++ earlier) (opened_earlier o later earlier is)
 
@@ -64,12 +67,12 @@ opened_earlier o (e ∷ later) earlier is = opened_before o e (later ++ earlier)
 -- no cause came for the stream, and nothing was heard of its connection
 pub record IsUnanswered (known : Known) (t : List Entry) (stream : ℕ) : Type 0 where
   pub no_cause : (course known stream t).cause ≡ None
-  pub silent : (o : Opened) → IsIn o (opens t) → o.stream ≡ stream → heard o.k t ≡ []
+  pub silent : (o : Opened) → IsIn o (exchanges t) → o.stream ≡ stream → heard_by o t ≡ []
 
 unanswered_earlier : (known : Known) (later earlier : List Entry) (stream : ℕ) → IsUnanswered known (later ++ earlier) stream → IsUnanswered known earlier stream
 unanswered_earlier known later earlier stream u = record {
   no_cause = cause_earlier known stream later earlier u.no_cause;
-  silent = λ o is given. heard_earlier o.k later earlier (u.silent o (opened_earlier o later earlier is) given);
+  silent = λ o is given. heard_earlier o later earlier (u.silent o (opened_earlier o later earlier is) given);
 }
 
 none_offered : (known : Known) (t : List Entry) (stream : ℕ) (delivery : Delivery) → IsUnanswered known t stream → IsOffered known t stream delivery → OffersNothing delivery
@@ -82,7 +85,7 @@ none_offered known t stream delivery u (inr passed) =
     answers {ended} {to_head} (inl all) = nothing_offered ended to_head delivery all
     answers {ended} {to_head} (inr part) = nothing_begun known.setup.passing ended to_head delivery part
 
-no_head_of_nothing : (part all : Delivery) → OffersNothing all → IsPartOf part all → part.head ≡ None
+pub no_head_of_nothing : (part all : Delivery) → OffersNothing all → IsPartOf part all → part.head ≡ None
 no_head_of_nothing part all none is = at part.head is
   where
     at : (head : Option Head) → IsPart head part all → head ≡ None
@@ -155,7 +158,7 @@ bad_gateway_to_all failures c =
     let d = c.delivered 1 in
     one_block_reads bad_gateway d.delivery d.reads (no_head (record { setup = whole; failures = failures }) answers_itself 1 (record { no_cause = refl; silent = silent }) d)
   where
-    silent : (o : Opened) → IsIn o (opens answers_itself) → o.stream ≡ 1 → heard o.k answers_itself ≡ []
+    silent : (o : Opened) → IsIn o (exchanges answers_itself) → o.stream ≡ 1 → heard_by o answers_itself ≡ []
     silent o is given = refl
 
 -- It sends stream 3 what the upstream of stream 1 answered.
@@ -171,8 +174,8 @@ swaps c =
     let d = c.delivered 3 in
     body_reads ok_two (codes "hi") true d.delivery d.reads (no_head by_whole swapped 3 (record { no_cause = refl; silent = silent }) d)
   where
-    silent : (o : Opened) → IsIn o (opens swapped) → o.stream ≡ 3 → heard o.k swapped ≡ []
-    silent o (inl same) given = subst (λ (p : Opened). heard p.k swapped ≡ []) (sym same) refl
+    silent : (o : Opened) → IsIn o (exchanges swapped) → o.stream ≡ 3 → heard_by o swapped ≡ []
+    silent o (inl same) given = subst (λ (p : Opened). heard_by p swapped ≡ []) (sym same) refl
     silent o (inr (inl same)) given = let clash : 1 ≡ 3 = sym (ap (λ (p : Opened). p.stream) same) ∙ given in absurd (omega (arith, clash))
     silent o (inr (inr none)) given = absurd none
 

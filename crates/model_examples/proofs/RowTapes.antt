@@ -1,5 +1,5 @@
 -- Tapes of worked rows, for the examples: what a client sends, what the gateway answers, and the parts that several rows share.
-use Rattle.std.specs.Prelude.{ℕ, List, [], ◌∷◌, codes}
+use Rattle.std.specs.Prelude.{ℕ, false, List, [], ◌∷◌, codes}
 use Rattle.model.specs.Messages.{Field}
 use Rattle.model.specs.Frames.{Frame, spell_number, settings_frame, settings_ack}
 use Rattle.model.specs.Logs.Event.{Up}
@@ -14,7 +14,7 @@ use Rattle.model.specs.Known.{Known}
 
 -- one route for every authority and path, and bodies of a megabyte
 abbrev pub whole : Setup
-whole = record { routes = record { authority = []; path = codes "/" } ∷ []; policy = Plain; passing = Whole; max_body = 1048576; max_response = 1048576 }
+whole = record { routes = record { authority = []; path = codes "/" } ∷ []; policy = Plain; passing = Whole; max_body = 1048576; max_response = 1048576; keep = false }
 
 abbrev pub streaming : Setup
 streaming = record whole { passing = Streaming }

@@ -12,7 +12,7 @@ use Rattle.model.specs.Logs.Act.{Open, ToUp, Close}
 use Rattle.model.specs.Tapes.{Entry, IsStep}
 use Rattle.model.specs.Tapes.Entry.{Happened, Did}
 use Rattle.model.specs.Admission.{is_open}
-use Rattle.model.specs.Openings.{Opened, opens, sent_for}
+use Rattle.model.specs.Openings.{Opened, exchanges, sent_for}
 use Rattle.model.specs.Available.{IsIn}
 use Rattle.model.specs.ErrorClause.{ErrorsHold}
 use Rattle.model.specs.ResponseClause.{AreWithin}
@@ -99,7 +99,7 @@ not_streamed : AllStreamed by_streaming three_came → ⊥
 unfolding total_size
 not_streamed all = let s = all refl 1 five refl refl refl in at s.o s.given.is_opened s.has_come
   where
-    at : (o : Opened) → IsIn o (opens three_came) → (is_open o.k three_came ≡ true → HasCome (sent_for o three_came) (codes "hel")) → ⊥
+    at : (o : Opened) → IsIn o (exchanges three_came) → (is_open o.k three_came ≡ true → HasCome (sent_for o three_came) (codes "hel")) → ⊥
     at o (inl same) come = lacks_some [] (codes "hel") (omega arith) (omega arith) (subst (λ (p : Opened). is_open p.k three_came ≡ true → HasCome (sent_for p three_came) (codes "hel")) same come refl)
     at o (inr none) come = none
 
@@ -111,7 +111,7 @@ pub one_held_back : AllStreamed by_streaming two_put → ⊥
 unfolding total_size
 one_held_back all = let s = all refl 1 five refl refl refl in at s.o s.given.is_opened s.has_come
   where
-    at : (o : Opened) → IsIn o (opens two_put) → (is_open o.k two_put ≡ true → HasCome (sent_for o two_put) (codes "hel")) → ⊥
+    at : (o : Opened) → IsIn o (exchanges two_put) → (is_open o.k two_put ≡ true → HasCome (sent_for o two_put) (codes "hel")) → ⊥
     at o (inl same) come = lacks_some (codes "he") (codes "hel") (omega arith) (omega arith) (subst (λ (p : Opened). is_open p.k two_put ≡ true → HasCome (sent_for p two_put) (codes "hel")) same come refl)
     at o (inr none) come = none
 

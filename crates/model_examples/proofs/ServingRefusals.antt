@@ -12,7 +12,8 @@ use Rattle.model.specs.Logs.Event.{UpEnd}
 use Rattle.model.specs.Logs.Act.{Open, ToUp, Close}
 use Rattle.model.specs.Tapes.{Entry}
 use Rattle.model.specs.Tapes.Entry.{Happened, Did}
-use Rattle.model.specs.Openings.{Opened, opens, sent_for}
+use Rattle.model.specs.Openings.{Opened, exchanges, sent_for}
+use Rattle.model.proofs.OpenLaws.{whole_alone}
 use Rattle.model.specs.Available.{IsIn}
 use Rattle.model.specs.Causes.{Cause}
 use Rattle.model.specs.Causes.Cause.{Expects}
@@ -63,7 +64,7 @@ means = record { head = first.head; has_head = refl; well_formed = first.well_fo
 pub never_sent : AllForwarded known unsent → ⊥
 never_sent all = let f = all 1 first.request 0 means example.by_route refl in none f.o f.given.is_opened (λ empty. first.nothing_begins_none f.reads.front [] (forward first.request) f.reads.are_requests (sym empty ∙ f.reads.is))
   where
-    none : (o : Opened) → IsIn o (opens unsent) → (sent_for o unsent ≡ [] → ⊥) → ⊥
+    none : (o : Opened) → IsIn o (exchanges unsent) → (sent_for o unsent ≡ [] → ⊥) → ⊥
     none o (inl same) not_empty = not_empty (subst (λ (p : Opened). sent_for p unsent ≡ []) (sym same) refl)
     none o (inr other) not_empty = other
 
@@ -148,8 +149,14 @@ pub forwards_late : HoldsInTurn (ClausesHold known) (plain (frame 6 0 0 (codes "
 forwards_late c = let holds = c.0 in let f = holds.progress.forwarded 1 first.request 0 waiting_means example.by_route refl in f.given.is_opened
 
 -- It puts out octets of a body before they came.
-pub sends_before : HoldsInTurn (ClausesHold by_streaming) (plain (frame 0 0 1 (codes "z")) ∷ Did (ToUp 1 (five_text ++ codes "z")) ∷ Did (Open 1 0) ∷ headed (frame 1 4 1 []) five ∷ begun) → ⊥
+abbrev put_before : List Entry
+put_before = Did (ToUp 1 (five_text ++ codes "z")) ∷ Did (Open 1 0) ∷ headed (frame 1 4 1 []) five ∷ begun
+
+pub sends_before : HoldsInTurn (ClausesHold by_streaming) (plain (frame 0 0 1 (codes "z")) ∷ put_before) → ⊥
 unfolding total_size
 sends_before c =
     let holds = c.0 in
-    let s = holds.requests.served (record { k = 1; route = 0; stream = 1 }) (inl refl) in elim s.sent [ inl whole ↦ (let ends = whole.means.ends in let clash : false ≡ true = ends in cc) | inr part ↦ invents part ]
+    let s = holds.requests.sent (record { k = 1; route = 0; stream = 1 }) (inl refl) in elim s [
+      | inl whole ↦ (let ends = (whole_alone by_streaming put_before (record { k = 1; route = 0; stream = 1 }) _ whole).means.ends in let clash : false ≡ true = ends in cc)
+      | inr part ↦ invents by_streaming put_before (record { k = 1; route = 0; stream = 1 }) refl part
+    ]

@@ -8,8 +8,8 @@ use Rattle.model.specs.Tapes.{Noted, Entry, sent}
 use Rattle.model.specs.Tapes.Entry.{Came, Breached, Happened, Sent, Did}
 use Rattle.model.specs.Decoding.{joined, completed}
 use Rattle.model.specs.Streams.{frame_items}
-use Rattle.model.specs.Openings.{Opened, opens, last_stream, IsGivenNone, AreNumbered, AreApart}
-use Rattle.model.specs.Available.{heard, has_ended, items_on, IsIn}
+use Rattle.model.specs.Openings.{Opened, exchanges, last_stream, IsGivenNone, AreNumbered, AreApart, given, begins_another}
+use Rattle.model.specs.Available.{heard_by, ended_by, items_on, IsIn}
 use Rattle.model.specs.Known.{Known}
 use Rattle.model.specs.Lifetimes.{is_opened, is_active}
 use Rattle.model.specs.Courses.{items, upstream_of}
@@ -20,6 +20,7 @@ use Rattle.offering.specs.State.Move.{Takes, Breaks, Notes, Hears, Fails, Goes, 
 use Rattle.offering.specs.Policy.{MayTake, MayOpen, Holds, AreAllowed, IsFlushed, KeepClauses}
 use Rattle.offering.specs.Sight.{Sight, first_sight, IsRightOf, windows_in}
 use Rattle.offering.specs.Rule.{OpensNext, completed_by, MayCome, Seen, moves_of, tape_of, sight_of, AllMayCome, AreRight, IsTold, AreTold}
+use Rattle.offering.proofs.Moving.{sent_exchanges}
 use Rattle.offering.proofs.Entries.{heard_same, ended_same}
 use Rattle.model.proofs.ActiveLaws.{brought_other, brought_none, none_brought}
 use Rattle.offering.proofs.Offering.{Offering}
@@ -28,13 +29,13 @@ use Rattle.offering.proofs.Ruling.{Placed, items_kept, not_unopened, unopened_be
 use Rattle.offering.proofs.Flushing.{moves_keep, start_holds, clauses_hold}
 
 -- nothing came yet
-start_placed : (known : Known) → Placed known [] start
-start_placed known = record {
+start_placed : (known : Known) → known.setup.keep ≡ false → Placed known [] start
+start_placed known off = record {
   offering = start_holds known;
-  neighbours = record { numbered = tt; apart = tt; begun = λ o there. absurd there };
+  neighbours = record { off = off; numbered = tt; apart = tt; begun = λ o there. absurd there };
   unsent = λ id out. refl;
   not_given = λ id out o g. g.is_opened;
-  unheard = λ k lt. (refl, refl);
+  unheard = λ k lt o at. (refl, refl);
 }
 
 pub first_right : (known : Known) → IsRightOf known [] first_sight
@@ -58,34 +59,35 @@ first_right known = record {
 -- ---- what holds beside the outboxes behind a move
 
 -- no connection is opened with the entry
-module _ (known : Known) (t : List Entry) (s s' : State) (e : Entry) (p : Placed known t s) (same : opens (e ∷ t) ≡ opens t) where
+module _ (known : Known) (t : List Entry) (s s' : State) (e : Entry) (p : Placed known t s) (same : exchanges (e ∷ t) ≡ exchanges t) where
   placed_same : ((id : ℕ) → is_opened id (e ∷ t) ≡ false → is_opened id t ≡ false) → ((id : ℕ) → is_opened id t ≡ false → items_on id (sent (e ∷ t)) ≡ items_on id (sent t))
-      → ((k : ℕ) → length (opens t) < k → (heard k (e ∷ t) ≡ heard k t) × (has_ended k (e ∷ t) ≡ has_ended k t)) → Offering known (e ∷ t) s' → Placed known (e ∷ t) s'
+      → ((k : ℕ) → length (exchanges t) < k → (o : Opened) → o.k ≡ k → (heard_by o (e ∷ t) ≡ heard_by o t) × (ended_by o (e ∷ t) ≡ ended_by o t)) → Offering known (e ∷ t) s' → Placed known (e ∷ t) s'
   placed_same before same_items same_heard offering = record {
     offering = offering;
     neighbours = record {
+      off = p.neighbours.off;
       numbered = subst AreNumbered (sym same) p.neighbours.numbered;
       apart = subst AreApart (sym same) p.neighbours.apart;
       begun = λ o there. items_kept known o.stream t e (p.neighbours.begun o (subst (IsIn o) same there));
     };
     unsent = λ id out. same_items id (before id out) ∙ p.unsent id (before id out);
     not_given = λ id out o g. p.not_given id (before id out) o (record { is_opened = subst (IsIn o) same g.is_opened; is_given = g.is_given });
-    unheard = λ k lt.
-        let far : length (opens t) < k = subst (λ os. length os < k) same lt in
-        let now = same_heard k far in
-        let old = p.unheard k far in
+    unheard = λ k lt o at.
+        let far : length (exchanges t) < k = subst (λ os. length os < k) same lt in
+        let now = same_heard k far o at in
+        let old = p.unheard k far o at in
         (now.0 ∙ old.0, now.1 ∙ old.1);
   }
 
 -- an event of a connection that was opened, or of none
 module _ (known : Known) (t : List Entry) (s s' : State) (event : Event) (p : Placed known t s) where
-  placed_event : ((k : ℕ) → length (opens t) < k → k ≡ upstream_of event → ⊥) → Offering known (Happened event ∷ t) s' → Placed known (Happened event ∷ t) s'
+  placed_event : ((k : ℕ) → length (exchanges t) < k → k ≡ upstream_of event → ⊥) → Offering known (Happened event ∷ t) s' → Placed known (Happened event ∷ t) s'
   placed_event elsewhere offering =
-      placed_same known t s s' (Happened event) p refl (λ id out. out) (λ id out. refl) (λ k far. (sym (heard_same t event k (elsewhere k far)), sym (ended_same t event k (elsewhere k far)))) offering
+      placed_same known t s s' (Happened event) p refl (λ id out. out) (λ id out. refl) (λ k far o at. (sym (heard_same t event o (λ is. elsewhere k far (sym at ∙ is))), sym (ended_same t event o (λ is. elsewhere k far (sym at ∙ is))))) offering
 
   -- of a connection that was opened
-  placed_answer : (o : Opened) → IsIn o (opens t) → o.k ≡ upstream_of event → Offering known (Happened event ∷ t) s' → Placed known (Happened event ∷ t) s'
-  placed_answer o there number = placed_event (λ k far same. let near = number_within (opens t) o p.neighbours.numbered there in omega (arith, far, same, number, near))
+  placed_answer : (o : Opened) → IsIn o (exchanges t) → o.k ≡ upstream_of event → Offering known (Happened event ∷ t) s' → Placed known (Happened event ∷ t) s'
+  placed_answer o there number = placed_event (λ k far same. let near = number_within (exchanges t) o p.neighbours.numbered there in omega (arith, far, same, number, near))
 
 -- a connection is opened
 module _ (known : Known) (t : List Entry) (s s' : State) (k route : ℕ) (p : Placed known t s) (before : Sight) (right : IsRightOf known t before) (may : OpensNext before k) where
@@ -95,10 +97,10 @@ module _ (known : Known) (t : List Entry) (s s' : State) (k route : ℕ) (p : Pl
   some : items known (last_stream t) t ≡ [] → ⊥
   some = right.has_items (last_stream t) on (ap before.has_items (sym right.last) ∙ may.has_items)
 
-  none_given : IsGivenNone (last_stream t) (opens t)
-  none_given = subst (λ n. IsGivenNone n (opens t)) right.last (subst (IsGivenNone before.last) right.given may.first)
+  none_given : IsGivenNone (last_stream t) (exchanges t)
+  none_given = subst (λ n. IsGivenNone n (exchanges t)) right.last (subst (IsGivenNone before.last) right.given may.first)
 
-  next : k ≡ suc (length (opens t))
+  next : k ≡ suc (length (exchanges t))
   next = may.next ∙ ap (λ os. suc (length os)) right.given
 
   none_before : (os : List Opened) → IsGivenNone (last_stream t) os → (o : Opened) → IsIn o os → o.stream ≡ last_stream t → ⊥
@@ -108,16 +110,17 @@ module _ (known : Known) (t : List Entry) (s s' : State) (k route : ℕ) (p : Pl
 
   opens_by : MayOpen known t k
   opens_by = record {
-    none_before = λ o g. none_before (opens t) none_given o g.is_opened g.is_given;
+    none_before = λ o g. none_before (exchanges t) none_given o g.is_opened g.is_given;
     no_cause = sym (right.cause (last_stream t) on) ∙ ap before.cause (sym right.last) ∙ may.no_cause;
-    unheard = (p.unheard k (omega (arith, next))).0;
-    not_ended = (p.unheard k (omega (arith, next))).1;
+    unheard = λ o at. (p.unheard k (omega (arith, next)) o at).0;
+    not_ended = λ o at. (p.unheard k (omega (arith, next)) o at).1;
   }
 
   placed_opened : Offering known (Did (Open k route) ∷ t) s' → Placed known (Did (Open k route) ∷ t) s'
   placed_opened offering = record {
     offering = offering;
     neighbours = record {
+      off = p.neighbours.off;
       numbered = (next, p.neighbours.numbered);
       apart = (none_given, p.neighbours.apart);
       begun = λ o there. items_kept known o.stream t (Did (Open k route)) (elim there [
@@ -162,26 +165,26 @@ module _ (known : Known) (t : List Entry) (s : State) (p : Placed known t s) (be
   )
   allowed_by (Sends noted) now told may = record { no_block = sym (completed_same known t before noted right) ∙ may.no_block; no_data = may.no_data }
   allowed_by (Acts (Open k route)) now told may = opens_by known t s s k route p before right may
-  allowed_by (Acts (ToUp k octets)) now told may = tt
+  allowed_by (Acts (ToUp k octets)) now told may = ap (λ n. begins_another (given k (exchanges t)) n octets) (sym right.last) ∙ ap (λ os. begins_another (given k os) before.last octets) (sym right.given) ∙ may
   allowed_by (Acts (Close k)) now told may = tt
   allowed_by (Acts CloseClient) now told may = tt
 
   -- What holds beside the outboxes holds behind it.
   placed_by : (m : Move) → IsRightOf known (entry_of m ∷ t) behind → MayCome before behind s m → Holds known t s m → Offering known (entry_of m ∷ t) (after s m) → Placed known (entry_of m ∷ t) (after s m)
-  placed_by (Takes noted change) now may holds o = placed_same known t s (after s (Takes noted change)) (Came noted) p refl (unopened_before t noted) (λ id out. refl) (λ k far. (refl, refl)) o
-  placed_by (Breaks breach) now may holds o = placed_same known t s (after s (Breaks breach)) (Breached breach) p refl (λ id out. out) (λ id out. refl) (λ k far. (refl, refl)) o
+  placed_by (Takes noted change) now may holds o = placed_same known t s (after s (Takes noted change)) (Came noted) p refl (unopened_before t noted) (λ id out. refl) (λ k far o at. (refl, refl)) o
+  placed_by (Breaks breach) now may holds o = placed_same known t s (after s (Breaks breach)) (Breached breach) p refl (λ id out. out) (λ id out. refl) (λ k far o at. (refl, refl)) o
   placed_by (Notes event) now may holds o = placed_event known t s (after s (Notes event)) event p (λ k far same. let none : k ≡ 0 = same ∙ may.1 in omega (arith, far, none)) o
   placed_by (Hears event stream news) now may holds o = placed_answer known t s (after s (Hears event stream news)) event p holds.of.o holds.of.given.is_opened holds.of.number o
   placed_by (Fails event stream) now may holds o = placed_answer known t s (after s (Fails event stream)) event p holds.of.o holds.of.given.is_opened holds.of.number o
   placed_by (Goes noted item part over) now may holds o =
       let on : is_active noted.frame.id t ≡ true = sym (p.offering.lives noted.frame.id) ∙ ap (λ r. is_some r) may.0.found in
-      placed_same known t s (after s (Goes noted item part over)) (Sent noted) p refl (λ id out. out) (λ id out. brought_other t noted id (not_unopened noted.frame.id id t on out)) (λ k far. (refl, refl)) o
+      placed_same known t s (after s (Goes noted item part over)) (Sent noted) p refl (λ id out. out) (λ id out. brought_other t noted id (not_unopened noted.frame.id id t on out)) (λ k far o at. (refl, refl)) o
   placed_by (Sends noted) now may holds o =
-      placed_same known t s (after s (Sends noted)) (Sent noted) p refl (λ id out. out) (λ id out. brought_none t noted id (none_brought noted (completed (sent t) noted.frame) holds.no_block holds.no_data)) (λ k far. (refl, refl)) o
+      placed_same known t s (after s (Sends noted)) (Sent noted) p refl (λ id out. out) (λ id out. brought_none t noted id (none_brought noted (completed (sent t) noted.frame) holds.no_block holds.no_data)) (λ k far o at. (refl, refl)) o
   placed_by (Acts (Open k route)) now may holds o = placed_opened known t s (after s (Acts (Open k route))) k route p before right may o
-  placed_by (Acts (ToUp k octets)) now may holds o = placed_same known t s (after s (Acts (ToUp k octets))) (Did (ToUp k octets)) p refl (λ id out. out) (λ id out. refl) (λ k far. (refl, refl)) o
-  placed_by (Acts (Close k)) now may holds o = placed_same known t s (after s (Acts (Close k))) (Did (Close k)) p refl (λ id out. out) (λ id out. refl) (λ k far. (refl, refl)) o
-  placed_by (Acts CloseClient) now may holds o = placed_same known t s (after s (Acts CloseClient)) (Did CloseClient) p refl (λ id out. out) (λ id out. refl) (λ k far. (refl, refl)) o
+  placed_by (Acts (ToUp k octets)) now may holds o = placed_same known t s (after s (Acts (ToUp k octets))) (Did (ToUp k octets)) p (sent_exchanges k octets t holds) (λ id out. out) (λ id out. refl) (λ k far o at. (refl, refl)) o
+  placed_by (Acts (Close k)) now may holds o = placed_same known t s (after s (Acts (Close k))) (Did (Close k)) p refl (λ id out. out) (λ id out. refl) (λ k far o at. (refl, refl)) o
+  placed_by (Acts CloseClient) now may holds o = placed_same known t s (after s (Acts CloseClient)) (Did CloseClient) p refl (λ id out. out) (λ id out. refl) (λ k far o at. (refl, refl)) o
 
 -- ---- runs
 
@@ -192,7 +195,7 @@ last_right known (x ∷ run) right = right.1
 
 -- what holds behind a run, and that it is allowed
 pub placed : (known : Known) (run : List Seen) → AllMayCome run → AreRight known run → AreTold known run → AreAllowed known (moves_of run) × Placed known (tape_of run) (state_of (moves_of run))
-placed known [] may right told = (tt, start_placed known)
+placed known [] may right told = (tt, start_placed known right)
 placed known (x ∷ run) may right told =
     let old = placed known run may.0 right.0 told.0 in
     let sees = last_right known run right.0 in

@@ -1,5 +1,5 @@
 -- Which entries leave what is on offer for a stream as it is.
-use Rattle.std.proofs.Common.{◌≡◌, ℕ, zero, suc, Bool, true, false, ◌==◌, ◌&&◌, ◌||◌, List, [], ◌∷◌, ◌++◌, refl, sym, ap, ◌∙◌, inl, inr, arith, if◌then◌else◌}
+use Rattle.std.proofs.Common.{◌≡◌, ℕ, zero, suc, Bool, true, false, ◌==◌, ◌&&◌, ◌||◌, List, [], ◌∷◌, ◌++◌, refl, sym, ap, ◌∙◌, inl, inr, arith, if◌then◌else◌, subst}
 use Rattle.std.specs.Prelude.{Option, Some, None, is_some, nat_lt}
 use Rattle.std.specs.List.{list_any}
 use Rattle.std.proofs.lemmas.List.{append-nil}
@@ -14,8 +14,8 @@ use Rattle.model.specs.Deliveries.{heads_in}
 use Rattle.model.specs.Tapes.{Noted, Breach, Entry, sent}
 use Rattle.model.specs.Tapes.Entry.{Came, Breached, Happened, Sent, Did}
 use Rattle.model.specs.Streams.{items_of}
-use Rattle.model.specs.Openings.{Opened, opens, given, last_stream, AreNumbered}
-use Rattle.model.specs.Available.{heard, has_ended, items_on, IsIn}
+use Rattle.model.specs.Openings.{Opened, exchanges, given, last_stream, AreNumbered}
+use Rattle.model.specs.Available.{heard_by, ended_by, items_on, IsIn}
 use Rattle.model.specs.Known.{Known, fails_behind}
 use Rattle.model.specs.Causes.{Cause, cause_if}
 use Rattle.model.specs.Causes.Cause.{BadAnswer}
@@ -147,35 +147,40 @@ abbrev pub OpensFor : List Entry → Act → ℕ → Type 0
 OpensFor t (Open k route) stream = last_stream t ≡ stream
 OpensFor t _ stream = ⊥
 
-pub act_quiet : (known : Known) (t : List Entry) (act : Act) (stream : ℕ) → (OpensFor t act stream → ⊥) → SameOffer known t (Did act ∷ t) stream
-act_quiet known t act stream other = record {
+-- the act begins no other exchange on a connection that is open
+abbrev pub BeginsNone : List Entry → Act → Type 0
+BeginsNone t (ToUp k octets) = exchanges (Did (ToUp k octets) ∷ t) ≡ exchanges t
+BeginsNone t _ = Unit {0}
+
+pub act_quiet : (known : Known) (t : List Entry) (act : Act) (stream : ℕ) → (OpensFor t act stream → ⊥) → BeginsNone t act → SameOffer known t (Did act ∷ t) stream
+act_quiet known t act stream other none = record {
   cause = cause_stays known stream t (Did act) (none_by_did known stream t act);
   out = out_stays known stream t (Did act) (none_by_did known stream t act);
   heads = heads_stay known stream t (Did act) (none_by_did known stream t act);
-  there = there act;
-  back = back act other;
+  there = there act none;
+  back = back act other none;
   head = λ o g. ap is_to_head (items_stay known stream t (Did act) refl);
   heard = λ o g. refl;
   ended = λ o g. refl;
 }
   where
-    there : (act : Act) (o : Opened) → IsGiven t stream o → IsGiven (Did act ∷ t) stream o
-    there (Open k route) o g = record { is_opened = inr g.is_opened; is_given = g.is_given }
-    there (ToUp k octets) o g = record { is_opened = g.is_opened; is_given = g.is_given }
-    there (Close k) o g = record { is_opened = g.is_opened; is_given = g.is_given }
-    there CloseClient o g = record { is_opened = g.is_opened; is_given = g.is_given }
+    there : (act : Act) → BeginsNone t act → (o : Opened) → IsGiven t stream o → IsGiven (Did act ∷ t) stream o
+    there (Open k route) none o g = record { is_opened = inr g.is_opened; is_given = g.is_given }
+    there (ToUp k octets) none o g = record { is_opened = subst (IsIn o) (sym none) g.is_opened; is_given = g.is_given }
+    there (Close k) none o g = record { is_opened = g.is_opened; is_given = g.is_given }
+    there CloseClient none o g = record { is_opened = g.is_opened; is_given = g.is_given }
 
-    back : (act : Act) → (OpensFor t act stream → ⊥) → (o : Opened) → IsGiven (Did act ∷ t) stream o → IsGiven t stream o
-    back (Open k route) other o g = elim g.is_opened [
+    back : (act : Act) → (OpensFor t act stream → ⊥) → BeginsNone t act → (o : Opened) → IsGiven (Did act ∷ t) stream o → IsGiven t stream o
+    back (Open k route) other none o g = elim g.is_opened [
       | inl new ↦ absurd (other (sym (ap (λ (x : Opened). x.stream) new) ∙ g.is_given))
       | inr old ↦ record { is_opened = old; is_given = g.is_given }
     ]
-    back (ToUp k octets) other o g = record { is_opened = g.is_opened; is_given = g.is_given }
-    back (Close k) other o g = record { is_opened = g.is_opened; is_given = g.is_given }
-    back CloseClient other o g = record { is_opened = g.is_opened; is_given = g.is_given }
+    back (ToUp k octets) other none o g = record { is_opened = subst (IsIn o) none g.is_opened; is_given = g.is_given }
+    back (Close k) other none o g = record { is_opened = g.is_opened; is_given = g.is_given }
+    back CloseClient other none o g = record { is_opened = g.is_opened; is_given = g.is_given }
 
 -- a frame of the client that is no cause for the stream
-pub came_quiet : (known : Known) (t : List Entry) (noted : Noted) (stream : ℕ) → (course known stream t).cause ≡ (course known stream (Came noted ∷ t)).cause → (course known stream t).head_out ≡ (course known stream (Came noted ∷ t)).head_out → (course known stream t).heads_out ≡ (course known stream (Came noted ∷ t)).heads_out → ((o : Opened) → IsIn o (opens t) → items known o.stream t ≡ [] → ⊥) → SameOffer known t (Came noted ∷ t) stream
+pub came_quiet : (known : Known) (t : List Entry) (noted : Noted) (stream : ℕ) → (course known stream t).cause ≡ (course known stream (Came noted ∷ t)).cause → (course known stream t).head_out ≡ (course known stream (Came noted ∷ t)).head_out → (course known stream t).heads_out ≡ (course known stream (Came noted ∷ t)).heads_out → ((o : Opened) → IsIn o (exchanges t) → items known o.stream t ≡ [] → ⊥) → SameOffer known t (Came noted ∷ t) stream
 came_quiet known t noted stream cause out heads begun = record {
   cause = cause;
   out = out;
@@ -198,21 +203,21 @@ none_by_other known stream t noted other =
 abbrev pub IsElsewhere : List Entry → Event → ℕ → Type 0
 IsElsewhere t event stream = (o : Opened) → IsGiven t stream o → o.k ≡ upstream_of event → ⊥
 
-pub heard_same : (t : List Entry) (event : Event) (k : ℕ) → (k ≡ upstream_of event → ⊥) → heard k t ≡ heard k (Happened event ∷ t)
+pub heard_same : (t : List Entry) (event : Event) (o : Opened) → (o.k ≡ upstream_of event → ⊥) → heard_by o t ≡ heard_by o (Happened event ∷ t)
 heard_same t (Client piece) k other = refl
 heard_same t ClientEnd k other = refl
 heard_same t (ClientTook count) k other = refl
-heard_same t (Up j piece) k other = sym (ap (λ b. if b then heard k t ++ piece else heard k t) (ne_eqb k j other))
+heard_same t (Up j piece) k other = sym (ap (λ b. if b && k.stream == given j (exchanges t) then heard_by k t ++ piece else heard_by k t) (ne_eqb k.k j other))
 heard_same t (UpEnd j) k other = refl
 heard_same t (UpFailed j) k other = refl
 heard_same t (UpTook j count) k other = refl
 
-pub ended_same : (t : List Entry) (event : Event) (k : ℕ) → (k ≡ upstream_of event → ⊥) → has_ended k t ≡ has_ended k (Happened event ∷ t)
+pub ended_same : (t : List Entry) (event : Event) (o : Opened) → (o.k ≡ upstream_of event → ⊥) → ended_by o t ≡ ended_by o (Happened event ∷ t)
 ended_same t (Client piece) k other = refl
 ended_same t ClientEnd k other = refl
 ended_same t (ClientTook count) k other = refl
 ended_same t (Up j piece) k other = refl
-ended_same t (UpEnd j) k other = sym (ap (λ b. if b then true else has_ended k t) (ne_eqb k j other))
+ended_same t (UpEnd j) k other = sym (ap (λ b. if b && k.stream == given j (exchanges t) then true else ended_by k t) (ne_eqb k.k j other))
 ended_same t (UpFailed j) k other = refl
 ended_same t (UpTook j count) k other = refl
 
@@ -224,14 +229,14 @@ event_quiet known t event stream none other = record {
   there = λ o g. record { is_opened = g.is_opened; is_given = g.is_given };
   back = λ o g. record { is_opened = g.is_opened; is_given = g.is_given };
   head = λ o g. ap is_to_head (items_stay known stream t (Happened event) refl);
-  heard = λ o g. heard_same t event o.k (other o g);
-  ended = λ o g. ended_same t event o.k (other o g);
+  heard = λ o g. heard_same t event o (other o g);
+  ended = λ o g. ended_same t event o (other o g);
 }
 
 -- the event is of no connection
-pub none_of_nobody : (known : Known) (stream : ℕ) (t : List Entry) (event : Event) → AreNumbered (opens t) → upstream_of event ≡ 0 → cause_of known stream t (Happened event) ≡ None
+pub none_of_nobody : (known : Known) (stream : ℕ) (t : List Entry) (event : Event) → AreNumbered (exchanges t) → upstream_of event ≡ 0 → cause_of known stream t (Happened event) ≡ None
 none_of_nobody known stream t event numbered nobody =
-    let about_is : about t (Happened event) ≡ 0 = ap (λ n. given n (opens t)) nobody ∙ given_zero (opens t) numbered in
+    let about_is : about t (Happened event) ≡ 0 = ap (λ n. given n (exchanges t)) nobody ∙ given_zero (exchanges t) numbered in
     ap (λ n. if n == stream && nat_lt 0 stream then cause_if (fails_behind known t) BadAnswer else None) about_is ∙ nobodys stream (cause_if (fails_behind known t) BadAnswer)
   where
     nobodys : (stream : ℕ) (c : Option Cause) → (if 0 == stream && nat_lt 0 stream then c else None) ≡ None
@@ -244,8 +249,8 @@ none_unless_fails known stream t event holds =
     ap (λ b. if about t (Happened event) == stream && nat_lt 0 stream then cause_if b BadAnswer else None) holds ∙ no_cause_if (about t (Happened event) == stream && nat_lt 0 stream)
 
 -- the event is of another stream's connection
-pub none_elsewhere : (known : Known) (stream : ℕ) (t : List Entry) (event : Event) (o : Opened) → AreNumbered (opens t) → IsIn o (opens t) → o.k ≡ upstream_of event → (o.stream ≡ stream → ⊥) → cause_of known stream t (Happened event) ≡ None
+pub none_elsewhere : (known : Known) (stream : ℕ) (t : List Entry) (event : Event) (o : Opened) → AreNumbered (exchanges t) → IsIn o (exchanges t) → o.k ≡ upstream_of event → (o.stream ≡ stream → ⊥) → cause_of known stream t (Happened event) ≡ None
 none_elsewhere known stream t event o numbered is_in k other =
-    let about_is : about t (Happened event) ≡ o.stream = ap (λ n. given n (opens t)) (sym k) ∙ given_is (opens t) o numbered is_in in
+    let about_is : about t (Happened event) ≡ o.stream = ap (λ n. given n (exchanges t)) (sym k) ∙ given_is (exchanges t) o numbered is_in in
     ap (λ n. if n == stream && nat_lt 0 stream then cause_if (fails_behind known t) BadAnswer else None) about_is
     ∙ ap (λ b. if b && nat_lt 0 stream then cause_if (fails_behind known t) BadAnswer else None) (ne_eqb o.stream stream other)

@@ -15,7 +15,7 @@ use Rattle.model.specs.ResponseHeads.{Head}
 use Rattle.model.specs.Lifetimes.{active}
 use Rattle.model.specs.WindowsOnTape.{is_on, data_octets}
 use Rattle.model.specs.Tapes.Note.{NoBlock, Fields}
-use Rattle.model.specs.Openings.{opens, AreNumbered, AreApart}
+use Rattle.model.specs.Openings.{exchanges, AreNumbered, AreApart}
 use Rattle.model.specs.Available.{items_on, IsIn}
 use Rattle.model.specs.Known.{Known}
 use Rattle.model.specs.Causes.{reply_head}
@@ -57,7 +57,7 @@ two_ready = refl
 -- one route, for another authority
 abbrev pub elsewhere : Known
 elsewhere = record {
-  setup = record { routes = record { authority = codes "a.example"; path = codes "/" } ∷ []; policy = Plain; passing = Whole; max_body = 1048576; max_response = 1048576 };
+  setup = record { routes = record { authority = codes "a.example"; path = codes "/" } ∷ []; policy = Plain; passing = Whole; max_body = 1048576; max_response = 1048576; keep = false };
   failures = [];
 }
 
@@ -101,8 +101,8 @@ reply_noted = record { frame = frame 1 5 1 []; note = Fields not_found }
 abbrev pub answered : List Move
 answered = Goes reply_noted (Block not_found true) (Final (reply_head NoRoute) true) true ∷ asked
 
-no_neighbours : (t : List Entry) → opens t ≡ [] → Neighbours elsewhere t
-no_neighbours t e = record { numbered = subst AreNumbered (sym e) tt; apart = subst AreApart (sym e) tt; begun = λ o i. absurd (subst (IsIn o) e i) }
+no_neighbours : (t : List Entry) → exchanges t ≡ [] → Neighbours elsewhere t
+no_neighbours t e = record { off = refl; numbered = subst AreNumbered (sym e) tt; apart = subst AreApart (sym e) tt; begun = λ o i. absurd (subst (IsIn o) e i) }
 
 -- each of the first three moves is allowed
 greeted_allowed : AreAllowed elsewhere greeted

@@ -1,6 +1,6 @@
 -- What each outbox holds of octets is bounded: heads by what a response may have of them, bodies by their limit or by the room of
 -- upstreams.
-use Rattle.std.proofs.Common.{◌≡◌, ℕ, ◌+◌, ◌-◌, ◌*◌, ◌≤◌, Bool, true, false, ◌==◌, List, [], ◌∷◌, ◌++◌, length, drop, length-append, length-drop, refl, sym, ap, ◌∙◌, subst, inl, inr, arith, if◌then◌else◌}
+use Rattle.std.proofs.Common.{◌≡◌, ℕ, ◌+◌, ◌-◌, ◌*◌, ◌≤◌, Bool, true, false, ◌==◌, List, [], ◌∷◌, ◌++◌, length, drop, length-append, length-drop, refl, sym, ap, ◌∙◌, subst, inl, inr, arith, if◌then◌else◌, ◌&&◌}
 use Rattle.std.specs.Prelude.{Option, Some, None, is_some, All, sum_by}
 use Rattle.std.proofs.lemmas.List.{append-nil, length-map, length-reverse}
 use Rattle.std.proofs.lemmas.List.Elements.{All-cons, All-nil, All-head, All-tail, All-push}
@@ -14,12 +14,14 @@ use Rattle.model.specs.Setup.{Setup, Passing}
 use Rattle.model.specs.Setup.Passing.{Whole, Streaming}
 use Rattle.model.specs.Tapes.{Entry, sent}
 use Rattle.model.specs.Tapes.Entry.{Came, Breached, Happened, Sent, Did}
-use Rattle.model.specs.Openings.{Opened, opens, given, exchange_on}
+use Rattle.model.specs.Openings.{Opened, exchanges, given, exchange_on}
 use Rattle.model.specs.Deliveries.{End, Delivery, ReadsAs}
-use Rattle.model.specs.Available.{heard, has_ended, items_on, shown, IsShown}
+use Rattle.model.specs.Available.{heard_by, ended_by, items_on, shown, IsShown}
 use Rattle.model.specs.Admission.{room, is_open}
 use Rattle.model.specs.WindowsOnTape.{is_on, data_octets}
 use Rattle.model.specs.Rooms.{HasRoomBeside, IsRoom, FitsRoom}
+use Rattle.model.proofs.ExchangeLaws.{no_idle, newest_in}
+use Rattle.model.proofs.DeliveryReadings.{one_number}
 use Rattle.model.specs.Known.{Known}
 use Rattle.model.specs.Causes.{Cause}
 use Rattle.model.specs.Causes.Cause.{BadAnswer}
@@ -125,9 +127,9 @@ pub record Heard (known : Known) (t : List Entry) (event : Event) (stream : ℕ)
   pub given : IsGiven t stream o
   pub number : o.k ≡ upstream_of event
   pub no_cause : (course known stream (Happened event ∷ t)).cause ≡ None
-  pub before : IsShown known.setup.passing (heard o.k t) (has_ended o.k t) (is_to_head (items known stream t)) (offered_by read box)
+  pub before : IsShown known.setup.passing (heard_by o t) (ended_by o t) (is_to_head (items known stream t)) (offered_by read box)
   pub not_whole : (offered_by read box).ends ≡ None
-  pub behind : IsShown known.setup.passing (heard o.k (Happened event ∷ t)) (has_ended o.k (Happened event ∷ t)) (is_to_head (items known stream t)) (offered_by read (grown box news))
+  pub behind : IsShown known.setup.passing (heard_by o (Happened event ∷ t)) (ended_by o (Happened event ∷ t)) (is_to_head (items known stream t)) (offered_by read (grown box news))
 
 module _ (known : Known) (t : List Entry) (event : Event) (stream : ℕ) (news : Delivery) (n : Neighbours known t) (may : MayHear known t event stream news) where
   -- what stands there is shown of the connection's answer
@@ -135,9 +137,9 @@ module _ (known : Known) (t : List Entry) (event : Event) (stream : ℕ) (news :
   heard_of box h = elim h.offer [
     | inl (inl r) ↦ absurd (let clash : ◌≡◌ {A = Option Cause} None (Some r.cause) = sym may.of.no_cause ∙ r.has_cause in cc)
     | inl (inr q) ↦ (
-        let same : q.o ≡ may.of.o = one_connection (opens t) q.o may.of.o n.apart q.given.is_opened may.of.given.is_opened (q.given.is_given ∙ sym may.of.given.is_given) in
-        let before : IsShown known.setup.passing (heard may.of.o.k t) (has_ended may.of.o.k t) (is_to_head (items known stream t)) (offered_by h.read box) =
-        subst (λ (x : Opened). IsShown known.setup.passing (heard x.k t) (has_ended x.k t) (is_to_head (items known stream t)) (offered_by h.read box)) same q.shows in
+        let same : q.o ≡ may.of.o = one_connection (exchanges t) q.o may.of.o n.apart q.given.is_opened may.of.given.is_opened (q.given.is_given ∙ sym may.of.given.is_given) in
+        let before : IsShown known.setup.passing (heard_by may.of.o t) (ended_by may.of.o t) (is_to_head (items known stream t)) (offered_by h.read box) =
+        subst (λ (x : Opened). IsShown known.setup.passing (heard_by x t) (ended_by x t) (is_to_head (items known stream t)) (offered_by h.read box)) same q.shows in
         let not_whole = may.tells.not_whole (offered_by h.read box) before in
         record {
           read = h.read;
@@ -149,7 +151,7 @@ module _ (known : Known) (t : List Entry) (event : Event) (stream : ℕ) (news :
           no_cause = sym (cause_stays known stream t (Happened event) (none_unless_fails known stream t event may.sound)) ∙ may.of.no_cause;
           before = before;
           not_whole = not_whole;
-          behind = subst (IsShown known.setup.passing (heard may.of.o.k (Happened event ∷ t)) (has_ended may.of.o.k (Happened event ∷ t)) (is_to_head (items known stream t)))
+          behind = subst (IsShown known.setup.passing (heard_by may.of.o (Happened event ∷ t)) (ended_by may.of.o (Happened event ∷ t)) (is_to_head (items known stream t)))
               (news_join h.read box news h.fits not_whole (may.tells.none_late (offered_by h.read box) before)) (may.tells.shows (offered_by h.read box) before);
         })
     | inr none ↦ absurd (none.no_connection may.of.o may.of.given)
@@ -276,10 +278,10 @@ whole_shown known text ended to_head most d whole seen (inr b) =
 whole_news : (known : Known) (t : List Entry) (event : Event) (stream : ℕ) (news : Delivery) (box : Outbox) → known.setup.passing ≡ Whole → NoneTooLong known (Happened event ∷ t) → Heard known t event stream news box → IsWithin known.setup.max_response (grown box news)
 whole_news known t event stream news box whole short h =
     let stream_is : h.o.stream ≡ stream = h.given.is_given in
-    let kept = whole_shown known (heard h.o.k (Happened event ∷ t)) (has_ended h.o.k (Happened event ∷ t)) (is_to_head (items known stream t)) known.setup.max_response (offered_by h.read (grown box news)) whole
+    let kept = whole_shown known (heard_by h.o (Happened event ∷ t)) (ended_by h.o (Happened event ∷ t)) (is_to_head (items known stream t)) known.setup.max_response (offered_by h.read (grown box news)) whole
     (λ interims head octets seen. seen_kept known (Happened event ∷ t) h.o interims head octets short whole h.given.is_opened
     (ap (λ id. (course known id (Happened event ∷ t)).cause) stream_is ∙ h.no_cause)
-    (subst (λ b. Seen (heard h.o.k (Happened event ∷ t)) b interims head octets) (ap is_to_head (items_stay known stream t (Happened event) refl) ∙ ap (λ id. is_to_head (items known id (Happened event ∷ t))) (sym stream_is)) seen)) h.behind in
+    (subst (λ b. Seen (heard_by h.o (Happened event ∷ t)) b interims head octets) (ap is_to_head (items_stay known stream t (Happened event) refl) ∙ ap (λ id. is_to_head (items known id (Happened event ∷ t))) (sym stream_is)) seen)) h.behind in
     let within = within_offered h.read (grown box news) in
     omega (arith, kept, within)
 
@@ -290,14 +292,14 @@ abbrev pub piece_of : Event → List ℕ
 piece_of (Up k piece) = piece
 piece_of _ = []
 
-heard_more : (t : List Entry) (event : Event) (k : ℕ) → k ≡ upstream_of event → heard k (Happened event ∷ t) ≡ heard k t ++ piece_of event
-heard_more t (Up j piece) k same = ap (λ b. if b then heard k t ++ piece else heard k t) (eq-eqb k j same)
-heard_more t (Client piece) k same = sym (append-nil (heard k t))
-heard_more t ClientEnd k same = sym (append-nil (heard k t))
-heard_more t (ClientTook count) k same = sym (append-nil (heard k t))
-heard_more t (UpEnd j) k same = sym (append-nil (heard k t))
-heard_more t (UpFailed j) k same = sym (append-nil (heard k t))
-heard_more t (UpTook j count) k same = sym (append-nil (heard k t))
+heard_more : (t : List Entry) (event : Event) (o : Opened) → o.k ≡ upstream_of event → given (upstream_of event) (exchanges t) ≡ o.stream → heard_by o (Happened event ∷ t) ≡ heard_by o t ++ piece_of event
+heard_more t (Up j piece) k same its = ap (λ b. if b && k.stream == given j (exchanges t) then heard_by k t ++ piece else heard_by k t) (eq-eqb k.k j same) ∙ ap (λ b. if b then heard_by k t ++ piece else heard_by k t) (eq-eqb k.stream (given j (exchanges t)) (sym its))
+heard_more t (Client piece) k same its = sym (append-nil (heard_by k t))
+heard_more t ClientEnd k same its = sym (append-nil (heard_by k t))
+heard_more t (ClientTook count) k same its = sym (append-nil (heard_by k t))
+heard_more t (UpEnd j) k same its = sym (append-nil (heard_by k t))
+heard_more t (UpFailed j) k same its = sym (append-nil (heard_by k t))
+heard_more t (UpTook j count) k same its = sym (append-nil (heard_by k t))
 
 -- What is shown of an answer that is passed on as it comes is seen in its text.
 pub record IsSeen (text : List ℕ) (to_head : Bool) (octets : List ℕ) : Type 0 where
@@ -327,11 +329,11 @@ module _ (known : Known) (t : List Entry) (event : Event) (stream : ℕ) (news :
   abbrev to_head : Bool
   to_head = is_to_head (items known stream t)
 
-  seen_before : IsSeen (heard h.o.k t) to_head (offered_by h.read box).body
-  seen_before = shown_seen known.setup.passing (heard h.o.k t) (has_ended h.o.k t) to_head (offered_by h.read box) streaming h.before
+  seen_before : IsSeen (heard_by h.o t) to_head (offered_by h.read box).body
+  seen_before = shown_seen known.setup.passing (heard_by h.o t) (ended_by h.o t) to_head (offered_by h.read box) streaming h.before
 
-  seen_behind : IsSeen (heard h.o.k (Happened event ∷ t)) to_head (offered_by h.read (grown box news)).body
-  seen_behind = shown_seen known.setup.passing (heard h.o.k (Happened event ∷ t)) (has_ended h.o.k (Happened event ∷ t)) to_head (offered_by h.read (grown box news)) streaming h.behind
+  seen_behind : IsSeen (heard_by h.o (Happened event ∷ t)) to_head (offered_by h.read (grown box news)).body
+  seen_behind = shown_seen known.setup.passing (heard_by h.o (Happened event ∷ t)) (ended_by h.o (Happened event ∷ t)) to_head (offered_by h.read (grown box news)) streaming h.behind
 
   fits_behind : Fits h.read (grown box news)
   fits_behind = fits_grown h.read box news h.fits
@@ -339,8 +341,8 @@ module _ (known : Known) (t : List Entry) (event : Event) (stream : ℕ) (news :
   -- no more waits than waited and came
   waits_more : length (body_waiting (grown box news)) ≤ length (body_waiting box) + length (piece_of event)
   waits_more =
-      let grows = seen_grows (heard h.o.k t) (piece_of event) to_head seen_before.interims seen_behind.interims seen_before.head seen_behind.head (offered_by h.read box).body (offered_by h.read (grown box news)).body seen_before.seen
-      (subst (λ text. Seen text to_head seen_behind.interims seen_behind.head (offered_by h.read (grown box news)).body) (heard_more t event h.o.k h.number) seen_behind.seen) in
+      let grows = seen_grows (heard_by h.o t) (piece_of event) to_head seen_before.interims seen_behind.interims seen_before.head seen_behind.head (offered_by h.read box).body (offered_by h.read (grown box news)).body seen_before.seen
+      (subst (λ text. Seen text to_head seen_behind.interims seen_behind.head (offered_by h.read (grown box news)).body) (heard_more t event h.o h.number (ap (λ j. given j (exchanges t)) (sym h.number) ∙ given_is (exchanges t) h.o n.numbered h.given.is_opened)) seen_behind.seen) in
       let old = offered_size (items_on stream (sent t)) h.read box h.reads h.fits in
       let new = offered_size (items_on stream (sent t)) h.read (grown box news) h.reads fits_behind in
       omega (arith, grows, old, new)
@@ -348,20 +350,20 @@ module _ (known : Known) (t : List Entry) (event : Event) (stream : ℕ) (news :
   -- what came fits beside what waited
   room_left : (k : ℕ) (piece : List ℕ) → h.o.k ≡ k → AreUnpadded t → FitsRoom known t (Up k piece) → length piece ≤ most_streamed - length (body_waiting box)
   room_left k piece same bare fits =
-      let stream_is : given k (opens t) ≡ stream = ap (λ j. given j (opens t)) (sym same) ∙ given_is (opens t) h.o n.numbered h.given.is_opened ∙ h.given.is_given in
+      let stream_is : given k (exchanges t) ≡ stream = ap (λ j. given j (exchanges t)) (sym same) ∙ given_is (exchanges t) h.o n.numbered h.given.is_opened ∙ h.given.is_given in
       let octets = (offered_by h.read box).body in
-      let beside : HasRoomBeside known (exchange_on k t) t (room k t - (length octets - data_octets (is_on (given k (opens t))) (sent t))) = record {
+      let beside : HasRoomBeside known (exchange_on k t) t (room k t - (length octets - data_octets (is_on (given k (exchanges t))) (sent t))) = record {
         interims = seen_before.interims;
         head = seen_before.head;
         octets = octets;
-        seen = subst (λ j. Seen (heard j t) (is_to_head (items known (given k (opens t)) t)) seen_before.interims seen_before.head octets) same
-            (subst (λ id. Seen (heard h.o.k t) (is_to_head (items known id t)) seen_before.interims seen_before.head octets) (sym stream_is) seen_before.seen);
+        seen = subst (λ (o : Opened). Seen (heard_by o t) (is_to_head (items known (given k (exchanges t)) t)) seen_before.interims seen_before.head octets) (one_number (exchanges t) h.o (exchange_on k t) n.numbered h.given.is_opened (newest_in k (exchanges t) h.o h.given.is_opened same) same)
+            (subst (λ id. Seen (heard_by h.o t) (is_to_head (items known id t)) seen_before.interims seen_before.head octets) (sym stream_is) seen_before.seen);
         is = refl;
       } in
-      let fitted : length piece ≤ room k t - (length octets - data_octets (is_on (given k (opens t))) (sent t)) =
-      fits (room k t - (length octets - data_octets (is_on (given k (opens t))) (sent t)))
-      (subst (λ p. IsRoom p known k t (room k t - (length octets - data_octets (is_on (given k (opens t))) (sent t)))) (sym streaming) beside) in
-      let counts : data_octets (is_on (given k (opens t))) (sent t) ≡ data_octets (is_on stream) (sent t) = ap (λ id. data_octets (is_on id) (sent t)) stream_is in
+      let fitted : length piece ≤ room k t - (length octets - data_octets (is_on (given k (exchanges t))) (sent t)) =
+      fits (room k t - (length octets - data_octets (is_on (given k (exchanges t))) (sent t)))
+      (subst (λ p. IsRoom p known k t (room k t - (length octets - data_octets (is_on (given k (exchanges t))) (sent t)))) (sym streaming) (inr (no_idle known t k n.off, beside))) in
+      let counts : data_octets (is_on (given k (exchanges t))) (sent t) ≡ data_octets (is_on stream) (sent t) = ap (λ id. data_octets (is_on id) (sent t)) stream_is in
       let within = data_within stream t bare in
       let size = read_size (items_on stream (sent t)) h.read h.reads in
       let all = offered_size (items_on stream (sent t)) h.read box h.reads h.fits in
@@ -411,7 +413,7 @@ all_few known (x ∷ run) may right told =
     let s = state_of (moves_of run) in
     all_behind FewWait (record { few = omega arith; short = All-nil IsShort; trailers = omega arith }) few_replied few_left s.kept x.move
     (leaves_news known (tape_of run) s (sight_of run) x.sight old.1.neighbours old.1.offering FewWait x.move new.0.2 may.1
-    (λ event stream news box is h p. few_offered h.read (grown box news) (shown_few known.setup.passing (heard h.o.k (Happened event ∷ tape_of run)) (has_ended h.o.k (Happened event ∷ tape_of run)) (is_to_head (items known stream (tape_of run))) (offered_by h.read (grown box news)) h.behind)))
+    (λ event stream news box is h p. few_offered h.read (grown box news) (shown_few known.setup.passing (heard_by h.o (Happened event ∷ tape_of run)) (ended_by h.o (Happened event ∷ tape_of run)) (is_to_head (items known stream (tape_of run))) (offered_by h.read (grown box news)) h.behind)))
     (all_few known run may.0 right.0 told.0)
 
 -- Where responses are passed on whole, no more of a body waits than may be kept.

@@ -1,6 +1,6 @@
 -- Where responses are passed on whole, and failures are judged rightly, no more is heard of a body than is kept, as long as the
 -- gateway doesn't answer its stream.
-use Rattle.std.proofs.Common.{◌≡◌, ℕ, zero, suc, ◌<◌, ◌≤◌, Bool, true, false, List, [], ◌∷◌, length, refl, sym, ap, ◌∙◌, subst, inl, inr, arith}
+use Rattle.std.proofs.Common.{◌≡◌, ℕ, zero, suc, ◌<◌, ◌≤◌, Bool, true, false, List, [], ◌∷◌, length, refl, sym, ap, ◌∙◌, subst, inl, inr, arith, if◌then◌else◌}
 use Rattle.std.specs.Prelude.{Option, Some, None}
 use Rattle.std.proofs.lemmas.Bool.{cases_lt}
 use Rattle.std.proofs.lemmas.Bool.Decides.{eqb_tells}
@@ -12,16 +12,18 @@ use Rattle.model.specs.Logs.Act.{Open, ToUp, Close, CloseClient}
 use Rattle.model.specs.Setup.Passing.{Whole}
 use Rattle.model.specs.Tapes.{Entry}
 use Rattle.model.specs.Tapes.Entry.{Came, Breached, Happened, Sent, Did}
-use Rattle.model.specs.Openings.{Opened, opens, AreNumbered}
-use Rattle.model.specs.Available.{heard, IsIn}
+use Rattle.model.specs.Openings.{Opened, exchanges, AreNumbered, exchange_on, last_stream, route_of, given, begins_another}
+use Rattle.model.proofs.ExchangeLaws.{newest_in}
+use Rattle.model.proofs.DeliveryReadings.{one_number}
+use Rattle.model.specs.Available.{heard_by, IsIn}
 use Rattle.model.specs.Known.{Known, fails_behind}
 use Rattle.model.specs.Causes.{Cause}
 use Rattle.model.specs.Causes.Cause.{BadAnswer}
 use Rattle.model.specs.Courses.{course, items, cause_of, first_of_both}
 use Rattle.model.specs.Offers.{is_to_head}
-use Rattle.model.specs.Failures.{IsTooLong, IsJudged, AreJudged}
+use Rattle.model.specs.Failures.{IsJudged, AreJudged}
+use Rattle.model.specs.Idle.{IsTooLong}
 use Rattle.model.proofs.OpenedLaws.{none_zero}
-use Rattle.model.proofs.GivenLaws.{given_is}
 use Rattle.offering.specs.State.{State, entry_of, state_of}
 use Rattle.offering.specs.Rule.{Seen as Step, moves_of, tape_of, AllMayCome, AreRight, AreTold}
 use Rattle.offering.proofs.Entries.{heard_same, head_stays, items_stay}
@@ -32,7 +34,7 @@ use Rattle.offering.proofs.Allowing.{placed}
 
 -- What was heard of a connection isn't too long, as long as the gateway doesn't answer its stream.
 abbrev pub NoneTooLong : Known → List Entry → Type 0
-NoneTooLong known t = (o : Opened) → IsIn o (opens t) → (course known o.stream t).cause ≡ None → IsTooLong known (heard o.k t) (is_to_head (items known o.stream t)) → ⊥
+NoneTooLong known t = (o : Opened) → IsIn o (exchanges t) → (course known o.stream t).cause ≡ None → IsTooLong known (heard_by o t) (is_to_head (items known o.stream t)) → ⊥
 
 -- without a cause there was none before, and none came
 none_first : (old new : Option Cause) → first_of_both old new ≡ None → (old ≡ None) × (new ≡ None)
@@ -57,14 +59,14 @@ judged_before known t (Did act) j = j
 
 module _ (known : Known) (t : List Entry) (s : State) (p : Placed known t s) (h : NoneTooLong known t) where
   -- a connection of which nothing more is heard
-  still_short : (e : Entry) (o : Opened) → IsIn o (opens t) → heard o.k t ≡ heard o.k (e ∷ t) → (course known o.stream (e ∷ t)).cause ≡ None → IsTooLong known (heard o.k (e ∷ t)) (is_to_head (items known o.stream (e ∷ t))) → ⊥
+  still_short : (e : Entry) (o : Opened) → IsIn o (exchanges t) → heard_by o t ≡ heard_by o (e ∷ t) → (course known o.stream (e ∷ t)).cause ≡ None → IsTooLong known (heard_by o (e ∷ t)) (is_to_head (items known o.stream (e ∷ t))) → ⊥
   still_short e o there same none long =
       h o there (none_first (course known o.stream t).cause (cause_of known o.stream t e) none).0
-      (subst (λ b. IsTooLong known (heard o.k t) b) (sym (head_stays known o.stream t e (p.neighbours.begun o there)))
+      (subst (λ b. IsTooLong known (heard_by o t) b) (sym (head_stays known o.stream t e (p.neighbours.begun o there)))
       (subst (λ text. IsTooLong known text (is_to_head (items known o.stream (e ∷ t)))) (sym same) long))
 
   -- no connection is given to a stream 0
-  counted : (o : Opened) → IsIn o (opens t) → 0 < o.stream
+  counted : (o : Opened) → IsIn o (exchanges t) → 0 < o.stream
   counted o there = by o.stream refl
     where
       by : (n : ℕ) → o.stream ≡ n → 0 < o.stream
@@ -72,8 +74,8 @@ module _ (known : Known) (t : List Entry) (s : State) (p : Placed known t s) (h 
       by (suc n) e = omega (arith, e)
 
   -- octets come of the connection
-  more_short : (o : Opened) (piece : List ℕ) → IsIn o (opens t) → IsJudged known t (Up o.k piece) (fails_behind known t) → (course known o.stream (Happened (Up o.k piece) ∷ t)).cause ≡ None
-      → IsTooLong known (heard o.k (Happened (Up o.k piece) ∷ t)) (is_to_head (items known o.stream (Happened (Up o.k piece) ∷ t))) → ⊥
+  more_short : (o : Opened) (piece : List ℕ) → IsIn o (exchanges t) → IsJudged known t (Up o.k piece) (fails_behind known t) → (course known o.stream (Happened (Up o.k piece) ∷ t)).cause ≡ None
+      → IsTooLong known (heard_by o (Happened (Up o.k piece) ∷ t)) (is_to_head (items known o.stream (Happened (Up o.k piece) ∷ t))) → ⊥
   more_short o piece there judged none long = by (fails_behind known t) refl judged
     where
       event : Event
@@ -82,20 +84,23 @@ module _ (known : Known) (t : List Entry) (s : State) (p : Placed known t s) (h 
       before : ((course known o.stream t).cause ≡ None) × (cause_of known o.stream t (Happened event) ≡ None)
       before = none_first (course known o.stream t).cause (cause_of known o.stream t (Happened event)) none
 
+      newest : exchange_on o.k t ≡ o
+      newest = one_number (exchanges t) (exchange_on o.k t) o p.neighbours.numbered (newest_in o.k (exchanges t) o there refl) there refl
+
       by : (fails : Bool) → fails_behind known t ≡ fails → IsJudged known t event fails → ⊥
       by true fails j =
           let new = caused_by_failure known t event {stream = o.stream} (record { o = o; given = record { is_opened = there; is_given = refl }; number = refl; no_cause = before.0; counted = counted o there }) p.neighbours.numbered fails in
           let clash : ◌≡◌ {A = Option Cause} None (Some BadAnswer) = sym before.1 ∙ new in
           cc
-      by false sound j = j (inr (subst (λ b. IsTooLong known (heard o.k (Happened event ∷ t)) b)
-          (sym (ap is_to_head (items_stay known o.stream t (Happened event) refl)) ∙ ap (λ stream. is_to_head (items known stream t)) (sym (given_is (opens t) o p.neighbours.numbered there))) long))
+      by false sound j = j (inr (subst (λ (x : Opened). IsTooLong known (heard_by x (Happened event ∷ t)) (is_to_head (items known x.stream t))) (sym newest) (subst (λ b. IsTooLong known (heard_by o (Happened event ∷ t)) b)
+          (sym (ap is_to_head (items_stay known o.stream t (Happened event) refl))) long)))
 
   event_short : (event : Event) → IsJudged known t event (fails_behind known t) → NoneTooLong known (Happened event ∷ t)
   event_short (Up k piece) judged o there none long = elim (eqb_tells o.k k) [
     | inl x ↦ more_short o piece there (subst (λ n. IsJudged known t (Up n piece) (fails_behind known t)) (sym x.1) judged)
         (subst (λ n. (course known o.stream (Happened (Up n piece) ∷ t)).cause ≡ None) (sym x.1) none)
-        (subst (λ n. IsTooLong known (heard o.k (Happened (Up n piece) ∷ t)) (is_to_head (items known o.stream (Happened (Up n piece) ∷ t)))) (sym x.1) long)
-    | inr x ↦ still_short (Happened (Up k piece)) o there (heard_same t (Up k piece) o.k x.1) none long
+        (subst (λ n. IsTooLong known (heard_by o (Happened (Up n piece) ∷ t)) (is_to_head (items known o.stream (Happened (Up n piece) ∷ t)))) (sym x.1) long)
+    | inr x ↦ still_short (Happened (Up k piece)) o there (heard_same t (Up k piece) o x.1) none long
   ]
   event_short (Client piece) judged o there none long = still_short (Happened (Client piece)) o there refl none long
   event_short ClientEnd judged o there none long = still_short (Happened ClientEnd) o there refl none long
@@ -104,16 +109,26 @@ module _ (known : Known) (t : List Entry) (s : State) (p : Placed known t s) (h 
   event_short (UpFailed k) judged o there none long = still_short (Happened (UpFailed k)) o there refl none long
   event_short (UpTook k count) judged o there none long = still_short (Happened (UpTook k count)) o there refl none long
 
-  opening_short : (k route : ℕ) → k ≡ suc (length (opens t)) → NoneTooLong known (Did (Open k route) ∷ t)
+  opening_short : (k route : ℕ) → k ≡ suc (length (exchanges t)) → NoneTooLong known (Did (Open k route) ∷ t)
   opening_short k route next o (inl is) none long =
-      nothing_long known (heard o.k t) (is_to_head (items known o.stream (Did (Open k route) ∷ t))) (ap (λ (x : Opened). heard x.k t) is ∙ (p.unheard k (omega (arith, next))).0) long
+      nothing_long known (heard_by o t) (is_to_head (items known o.stream (Did (Open k route) ∷ t))) (ap (λ (x : Opened). heard_by x t) is ∙ (p.unheard k (omega (arith, next)) (record { k = k; route = route; stream = last_stream t }) refl).0) long
   opening_short k route next o (inr there) none long = still_short (Did (Open k route)) o there refl none long
 
+  -- octets are put out, and begin another exchange, of which nothing was heard, or none
+  sending_short : (k : ℕ) (octets : List ℕ) (another : Bool) → AreNumbered (if another then record { k = k; route = route_of k (exchanges t); stream = last_stream t } ∷ exchanges t else exchanges t)
+      → (o : Opened) → IsIn o (if another then record { k = k; route = route_of k (exchanges t); stream = last_stream t } ∷ exchanges t else exchanges t) → (course known o.stream (Did (ToUp k octets) ∷ t)).cause ≡ None
+      → IsTooLong known (heard_by o (Did (ToUp k octets) ∷ t)) (is_to_head (items known o.stream (Did (ToUp k octets) ∷ t))) → ⊥
+  sending_short k octets true numbered o (inl is) none long =
+      let next = numbered.0 in
+      nothing_long known (heard_by o t) (is_to_head (items known o.stream (Did (ToUp k octets) ∷ t))) ((p.unheard k (omega (arith, next)) o (ap (λ (x : Opened). x.k) is)).0) long
+  sending_short k octets true numbered o (inr there) none long = still_short (Did (ToUp k octets)) o there refl none long
+  sending_short k octets false numbered o there none long = still_short (Did (ToUp k octets)) o there refl none long
+
   -- Behind one entry more.
-  next_short : (e : Entry) → AreNumbered (opens (e ∷ t)) → AreJudged known (e ∷ t) → NoneTooLong known (e ∷ t)
+  next_short : (e : Entry) → AreNumbered (exchanges (e ∷ t)) → AreJudged known (e ∷ t) → NoneTooLong known (e ∷ t)
   next_short (Happened event) numbered j = event_short event j.0
   next_short (Did (Open k route)) numbered j = opening_short k route numbered.0
-  next_short (Did (ToUp k octets)) numbered j = λ o there none long. still_short (Did (ToUp k octets)) o there refl none long
+  next_short (Did (ToUp k octets)) numbered j = λ o there none long. sending_short k octets (begins_another (given k (exchanges t)) (last_stream t) octets) numbered o there none long
   next_short (Did (Close k)) numbered j = λ o there none long. still_short (Did (Close k)) o there refl none long
   next_short (Did CloseClient) numbered j = λ o there none long. still_short (Did CloseClient) o there refl none long
   next_short (Came noted) numbered j = λ o there none long. still_short (Came noted) o there refl none long
@@ -129,8 +144,8 @@ none_too_long known (x ∷ run) may right told j =
     next_short known (tape_of run) (state_of (moves_of run)) old.1 (none_too_long known run may.0 right.0 told.0 (judged_before known (tape_of run) (entry_of x.move) j)) (entry_of x.move) new.1.neighbours.numbered j
 
 -- Then what is seen of its body is no more than is kept.
-pub seen_kept : (known : Known) (t : List Entry) (o : Opened) (interims : List Head) (head : Option Head) (octets : List ℕ) → NoneTooLong known t → known.setup.passing ≡ Whole → IsIn o (opens t) → (course known o.stream t).cause ≡ None
-    → Seen (heard o.k t) (is_to_head (items known o.stream t)) interims head octets → length octets ≤ known.setup.max_response
+pub seen_kept : (known : Known) (t : List Entry) (o : Opened) (interims : List Head) (head : Option Head) (octets : List ℕ) → NoneTooLong known t → known.setup.passing ≡ Whole → IsIn o (exchanges t) → (course known o.stream t).cause ≡ None
+    → Seen (heard_by o t) (is_to_head (items known o.stream t)) interims head octets → length octets ≤ known.setup.max_response
 seen_kept known t o interims head octets h whole there none seen = elim (cases_lt known.setup.max_response (length octets)) [
   | inl over ↦ absurd (h o there none (record { whole = whole; interims = interims; head = head; octets = octets; seen = seen; over = over }))
   | inr within ↦ within

@@ -1,5 +1,5 @@
 -- Each move that is allowed keeps the invariant of the outboxes: those that change a stream's outbox.
-use Rattle.std.proofs.Common.{◌≡◌, ℕ, Bool, true, not, ◌&&◌, List, [], ◌∷◌, refl, sym, ap, ◌∙◌, subst, inl, inr, if◌then◌else◌}
+use Rattle.std.proofs.Common.{◌≡◌, ℕ, Bool, true, not, ◌&&◌, List, [], ◌∷◌, refl, sym, ap, ◌∙◌, subst, inl, inr, if◌then◌else◌, false}
 use Rattle.std.specs.Prelude.{Some, None, is_some, nat_lt}
 use Rattle.std.proofs.lemmas.Bool.{eq-eqb, not-true, lt-ltb}
 use Rattle.std.proofs.lemmas.Bool.Decides.{eqb_tells}
@@ -8,7 +8,7 @@ use Rattle.model.specs.Logs.{Event, Act}
 use Rattle.model.specs.Logs.Act.{Open, ToUp, Close, CloseClient}
 use Rattle.model.specs.Tapes.{Noted, Entry}
 use Rattle.model.specs.Tapes.Entry.{Happened, Sent, Did}
-use Rattle.model.specs.Openings.{Opened, opens, given, last_stream, AreNumbered}
+use Rattle.model.specs.Openings.{Opened, exchanges, given, last_stream, AreNumbered, route_of, begins_another}
 use Rattle.model.specs.Known.{Known, fails_behind}
 use Rattle.model.specs.Causes.{cause_if}
 use Rattle.model.specs.Causes.Cause.{BadAnswer}
@@ -51,7 +51,7 @@ module _ (known : Known) (t : List Entry) (event : Event) (stream : ℕ) (n : Ne
   -- the event is of no other stream's connection
   elsewhere : (other : ℕ) → (stream ≡ other → ⊥) → IsElsewhere t event other
   elsewhere other apart o g k =
-      let same : o ≡ of.o = one_number (opens t) o of.o n.numbered g.is_opened of.given.is_opened (k ∙ sym of.number) in
+      let same : o ≡ of.o = one_number (exchanges t) o of.o n.numbered g.is_opened of.given.is_opened (k ∙ sym of.number) in
       apart (sym of.given.is_given ∙ sym (ap (λ (x : Opened). x.stream) same) ∙ g.is_given)
 
   others_quiet : (other : ℕ) → (stream ≡ other → ⊥) → SameOffer known t (Happened event ∷ t) other
@@ -80,9 +80,9 @@ hears_keep known t s event stream news n h may =
     })
 
 -- a failure is the cause for the stream of its connection
-pub caused_by_failure : (known : Known) (t : List Entry) (event : Event) {stream : ℕ} (of : IsOf known t event stream) → AreNumbered (opens t) → fails_behind known t ≡ true → cause_of known stream t (Happened event) ≡ Some BadAnswer
+pub caused_by_failure : (known : Known) (t : List Entry) (event : Event) {stream : ℕ} (of : IsOf known t event stream) → AreNumbered (exchanges t) → fails_behind known t ≡ true → cause_of known stream t (Happened event) ≡ Some BadAnswer
 caused_by_failure known t event {stream} of numbered fails =
-    let about_is : about t (Happened event) ≡ stream = ap (λ j. given j (opens t)) (sym of.number) ∙ given_is (opens t) of.o numbered of.given.is_opened ∙ of.given.is_given in
+    let about_is : about t (Happened event) ≡ stream = ap (λ j. given j (exchanges t)) (sym of.number) ∙ given_is (exchanges t) of.o numbered of.given.is_opened ∙ of.given.is_given in
     ap (λ b. if b && nat_lt 0 stream then cause_if (fails_behind known t) BadAnswer else None) (eq-eqb (about t (Happened event)) stream about_is)
     ∙ ap (λ b. if b then cause_if (fails_behind known t) BadAnswer else None) (lt-ltb 0 stream of.counted) ∙ ap (λ b. cause_if b BadAnswer) fails
 
@@ -140,7 +140,7 @@ opens_keep known t s k route h may = record {
   lives = h.lives;
   kept = λ stream a. elim (eqb_tells (last_stream t) stream) [
     | inl x ↦ subst (λ n. IsKeptIf known u n (find n s.kept)) x.1 (kept_still known t u (last_stream t) (find (last_stream t) s.kept) here (subst (λ n. IsKeptIf known t n (find n s.kept)) (sym x.1) (h.kept stream a)))
-    | inr x ↦ kept_same known t (Did (Open k route)) stream (find stream s.kept) (act_quiet known t (Open k route) stream x.1) refl (h.kept stream a)
+    | inr x ↦ kept_same known t (Did (Open k route)) stream (find stream s.kept) (act_quiet known t (Open k route) stream x.1 tt) refl (h.kept stream a)
   ];
   keeps = h.keeps;
   delivered = λ stream. delivered_same known (Did (Open k route)) t stream refl (h.delivered stream);
@@ -153,12 +153,16 @@ opens_keep known t s k route h may = record {
     here r old = record {
       named = old.named;
       stands = λ c. stands_given known t u (last_stream t) (record { k = k; route = route; stream = last_stream t }) r.box refl (sym (cause_stays known (last_stream t) t (Did (Open k route)) (none_by_did known (last_stream t) t (Open k route))) ∙ may.no_cause)
-          (record { is_opened = inl refl; is_given = refl }) may.unheard may.not_ended may.none_before may.no_cause (old.stands c);
+          (record { is_opened = inl refl; is_given = refl }) (may.unheard (record { k = k; route = route; stream = last_stream t }) refl) (may.not_ended (record { k = k; route = route; stream = last_stream t }) refl) may.none_before may.no_cause (old.stands c);
       uncut = λ free. old.uncut may.no_cause;
     }
 
+-- octets that begin no other exchange
+pub sent_exchanges : (k : ℕ) (octets : List ℕ) (t : List Entry) → begins_another (given k (exchanges t)) (last_stream t) octets ≡ false → exchanges (Did (ToUp k octets) ∷ t) ≡ exchanges t
+sent_exchanges k octets t none = ap (λ b. if b then record { k = k; route = route_of k (exchanges t); stream = last_stream t } ∷ exchanges t else exchanges t) none
+
 pub acts_keep : (known : Known) (t : List Entry) (s : State) (act : Act) → Offering known t s → MayDo known t act → Offering known (Did act ∷ t) (after s (Acts act))
 acts_keep known t s (Open k route) h may = opens_keep known t s k route h may
-acts_keep known t s (ToUp k octets) h may = offering_quiet known t (Did (ToUp k octets)) s s h (λ stream. refl) (λ stream. act_quiet known t (ToUp k octets) stream (λ x. x)) (λ stream. refl) refl h.keeps
-acts_keep known t s (Close k) h may = offering_quiet known t (Did (Close k)) s s h (λ stream. refl) (λ stream. act_quiet known t (Close k) stream (λ x. x)) (λ stream. refl) refl h.keeps
-acts_keep known t s CloseClient h may = offering_quiet known t (Did CloseClient) s s h (λ stream. refl) (λ stream. act_quiet known t CloseClient stream (λ x. x)) (λ stream. refl) refl h.keeps
+acts_keep known t s (ToUp k octets) h may = offering_quiet known t (Did (ToUp k octets)) s s h (λ stream. refl) (λ stream. act_quiet known t (ToUp k octets) stream (λ x. x) (sent_exchanges k octets t may)) (λ stream. refl) refl h.keeps
+acts_keep known t s (Close k) h may = offering_quiet known t (Did (Close k)) s s h (λ stream. refl) (λ stream. act_quiet known t (Close k) stream (λ x. x) tt) (λ stream. refl) refl h.keeps
+acts_keep known t s CloseClient h may = offering_quiet known t (Did CloseClient) s s h (λ stream. refl) (λ stream. act_quiet known t CloseClient stream (λ x. x) tt) (λ stream. refl) refl h.keeps

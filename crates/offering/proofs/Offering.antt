@@ -9,7 +9,7 @@ use Rattle.model.specs.Logs.{Event}
 use Rattle.model.specs.Tapes.{Noted, Breach, Entry, sent}
 use Rattle.model.specs.Tapes.Entry.{Breached, Happened, Sent}
 use Rattle.model.specs.Decoding.{completed}
-use Rattle.model.specs.Openings.{opens}
+use Rattle.model.specs.Openings.{exchanges}
 use Rattle.model.specs.Available.{items_on}
 use Rattle.model.specs.Known.{Known}
 use Rattle.model.specs.Causes.{Cause}
@@ -132,7 +132,7 @@ pub notes_keep : (known : Known) (t : List Entry) (s : State) (event : Event) �
 notes_keep known t s event n h may =
     offering_quiet known t (Happened event) s (after s (Notes event)) h
     (λ stream. refl)
-    (λ stream. event_quiet known t event stream (none_of_nobody known stream t event n.numbered may) (λ o g k. number_above (opens t) o n.numbered g.is_opened (k ∙ may)))
+    (λ stream. event_quiet known t event stream (none_of_nobody known stream t event n.numbered may) (λ o g k. number_above (exchanges t) o n.numbered g.is_opened (k ∙ may)))
     (λ stream. refl) refl h.keeps
 
 pub breaks_keep : (known : Known) (t : List Entry) (s : State) (breach : Breach) → Offering known t s → Offering known (Breached breach ∷ t) (after s (Breaks breach))

@@ -9,8 +9,8 @@ use Rattle.model.specs.Tapes.{Noted, Entry, came, sent}
 use Rattle.model.specs.Tapes.Entry.{Came, Happened}
 use Rattle.model.specs.Decoding.{completed}
 use Rattle.model.specs.Streams.{items_of}
-use Rattle.model.specs.Openings.{Opened, opens}
-use Rattle.model.specs.Available.{heard, has_ended, items_on, IsIn}
+use Rattle.model.specs.Openings.{Opened, exchanges}
+use Rattle.model.specs.Available.{heard_by, ended_by, items_on, IsIn}
 use Rattle.model.specs.Known.{Known, fails_behind}
 use Rattle.model.specs.Causes.{Cause}
 use Rattle.model.specs.Causes.Cause.{BadAnswer}
@@ -35,7 +35,7 @@ pub record Placed (known : Known) (t : List Entry) (s : State) : Type 0 where
   pub unsent : (id : ℕ) → is_opened id t ≡ false → items_on id (sent t) ≡ []
   pub not_given : (id : ℕ) → is_opened id t ≡ false → (o : Opened) → IsGiven t id o → ⊥
   -- nothing came of a connection that wasn't opened
-  pub unheard : (k : ℕ) → length (opens t) < k → (heard k t ≡ []) × (has_ended k t ≡ false)
+  pub unheard : (k : ℕ) → length (exchanges t) < k → (o : Opened) → o.k ≡ k → (heard_by o t ≡ []) × (ended_by o t ≡ false)
 
 -- ---- items stay
 

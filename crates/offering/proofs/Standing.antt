@@ -6,9 +6,9 @@ use Rattle.std.proofs.lemmas.List.{append-nil}
 use Rattle.model.specs.Messages.{Item}
 use Rattle.model.specs.ResponseHeads.{Head}
 use Rattle.model.specs.Tapes.{Entry, sent}
-use Rattle.model.specs.Openings.{Opened, opens, AreApart}
+use Rattle.model.specs.Openings.{Opened, exchanges, AreApart}
 use Rattle.model.specs.Deliveries.{Delivery, nothing, heads_in, ReadsAs, IsPartOf}
-use Rattle.model.specs.Available.{heard, has_ended, items_on, IsShown}
+use Rattle.model.specs.Available.{heard_by, ended_by, items_on, IsShown}
 use Rattle.model.specs.Known.{Known}
 use Rattle.model.specs.Causes.{Cause, reply}
 use Rattle.model.specs.Courses.{Course, course, items, is_final}
@@ -43,8 +43,8 @@ pub record SameOffer (known : Known) (t u : List Entry) (stream : ℕ) : Type 0 
   pub there : (o : Opened) → IsGiven t stream o → IsGiven u stream o
   pub back : (o : Opened) → IsGiven u stream o → IsGiven t stream o
   pub head : (o : Opened) → IsGiven t stream o → is_to_head (items known stream t) ≡ is_to_head (items known stream u)
-  pub heard : (o : Opened) → IsGiven t stream o → heard o.k t ≡ heard o.k u
-  pub ended : (o : Opened) → IsGiven t stream o → has_ended o.k t ≡ has_ended o.k u
+  pub heard : (o : Opened) → IsGiven t stream o → heard_by o t ≡ heard_by o u
+  pub ended : (o : Opened) → IsGiven t stream o → ended_by o t ≡ ended_by o u
 
 no_reply_same : (c d : Course) → c.cause ≡ d.cause → c.head_out ≡ d.head_out → HasNoReply c → HasNoReply d
 no_reply_same c d e f (inl none) = inl (sym e ∙ none)
@@ -56,9 +56,9 @@ module _ (known : Known) (t u : List Entry) (stream : ℕ) (s : SameOffer known 
     no_reply = no_reply_same (course known stream t) (course known stream u) s.cause s.out p.no_reply;
     o = p.o;
     given = s.there p.o p.given;
-    shows = subst (λ x. IsShown known.setup.passing x (has_ended p.o.k u) (is_to_head (items known stream u)) d) (s.heard p.o p.given)
-        (subst (λ x. IsShown known.setup.passing (heard p.o.k t) x (is_to_head (items known stream u)) d) (s.ended p.o p.given)
-        (subst (λ x. IsShown known.setup.passing (heard p.o.k t) (has_ended p.o.k t) x d) (s.head p.o p.given) p.shows));
+    shows = subst (λ x. IsShown known.setup.passing x (ended_by p.o u) (is_to_head (items known stream u)) d) (s.heard p.o p.given)
+        (subst (λ x. IsShown known.setup.passing (heard_by p.o t) x (is_to_head (items known stream u)) d) (s.ended p.o p.given)
+        (subst (λ x. IsShown known.setup.passing (heard_by p.o t) (ended_by p.o t) x d) (s.head p.o p.given) p.shows));
   }
 
   replied_same : (d : Delivery) → IsReplied known t stream d → IsReplied known u stream d
@@ -123,18 +123,18 @@ module _ (known : Known) (t u : List Entry) (stream : ℕ) (s : SameOffer known 
 -- 3. The stream's upstream tells more of its response.
 module _ (known : Known) (t u : List Entry) (stream : ℕ) (o : Opened) (news : Delivery) (box : Outbox)
     (same_items : items_on stream (sent u) ≡ items_on stream (sent t)) (cause : (course known stream t).cause ≡ (course known stream u).cause) (out : (course known stream t).head_out ≡ (course known stream u).head_out)
-    (head : is_to_head (items known stream t) ≡ is_to_head (items known stream u)) (apart : AreApart (opens t)) (given : IsGiven t stream o) (given_now : IsGiven u stream o) (not_replied : HasNoReply (course known stream t))
-    (tells : Tells known.setup.passing (heard o.k t) (has_ended o.k t) (heard o.k u) (has_ended o.k u) (is_to_head (items known stream t)) news) where
+    (head : is_to_head (items known stream t) ≡ is_to_head (items known stream u)) (apart : AreApart (exchanges t)) (given : IsGiven t stream o) (given_now : IsGiven u stream o) (not_replied : HasNoReply (course known stream t))
+    (tells : Tells known.setup.passing (heard_by o t) (ended_by o t) (heard_by o u) (ended_by o u) (is_to_head (items known stream t)) news) where
   passed_more : (d : Delivery) → IsPassedOn known t stream d → IsPassedOn known u stream (with_news d news) × (d.ends ≡ None) × (is_some d.head ≡ true → news.interims ≡ [])
   passed_more d p =
-      let same : p.o ≡ o = one_connection (opens t) p.o o apart p.given.is_opened given.is_opened (p.given.is_given ∙ sym given.is_given) in
-      let shown : IsShown known.setup.passing (heard o.k t) (has_ended o.k t) (is_to_head (items known stream t)) d =
-      subst (λ (x : Opened). IsShown known.setup.passing (heard x.k t) (has_ended x.k t) (is_to_head (items known stream t)) d) same p.shows in (
+      let same : p.o ≡ o = one_connection (exchanges t) p.o o apart p.given.is_opened given.is_opened (p.given.is_given ∙ sym given.is_given) in
+      let shown : IsShown known.setup.passing (heard_by o t) (ended_by o t) (is_to_head (items known stream t)) d =
+      subst (λ (x : Opened). IsShown known.setup.passing (heard_by x t) (ended_by x t) (is_to_head (items known stream t)) d) same p.shows in (
         record {
           no_reply = no_reply_same (course known stream t) (course known stream u) cause out not_replied;
           o = o;
           given = given_now;
-          shows = subst (λ x. IsShown known.setup.passing (heard o.k u) (has_ended o.k u) x (with_news d news)) head (tells.shows d shown);
+          shows = subst (λ x. IsShown known.setup.passing (heard_by o u) (ended_by o u) x (with_news d news)) head (tells.shows d shown);
         },
         tells.not_whole d shown,
         tells.none_late d shown,
@@ -184,7 +184,7 @@ stands_replied known t u stream cause box same now out heads none h =
     none_out (Some x) e = let clash : true ≡ false = e in cc
 
 -- 5. A connection is given to the stream, and nothing was heard of it.
-pub stands_given : (known : Known) (t u : List Entry) (stream : ℕ) (o : Opened) (box : Outbox) → items_on stream (sent u) ≡ items_on stream (sent t) → (course known stream u).cause ≡ None → IsGiven u stream o → heard o.k u ≡ [] → has_ended o.k u ≡ false
+pub stands_given : (known : Known) (t u : List Entry) (stream : ℕ) (o : Opened) (box : Outbox) → items_on stream (sent u) ≡ items_on stream (sent t) → (course known stream u).cause ≡ None → IsGiven u stream o → heard_by o u ≡ [] → ended_by o u ≡ false
     → ((p : Opened) → IsGiven t stream p → ⊥) → (course known stream t).cause ≡ None → Stands known t stream box → Stands known u stream box
 stands_given known t u stream o box same no_cause given unheard not_ended none_before none_caused h = elim h.offer [
   | inl p ↦ absurd (elim p [
@@ -199,7 +199,7 @@ stands_given known t u stream o box same no_cause given unheard not_ended none_b
       no_reply = inl no_cause;
       o = o;
       given = given;
-      shows = subst (λ x. IsShown known.setup.passing x (has_ended o.k u) (is_to_head (items known stream u)) nothing) (sym unheard)
+      shows = subst (λ x. IsShown known.setup.passing x (ended_by o u) (is_to_head (items known stream u)) nothing) (sym unheard)
           (subst (λ x. IsShown known.setup.passing [] x (is_to_head (items known stream u)) nothing) (sym not_ended) (nothing_shown known.setup.passing (is_to_head (items known stream u))));
     }));
   })

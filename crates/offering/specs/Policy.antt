@@ -3,13 +3,13 @@ use Rattle.std.specs.Prelude.{◌≡◌, ℕ, ◌<◌, Bool, true, false, not, �
 use Rattle.model.specs.Messages.{Item}
 use Rattle.model.specs.Frames.{data_kind}
 use Rattle.model.specs.Logs.{Event, Act}
-use Rattle.model.specs.Logs.Act.{Open}
+use Rattle.model.specs.Logs.Act.{Open, ToUp}
 use Rattle.model.specs.Tapes.{Noted, Entry, sent}
 use Rattle.model.specs.Tapes.Entry.{Came, Happened, Sent}
 use Rattle.model.specs.Decoding.{completed}
 use Rattle.model.specs.Streams.{frame_items}
-use Rattle.model.specs.Openings.{Opened, opens, last_stream, AreNumbered, AreApart}
-use Rattle.model.specs.Available.{heard, has_ended, items_on, IsIn}
+use Rattle.model.specs.Openings.{Opened, exchanges, given, begins_another, last_stream, AreNumbered, AreApart}
+use Rattle.model.specs.Available.{heard_by, ended_by, items_on, IsIn}
 use Rattle.model.specs.Known.{Known, fails_behind}
 use Rattle.model.specs.Causes.{Cause}
 use Rattle.model.specs.Lifetimes.{is_active}
@@ -28,9 +28,10 @@ use Rattle.offering.specs.State.Move.{Takes, Breaks, Notes, Hears, Fails, Goes, 
 
 -- What other concerns know of every tape: connections are numbered, no stream has two, and something came on its stream.
 pub record Neighbours (known : Known) (t : List Entry) : Type 0 where
-  pub numbered : AreNumbered (opens t)
-  pub apart : AreApart (opens t)
-  pub begun : (o : Opened) → IsIn o (opens t) → items known o.stream t ≡ [] → ⊥
+  pub off : known.setup.keep ≡ false
+  pub numbered : AreNumbered (exchanges t)
+  pub apart : AreApart (exchanges t)
+  pub begun : (o : Opened) → IsIn o (exchanges t) → items known o.stream t ≡ [] → ⊥
 
 -- ---- the flush: a part goes
 
@@ -73,7 +74,7 @@ pub record IsOf (known : Known) (t : List Entry) (event : Event) (stream : ℕ) 
 pub record MayHear (known : Known) (t : List Entry) (event : Event) (stream : ℕ) (news : Delivery) : Type 0 where
   pub of : IsOf known t event stream
   pub sound : fails_behind known t ≡ false
-  pub tells : Tells known.setup.passing (heard of.o.k t) (has_ended of.o.k t) (heard of.o.k (Happened event ∷ t)) (has_ended of.o.k (Happened event ∷ t)) (is_to_head (items known stream t)) news
+  pub tells : Tells known.setup.passing (heard_by of.o t) (ended_by of.o t) (heard_by of.o (Happened event ∷ t)) (ended_by of.o (Happened event ∷ t)) (is_to_head (items known stream t)) news
 
 -- The answer of the stream's upstream fails with the event.
 pub record MayGiveUp (known : Known) (t : List Entry) (event : Event) (stream : ℕ) : Type 0 where
@@ -86,12 +87,13 @@ pub record MayGiveUp (known : Known) (t : List Entry) (event : Event) (stream : 
 pub record MayOpen (known : Known) (t : List Entry) (k : ℕ) : Type 0 where
   pub none_before : (o : Opened) → IsGiven t (last_stream t) o → ⊥
   pub no_cause : (course known (last_stream t) t).cause ≡ None
-  pub unheard : heard k t ≡ []
-  pub not_ended : has_ended k t ≡ false
+  pub unheard : (o : Opened) → o.k ≡ k → heard_by o t ≡ []
+  pub not_ended : (o : Opened) → o.k ≡ k → ended_by o t ≡ false
 
 -- The act may be done: opening a connection asks something of the tape, the others nothing of it.
 abbrev pub MayDo : Known → List Entry → Act → Type 0
 MayDo known t (Open k route) = MayOpen known t k
+MayDo known t (ToUp k octets) = begins_another (given k (exchanges t)) (last_stream t) octets ≡ false
 MayDo known t _ = Unit {0}
 
 -- A stream is new: nothing was sent on it, nothing given to it, and it isn't answered.

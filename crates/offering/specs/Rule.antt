@@ -4,12 +4,12 @@ use Rattle.std.specs.Prelude.{◌≡◌, ℕ, suc, Bool, true, false, not, ◌&&
 use Rattle.model.specs.Messages.{Item}
 use Rattle.model.specs.Frames.{Frame, data_kind, ends_headers}
 use Rattle.model.specs.Logs.{Event, Act}
-use Rattle.model.specs.Logs.Act.{Open}
+use Rattle.model.specs.Logs.Act.{Open, ToUp}
 use Rattle.model.specs.Tapes.{Noted, Entry}
 use Rattle.model.specs.Tapes.Entry.{Happened}
 use Rattle.model.specs.Decoding.{Partial, joined}
 use Rattle.model.specs.Streams.{frame_items}
-use Rattle.model.specs.Openings.{Opened, IsGivenNone}
+use Rattle.model.specs.Openings.{Opened, given, begins_another, IsGivenNone}
 use Rattle.model.specs.Available.{heard_by, ended_by, IsIn}
 use Rattle.model.specs.Known.{Known}
 use Rattle.model.specs.Causes.{Cause}
@@ -74,6 +74,7 @@ pub record BringsNothing (before : Sight) (noted : Noted) : Type 0 where
 -- what an act asks
 abbrev pub MayAct : Sight → Act → Type 0
 MayAct before (Open k route) = OpensNext before k
+MayAct before (ToUp k octets) = begins_another (given k before.given) before.last octets ≡ false
 MayAct before _ = Unit {0}
 
 -- The effect of what came before is over: the flush is done.
@@ -116,9 +117,9 @@ abbrev pub AllMayCome : List Seen → Type 0
 AllMayCome [] = Unit {0}
 AllMayCome (x ∷ run) = AllMayCome run × MayCome (sight_of run) x.sight (state_of (moves_of run)) x.move
 
--- What was read is right behind each move.
+-- What was read is right behind each move. By this rule no connection is kept for another request.
 abbrev pub AreRight : Known → List Seen → Type 0
-AreRight known [] = Unit {0}
+AreRight known [] = known.setup.keep ≡ false
 AreRight known (x ∷ run) = AreRight known run × IsRightOf known (tape_of (x ∷ run)) x.sight
 
 -- What is told of an event is news of what the stream's upstream answered.

@@ -5,7 +5,7 @@ use Rattle.std.specs.Prelude.{◌≡◌, ℕ, Bool, true, false, ◌==◌, List,
 use Rattle.model.specs.Tapes.{Entry, sent}
 use Rattle.model.specs.Decoding.{Partial, begun}
 use Rattle.model.specs.Admission.{untaken}
-use Rattle.model.specs.Openings.{Opened, opens, last_stream}
+use Rattle.model.specs.Openings.{Opened, exchanges, last_stream}
 use Rattle.model.specs.Known.{Known}
 use Rattle.model.specs.Causes.{Cause}
 use Rattle.model.specs.Lifetimes as lives
@@ -70,7 +70,7 @@ pub record IsRightOf (known : Known) (t : List Entry) (sight : Sight) : Type 0 w
   pub own : (id : ℕ) → is_active id t ≡ true → sight.own id ≡ stream_window id t
   pub shared : sight.shared ≡ connection_window t
   pub untaken : sight.untaken ≡ untaken t
-  pub given : sight.given ≡ opens t
+  pub given : sight.given ≡ exchanges t
   pub last : sight.last ≡ last_stream t
   pub block : sight.block ≡ begun (sent t)
   pub ends : sight.ends ≡ calls_for_end known t

@@ -17,6 +17,8 @@ use Rattle.offering.specs.Sight.{sight_in}
 use Rattle.receiving.specs.Rule as windows
 use Rattle.tables.specs.Rule.{IsGiven}
 use Rattle.model.specs.Synchrony.{begins_part}
+use Rattle.model.specs.Openings as openings
+use Rattle.model.proofs.AloneLaws.{none_begins}
 use Rattle.policy.specs.Moves.{Deed, given_or_sent}
 use Rattle.policy.specs.Moves.Deed.{Sends}
 use Rattle.policy.specs.State.{State, gates_in}
@@ -106,7 +108,7 @@ module _ (setup : Setup) (behind : Summary) (s : State) where
   may_act (ToUp k octets) open_yet may = record {
     rests = λ e. absurd (let no : false ≡ true = e in cc);
     conduct = record { allowed = record { open_yet = open_yet; turn = may.nothing }; fit = tt };
-    offer = tt;
+    offer = none_begins (openings.given k s.desk.book.given) s.desk.book.last octets may.window.its;
     in_turn = tt;
     request = record { open_yet = open_yet; may = may.due };
     gains = tt;

@@ -121,6 +121,7 @@ module _ (known : Known) (run : List Move) (k : IsKnown known run) (rests : Rest
       none_ready = of_offers.none_ready;
       closed = of_requests.closed;
       closes = of_requests.closes;
+      few_idle = of_requests.few_idle;
       go_to_open = of_requests.go_to_open;
     };
     windows = record { keeps = of_offers.keeps; no_more = no_more; holds_back = kept_back; gives_back = gives_back };

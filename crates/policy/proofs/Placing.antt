@@ -5,6 +5,7 @@ use Rattle.model.specs.Messages.Item.{Block}
 use Rattle.model.specs.Setup.{Setup}
 use Rattle.model.specs.Logs.{Event}
 use Rattle.model.specs.Logs.Event.{Client, ClientEnd, ClientTook, Up, UpEnd, UpFailed, UpTook}
+use Rattle.model.specs.Openings.{given}
 use Rattle.model.specs.Tapes.{Noted, Entry}
 use Rattle.model.specs.Admission.{is_open}
 use Rattle.model.specs.Known.{Known}
@@ -80,7 +81,7 @@ windows_may setup (Does d ∷ run) all = (
 windows_may setup (Settles ∷ run) all = (windows_may setup run all, tt)
 
 pub turns_may : (setup : Setup) (run : List Move) → AllAllowed setup run → requests.AreAllowed setup (turns_of setup run)
-turns_may setup [] all = tt
+turns_may setup [] all = all
 turns_may setup (Does d ∷ run) all = (
   turns_may setup run all.0,
   subst (λ told. requests.IsAllowed setup told (told_in (summary_at setup (Does d ∷ run))) (serving.state_of setup (turns_of setup run)) (request_of d)) (sym (turns_told setup run)) all.1.request,
@@ -108,7 +109,7 @@ in_turns known run knows all = conducted known (conducts run) knows (has_kept kn
 -- ---- what was told is so
 
 pub offers_right : (known : Known) (run : List Move) → AreKnown known (conducts run) → AllAllowed known.setup run → offers.AreRight known (offers_of known.setup run)
-offers_right known [] knows all = tt
+offers_right known [] knows all = all
 offers_right known (Does d ∷ run) knows all = (
   offers_right known run knows.0 all.0,
   subst (λ (t : List Entry). IsRightOf known t (sight_in (summary_at known.setup (Does d ∷ run)))) (sym (offers_tape known.setup (Does d ∷ run))) (sight_right known (Does d ∷ run) knows (all_moved known (Does d ∷ run) all)),
@@ -211,6 +212,7 @@ gates_right known run knows all so =
     let moved = all_moved known run all in
     record {
       is_up = λ k. connections_told known (turns_of known.setup run) (turns_may known.setup run all) (turns_so known run knows all so) k ∙ ap (λ (t : List Entry). is_open k t) (requests_tape known.setup run);
+      given = λ k. ap (λ os. given k os) (sight_right known run knows moved).given;
       live = live_told known run knows moved;
       last = (sight_right known run knows moved).last;
       untaken = (sight_right known run knows moved).untaken;

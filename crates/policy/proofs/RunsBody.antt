@@ -506,13 +506,13 @@ unfolding total_size
 put_may = record {
   rests = λ e. never e;
   conduct = record { allowed = record { open_yet = refl; turn = refl }; fit = tt };
-  offer = tt;
+  offer = refl;
   in_turn = tt;
   request = record { open_yet = refl; may = refl };
   gains = tt;
   calls = λ so. absurd (let no : false ≡ true = so in cc);
   table = tt;
-  window = record { opened = refl; in_effect = λ e. cc };
+  window = record { opened = refl; its = refl; in_effect = λ e. cc };
 }
 
 cancel_may : MayDo setup (told_by at_between) (told_by at_cancelled) at_between cancel_deed

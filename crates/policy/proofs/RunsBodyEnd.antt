@@ -113,15 +113,15 @@ at_ended = record at_goes_out {
 
 -- the last chunk ends it
 pub text_ends : Continues Chunking (last_chunk []) [] [] Whole
-text_ends parts ended_head text pieces s = record {
+text_ends keep parts ended_head text pieces s = record {
   none_ended = λ e. absurd (let clash : true ≡ false = sym e ∙ s.not_ended in cc);
   full = subst (λ ps. list_all (λ piece. not (is_empty piece)) ps ≡ true) (sym (append-nil pieces)) s.full;
   has_length = subst (λ d. HasLength d (concat (pieces ++ []))) (sym s.undeclared) tt;
   is =
-      ap (λ x. x ++ last_chunk []) s.is ∙ append_assoc (head_of parts false) (flat_map chunk_text pieces) (last_chunk [])
-      ∙ ap (λ ps. head_of parts false ++ (flat_map chunk_text ps ++ last_chunk [])) (sym (append-nil pieces))
-      ∙ ap (λ d. head_of parts false ++ content_of d false (pieces ++ []) []) (sym s.undeclared)
-      ∙ ap (λ b. head_of parts b ++ content_of parts.length b (pieces ++ []) []) (sym s.not_ended);
+      ap (λ x. x ++ last_chunk []) s.is ∙ append_assoc (head_of keep parts false) (flat_map chunk_text pieces) (last_chunk [])
+      ∙ ap (λ ps. head_of keep parts false ++ (flat_map chunk_text ps ++ last_chunk [])) (sym (append-nil pieces))
+      ∙ ap (λ d. head_of keep parts false ++ content_of d false (pieces ++ []) []) (sym s.undeclared)
+      ∙ ap (λ b. head_of keep parts b ++ content_of parts.length b (pieces ++ []) []) (sym s.not_ended);
 }
 
 -- ---- each may come
@@ -169,13 +169,13 @@ unfolding total_size
 put_may = record {
   rests = λ e. never e;
   conduct = record { allowed = record { open_yet = refl; turn = refl }; fit = tt };
-  offer = tt;
+  offer = refl;
   in_turn = tt;
   request = record { open_yet = refl; may = refl };
   gains = tt;
   calls = λ so. absurd (let no : false ≡ true = so in cc);
   table = tt;
-  window = record { opened = refl; in_effect = λ e. cc };
+  window = record { opened = refl; its = refl; in_effect = λ e. cc };
 }
 
 back_may : MayDo setup (told_by at_goes_out) (told_by at_ended) at_goes_out (Sends octet_back decoded)

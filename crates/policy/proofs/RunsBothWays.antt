@@ -388,13 +388,13 @@ unfolding total_size
 put_may = record {
   rests = λ e. never e;
   conduct = record { allowed = record { open_yet = refl; turn = refl }; fit = tt };
-  offer = tt;
+  offer = refl;
   in_turn = tt;
   request = record { open_yet = refl; may = refl };
   gains = tt;
   calls = λ so. absurd (let no : false ≡ true = so in cc);
   table = tt;
-  window = record { opened = refl; in_effect = λ e. refl };
+  window = record { opened = refl; its = refl; in_effect = λ e. refl };
 }
 
 end_may : MayDo streaming (told_by at_ended) (told_by at_whole) at_ended end_deed

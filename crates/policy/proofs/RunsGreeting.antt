@@ -19,7 +19,7 @@ use Rattle.policy.specs.Rule.{MayDo, AllAllowed, RestsBehind}
 
 -- one route for every authority and path; requests and responses are passed on whole
 abbrev pub setup : Setup
-setup = record { routes = record { authority = []; path = codes "/" } ∷ []; policy = Indexing; passing = Whole; max_body = 1048576; max_response = 1048576 }
+setup = record { routes = record { authority = []; path = codes "/" } ∷ []; policy = Indexing; passing = Whole; max_body = 1048576; max_response = 1048576; keep = false }
 
 -- a frame by its parts
 abbrev pub frame : ℕ → ℕ → ℕ → List ℕ → Frame
@@ -121,7 +121,7 @@ acked_may = record {
 -- ---- so the run is allowed, and rests
 
 pub greeted_allowed : AllAllowed setup greeted
-greeted_allowed = (((tt, ours_may), theirs_may), acked_may)
+greeted_allowed = (((refl, ours_may), theirs_may), acked_may)
 
 pub greeted_rests : RestsBehind setup greeted
 greeted_rests = record {

@@ -8,17 +8,18 @@ use Rattle.model.specs.Available.{heard_by, ended_by, IsIn, IsShown}
 use Rattle.model.specs.Courses.{items}
 use Rattle.model.specs.Offers.{is_to_head}
 use Rattle.model.specs.Logs.Event.{Up}
-use Rattle.model.specs.Openings.{Opened, opens}
+use Rattle.model.specs.Openings.{Opened, exchanges}
 use Rattle.model.specs.Setup.Passing.{Whole}
 use Rattle.model.specs.Tapes.Entry.{Happened}
-use Rattle.model.specs.Failures.{IsTooLong, MustFail}
+use Rattle.model.specs.Failures.{MustFail}
+use Rattle.model.specs.Idle.{IsTooLong}
 use Rattle.model.specs.Headline.{ClausesHold, HoldsInTurn}
 use Rattle.model.proofs.AnswerTexts as texts
 use Rattle.model.proofs.HeadLaws.{nothing_shown}
 use Rattle.model.proofs.OfferLaws.{one_shown}
 use Rattle.offering.specs.Outbox.{with_news}
 use Rattle.offering.specs.Shown.{Tells}
-use Rattle.serving.specs.Meaning.{IsAllHeard}
+use Rattle.model.specs.Idle.{IsAllHeard}
 use Rattle.policy.specs.State.{tape_of}
 use Rattle.policy.specs.Answered.{IsWholeBy, IsAnswered}
 use Rattle.policy.proofs.Keeping.{IsKnown, clauses, in_turn}
@@ -42,7 +43,7 @@ tells = record {
 
 -- ---- what the deed says is so
 
-told_so : (o : Opened) → IsIn o (opens (tape_of forwarded))
+told_so : (o : Opened) → IsIn o (exchanges (tape_of forwarded))
     → Tells Whole (heard_by o (tape_of forwarded)) (ended_by o (tape_of forwarded)) (heard_by o (Happened (Up 1 answer_text) ∷ tape_of forwarded)) (ended_by o (Happened (Up 1 answer_text) ∷ tape_of forwarded)) (is_to_head (items known 1 (tape_of forwarded))) news
 unfolding total_size
 told_so o (inl same) =

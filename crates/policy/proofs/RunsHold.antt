@@ -7,7 +7,8 @@ use Rattle.model.specs.Headline.{ClausesHold, HoldsInTurn}
 use Rattle.model.specs.Openings.{Opened}
 use Rattle.model.specs.Tapes.Entry.{Happened}
 use Rattle.model.proofs.OfferLemmas.{nothing_complete}
-use Rattle.serving.specs.Meaning.{IsAllHeard}
+use Rattle.model.specs.Idle.{IsAllHeard}
+use Rattle.model.proofs.ExchangeLaws.{no_idle}
 use Rattle.policy.specs.State.{tape_of}
 use Rattle.policy.specs.Answered.{IsWholeBy}
 use Rattle.policy.proofs.Keeping.{IsKnown, clauses, in_turn}
@@ -54,7 +55,7 @@ replied_known : IsKnown known_failed replied_to
 replied_known = record {
   knows = ((((((((tt, refl), refl), refl), refl), refl), refl), refl), refl);
   all = replied_leads.allowed;
-  answered = ((((((((tt, tt), tt), tt), tt), tt), tt), (none_whole, tt)), tt);
+  answered = ((((((((tt, tt), tt), tt), tt), tt), tt), (none_whole, λ idle. no_idle known_failed _ 1 refl idle)), tt);
 }
 
 -- a GET that the gateway answers itself

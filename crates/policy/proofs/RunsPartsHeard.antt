@@ -18,7 +18,8 @@ use Rattle.model.specs.Setup.Passing.{Whole, Streaming}
 use Rattle.model.specs.Tapes.{Entry}
 use Rattle.model.specs.Tapes.Entry.{Happened}
 use Rattle.model.specs.Known.{Known}
-use Rattle.model.specs.Failures.{IsTooLong, MustFail}
+use Rattle.model.specs.Failures.{MustFail}
+use Rattle.model.specs.Idle.{IsTooLong}
 use Rattle.model.specs.Headline.{ClausesHold, HoldsInTurn}
 use Rattle.model.proofs.AnswerTexts as texts
 use Rattle.model.proofs.HeadLaws.{nothing_shown}
@@ -26,7 +27,7 @@ use Rattle.model.proofs.OfferLaws.{one_shown}
 use Rattle.model.proofs.ResponseHeadReadings.{one_spelled, spelled_reads, none_at_final, one_front}
 use Rattle.offering.specs.Outbox.{with_news}
 use Rattle.offering.specs.Shown.{Tells}
-use Rattle.serving.specs.Meaning.{IsAllHeard}
+use Rattle.model.specs.Idle.{IsAllHeard}
 use Rattle.policy.specs.State.{tape_of}
 use Rattle.policy.specs.Answered.{IsWholeBy, IsAnswered}
 use Rattle.policy.proofs.Keeping.{IsKnown, clauses, in_turn}

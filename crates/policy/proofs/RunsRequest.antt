@@ -96,13 +96,13 @@ unfolding total_size
 forwarded_may = record {
   rests = λ e. never e;
   conduct = record { allowed = record { open_yet = refl; turn = refl }; fit = tt };
-  offer = tt;
+  offer = refl;
   in_turn = tt;
   request = record { open_yet = refl; may = refl };
   gains = tt;
   calls = λ so. absurd (let no : false ≡ true = so in cc);
   table = tt;
-  window = record { opened = refl; in_effect = λ e. cc };
+  window = record { opened = refl; its = refl; in_effect = λ e. cc };
 }
 
 -- ---- so the run is allowed, and rests

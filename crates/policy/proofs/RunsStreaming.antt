@@ -262,13 +262,13 @@ unfolding total_size
 put_may = record {
   rests = λ e. never e;
   conduct = record { allowed = record { open_yet = refl; turn = refl }; fit = tt };
-  offer = tt;
+  offer = refl;
   in_turn = tt;
   request = record { open_yet = refl; may = refl };
   gains = tt;
   calls = λ so. absurd (let no : false ≡ true = so in cc);
   table = tt;
-  window = record { opened = refl; in_effect = λ e. refl };
+  window = record { opened = refl; its = refl; in_effect = λ e. refl };
 }
 
 begun_rest : Rests (told_by at_begun) at_begun
@@ -310,13 +310,13 @@ unfolding total_size
 passed_may = record {
   rests = λ e. never e;
   conduct = record { allowed = record { open_yet = refl; turn = refl }; fit = tt };
-  offer = tt;
+  offer = refl;
   in_turn = tt;
   request = record { open_yet = refl; may = refl };
   gains = tt;
   calls = λ so. absurd (let no : false ≡ true = so in cc);
   table = tt;
-  window = record { opened = refl; in_effect = λ e. refl };
+  window = record { opened = refl; its = refl; in_effect = λ e. refl };
 }
 
 -- ---- so the run is allowed, and rests while octets wait
@@ -324,7 +324,7 @@ passed_may = record {
 pub begun_leads : Stands streaming begun at_begun
 unfolding total_size
 begun_leads =
-    let none : Stands streaming [] at_start = record { is = refl; goes_on = refl; allowed = tt } in
+    let none : Stands streaming [] at_start = record { is = refl; goes_on = refl; allowed = refl } in
     let first = goes streaming [] at_start none ours at_ours refl refl ours_may in
     let second = goes streaming (Does ours ∷ []) at_ours first theirs at_theirs refl refl theirs_may in
     let third = goes streaming (Does theirs ∷ Does ours ∷ []) at_theirs second acked at_greeted refl refl acked_may in

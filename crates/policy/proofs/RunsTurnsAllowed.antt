@@ -170,13 +170,13 @@ unfolding total_size
 put_may = record {
   rests = λ e. never e;
   conduct = record { allowed = record { open_yet = refl; turn = refl }; fit = tt };
-  offer = tt;
+  offer = refl;
   in_turn = tt;
   request = record { open_yet = refl; may = refl };
   gains = tt;
   calls = λ so. absurd (let no : false ≡ true = so in cc);
   table = tt;
-  window = record { opened = refl; in_effect = λ e. cc };
+  window = record { opened = refl; its = refl; in_effect = λ e. cc };
 }
 
 told_may : MayDo setup (told_by at_both_asked) (told_by at_told) at_both_asked (Hears (Up 1 early_text) 1 early_news false)

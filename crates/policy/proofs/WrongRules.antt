@@ -15,7 +15,7 @@ use Rattle.model.specs.FrameErrors.{is_between}
 use Rattle.model.specs.WindowsOnTape.{increment}
 use Rattle.model.specs.ResponseHeads.{Head}
 use Rattle.model.specs.Deliveries.{End, Delivery, ReadsAs, IsSection, AreInterims, IsAnsweredBy, IsAnswer, IsPart, IsPartOf}
-use Rattle.model.specs.Openings.{Opened, opens}
+use Rattle.model.specs.Openings.{Opened, exchanges}
 use Rattle.model.specs.Available.{heard_by, ended_by, items_on, IsIn, IsShown}
 use Rattle.model.specs.Causes.{Cause, reply_head}
 use Rattle.model.specs.Causes.Cause.{BadAnswer}
@@ -170,7 +170,7 @@ none_offered source (inr passed) = of passed.o passed.given.is_opened passed.sho
     answers ended to_head (inl all) = nothing_offered ended to_head source all
     answers ended to_head (inr part) = nothing_begun Whole ended to_head source part
 
-    of : (o : Opened) → IsIn o (opens early) → IsShown Whole (heard_by o early) (ended_by o early) (is_to_head (items by_whole 1 early)) source → OffersNothing source
+    of : (o : Opened) → IsIn o (exchanges early) → IsShown Whole (heard_by o early) (ended_by o early) (is_to_head (items by_whole 1 early)) source → OffersNothing source
     of o (inl same) shows = answers false false (subst (λ (p : Opened). IsShown Whole (heard_by p early) (ended_by p early) false source) same shows)
     of o (inr none) shows = absurd none
 
@@ -259,7 +259,7 @@ gives_early c = let back = c.gives_back refl in let clash : 65535 ≡ 65530 = ap
 -- It leaves a connection open though the client reset its stream.
 pub leaves_open : AreClosed by_whole (Came (plain (frame 3 0 1 (0 ∷ 0 ∷ 0 ∷ 8 ∷ []))) ∷ tape_of forwarded) → ⊥
 unfolding total_size
-leaves_open all = all (record { k = 1; route = 0; stream = 1 }) (inl refl) refl (Over refl)
+leaves_open all = let kept = all 1 refl (Over refl) in let clash : false ≡ true = kept.keeps in cc
 
 -- It bids farewell twice: DATA came on a stream that wasn't opened.
 pub bids_farewell_twice : ErrorsHold by_whole (Sent (plain (goaway 0 protocol_error)) ∷ Sent (plain (goaway 0 protocol_error)) ∷ Came (plain (frame 0 0 3 (120 ∷ []))) ∷ tape_of greeted) → ⊥

@@ -2,6 +2,7 @@
 use Rattle.std.specs.Prelude.{if◌then◌else◌, List, [], ◌∷◌, is_some}
 use Rattle.model.specs.Setup.{Setup}
 use Rattle.model.specs.Tapes.{Entry}
+use Rattle.model.specs.Openings.{given}
 use Rattle.conduct.specs.Summary.{Summary}
 use Rattle.conduct.specs.Judging.{active_in}
 use Rattle.conduct.specs.Rule as conduct
@@ -29,7 +30,7 @@ pub record State : Type 0 where
 -- what is told of connections and streams: which are open, which are active, which is the last frame's, how many octets for the client
 -- aren't taken, and whether it was closed
 abbrev pub gates_in : Summary → serving.State → Gates
-gates_in s requests = record { is_up = λ k. is_some (serving.live_of k requests.live); live = active_in s; last = s.last; untaken = s.untaken; closed = s.closed }
+gates_in s requests = record { is_up = λ k. is_some (serving.live_of k requests.live); given = λ k. given k s.given; live = active_in s; last = s.last; untaken = s.untaken; closed = s.closed }
 
 -- ---- moves, the newest first
 

@@ -23,7 +23,8 @@ ghost use Rattle.model.specs.Tables.{Table};
 ghost use Rattle.model.specs.Courses.{upstream_of};
 ghost use Rattle.receiving.specs.Policy.{may_come};
 ghost use Rattle.model.specs.Admission.{is_open};
-ghost use Rattle.model.specs.Available.{has_ended};
+ghost use Rattle.model.specs.Openings.{exchange_on};
+ghost use Rattle.model.specs.Available.{ended_by};
 ghost use Rattle.model.specs.Known.{Known};
 ghost use Rattle.model.specs.Tapes.{Noted, Breach, is_closed, EndsWithClose};
 ghost use Rattle.model.specs.Failures.{AreJudged};
@@ -98,7 +99,7 @@ pub fn outputs_have_moves()
 /// An upstream connection that is open where the gateway rests wasn't ended by its upstream: so what is told of further octets of it is news of
 /// a connection that goes on, as the reader's contract has it.
 pub fn open_connections_go_on()
-    ensures { (known : Known) (run : List Move) → AreKnown known (conducts run) → AllAllowed known.setup run → AreAnswered known run → RestsBehind known.setup run → (k : ℕ) → is_open k (tape_of run) ≡ true → has_ended k (tape_of run) ≡ false }
+    ensures { (known : Known) (run : List Move) → AreKnown known (conducts run) → AllAllowed known.setup run → AreAnswered known run → RestsBehind known.setup run → (k : ℕ) → is_open k (tape_of run) ≡ true → ended_by (exchange_on k (tape_of run)) (tape_of run) ≡ false }
 {}
 
 /// The end of the connection comes by the rule, and leads to rest. Where the gateway rests and its connection goes on, and then the

@@ -1,7 +1,6 @@
 -- What a reader says of a response's failure is right, where it stands for all that was heard.
 use Rattle.std.proofs.Common.{◌≡◌, ℕ, ◌<◌, ◌≤◌, Bool, true, false, List, [], ◌∷◌, ◌++◌, length, map, refl, sym, ap, ◌∙◌, subst, arith, inl, inr, if◌then◌else◌}
 use Rattle.std.specs.Prelude.{Option, Some, None}
-use Rattle.std.proofs.lemmas.Bool.{eq-eqb}
 use Rattle.model.specs.ResponseHeads.{Head}
 use Rattle.model.specs.Responses.{Seen, IsComplete, IsSpoilt, IsPlainlyBad}
 use Rattle.model.specs.Setup.Passing.{Whole}
@@ -9,9 +8,11 @@ use Rattle.model.specs.Logs.Event.{Up, UpEnd}
 use Rattle.model.specs.Tapes.{Entry}
 use Rattle.model.specs.Tapes.Entry.{Happened}
 use Rattle.model.specs.Openings.{exchange_on}
-use Rattle.model.specs.Available.{heard}
+use Rattle.model.proofs.PastLaws.{heard_own}
+use Rattle.model.specs.Available.{heard_by}
 use Rattle.model.specs.Known.{Known}
-use Rattle.model.specs.Failures.{is_asked_for_head, IsPlainlyBroken, IsJudged}
+use Rattle.model.specs.Failures.{IsPlainlyBroken, IsJudged}
+use Rattle.model.specs.Idle.{is_asked_for_head}
 use Rattle.h1_reader.specs.Parts.{Part}
 use Rattle.h1_reader.specs.Parts.Part.{Interim}
 use Rattle.h1_reader.specs.Standing.{State, Stands, Hears, Breaks, Tells, IsEnd}
@@ -43,21 +44,21 @@ has_told text to_head parts (inr b) = record {
 }
 
 -- all that was heard, with the octets of the event
-heard_more : (k : ℕ) (piece : List ℕ) (t : List Entry) → heard k (Happened (Up k piece) ∷ t) ≡ heard k t ++ piece
-heard_more k piece t = ap (λ b. if b then heard k t ++ piece else heard k t) (eq-eqb k k refl)
+heard_more : (k : ℕ) (piece : List ℕ) (t : List Entry) → heard_by (exchange_on k t) (Happened (Up k piece) ∷ t) ≡ heard_by (exchange_on k t) t ++ piece
+heard_more k piece t = heard_own k piece t
 
 -- The reader stands for it.
-stands_more : (k : ℕ) (piece : List ℕ) (t : List Entry) (parts added : List Part) (old new : State) → Stands (heard k t) parts old → Hears old piece added new → Stands (heard k (Happened (Up k piece) ∷ t)) (parts ++ added) new
-stands_more k piece t parts added old new s h = subst (λ (x : List ℕ). Stands x (parts ++ added) new) (sym (heard_more k piece t)) (h.stands (heard k t) parts s)
+stands_more : (k : ℕ) (piece : List ℕ) (t : List Entry) (parts added : List Part) (old new : State) → Stands (heard_by (exchange_on k t) t) parts old → Hears old piece added new → Stands (heard_by (exchange_on k t) (Happened (Up k piece) ∷ t)) (parts ++ added) new
+stands_more k piece t parts added old new s h = subst (λ (x : List ℕ). Stands x (parts ++ added) new) (sym (heard_more k piece t)) (h.stands (heard_by (exchange_on k t) t) parts s)
 
-module _ (known : Known) (t : List Entry) (k : ℕ) (piece : List ℕ) (parts added : List Part) (old new : State) (asked : old.to_head ≡ is_asked_for_head known (exchange_on k t) t) (s : Stands (heard k t) parts old) (h : Hears old piece added new) where
+module _ (known : Known) (t : List Entry) (k : ℕ) (piece : List ℕ) (parts added : List Part) (old new : State) (asked : old.to_head ≡ is_asked_for_head known (exchange_on k t) t) (s : Stands (heard_by (exchange_on k t) t) parts old) (h : Hears old piece added new) where
   -- the octets told stand in all that was heard
-  all_told : HasTold (heard k (Happened (Up k piece) ∷ t)) (is_asked_for_head known (exchange_on k t) t) (parts ++ added)
-  all_told = subst (λ (b : Bool). HasTold (heard k (Happened (Up k piece) ∷ t)) b (parts ++ added)) (h.same ∙ asked) (has_told (heard k (Happened (Up k piece) ∷ t)) new.to_head (parts ++ added) (tells (heard k (Happened (Up k piece) ∷ t)) (parts ++ added) new (stands_more k piece t parts added old new s h)))
+  all_told : HasTold (heard_by (exchange_on k t) (Happened (Up k piece) ∷ t)) (is_asked_for_head known (exchange_on k t) t) (parts ++ added)
+  all_told = subst (λ (b : Bool). HasTold (heard_by (exchange_on k t) (Happened (Up k piece) ∷ t)) b (parts ++ added)) (h.same ∙ asked) (has_told (heard_by (exchange_on k t) (Happened (Up k piece) ∷ t)) new.to_head (parts ++ added) (tells (heard_by (exchange_on k t) (Happened (Up k piece) ∷ t)) (parts ++ added) new (stands_more k piece t parts added old new s h)))
 
   -- no failure that has to be noticed
-  none_broken : (known.setup.passing ≡ Whole → length (body_of (parts ++ added)) ≤ known.setup.max_response) → IsPlainlyBroken known (heard k (Happened (Up k piece) ∷ t)) (is_asked_for_head known (exchange_on k t) t) → ⊥
-  none_broken fits (inl bad) = not_bad (heard k (Happened (Up k piece) ∷ t)) (parts ++ added) new (stands_more k piece t parts added old new s h) (subst (λ (b : Bool). IsPlainlyBad (heard k (Happened (Up k piece) ∷ t)) b) (sym (h.same ∙ asked)) bad)
+  none_broken : (known.setup.passing ≡ Whole → length (body_of (parts ++ added)) ≤ known.setup.max_response) → IsPlainlyBroken known (heard_by (exchange_on k t) (Happened (Up k piece) ∷ t)) (is_asked_for_head known (exchange_on k t) t) → ⊥
+  none_broken fits (inl bad) = not_bad (heard_by (exchange_on k t) (Happened (Up k piece) ∷ t)) (parts ++ added) new (stands_more k piece t parts added old new s h) (subst (λ (b : Bool). IsPlainlyBad (heard_by (exchange_on k t) (Happened (Up k piece) ∷ t)) b) (sym (h.same ∙ asked)) bad)
   none_broken fits (inr long) =
       let told = all_told in
       let same : long.octets ≡ body_of (parts ++ added) = (one_seen _ _ long.interims told.interims long.head told.head long.octets (body_of (parts ++ added)) long.seen told.seen).octets in
@@ -75,17 +76,17 @@ module _ (known : Known) (t : List Entry) (k : ℕ) (piece : List ℕ) (parts ad
   too_long whole over = let told = all_told in inr (record { whole = whole; interims = told.interims; head = told.head; octets = body_of (parts ++ added); seen = told.seen; over = over })
 
 -- The reader breaks: the answer failed.
-pub breaks : (known : Known) (t : List Entry) (k : ℕ) (piece : List ℕ) (parts : List Part) (old : State) → old.to_head ≡ is_asked_for_head known (exchange_on k t) t → Stands (heard k t) parts old → Breaks old piece → IsJudged known t (Up k piece) true
+pub breaks : (known : Known) (t : List Entry) (k : ℕ) (piece : List ℕ) (parts : List Part) (old : State) → old.to_head ≡ is_asked_for_head known (exchange_on k t) t → Stands (heard_by (exchange_on k t) t) parts old → Breaks old piece → IsJudged known t (Up k piece) true
 breaks known t k piece parts old asked s b =
-    let spoilt : IsSpoilt (heard k t ++ piece) (is_asked_for_head known (exchange_on k t) t) = subst (λ (h : Bool). IsSpoilt (heard k t ++ piece) h) asked (b (heard k t) parts s) in
+    let spoilt : IsSpoilt (heard_by (exchange_on k t) t ++ piece) (is_asked_for_head known (exchange_on k t) t) = subst (λ (h : Bool). IsSpoilt (heard_by (exchange_on k t) t ++ piece) h) asked (b (heard_by (exchange_on k t) t) parts s) in
     inl (subst (λ (x : List ℕ). IsSpoilt x (is_asked_for_head known (exchange_on k t) t)) (sym (heard_more k piece t)) spoilt)
 
 -- ---- the connection's end
 
 -- the end makes the response whole
-pub ends : (known : Known) (t : List Entry) (k : ℕ) (parts : List Part) (old : State) → old.to_head ≡ is_asked_for_head known (exchange_on k t) t → Stands (heard k t) parts old → IsEnd Complete old → IsJudged known t (UpEnd k) false
-ends known t k parts old asked s e = λ short. short (subst (λ (b : Bool). IsComplete (heard k t) true b) asked (e (heard k t) parts s))
+pub ends : (known : Known) (t : List Entry) (k : ℕ) (parts : List Part) (old : State) → old.to_head ≡ is_asked_for_head known (exchange_on k t) t → Stands (heard_by (exchange_on k t) t) parts old → IsEnd Complete old → IsJudged known t (UpEnd k) false
+ends known t k parts old asked s e = λ short. short (subst (λ (b : Bool). IsComplete (heard_by (exchange_on k t) t) true b) asked (e (heard_by (exchange_on k t) t) parts s))
 
 -- or it does not
-pub ends_short : (known : Known) (t : List Entry) (k : ℕ) (parts : List Part) (old : State) → old.to_head ≡ is_asked_for_head known (exchange_on k t) t → Stands (heard k t) parts old → IsEnd Short old → IsJudged known t (UpEnd k) true
-ends_short known t k parts old asked s e = λ complete. e (heard k t) parts s (subst (λ (b : Bool). IsComplete (heard k t) true b) (sym asked) complete)
+pub ends_short : (known : Known) (t : List Entry) (k : ℕ) (parts : List Part) (old : State) → old.to_head ≡ is_asked_for_head known (exchange_on k t) t → Stands (heard_by (exchange_on k t) t) parts old → IsEnd Short old → IsJudged known t (UpEnd k) true
+ends_short known t k parts old asked s e = λ complete. e (heard_by (exchange_on k t) t) parts s (subst (λ (b : Bool). IsComplete (heard_by (exchange_on k t) t) true b) (sym asked) complete)

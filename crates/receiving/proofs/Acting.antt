@@ -1,5 +1,5 @@
 -- The invariant behind an act: a connection that is opened or closed, octets that are put out.
-use Rattle.std.proofs.Common.{◌≡◌, ℕ, ◌+◌, ◌≤◌, Bool, true, false, not, ◌==◌, List, ◌∷◌, length, refl, sym, ap, subst, ◌∙◌, arith, if◌then◌else◌, inl, inr}
+use Rattle.std.proofs.Common.{◌≡◌, ℕ, ◌+◌, ◌≤◌, Bool, true, false, not, ◌==◌, List, ◌∷◌, length, refl, sym, ap, subst, ◌∙◌, arith, if◌then◌else◌, inl, inr, []}
 use Rattle.std.proofs.lemmas.Bool.{and_parts, ne_eqb}
 use Rattle.std.proofs.lemmas.Bool.Decides.{eqb_tells}
 use Rattle.model.specs.Logs.Act.{Open, ToUp, Close, CloseClient}
@@ -7,11 +7,12 @@ use Rattle.model.specs.Setup.{Passing}
 use Rattle.model.specs.Setup.Passing.{Whole, Streaming}
 use Rattle.model.specs.Tapes.{Entry}
 use Rattle.model.specs.Tapes.Entry.{Did}
-use Rattle.model.specs.Openings.{connection_of, opens, last_stream}
+use Rattle.model.specs.Openings.{connection_of, exchanges, last_stream}
 use Rattle.model.specs.Lifetimes.{is_opened, is_over, is_active}
 use Rattle.receiving.specs.Marks.{total}
 use Rattle.receiving.specs.State.{fresh_of, Row, State, held, add, given, with_act}
 use Rattle.receiving.specs.Policy.{gates_on, MayOpen, MayPut}
+use Rattle.model.proofs.AloneLaws.{same_exchanges}
 use Rattle.receiving.proofs.Sums.{same_sum}
 use Rattle.receiving.proofs.Counting.{Counting}
 use Rattle.receiving.proofs.Incoming.{live_among}
@@ -29,11 +30,11 @@ module _ (passing : Passing) (t : List Entry) (s : State) (c : Counting t s) (h 
 
   -- octets are put out: the invariant stays
   pub keeping_put : (k : ℕ) (octets : List ℕ) → MayPut passing (gates_on t) s k → Keeping passing (Did (ToUp k octets) ∷ t) (record s { out = add k (length octets) s.out })
-  keeping_put k octets may = record {
+  keeping_put k octets may = let same = same_exchanges t k octets may.its in record {
     live = h.live;
-    unopened = h.unopened;
+    unopened = λ id out. ap (connection_of id) same ∙ h.unopened id out;
     shared = h.shared;
-    streams = λ id on. let old = h.streams id on in record { own = old.own; connection = old.connection; queue = queue_put passing k octets id may old.queue };
+    streams = λ id on. let old = h.streams id on in record { own = old.own; connection = old.connection ∙ sym (ap (connection_of id) same); queue = queue_put passing k octets id may old.queue };
   }
 
   -- a connection is opened
@@ -57,12 +58,12 @@ module _ (passing : Passing) (t : List Entry) (s : State) (c : Counting t s) (h 
       elim (eqb_tells s.stream id) [
         | inl is ↦ subst (λ (b : Bool). Stands passing (Did (Open k route) ∷ t) id (if b then given k (s.row id) else s.row id) s.took s.out s.settled (fresh_of s id)) (sym is.0) (record {
           own = old.own;
-          connection = sym (ap (λ b. if b then k else connection_of id (opens t)) (there ∙ is.0));
+          connection = sym (ap (λ b. if b then k else connection_of id (exchanges t)) (there ∙ is.0));
           queue = queue_opened passing k route id may (ap (λ n. (s.row n).k) (sym is.1) ∙ may.first) old.queue;
         })
         | inr off ↦ subst (λ (b : Bool). Stands passing (Did (Open k route) ∷ t) id (if b then given k (s.row id) else s.row id) s.took s.out s.settled (fresh_of s id)) (sym off.0) (record {
           own = old.own;
-          connection = old.connection ∙ sym (ap (λ b. if b then k else connection_of id (opens t)) (there ∙ off.0));
+          connection = old.connection ∙ sym (ap (λ b. if b then k else connection_of id (exchanges t)) (there ∙ off.0));
           queue = queue_beside passing k route id old.queue;
         })
       ]
@@ -73,9 +74,9 @@ module _ (passing : Passing) (t : List Entry) (s : State) (c : Counting t s) (h 
   held_given false k r = refl
 
   -- the stream that gets it was opened
-  unopened_yet : (k route : ℕ) → MayOpen s k → (id : ℕ) → is_opened id t ≡ false → (if last_stream t == id then k else connection_of id (opens t)) ≡ 0
+  unopened_yet : (k route : ℕ) → MayOpen s k → (id : ℕ) → is_opened id t ≡ false → (if last_stream t == id then k else connection_of id (exchanges t)) ≡ 0
   unopened_yet k route may id out =
-      ap (λ b. if b then k else connection_of id (opens t)) (ne_eqb (last_stream t) id (λ same.
+      ap (λ b. if b then k else connection_of id (exchanges t)) (ne_eqb (last_stream t) id (λ same.
       let on : is_active id t ≡ true = ap (λ n. is_active n t) (sym (c.last ∙ same)) ∙ sym (live_among passing t s s.stream h) ∙ may.active in
       let there : is_opened id t ≡ true = (and_parts (is_opened id t) (not (is_over id t)) on).0 in
       absurd (let no : true ≡ false = sym there ∙ out in cc)))

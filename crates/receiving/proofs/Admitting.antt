@@ -1,5 +1,5 @@
 -- Which event may come, and how many octets of an upstream, by the state as by the tape.
-use Rattle.std.proofs.Common.{◌≡◌, ℕ, ◌+◌, ◌-◌, ◌≤◌, Bool, true, false, not, ◌&&◌, List, length, refl, sym, ap, subst, ◌∙◌, arith, if◌then◌else◌}
+use Rattle.std.proofs.Common.{◌≡◌, ℕ, ◌+◌, ◌-◌, ◌≤◌, Bool, true, false, not, ◌&&◌, List, length, refl, sym, ap, subst, ◌∙◌, arith, if◌then◌else◌, inl, inr}
 use Rattle.std.specs.Prelude.{nat_le}
 use Rattle.std.proofs.lemmas.Bool.{leb-true, le-leb, and_parts, and_from}
 use Rattle.model.specs.Logs.{Event}
@@ -7,15 +7,15 @@ use Rattle.model.specs.Logs.Event.{Client, ClientEnd, ClientTook, Up, UpEnd, UpF
 use Rattle.model.specs.Setup.{Passing}
 use Rattle.model.specs.Setup.Passing.{Whole, Streaming}
 use Rattle.model.specs.Tapes.{Entry, sent, is_closed}
-use Rattle.model.specs.Openings.{opens, given}
+use Rattle.model.specs.Openings.{exchanges, given, exchange_on}
 use Rattle.model.specs.WindowsOnTape.{is_on, data_octets}
 use Rattle.model.specs.Known.{Known}
 use Rattle.model.specs.Admission.{untaken_up, is_open, room, is_in_order, is_admitted}
-use Rattle.model.specs.Rooms.{IsRoom, FitsRoom, IsAdmitted}
+use Rattle.model.specs.Rooms.{IsRoom, FitsRoom, IsAdmitted, HasRoomBeside}
 use Rattle.model.proofs.SeenLaws.{one_seen}
 use Rattle.receiving.specs.State.{State}
 use Rattle.receiving.specs.Policy.{Gates, AreGates, gates_on, room_in, may_come, admits}
-use Rattle.receiving.specs.Rooms.{IsHeld, AreHeld, room_left, fits, admits_beside}
+use Rattle.receiving.specs.Rooms.{HoldsBody, IsHeld, AreHeld, room_left, fits, admits_beside}
 use Rattle.receiving.proofs.Counting.{Counting}
 
 -- ---- the event's own numbers
@@ -61,27 +61,37 @@ module _ (t : List Entry) (s : State) (gates : Gates) (told : AreGates t gates) 
 -- ---- the room of an upstream
 
 module _ (known : Known) (t : List Entry) (s : State) (gates : Gates) (told : AreGates t gates) (held : ℕ → ℕ) (c : Counting t s) where
-  -- the room that is left is the tape's
-  is_room : (passing : Passing) (k : ℕ) → IsHeld passing known t k (held k) → IsRoom passing known k t (room_left gates held k)
-  is_room Whole k h = ap (λ n. room_in gates k - n) h ∙ none (room_in gates k) ∙ room_same t s gates told k
-    where
-      none : (n : ℕ) → n - 0 ≡ n
-      none n = omega arith
-  is_room Streaming k h = record {
+  beside : (k : ℕ) → HoldsBody known (exchange_on k t) t (held k) → HasRoomBeside known (exchange_on k t) t (room_left gates held k)
+  beside k h = record {
     interims = h.interims;
     head = h.head;
     octets = h.octets;
     seen = h.seen;
-    is = ap (λ n. room_in gates k - n) h.is ∙ ap (λ n. n - (length h.octets - data_octets (is_on (given k (opens t))) (sent t))) (room_same t s gates told k);
+    is = ap (λ n. room_in gates k - n) h.is ∙ ap (λ n. n - (length h.octets - data_octets (is_on (given k (exchanges t))) (sent t))) (room_same t s gates told k);
   }
+
+  -- the room that is left is the tape's
+  pub is_room : (passing : Passing) (k : ℕ) → IsHeld passing known t k (held k) → IsRoom passing known k t (room_left gates held k)
+  is_room Whole k h = ap (λ n. room_in gates k - n) h ∙ none (room_in gates k) ∙ room_same t s gates told k
+    where
+      none : (n : ℕ) → n - 0 ≡ n
+      none n = omega arith
+  is_room Streaming k (inl idle) = inl (idle.0, ap (λ n. room_in gates k - n) idle.1 ∙ none (room_in gates k) ∙ room_same t s gates told k)
+    where
+      none : (n : ℕ) → n - 0 ≡ n
+      none n = omega arith
+  is_room Streaming k (inr (busy, h)) = inr (busy, beside k h)
 
   -- and the only one
   one_room : (passing : Passing) (k count : ℕ) → IsHeld passing known t k (held k) → IsRoom passing known k t count → count ≡ room_left gates held k
   one_room Whole k count h r = r ∙ sym (is_room Whole k h)
-  one_room Streaming k count h r =
-      let mine = is_room Streaming k h in
+  one_room Streaming k count (inl idle) (inl r) = r.1 ∙ sym (is_room Whole k idle.1)
+  one_room Streaming k count (inl idle) (inr r) = absurd (r.0 idle.0)
+  one_room Streaming k count (inr h) (inl r) = absurd (h.0 r.0)
+  one_room Streaming k count (inr (busy, h)) (inr (busy', r)) =
+      let mine = beside k h in
       let same : r.octets ≡ mine.octets = (one_seen _ _ r.interims mine.interims r.head mine.head r.octets mine.octets r.seen mine.seen).octets in
-      r.is ∙ ap (λ (octets : List ℕ). room k t - (length octets - data_octets (is_on (given k (opens t))) (sent t))) same ∙ sym mine.is
+      r.is ∙ ap (λ (octets : List ℕ). room k t - (length octets - data_octets (is_on (given k (exchanges t))) (sent t))) same ∙ sym mine.is
 
   -- an upstream of which octets may come is open
   is_open_there : (k : ℕ) (piece : List ℕ) → is_admitted t (Up k piece) ≡ true → is_open k t ≡ true

@@ -3,7 +3,7 @@ use Rattle.std.proofs.Common.{◌≡◌, ℕ, ◌+◌, ◌≤◌, Bool, true, fa
 use Rattle.std.specs.Prelude.{Option, Some, None, is_some, ◌&&◌}
 use Rattle.std.proofs.lemmas.Bool.{eq-eqb, ne_eqb}
 use Rattle.std.proofs.lemmas.Bool.Decides.{eqb_tells}
-use Rattle.model.specs.Messages.{Field, Item}
+use Rattle.model.specs.Messages.{Item}
 use Rattle.model.specs.Messages.Item.{Block, Content}
 use Rattle.model.specs.Frames.{data_kind, headers_kind, continuation_kind, content, ends_stream}
 use Rattle.model.specs.ResponseHeads.{Head}
@@ -11,9 +11,9 @@ use Rattle.model.specs.Tapes.{Note, Noted, Entry, sent}
 use Rattle.model.specs.Tapes.Note.{NoBlock, Fields, Undecodable, Unread}
 use Rattle.model.specs.Decoding.{Partial, completed}
 use Rattle.model.specs.Streams.{block_items, frame_items}
-use Rattle.model.specs.Openings.{Opened, opens, given, exchange_on, AreNumbered}
+use Rattle.model.specs.Openings.{Opened, exchanges, given, exchange_on, AreNumbered}
 use Rattle.model.specs.Deliveries.{End, Delivery, ReadsAs, AreInterims, AreContents, IsAnsweredBy}
-use Rattle.model.specs.Available.{heard, items_on, IsIn}
+use Rattle.model.specs.Available.{heard_by, items_on, IsIn}
 use Rattle.model.specs.Responses.{Seen}
 use Rattle.model.specs.Known.{Known}
 use Rattle.model.specs.Courses.{items}
@@ -21,6 +21,10 @@ use Rattle.model.specs.Offers.{is_to_head}
 use Rattle.model.specs.WindowsOnTape.{is_on, is_any, data_length, data_octets}
 use Rattle.offering.specs.Outbox.{Outbox, offered_by, Fits}
 use Rattle.offering.specs.Outbox.Outbox.{Before, Behind, Over}
+use Rattle.model.specs.Responses.{IsComplete}
+use Rattle.model.specs.Idle.{MayBeKept, IsIdle}
+use Rattle.model.proofs.DeliveryReadings.{one_number}
+use Rattle.model.proofs.ExchangeLaws.{newest_in}
 use Rattle.receiving.specs.Rooms.{HoldsBody}
 use Rattle.receiving.specs.Held.{body_in, AreUnpadded, HasOutbox}
 use Rattle.receiving.proofs.Tapes.{none_completed, data_on}
@@ -143,10 +147,19 @@ given_is o k (p ∷ os) numbered (inr there) is =
     let le = number_within o os numbered.1 there in
     ap (λ b. if b then p.stream else given k os) (ne_eqb p.k k (λ e. let at = numbered.0 in omega (arith, e, at, le, is))) ∙ given_is o k os numbered.1 there is
 
-module _ (known : Known) (t : List Entry) (k : ℕ) (box : Outbox) (numbered : AreNumbered (opens t)) (h : HasOutbox known t k box) (bare : AreUnpadded (sent t)) where
+module _ (known : Known) (t : List Entry) (k : ℕ) (box : Outbox) (numbered : AreNumbered (exchanges t)) (h : HasOutbox known t k box) (bare : AreUnpadded (sent t)) where
   -- the connection's stream
-  stream_is : given k (opens t) ≡ h.o.stream
-  stream_is = given_is h.o k (opens t) numbered h.there h.number
+  stream_is : given k (exchanges t) ≡ h.o.stream
+  stream_is = given_is h.o k (exchanges t) numbered h.there h.number
+
+  newest : exchange_on k t ≡ h.o
+  newest = one_number (exchanges t) (exchange_on k t) h.o numbered (newest_in k (exchanges t) h.o h.there h.number) h.there (sym h.number)
+
+  -- a connection of which the response isn't whole isn't idle
+  pub busy : IsIdle known t k → ⊥
+  busy i =
+      let kept : MayBeKept known t h.o = subst (MayBeKept known t) newest i.kept in
+      h.begun.not_whole (subst (λ (b : Bool). IsComplete (heard_by h.o t) b (is_to_head (items known h.o.stream t))) (sym kept.not_ended) (kept.answered.response, kept.answered.reads))
 
   -- So much is held of the response.
   pub holds_body : HoldsBody known (exchange_on k t) t (length (body_in box))
@@ -154,11 +167,11 @@ module _ (known : Known) (t : List Entry) (k : ℕ) (box : Outbox) (numbered : A
       let all = body_parts (items_on h.o.stream (sent t)) h.read box h.reads h.fits in
       let said : length (offered_by h.read box).body ≡ length h.begun.octets = ap (λ (d : Delivery). length d.body) h.begun.says in
       let counted : length h.read.body ≡ data_octets (is_on h.o.stream) (sent t) = sym (read_contents (items_on h.o.stream (sent t)) h.read h.reads) ∙ sent_contents h.o.stream (sent t) bare in
-      let same : data_octets (is_on (given k (opens t))) (sent t) ≡ data_octets (is_on h.o.stream) (sent t) = ap (λ (n : ℕ). data_octets (is_on n) (sent t)) stream_is in
+      let same : data_octets (is_on (given k (exchanges t))) (sent t) ≡ data_octets (is_on h.o.stream) (sent t) = ap (λ (n : ℕ). data_octets (is_on n) (sent t)) stream_is in
       record {
         interims = h.begun.interims;
         head = h.begun.head;
         octets = h.begun.octets;
-        seen = subst (λ (n : ℕ). Seen (heard k t) (is_to_head (items known n t)) h.begun.interims h.begun.head h.begun.octets) (sym stream_is) h.begun.seen;
+        seen = subst (λ (o : Opened). Seen (heard_by o t) (is_to_head (items known o.stream t)) h.begun.interims h.begun.head h.begun.octets) (sym newest) h.begun.seen;
         is = omega (arith, all, said, counted, same);
       }

@@ -8,7 +8,7 @@ use Rattle.model.specs.Logs.Act.{Open, ToUp}
 use Rattle.model.specs.Tapes.{Noted, Breach, Entry, came, sent, sent_up}
 use Rattle.model.specs.Tapes.Entry.{Came, Breached, Happened, Sent, Did}
 use Rattle.model.specs.Logs.{Event}
-use Rattle.model.specs.Openings.{connection_of, opens}
+use Rattle.model.specs.Openings.{connection_of, exchanges}
 use Rattle.model.specs.Lifetimes.{active, is_opened, is_active}
 use Rattle.model.specs.WindowsOnTape.{is_on, is_any, data_length, data_octets, increments}
 use Rattle.model.specs.WindowClause.{waiting}
@@ -36,7 +36,7 @@ BalancesOn t id r fresh = data_octets (is_on id) (came t) ≡ increments id (sen
 -- The row of an active stream stands for it.
 pub record Stands (passing : Passing) (t : List Entry) (id : ℕ) (r : Row) (took out : ℕ → ℕ) (settled : Bool) (fresh : ℕ) : Type 0 where
   pub own : BalancesOn t id r fresh
-  pub connection : r.k ≡ connection_of id (opens t)
+  pub connection : r.k ≡ connection_of id (exchanges t)
   pub queue : IsQueue passing t id r took out settled fresh
 
 -- the same, of the row that is kept
@@ -51,7 +51,7 @@ Balances t s = data_octets is_any (came t) ≡ increments 0 (sent t) + (sum_by (
 pub record Keeping (passing : Passing) (t : List Entry) (s : State) : Type 0 where
   pub live : s.live ≡ active t
   -- a stream that wasn't opened has no connection
-  pub unopened : (id : ℕ) → is_opened id t ≡ false → connection_of id (opens t) ≡ 0
+  pub unopened : (id : ℕ) → is_opened id t ≡ false → connection_of id (exchanges t) ≡ 0
   pub shared : Balances t s
   pub streams : (id : ℕ) → is_active id t ≡ true → StandsIn passing t s id
 

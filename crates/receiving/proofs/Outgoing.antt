@@ -8,7 +8,7 @@ use Rattle.model.specs.Setup.{Passing}
 use Rattle.model.specs.Setup.Passing.{Whole, Streaming}
 use Rattle.model.specs.Tapes.{Noted, Entry}
 use Rattle.model.specs.Tapes.Entry.{Sent}
-use Rattle.model.specs.Openings.{connection_of, opens}
+use Rattle.model.specs.Openings.{connection_of, exchanges}
 use Rattle.model.specs.Lifetimes.{active, is_active}
 use Rattle.model.specs.WindowsOnTape.{increment}
 use Rattle.model.proofs.ActiveLaws.{active_beside}
@@ -43,7 +43,7 @@ module _ (passing : Passing) (t : List Entry) (s : State) (c : Counting t s) (h 
       let old = h.streams id on in
       by (s.stream == id) refl old.own old.connection (λ debt. queue_back passing id debt on no_wait old.queue)
     where
-      by : (b : Bool) → (s.stream == id) ≡ b → BalancesOn t id (s.row id) (if b then s.count else 0) → (s.row id).k ≡ connection_of id (opens t)
+      by : (b : Bool) → (s.stream == id) ≡ b → BalancesOn t id (s.row id) (if b then s.count else 0) → (s.row id).k ≡ connection_of id (exchanges t)
           → ((debt : ℕ) → IsQueue passing t id (record { k = (s.row id).k; queue = (s.row id).queue; debt = debt }) s.took s.out true 0)
           → Stands passing t id (if b then owing s.count (s.row id) else s.row id) s.took s.out true (if s.stream == id then 0 else 0)
       by true e own k q = subst (λ (n : ℕ). Stands passing t id (owing s.count (s.row id)) s.took s.out true n) (sym (ap (λ b. if b then 0 else 0) e)) (record { own = omega (arith, own); connection = k; queue = q ((s.row id).debt + s.count) })

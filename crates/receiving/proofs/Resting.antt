@@ -10,7 +10,7 @@ use Rattle.model.specs.Setup.Passing.{Whole, Streaming}
 use Rattle.model.specs.Tapes.{Noted, Entry, came, sent, sent_up}
 use Rattle.model.specs.Tapes.Entry.{Sent}
 use Rattle.model.specs.Known.{Known}
-use Rattle.model.specs.Openings.{connection_of, route_of, opens}
+use Rattle.model.specs.Openings.{connection_of, route_of, exchanges}
 use Rattle.model.specs.Windows.{first_window, sending_window}
 use Rattle.model.specs.Lifetimes.{is_active, is_ended_by_client}
 use Rattle.model.specs.WindowsOnTape.{is_on, is_any, data_octets, increments, room_on, room_on_connection}
@@ -103,7 +103,7 @@ module _ (t : List Entry) (s : State) (c : Counting t s) (none : s.count ≡ 0) 
       ap (λ n. waiting (exchange id (s.row id).k) n t (s.out (s.row id).k)) (c.took (s.row id).k)
       ∙ ap (λ n. waiting (exchange id (s.row id).k) (taken (s.row id).k t) t n) (c.out (s.row id).k)
       ∙ ap (λ j. waiting (exchange id j) (taken j t) t (length (sent_up j t))) h.connection
-      ∙ by_any_route id (connection_of id (opens t)) 0 (route_of (connection_of id (opens t)) (opens t)) (taken (connection_of id (opens t)) t) t (length (sent_up (connection_of id (opens t)) t)) in
+      ∙ by_any_route id (connection_of id (exchanges t)) 0 (route_of (connection_of id (exchanges t)) (exchanges t)) (taken (connection_of id (exchanges t)) t) t (length (sent_up (connection_of id (exchanges t)) t)) in
       omega (arith, all, zero, wait, same)
     where
       either : (b : Bool) (n : ℕ) → n ≡ 0 → (if b then n else 0) ≡ 0

@@ -10,7 +10,7 @@ use Rattle.model.specs.Setup.{Passing}
 use Rattle.model.specs.Decoding.{completed}
 use Rattle.model.specs.Known.{Known}
 use Rattle.model.specs.Openings.{last_stream}
-use Rattle.model.specs.Lifetimes.{is_ended_by_client, opened, opens_by, is_opened, active, is_active}
+use Rattle.model.specs.Lifetimes.{opened, opens_by, is_opened, active, is_active}
 use Rattle.model.specs.WindowClause.{GivesBack, GoesBack}
 use Rattle.model.specs.Headline.{HoldsInTurn}
 use Rattle.model.proofs.OpenedLaws.{opens_own, opens_new}
@@ -110,7 +110,7 @@ module _ (known : Known) (t : List Entry) (s : State) (noted : Noted) (before be
 -- an act that may be done by what is told may be by the tape
 acts_by : (passing : Passing) (t : List Entry) (s : State) (gates : Gates) → AreGates t gates → (act : Act) → MayDo passing gates s act → MayDo passing (gates_on t) s act
 acts_by passing t s gates told (Open k route) may = may
-acts_by passing t s gates told (ToUp k octets) may = record { opened = sym (told.is_up k) ∙ may.opened; in_effect = may.in_effect }
+acts_by passing t s gates told (ToUp k octets) may = record { opened = sym (told.is_up k) ∙ may.opened; its = sym (told.given k) ∙ may.its ∙ told.last; in_effect = may.in_effect }
 acts_by passing t s gates told (Close k) may = may
 acts_by passing t s gates told CloseClient may = may
 
@@ -131,7 +131,7 @@ last_right known (x ∷ run) right = right.1
 
 -- and so is what is told
 last_told : (known : Known) (run : List Seen) → AreRight known run → AreGates (tape_of (moves_of run)) (gates_of run)
-last_told known [] right = record { is_up = λ k. refl; live = refl; last = refl; untaken = refl; closed = refl }
+last_told known [] right = record { is_up = λ k. refl; given = λ k. refl; live = refl; last = refl; untaken = refl; closed = refl }
 last_told known (x ∷ run) right = right.2
 
 -- So a run is allowed, and the state of what is kept and told is that of its moves.

@@ -12,10 +12,10 @@ use Rattle.model.specs.Setup.{Passing}
 use Rattle.model.specs.Setup.Passing.{Whole, Streaming}
 use Rattle.model.specs.Tapes.{Noted, Breach, Entry, came, sent, sent_up}
 use Rattle.model.specs.Tapes.Entry.{Came, Breached, Happened, Sent, Did}
-use Rattle.model.specs.Openings.{connection_of, route_of, opens, last_stream}
+use Rattle.model.specs.Openings.{connection_of, route_of, exchanges, given, last_stream}
 use Rattle.model.specs.Windows.{first_window, sending_window}
 use Rattle.model.specs.Lifetimes.{active, is_active}
-use Rattle.model.specs.WindowsOnTape.{is_on, increment, data_length, data_octets, increments, room_on}
+use Rattle.model.specs.WindowsOnTape.{is_on, increment, data_length, data_octets, increments}
 use Rattle.model.specs.WindowClause.{taken, waiting, kept, HoldsBack}
 use Rattle.receiving.specs.Marks.{Mark, total, waiting_of}
 use Rattle.receiving.specs.State.{exchange, fresh_of, State, Move, after, with_event, with_given, settle_by, must_wait, entries_of, tape_of, state_of}
@@ -24,12 +24,13 @@ use Rattle.receiving.specs.Policy.{Holds, AreAllowed, IsOwed, MayGive, MayOpen}
 use Rattle.receiving.proofs.Sums.{is_among}
 use Rattle.receiving.proofs.Tapes.{among_active, active_given, by_any_route}
 use Rattle.receiving.proofs.Counting.{Counting}
-use Rattle.receiving.proofs.Keeping.{Waits, StandsIn, Keeping}
+use Rattle.receiving.proofs.Keeping.{Waits, StandsIn}
+use Rattle.model.proofs.AloneLaws.{same_exchanges}
 use Rattle.receiving.proofs.Resting.{Receiving, receiving}
 
 -- the connection of a stream
 abbrev upstream : ℕ → List Entry → ℕ
-upstream id t = connection_of id (opens t)
+upstream id t = connection_of id (exchanges t)
 
 -- What was given back on a stream and what waits is no more than came, whatever is taken and, until a frame's effect is over, put out.
 abbrev pub IsHeldBack : Passing → List Entry → Bool → ℕ → Type 0
@@ -137,10 +138,14 @@ opened_held Streaming t k route settled id other h = λ n put le cond.
     let here : waiting (exchange id (upstream id (Did (Open k route) ∷ t))) n t put ≡ waiting (exchange id (upstream id t)) n t put = ap (λ j. waiting (exchange id j) n t put) same in
     omega (arith, old, here)
 
--- more is put out, before a frame's effect is over
-put_held : (passing : Passing) (t : List Entry) (k : ℕ) (octets : List ℕ) (settled : Bool) (id : ℕ) → (passing ≡ Streaming → settled ≡ false) → IsHeldBack passing t settled id → IsHeldBack passing (Did (ToUp k octets) ∷ t) settled id
-put_held Whole t k octets settled id before h = h
-put_held Streaming t k octets settled id before h = λ n put le cond. h n put le (λ e. absurd (let no : true ≡ false = sym e ∙ before refl in cc))
+-- more is put out for the exchange of the last frame's stream, before that frame's effect is over
+put_held : (passing : Passing) (t : List Entry) (k : ℕ) (octets : List ℕ) (settled : Bool) (id : ℕ) → given k (exchanges t) ≡ last_stream t → (passing ≡ Streaming → settled ≡ false) → IsHeldBack passing t settled id → IsHeldBack passing (Did (ToUp k octets) ∷ t) settled id
+put_held Whole t k octets settled id its before h = h
+put_held Streaming t k octets settled id its before h = λ n put le cond.
+    let same : upstream id (Did (ToUp k octets) ∷ t) ≡ upstream id t = ap (connection_of id) (same_exchanges t k octets its) in
+    let old = h n put (subst (λ (j : ℕ). taken j t ≤ n) same le) (λ e. absurd (let no : true ≡ false = sym e ∙ before refl in cc)) in
+    let here : waiting (exchange id (upstream id (Did (ToUp k octets) ∷ t))) n t put ≡ waiting (exchange id (upstream id t)) n t put = ap (λ j. waiting (exchange id j) n t put) same in
+    omega (arith, old, here)
 
 closed_held : (passing : Passing) (t : List Entry) (k : ℕ) (settled : Bool) (id : ℕ) → IsHeldBack passing t settled id → IsHeldBack passing (Did (Close k) ∷ t) settled id
 closed_held Whole t k settled id h = h
@@ -209,7 +214,7 @@ over_held passing t s (Gives noted) id counted r off h may =
     (sent_held passing t noted s.settled id (ap (λ b. noted.frame.kind == window_update_kind && b) (gives_elsewhere t s noted id counted may off) ∙ and_right (noted.frame.kind == window_update_kind) false refl) h)
 over_held passing t s (Sends noted over) id counted r off h may = sent_held passing t noted s.settled id (ap (λ b. b && noted.frame.id == id) may.kind) h
 over_held passing t s (Acts (Open k route)) id counted r off h may = opened_held passing t k route s.settled id (opens_elsewhere t s k id r.keeping.live r.counting.last may off) h
-over_held passing t s (Acts (ToUp k octets)) id counted r off h may = put_held passing t k octets s.settled id may.in_effect h
+over_held passing t s (Acts (ToUp k octets)) id counted r off h may = put_held passing t k octets s.settled id may.its may.in_effect h
 over_held passing t s (Acts (Close k)) id counted r off h may = closed_held passing t k s.settled id h
 over_held passing t s (Acts CloseClient) id counted r off h may = shut_held passing t s.settled id h
 
@@ -239,7 +244,7 @@ kept_less Whole t settled id h = omega (arith, h)
 kept_less Streaming t settled id h =
     let k = upstream id t in
     let old = h (taken k t) (length (sent_up k t)) (omega arith) (λ e. refl) in
-    let same : waiting (exchange id k) (taken k t) t (length (sent_up k t)) ≡ kept Streaming id t = by_any_route id k 0 (route_of k (opens t)) (taken k t) t (length (sent_up k t)) in
+    let same : waiting (exchange id k) (taken k t) t (length (sent_up k t)) ≡ kept Streaming id t = by_any_route id k 0 (route_of k (exchanges t)) (taken k t) t (length (sent_up k t)) in
     omega (arith, old, same)
 
 -- What is kept for a stream isn't given back on it.

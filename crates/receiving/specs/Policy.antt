@@ -11,7 +11,8 @@ use Rattle.model.specs.Admission.{untaken, is_open}
 use Rattle.model.specs.Tapes.Entry.{Came, Sent}
 use Rattle.model.specs.Decoding.{completed}
 use Rattle.model.specs.Windows.{first_window}
-use Rattle.model.specs.Openings.{opens, last_stream}
+use Rattle.model.specs.Openings as openings
+use Rattle.model.specs.Openings.{exchanges, last_stream}
 use Rattle.model.specs.Lifetimes.{opens_by, opened, active, is_active, is_ended_by_client}
 use Rattle.model.specs.WindowsOnTape.{increment, room_on}
 use Rattle.model.specs.Known.{Known}
@@ -25,6 +26,8 @@ use Rattle.receiving.specs.State.Move.{Takes, Breaks, Hears, Settles, Gives, Sen
 -- the newest first, which is that of the last frame, how many octets for the client aren't taken, and whether its connection was closed.
 pub record Gates : Type 0 where
   pub is_up : ℕ → Bool
+  -- the stream that a connection was given to last, or 0
+  pub given : ℕ → ℕ
   pub live : List ℕ
   pub last : ℕ
   pub untaken : ℕ
@@ -33,6 +36,7 @@ pub record Gates : Type 0 where
 -- It is so.
 pub record AreGates (t : List Entry) (gates : Gates) : Type 0 where
   pub is_up : (k : ℕ) → gates.is_up k ≡ is_open k t
+  pub given : (k : ℕ) → gates.given k ≡ openings.given k (exchanges t)
   pub live : gates.live ≡ active t
   pub last : gates.last ≡ last_stream t
   pub untaken : gates.untaken ≡ untaken t
@@ -40,7 +44,7 @@ pub record AreGates (t : List Entry) (gates : Gates) : Type 0 where
 
 -- what a tape tells of them
 abbrev pub gates_on : List Entry → Gates
-gates_on t = record { is_up = λ k. is_open k t; live = active t; last = last_stream t; untaken = untaken t; closed = is_closed t }
+gates_on t = record { is_up = λ k. is_open k t; given = λ k. openings.given k (exchanges t); live = active t; last = last_stream t; untaken = untaken t; closed = is_closed t }
 
 -- how many octets of an upstream may come, but for what is held of its response
 abbrev pub room_in : Gates → ℕ → ℕ
@@ -108,9 +112,10 @@ pub record MayOpen (s : State) (k : ℕ) : Type 0 where
   pub unused : s.out k ≡ 0
   pub untaken : s.took k ≡ 0
 
--- Octets go to a connection that is open; where requests are passed on as they come, before the frame's effect is over.
+-- Octets go to a connection that is open and given to the stream of the last frame; where requests are passed on as they come, before the frame's effect is over.
 pub record MayPut (passing : Passing) (gates : Gates) (s : State) (k : ℕ) : Type 0 where
   pub opened : gates.is_up k ≡ true
+  pub its : gates.given k ≡ gates.last
   pub in_effect : passing ≡ Streaming → s.settled ≡ false
 
 -- The act may be done.

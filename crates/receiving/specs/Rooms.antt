@@ -1,5 +1,5 @@
 -- How many octets of an upstream may come, where its response takes room.
-use Rattle.std.specs.Prelude.{◌≡◌, ℕ, ◌-◌, Bool, true, ◌&&◌, nat_le, List, length, Option}
+use Rattle.std.specs.Prelude.{◌≡◌, ℕ, ◌-◌, ◌⊎◌, Bool, true, ◌&&◌, nat_le, List, length, Option}
 use Rattle.model.specs.ResponseHeads.{Head}
 use Rattle.model.specs.Responses.{Seen}
 use Rattle.model.specs.Logs.{Event}
@@ -12,7 +12,7 @@ use Rattle.model.specs.Admission.{is_open}
 use Rattle.model.specs.Openings.{Opened, exchange_on}
 use Rattle.model.specs.Available.{heard_by}
 use Rattle.model.specs.WindowsOnTape.{is_on, data_octets}
-use Rattle.model.specs.Failures.{is_asked_for_head}
+use Rattle.model.specs.Idle.{is_asked_for_head, IsIdle}
 use Rattle.receiving.specs.State.{State}
 use Rattle.receiving.specs.Policy.{Gates, room_in, admits}
 
@@ -24,10 +24,10 @@ pub record HoldsBody (known : Known) (o : Opened) (t : List Entry) (count : ℕ)
   pub seen : Seen (heard_by o t) (is_asked_for_head known o t) interims head octets
   pub is : count ≡ length octets - data_octets (is_on o.stream) (sent t)
 
--- so many take room: none where responses are passed on whole
+-- so many take room: none where responses are passed on whole, nor of a connection that is idle
 abbrev pub IsHeld : Passing → Known → List Entry → ℕ → ℕ → Type 0
 IsHeld Whole known t k count = count ≡ 0
-IsHeld Streaming known t k count = HoldsBody known (exchange_on k t) t count
+IsHeld Streaming known t k count = (IsIdle known t k × (count ≡ 0)) ⊎ ((IsIdle known t k → ⊥) × HoldsBody known (exchange_on k t) t count)
 
 -- the room that is left
 abbrev pub room_left : Gates → (ℕ → ℕ) → ℕ → ℕ

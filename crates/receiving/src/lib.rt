@@ -17,7 +17,8 @@ ghost use Rattle.std.specs.Prelude.{◌≡◌, ◌≢◌, ◌+◌, ℕ, true, Li
 ghost use Rattle.model.specs.Setup.{Passing};
 ghost use Rattle.model.specs.Logs.{Event};
 ghost use Rattle.model.specs.Tapes.{Entry, sent};
-ghost use Rattle.model.specs.Openings.{Opened, exchange_on, opens, AreNumbered};
+ghost use Rattle.model.specs.Openings.{Opened, exchanges, AreNumbered};
+ghost use Rattle.model.specs.Setup.Passing.{Streaming};
 ghost use Rattle.model.specs.Windows.{first_window};
 ghost use Rattle.model.specs.WindowsOnTape.{room_on, room_on_connection};
 ghost use Rattle.model.specs.Known.{Known};
@@ -29,7 +30,7 @@ ghost use Rattle.model.specs.WindowClause.{GivesBack, GoesBack, GivesNoMore, Hol
 ghost use Rattle.receiving.specs.State.{Move, tape_of, state_of, held, fresh_of, with_taken, add};
 ghost use Rattle.receiving.specs.Policy.{AreAllowed, IsPaid, KeepRooms, Gates, AreGates, admits, room_in};
 ghost use Rattle.receiving.specs.Rule.{Seen, moves_of, sight_of, state_behind, AllMayCome, AreRight, OwesNothing, OwesSome};
-ghost use Rattle.receiving.specs.Rooms.{HoldsBody, AreHeld, admits_beside};
+ghost use Rattle.receiving.specs.Rooms.{IsHeld, AreHeld, admits_beside};
 ghost use Rattle.offering.specs.Outbox.{Outbox};
 ghost use Rattle.receiving.specs.Held.{HasOutbox, AreUnpadded, body_in};
 ghost use Rattle.receiving.specs.Marks.{released, waiting_of};
@@ -81,5 +82,5 @@ pub fn admission_is_told()
 
 /// Where responses are passed on as they come, what takes room is the body in the outbox of the upstream's stream.
 pub fn held_is_told()
-    ensures { (known : Known) (t : List Entry) (k : ℕ) (box : Outbox) → AreNumbered (opens t) → HasOutbox known t k box → AreUnpadded (sent t) → HoldsBody known (exchange_on k t) t (length (body_in box)) }
+    ensures { (known : Known) (t : List Entry) (k : ℕ) (box : Outbox) → AreNumbered (exchanges t) → HasOutbox known t k box → AreUnpadded (sent t) → IsHeld Streaming known t k (length (body_in box)) }
 {}

@@ -126,5 +126,6 @@ fn config(
         passing,
         max_body: 1048576,
         max_response: 1048576,
+        keep: false,
     })
 }

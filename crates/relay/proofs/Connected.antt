@@ -7,6 +7,7 @@ use Rattle.model.specs.Openings.{Opened, opens, connection_of, AreNumbered, AreA
 use Rattle.model.specs.Available.{IsIn}
 use Rattle.model.proofs.DeliveryReadings.{one_number, one_connection}
 use Rattle.model.proofs.GivenLaws.{number_above}
+use Rattle.model.proofs.ExchangeLaws.{none_kept}
 use Rattle.receiving.specs.State as windows
 use Rattle.receiving.specs.State.{is_live}
 use Rattle.receiving.specs.Rule.{moves_of}
@@ -97,6 +98,7 @@ module _ (setup : Setup) (run : List Move) (kept : View) (pending : Pending) (s 
   row_connection id on =
       let receives : Receiving setup.passing t rooms = windows_here setup run s leads.stands leads.so in
       (receives.keeping.streams id (sym (live_among setup.passing t rooms id receives.keeping) ∙ on)).connection
+      ∙ ap (connection_of id) (none_kept (own setup run s leads.stands leads.so) t stand.off stand.in_time)
 
   -- The row of its stream has its number, while that is active.
   pub its_row : is_live rooms stream ≡ true → (rooms.row stream).k ≡ k

@@ -7,11 +7,12 @@ use Rattle.model.specs.Malformed.{is_begun}
 use Rattle.model.specs.Courses.{course, items}
 use Rattle.model.specs.Setup.{Setup}
 use Rattle.model.specs.Tapes.{Entry, sent}
-use Rattle.model.specs.Available.{items_on}
+use Rattle.model.specs.Available.{items_on, IsIn}
 use Rattle.model.specs.Deliveries.{Delivery}
 use Rattle.model.specs.Known.{Known}
 use Rattle.model.specs.Causes.{Cause}
 use Rattle.model.specs.Lifetimes.{is_active}
+use Rattle.model.proofs.ExchangeLaws.{none_kept}
 use Rattle.model.proofs.HeadLaws.{out_by_read}
 use Rattle.conduct.specs.Summary.{Stream as Conducted, summary_of, stream_of}
 use Rattle.conduct.specs.Rule.{known_of}
@@ -80,7 +81,9 @@ module _ (setup : Setup) (run : List Move) (s : State) (stands : Stands setup ru
   begun_if_out id k found whole out no_cause = elim stand.offer [
     | inl offered ↦ elim offered [
       | inl replied ↦ absurd (let no : None ≡ Some replied.cause = sym caused ∙ replied.has_cause in cc)
-      | inr passed ↦ begun_by (serving.given passed.o passed.given.is_opened).head (subst (λ n. HasHead (items known n t) (serving.given passed.o passed.given.is_opened).head) passed.given.is_given (serving.given passed.o passed.given.is_opened).has_head)
+      | inr passed ↦ (
+          let it = serving.given passed.o (subst (IsIn passed.o) (none_kept known t serving.off serving.in_time) passed.given.is_opened) in
+          begun_by it.head (subst (λ n. HasHead (items known n t) it.head) passed.given.is_given it.has_head))
     ]
     | inr none ↦ absurd (let no : false ≡ true = ap (λ (d : Delivery). is_some d.head) (sym none.nothing_read) ∙ read_out in cc)
   ]

@@ -135,23 +135,23 @@ part_of (Holding octet) not_so = refl
 part_of Chunking not_so = refl
 
 -- a text that isn't whole is of a head that didn't end its stream
-of_open_head : (parts : HeadParts) (ended : Bool) (text : List ℕ) (pieces : List (List ℕ)) (trailers : List Field) (stage : Stage) → (stage ≡ Whole → ⊥) → Sending parts ended text pieces trailers stage → Sending parts false text pieces [] stage
-of_open_head parts ended text pieces trailers Whole part sending = absurd (part refl)
-of_open_head parts ended text pieces trailers (Counting left) part sending = subst (λ b. SentCounting parts b text pieces left) sending.not_ended sending
-of_open_head parts ended text pieces trailers (Holding octet) part sending = subst (λ b. SentHolding parts b text pieces octet) sending.not_ended sending
-of_open_head parts ended text pieces trailers Chunking part sending = subst (λ b. SentChunking parts b text pieces) sending.not_ended sending
+of_open_head : (keep : Bool) (parts : HeadParts) (ended : Bool) (text : List ℕ) (pieces : List (List ℕ)) (trailers : List Field) (stage : Stage) → (stage ≡ Whole → ⊥) → Sending keep parts ended text pieces trailers stage → Sending keep parts false text pieces [] stage
+of_open_head keep parts ended text pieces trailers Whole part sending = absurd (part refl)
+of_open_head keep parts ended text pieces trailers (Counting left) part sending = subst (λ b. SentCounting keep parts b text pieces left) sending.not_ended sending
+of_open_head keep parts ended text pieces trailers (Holding octet) part sending = subst (λ b. SentHolding keep parts b text pieces octet) sending.not_ended sending
+of_open_head keep parts ended text pieces trailers Chunking part sending = subst (λ b. SentChunking keep parts b text pieces) sending.not_ended sending
 
 -- it may be ended behind octets with which it has the declared length
-ends_behind : (parts : HeadParts) (ended : Bool) (text : List ℕ) (pieces : List (List ℕ)) (trailers : List Field) (stage : Stage) (octets : List ℕ) → (stage ≡ Whole → ⊥) → Sending parts ended text pieces trailers stage
+ends_behind : (keep : Bool) (parts : HeadParts) (ended : Bool) (text : List ℕ) (pieces : List (List ℕ)) (trailers : List Field) (stage : Stage) (octets : List ℕ) → (stage ≡ Whole → ⊥) → Sending keep parts ended text pieces trailers stage
     → has_length parts.length (length (concat pieces) + length octets) ≡ true → MayEndBehind stage octets
-ends_behind parts ended text pieces trailers Whole octets part sending long = part refl
-ends_behind parts ended text pieces trailers (Counting left) octets part sending long =
+ends_behind keep parts ended text pieces trailers Whole octets part sending long = part refl
+ends_behind keep parts ended text pieces trailers (Counting left) octets part sending long =
     let is : length (concat pieces) + length octets ≡ length (concat pieces) + left = eqb-true (length (concat pieces) + length octets) (length (concat pieces) + left) (subst (λ (d : Option ℕ). has_length d (length (concat pieces) + length octets) ≡ true) sending.declared long) in
     omega arith
-ends_behind parts ended text pieces trailers (Holding octet) octets part sending long =
+ends_behind keep parts ended text pieces trailers (Holding octet) octets part sending long =
     let is : length (concat pieces) + length octets ≡ length (concat pieces) = eqb-true (length (concat pieces) + length octets) (length (concat pieces)) (subst (λ (d : Option ℕ). has_length d (length (concat pieces) + length octets) ≡ true) sending.declared long) in
     nil_from_length octets (omega arith)
-ends_behind parts ended text pieces trailers Chunking octets part sending long = tt
+ends_behind keep parts ended text pieces trailers Chunking octets part sending long = tt
 
 -- a request that waits, by its items
 waits_by : (items : List Item) (brief : Brief) (route : ℕ) (text : List ℕ) (stage : Stage) (body : List ℕ) → brief.declared ≡ declared items → brief.octets ≡ length (body_of items) → IsAwaited items text stage body → MayWait brief route text stage body
@@ -183,19 +183,19 @@ goes_by items brief text stage declared_is octets_is part w = record {
   counted = counted;
   declared = sent_declared;
   may_push = λ octets within.
-      room_to_push (parts_of w.head) false text w.pieces stage (length octets) open_sending not_so
+      room_to_push false (parts_of w.head) false text w.pieces stage (length octets) open_sending not_so
       (has_room (parts_of w.head).length w.pieces (length octets) (same is_within (length octets) ∙ within));
   full = λ octets long.
       told_length (parts_of w.head).length (concat w.pieces ++ octets)
       (ap (λ n. has_length (parts_of w.head).length n) (length-append (concat w.pieces) octets) ∙ same has_length (length octets) ∙ long);
-  may_end = λ octets long. ends_behind (parts_of w.head) false text w.pieces [] stage octets not_so open_sending (same has_length (length octets) ∙ long);
+  may_end = λ octets long. ends_behind false (parts_of w.head) false text w.pieces [] stage octets not_so open_sending (same has_length (length octets) ∙ long);
 }
   where
     not_so : stage ≡ Whole → ⊥
     not_so = not_whole stage part
 
-    open_sending : Sending (parts_of w.head) false text w.pieces [] stage
-    open_sending = of_open_head (parts_of w.head) w.ended text w.pieces _ stage not_so w.sending
+    open_sending : Sending false (parts_of w.head) false text w.pieces [] stage
+    open_sending = of_open_head false (parts_of w.head) w.ended text w.pieces _ stage not_so w.sending
 
     sent_declared : (parts_of w.head).length ≡ brief.declared
     sent_declared = sym (ap (λ (xs : List Item). declared xs) w.is) ∙ sym declared_is

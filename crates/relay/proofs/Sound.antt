@@ -24,6 +24,7 @@ use Rattle.serving.specs.State as serving
 use Rattle.serving.specs.State.{Live, live_of}
 use Rattle.serving.specs.Rule as requests
 use Rattle.serving.specs.Connections.{IsOpenedFor}
+use Rattle.model.proofs.ExchangeLaws.{none_kept}
 use Rattle.serving.proofs.Clauses.{all_stand}
 use Rattle.serving.proofs.Standing as standing
 use Rattle.serving.proofs.Connections.{next_opened}
@@ -72,6 +73,10 @@ module _ (known : Known) (run : List Move) (s : State) (led : IsLed known run s)
       subst (λ (x : State). standing.Stands known t x.requests) led.stands.is
       (subst (λ (x : List Entry). standing.Stands known x (serving.state_of known.setup (turns_of known.setup run))) (requests_tape known.setup run) stand)
 
+  -- no connection has a second exchange
+  given_opened : (sight_in (told_by s)).given ≡ opens t
+  given_opened = right.given ∙ none_kept known t stands.off stands.in_time
+
   -- the stream that is kept with an open connection is the one that it was given to
   pub given_to : (k : ℕ) (live : Live) → live_of k s.requests.live ≡ Some live → (o : Opened) × IsIn o (opens t) × (o.k ≡ k) × (o.stream ≡ live.stream)
   given_to k live found =
@@ -90,7 +95,7 @@ module _ (known : Known) (run : List Move) (s : State) (led : IsLed known run s)
   event_of may event live found served =
       let given = given_to (upstream_of event) live found in
       let parts = served_parts ((sight_in (told_by s)).active live.stream) ((sight_in (told_by s)).cause live.stream) served in
-      record { o = given.0; there = subst (IsIn given.0) (sym right.given) given.1; is_given = given.3; number = given.2; active = parts.0; no_cause = parts.1 }
+      record { o = given.0; there = subst (IsIn given.0) (sym given_opened) given.1; is_given = given.3; number = given.2; active = parts.0; no_cause = parts.1 }
     where
       served_parts : (a : Bool) (c : Option Cause) → (a && is_none c) ≡ true → (a ≡ true) × (c ≡ None)
       served_parts true None is = (refl, refl)
@@ -107,8 +112,8 @@ module _ (known : Known) (run : List Move) (s : State) (led : IsLed known run s)
         active = ap (λ n. (sight_in (told_by s)).active n) last ∙ right.active (last_stream t) ∙ is_live;
         has_items = ap (λ n. (sight_in (told_by s)).has_items n) last ∙ begun (last_stream t) is_live opened.has_items;
         no_cause = ap (λ n. (sight_in (told_by s)).cause n) last ∙ right.cause (last_stream t) is_live ∙ opened.in_time.no_cause;
-        first = subst (λ n. IsGivenNone n (sight_in (told_by s)).given) (sym last) (subst (λ (os : List Opened). IsGivenNone (last_stream t) os) (sym right.given) opened.none_given);
-        next = opened.next ∙ ap (λ (os : List Opened). suc (length os)) (sym right.given);
+        first = subst (λ n. IsGivenNone n (sight_in (told_by s)).given) (sym last) (subst (λ (os : List Opened). IsGivenNone (last_stream t) os) (sym given_opened) opened.none_given);
+        next = opened.next ∙ ap (λ (os : List Opened). suc (length os)) (sym given_opened);
       }
     where
       opened_for : (x : serving.State) → x ≡ s.requests → (requests.MayOpen x k route → IsOpenedFor known (serving.tape_of (turns_of known.setup run)) k) → IsOpenedFor known t k

@@ -1,5 +1,5 @@
 -- Before anything came: rooms in which nothing is kept yet stand for the first state, with the gateway's settings owed.
-use Rattle.std.proofs.Common.{◌≡◌, ℕ, List, [], ◌∷◌, Option, Some, None, refl, sym, ◌∙◌, ap}
+use Rattle.std.proofs.Common.{◌≡◌, ℕ, false, List, [], ◌∷◌, Option, Some, None, refl, sym, ◌∙◌, ap}
 use Rattle.model.specs.Frames.{settings_frame}
 use Rattle.model.specs.Setup.{Setup}
 use Rattle.model.specs.Tables.{first_table}
@@ -24,14 +24,14 @@ use Rattle.relay.specs.View.{View, Pending, square, Leads}
 abbrev pub first_pending : Pending
 first_pending = record square { owed = settings_frame ∷ [] }
 
-module _ (setup : Setup) (kept : View) (book : book_of (record { given = []; untaken = 0 }) kept.inbound ≡ (first_desk setup).book) (offers : kept.offers ≡ offering.start) (upstreams : kept.upstreams ≡ nothing) (table : kept.inbound.table ≡ first_table) (encoding : kept.encoding ≡ first_encoding (inserts setup.policy)) (marks : kept.marks ≡ []) (untaken : kept.untaken ≡ 0) where
+module _ (setup : Setup) (off : setup.keep ≡ false) (kept : View) (book : book_of (record { given = []; untaken = 0 }) kept.inbound ≡ (first_desk setup).book) (offers : kept.offers ≡ offering.start) (upstreams : kept.upstreams ≡ nothing) (table : kept.inbound.table ≡ first_table) (encoding : kept.encoding ≡ first_encoding (inserts setup.policy)) (marks : kept.marks ≡ []) (untaken : kept.untaken ≡ 0) where
   none_open : (k : ℕ) (c : Connection) → find number_of k kept.upstreams.live ≡ Some c → ⊥
   none_open k c found = let no : ◌≡◌ {A = Option Connection} None (Some c) = sym (ap (λ (u : State). find number_of k u.live) upstreams) ∙ found in cc
 
   -- No move led there.
   pub first_leads : Leads setup [] kept first_pending (policy.state_of setup [])
   first_leads = record {
-    stands = record { allowed = tt; is = refl; goes_on = refl };
+    stands = record { allowed = off; is = refl; goes_on = refl };
     so = λ known same knows. tt;
     heard = λ known same knows k c found goes_on. absurd (none_open k c found);
     keeps = record {

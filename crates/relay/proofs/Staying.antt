@@ -7,14 +7,15 @@ use Rattle.model.specs.Logs.Event.{ClientTook, UpTook}
 use Rattle.model.specs.Logs.Act.{ToUp, Close}
 use Rattle.model.specs.Setup.{Setup}
 use Rattle.model.specs.Tapes.{Entry}
-use Rattle.model.specs.Openings.{Opened, opens, given}
-use Rattle.model.specs.Available.{heard}
+use Rattle.model.specs.Tapes.Entry.{Did}
+use Rattle.model.specs.Openings.{Opened, exchanges, exchange_on, given, route_of}
+use Rattle.model.specs.Available.{heard_by}
 use Rattle.model.specs.Known.{Known}
 use Rattle.model.specs.Causes.{Cause}
 use Rattle.model.specs.Courses.{course, items, first_of_both}
 use Rattle.model.specs.Offers.{is_to_head}
 use Rattle.model.proofs.ItemLaws.{head_stays}
-use Rattle.model.proofs.GivenLaws.{given_is}
+use Rattle.model.proofs.ExchangeLaws.{none_kept}
 use Rattle.conduct.specs.Summary.{Summary}
 use Rattle.conduct.specs.Rule.{AreKnown, known_of}
 use Rattle.conduct.specs.Tidy.{AreKept}
@@ -24,6 +25,7 @@ use Rattle.serving.specs.Told.{Told, is_served}
 use Rattle.serving.specs.State as serving
 use Rattle.serving.specs.State.{Held, Live, held_of, k_of, live_of, find, without}
 use Rattle.serving.specs.Held.{AreApart}
+use Rattle.model.proofs.AloneLaws.{newest_is}
 use Rattle.serving.proofs.Lists.{find_gone, find_other, find_map}
 use Rattle.serving.proofs.Standing as standing
 use Rattle.serving.proofs.Served.{held_served, held_apart}
@@ -122,35 +124,37 @@ heard_of_changed setup run live f lives_stay answers_stay are known same knows j
         subst (IsHeard known (tape_of run) j) (sym (answers_stay x) ∙ ap (λ (y : Connection). y.answer) changed)
         (are known same knows j x there (ap (λ (l : Live). l.whole) same_live ∙ goes_on) (ap (λ (l : Live). (course known l.stream (tape_of run)).cause) same_live ∙ calm))
 
--- An answer stands for all that was heard behind an entry with which nothing is heard of its upstream and none is opened, where its stream has an
--- item.
-heard_by_entry : (known : Known) (t : List Entry) (e : Entry) (k : ℕ) (c : Connection) → heard k (e ∷ t) ≡ heard k t → opens (e ∷ t) ≡ opens t → (items known (given k (opens t)) t ≡ [] → ⊥) → IsHeard known t k c.answer → IsHeard known (e ∷ t) k c.answer
+-- An answer stands for all that was heard behind an entry with which nothing is heard of its upstream and no exchange begins, where its stream has
+-- an item.
+heard_by_entry : (known : Known) (t : List Entry) (e : Entry) (k : ℕ) (c : Connection) → ((o : Opened) → heard_by o (e ∷ t) ≡ heard_by o t) → exchanges (e ∷ t) ≡ exchanges t → (items known (given k (exchanges t)) t ≡ [] → ⊥) → IsHeard known t k c.answer → IsHeard known (e ∷ t) k c.answer
 heard_by_entry known t e k c unheard same begun is = record {
   parts = is.parts;
-  stands = subst (λ x. Rattle.h1_reader.specs.Standing.Stands x is.parts c.answer.reader) (sym unheard) is.stands;
+  stands =
+      subst (λ x. Rattle.h1_reader.specs.Standing.Stands x is.parts c.answer.reader)
+      (sym (unheard (exchange_on k (e ∷ t)) ∙ ap (λ (os : List Opened). heard_by (record { k = k; route = route_of k os; stream = given k os }) t) same)) is.stands;
   short = is.short;
   few_named = is.few_named;
   goes_on = is.goes_on;
   waits = is.waits;
-  asked = is.asked ∙ head_stays known (given k (opens t)) t e begun ∙ ap (λ (os : List Opened). is_to_head (items known (given k os) (e ∷ t))) (sym same);
+  asked = is.asked ∙ head_stays known (given k (exchanges t)) t e begun ∙ ap (λ (os : List Opened). is_to_head (items known (given k os) (e ∷ t))) (sym same);
   set_up = is.set_up;
 }
 
 module _ (setup : Setup) (run : List Move) (s : State) (stand : Stands setup run s) (so : AreSo setup run) (live : List Connection) (open_ones : s.requests.live ≡ lives live) where
   -- the stream of an open connection has an item
-  pub open_begun : (known : Known) → known.setup ≡ setup → AreKnown known (conducts run) → (k : ℕ) (c : Connection) → find number_of k live ≡ Some c → items known (given k (opens (tape_of run))) (tape_of run) ≡ [] → ⊥
+  pub open_begun : (known : Known) → known.setup ≡ setup → AreKnown known (conducts run) → (k : ℕ) (c : Connection) → find number_of k live ≡ Some c → items known (given k (exchanges (tape_of run))) (tape_of run) ≡ [] → ⊥
   open_begun known same knows k c found none =
       let led : IsLed known run s = record { knows = knows; answered = so known same knows; stands = subst (λ (x : Setup). Stands x run s) (sym same) stand } in
       let is = stands known run s led in
       let there = is.there k c.live (ap (live_of k) open_ones ∙ found_live k live c found) in
       let it = is.given there.0 there.1 in
-      let stream : given k (opens (tape_of run)) ≡ there.0.stream = ap (λ n. given n (opens (tape_of run))) (sym there.2) ∙ given_is (opens (tape_of run)) there.0 is.numbered there.1 in
+      let stream : given k (exchanges (tape_of run)) ≡ there.0.stream = ap (λ (o : Opened). o.stream) (newest_is (tape_of run) (none_kept known (tape_of run) is.off is.in_time) is.numbered k there.0 there.1 there.2) in
       standing.some_items (items known there.0.stream (tape_of run)) it.head it.has_head (ap (λ n. items known n (tape_of run)) (sym stream) ∙ none)
 
-  -- Answers stand for what was heard behind a deed with which nothing is heard and no connection is opened.
-  pub heard_behind : (d : Deed) → ((k : ℕ) → heard k (entry_of d ∷ tape_of run) ≡ heard k (tape_of run)) → opens (entry_of d ∷ tape_of run) ≡ opens (tape_of run) → AreHeard setup run live → AreHeard setup (Does d ∷ run) live
-  heard_behind d unheard none_opened are known same knows k c found goes_on calm =
-      heard_by_entry known (tape_of run) (entry_of d) k c (unheard k) none_opened (open_begun known same knows.0 k c found) (are known same knows.0 k c found goes_on (calm_before known c.live.stream (entry_of d) (tape_of run) calm))
+  -- Answers stand for what was heard behind a deed with which nothing is heard and no exchange begins.
+  pub heard_behind : (d : Deed) → ((o : Opened) → heard_by o (entry_of d ∷ tape_of run) ≡ heard_by o (tape_of run)) → exchanges (entry_of d ∷ tape_of run) ≡ exchanges (tape_of run) → AreHeard setup run live → AreHeard setup (Does d ∷ run) live
+  heard_behind d unheard none_begun are known same knows k c found goes_on calm =
+      heard_by_entry known (tape_of run) (entry_of d) k c unheard none_begun (open_begun known same knows.0 k c found) (are known same knows.0 k c found goes_on (calm_before known c.live.stream (entry_of d) (tape_of run) calm))
 
   -- such a deed
   abbrev pub IsUnheard : Deed → Type 0
@@ -159,18 +163,18 @@ module _ (setup : Setup) (run : List Move) (s : State) (stand : Stands setup run
   IsUnheard (Notes (UpTook k count)) = Unit {0}
   IsUnheard (Sends noted next) = Unit {0}
   IsUnheard (Goes noted item part next) = Unit {0}
-  IsUnheard (Acts (ToUp k octets)) = Unit {0}
+  IsUnheard (Acts (ToUp k octets)) = exchanges (Did (ToUp k octets) ∷ tape_of run) ≡ exchanges (tape_of run)
   IsUnheard (Acts (Close k)) = Unit {0}
   IsUnheard d = ⊥
 
   pub heard_stays : (d : Deed) → IsUnheard d → AreHeard setup run live → AreHeard setup (Does d ∷ run) live
-  heard_stays (Takes noted next gain) none = heard_behind (Takes noted next gain) (λ k. refl) refl
-  heard_stays (Notes (ClientTook count)) none = heard_behind (Notes (ClientTook count)) (λ k. refl) refl
-  heard_stays (Notes (UpTook j count)) none = heard_behind (Notes (UpTook j count)) (λ k. refl) refl
-  heard_stays (Sends noted next) none = heard_behind (Sends noted next) (λ k. refl) refl
-  heard_stays (Goes noted item part next) none = heard_behind (Goes noted item part next) (λ k. refl) refl
-  heard_stays (Acts (ToUp j octets)) none = heard_behind (Acts (ToUp j octets)) (λ k. refl) refl
-  heard_stays (Acts (Close j)) none = heard_behind (Acts (Close j)) (λ k. refl) refl
+  heard_stays (Takes noted next gain) none = heard_behind (Takes noted next gain) (λ o. refl) refl
+  heard_stays (Notes (ClientTook count)) none = heard_behind (Notes (ClientTook count)) (λ o. refl) refl
+  heard_stays (Notes (UpTook j count)) none = heard_behind (Notes (UpTook j count)) (λ o. refl) refl
+  heard_stays (Sends noted next) none = heard_behind (Sends noted next) (λ o. refl) refl
+  heard_stays (Goes noted item part next) none = heard_behind (Goes noted item part next) (λ o. refl) refl
+  heard_stays (Acts (ToUp j octets)) none = heard_behind (Acts (ToUp j octets)) (λ o. refl) none
+  heard_stays (Acts (Close j)) none = heard_behind (Acts (Close j)) (λ o. refl) refl
   heard_stays d none = absurd none
 
 -- ---- rows, and what is held

@@ -4,9 +4,9 @@ use Rattle.model.specs.ResponseHeads.{longest_section}
 use Rattle.model.specs.Setup.Passing.{Whole}
 use Rattle.model.specs.Tapes.{Entry}
 use Rattle.model.specs.Openings.{exchange_on}
-use Rattle.model.specs.Available.{heard}
+use Rattle.model.specs.Available.{heard_by}
 use Rattle.model.specs.Known.{Known}
-use Rattle.model.specs.Failures.{is_asked_for_head}
+use Rattle.model.specs.Idle.{is_asked_for_head}
 use Rattle.h1_reader.specs.HeadSizes.{field_octets}
 use Rattle.h1_reader.specs.Parts.{Part}
 use Rattle.h1_reader.specs.Standing.{Stands, is_done}
@@ -17,11 +17,11 @@ pub record IsSetUp (known : Known) (answer : Answer) : Type 0 where
   pub passing : passing_in answer.way ≡ known.setup.passing
   pub limit : known.setup.passing ≡ Whole → limit_in answer.way ≡ Some known.setup.max_response
 
--- The answer stands for all that was heard on a connection, where these parts were told; its response isn't whole yet, and its reader holds no
--- more octets unread than a head may have, and no longer fields Connection of the head.
+-- The answer stands for all that was heard of the newest exchange on a connection, where these parts were told; its response isn't whole yet, and
+-- its reader holds no more octets unread than a head may have, and no longer fields Connection of the head.
 pub record IsHeard (known : Known) (t : List Entry) (k : ℕ) (answer : Answer) : Type 0 where
   pub parts : List Part
-  pub stands : Stands (heard k t) parts answer.reader
+  pub stands : Stands (heard_by (exchange_on k t) t) parts answer.reader
   pub short : length answer.reader.held.octets ≤ longest_section
   pub few_named : field_octets answer.reader.held.connections ≤ longest_section
   pub goes_on : is_done parts ≡ false

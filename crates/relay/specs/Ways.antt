@@ -32,7 +32,7 @@ pub record MayGoOn (brief : Brief) (stage : Stage) : Type 0 where
   pub parts : HeadParts
   pub text : List ℕ
   pub pieces : List (List ℕ)
-  pub sending : Sending parts false text pieces [] stage
+  pub sending : Sending false parts false text pieces [] stage
   pub counted : length (concat pieces) ≡ brief.octets
   pub declared : parts.length ≡ brief.declared
   pub may_push : (octets : List ℕ) → is_within brief.declared (brief.octets + length octets) ≡ true → MayPush stage (length octets)

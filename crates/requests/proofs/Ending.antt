@@ -11,7 +11,7 @@ use Rattle.h1_writer.specs.Sending.Stage.{Whole, Counting, Holding, Chunking}
 use Rattle.requests.specs.Waits.{Request, MayEnd, IsEnded, IsEndedText}
 
 -- the body may be pushed
-pub may_push : (parts : HeadParts) (text : List ℕ) (stage : Stage) (body : List ℕ) → Sending parts false text [] [] stage → (stage ≡ Whole → ⊥) → HasLength parts.length body → MayPush stage (length body)
+pub may_push : (parts : HeadParts) (text : List ℕ) (stage : Stage) (body : List ℕ) → Sending false parts false text [] [] stage → (stage ≡ Whole → ⊥) → HasLength parts.length body → MayPush stage (length body)
 may_push parts text Whole body sending on fits = on refl
 may_push parts text (Counting left) body sending on fits = let same : length body ≡ 0 + left = subst (λ o. HasLength o body) sending.declared fits in omega (arith, same)
 may_push parts text (Holding octet) body sending on fits = subst (λ o. HasLength o body) sending.declared fits
@@ -23,7 +23,7 @@ one_piece [] = refl
 one_piece (octet ∷ body) = append-nil (octet ∷ body)
 
 -- behind the body in one piece the text may be ended
-pub may_finish : (parts : HeadParts) (text : List ℕ) (stage : Stage) (body : List ℕ) → Sending parts false text (piece_of body) [] stage → (stage ≡ Whole → ⊥) → HasLength parts.length body → MayFinish stage
+pub may_finish : (parts : HeadParts) (text : List ℕ) (stage : Stage) (body : List ℕ) → Sending false parts false text (piece_of body) [] stage → (stage ≡ Whole → ⊥) → HasLength parts.length body → MayFinish stage
 may_finish parts text Whole body sending on fits = on refl
 may_finish parts text (Counting left) body sending on fits =
     let same : length body ≡ length (concat (piece_of body)) + left = subst (λ o. HasLength o body) sending.declared fits in
@@ -35,9 +35,9 @@ may_finish parts text Chunking body sending on fits = tt
 
 -- what is written for the body, and for the end behind it
 pub both : (old between new : Stage) (first second octets : List ℕ) (trailers : List Field) → Continues old first octets [] between → Continues between second [] trailers new → Continues old (first ++ second) octets trailers new
-both old between new first second octets trailers one two = λ parts ended text pieces sending.
-    subst (λ t. Sending parts ended t (pieces ++ piece_of octets) trailers new) (append_assoc text first second)
-    (subst (λ ps. Sending parts ended ((text ++ first) ++ second) ps trailers new) (append-nil (pieces ++ piece_of octets)) (two parts ended (text ++ first) (pieces ++ piece_of octets) (one parts ended text pieces sending)))
+both old between new first second octets trailers one two = λ keep parts ended text pieces sending.
+    subst (λ t. Sending keep parts ended t (pieces ++ piece_of octets) trailers new) (append_assoc text first second)
+    (subst (λ ps. Sending keep parts ended ((text ++ first) ++ second) ps trailers new) (append-nil (pieces ++ piece_of octets)) (two keep parts ended (text ++ first) (pieces ++ piece_of octets) (one keep parts ended text pieces sending)))
 
 -- as long as the text goes on no trailers are written
 pub unended : (old new : Stage) (written octets : List ℕ) (trailers : List Field) → (new ≡ Whole → ⊥) → Continues old written octets [] new → Continues old written octets trailers new
@@ -49,8 +49,8 @@ unended old Chunking written octets trailers on continues = continues
 -- ---- a body whose length was declared stands as it came
 
 -- the octets that were waited for came at once
-counted : (parts : HeadParts) (ended : Bool) (text body : List ℕ) (pieces : List (List ℕ)) (left : ℕ) (trailers : List Field) → length body ≡ left → SentCounting parts ended text pieces left → SentWhole parts ended (text ++ body) (pieces ++ piece_of body) trailers
-counted parts ended text body pieces left trailers all s =
+counted : (keep : Bool) (parts : HeadParts) (ended : Bool) (text body : List ℕ) (pieces : List (List ℕ)) (left : ℕ) (trailers : List Field) → length body ≡ left → SentCounting keep parts ended text pieces left → SentWhole keep parts ended (text ++ body) (pieces ++ piece_of body) trailers
+counted keep parts ended text body pieces left trailers all s =
     let joined : concat (pieces ++ piece_of body) ≡ concat pieces ++ body = concat_more pieces body in
     let lengths : length (concat (pieces ++ piece_of body)) ≡ length (concat pieces) + length body = ap length joined ∙ length-append (concat pieces) body in
     let sum : length (concat pieces) + left ≡ length (concat (pieces ++ piece_of body)) = omega (arith, lengths, all) in
@@ -59,17 +59,17 @@ counted parts ended text body pieces left trailers all s =
       none_ended = λ e. absurd (let clash : true ≡ false = sym e ∙ s.not_ended in cc);
       full = more_full pieces body s.full;
       has_length = subst (λ (o : Option ℕ). HasLength o (concat (pieces ++ piece_of body))) (sym declared) refl;
-      is = ap (λ (t : List ℕ). t ++ body) s.is ∙ append_assoc (head_of parts false) (concat pieces) body ∙ ap (λ (rest : List ℕ). head_of parts false ++ rest) (sym joined)
-          ∙ ap (λ (b : Bool). head_of parts b ++ concat (pieces ++ piece_of body)) (sym s.not_ended)
-          ∙ ap (λ (o : Option ℕ). head_of parts ended ++ content_of o ended (pieces ++ piece_of body) trailers) (sym declared);
+      is = ap (λ (t : List ℕ). t ++ body) s.is ∙ append_assoc (head_of keep parts false) (concat pieces) body ∙ ap (λ (rest : List ℕ). head_of keep parts false ++ rest) (sym joined)
+          ∙ ap (λ (b : Bool). head_of keep parts b ++ concat (pieces ++ piece_of body)) (sym s.not_ended)
+          ∙ ap (λ (o : Option ℕ). head_of keep parts ended ++ content_of o ended (pieces ++ piece_of body) trailers) (sym declared);
     }
 
 -- where the text may not be ended yet, a length was declared
-pub ends_counted : (parts : HeadParts) (text : List ℕ) (stage : Stage) (body : List ℕ) (trailers : List Field) → Sending parts false text [] [] stage → (stage ≡ Whole → ⊥) → (MayFinish stage → ⊥) → HasLength parts.length body → Continues stage body body trailers Whole
+pub ends_counted : (parts : HeadParts) (text : List ℕ) (stage : Stage) (body : List ℕ) (trailers : List Field) → Sending false parts false text [] [] stage → (stage ≡ Whole → ⊥) → (MayFinish stage → ⊥) → HasLength parts.length body → Continues stage body body trailers Whole
 ends_counted parts text Whole body trailers sending on not_yet fits = absurd (on refl)
 ends_counted parts text (Counting left) body trailers sending on not_yet fits =
     let same : length body ≡ 0 + left = subst (λ o. HasLength o body) sending.declared fits in
-    λ parts' ended text' pieces s. counted parts' ended text' body pieces left trailers (omega (arith, same)) s
+    λ keep parts' ended text' pieces s. counted keep parts' ended text' body pieces left trailers (omega (arith, same)) s
 ends_counted parts text (Holding octet) body trailers sending on not_yet fits = absurd (not_yet tt)
 ends_counted parts text Chunking body trailers sending on not_yet fits = absurd (not_yet tt)
 

@@ -14,7 +14,7 @@ pub record MayGo (stage : Stage) (octets : List ℕ) (ends : Bool) : Type 0 wher
   pub ended : Bool
   pub text : List ℕ
   pub pieces : List (List ℕ)
-  pub sending : Sending parts ended text pieces [] stage
+  pub sending : Sending false parts ended text pieces [] stage
   pub may_push : MayPush stage (length octets)
   pub has_length : ends ≡ true → HasLength parts.length (concat pieces ++ octets)
 

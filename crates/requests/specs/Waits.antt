@@ -24,7 +24,7 @@ pub record IsLaid (stage : Stage) (head body all : ℕ) : Type 0 where
 -- The request may end behind these octets: its body has the length that its head declares, if it declares one.
 pub record MayEnd (request : Request) (octets : List ℕ) : Type 0 where
   pub parts : HeadParts
-  pub sending : Sending parts false request.text [] [] request.stage
+  pub sending : Sending false parts false request.text [] [] request.stage
   pub goes_on : request.stage ≡ Whole → ⊥
   pub has_length : HasLength parts.length (request.body ++ octets)
 
@@ -37,7 +37,7 @@ pub record IsEnded (request : Request) (octets : List ℕ) (trailers : List Fiel
 -- Nothing of this body was sent, whose octets came in any pieces: its length is the declared one, if one is, and the text may be ended behind it.
 pub record Ends (stage : Stage) (head body : List ℕ) : Type 0 where
   pub parts : HeadParts
-  pub sending : Sending parts false head [] [] stage
+  pub sending : Sending false parts false head [] [] stage
   pub goes_on : stage ≡ Whole → ⊥
   pub has_length : HasLength parts.length body
 

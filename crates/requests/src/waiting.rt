@@ -77,7 +77,7 @@ pub fn begin(
     ensures { IfOk result (IsBegun head.now ended route) }
 {
     let mut octets = room_for(alloc, head.length())?;
-    let sender = Sender::start(head, ended, &mut octets)?;
+    let sender = Sender::start(head, ended, false, &mut octets)?;
     if ended {
         return Ok(Begun::Whole(octets));
     }

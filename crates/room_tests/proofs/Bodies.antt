@@ -70,7 +70,7 @@ module _ (old new : State) (id route : ℕ) (parts : HeadParts) (outgoing : Outg
       text = b.text;
       pieces = [];
       sending = b.sending;
-      may_push = room_to_push parts false b.text [] b.stage (length octets) b.sending (not_whole b.stage b.whole) (room octets []);
+      may_push = room_to_push false parts false b.text [] b.stage (length octets) b.sending (not_whole b.stage b.whole) (room octets []);
       has_length = λ e. subst (λ (o : Option ℕ). HasLength o octets) (sym none) tt;
     })
 

@@ -47,6 +47,7 @@ fn config(alloc: Global, passing: Passing) -> Result<Config, AllocError>
         passing,
         max_body: 1000,
         max_response: 2000,
+        keep: false,
     })
 }
 

@@ -110,6 +110,7 @@ fn no_routes(alloc: Global) -> Config
         passing: Passing::Whole,
         max_body: 1,
         max_response: 1,
+        keep: false,
     }
 }
 
@@ -148,6 +149,7 @@ fn one_route(alloc: Global, authority: &[u8]) -> Result<Config, AllocError>
         passing: Passing::Whole,
         max_body: 1000,
         max_response: 2000,
+        keep: false,
     })
 }
 

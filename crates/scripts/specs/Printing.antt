@@ -1,5 +1,5 @@
 -- What a replay prints.
-use Rattle.std.specs.Prelude.{◌≡◌, ◌≢◌, ◌⊎◌, ℕ, ◌+◌, List, [], ◌∷◌, ◌++◌, map, Option, Some, None, codes, decimal}
+use Rattle.std.specs.Prelude.{◌≡◌, ◌≢◌, ◌⊎◌, ℕ, ◌+◌, false, List, [], ◌∷◌, ◌++◌, map, Option, Some, None, codes, decimal}
 use Rattle.std.specs.List.{flat_map}
 use Rattle.hex.specs.Hex.{encode_lower}
 use Rattle.model.specs.Logs.{Event, Output, Step}
@@ -43,6 +43,7 @@ default_setup = record {
   passing = Whole;
   max_body = 1048576;
   max_response = 1048576;
+  keep = false;
 }
 
 -- The setup of a run: that of the configuration that a text says, and the default where no text is given.

@@ -183,5 +183,6 @@ fn default_config(alloc: Global) -> Result<Config, AllocError>
         passing: Passing::Whole,
         max_body: 1048576,
         max_response: 1048576,
+        keep: false,
     })
 }

@@ -1,6 +1,6 @@
 -- Moves that are allowed leave what is kept in order, and at rest the clauses hold.
 use Rattle.std.proofs.Common.{◌≡◌, ℕ, true, false, List, [], ◌∷◌, refl, sym, ap, ◌∙◌, subst, inl, inr, if◌then◌else◌}
-use Rattle.std.specs.Prelude.{Some}
+use Rattle.std.specs.Prelude.{Some, ◌⊎◌}
 use Rattle.std.specs.List.{list_any}
 use Rattle.std.proofs.lemmas.Bool.{or_parts}
 use Rattle.std.proofs.lemmas.Bool.Decides.{eqb_tells}
@@ -11,12 +11,19 @@ use Rattle.model.specs.Logs.{Act}
 use Rattle.model.specs.Logs.Act.{Open, ToUp, Close, CloseClient}
 use Rattle.model.specs.Tapes.{Entry, sent_up}
 use Rattle.model.specs.Tapes.Entry.{Came, Breached, Happened, Sent, Did}
-use Rattle.model.specs.Openings.{Opened, opens}
+use Rattle.model.specs.Openings.{Opened, opens, exchanges, exchanges_of, exchange_on, sent_for, AreApart}
 use Rattle.model.specs.Available.{IsIn}
 use Rattle.model.specs.Known.{Known}
 use Rattle.model.specs.Courses.{items}
-use Rattle.model.specs.RequestClause.{IsServed, RequestsHold}
-use Rattle.model.specs.ProgressClause.{AllForwarded, AllStreamed, AreClosed, IsDoneWith, ClosesRightly}
+use Rattle.model.specs.RequestClause.{IsServed, IsSent, RequestsHold}
+use Rattle.model.specs.Admission.{is_open}
+use Rattle.model.proofs.GivenLaws.{open_given}
+use Rattle.model.proofs.ExchangeLaws.{none_kept, few_kept}
+use Rattle.model.proofs.OpenLaws.{sent_alone}
+use Rattle.model.proofs.AloneLaws.{exchanges_are, sent_is, newest_is}
+use Rattle.serving.proofs.Texts.{one_request_text}
+use Rattle.serving.proofs.Standing as standing
+use Rattle.model.specs.ProgressClause.{Reason, AllForwarded, AllStreamed, AreClosed, IsDoneWith, ClosesRightly}
 use Rattle.model.specs.ProgressClause.Reason.{ClientClosed}
 use Rattle.model.proofs.Http2Readings.{one_meaning}
 use Rattle.serving.specs.Told.{Told, IsTold}
@@ -90,14 +97,15 @@ moved known t s told behind (Sends noted) h is_told so is_behind allowed =
 moved known t s told behind (Acts act) h is_told so is_behind allowed = acted known t s told behind act h is_told allowed.open_yet allowed.may
 
 -- nothing is kept of no entry
-at_first : (known : Known) → Stands known [] start
-at_first known = record {
+at_first : (known : Known) → known.setup.keep ≡ false → Stands known [] start
+at_first known off = record {
+  off = off;
   numbered = tt;
   apart = tt;
   count = refl;
   given = λ o i. absurd i;
   there = λ k l found. cc;
-  fresh = λ k lt. record { unsent = refl; unheard = refl; not_ended = refl; not_open = refl };
+  fresh = λ k lt. record { unsent = refl; unheard = λ o at. refl; not_ended = λ o at. refl; not_open = refl };
   fares = λ stream. inl (record { no_request = λ request means. means.has_head; no_head = λ streaming head has. has });
   held = λ stream h found. cc;
   due = tt;
@@ -114,7 +122,7 @@ all_told known (turn ∷ turns) so = so.2
 
 -- what is kept stands for the tape behind all moves
 pub all_stand : (known : Known) (turns : List Turn) → AreAllowed known.setup turns → AreSo known turns → Stands known (tape_of turns) (state_of known.setup turns)
-all_stand known [] all so = at_first known
+all_stand known [] all so = at_first known all
 all_stand known (turn ∷ turns) all so =
     moved known (tape_of turns) (state_of known.setup turns) (told_of turns) turn.told turn.move (all_stand known turns all.0 so.0) (all_told known turns so.0) so.1 so.2 all.1
 
@@ -130,7 +138,12 @@ module _ (known : Known) (t : List Entry) (s : State) (h : Stands known t s) (no
       | inr g ↦ (let o = g.0 in
           let here : H2Request (items known o.stream t) request = subst (λ n. H2Request (items known n t) request) (sym g.1.is_given) means in
           elim (sent_all known t s h nothing o g.1.is_opened).reads [
-            | inl whole ↦ record { o = o; given = g.1; reads = subst (λ r. H1Requests (sent_up o.k t) (forward r ∷ []) []) (one_meaning (items known o.stream t) whole.request request whole.means here) whole.reads }
+            | inl whole ↦ record {
+              o = o;
+              given = record { is_opened = subst (IsIn o) (sym (none_kept known t h.off h.in_time)) g.1.is_opened; is_given = g.1.is_given };
+              reads = subst (λ r. H1Requests (sent_for o t) (forward r ∷ []) []) (one_meaning (items known o.stream t) whole.request request whole.means here)
+                  (subst (λ x. H1Requests x (forward whole.request ∷ []) []) (sent_is known t h.off h.numbered h.apart h.in_time h.goes o g.1.is_opened) whole.reads);
+            }
             | inr p ↦ absurd (let clash : true ≡ false = sym (p.cut request here).0 ∙ ap (λ n. Rattle.model.specs.ProgressClause.was_cut n t) g.1.is_given ∙ not_cut in cc)
           ])
     ])
@@ -146,35 +159,69 @@ all_passed_on known turns all so nothing =
 
 module _ (known : Known) (t : List Entry) (s : State) (h : Stands known t s) (told : Told) (is_told : IsTold known t told) (rests : Rests told s) where
   -- each connection was sent its request
-  served : (o : Opened) → IsIn o (opens t) → IsServed known t o
+  same_exchanges : exchanges t ≡ opens t
+  same_exchanges = none_kept known t h.off h.in_time
+
+  served : (o : Opened) → IsIn o (exchanges t) → IsServed known t o
   served o i =
-      let g = h.given o i in record {
+      let g = h.given o (subst (IsIn o) same_exchanges i) in record {
         head = g.head;
         has_head = g.has_head;
         well_formed = g.well_formed;
         by_route = g.by_route;
-        sent = elim (sent_all known t s h rests.nothing o i).reads [ inl whole ↦ inl whole | inr p ↦ inr p.part ];
       }
+
+  -- by the list of one
+  sent_one : (o : Opened) → IsIn o (opens t) → standing.IsSentWhole (sent_up o.k t) (items known o.stream t) ⊎ standing.IsInPart known t (sent_up o.k t) o → IsSent known t (o ∷ []) (sent_up o.k t)
+  sent_one o i (inl whole) = inl (sent_alone known t o (sent_up o.k t) whole.request h.off whole.means whole.reads)
+  sent_one o i (inr p) = inr (record {
+    earlier = [];
+    mean = tt;
+    rest = sent_up o.k t;
+    reads = p.part.reads;
+    some = p.part.some;
+    goes_on = λ request may.
+        let g = p.part.goes_on request may in record {
+          whole = g.0;
+          all = record { reads = one_request_text g.0 (forward request) g.1; stay_open = λ on. absurd (let clash : false ≡ true = sym h.off ∙ on in cc) };
+          is_front = g.2;
+        };
+    in_chunks = p.part.in_chunks;
+  })
+
+  sent : (o : Opened) → IsIn o (opens t) → IsSent known t (exchanges_of o.k (exchanges t)) (sent_up o.k t)
+  sent o i = subst (λ (os : List Opened). IsSent known t os (sent_up o.k t)) (sym (exchanges_are known t h.off h.numbered h.apart h.in_time h.goes o i)) (sent_one o i (sent_all known t s h rests.nothing o i).reads)
 
   -- the clause on requests
   pub requests_hold : RequestsHold known t
-  requests_hold = record { numbered = h.numbered; apart = h.apart; in_time = h.in_time; served = served }
+  requests_hold = record { numbered = h.numbered; apart = subst AreApart (sym same_exchanges) h.apart; in_time = h.in_time; served = served; sent = sent }
+
+  -- the last exchange of a connection is the one that it was opened for
+  on_it : (k : ℕ) (o : Opened) → IsIn o (opens t) → o.k ≡ k → exchange_on k t ≡ o
+  on_it = newest_is t same_exchanges h.numbered
 
   -- there is no reason to close one that is open
   pub are_closed : AreClosed known t
-  are_closed o i is_open_yet = elim (h.given o i).lives [
-    | inl l ↦ closing.none_reason known t s h told is_told o l (none_done told o.k s.live l.live rests.none_done l.found)
-    | inr gone ↦ absurd (let clash : true ≡ false = sym is_open_yet ∙ gone.shut in cc)
-  ]
+  are_closed k is_open_yet reason =
+      let o = open_given k t is_open_yet in
+      let was : Reason known t o.0 = subst (Reason known t) (on_it k o.0 o.1 o.2) reason in
+      elim (h.given o.0 o.1).lives [
+        | inl l ↦ absurd (closing.none_reason known t s h told is_told o.0 l (none_done told o.0.k s.live l.live rests.none_done l.found) was)
+        | inr gone ↦ absurd (let clash : true ≡ false = sym is_open_yet ∙ ap (λ n. is_open n t) (sym o.2) ∙ gone.shut in cc)
+      ]
 
   -- one that was let go is done with
-  done_with : (k : ℕ) → IsLetGo known t s k → IsDoneWith known t k
-  done_with k l = record { o = l.o; is_opened = l.is_opened; number = l.number; reason = elim l.why [ inl reason ↦ reason | inr ending ↦ ClientClosed (sym is_told.closed ∙ rests.ended (is_told.ends ∙ ending)) ] }
+  done_with : (k : ℕ) (earlier : List Entry) → is_open k earlier ≡ true → IsLetGo known t s k → IsDoneWith known t k earlier
+  done_with k earlier was_open l = record {
+    was_open = was_open;
+    reason = subst (Reason known t) (sym (on_it k l.o l.is_opened l.number)) (elim l.why [ inl reason ↦ reason | inr ending ↦ ClientClosed (sym is_told.closed ∙ rests.ended (is_told.ends ∙ ending)) ]);
+    not_kept = λ kept. absurd (let clash : false ≡ true = sym h.off ∙ kept.keeps in cc);
+  }
 
   -- and no others
   pub closes_rightly : (earlier : List Entry) → Closes known t s earlier → ClosesRightly known t earlier
   closes_rightly [] c = tt
-  closes_rightly (Did (Close k) ∷ earlier) c = (c.0, done_with k c.1, closes_rightly earlier c.2)
+  closes_rightly (Did (Close k) ∷ earlier) c = (done_with k earlier c.0 c.1, closes_rightly earlier c.2)
   closes_rightly (Did (Open k route) ∷ earlier) c = closes_rightly earlier c
   closes_rightly (Did (ToUp k octets) ∷ earlier) c = closes_rightly earlier c
   closes_rightly (Did CloseClient ∷ earlier) c = closes_rightly earlier c
@@ -191,6 +238,7 @@ module _ (known : Known) (t : List Entry) (s : State) (h : Stands known t s) (to
     streamed = all_streamed known t s h rests.nothing;
     closed = are_closed;
     closes = closes_rightly t h.closes;
+    few_idle = few_kept known t h.off;
     go_to_open = h.goes;
   }
 

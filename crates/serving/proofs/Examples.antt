@@ -1,16 +1,14 @@
 -- A worked run, where requests are passed on whole: each of its moves is allowed and says what is so, by computation, and the clauses
 -- hold at its end.
-use Rattle.std.proofs.Common.{◌≡◌, ℕ, ◌+◌, ◌<◌, true, false, not, List, [], ◌∷◌, ◌++◌, length, refl, sym, ap, ◌∙◌, subst, inl, arith, append_assoc, append-nil}
+use Rattle.std.proofs.Common.{◌≡◌, ℕ, ◌+◌, ◌<◌, true, false, List, [], ◌∷◌, ◌++◌, length, refl, sym, ap, ◌∙◌, subst, inl, arith}
 use Rattle.std.specs.Prelude.{codes}
-use Rattle.std.specs.List.{list_any, list_all, flat_map, concat}
+use Rattle.std.specs.List.{list_any}
 use Rattle.model.specs.Tables.{total_size}
-use Rattle.model.specs.Octets.{is_empty}
-use Rattle.model.specs.Http2.{HasLength}
 use Rattle.model.specs.Setup.{IsFirstMatch}
 use Rattle.model.specs.Tapes.{Noted}
 use Rattle.model.specs.Tapes.Entry.{Came}
 use Rattle.request_rules.specs.Heads.{parts_of}
-use Rattle.h1_writer.specs.Sending.{Sending, Continues, head_of, content_of, chunk_text, last_chunk}
+use Rattle.h1_writer.specs.Sending.{Sending, Continues, chunk_text, last_chunk}
 use Rattle.h1_writer.specs.Sending.Stage.{Whole, Chunking}
 use Rattle.h1_writer.proofs.Stages.{adds_chunk, ends}
 use Rattle.serving.specs.Told.{Told}
@@ -36,13 +34,13 @@ pub first_route : IsFirstMatch known.setup.routes (codes "a.example") (codes "/"
 first_route = record { route = record { authority = []; path = codes "/" }; found = refl; matches = (inl refl, inl (record { rest = []; is = refl })); none_before = λ earlier before. absurd (omega (arith, before)) }
 
 a1 : AreAllowed known.setup m1
-a1 = (((tt, record { open_yet = refl; may = inl refl }), record { open_yet = refl; may = calm _ _ refl refl refl }), record { open_yet = refl; may = inl refl })
+a1 = (((refl, record { open_yet = refl; may = inl refl }), record { open_yet = refl; may = calm _ _ refl refl refl }), record { open_yet = refl; may = inl refl })
 
 -- the head of the POST, and each piece of its body
-pub post_begun : Sending (parts_of post) false (post_text []) [] [] Chunking
+pub post_begun : Sending false (parts_of post) false (post_text []) [] [] Chunking
 post_begun = record { not_ended = refl; full = refl; undeclared = refl; is = refl }
 
-get_sent : Sending (parts_of get) true get_text [] [] Whole
+get_sent : Sending false (parts_of get) true get_text [] [] Whole
 get_sent = record { none_ended = λ e. (refl, refl); full = refl; has_length = tt; is = refl }
 
 -- octets go as a chunk

@@ -9,7 +9,7 @@ use Rattle.model.specs.Decoding.{completed, begun, joined}
 use Rattle.model.specs.StreamStates.{most_streams}
 use Rattle.model.specs.Known.{Known}
 use Rattle.model.specs.Lifetimes.{opened, active, is_opened, is_over, is_active, ends_by, is_ended_by_client, is_ended_by_gateway, is_reset_by_client, is_reset_by_gateway}
-use Rattle.model.specs.Messages.{Item, ends_with}
+use Rattle.model.specs.Messages.{ends_with}
 use Rattle.model.specs.Causes.{Cause}
 use Rattle.model.specs.Courses.{items, cause, first_of_both}
 use Rattle.model.specs.ErrorClause.{is_calming, calls_for_end, must_end}
@@ -20,8 +20,7 @@ use Rattle.serving.specs.State.Due.{Nothing, ToOpen, ToSend}
 use Rattle.serving.specs.Rule.{MaySend}
 use Rattle.serving.specs.Written.{IsWritten}
 use Rattle.model.specs.Http2.{HasHead}
-use Rattle.model.specs.Openings.{opens}
-use Rattle.serving.proofs.Standing.{IsOpening, IsDue}
+use Rattle.serving.proofs.Standing.{IsDue}
 
 module _ (t : List Entry) (noted : Noted) (is : noted.frame.kind ≡ goaway_kind) where
   -- it ends no stream
@@ -103,4 +102,4 @@ due_sent known t noted s u same_live (inr (is, mild)) due = by s.due due
         whole = λ whole. ap (λ xs. list_any ends_with xs) (same stream) ∙ it.in_time.whole whole;
       };
     }
-    by (ToSend k text) it = (it.0, ap (live_of k) same_live ∙ it.1)
+    by (ToSend k text) it = (it.0, ap (live_of k) same_live ∙ it.1, it.2)

@@ -211,7 +211,7 @@ framing_short (Some n) ended fits =
     omega (arith, line, few)
 
 -- The text of a head whose fields aren't too large.
-pub head_short : (head : List Field) (ended : Bool) → WellFormedHead head → are_large head ≡ false → length (head_of (parts_of head) ended) ≤ most_head
+pub head_short : (head : List Field) (ended : Bool) → WellFormedHead head → are_large head ≡ false → length (head_of false (parts_of head) ended) ≤ most_head
 head_short head ended well_formed small =
     let framing = framing_of (declared_length head) ended in
     let close : Field = record { name = codes "connection"; value = codes "close" } in
@@ -227,7 +227,7 @@ head_short head ended well_formed small =
     let second = lines_both (fields_of head ++ via ∷ framing) (close ∷ []) in
     let third = lines_both (fields_of head) (via ∷ framing) in
     let fourth = lines_more via framing in
-    let text : length (head_of (parts_of head) ended) ≡ length (method_of head) + length (path_of head) + 14 + length (lines_text (host ∷ fields_of head ++ via ∷ framing ++ close ∷ [])) = simp length-append (omega arith) in
+    let text : length (head_of false (parts_of head) ended) ≡ length (method_of head) + length (path_of head) + 14 + length (lines_text (host ∷ fields_of head ++ via ∷ framing ++ close ∷ [])) = simp length-append (omega arith) in
     omega (arith, size, parts, method, path, authority, fields, frames, first, second, third, fourth, text)
   where
     fits : are_large head ≡ false → total_size head ≤ 16384

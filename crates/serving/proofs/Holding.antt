@@ -4,6 +4,7 @@ use Rattle.std.specs.Prelude.{Option, Some, None}
 use Rattle.std.proofs.lemmas.Bool.{eq-eqb, ne_eqb}
 use Rattle.std.proofs.lemmas.Bool.Decides.{eqb_tells}
 use Rattle.model.specs.Setup.Passing.{Whole as WholePassing, Streaming}
+use Rattle.model.specs.Openings.{last_stream}
 use Rattle.model.specs.Tapes.{Entry, is_closed}
 use Rattle.model.specs.Known.{Known}
 use Rattle.model.specs.Lifetimes.{active}
@@ -143,7 +144,7 @@ module _ (known : Known) (t : List Entry) (s : State) (h : Stands known t s) (al
       by (ToOpen stream route text stage) is fits served = let one = back_one stage in let room = fits.0 in beside_none stream (length text + held_back stage) served fits.1 (omega (arith, one, room))
       by (ToSend k text) is fits served = on (held_of there.0.stream s.held) refl
         where
-          there : (l : Live) × (live_of k s.live ≡ Some l)
+          there : (l : Live) × (live_of k s.live ≡ Some l) × (l.stream ≡ last_stream t)
           there = subst (IsDue known t s) is h.due
 
           on : (o : Option Held) → held_of there.0.stream s.held ≡ o → held_of_all s.held + length text ≤ length (active t) * most

@@ -8,6 +8,11 @@ pub mod Lengths
 pub mod Small
 pub mod Bringing
 pub mod Writing
+pub mod Pool
+pub mod Pooling
+pub mod Reusing
+pub mod Losing
+pub mod Leaving
 pub mod Standing
 pub mod Streamed
 pub mod Passing

@@ -8,14 +8,15 @@ use Rattle.model.specs.Responses.{IsComplete}
 use Rattle.model.specs.Logs.Act.{Open, ToUp}
 use Rattle.model.specs.Tapes.{Entry, sent_up}
 use Rattle.model.specs.Tapes.Entry.{Did}
-use Rattle.model.specs.Openings.{Opened, opens, last_stream, IsGivenNone}
+use Rattle.model.specs.Openings.{Opened, opens, exchanges, last_stream, IsGivenNone}
+use Rattle.model.specs.Openings as openings
 use Rattle.model.specs.Admission.{is_open}
-use Rattle.model.specs.Available.{heard, IsIn}
+use Rattle.model.specs.Available.{heard_by, IsIn}
 use Rattle.model.specs.Known.{Known}
 use Rattle.model.specs.Lifetimes.{is_opened, is_over, is_active}
 use Rattle.model.specs.Courses.{items}
 use Rattle.model.specs.Offers.{is_to_head}
-use Rattle.model.specs.RequestClause.{MayBeServed}
+use Rattle.model.specs.RequestClause.{IfAnother, MayBeServed, MayBeUsedAgain}
 use Rattle.model.proofs.OfferLemmas.{nothing_complete}
 use Rattle.h1_writer.specs.Sending.{Stage}
 use Rattle.serving.specs.Written.{IsWritten, IsAwaited}
@@ -25,7 +26,7 @@ use Rattle.serving.specs.State.Way.{Waiting, Going, Dropped}
 use Rattle.serving.specs.State.Due.{Nothing, ToSend}
 use Rattle.serving.specs.State.Move.{Acts}
 use Rattle.serving.specs.Rule.{MayOpen}
-use Rattle.serving.specs.Meaning.{IsAllHeard}
+use Rattle.model.specs.Idle.{IsAllHeard}
 use Rattle.model.proofs.ItemLaws.{items_stay}
 use Rattle.serving.proofs.Lists.{find_first, find_past, held_now, held_beside}
 use Rattle.serving.proofs.Texts.{sent_either, no_request, one_head}
@@ -33,7 +34,10 @@ use Rattle.model.proofs.LifeLaws.{opened_stays}
 use Rattle.serving.proofs.Standing.{owed, text_of, IsSent, Given, IsDueFor, Fares, IsOpening, IsDue, IsOnWay, IsLetGo, IsFresh, Stands, unread_same, has_head_stays, way_stays, closes_stay, stands_next}
 use Rattle.serving.proofs.Passing.{sent_same, fresh_same, lives_found, reason_on}
 use Rattle.serving.proofs.Framing.{within}
-use Rattle.serving.proofs.Closing.{found_live}
+use Rattle.serving.proofs.Closing.{found_live, same_live}
+use Rattle.model.proofs.AloneLaws.{none_begins}
+use Rattle.model.proofs.GivenLaws.{given_is}
+use Rattle.model.proofs.ExchangeLaws.{none_kept, no_idle}
 
 -- an active stream was opened
 active_opened : (stream : ℕ) (t : List Entry) → is_active stream t ≡ true → is_opened stream t ≡ true
@@ -101,7 +105,7 @@ module _ (known : Known) (t : List Entry) (s : State) (h : Stands known t s) (to
     none_heard : IsAllHeard known (e ∷ t) new → ⊥
     none_heard c =
         let to_head : Bool = is_to_head (items known (last_stream t) (e ∷ t)) in
-        nothing_complete false to_head (subst (λ x. IsComplete x false to_head) fresh.unheard (subst (λ x. IsComplete (heard k t) x to_head) fresh.not_ended c))
+        nothing_complete false to_head (subst (λ x. IsComplete x false to_head) (fresh.unheard new refl) (subst (λ x. IsComplete (heard_by new t) x to_head) (fresh.not_ended new refl) c))
 
     new_given : Given known (e ∷ t) u new
     new_given = record {
@@ -145,7 +149,7 @@ module _ (known : Known) (t : List Entry) (s : State) (h : Stands known t s) (to
           has_head = has_head_stays known t e o.stream g.head g.has_head;
           well_formed = g.well_formed;
           by_route = g.by_route;
-          sent = subst (λ x. IsSent known (e ∷ t) x o) (sym (old_owed o i)) (sent_same known t e o (text_of o.k t s.due) i (same_items o.stream) (λ shut. old_open o.k (other_k o i) ∙ shut) g.sent);
+          sent = subst (λ x. IsSent known (e ∷ t) x o) (sym (old_owed o i)) (sent_same known t e o (text_of o.k t s.due) h.off h.in_time i (same_items o.stream) (λ shut. old_open o.k (other_k o i) ∙ shut) g.sent);
           lives = lives_found known t e s u o g (λ x. x) (old_open o.k (other_k o i)) (old_live o.k (other_k o i)) g.lives;
         }
 
@@ -239,6 +243,7 @@ module _ (known : Known) (t : List Entry) (s : State) (h : Stands known t s) (to
 
     pub opens_next : Stands known (e ∷ t) u
     opens_next = record {
+      off = h.off;
       numbered = (may.next ∙ ap suc h.count, h.numbered);
       apart = (given_none_in (last_stream t) (opens t) (λ o i same. due.none_given o (record { is_opened = i; is_given = same ∙ last })), h.apart);
       count = ap suc h.count;
@@ -247,9 +252,9 @@ module _ (known : Known) (t : List Entry) (s : State) (h : Stands known t s) (to
       fresh = fresh_on;
       fares = fares;
       held = held;
-      due = subst (IsDue known (e ∷ t) u) (sym u_due) (new_live, new_live_is);
+      due = subst (IsDue known (e ∷ t) u) (sym u_due) (new_live, new_live_is, ap Rattle.serving.specs.State.due_stream may.due ∙ sym last);
       goes = h.goes;
-      in_time = (subst (MayBeServed known t) (sym last) due.in_time, h.in_time);
+      in_time = (subst (MayBeServed known t) (sym last) due.in_time, λ j idle same. no_idle known t j h.off idle, h.in_time);
       closes = closes_stay known t e s u let_go t h.closes;
       shut = λ closed. absurd (let clash : true ≡ false = sym closed ∙ sym is_told.closed ∙ open_yet in cc);
     }
@@ -263,7 +268,7 @@ module _ (known : Known) (t : List Entry) (s : State) (h : Stands known t s) (to
     abbrev pub sent_state : State
     sent_state = after known.setup behind s (Acts (ToUp k octets))
 
-    kept : (l : Live) × (live_of k s.live ≡ Some l)
+    kept : (l : Live) × (live_of k s.live ≡ Some l) × (l.stream ≡ last_stream t)
     kept = subst (IsDue known t s) is_due h.due
 
     -- what was due is sent
@@ -289,20 +294,26 @@ module _ (known : Known) (t : List Entry) (s : State) (h : Stands known t s) (to
     unsent_same : (n : ℕ) → s.count < n → sent_up n (sending ∷ t) ≡ sent_up n t
     unsent_same n lt = ap (λ b. if b then sent_up n t ++ octets else sent_up n t) (ne_eqb n k (λ same. let there = h.there k kept.0 kept.1 in let less = within (opens t) there.0 h.numbered there.1 in let at = there.2 in let count = h.count in omega (arith, lt, same, less, at, count)))
 
+    -- the last frame is of the connection's stream
+    on_last : openings.given k (exchanges t) ≡ last_stream t
+    on_last =
+        let it = found_live known t s h k kept.0 kept.1 in
+        ap (openings.given k) (none_kept known t h.off h.in_time) ∙ ap (λ n. openings.given n (opens t)) (sym it.2) ∙ given_is (opens t) it.0 h.numbered it.1 ∙ sym it.3.same ∙ ap (λ (l : Live). l.stream) (same_live known t s h k kept.0 kept.1) ∙ kept.2
+
     pub sends_next : Stands known (sending ∷ t) sent_state
     sends_next = stands_next known t sending s sent_state h (record {
       same_opens = refl;
       count = refl;
       lives = λ o i g. lives_found known t sending s sent_state o g (λ x. x) refl refl g.lives;
       gone = λ o i g none. (none, reason_on known t sending s o g (λ x. x));
-      sent = λ o i g. subst (λ x. IsSent known (sending ∷ t) x o) (sym (same_text o.k)) (sent_same known t sending o (text_of o.k t s.due) i (stays o.stream) (λ shut. shut) g.sent);
+      sent = λ o i g. subst (λ x. IsSent known (sending ∷ t) x o) (sym (same_text o.k)) (sent_same known t sending o (text_of o.k t s.due) h.off h.in_time i (stays o.stream) (λ shut. shut) g.sent);
       back = λ n there. there;
       fresh = λ n lt. fresh_same t sending n (unsent_same n lt) (λ x. x) (λ shut. shut);
       fares = fares_sent;
       held = λ stream x found. way_stays known t sending s sent_state stream x.way (stays stream) refl (λ o g. same_text o.k) (λ n stage is there. there) (λ n none. none) (h.held stream x found);
       due = tt;
       goes = (let it = found_live known t s h k kept.0 kept.1 in (ap (λ n. is_open n t) (sym it.2) ∙ it.3.opened, h.goes));
-      in_time = h.in_time;
+      in_time = (subst (λ b. IfAnother b (MayBeUsedAgain known t k)) (sym (none_begins (openings.given k (exchanges t)) (last_stream t) octets on_last)) tt, h.in_time);
       ends = λ e. e;
       closes = λ c. c;
       shut = h.shut;

@@ -6,17 +6,16 @@ use Rattle.std.proofs.lemmas.Bool.Decides.{eqb_tells}
 use Rattle.model.specs.Http2.{H2Request}
 use Rattle.model.specs.Logs.{Event}
 use Rattle.model.specs.Logs.Event.{Client, ClientEnd, ClientTook, Up, UpEnd, UpFailed, UpTook}
-use Rattle.model.specs.Tapes.{Noted, Entry, came, sent_up, is_closed}
+use Rattle.model.specs.Tapes.{Noted, Entry, sent_up, is_closed}
 use Rattle.model.specs.Tapes.Entry.{Came, Happened}
-use Rattle.model.specs.Decoding.{completed}
-use Rattle.model.specs.Streams.{frame_items}
 use Rattle.model.specs.Openings.{Opened, opens, GoToOpen}
 use Rattle.model.specs.Admission.{is_open}
 use Rattle.model.specs.Available.{IsIn}
 use Rattle.model.specs.Known.{Known}
 use Rattle.model.specs.Courses.{items, upstream_of}
 use Rattle.model.specs.ErrorClause.{must_end}
-use Rattle.model.specs.RequestClause.{IsSentWhole, IsSentInPart, OpenInTime}
+use Rattle.model.specs.RequestClause.{BeginInTime}
+use Rattle.model.proofs.ExchangeLaws.{none_kept}
 use Rattle.model.specs.ProgressClause.{Reason}
 use Rattle.serving.specs.Written.{IsWritten}
 use Rattle.serving.specs.State.{Held, held_of, live_of, State}
@@ -24,8 +23,9 @@ use Rattle.serving.specs.State.Due.{Nothing}
 use Rattle.serving.specs.Rule.{IsKept}
 use Rattle.serving.specs.Meaning.{Verdict}
 use Rattle.model.proofs.ItemLaws.{items_stay}
+use Rattle.model.specs.ProgressClause.{had_closed}
 use Rattle.serving.proofs.Reasons.{IsOf, heard_same, ended_same, reason_stays, all_heard_back, all_heard_there}
-use Rattle.serving.proofs.Standing.{text_of, owed, Lives, IsSent, Given, IsDueFor, Fares, IsDue, IsOnWay, Closes, IsFresh, Stands, Steps, unread_same, some_items, had_closed_in, cut_stays}
+use Rattle.serving.proofs.Standing.{IsSentWhole, IsSentInPart, text_of, owed, Lives, IsSent, Given, IsDueFor, Fares, IsDue, IsOnWay, Closes, IsFresh, Stands, Steps, unread_same, some_items, had_closed_in, cut_stays}
 
 -- ---- the connections that are kept
 
@@ -83,21 +83,21 @@ pub record IsPassing (known : Known) (t : List Entry) (e : Entry) (s u : State) 
   pub not_fresh : (k : ℕ) → s.count < k → IsOf k e → ⊥
   pub held : (stream : ℕ) (h : Held) → held_of stream u.held ≡ Some h → IsOnWay known (e ∷ t) u stream h.way
   pub goes : GoToOpen t → GoToOpen (e ∷ t)
-  pub in_time : OpenInTime known t → OpenInTime known (e ∷ t)
+  pub in_time : BeginInTime known t → BeginInTime known (e ∷ t)
   pub ends : must_end known t ≡ true → must_end known (e ∷ t) ≡ true
   pub closes : Closes known (e ∷ t) u t → Closes known (e ∷ t) u (e ∷ t)
   pub shut : is_closed (e ∷ t) ≡ true → u.live ≡ []
 
 -- what a connection was sent, where its stream's items and what is due stay
-pub sent_same : (known : Known) (t : List Entry) (e : Entry) (o : Opened) (text : List ℕ) → IsIn o (opens t) → items known o.stream (e ∷ t) ≡ items known o.stream t → (is_open o.k t ≡ false → is_open o.k (e ∷ t) ≡ false) → IsSent known t text o → IsSent known (e ∷ t) text o
-sent_same known t e o text i same shut g = record {
+pub sent_same : (known : Known) (t : List Entry) (e : Entry) (o : Opened) (text : List ℕ) → known.setup.keep ≡ false → BeginInTime known t → IsIn o (opens t) → items known o.stream (e ∷ t) ≡ items known o.stream t → (is_open o.k t ≡ false → is_open o.k (e ∷ t) ≡ false) → IsSent known t text o → IsSent known (e ∷ t) text o
+sent_same known t e o text off in_time i same shut g = record {
   reads = elim g.reads [
     | inl whole ↦ inl (subst (IsSentWhole text) (sym same) whole)
     | inr p ↦ inr (record {
       part = subst (IsSentInPart text) (sym same) p.part;
       cut = λ request means.
           let was = p.cut request (subst (λ xs. H2Request xs request) same means) in
-          (cut_stays t e o.stream was.0 (had_closed_in o.stream (opens t) t o i refl was.1), shut was.1);
+          (cut_stays t e o.stream was.0 (subst (λ (os : List Opened). had_closed o.stream os t ≡ true) (sym (none_kept known t off in_time)) (had_closed_in o.stream (opens t) t o i refl was.1)), shut was.1);
     })
   ];
   writes = λ opened. let w = g.writes (before opened) in (w.0, subst (λ xs. IsWritten xs text w.0) (sym same) w.1);
@@ -117,7 +117,7 @@ fares_same known t e s u stream still opens_same same (inr (inr g)) = inr (inr (
 
 -- a connection that is not opened yet stays so
 pub fresh_same : (t : List Entry) (e : Entry) (k : ℕ) → sent_up k (e ∷ t) ≡ sent_up k t → (IsOf k e → ⊥) → (is_open k t ≡ false → is_open k (e ∷ t) ≡ false) → IsFresh t k → IsFresh (e ∷ t) k
-fresh_same t e k same other shut f = record { unsent = same ∙ f.unsent; unheard = heard_same t e k other ∙ f.unheard; not_ended = ended_same t e k other ∙ f.not_ended; not_open = shut f.not_open }
+fresh_same t e k same other shut f = record { unsent = same ∙ f.unsent; unheard = λ o at. heard_same t e o (λ is. other (subst (λ n. IsOf n e) at is)) ∙ f.unheard o at; not_ended = λ o at. ended_same t e o (λ is. other (subst (λ n. IsOf n e) at is)) ∙ f.not_ended o at; not_open = shut f.not_open }
 
 -- what was sent to a connection and is due to it stays
 pub text_same : (t : List Entry) (e : Entry) (s u : State) → u.due ≡ s.due → ((k : ℕ) → sent_up k (e ∷ t) ≡ sent_up k t) → (k : ℕ) → text_of k (e ∷ t) u.due ≡ text_of k t s.due
@@ -134,7 +134,7 @@ passes known t e s u h p = record {
   count = p.count;
   lives = p.lives;
   gone = p.gone;
-  sent = λ o i g. subst (λ x. IsSent known (e ∷ t) x o) (sym (text_same t e s u p.same_due p.same_sent o.k)) (sent_same known t e o (text_of o.k t s.due) i (p.same_items o.stream) (p.still_shut o.k) g.sent);
+  sent = λ o i g. subst (λ x. IsSent known (e ∷ t) x o) (sym (text_same t e s u p.same_due p.same_sent o.k)) (sent_same known t e o (text_of o.k t s.due) h.off h.in_time i (p.same_items o.stream) (p.still_shut o.k) g.sent);
   back = p.back;
   fresh = λ k lt. fresh_same t e k (p.same_sent k) (p.not_fresh k lt) (p.still_shut k);
   fares = λ stream. fares_same known t e s u stream (subst (λ d. IsDueFor d stream) (sym p.same_due)) p.same_opens (p.same_items stream) (h.fares stream);

@@ -14,15 +14,15 @@ use Rattle.model.specs.Tapes.{Noted, Entry, came, sent_up}
 use Rattle.model.specs.Tapes.Entry.{Came}
 use Rattle.model.specs.Decoding.{completed}
 use Rattle.model.specs.Streams.{frame_items, items_of}
-use Rattle.model.specs.Openings.{Opened, opens}
+use Rattle.model.specs.Openings.{Opened, opens, exchanges}
 use Rattle.model.specs.Admission.{is_open}
 use Rattle.model.specs.Available.{IsIn}
 use Rattle.model.specs.Known.{Known}
 use Rattle.model.specs.Lifetimes.{ends_by, is_active, is_ended_by_client}
 use Rattle.model.specs.Causes.{Cause}
 use Rattle.model.specs.Courses.{items, cause}
-use Rattle.model.specs.Offers.{IsGiven}
-use Rattle.model.specs.RequestClause.{IsSentWhole, IsSentInPart, MayBeServed}
+use Rattle.model.specs.RequestClause.{MayBeServed}
+use Rattle.model.proofs.ExchangeLaws.{none_kept}
 use Rattle.model.specs.ProgressClause.{is_first_end, was_cut, had_closed}
 use Rattle.model.proofs.DeliveryReadings.{one_connection, one_number}
 use Rattle.h1_writer.specs.Sending.{Stage}
@@ -39,7 +39,8 @@ use Rattle.serving.proofs.Lists.{held_now, held_beside}
 use Rattle.serving.proofs.Texts.{no_request, part_tells, whole_told, one_ends}
 use Rattle.serving.proofs.Bringing.{IsGood, is_good}
 use Rattle.serving.proofs.Writing.{body_append, head_written, item_written, head_awaited, item_gathered, item_completes, may_go_on}
-use Rattle.serving.proofs.Standing.{owed, text_of, IsInPart, IsSent, Given, IsDueFor, Fares, IsDue, IsOnWay, IsWaiting, IsGoing, IsDropped, Stands, Steps, had_closed_in, has_head_stays, way_stays}
+use Rattle.serving.proofs.Closing.{found_live, same_live}
+use Rattle.serving.proofs.Standing.{IsGiven, IsSentWhole, IsSentInPart, owed, text_of, IsInPart, IsSent, Given, IsDueFor, Fares, IsDue, IsOnWay, IsWaiting, IsGoing, IsDropped, Stands, Steps, had_closed_in, has_head_stays, way_stays}
 use Rattle.serving.proofs.Passing.{items_beside, sent_same, fares_same, fresh_same, lives_found, reason_on}
 use Rattle.serving.proofs.Framing.{not_to_end}
 use Rattle.serving.proofs.Opening.{sent_written}
@@ -124,7 +125,7 @@ module _ (known : Known) (t : List Entry) (s : State) (h : Stands known t s) (to
 
   sent_beside : (due : Due) → IsBeside due → (o : Opened) → IsIn o (opens t) → Given known t s o → (id ≡ o.stream → ⊥) → IsSent known (e ∷ t) (text_of o.k (e ∷ t) due) o
   sent_beside due beside o i g apart =
-      subst (λ x. IsSent known (e ∷ t) x o) (sym (text_beside due beside o i apart)) (sent_same known t e o (text_of o.k t s.due) i (items_beside known t noted o.stream apart) (λ shut. shut) g.sent)
+      subst (λ x. IsSent known (e ∷ t) x o) (sym (text_beside due beside o i apart)) (sent_same known t e o (text_of o.k t s.due) h.off h.in_time i (items_beside known t noted o.stream apart) (λ shut. shut) g.sent)
 
   -- What is to be shown of the frame's own stream.
   record Own (u : State) : Type 0 where
@@ -298,7 +299,12 @@ module _ (known : Known) (t : List Entry) (s : State) (h : Stands known t s) (to
 
       is_due : (octets : List ℕ) → IsDue known (e ∷ t) (passed k old written stage) (to_send k octets)
       is_due [] = tt
-      is_due (octet ∷ octets) = w.live
+      is_due (octet ∷ octets) = (w.live.0, w.live.1, stream_is)
+        where
+          stream_is : w.live.0.stream ≡ id
+          stream_is =
+              let it = found_live known t s h k w.live.0 w.live.1 in
+              sym (ap (λ (l : Live). l.stream) (same_live known t s h k w.live.0 w.live.1)) ∙ it.3.same ∙ ap (λ (p : Opened). p.stream) (one_number (opens t) it.0 w.o h.numbered it.1 w.given.is_opened (it.2 ∙ sym w.number)) ∙ w.given.is_given
 
       held : (x : Held) → held_of id (held_with id (unless_whole stage (Going k stage)) s.held) ≡ Some x → IsOnWay known (e ∷ t) (passed k old written stage) id x.way
       held x found = by (is_whole stage) refl (held_now id (unless_whole stage (Going k stage)) s.held x found)
@@ -360,7 +366,7 @@ module _ (known : Known) (t : List Entry) (s : State) (h : Stands known t s) (to
 
           cut : (request : Request) → H2Request (items known id (e ∷ t)) request → was_cut o.stream (e ∷ t) ≡ true
           cut request means = elim (cases_Bool (list_any ends_with (items known id (e ∷ t)))) [
-            | inl now ↦ ap (λ b. if b then had_closed o.stream (opens t) t else was_cut o.stream t) (first_end now) ∙ had_closed_in o.stream (opens t) t o i refl (shut o g none)
+            | inl now ↦ ap (λ b. if b then had_closed o.stream (exchanges t) t else was_cut o.stream t) (first_end now) ∙ ap (λ os. had_closed o.stream os t) (none_kept known t h.off h.in_time) ∙ had_closed_in o.stream (opens t) t o i refl (shut o g none)
             | inr none ↦ absurd (no_request (items known id (e ∷ t)) request none means)
           ]
 

@@ -1,5 +1,5 @@
 -- Why a connection is done with, and which entries leave that as it is.
-use Rattle.std.proofs.Common.{◌≡◌, ℕ, true, List, [], ◌∷◌, ◌++◌, refl, sym, ap, subst, if◌then◌else◌}
+use Rattle.std.proofs.Common.{◌≡◌, ℕ, true, ◌&&◌, ◌==◌, List, [], ◌∷◌, ◌++◌, refl, sym, ap, subst, if◌then◌else◌}
 use Rattle.std.specs.Prelude.{Some}
 use Rattle.std.proofs.lemmas.Bool.{ne_eqb}
 use Rattle.model.specs.Responses.{IsComplete}
@@ -7,8 +7,8 @@ use Rattle.model.specs.Logs.Event.{Client, ClientEnd, ClientTook, Up, UpEnd, UpF
 use Rattle.model.specs.Logs.Act.{Open, ToUp, Close, CloseClient}
 use Rattle.model.specs.Tapes.{Entry, is_closed}
 use Rattle.model.specs.Tapes.Entry.{Came, Breached, Happened, Sent, Did}
-use Rattle.model.specs.Openings.{Opened}
-use Rattle.model.specs.Available.{heard, has_ended}
+use Rattle.model.specs.Openings.{Opened, exchanges, given}
+use Rattle.model.specs.Available.{heard_by, ended_by}
 use Rattle.model.specs.Known.{Known}
 use Rattle.model.specs.Causes.{Cause}
 use Rattle.model.specs.Lifetimes.{opened, is_opened}
@@ -17,7 +17,7 @@ use Rattle.model.specs.Offers.{is_to_head}
 use Rattle.model.specs.ProgressClause.{Reason}
 use Rattle.model.specs.ProgressClause.Reason.{Over, Complete, Answered, ClientClosed}
 use Rattle.model.specs.Courses.{cause_of}
-use Rattle.serving.specs.Meaning.{IsAllHeard}
+use Rattle.model.specs.Idle.{IsAllHeard}
 use Rattle.model.proofs.LifeLaws.{lost_stays}
 use Rattle.model.proofs.ItemLaws.{head_stays}
 
@@ -26,7 +26,7 @@ pub cause_stays : (known : Known) (t : List Entry) (e : Entry) (stream : ℕ) (f
 cause_stays known t e stream found is = ap (λ c. first_of_both c (cause_of known stream t e)) is
 
 -- a client that was closed stays so
-closed_stays : (t : List Entry) (e : Entry) → is_closed t ≡ true → is_closed (e ∷ t) ≡ true
+pub closed_stays : (t : List Entry) (e : Entry) → is_closed t ≡ true → is_closed (e ∷ t) ≡ true
 closed_stays t (Came noted) is = is
 closed_stays t (Breached breach) is = is
 closed_stays t (Happened event) is = is
@@ -41,33 +41,33 @@ abbrev pub IsOf : ℕ → Entry → Type 0
 IsOf k (Happened event) = k ≡ upstream_of event
 IsOf k _ = ⊥
 
--- what came of any other upstream is as it was
-pub heard_same : (t : List Entry) (e : Entry) (k : ℕ) → (IsOf k e → ⊥) → heard k (e ∷ t) ≡ heard k t
-heard_same t (Came noted) k other = refl
-heard_same t (Breached breach) k other = refl
-heard_same t (Happened (Client piece)) k other = refl
-heard_same t (Happened ClientEnd) k other = refl
-heard_same t (Happened (ClientTook count)) k other = refl
-heard_same t (Happened (Up j piece)) k other = ap (λ b. if b then heard k t ++ piece else heard k t) (ne_eqb k j other)
-heard_same t (Happened (UpEnd j)) k other = refl
-heard_same t (Happened (UpFailed j)) k other = refl
-heard_same t (Happened (UpTook j count)) k other = refl
-heard_same t (Sent noted) k other = refl
-heard_same t (Did act) k other = refl
+-- what came of an exchange on any other connection is as it was
+pub heard_same : (t : List Entry) (e : Entry) (o : Opened) → (IsOf o.k e → ⊥) → heard_by o (e ∷ t) ≡ heard_by o t
+heard_same t (Came noted) o other = refl
+heard_same t (Breached breach) o other = refl
+heard_same t (Happened (Client piece)) o other = refl
+heard_same t (Happened ClientEnd) o other = refl
+heard_same t (Happened (ClientTook count)) o other = refl
+heard_same t (Happened (Up j piece)) o other = ap (λ b. if b && o.stream == given j (exchanges t) then heard_by o t ++ piece else heard_by o t) (ne_eqb o.k j other)
+heard_same t (Happened (UpEnd j)) o other = refl
+heard_same t (Happened (UpFailed j)) o other = refl
+heard_same t (Happened (UpTook j count)) o other = refl
+heard_same t (Sent noted) o other = refl
+heard_same t (Did act) o other = refl
 
 -- whether any other ended is as it was
-pub ended_same : (t : List Entry) (e : Entry) (k : ℕ) → (IsOf k e → ⊥) → has_ended k (e ∷ t) ≡ has_ended k t
-ended_same t (Came noted) k other = refl
-ended_same t (Breached breach) k other = refl
-ended_same t (Happened (Client piece)) k other = refl
-ended_same t (Happened ClientEnd) k other = refl
-ended_same t (Happened (ClientTook count)) k other = refl
-ended_same t (Happened (Up j piece)) k other = refl
-ended_same t (Happened (UpEnd j)) k other = ap (λ b. if b then true else has_ended k t) (ne_eqb k j other)
-ended_same t (Happened (UpFailed j)) k other = refl
-ended_same t (Happened (UpTook j count)) k other = refl
-ended_same t (Sent noted) k other = refl
-ended_same t (Did act) k other = refl
+pub ended_same : (t : List Entry) (e : Entry) (o : Opened) → (IsOf o.k e → ⊥) → ended_by o (e ∷ t) ≡ ended_by o t
+ended_same t (Came noted) o other = refl
+ended_same t (Breached breach) o other = refl
+ended_same t (Happened (Client piece)) o other = refl
+ended_same t (Happened ClientEnd) o other = refl
+ended_same t (Happened (ClientTook count)) o other = refl
+ended_same t (Happened (Up j piece)) o other = refl
+ended_same t (Happened (UpEnd j)) o other = ap (λ b. if b && o.stream == given j (exchanges t) then true else ended_by o t) (ne_eqb o.k j other)
+ended_same t (Happened (UpFailed j)) o other = refl
+ended_same t (Happened (UpTook j count)) o other = refl
+ended_same t (Sent noted) o other = refl
+ended_same t (Did act) o other = refl
 
 -- ---- reasons
 
@@ -79,11 +79,11 @@ module _ (known : Known) (t : List Entry) (e : Entry) (o : Opened) (begun : item
 
   pub all_heard_there : IsAllHeard known t o → IsAllHeard known (e ∷ t) o
   all_heard_there c =
-      subst (λ x. IsComplete x (has_ended o.k (e ∷ t)) (is_to_head (items known o.stream (e ∷ t)))) (sym (heard_same t e o.k other)) (subst (λ x. IsComplete (heard o.k t) x (is_to_head (items known o.stream (e ∷ t)))) (sym (ended_same t e o.k other)) (subst (λ x. IsComplete (heard o.k t) (has_ended o.k t) x) to_head_same c))
+      subst (λ x. IsComplete x (ended_by o (e ∷ t)) (is_to_head (items known o.stream (e ∷ t)))) (sym (heard_same t e o other)) (subst (λ x. IsComplete (heard_by o t) x (is_to_head (items known o.stream (e ∷ t)))) (sym (ended_same t e o other)) (subst (λ x. IsComplete (heard_by o t) (ended_by o t) x) to_head_same c))
 
   pub all_heard_back : IsAllHeard known (e ∷ t) o → IsAllHeard known t o
   all_heard_back c =
-      subst (λ x. IsComplete x (has_ended o.k t) (is_to_head (items known o.stream t))) (heard_same t e o.k other) (subst (λ x. IsComplete (heard o.k (e ∷ t)) x (is_to_head (items known o.stream t))) (ended_same t e o.k other) (subst (λ x. IsComplete (heard o.k (e ∷ t)) (has_ended o.k (e ∷ t)) x) (sym to_head_same) c))
+      subst (λ x. IsComplete x (ended_by o t) (is_to_head (items known o.stream t))) (heard_same t e o other) (subst (λ x. IsComplete (heard_by o (e ∷ t)) x (is_to_head (items known o.stream t))) (ended_same t e o other) (subst (λ x. IsComplete (heard_by o (e ∷ t)) (ended_by o (e ∷ t)) x) (sym to_head_same) c))
 
 -- A reason stays, whatever comes but an answer of the connection's own upstream.
 pub reason_stays : (known : Known) (t : List Entry) (e : Entry) (o : Opened) → is_opened o.stream t ≡ true → (items known o.stream t ≡ [] → ⊥) → (IsOf o.k e → ⊥) → Reason known t o → Reason known (e ∷ t) o

@@ -20,7 +20,7 @@ use Rattle.model.specs.Lifetimes.{active, is_opened, is_active}
 use Rattle.model.specs.Setup.{Setup}
 use Rattle.model.specs.Tables.{total_size}
 use Rattle.model.specs.Malformed.{Carried, carried_by}
-use Rattle.model.specs.Causes.{Cause, largest_fields}
+use Rattle.model.specs.Causes.{Cause}
 use Rattle.model.specs.Courses.{items, cause}
 use Rattle.model.proofs.OpenedLaws.{none_zero}
 use Rattle.request_rules.specs.Heads.{parts_of}
@@ -168,7 +168,7 @@ read_frames_fit text t (inr (inr behind)) = fit_came t (read_fit behind.behind (
 
 -- the text of a head that waits
 pub waits_short : (known : Known) (t : List Entry) (stream : ℕ) (text : List ℕ) (stage : Stage) (body : List ℕ) → 0 < stream → (w : IsAwaited (items known stream t) text stage body)
-    → (length text + held_back stage ≤ most_head) × (length body ≤ known.setup.max_body) × (length (head_of (parts_of w.head) false) ≤ most_head)
+    → (length text + held_back stage ≤ most_head) × (length body ≤ known.setup.max_body) × (length (head_of false (parts_of w.head) false) ≤ most_head)
 waits_short known t stream text stage body some w =
     let small = items_small known stream some t in
     let head = head_short w.head false w.well_formed (small.head w.head (subst (λ xs. HasHead xs w.head) (sym w.is) refl)) in
@@ -245,8 +245,8 @@ module _ (known : Known) (t : List Entry) (s : State) (h : Stands known t s) (be
       w : IsWaiting known t noted.frame.id route text old body
       w = h.held noted.frame.id (record { id = noted.frame.id; way = Waiting route text old body }) may.found
 
-      pieces_of : (ends : Bool) → IsGathered ends old (body ++ octets_of item) (trailers_in item) written stage → is_whole stage ≡ true → Sending (parts_of w.awaited.head) false (text ++ written) ([] ++ piece_of (body ++ octets_of item)) (trailers_in item) stage
-      pieces_of true g whole = g.0 (parts_of w.awaited.head) false text [] w.awaited.sending
+      pieces_of : (ends : Bool) → IsGathered ends old (body ++ octets_of item) (trailers_in item) written stage → is_whole stage ≡ true → Sending false (parts_of w.awaited.head) false (text ++ written) ([] ++ piece_of (body ++ octets_of item)) (trailers_in item) stage
+      pieces_of true g whole = g.0 false (parts_of w.awaited.head) false text [] w.awaited.sending
       pieces_of false g whole = absurd (w.awaited.part (whole_told old (sym (ap is_whole g.1) ∙ whole)))
 
       short : is_whole stage ≡ true → length (text ++ written) + 1 ≤ most
@@ -272,7 +272,7 @@ module _ (known : Known) (t : List Entry) (s : State) (h : Stands known t s) (be
       short : length written + 1 ≤ most
       short =
           let sent = w.written in
-          let size = written_length (parts_of sent.head) sent.ended (text_of k t s.due) written (octets_of item) sent.pieces (trailers_in item) old stage space.fits (bare _ _ old sent (part_told old w.part)) (part_told old w.part) (may.continues (parts_of sent.head) sent.ended (text_of k t s.due) sent.pieces (bare _ _ old sent (part_told old w.part))) in
+          let size = written_length (parts_of sent.head) sent.ended (text_of k t s.due) written (octets_of item) sent.pieces (trailers_in item) old stage space.fits (bare _ _ old sent (part_told old w.part)) (part_told old w.part) (may.continues false (parts_of sent.head) sent.ended (text_of k t s.due) sent.pieces (bare _ _ old sent (part_told old w.part))) in
           let back = back_one old in
           let room = space.room in
           omega (arith, size, back, room, lines)

@@ -11,7 +11,8 @@ use Rattle.model.specs.Logs.Act.{Open, ToUp, Close, CloseClient}
 use Rattle.model.specs.Tapes.{Noted, Breach, Entry, is_closed}
 use Rattle.model.specs.Tapes.Entry.{Came, Breached, Happened, Sent, Did}
 use Rattle.model.specs.Logs.{Event, Act}
-use Rattle.model.specs.Openings.{Opened, opens, given}
+use Rattle.model.specs.Openings.{Opened, opens, given, exchanges}
+use Rattle.model.proofs.ExchangeLaws.{none_kept}
 use Rattle.model.specs.Known.{Known}
 use Rattle.model.specs.Lifetimes.{opened, active, is_opened, is_over, is_active}
 use Rattle.model.specs.Causes.{Cause}
@@ -119,7 +120,7 @@ module _ (known : Known) (t : List Entry) (s : State) (h : Stands known t s) (be
   served_behind before (Passes noted item k old written stage) may is = with_own noted may.1.serving is _
   served_behind before (Drops noted item) may is = with_none noted may.1.serving is
   served_behind before (Breaks breach) may is = λ stream x found. served_breached known t breach stream ∙ was stream x found
-  served_behind before (Notes event) may is = λ stream x found. served_noted known t event stream (ap (λ n. given n (opens t)) may.1 ∙ given_zero (opens t) h.numbered) ∙ was stream x found
+  served_behind before (Notes event) may is = λ stream x found. served_noted known t event stream (ap (λ n. given n (exchanges t)) may.1 ∙ ap (given 0) (none_kept known t h.off h.in_time) ∙ given_zero (opens t) h.numbered) ∙ was stream x found
   served_behind before (Hears event whole) may is = those_kept (Happened event) s.held is
   served_behind before (Fails k) may is = those_kept (entry_of (Fails k)) (map (drop_from k) s.held) is
   served_behind before (Sends noted) may is = those_kept (Sent noted) s.held is

@@ -11,16 +11,18 @@ use Rattle.model.specs.Logs.Act.{Open, ToUp, Close, CloseClient}
 use Rattle.model.specs.Tapes.{Entry, sent_up, is_closed}
 use Rattle.model.specs.Tapes.Entry.{Came, Breached, Happened, Sent, Did}
 use Rattle.model.specs.Streams.{items_of}
-use Rattle.model.specs.Openings.{Opened, opens, last_stream, AreNumbered, AreApart, GoToOpen}
+use Rattle.model.specs.Openings.{Opened, opens, exchanges, last_stream, AreNumbered, AreApart, GoToOpen}
 use Rattle.model.specs.Admission.{is_open}
-use Rattle.model.specs.Available.{heard, has_ended, IsIn}
+use Rattle.model.specs.Available.{heard_by, ended_by, IsIn}
 use Rattle.model.specs.Known.{Known}
 use Rattle.model.specs.Lifetimes.{is_opened}
 use Rattle.model.specs.ErrorTable.{fault_with}
 use Rattle.model.specs.Courses.{course, carried, items, interrupts}
-use Rattle.model.specs.Offers.{IsGiven}
 use Rattle.model.specs.ErrorClause.{must_end}
-use Rattle.model.specs.RequestClause.{IsSentWhole, IsSentInPart, MayBeServed, OpenInTime}
+use Rattle.model.specs.Http1.{H1Request, H1Requests, forward}
+use Rattle.model.specs.Http2.{MayBecome}
+use Rattle.model.specs.Octets.{IsStrictFront}
+use Rattle.model.specs.RequestClause.{EndsWithChunks, MayBeServed, BeginInTime}
 use Rattle.model.specs.ProgressClause.{Reason, had_closed, is_first_end, was_cut}
 use Rattle.h1_writer.specs.Sending.{Stage}
 use Rattle.model.specs.Courses.{cause_of}
@@ -33,6 +35,24 @@ use Rattle.serving.specs.State.Due.{Nothing, ToOpen, ToSend}
 use Rattle.model.proofs.LifeLaws.{opened_stays}
 
 -- ---- one connection
+
+-- a connection that was opened for the stream; where none is kept, these are all exchanges
+pub record IsGiven (t : List Entry) (stream : ℕ) (o : Opened) : Type 0 where
+  pub is_opened : IsIn o (opens t)
+  pub is_given : o.stream ≡ stream
+
+-- the text reads as the one request that the items mean
+pub record IsSentWhole (text : List ℕ) (items : List Item) : Type 0 where
+  pub request : Request
+  pub means : H2Request items request
+  pub reads : H1Requests text (forward request ∷ []) []
+
+-- the text reads as no request yet, and goes on to one for every request that the items may still become; its chunks are whole
+pub record IsSentInPart (text : List ℕ) (items : List Item) : Type 0 where
+  pub some : (request : Request) × MayBecome items request
+  pub reads : H1Requests text [] text
+  pub goes_on : (request : Request) → MayBecome items request → (whole : List ℕ) × H1Request whole (forward request) × IsStrictFront text whole
+  pub in_chunks : EndsWithChunks text
 
 -- what is due to a connection
 abbrev pub owed : ℕ → Due → List ℕ
@@ -113,7 +133,7 @@ pub record IsOpening (known : Known) (t : List Entry) (stream route : ℕ) (text
 abbrev pub IsDue : Known → List Entry → State → Due → Type 0
 IsDue known t s Nothing = Unit {0}
 IsDue known t s (ToOpen stream route text stage) = IsOpening known t stream route text stage
-IsDue known t s (ToSend k text) = (l : Live) × (live_of k s.live ≡ Some l)
+IsDue known t s (ToSend k text) = (l : Live) × (live_of k s.live ≡ Some l) × (l.stream ≡ last_stream t)
 
 -- ---- requests that aren't whole
 
@@ -166,14 +186,15 @@ Closes known t s (_ ∷ u) = Closes known t s u
 -- Nothing is known of a connection that wasn't opened yet.
 pub record IsFresh (t : List Entry) (k : ℕ) : Type 0 where
   pub unsent : sent_up k t ≡ []
-  pub unheard : heard k t ≡ []
-  pub not_ended : has_ended k t ≡ false
+  pub unheard : (o : Opened) → o.k ≡ k → heard_by o t ≡ []
+  pub not_ended : (o : Opened) → o.k ≡ k → ended_by o t ≡ false
   pub not_open : is_open k t ≡ false
 
 -- ---- all of it
 
 -- What is kept stands for the tape.
 pub record Stands (known : Known) (t : List Entry) (s : State) : Type 0 where
+  pub off : known.setup.keep ≡ false
   pub numbered : AreNumbered (opens t)
   pub apart : AreApart (opens t)
   pub count : s.count ≡ length (opens t)
@@ -184,7 +205,7 @@ pub record Stands (known : Known) (t : List Entry) (s : State) : Type 0 where
   pub held : (stream : ℕ) (h : Held) → held_of stream s.held ≡ Some h → IsOnWay known t s stream h.way
   pub due : IsDue known t s s.due
   pub goes : GoToOpen t
-  pub in_time : OpenInTime known t
+  pub in_time : BeginInTime known t
   pub closes : Closes known t s t
   pub shut : is_closed t ≡ true → s.live ≡ []
 
@@ -223,10 +244,10 @@ had_closed_in stream (p ∷ os) t o (inr i) same shut = by (p.stream == stream &
     by false e = e
 
 -- a stream that was cut stays so, where its connection isn't open
-pub cut_stays : (t : List Entry) (e : Entry) (stream : ℕ) → was_cut stream t ≡ true → had_closed stream (opens t) t ≡ true → was_cut stream (e ∷ t) ≡ true
+pub cut_stays : (t : List Entry) (e : Entry) (stream : ℕ) → was_cut stream t ≡ true → had_closed stream (exchanges t) t ≡ true → was_cut stream (e ∷ t) ≡ true
 cut_stays t (Came noted) stream cut closed = by (is_first_end stream t noted)
   where
-    by : (b : Bool) → (if b then had_closed stream (opens t) t else was_cut stream t) ≡ true
+    by : (b : Bool) → (if b then had_closed stream (exchanges t) t else was_cut stream t) ≡ true
     by true = closed
     by false = cut
 cut_stays t (Breached breach) stream cut closed = cut
@@ -289,7 +310,7 @@ pub record Steps (known : Known) (t : List Entry) (e : Entry) (s u : State) : Ty
   pub held : (stream : ℕ) (h : Held) → held_of stream u.held ≡ Some h → IsOnWay known (e ∷ t) u stream h.way
   pub due : IsDue known (e ∷ t) u u.due
   pub goes : GoToOpen (e ∷ t)
-  pub in_time : OpenInTime known (e ∷ t)
+  pub in_time : BeginInTime known (e ∷ t)
   pub ends : must_end known t ≡ true → must_end known (e ∷ t) ≡ true
   pub closes : Closes known (e ∷ t) u t → Closes known (e ∷ t) u (e ∷ t)
   pub shut : is_closed (e ∷ t) ≡ true → u.live ≡ []
@@ -297,6 +318,7 @@ pub record Steps (known : Known) (t : List Entry) (e : Entry) (s u : State) : Ty
 -- what is kept stands for the tape behind such an entry
 pub stands_next : (known : Known) (t : List Entry) (e : Entry) (s u : State) → Stands known t s → Steps known t e s u → Stands known (e ∷ t) u
 stands_next known t e s u h p = record {
+  off = h.off;
   numbered = subst AreNumbered (sym p.same_opens) h.numbered;
   apart = subst AreApart (sym p.same_opens) h.apart;
   count = p.count ∙ h.count ∙ ap length (sym p.same_opens);

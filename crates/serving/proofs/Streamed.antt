@@ -14,6 +14,8 @@ use Rattle.serving.specs.State.{State}
 use Rattle.serving.specs.State.Due.{Nothing}
 use Rattle.serving.proofs.Texts.{none_end}
 use Rattle.serving.proofs.Coming.{has_come}
+use Rattle.model.proofs.AloneLaws.{sent_is}
+use Rattle.model.proofs.ExchangeLaws.{none_kept}
 use Rattle.serving.proofs.Standing.{text_of, IsSent, IsDueFor, Stands}
 
 module _ (known : Known) (t : List Entry) (s : State) (h : Stands known t s) (nothing : s.due ≡ Nothing) where
@@ -29,11 +31,12 @@ module _ (known : Known) (t : List Entry) (s : State) (h : Stands known t s) (no
       | inl due ↦ absurd (subst (λ d. IsDueFor d stream) nothing due)
       | inr g ↦ record {
         o = g.0;
-        given = g.1;
+        given = record { is_opened = subst (IsIn g.0) (sym (none_kept known t h.off h.in_time)) g.1.is_opened; is_given = g.1.is_given };
         has_come = λ opened.
             let w = (sent_all g.0 g.1.is_opened).writes opened in
-            subst (λ n. HasCome (sent_up g.0.k t) (body_of (items known n t))) g.1.is_given
-            (has_come (items known g.0.stream t) (sent_up g.0.k t) w.0 w.1 (λ whole. none_end (items known g.0.stream t) (subst (λ n. list_any ends_with (items known n t) ≡ false) (sym g.1.is_given) goes_on) (w.1.ends whole)));
+            subst (λ x. HasCome x (body_of (items known stream t))) (sent_is known t h.off h.numbered h.apart h.in_time h.goes g.0 g.1.is_opened)
+            (subst (λ n. HasCome (sent_up g.0.k t) (body_of (items known n t))) g.1.is_given
+            (has_come (items known g.0.stream t) (sent_up g.0.k t) w.0 w.1 (λ whole. none_end (items known g.0.stream t) (subst (λ n. list_any ends_with (items known n t) ≡ false) (sym g.1.is_given) goes_on) (w.1.ends whole))));
       }
     ])
   ]

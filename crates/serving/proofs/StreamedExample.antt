@@ -17,7 +17,8 @@ use Rattle.h1_writer.specs.Sending.Stage.{Chunking}
 use Rattle.serving.specs.State.{state_of, Turn, tape_of}
 use Rattle.serving.specs.State.Move.{Begins, Passes, Drops, Hears, Acts}
 use Rattle.serving.specs.Rule.{AreAllowed}
-use Rattle.serving.specs.Meaning.{IsAllHeard, AreSo, KeepClauses}
+use Rattle.model.specs.Idle.{IsAllHeard}
+use Rattle.serving.specs.Meaning.{AreSo, KeepClauses}
 use Rattle.serving.specs.Held.{held_for}
 use Rattle.serving.proofs.Telling.{told_by}
 use Rattle.serving.proofs.Clauses.{clauses_hold}
@@ -36,7 +37,7 @@ abbrev s3 : List Turn
 s3 = turn (Acts (ToUp 1 (chunk_text (codes "he")))) (1 ∷ []) ∷ turn (Passes first_data (Content (codes "he") false) 1 Chunking (chunk_text (codes "he")) Chunking) (1 ∷ []) ∷ s2
 
 b1 : AreAllowed streaming.setup m1
-b1 = (((tt, record { open_yet = refl; may = inl refl }), record { open_yet = refl; may = calm _ _ refl refl refl }), record { open_yet = refl; may = inl refl })
+b1 = (((refl, record { open_yet = refl; may = inl refl }), record { open_yet = refl; may = calm _ _ refl refl refl }), record { open_yet = refl; may = inl refl })
 
 b2 : AreAllowed streaming.setup s2
 b2 = (

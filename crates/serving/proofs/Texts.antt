@@ -9,7 +9,7 @@ use Rattle.model.specs.Messages.{Field, Request, Item, ends_with}
 use Rattle.model.specs.Messages.Item.{Block, Content}
 use Rattle.model.specs.Http1.{H1Request, H1Requests, forward}
 use Rattle.model.specs.Http2.{HasHead, HasLength, body_of, declared_length, request_of, first_block, trailers_of, passed_trailers, EndsWithLast, H2Request}
-use Rattle.model.specs.RequestClause.{IsSentWhole, IsSentInPart}
+use Rattle.serving.proofs.Standing.{IsSentWhole, IsSentInPart}
 use Rattle.request_rules.specs.Heads.{parts_of, IsRequestHead}
 use Rattle.h1_writer.specs.Sending.{Stage, Sending, GoesOnTo}
 use Rattle.h1_writer.specs.Sending.Stage.{Whole, Counting, Holding, Chunking}
@@ -91,7 +91,7 @@ module _ (items : List Item) (text : List ℕ) (stage : Stage) (w : IsWritten it
 
   -- ---- whole
 
-  length_whole : Sending (parts_of w.head) w.ended text w.pieces (passed_trailers (first_block w.more)) Whole → HasLength (declared_length w.head) (concat w.pieces)
+  length_whole : Sending false (parts_of w.head) w.ended text w.pieces (passed_trailers (first_block w.more)) Whole → HasLength (declared_length w.head) (concat w.pieces)
   length_whole s = s.has_length
 
   trailers_are : trailers_of items ≡ first_block w.more
@@ -99,8 +99,8 @@ module _ (items : List Item) (text : List ℕ) (stage : Stage) (w : IsWritten it
 
   pub sent_whole : stage ≡ Whole → IsSentWhole text items
   sent_whole e =
-      let s : Sending (parts_of w.head) w.ended text w.pieces (passed_trailers (first_block w.more)) Whole = subst (λ x. Sending (parts_of w.head) w.ended text w.pieces (passed_trailers (first_block w.more)) x) e w.sending in
-      let reads : H1Request text (forward (request_of w.head (concat w.pieces) (first_block w.more))) = whole_read (parts_of w.head) w.ended text w.pieces (first_block w.more) right (trailers_well w.more w.contents) s in
+      let s : Sending false (parts_of w.head) w.ended text w.pieces (passed_trailers (first_block w.more)) Whole = subst (λ x. Sending false (parts_of w.head) w.ended text w.pieces (passed_trailers (first_block w.more)) x) e w.sending in
+      let reads : H1Request text (forward (request_of w.head (concat w.pieces) (first_block w.more))) = whole_read false (parts_of w.head) w.ended text w.pieces (first_block w.more) right (trailers_well w.more w.contents) s in
       record {
         request = request_of w.head (body_of items) (trailers_of items);
         means = record {
@@ -120,7 +120,7 @@ module _ (items : List Item) (text : List ℕ) (stage : Stage) (w : IsWritten it
   -- ---- in part
 
   -- octets that make the body as long as declared
-  filled : (stage : Stage) → Sending (parts_of w.head) w.ended text w.pieces [] stage → (stage ≡ Whole → ⊥) → (more : List ℕ) × HasLength (declared_length w.head) (concat w.pieces ++ more)
+  filled : (stage : Stage) → Sending false (parts_of w.head) w.ended text w.pieces [] stage → (stage ≡ Whole → ⊥) → (more : List ℕ) × HasLength (declared_length w.head) (concat w.pieces ++ more)
   filled Whole s part = absurd (part refl)
   filled (Counting left) s part = (replicate left 0, subst (λ d. HasLength d (concat w.pieces ++ replicate left 0)) (sym s.declared) (length-append (concat w.pieces) (replicate left 0) ∙ ap (λ n. length (concat w.pieces) + n) (length-replicate left 0)))
   filled (Holding octet) s part = ([], subst (λ d. HasLength d (concat w.pieces ++ [])) (sym s.declared) (ap length (append-nil (concat w.pieces))))
@@ -136,11 +136,11 @@ module _ (items : List Item) (text : List ℕ) (stage : Stage) (w : IsWritten it
           request_of w.head body [],
           record { head = w.head; has_head = has_head; begun = record { rest = more.0; is = ap (λ b. b ++ more.0) (sym body_is) }; length_holds = more.1; trailers = []; well_formed = no_trailers; is = refl },
         );
-        reads = record { front = []; is = refl; are_requests = refl; no_more = unfinished_none (parts_of w.head) w.ended text w.pieces stage right sends part };
+        reads = record { front = []; is = refl; are_requests = refl; no_more = unfinished_none false (parts_of w.head) w.ended text w.pieces stage right sends part };
         goes_on = λ request may.
             let same : w.head ≡ may.head = one_head may.head may.has_head in
-            let goes : GoesOnTo (parts_of w.head) text request.body (passed_trailers may.trailers) =
-            unfinished_front (parts_of w.head) w.ended text w.pieces stage request.body may.trailers right may.well_formed sends part
+            let goes : GoesOnTo false (parts_of w.head) text request.body (passed_trailers may.trailers) =
+            unfinished_front false (parts_of w.head) w.ended text w.pieces stage request.body may.trailers right may.well_formed sends part
             (subst (λ b. IsFront b request.body) body_is may.begun) (subst (λ h. HasLength (declared_length h) request.body) (sym same) may.length_holds) in
             let is : request_of w.head request.body may.trailers ≡ request = ap (λ h. request_of h request.body may.trailers) same ∙ sym may.is in
             (goes.whole, subst (λ r. H1Request goes.whole (forward r)) is goes.reads, goes.is_front);

@@ -36,8 +36,8 @@ trailers_well (Content octets ends ∷ items) a = trailers_well items a
 trailers_well (Block fields ends ∷ items) a = a.0
 
 -- a text that isn't whole has no trailers yet
-pub bare : (items : List Item) (text : List ℕ) (stage : Stage) (w : IsWritten items text stage) → (stage ≡ Whole → ⊥) → Sending (parts_of w.head) w.ended text w.pieces [] stage
-bare items text stage w part = subst (λ (fields : List Field). Sending (parts_of w.head) w.ended text w.pieces (passed_trailers fields) stage) (none_in_contents w.more (w.plain part)) w.sending
+pub bare : (items : List Item) (text : List ℕ) (stage : Stage) (w : IsWritten items text stage) → (stage ≡ Whole → ⊥) → Sending false (parts_of w.head) w.ended text w.pieces [] stage
+bare items text stage w part = subst (λ (fields : List Field). Sending false (parts_of w.head) w.ended text w.pieces (passed_trailers fields) stage) (none_in_contents w.more (w.plain part)) w.sending
 
 -- ---- how long lines are
 

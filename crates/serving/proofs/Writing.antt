@@ -60,7 +60,7 @@ octets_are (Block fields ends) = refl
 -- ---- what is written
 
 -- A head is written: it is whole where it ends the stream.
-pub begins : (head : List Field) (ended : Bool) (text : List ℕ) (stage : Stage) → WellFormedHead head → is_connect head ≡ false → Sending (parts_of head) ended text [] [] stage → (stage ≡ Whole → ended ≡ true) → ((stage ≡ Whole → ⊥) → ended ≡ false) → IsWritten (Block head ended ∷ []) text stage
+pub begins : (head : List Field) (ended : Bool) (text : List ℕ) (stage : Stage) → WellFormedHead head → is_connect head ≡ false → Sending false (parts_of head) ended text [] [] stage → (stage ≡ Whole → ended ≡ true) → ((stage ≡ Whole → ⊥) → ended ≡ false) → IsWritten (Block head ended ∷ []) text stage
 begins head ended text stage well_formed no_connect sending whole part = record {
   head = head;
   ended = ended;
@@ -88,8 +88,8 @@ adds items text stage item written new w part continues whole goes are = record 
   is = ap (λ xs. xs ++ item ∷ []) w.is;
   well_formed = w.well_formed;
   no_connect = w.no_connect;
-  sending = subst (λ (fields : List Field). Sending (parts_of w.head) w.ended (text ++ written) (w.pieces ++ piece_of (octets_of item)) fields new) (sym (trailers_behind_contents w.more item (w.plain part)))
-      (continues (parts_of w.head) w.ended text w.pieces (bare items text stage w part));
+  sending = subst (λ (fields : List Field). Sending false (parts_of w.head) w.ended (text ++ written) (w.pieces ++ piece_of (octets_of item)) fields new) (sym (trailers_behind_contents w.more item (w.plain part)))
+      (continues false (parts_of w.head) w.ended text w.pieces (bare items text stage w part));
   body = concat_more w.pieces (octets_of item) ∙ ap (λ b. b ++ octets_of item) w.body ∙ ap (λ b. body_of w.more ++ b) (sym (octets_are item)) ∙ sym (body_append w.more (item ∷ []));
   contents = contents_append w.more (item ∷ []) (w.plain part) are;
   ends = λ e. ends_append items item (w.goes_on part) (whole e);
@@ -102,7 +102,7 @@ body_more : (items : List Item) (text : List ℕ) (stage : Stage) (body : List �
 body_more items text stage body w item = ap (λ b. b ++ octets_of item) w.body_is ∙ ap (λ b. body_of w.more ++ b) (sym (octets_are item)) ∙ sym (body_append w.more (item ∷ []))
 
 -- A head that is good is written.
-pub head_written : (setup : Setup) (head : List Field) (ended : Bool) (text : List ℕ) (stage : Stage) → IsGood setup (carried_by [] false) (Block head ended) → Sending (parts_of head) ended text [] [] stage → is_whole stage ≡ ended → IsWritten (Block head ended ∷ []) text stage
+pub head_written : (setup : Setup) (head : List Field) (ended : Bool) (text : List ℕ) (stage : Stage) → IsGood setup (carried_by [] false) (Block head ended) → Sending false (parts_of head) ended text [] [] stage → is_whole stage ≡ ended → IsWritten (Block head ended ∷ []) text stage
 head_written setup head ended text stage good sending whole =
     let taken = head_taken setup head ended good.0 good.1 in
     begins head ended text stage taken.well_formed taken.no_connect sending (λ e. sym whole ∙ ap is_whole e) (λ part. sym whole ∙ part_tells stage part)
@@ -119,7 +119,7 @@ item_written setup items text stage (Block fields ends) written new w part good 
 -- ---- what is written of a request that waits
 
 -- A head that doesn't end its stream is written, and waits.
-pub head_awaited : (setup : Setup) (head : List Field) (ended : Bool) (text : List ℕ) (stage : Stage) → IsGood setup (carried_by [] false) (Block head ended) → Sending (parts_of head) ended text [] [] stage → is_whole stage ≡ ended → is_whole stage ≡ false → IsAwaited (Block head ended ∷ []) text stage []
+pub head_awaited : (setup : Setup) (head : List Field) (ended : Bool) (text : List ℕ) (stage : Stage) → IsGood setup (carried_by [] false) (Block head ended) → Sending false (parts_of head) ended text [] [] stage → is_whole stage ≡ ended → is_whole stage ≡ false → IsAwaited (Block head ended ∷ []) text stage []
 head_awaited setup head ended text stage good sending whole part =
     let taken = head_taken setup head ended good.0 good.1 in
     let goes_on : ended ≡ false = sym whole ∙ part in record {
@@ -128,7 +128,7 @@ head_awaited setup head ended text stage good sending whole part =
       is = ap (λ b. Block head b ∷ []) goes_on;
       well_formed = taken.well_formed;
       no_connect = taken.no_connect;
-      sending = subst (λ b. Sending (parts_of head) b text [] [] stage) goes_on sending;
+      sending = subst (λ b. Sending false (parts_of head) b text [] [] stage) goes_on sending;
       part = part_told stage part;
       body_is = refl;
       plain = refl;
@@ -162,8 +162,8 @@ item_completes setup items text old body item written stage w good ends continue
   is = ap (λ xs. xs ++ item ∷ []) w.is;
   well_formed = w.well_formed;
   no_connect = w.no_connect;
-  sending = subst (λ (fields : List Field). Sending (parts_of w.head) false (text ++ written) ([] ++ piece_of (body ++ octets_of item)) fields stage) (sym (trailers_behind_contents w.more item w.plain))
-      (continues (parts_of w.head) false text [] w.sending);
+  sending = subst (λ (fields : List Field). Sending false (parts_of w.head) false (text ++ written) ([] ++ piece_of (body ++ octets_of item)) fields stage) (sym (trailers_behind_contents w.more item w.plain))
+      (continues false (parts_of w.head) false text [] w.sending);
   body = concat_more [] (body ++ octets_of item) ∙ body_more items text old body w item;
   contents = contents_append w.more (item ∷ []) w.plain (are_contents item good);
   ends = λ e. ends_append items item w.goes_on ends;
@@ -177,9 +177,9 @@ item_completes setup items text old body item written stage w good ends continue
 
 -- Octets are pushed and then the text is ended: as one step.
 pub ends_behind : (old middle new : Stage) (first second octets : List ℕ) (trailers : List Field) → Continues old first octets [] middle → Continues middle second [] trailers new → Continues old (first ++ second) octets trailers new
-ends_behind old middle new first second octets trailers a b parts ended text pieces s =
-    subst (λ x. Sending parts ended x (pieces ++ piece_of octets) trailers new) (append_assoc text first second)
-    (subst (λ x. Sending parts ended ((text ++ first) ++ second) x trailers new) (append-nil (pieces ++ piece_of octets)) (b parts ended (text ++ first) (pieces ++ piece_of octets) (a parts ended text pieces s)))
+ends_behind old middle new first second octets trailers a b keep parts ended text pieces s =
+    subst (λ x. Sending keep parts ended x (pieces ++ piece_of octets) trailers new) (append_assoc text first second)
+    (subst (λ x. Sending keep parts ended ((text ++ first) ++ second) x trailers new) (append-nil (pieces ++ piece_of octets)) (b keep parts ended (text ++ first) (pieces ++ piece_of octets) (a keep parts ended text pieces s)))
 
 -- ---- what items may still become
 

@@ -4,13 +4,12 @@ use Rattle.model.specs.Messages.{Item}
 use Rattle.model.specs.Messages.Item.{Block}
 use Rattle.model.specs.Tapes.{Noted, Entry}
 use Rattle.model.specs.Tapes.Entry.{Came, Happened}
-use Rattle.model.specs.Responses.{IsComplete}
 use Rattle.model.specs.Openings.{Opened, opens, GoToOpen}
-use Rattle.model.specs.Available.{heard_by, ended_by, IsIn}
+use Rattle.model.specs.Available.{IsIn}
 use Rattle.model.specs.Known.{Known}
 use Rattle.model.specs.Lifetimes.{is_ended_by_client}
 use Rattle.model.specs.Courses.{items, upstream_of}
-use Rattle.model.specs.Offers.{is_to_head}
+use Rattle.model.specs.Idle.{IsAllHeard, FewAreIdle}
 use Rattle.model.specs.RequestClause.{RequestsHold}
 use Rattle.model.specs.ProgressClause.{AllForwarded, AllStreamed, AreClosed, ClosesRightly}
 use Rattle.serving.specs.Told.{IsTold}
@@ -23,10 +22,6 @@ use Rattle.serving.specs.State.Move.{Takes, Begins, Gathers, Passes, Drops, Hear
 pub record Brings (known : Known) (t : List Entry) (noted : Noted) (item : Item) : Type 0 where
   pub adds : items known noted.frame.id (Came noted ∷ t) ≡ items known noted.frame.id t ++ item ∷ []
   pub goes_on : is_ended_by_client noted.frame.id t ≡ false
-
--- What a connection answered is a whole response.
-abbrev pub IsAllHeard : Known → List Entry → Opened → Type 0
-IsAllHeard known t o = IsComplete (heard_by o t) (ended_by o t) (is_to_head (items known o.stream t))
 
 -- it is, or isn't
 abbrev pub Verdict : Known → List Entry → Opened → Bool → Type 0
@@ -58,4 +53,5 @@ pub record KeepClauses (known : Known) (t : List Entry) : Type 0 where
   pub streamed : AllStreamed known t
   pub closed : AreClosed known t
   pub closes : ClosesRightly known t t
+  pub few_idle : FewAreIdle known t
   pub go_to_open : GoToOpen t

@@ -42,7 +42,7 @@ pub record IsServing (behind : Told) (noted : Noted) : Type 0 where
 pub record MayBegin (setup : Setup) (behind : Told) (noted : Noted) (head : List Field) (ended : Bool) (route : ℕ) (text : List ℕ) (stage : Stage) : Type 0 where
   pub serving : IsServing behind noted
   pub by_route : IsFirstMatch setup.routes (authority_of head) (path_of head) route
-  pub sending : Sending (parts_of head) ended text [] [] stage
+  pub sending : Sending false (parts_of head) ended text [] [] stage
   pub whole : is_whole stage ≡ ended
 
 -- What is written where an item comes of a request that waits: the whole body and the trailers where the item ends it, and nothing
@@ -138,9 +138,9 @@ abbrev pub told_of : List Turn → Told
 told_of [] = nothing_told
 told_of (turn ∷ turns) = turn.told
 
--- Each move might come where it came; the newest stands first.
+-- Each move might come where it came; the newest stands first. By this rule no connection is kept for another request.
 abbrev pub AreAllowed : Setup → List Turn → Type 0
-AreAllowed setup [] = Unit {0}
+AreAllowed setup [] = setup.keep ≡ false
 AreAllowed setup (turn ∷ turns) = AreAllowed setup turns × IsAllowed setup (told_of turns) turn.told (state_of setup turns) turn.move
 
 -- The step may end: nothing is due, no connection is done with, and the client is closed if it is to be.

@@ -34,7 +34,7 @@ pub record IsWritten (items : List Item) (text : List ℕ) (stage : Stage) : Typ
   pub is : items ≡ Block head ended ∷ more
   pub well_formed : WellFormedHead head
   pub no_connect : is_connect head ≡ false
-  pub sending : Sending (parts_of head) ended text pieces (passed_trailers (first_block more)) stage
+  pub sending : Sending false (parts_of head) ended text pieces (passed_trailers (first_block more)) stage
   pub body : concat pieces ≡ body_of more
   pub contents : AreContents more
   pub ends : stage ≡ Whole → EndsWithLast items
@@ -48,7 +48,7 @@ pub record IsAwaited (items : List Item) (text : List ℕ) (stage : Stage) (body
   pub is : items ≡ Block head false ∷ more
   pub well_formed : WellFormedHead head
   pub no_connect : is_connect head ≡ false
-  pub sending : Sending (parts_of head) false text [] [] stage
+  pub sending : Sending false (parts_of head) false text [] [] stage
   pub part : stage ≡ Whole → ⊥
   pub body_is : body ≡ body_of more
   pub plain : list_all is_content more ≡ true

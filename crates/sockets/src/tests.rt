@@ -209,6 +209,7 @@ fn route_of(alloc: Global, authority: &[u8]) -> Result<Config, AllocError>
         passing: Passing::Whole,
         max_body: 1,
         max_response: 1000,
+        keep: false,
     })
 }
 

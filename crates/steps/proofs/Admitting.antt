@@ -2,16 +2,13 @@
 use Rattle.std.proofs.Common.{◌≡◌, ℕ, ◌+◌, ◌-◌, Bool, true, false, not, ◌&&◌, List, length, Option, Some, None, refl, sym, ◌∙◌, ap, subst, arith, if◌then◌else◌}
 use Rattle.std.specs.Prelude.{is_some, nat_le, option_map}
 use Rattle.std.proofs.lemmas.Bool.{leb-true, le-leb}
-use Rattle.model.specs.Setup.{Setup, Passing}
-use Rattle.model.specs.Setup.Passing.{Whole, Streaming}
+use Rattle.model.specs.Setup.{Setup}
 use Rattle.model.specs.Logs.{Event}
 use Rattle.model.specs.Logs.Event.{Client, ClientEnd, ClientTook, Up, UpEnd, UpFailed, UpTook}
-use Rattle.model.specs.Tapes.{Entry, sent}
-use Rattle.model.specs.Admission as admission
+use Rattle.model.specs.Tapes.{Entry}
 use Rattle.model.specs.Admission.{is_open}
-use Rattle.model.specs.Openings.{opens, given}
+use Rattle.model.specs.Openings.{Opened, given}
 use Rattle.model.specs.Rooms.{IsRoom, IsAdmitted}
-use Rattle.model.specs.WindowsOnTape.{is_on, data_octets}
 use Rattle.model.specs.Known.{Known}
 use Rattle.conduct.specs.Rule.{AreKnown, known_of}
 use Rattle.conduct.specs.Summary.{Summary}
@@ -21,7 +18,7 @@ use Rattle.receiving.specs.Policy.{Gates, AreGates}
 use Rattle.receiving.specs.Policy as receiving_policy
 use Rattle.receiving.specs.Rooms.{IsHeld, AreHeld, admits_beside}
 use Rattle.receiving.specs.State as receiving
-use Rattle.receiving.proofs.Admitting.{admitted, admits_it}
+use Rattle.receiving.proofs.Admitting.{is_room, admitted, admits_it}
 use Rattle.receiving.proofs.Counting.{Counting}
 use Rattle.serving.specs.State as serving
 use Rattle.serving.specs.State.{find, live_of}
@@ -72,6 +69,7 @@ module _ (setup : Setup) (run : List Move) (kept : View) (pending : Pending) (s 
       let so = leads.so known refl knows in
       record {
         is_up = λ k. connections_told known (turns_of setup run) (turns_may setup run leads.stands.allowed) (turns_so known run knows leads.stands.allowed so) k ∙ ap (λ (t : List Entry). is_open k t) (requests_tape setup run);
+        given = λ k. ap (λ (os : List Opened). given k os) (sight_right known run knows moved).given;
         live = live_told known run knows moved;
         last = (sight_right known run knows moved).last;
         untaken = (sight_right known run knows moved).untaken;
@@ -157,21 +155,5 @@ module _ (setup : Setup) (run : List Move) (kept : View) (pending : Pending) (s 
     admitted_by_tape may = sym (beside event) ∙ admits_it known (tape_of run) rooms gates gates_so (held_on kept) counting event told may
 
   -- The room of an upstream is that of the tape.
-  same_room : (k : ℕ) → receiving_policy.room_in gates k ≡ admission.room k (tape_of run)
-  same_room k = ap (λ b. if b then 65536 else 0) (gates_so.is_up k)
-
   pub room_by_tape : (known : Known) (k : ℕ) → IsHeld known.setup.passing known (tape_of run) k (held_on kept k) → IsRoom known.setup.passing known k (tape_of run) (room_on kept k)
-  room_by_tape known k told = subst (IsRoom known.setup.passing known k (tape_of run)) (room_left k) (by known.setup.passing told)
-    where
-      none : (n : ℕ) → n - 0 ≡ n
-      none n = omega arith
-
-      by : (passing : Passing) → IsHeld passing known (tape_of run) k (held_on kept k) → IsRoom passing known k (tape_of run) (receiving_policy.room_in gates k - held_on kept k)
-      by Whole h = ap (λ n. receiving_policy.room_in gates k - n) h ∙ none (receiving_policy.room_in gates k) ∙ same_room k
-      by Streaming h = record {
-        interims = h.interims;
-        head = h.head;
-        octets = h.octets;
-        seen = h.seen;
-        is = ap (λ n. receiving_policy.room_in gates k - n) h.is ∙ ap (λ n. n - (length h.octets - data_octets (is_on (given k (opens (tape_of run)))) (sent (tape_of run)))) (same_room k);
-      }
+  room_by_tape known k told = subst (IsRoom known.setup.passing known k (tape_of run)) (room_left k) (is_room known (tape_of run) rooms gates gates_so (held_on kept) counting known.setup.passing k told)

@@ -10,7 +10,7 @@ use Rattle.model.specs.Setup.Policy.{Indexing}
 use Rattle.model.specs.Setup.Passing.{Whole}
 use Rattle.model.specs.Tapes.{Noted, Entry}
 use Rattle.model.specs.Tapes.Note.{NoBlock, Fields}
-use Rattle.model.specs.Openings.{opens, AreNumbered, AreApart}
+use Rattle.model.specs.Openings.{exchanges, AreNumbered, AreApart}
 use Rattle.model.specs.Available.{IsIn}
 use Rattle.model.specs.Known.{Known}
 use Rattle.model.specs.Causes.{reply_head}
@@ -40,7 +40,7 @@ use Rattle.tables.proofs.Synced.{in_step_by}
 -- one route, for another authority
 abbrev elsewhere : Known
 elsewhere = record {
-  setup = record { routes = record { authority = codes "b"; path = codes "/" } ∷ []; policy = Indexing; passing = Whole; max_body = 1048576; max_response = 1048576 };
+  setup = record { routes = record { authority = codes "b"; path = codes "/" } ∷ []; policy = Indexing; passing = Whole; max_body = 1048576; max_response = 1048576; keep = false };
   failures = [];
 }
 
@@ -200,8 +200,8 @@ fit = (
 
 -- ---- by what is on offer
 
-no_neighbours : (t : List Entry) → opens t ≡ [] → Neighbours elsewhere t
-no_neighbours t e = record { numbered = subst AreNumbered (sym e) tt; apart = subst AreApart (sym e) tt; begun = λ o i. absurd (subst (IsIn o) e i) }
+no_neighbours : (t : List Entry) → exchanges t ≡ [] → Neighbours elsewhere t
+no_neighbours t e = record { off = refl; numbered = subst AreNumbered (sym e) tt; apart = subst AreApart (sym e) tt; begun = λ o i. absurd (subst (IsIn o) e i) }
 
 least : (k : ℕ) → k < 1 → 0 < slice_index (1 ∷ []) k → 1 ≤ slice_index (1 ∷ []) k
 least k lt some = some

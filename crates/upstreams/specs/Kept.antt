@@ -1,5 +1,5 @@
 -- What is kept of requests and of upstream connections, and of what nothing is said where the gateway rests: what is due is an answer.
-use Rattle.std.specs.Prelude.{◌≡◌, ℕ, suc, Bool, ◌||◌, List, [], ◌∷◌, reverse}
+use Rattle.std.specs.Prelude.{◌≡◌, ℕ, suc, Bool, ◌||◌, List, [], ◌∷◌, reverse, false}
 use Rattle.request_rules.specs.Heads.{HeadParts}
 use Rattle.h1_writer.specs.Sending.{Stage, Sending}
 use Rattle.answers.specs.declared.answer.Passing.{Passing}
@@ -40,7 +40,7 @@ opened_for stream to_head passing stage s = record {
 pub record Begins (old : State) (id route : ℕ) (parts : HeadParts) (ended at_once : Bool) (due : Due) (new : State) : Type 0 where
   pub text : List ℕ
   pub stage : Stage
-  pub sending : Sending parts ended text [] [] stage
+  pub sending : Sending false parts ended text [] [] stage
   pub whole : is_whole stage ≡ ended
   pub due_is : due ≡ to_open (at_once || ended) id route text stage
   pub kept : new ≡ record old { held = held_with id (waits_from (at_once || ended) (Waiting route text stage [])) old.held }

@@ -113,7 +113,7 @@ module _ (setup : Setup) (old : View) (rest : IsAtRest old) (noted : Noted) (nex
           record {
             serving = serving_now gained_by run s leads;
             by_route = goes.by_route;
-            sending = subst (λ (p : Rattle.request_rules.specs.Heads.HeadParts). Rattle.h1_writer.specs.Sending.Sending p ends begun.text [] [] begun.stage) goes.parts begun.sending;
+            sending = subst (λ (p : Rattle.request_rules.specs.Heads.HeadParts). Rattle.h1_writer.specs.Sending.Sending false p ends begun.text [] [] begun.stage) goes.parts begun.sending;
             whole = begun.whole;
           },
         )

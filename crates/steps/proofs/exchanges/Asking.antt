@@ -73,22 +73,22 @@ line_goes method path = record {
   long = (let nine : length (codes " HTTP/1.1") ≡ 9 = refl in omega (arith, nine, length-append path (codes " HTTP/1.1")));
 }
 
-module _ (head : List Field) (token : some_of is_token_octet (method_of head) ≡ true) where
+module _ (keep : Bool) (head : List Field) (token : some_of is_token_octet (method_of head) ≡ true) where
   -- a head's text does, whatever comes behind it
-  head_goes : (ended : Bool) (more : List ℕ) → GoesOnBehind (method_of head) (head_of (parts_of head) ended ++ more)
+  head_goes : (ended : Bool) (more : List ℕ) → GoesOnBehind (method_of head) (head_of keep (parts_of head) ended ++ more)
   head_goes ended more =
       and_more (method_of head) _ more
       (and_more (method_of head) _ crlf
-      (and_more (method_of head) _ (lines_text (written_fields (request_with (parts_of head) [] []) (framing_of (parts_of head).length ended)))
+      (and_more (method_of head) _ (lines_text (written_fields keep (request_with (parts_of head) [] []) (framing_of (parts_of head).length ended)))
       (and_more (method_of head) _ crlf (line_goes (method_of head) (path_of head)))))
 
-  asks : (ended : Bool) (more : List ℕ) → is_front_of (codes "HEAD ") (head_of (parts_of head) ended ++ more) ≡ bytes_eq (method_of head) (codes "HEAD")
+  asks : (ended : Bool) (more : List ℕ) → is_front_of (codes "HEAD ") (head_of keep (parts_of head) ended ++ more) ≡ bytes_eq (method_of head) (codes "HEAD")
   asks ended more =
       let g = head_goes ended more in
       ap (λ x. is_front_of (codes "HEAD ") x) g.is ∙ front_is (codes "HEAD") (method_of head) g.rest refl (all_of (method_of head) token)
 
   -- A request's text begins with HEAD and a space just where its method is HEAD, whether it is whole or not.
-  pub asked_is : (ended : Bool) (text : List ℕ) (pieces : List (List ℕ)) (trailers : List Field) (stage : Stage) → Sending (parts_of head) ended text pieces trailers stage → is_front_of (codes "HEAD ") text ≡ bytes_eq (method_of head) (codes "HEAD")
+  pub asked_is : (ended : Bool) (text : List ℕ) (pieces : List (List ℕ)) (trailers : List Field) (stage : Stage) → Sending keep (parts_of head) ended text pieces trailers stage → is_front_of (codes "HEAD ") text ≡ bytes_eq (method_of head) (codes "HEAD")
   asked_is ended text pieces trailers Whole sent = ap (λ x. is_front_of (codes "HEAD ") x) sent.is ∙ asks ended (content_of (parts_of head).length ended pieces trailers)
   asked_is ended text pieces trailers (Counting left) sent = ap (λ x. is_front_of (codes "HEAD ") x) sent.is ∙ asks false (concat pieces)
   asked_is ended text pieces trailers Chunking sent = ap (λ x. is_front_of (codes "HEAD ") x) sent.is ∙ asks false (flat_map chunk_text pieces)

@@ -6,6 +6,8 @@ use Rattle.model.specs.Logs.{Output}
 use Rattle.model.specs.Logs.Event.{Up, UpEnd, UpFailed}
 use Rattle.model.specs.Setup.{Setup}
 use Rattle.model.specs.Setup.Passing.{Whole as WholePassing}
+use Rattle.model.specs.Openings.{opens, exchanges}
+use Rattle.model.proofs.ExchangeLaws.{no_idle}
 use Rattle.model.specs.Tapes.Entry.{Happened}
 use Rattle.model.specs.Known.{Known}
 use Rattle.model.specs.Deliveries.{Delivery}
@@ -56,6 +58,10 @@ module _ (setup : Setup) (kept : View) (rest : IsAtRest kept) (run : List Move) 
   stand : standing.Stands (coming.known_here setup kept rest run s leads k c found) (tape_of run) s.requests
   stand = stands_here setup run s leads.stands leads.so
 
+  -- no connection has a second exchange
+  one_each : exchanges (tape_of run) ≡ opens (tape_of run)
+  one_each = coming.one_each setup kept rest run s leads k c found
+
   abbrev base : IsHeard (coming.known_here setup kept rest run s leads k c found) (tape_of run) k c.answer
   base = coming.heard_own setup kept rest run s leads k c found
 
@@ -75,9 +81,9 @@ module _ (setup : Setup) (kept : View) (rest : IsAtRest kept) (run : List Move) 
           let o = coming.given_here setup kept rest run s leads k c found in
           let open_yet = coming.not_ended setup kept rest run s leads k c found in (
             subst (λ p. offers.IsTold known (tape_of run) (IsTelling (Up k octets) c.live.stream (news_of p base.parts tells.added))) (sym it.set_up.passing)
-                (hearing.octets_told known (tape_of run) k c.live.stream c.answer o.0 o.1 o.2 o.3 stand.numbered stand.apart it open_yet octets tells.added new tells.hears),
-            hearing.octets_whole known (tape_of run) k c.live.stream c.answer o.0 o.1 o.2 o.3 stand.numbered stand.apart it open_yet octets tells.added new tells.hears w tells.ends,
-            hearing.octets_judged known (tape_of run) k c.live.stream c.answer o.0 o.1 o.2 o.3 stand.numbered stand.apart it open_yet octets tells.added new tells.hears
+                (hearing.octets_told known (tape_of run) k c.live.stream c.answer o.0 o.1 o.2 o.3 one_each stand.numbered stand.apart it open_yet octets tells.added new tells.hears),
+            hearing.octets_whole known (tape_of run) k c.live.stream c.answer o.0 o.1 o.2 o.3 one_each stand.numbered stand.apart it open_yet octets tells.added new tells.hears w tells.ends,
+            hearing.octets_judged known (tape_of run) k c.live.stream c.answer o.0 o.1 o.2 o.3 one_each stand.numbered stand.apart it open_yet octets tells.added new tells.hears
                 (λ is. tells.fits base.parts known.setup.max_response base.waits (it.set_up.limit is)),
           )
 
@@ -85,7 +91,7 @@ module _ (setup : Setup) (kept : View) (rest : IsAtRest kept) (run : List Move) 
       stands_on on known same knows =
           let it = same_parts known same knows in
           let o = coming.given_here setup kept rest run s leads k c found in
-          hearing.octets_heard known (tape_of run) k c.live.stream c.answer o.0 o.1 o.2 o.3 stand.numbered stand.apart it (coming.not_ended setup kept rest run s leads k c found) octets tells.added new tells.hears
+          hearing.octets_heard known (tape_of run) k c.live.stream c.answer o.0 o.1 o.2 o.3 one_each stand.numbered stand.apart it (coming.not_ended setup kept rest run s leads k c found) octets tells.added new tells.hears
           tells.short tells.few_named (tells.ends ∙ on) tells.same (subst (λ way. Waits (passing_in way) (base.parts ++ tells.added) new) (sym tells.same) (tells.waits base.parts base.waits on))
 
       pub octets_bring : Course setup run s outputs (Happened (Up k octets)) (record kept { offers = refilled c.live.stream box kept.offers; upstreams = record kept.upstreams { live = hears.heard_lives w k new kept.upstreams.live } }) square outputs
@@ -100,7 +106,7 @@ module _ (setup : Setup) (kept : View) (rest : IsAtRest kept) (run : List Move) 
           let it = same_parts known same knows in
           let o = coming.given_here setup kept rest run s leads k c found in (
             coming.broken_whole setup kept rest run s leads k c found octets breaks known same knows,
-            hearing.octets_failed known (tape_of run) k c.live.stream c.answer o.0 o.1 o.2 o.3 stand.numbered stand.apart it (coming.not_ended setup kept rest run s leads k c found) octets (inl breaks),
+            hearing.octets_failed known (tape_of run) k c.live.stream c.answer o.0 o.1 o.2 o.3 one_each stand.numbered stand.apart it (coming.not_ended setup kept rest run s leads k c found) octets (inl breaks),
           ),
     )
     failing_octets (inr long) = (
@@ -108,8 +114,8 @@ module _ (setup : Setup) (kept : View) (rest : IsAtRest kept) (run : List Move) 
       λ known same knows.
           let it = same_parts known same knows in
           let o = coming.given_here setup kept rest run s leads k c found in (
-            hearing.octets_whole known (tape_of run) k c.live.stream c.answer o.0 o.1 o.2 o.3 stand.numbered stand.apart it (coming.not_ended setup kept rest run s leads k c found) octets long.added (record c.answer { reader = long.new }) long.hears (is_done long.added) refl,
-            hearing.octets_failed known (tape_of run) k c.live.stream c.answer o.0 o.1 o.2 o.3 stand.numbered stand.apart it (coming.not_ended setup kept rest run s leads k c found) octets (inr long),
+            hearing.octets_whole known (tape_of run) k c.live.stream c.answer o.0 o.1 o.2 o.3 one_each stand.numbered stand.apart it (coming.not_ended setup kept rest run s leads k c found) octets long.added (record c.answer { reader = long.new }) long.hears (is_done long.added) refl,
+            hearing.octets_failed known (tape_of run) k c.live.stream c.answer o.0 o.1 o.2 o.3 one_each stand.numbered stand.apart it (coming.not_ended setup kept rest run s leads k c found) octets (inr long),
           ),
     )
 
@@ -136,9 +142,9 @@ module _ (setup : Setup) (kept : View) (rest : IsAtRest kept) (run : List Move) 
         let o = coming.given_here setup kept rest run s leads k c found in
         let open_yet = coming.not_ended setup kept rest run s leads k c found in (
           subst (λ p. offers.IsTold known (tape_of run) (IsTelling (UpEnd k) c.live.stream (news_at_end p base.parts))) (sym it.set_up.passing)
-              (hearing.end_told known (tape_of run) k c.live.stream c.answer o.0 o.1 o.2 o.3 stand.numbered stand.apart it open_yet complete),
-          hearing.end_whole known (tape_of run) k c.live.stream c.answer o.0 o.1 o.2 o.3 stand.numbered stand.apart it open_yet complete,
-          hearing.end_judged known (tape_of run) k c.live.stream c.answer o.0 o.1 o.2 o.3 stand.numbered stand.apart it open_yet complete,
+              (hearing.end_told known (tape_of run) k c.live.stream c.answer o.0 o.1 o.2 o.3 one_each stand.numbered stand.apart it open_yet complete),
+          hearing.end_whole known (tape_of run) k c.live.stream c.answer o.0 o.1 o.2 o.3 one_each stand.numbered stand.apart it open_yet complete,
+          hearing.end_judged known (tape_of run) k c.live.stream c.answer o.0 o.1 o.2 o.3 one_each stand.numbered stand.apart it open_yet complete,
         )
 
     pub end_brings : Course setup run s outputs (Happened (UpEnd k)) (record kept { offers = refilled c.live.stream box kept.offers; upstreams = record kept.upstreams { live = hears.heard_lives true k new kept.upstreams.live } }) square outputs
@@ -151,7 +157,7 @@ module _ (setup : Setup) (kept : View) (rest : IsAtRest kept) (run : List Move) 
     end_judged known same knows =
         let it = same_parts known same knows in
         let o = coming.given_here setup kept rest run s leads k c found in
-        hearing.end_short known (tape_of run) k c.live.stream c.answer o.0 o.1 o.2 o.3 stand.numbered stand.apart it (coming.not_ended setup kept rest run s leads k c found) cut_short
+        hearing.end_short known (tape_of run) k c.live.stream c.answer o.0 o.1 o.2 o.3 one_each stand.numbered stand.apart it (coming.not_ended setup kept rest run s leads k c found) cut_short
 
     pub end_fails : fails.FailsBy setup kept run s k c.live.stream outputs (Happened (UpEnd k))
     end_fails = record {
@@ -163,5 +169,5 @@ module _ (setup : Setup) (kept : View) (rest : IsAtRest kept) (run : List Move) 
   pub failure_brings : Course setup run s outputs (Happened (UpFailed k)) (replied_to c.live.stream (closed_at k kept)) (record square { owed = fails.resets_for kept c.live.stream }) outputs
   failure_brings =
       fails.failure_gone setup kept rest run s leads k c found (UpFailed k) refl tt (λ y. refl) (λ gates rooms up. up) false
-      (λ known same knows. (coming.gone_whole setup kept rest run s leads k c found known same knows, tt))
+      (λ known same knows. (coming.gone_whole setup kept rest run s leads k c found known same knows, no_idle known (tape_of run) k (ap (λ (x : Setup). x.keep) same ∙ stand.off)))
       refl outputs

@@ -3,20 +3,22 @@
 use Rattle.std.proofs.Common.{◌≡◌, ℕ, true, false, not, ◌==◌, List, [], ◌∷◌, ◌++◌, append-nil, Option, Some, None, refl, sym, ◌∙◌, ap, subst, inl, inr, if◌then◌else◌}
 use Rattle.std.specs.Prelude.{is_some}
 use Rattle.std.specs.List.{list_any}
-use Rattle.std.proofs.lemmas.Bool.{eq-eqb, ne_eqb, or_parts}
+use Rattle.std.proofs.lemmas.Bool.{ne_eqb, or_parts}
 use Rattle.model.specs.Logs.{Event}
 use Rattle.model.specs.Logs.Event.{Up, UpFailed}
 use Rattle.model.specs.Setup.{Setup}
 use Rattle.model.specs.Tapes.{Entry}
 use Rattle.model.specs.Tapes.Entry.{Happened}
 use Rattle.model.specs.Admission.{is_open}
-use Rattle.model.specs.Openings.{Opened, opens, given}
-use Rattle.model.specs.Available.{heard, has_ended, IsIn}
+use Rattle.model.specs.Openings.{Opened, opens, exchanges, exchange_on, given}
+use Rattle.model.specs.Available.{heard_by, ended_by, IsIn}
 use Rattle.model.specs.Known.{Known}
 use Rattle.model.specs.Courses.{course, items, upstream_of}
 use Rattle.model.specs.Offers.{is_to_head}
 use Rattle.model.specs.Responses.{IsComplete}
-use Rattle.model.proofs.GivenLaws.{given_is, number_above}
+use Rattle.model.proofs.GivenLaws.{number_above}
+use Rattle.model.proofs.ExchangeLaws.{none_kept}
+use Rattle.model.proofs.PastLaws as past
 use Rattle.conduct.specs.Summary.{Summary}
 use Rattle.conduct.specs.Rule.{AreKnown}
 use Rattle.offering.specs.Rule.{IsEventOf}
@@ -27,6 +29,7 @@ use Rattle.serving.specs.State as serving
 use Rattle.serving.specs.State.{Live, live_of, find}
 use Rattle.serving.specs.Rule as requests
 use Rattle.serving.specs.Rule.{is_done}
+use Rattle.model.proofs.AloneLaws.{newest_is}
 use Rattle.serving.proofs.Clauses.{none_done}
 use Rattle.serving.proofs.Fitting.{not_not}
 use Rattle.serving.proofs.Reasons.{heard_same}
@@ -108,8 +111,15 @@ module _ (setup : Setup) (kept : View) (rest : IsAtRest kept) (run : List Move) 
   pub given_here : (o : Opened) × IsIn o (opens t) × (o.k ≡ k) × (o.stream ≡ stream)
   given_here = sound.given_to known_here run s (own_led setup run s leads.stands leads.so) k c.live open_here
 
-  pub given_is_stream : given k (opens t) ≡ stream
-  given_is_stream = ap (λ n. given n (opens t)) (sym given_here.2) ∙ given_is (opens t) given_here.0 stand.numbered given_here.1 ∙ given_here.3
+  -- no connection has a second exchange, so that is its newest
+  pub one_each : exchanges t ≡ opens t
+  one_each = none_kept known_here t stand.off stand.in_time
+
+  pub newest : exchange_on k t ≡ given_here.0
+  newest = newest_is t one_each stand.numbered k given_here.0 given_here.1 given_here.2
+
+  pub given_is_stream : given k (exchanges t) ≡ stream
+  given_is_stream = ap (λ (o : Opened). o.stream) newest ∙ given_here.3
 
   pub number_some : (k == 0) ≡ false
   number_some = ne_eqb k 0 (λ zero. number_above (opens t) given_here.0 stand.numbered given_here.1 (given_here.2 ∙ zero))
@@ -121,7 +131,7 @@ module _ (setup : Setup) (kept : View) (rest : IsAtRest kept) (run : List Move) 
   ]
 
   -- its upstream hasn't ended it
-  pub not_ended : has_ended k t ≡ false
+  pub not_ended : ended_by (exchange_on k t) t ≡ false
   not_ended =
       let rests : RestsBehind setup run =
       subst (λ (x : State). Rests (summary_at setup run) x) (sym leads.stands.is) (subst (λ (u : Summary). Rests u s) (sym (before_is setup run s leads.stands)) ready.rests) in
@@ -153,12 +163,12 @@ module _ (setup : Setup) (kept : View) (rest : IsAtRest kept) (run : List Move) 
       let is = leads.heard known same knows j x there on (calm_before known x.live.stream (Happened event) t no_cause) in
       record {
         parts = is.parts;
-        stands = subst (λ y. Reads y is.parts x.answer.reader) (sym (heard_same t (Happened event) j (λ e. apart (e ∙ of)))) is.stands;
+        stands = subst (λ y. Reads y is.parts x.answer.reader) (sym (heard_same t (Happened event) (exchange_on j t) (λ e. apart (e ∙ of)))) is.stands;
         short = is.short;
         few_named = is.few_named;
         goes_on = is.goes_on;
         waits = is.waits;
-        asked = is.asked ∙ ap is_to_head (sym (items_behind_event known t event (given j (opens t))));
+        asked = is.asked ∙ ap is_to_head (sym (items_behind_event known t event (given j (exchanges t))));
         set_up = is.set_up;
       }
 
@@ -167,26 +177,30 @@ module _ (setup : Setup) (kept : View) (rest : IsAtRest kept) (run : List Move) 
   broken_whole octets breaks known same knows p i e complete =
       let is = heard_here known same knows in
       let event : Event = Up k octets in
+      let own : Opened = exchange_on k t in
+      let here : own ≡ p = newest_is t one_each stand.numbered k p i e in
       let asked : c.answer.reader.to_head ≡ is_to_head (items known p.stream (Happened event ∷ t)) =
-      is.asked ∙ ap (λ n. is_to_head (items known n t)) (ap (λ n. given n (opens t)) (sym e) ∙ given_is (opens t) p stand.numbered i) ∙ ap is_to_head (sym (items_behind_event known t event p.stream)) in
-      let text : heard p.k (Happened event ∷ t) ≡ (heard k t ++ octets) ++ [] =
-      ap (λ n. heard n (Happened event ∷ t)) e ∙ ap (λ b. if b then heard k t ++ octets else heard k t) (eq-eqb k k refl) ∙ sym (append-nil (heard k t ++ octets)) in
-      let ended : has_ended p.k (Happened event ∷ t) ≡ false = ap (λ n. has_ended n t) e ∙ not_ended in
-      breaks (heard k t) is.parts is.stands [] false
-      (subst (λ b. IsComplete ((heard k t ++ octets) ++ []) false b) (sym asked)
-      (subst (λ b. IsComplete ((heard k t ++ octets) ++ []) b (is_to_head (items known p.stream (Happened event ∷ t)))) ended
-      (subst (λ x. IsComplete x (has_ended p.k (Happened event ∷ t)) (is_to_head (items known p.stream (Happened event ∷ t)))) text complete)))
+      is.asked ∙ ap (λ (x : Opened). is_to_head (items known x.stream t)) here ∙ ap is_to_head (sym (items_behind_event known t event p.stream)) in
+      let text : heard_by p (Happened event ∷ t) ≡ (heard_by own t ++ octets) ++ [] =
+      ap (λ (x : Opened). heard_by x (Happened event ∷ t)) (sym here) ∙ past.heard_own k octets t ∙ sym (append-nil (heard_by own t ++ octets)) in
+      let ended : ended_by p (Happened event ∷ t) ≡ false = ap (λ (x : Opened). ended_by x t) (sym here) ∙ not_ended in
+      breaks (heard_by own t) is.parts is.stands [] false
+      (subst (λ b. IsComplete ((heard_by own t ++ octets) ++ []) false b) (sym asked)
+      (subst (λ b. IsComplete ((heard_by own t ++ octets) ++ []) b (is_to_head (items known p.stream (Happened event ∷ t)))) ended
+      (subst (λ x. IsComplete x (ended_by p (Happened event ∷ t)) (is_to_head (items known p.stream (Happened event ∷ t)))) text complete)))
 
   -- what was heard before its connection fails is no whole response
   pub gone_whole : (known : Known) → known.setup ≡ setup → AreKnown known (conducts run) → IsWholeBy known t (UpFailed k) false
   gone_whole known same knows p i e complete =
       let is = heard_here known same knows in
       let event : Event = UpFailed k in
+      let own : Opened = exchange_on k t in
+      let here : own ≡ p = newest_is t one_each stand.numbered k p i e in
       let asked : c.answer.reader.to_head ≡ is_to_head (items known p.stream (Happened event ∷ t)) =
-      is.asked ∙ ap (λ n. is_to_head (items known n t)) (ap (λ n. given n (opens t)) (sym e) ∙ given_is (opens t) p stand.numbered i) ∙ ap is_to_head (sym (items_behind_event known t event p.stream)) in
-      let text : heard p.k (Happened event ∷ t) ≡ heard k t = ap (λ n. heard n t) e in
-      let ended : has_ended p.k (Happened event ∷ t) ≡ false = ap (λ n. has_ended n t) e ∙ not_ended in
-      not_done (heard k t) is.parts c.answer.reader is.stands is.goes_on
-      (subst (λ b. IsComplete (heard k t) false b) (sym asked)
-      (subst (λ b. IsComplete (heard k t) b (is_to_head (items known p.stream (Happened event ∷ t)))) ended
-      (subst (λ x. IsComplete x (has_ended p.k (Happened event ∷ t)) (is_to_head (items known p.stream (Happened event ∷ t)))) text complete)))
+      is.asked ∙ ap (λ (x : Opened). is_to_head (items known x.stream t)) here ∙ ap is_to_head (sym (items_behind_event known t event p.stream)) in
+      let text : heard_by p (Happened event ∷ t) ≡ heard_by own t = ap (λ (x : Opened). heard_by x t) (sym here) in
+      let ended : ended_by p (Happened event ∷ t) ≡ false = ap (λ (x : Opened). ended_by x t) (sym here) ∙ not_ended in
+      not_done (heard_by own t) is.parts c.answer.reader is.stands is.goes_on
+      (subst (λ b. IsComplete (heard_by own t) false b) (sym asked)
+      (subst (λ b. IsComplete (heard_by own t) b (is_to_head (items known p.stream (Happened event ∷ t)))) ended
+      (subst (λ x. IsComplete x (ended_by p (Happened event ∷ t)) (is_to_head (items known p.stream (Happened event ∷ t)))) text complete)))

@@ -14,7 +14,7 @@ use Rattle.model.specs.Tapes.{Entry, put}
 use Rattle.model.specs.Tapes.Entry.{Happened, Did}
 use Rattle.model.specs.ErrorClause.{rst_stream}
 use Rattle.model.specs.Causes.Cause.{BadAnswer}
-use Rattle.model.specs.Openings.{Opened, opens, given}
+use Rattle.model.specs.Openings.{Opened, exchanges, given}
 use Rattle.model.specs.Known.{Known}
 use Rattle.model.specs.Lifetimes.{is_opened, is_over, is_active}
 use Rattle.model.specs.Causes.{Cause}
@@ -244,10 +244,10 @@ module _ (setup : Setup) (kept : View) (rest : IsAtRest kept) (run : List Move) 
 
   -- ---- answers of the others
 
-  begun_one : (known : Known) → known.setup ≡ setup → AreKnown known (conducts run) → (j : ℕ) (x : Connection) → find number_of j kept.upstreams.live ≡ Some x → items known (given j (opens (tape_of run))) (Happened event ∷ tape_of run) ≡ [] → ⊥
+  begun_one : (known : Known) → known.setup ≡ setup → AreKnown known (conducts run) → (j : ℕ) (x : Connection) → find number_of j kept.upstreams.live ≡ Some x → items known (given j (exchanges (tape_of run))) (Happened event ∷ tape_of run) ≡ [] → ⊥
   begun_one known same knows j x there none =
       open_begun setup run s leads.stands leads.so kept.upstreams.live (coming.lives_are setup kept rest run s leads k c found) known same knows j x there
-      (sym (items_behind_event known (tape_of run) event (given j (opens (tape_of run)))) ∙ none)
+      (sym (items_behind_event known (tape_of run) event (given j (exchanges (tape_of run)))) ∙ none)
 
   apart_from : (j : ℕ) (x : Connection) → find number_of j (without number_of k kept.upstreams.live) ≡ Some x → j ≡ k → ⊥
   apart_from j x is same = let clash : ◌≡◌ {A = Option Connection} None (Some x) = sym (find_gone number_of k kept.upstreams.live) ∙ ap (λ n. find number_of n (without number_of k kept.upstreams.live)) (sym same) ∙ is in absurd (let no : ◌≡◌ {A = Option Connection} None (Some x) = clash in cc)
@@ -386,7 +386,7 @@ module _ (setup : Setup) (kept : View) (rest : IsAtRest kept) (run : List Move) 
           few_named = was.few_named;
           goes_on = was.goes_on;
           waits = was.waits;
-          asked = was.asked ∙ head_stays known (given j (opens (tape_of run))) (Happened event ∷ tape_of run) (Did (Close k)) (begun_one known same knows.0.0 j x (found_before k j kept.upstreams.live x is));
+          asked = was.asked ∙ head_stays known (given j (exchanges (tape_of run))) (Happened event ∷ tape_of run) (Did (Close k)) (begun_one known same knows.0.0 j x (found_before k j kept.upstreams.live x is));
           set_up = was.set_up;
         }
 

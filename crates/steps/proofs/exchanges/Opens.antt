@@ -13,13 +13,15 @@ use Rattle.model.specs.Setup.Passing.{Whole as WholePassing, Streaming}
 use Rattle.model.specs.Tapes.{Entry, put}
 use Rattle.model.specs.Tapes.Entry.{Did}
 use Rattle.model.specs.Causes.{is_front_of, Cause}
-use Rattle.model.specs.Openings.{Opened, opens, given, last_stream, connection_of}
+use Rattle.model.specs.Openings.{Opened, opens, exchanges, exchange_on, given, route_of, last_stream, connection_of}
 use Rattle.model.specs.Known.{Known}
 use Rattle.model.specs.Lifetimes.{opened, is_opened, is_active}
 use Rattle.model.specs.Courses.{items}
 use Rattle.model.specs.Offers.{is_to_head}
 use Rattle.model.specs.StreamStates.{most_streams}
+use Rattle.model.specs.Available.{heard_by}
 use Rattle.model.proofs.ItemLaws.{head_stays}
+use Rattle.model.proofs.ExchangeLaws.{none_kept}
 use Rattle.conduct.specs.Summary.{summary_of}
 use Rattle.conduct.specs.Rule.{AreKnown}
 use Rattle.conduct.specs.Book.{Book, Desk, desk_after, desk_of, summary_in}
@@ -46,6 +48,7 @@ use Rattle.serving.specs.Rule as requests
 use Rattle.serving.specs.Rule.{is_done}
 use Rattle.serving.proofs.Lists.{found_key, find_map}
 use Rattle.serving.proofs.Opening.{given_none_in}
+use Rattle.model.proofs.AloneLaws.{none_begins}
 use Rattle.serving.proofs.Standing as standing
 use Rattle.serving.proofs.Standing.{IsOpening, IsDue, IsFresh}
 use Rattle.judgement.specs.Inbound.{book_of}
@@ -71,6 +74,7 @@ use Rattle.relay.proofs.Connected.{connection_one}
 use Rattle.relay.proofs.Lives.{lives_same}
 use Rattle.relay.proofs.Marking.{rooms_next, marked_opened, marked_opened_beside, marked_put, marked_put_beside}
 use Rattle.relay.proofs.Newest.{due_newest}
+use Rattle.model.proofs.AloneLaws.{same_exchanges}
 use Rattle.relay.proofs.Sound as sound
 use Rattle.relay.proofs.Staying.{so_stays, heard_stays, heard_of_changed, open_begun, calm_before, rows_kept}
 use Rattle.steps.specs.Closings.{told_but, NoneDoneBut}
@@ -86,7 +90,7 @@ use Rattle.relay.proofs.Where.{led_to, own, own_led, right_here, stands_here, wi
 asks_as_text : (known : Known) (t : List Entry) (stream route : ℕ) (text : List ℕ) (stage : Stage) → IsOpening known t stream route text stage → is_front_of (codes "HEAD ") text ≡ is_to_head (items known stream t)
 asks_as_text known t stream route text stage due =
     let w = due.written in
-    asked_is w.head w.well_formed.method_holds w.ended text w.pieces (passed_trailers (first_block w.more)) stage w.sending ∙ sym (ap is_to_head w.is)
+    asked_is false w.head w.well_formed.method_holds w.ended text w.pieces (passed_trailers (first_block w.more)) stage w.sending ∙ sym (ap is_to_head w.is)
 
 -- ---- what is kept of DATA that waits
 
@@ -139,6 +143,10 @@ module _ (setup : Setup) (kept : View) (fresh back stream route : ℕ) (text : L
 
     due : IsOpening (own setup run s leads.stands leads.so) t stream route text stage
     due = subst (IsDue (own setup run s leads.stands leads.so) t s.requests) due_is stand.due
+
+    -- no connection has a second exchange
+    one_each : exchanges t ≡ opens t
+    one_each = none_kept (own setup run s leads.stands leads.so) t stand.off stand.in_time
 
     -- nothing is known of the connection yet
     new : IsFresh t number
@@ -204,7 +212,8 @@ module _ (setup : Setup) (kept : View) (fresh back stream route : ℕ) (text : L
       counted = omega arith;
       first =
           (rooms.keeping.streams (told_by s).last active_here).connection
-          ∙ ap (λ n. Rattle.model.specs.Openings.connection_of n (opens t)) last_is
+          ∙ ap (λ n. connection_of n (exchanges t)) last_is
+          ∙ ap (connection_of stream) one_each
           ∙ none_connected stream (opens t) (given_none_in stream (opens t) (λ o i same. due.none_given o (record { is_opened = i; is_given = same })));
       unused = none_out;
       untaken = none_taken;
@@ -235,6 +244,13 @@ module _ (setup : Setup) (kept : View) (fresh back stream route : ℕ) (text : L
 
     -- ---- its text goes out
 
+    -- the connection is given to the stream of the last frame
+    its_one : given number one.desk.book.given ≡ one.desk.book.last
+    its_one =
+        ap (λ (d : Desk). given number d.book.given) desk_one
+        ∙ ap (λ b. if b then s.desk.book.last else given number s.desk.book.given) (eq-eqb number number refl)
+        ∙ sym (ap (λ (d : Desk). d.book.last) desk_one)
+
     abbrev second : Deed
     second = Acts (ToUp number text)
 
@@ -242,7 +258,7 @@ module _ (setup : Setup) (kept : View) (fresh back stream route : ℕ) (text : L
     two = next setup one (Does second)
 
     desk_two : desk_after setup one.desk (conduct_of second) ≡ record { book = one.desk.book; queue = one.desk.queue }
-    desk_two = did_desk setup false one.desk (ToUp number text) one.desk.book [] (puts_lead setup one.desk.book number text (rows_kept setup (Does first ∷ run) one stands_one))
+    desk_two = did_desk setup false one.desk (ToUp number text) one.desk.book [] (puts_lead setup one.desk.book number text (rows_kept setup (Does first ∷ run) one stands_one) (none_begins (given number one.desk.book.given) one.desk.book.last text its_one))
 
     closed_one : one.desk.book.closed ≡ false
     closed_one = ap (λ (d : Desk). d.book.closed) desk_one ∙ ap (λ (b : Book). b.closed) leads.keeps.book
@@ -255,6 +271,7 @@ module _ (setup : Setup) (kept : View) (fresh back stream route : ℕ) (text : L
         due = ap (λ (r : serving.State). r.due) requests_one;
         window = record {
           opened = ap (λ (r : serving.State). is_some (serving.live_of number r.live)) requests_one ∙ ap (λ b. is_some (if b then Some new_live else serving.live_of number (lives kept.upstreams.live))) (eq-eqb number number refl);
+          its = its_one;
           in_effect = λ streaming. leads.in_effect;
         };
       }),
@@ -272,11 +289,18 @@ module _ (setup : Setup) (kept : View) (fresh back stream route : ℕ) (text : L
     abbrev opened_tape : List Entry
     opened_tape = Did (Open number route) ∷ t
 
-    given_new : given number (opens opened_tape) ≡ stream
-    given_new = ap (λ b. if b then last_stream t else given number (opens t)) (eq-eqb number number refl) ∙ due.last
+    its_then : given number (exchanges opened_tape) ≡ last_stream opened_tape
+    its_then = ap (λ b. if b then last_stream t else given number (exchanges t)) (eq-eqb number number refl)
 
-    given_other : (j : ℕ) → (number ≡ j → ⊥) → given j (opens opened_tape) ≡ given j (opens t)
-    given_other j apart = ap (λ b. if b then last_stream t else given j (opens t)) (ne_eqb number j apart)
+    given_new : given number (exchanges opened_tape) ≡ stream
+    given_new = its_then ∙ due.last
+
+    -- other connections have the exchange that they had
+    abbrev exchange_if : Bool → ℕ → Opened
+    exchange_if new j = record { k = j; route = if new then route else route_of j (exchanges t); stream = if new then last_stream t else given j (exchanges t) }
+
+    exchange_other : (j : ℕ) → (number ≡ j → ⊥) → exchange_on j opened_tape ≡ exchange_on j t
+    exchange_other j apart = ap (λ b. exchange_if b j) (ne_eqb number j apart)
 
     -- ---- what is kept of DATA that waits
 
@@ -290,8 +314,8 @@ module _ (setup : Setup) (kept : View) (fresh back stream route : ℕ) (text : L
         let none : side.k ≡ 0 = sym (leads.marked.stand.rows stream side found).k ∙ ap (λ n. (windows_before.row n).k) (sym last_is) ∙ window.first in
         omega (arith, some, none)
 
-    none_kept : find_side stream kept.marks ≡ None
-    none_kept = by (find_side stream kept.marks) refl
+    no_side_kept : find_side stream kept.marks ≡ None
+    no_side_kept = by (find_side stream kept.marks) refl
       where
         by : (o : Option Side) → find_side stream kept.marks ≡ o → o ≡ None
         by None found = refl
@@ -312,7 +336,7 @@ module _ (setup : Setup) (kept : View) (fresh back stream route : ℕ) (text : L
     alone_one other apart on same =
         let here : (windows_before.row other).k ≡ number = sym (ap (λ b. (if b then receiving.given number (windows_before.row other) else windows_before.row other).k) (ne_eqb (told_by s).last other (λ is. apart (sym (sym last_is ∙ is))))) ∙ same in
         let active : is_active other t ≡ true = sym (live_among setup.passing t windows_before other rooms.keeping) ∙ on in
-        let first : connection_of other (opens t) ≡ number = sym (rooms.keeping.streams other active).connection ∙ here in
+        let first : connection_of other (opens t) ≡ number = sym (ap (connection_of other) one_each) ∙ sym (rooms.keeping.streams other active).connection ∙ here in
         apart (connection_one (record { k = number; route = route; stream = stream } ∷ opens t) other stream number (ap suc (sym count_is ∙ stand.count), stand.numbered)
         (ap (λ b. if b then number else connection_of other (opens t)) (ne_eqb stream other (λ is. apart (sym is))) ∙ first)
         (ap (λ b. if b then number else connection_of stream (opens t)) (eq-eqb stream stream refl)) (omega arith))
@@ -324,8 +348,8 @@ module _ (setup : Setup) (kept : View) (fresh back stream route : ℕ) (text : L
     marked_by Streaming is =
         let opened_here : AreMarked setup.passing (kept.marks ++ opened_side stream number ∷ []) windows_opened =
         subst (λ n. AreMarked setup.passing (kept.marks ++ opened_side n number ∷ []) windows_opened) last_is
-        (marked_opened setup.passing kept.marks windows_before leads.marked number route (omega arith) is window.active (ap (λ n. find_side n kept.marks) last_is ∙ none_kept) none_out none_taken) in
-        marked_put setup.passing (kept.marks ++ opened_side stream number ∷ []) windows_opened opened_here number stream text (opened_side stream number) (joined_own (opened_side stream number) kept.marks none_kept) refl alone_one
+        (marked_opened setup.passing kept.marks windows_before leads.marked number route (omega arith) is window.active (ap (λ n. find_side n kept.marks) last_is ∙ no_side_kept) none_out none_taken) in
+        marked_put setup.passing (kept.marks ++ opened_side stream number ∷ []) windows_opened opened_here number stream text (opened_side stream number) (joined_own (opened_side stream number) kept.marks no_side_kept) refl alone_one
 
     marked_two : AreMarked setup.passing (with_side setup.passing stream number (length text) kept.marks) (rooms_in (told_by two) two)
     marked_two =
@@ -350,7 +374,7 @@ module _ (setup : Setup) (kept : View) (fresh back stream route : ℕ) (text : L
           let some : items known stream t ≡ [] → ⊥ = standing.some_items (items known stream t) it.head it.has_head in
           record {
             parts = [];
-            stands = subst (λ x. Reads x [] new_connection.answer.reader) (sym new.unheard) reads;
+            stands = subst (λ x. Reads x [] new_connection.answer.reader) (sym (new.unheard (exchange_on number opened_tape) refl)) reads;
             short = omega arith;
             few_named = omega arith;
             goes_on = refl;
@@ -369,15 +393,15 @@ module _ (setup : Setup) (kept : View) (fresh back stream route : ℕ) (text : L
       heard_other : (known : Known) → known.setup ≡ setup → AreKnown known (conducts run) → (j : ℕ) (c : Connection) → (number ≡ j → ⊥) → find number_of j kept.upstreams.live ≡ Some c → IsHeard known t j c.answer → IsHeard known opened_tape j c.answer
       heard_other known same knows j c apart found is = record {
         parts = is.parts;
-        stands = is.stands;
+        stands = subst (λ (x : Opened). Reads (heard_by x t) is.parts c.answer.reader) (sym (exchange_other j apart)) is.stands;
         short = is.short;
         few_named = is.few_named;
         goes_on = is.goes_on;
         waits = is.waits;
         asked =
             is.asked
-            ∙ head_stays known (given j (opens t)) t (Did (Open number route)) (open_begun setup run s leads.stands leads.so kept.upstreams.live (ap (λ (r : serving.State). r.live) leads.keeps.requests) known same knows j c found)
-            ∙ ap (λ n. is_to_head (items known n opened_tape)) (sym (given_other j apart));
+            ∙ head_stays known (given j (exchanges t)) t (Did (Open number route)) (open_begun setup run s leads.stands leads.so kept.upstreams.live (ap (λ (r : serving.State). r.live) leads.keeps.requests) known same knows j c found)
+            ∙ ap (λ n. is_to_head (items known n opened_tape)) (sym (ap (λ (x : Opened). x.stream) (exchange_other j apart)));
         set_up = is.set_up;
       }
 
@@ -471,7 +495,7 @@ module _ (setup : Setup) (kept : View) (fresh back stream route : ℕ) (text : L
             stands = one_more setup (Does first ∷ run) one (Does second) stands_one may_two;
             so = so_stays setup (Does first ∷ run) second tt so_one;
             heard = heard_of_changed setup (Does second ∷ Does first ∷ run) (new_connection ∷ kept.upstreams.live) (put_at number (length text)) (λ c. refl) (λ c. refl)
-                (heard_stays setup (Does first ∷ run) one stands_one so_one (new_connection ∷ kept.upstreams.live) (ap (λ (r : serving.State). r.live) requests_one) second tt heard_one);
+                (heard_stays setup (Does first ∷ run) one stands_one so_one (new_connection ∷ kept.upstreams.live) (ap (λ (r : serving.State). r.live) requests_one) second (same_exchanges opened_tape number text its_then) heard_one);
             keeps = keeps_two;
             marked = marked_two;
             in_effect = tt;

@@ -9,8 +9,8 @@ use Rattle.model.specs.Logs.Output.{ToClient, Does}
 use Rattle.model.specs.Setup.{Setup}
 use Rattle.model.specs.Setup.Passing.{Whole}
 use Rattle.model.specs.Tapes.{Entry, put, sent}
-use Rattle.model.specs.Openings.{Opened, opens}
-use Rattle.model.specs.Available.{items_on, heard, has_ended, shown, IsShown}
+use Rattle.model.specs.Openings.{Opened, opens, exchange_on}
+use Rattle.model.specs.Available.{items_on, heard_by, ended_by, shown, IsIn, IsShown}
 use Rattle.model.specs.Known.{Known}
 use Rattle.model.specs.Deliveries.{Delivery}
 use Rattle.model.specs.Responses.{IsComplete}
@@ -187,19 +187,19 @@ module _ (setup : Setup) (kept : View) (rest : IsAtRest kept) (run : List Move) 
         same_o : passed.o ≡ (coming.given_here setup kept rest run s leads k c found).0
         same_o =
             let o = coming.given_here setup kept rest run s leads k c found in
-            one_connection (opens t) passed.o o.0 stand.apart passed.given.is_opened o.1 (passed.given.is_given ∙ sym o.3)
+            one_connection (opens t) passed.o o.0 stand.apart (subst (IsIn passed.o) (coming.one_each setup kept rest run s leads k c found) passed.given.is_opened) o.1 (passed.given.is_given ∙ sym o.3)
 
-        number : passed.o.k ≡ k
-        number = ap (λ (o : Opened). o.k) same_o ∙ (coming.given_here setup kept rest run s leads k c found).2
+        here : exchange_on k t ≡ passed.o
+        here = coming.newest setup kept rest run s leads k c found ∙ sym same_o
 
-        by : IsShown setup.passing (heard passed.o.k t) (has_ended passed.o.k t) (is_to_head (items known_here stream t)) (offered_by read box) → ⊥
+        by : IsShown setup.passing (heard_by passed.o t) (ended_by passed.o t) (is_to_head (items known_here stream t)) (offered_by read box) → ⊥
         by (inl whole_one) =
             let is = coming.heard_own setup kept rest run s leads k c found in
             let asked : c.answer.reader.to_head ≡ is_to_head (items known_here stream t) = is.asked ∙ ap (λ n. is_to_head (items known_here n t)) (coming.given_is_stream setup kept rest run s leads k c found) in
-            not_done (heard k t) is.parts c.answer.reader is.stands is.goes_on
-            (subst (λ b. IsComplete (heard k t) false b) (sym asked)
-            (subst (λ b. IsComplete (heard k t) b (is_to_head (items known_here stream t))) (coming.not_ended setup kept rest run s leads k c found)
-            (subst (λ n. IsComplete (heard n t) (has_ended n t) (is_to_head (items known_here stream t))) number (whole_one.response, whole_one.is_whole))))
+            not_done (heard_by (exchange_on k t) t) is.parts c.answer.reader is.stands is.goes_on
+            (subst (λ b. IsComplete (heard_by (exchange_on k t) t) false b) (sym asked)
+            (subst (λ b. IsComplete (heard_by (exchange_on k t) t) b (is_to_head (items known_here stream t))) (coming.not_ended setup kept rest run s leads k c found)
+            (subst (λ (x : Opened). IsComplete (heard_by x t) (ended_by x t) (is_to_head (items known_here stream t))) (sym here) (whole_one.response, whole_one.is_whole))))
         by (inr begun) =
             let none : read.head ≡ None = sym same ∙ ap (λ (d : Delivery). d.head) begun.says ∙ ap (λ p. (shown p begun.interims begun.head begun.octets).head) whole in
             let no : false ≡ true = sym (ap (λ o. is_some o) none) ∙ some in

@@ -5,7 +5,8 @@ use Rattle.std.specs.List.{list_any}
 use Rattle.model.specs.Logs.{Output}
 use Rattle.model.specs.Logs.Act.{ToUp}
 use Rattle.model.specs.Logs.Output.{Does as Puts}
-use Rattle.model.specs.Openings.{Opened}
+use Rattle.model.specs.Openings.{Opened, exchanges, given, last_stream}
+use Rattle.model.proofs.ExchangeLaws.{none_kept}
 use Rattle.model.specs.Setup.{Setup}
 use Rattle.model.specs.Tapes.{put}
 use Rattle.conduct.specs.Book.{Book, Desk, desk_after}
@@ -17,7 +18,10 @@ use Rattle.serving.specs.State.{Live, live_of, find}
 use Rattle.serving.specs.State.Due.{Nothing, ToSend}
 use Rattle.serving.specs.Rule.{is_done}
 use Rattle.serving.proofs.Lists.{found_key, find_map}
+use Rattle.model.proofs.AloneLaws.{none_begins, newest_is}
+use Rattle.serving.proofs.Standing as standing
 use Rattle.serving.proofs.Standing.{IsDue}
+use Rattle.model.proofs.AloneLaws.{same_exchanges}
 use Rattle.upstreams.specs.Kept as upstreams
 use Rattle.upstreams.specs.Connections.{Connection, number_of, lives, put_at, HasRoom}
 use Rattle.marks_kept.specs.Sides.{Side, change, putting}
@@ -38,7 +42,8 @@ use Rattle.relay.proofs.Lives.{lives_same, kept_open}
 use Rattle.relay.proofs.Marking.{rooms_next, marked_put, marked_put_beside}
 use Rattle.relay.proofs.Staying.{so_stays, heard_stays, heard_of_changed, rows_kept}
 use Rattle.steps.specs.Closings.{told_but, NoneDoneBut}
-use Rattle.relay.proofs.Where.{own, stands_here}
+use Rattle.relay.proofs.Sound as sound
+use Rattle.relay.proofs.Where.{own, own_led, right_here, stands_here}
 
 module _ (setup : Setup) (kept : View) (fresh back k : ℕ) (text : List ℕ) where
   -- what is pending before and behind it
@@ -55,9 +60,26 @@ module _ (setup : Setup) (kept : View) (fresh back k : ℕ) (text : List ℕ) wh
     due_is : s.requests.due ≡ ToSend k text
     due_is = ap (λ (r : serving.State). r.due) leads.keeps.requests
 
+    stand : standing.Stands (own setup run s leads.stands leads.so) (tape_of run) s.requests
+    stand = stands_here setup run s leads.stands leads.so
+
+    due_there : (l : Live) × (live_of k s.requests.live ≡ Some l) × (l.stream ≡ last_stream (tape_of run))
+    due_there = subst (IsDue (own setup run s leads.stands leads.so) (tape_of run) s.requests) due_is stand.due
+
     -- its connection is open
     pub live_there : (l : Live) × (live_of k s.requests.live ≡ Some l)
-    live_there = subst (IsDue (own setup run s leads.stands leads.so) (tape_of run) s.requests) due_is (stands_here setup run s leads.stands leads.so).due
+    live_there = (due_there.0, due_there.1)
+
+    -- and given to the stream of the last frame
+    its : given k (exchanges (tape_of run)) ≡ last_stream (tape_of run)
+    its =
+        let o = sound.given_to (own setup run s leads.stands leads.so) run s (own_led setup run s leads.stands leads.so) k due_there.0 due_there.1 in
+        ap (λ (x : Opened). x.stream) (newest_is (tape_of run) (none_kept (own setup run s leads.stands leads.so) (tape_of run) stand.off stand.in_time) stand.numbered k o.0 o.1 o.2) ∙ o.3 ∙ due_there.2
+
+    its_book : given k s.desk.book.given ≡ s.desk.book.last
+    its_book =
+        let right = right_here setup run s leads.stands leads.so in
+        ap (λ (os : List Opened). given k os) right.given ∙ its ∙ sym right.last
 
     pub open_there : (c : Connection) × (find number_of k kept.upstreams.live ≡ Some c) × (c.live ≡ live_there.0)
     open_there = kept_open k kept.upstreams.live live_there.0 (sym (ap (λ (r : serving.State). live_of k r.live) leads.keeps.requests) ∙ live_there.1)
@@ -73,13 +95,13 @@ module _ (setup : Setup) (kept : View) (fresh back k : ℕ) (text : List ℕ) wh
     sent_view = record kept { upstreams = record kept.upstreams { live = map (put_at k (length text)) kept.upstreams.live }; marks = change stream (putting (length text)) kept.marks }
 
     desk : desk_after setup s.desk (conduct_of deed) ≡ s.desk
-    desk = did_desk setup false s.desk (ToUp k text) s.desk.book [] (puts_lead setup s.desk.book k text (rows_kept setup run s leads.stands))
+    desk = did_desk setup false s.desk (ToUp k text) s.desk.book [] (puts_lead setup s.desk.book k text (rows_kept setup run s leads.stands) (none_begins (given k s.desk.book.given) s.desk.book.last text its_book))
 
     may : MayGoOn setup s (Does deed)
     may = (
       ap (λ (d : Desk). d.book.ends) desk ∙ leads.stands.goes_on,
       may_act setup (told_behind setup s deed) s (ToUp k text) (ap (λ (b : Book). b.closed) leads.keeps.book)
-          (record { nothing = leads.keeps.owed; due = due_is; window = record { opened = ap (λ (o : Option Live). is_some o) live_there.1; in_effect = λ streaming. leads.in_effect } }),
+          (record { nothing = leads.keeps.owed; due = due_is; window = record { opened = ap (λ (o : Option Live). is_some o) live_there.1; its = its_book; in_effect = λ streaming. leads.in_effect } }),
     )
 
     abbrev then_state : State
@@ -160,7 +182,7 @@ module _ (setup : Setup) (kept : View) (fresh back k : ℕ) (text : List ℕ) wh
           stands = one_more setup run s (Does deed) leads.stands may;
           so = so_then;
           heard = heard_of_changed setup (Does deed ∷ run) kept.upstreams.live (put_at k (length text)) (λ c. refl) (λ c. refl)
-              (heard_stays setup run s leads.stands leads.so kept.upstreams.live (ap (λ (r : serving.State). r.live) leads.keeps.requests) deed tt leads.heard);
+              (heard_stays setup run s leads.stands leads.so kept.upstreams.live (ap (λ (r : serving.State). r.live) leads.keeps.requests) deed (same_exchanges (tape_of run) k text its) leads.heard);
           keeps = keeps;
           marked = marked_then;
           in_effect = tt;

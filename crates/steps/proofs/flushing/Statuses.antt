@@ -17,7 +17,7 @@ use Rattle.model.specs.Setup.Passing.{Whole, Streaming}
 use Rattle.model.specs.Setup.{Setup}
 use Rattle.model.specs.Tapes.Entry.{Happened}
 use Rattle.model.specs.Deliveries.{End, Delivery, IsSection}
-use Rattle.model.specs.Available.{shown, IsShown, heard, has_ended}
+use Rattle.model.specs.Available.{shown, IsShown, heard_by, ended_by}
 use Rattle.model.specs.Offers.{is_to_head}
 use Rattle.model.specs.Known.{Known}
 use Rattle.model.specs.Causes.{Cause}
@@ -131,7 +131,7 @@ all_statuses known (x ∷ run) may right told =
     let s = offering.state_of (moves_of run) in
     all_behind HasStatuses (tt, tt) replied_statuses left_statuses s.kept x.move
     (leaves_news known (tape_of run) s (sight_of run) x.sight old.1.neighbours old.1.offering HasStatuses x.move new.0.2 may.1
-    (λ event stream news box is h p. offered_statuses h.read (grown box news) (shown_delivers known.setup.passing (heard h.o.k (Happened event ∷ tape_of run)) (has_ended h.o.k (Happened event ∷ tape_of run)) (is_to_head (items known stream (tape_of run))) (offered_by h.read (grown box news)) h.behind)))
+    (λ event stream news box is h p. offered_statuses h.read (grown box news) (shown_delivers known.setup.passing (heard_by h.o (Happened event ∷ tape_of run)) (ended_by h.o (Happened event ∷ tape_of run)) (is_to_head (items known stream (tape_of run))) (offered_by h.read (grown box news)) h.behind)))
     (all_statuses known run may.0 right.0 told.0)
 
 -- what holds of all holds of the one that is found

@@ -78,6 +78,7 @@ returns-clause-ok c =
       passing = c.in-Some-passing_in.ensures;
       max_body = c.in-Some-most_in.ensures;
       max_response = c.in-Some-most_in-2.ensures;
+      unkept = refl;
       tables = has.0;
       are_tables = has.2;
       routes = c.in-Ok.ensures.ok has.0 has.1;

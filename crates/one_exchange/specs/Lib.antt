@@ -1,0 +1,12 @@
+pub mod Connections
+pub mod Courses
+pub mod Errors
+pub mod Requests
+pub mod Responses
+pub mod Progress
+pub mod Windows
+pub mod Floods
+pub mod Turns
+pub mod Failures
+pub mod Rooms
+pub mod Headline

@@ -18,7 +18,7 @@ use Rattle.model.specs.Admission.{untaken}
 use Rattle.model.specs.Causes.Cause.{LargeFields, Tunnel, Expects, LargeBody, NoRoute, BadAnswer}
 use Rattle.model.specs.Courses.{items, cause, fault, is_final}
 use Rattle.model.specs.ErrorClause.{rst_stream, owed_by}
-use Rattle.model_examples.proofs.RowTapes.{whole, by_whole, streaming, frame, plain, headed, out, out_headed, field, head_of, get, get_block, post, post_block, begun, getting, got, reset}
+use Rattle.model_examples.proofs.RowTapes.{whole, by_whole, streaming, frame, plain, headed, out, out_headed, field, head_of, get, get_block, post, post_block, begun, getting, got, reset, hints, hints_block}
 
 -- ---- causes at a head
 
@@ -122,23 +122,26 @@ unfolding total_size
 reset_in_body = refl
 
 -- an interim head is no final one
-pub interim_out : list_any is_final (items_on 1 (sent (out_headed (frame 1 4 1 []) (field (codes ":status") (codes "103") ∷ []) ∷ got))) ≡ false
+pub interim_out : list_any is_final (items_on 1 (sent (out_headed (frame 1 4 1 hints_block) hints ∷ got))) ≡ false
 interim_out = refl
 
 -- ---- resets behind whole responses
 
 -- a reply to a request that isn't whole is followed by a reset, one to a whole request isn't
 abbrev pub expecting : List Entry
-expecting = headed (frame 1 4 1 []) (post ++ field (codes "expect") (codes "100-continue") ∷ []) ∷ begun
+expecting = headed (frame 1 4 1 (post_block ++ 15 ∷ 20 ∷ 12 ∷ codes "100-continue")) (post ++ field (codes "expect") (codes "100-continue") ∷ []) ∷ begun
 
 abbrev pub reply_fields : List Field
 reply_fields = field (codes ":status") (codes "417") ∷ field (codes "content-length") (codes "0") ∷ []
 
-pub reset_behind_reply : owed_by by_whole expecting (out_headed (frame 1 5 1 []) reply_fields) ≡ rst_stream 1 no_error ∷ []
+abbrev pub reply_block : List ℕ
+reply_block = 8 ∷ 3 ∷ 52 ∷ 49 ∷ 55 ∷ 15 ∷ 13 ∷ 1 ∷ 48 ∷ []
+
+pub reset_behind_reply : owed_by by_whole expecting (out_headed (frame 1 5 1 reply_block) reply_fields) ≡ rst_stream 1 no_error ∷ []
 unfolding total_size
 reset_behind_reply = refl
 
-pub none_behind_whole : owed_by elsewhere (headed (frame 1 5 1 get_block) get ∷ begun) (out_headed (frame 1 5 1 []) reply_fields) ≡ []
+pub none_behind_whole : owed_by elsewhere (headed (frame 1 5 1 get_block) get ∷ begun) (out_headed (frame 1 5 1 reply_block) reply_fields) ≡ []
 unfolding total_size
 none_behind_whole = refl
 

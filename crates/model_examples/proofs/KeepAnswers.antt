@@ -1,5 +1,5 @@
 -- Responses behind which a connection isn't kept: a head alone, with an octet behind it, and one with `close` in Connection.
-use Rattle.std.proofs.Common.{◌≡◌, ℕ, ◌<◌, true, false, List, [], ◌∷◌, ◌++◌, map, append_assoc, refl, sym, ap, ◌∙◌, arith}
+use Rattle.std.proofs.Common.{◌≡◌, ℕ, ◌<◌, true, false, List, [], ◌∷◌, ◌++◌, map, length, append_assoc, refl, ap, ◌∙◌, subst, arith}
 use Rattle.std.specs.Prelude.{codes, Some, zero, suc, get_or, bytes_eq}
 use Rattle.std.specs.List.{All, list_any}
 use Rattle.std.specs.Char.{is_ascii_digit}
@@ -15,13 +15,15 @@ use Rattle.model.specs.Logs.Event.{Up}
 use Rattle.model.specs.Logs.Act.{Close}
 use Rattle.model.specs.Tapes.{Entry}
 use Rattle.model.specs.Tapes.Entry.{Happened, Did}
-use Rattle.model.specs.Idle.{LeavesOpen}
+use Rattle.model.specs.Http1.{forward}
+use Rattle.model.specs.Idle.{IsTooLong, LeavesOpen, IsIdle}
 use Rattle.model.specs.ProgressClause.{AreClosed, IsDoneWith}
 use Rattle.model.specs.ProgressClause.Reason.{Complete}
-use Rattle.model.proofs.PastLaws.{whole_past}
+use Rattle.model.proofs.PastLaws.{whole_past, whole_seen, no_shorter}
+use Rattle.model.proofs.SeenLaws.{one_seen}
 use Rattle.model.proofs.ResponseHeadReadings.{one_spelled, none_at_final}
 use Rattle.model_examples.proofs.RowTapes.{field}
-use Rattle.model_examples.proofs.KeepExamples.{by_keeping, none_and_more, second_heard, second_closed, third_got}
+use Rattle.model_examples.proofs.KeepExamples.{by_keeping, none_and_more, request, opens_for_more, second_got, second_heard, second_closed, third_got}
 
 -- ---- a head alone: an octet behind it belongs to no response
 
@@ -90,6 +92,61 @@ closes_second = record {
 pub stays_open_behind_second : AreClosed by_keeping second_heard → ⊥
 unfolding total_size
 stays_open_behind_second closed = none_left (closed 1 refl (Complete (none_response, whole_past none_text (codes "X") false false none_response none_answered))).answered
+
+-- The head alone leaves the connection idle,
+abbrev pub second_whole : List Entry
+second_whole = Happened (Up 1 none_text) ∷ second_got
+
+none_open : LeavesOpen none_text false
+unfolding trim_ows none_answered none_final
+none_open = record {
+  response = none_response;
+  reads = none_answered;
+  version = refl;
+  no_close = refl;
+  no_more = λ front strict whole. no_shorter none_text front false none_response none_answered refl strict whole;
+}
+
+no_body : IsTooLong by_keeping none_text false → ⊥
+no_body long =
+    let same = one_seen none_text false long.interims [] long.head (Some none_head) long.octets [] long.seen (whole_seen none_text false none_response none_answered) in
+    let over : 1048576 < 0 = subst (λ (l : List ℕ). 1048576 < length l) same.octets long.over in
+    omega (arith, over)
+
+pub idle_behind_head : IsIdle by_keeping second_whole 1
+unfolding total_size
+idle_behind_head = record {
+  is_open = refl;
+  kept = record {
+    keeps = refl;
+    goes_on = refl;
+    request = forward request;
+    sent = opens_for_more.reads;
+    answered = none_open;
+    fits = no_body;
+    not_ended = refl;
+  };
+}
+
+-- and with the octet, which comes later, it is idle no more: it is closed.
+abbrev pub stray_later : List Entry
+stray_later = Happened (Up 1 (codes "X")) ∷ second_whole
+
+pub idle_no_more : IsIdle by_keeping stray_later 1 → ⊥
+unfolding total_size
+idle_no_more i = none_left i.kept.answered
+
+pub closes_behind_stray : IsDoneWith by_keeping (Did (Close 1) ∷ stray_later) 1 stray_later
+unfolding total_size
+closes_behind_stray = record {
+  was_open = refl;
+  reason = Complete (none_response, whole_past none_text (codes "X") false false none_response none_answered);
+  not_kept = λ kept. absurd (none_left kept.answered);
+}
+
+pub stays_open_behind_stray : AreClosed by_keeping stray_later → ⊥
+unfolding total_size
+stays_open_behind_stray closed = none_left (closed 1 refl (Complete (none_response, whole_past none_text (codes "X") false false none_response none_answered))).answered
 
 -- ---- the server says that it closes the connection
 

@@ -1,30 +1,33 @@
 -- Connections that are kept for further requests: rows of three requests on two connections, and of an idle one that ends.
-use Rattle.std.proofs.Common.{◌≡◌, ℕ, ◌≤◌, ◌<◌, length, ◌==◌, Bool, true, false, List, [], ◌∷◌, ◌++◌, refl, sym, ap, ◌∙◌, subst, inl, inr, arith, if◌then◌else◌}
+use Rattle.std.proofs.Common.{◌≡◌, ℕ, ◌<◌, length, Bool, true, false, List, [], ◌∷◌, ◌++◌, refl, sym, ap, ◌∙◌, subst, inl, inr, arith, if◌then◌else◌}
 use Rattle.std.specs.Prelude.{codes, Some}
 use Rattle.std.proofs.lemmas.Bool.Decides.{eqb_tells}
 use Rattle.model.specs.Messages.{Request}
-use Rattle.model.specs.Http1.{H1Open, forward}
+use Rattle.model.specs.Http1.{H1Request, H1Open, forward}
 use Rattle.model.specs.Logs.Event.{Up, UpEnd}
 use Rattle.model.specs.Logs.Act.{Open, ToUp, Close}
-use Rattle.model.specs.Setup.{Setup}
-use Rattle.model.specs.Tapes.{Entry, sent_up}
+use Rattle.model.specs.Setup.{Setup, Passing}
+use Rattle.model.specs.Setup.Passing.{Whole}
+use Rattle.model.specs.Tapes.{Entry, came, sent, sent_up, is_closed}
 use Rattle.model.specs.Tapes.Entry.{Happened, Did}
 use Rattle.model.specs.Responses.{IsComplete}
 use Rattle.model.specs.Admission.{is_open}
-use Rattle.model.specs.Openings.{Opened, exchanges, sent_for}
-use Rattle.model.specs.Available.{heard_by}
+use Rattle.model.specs.Openings.{Opened, exchanges, exchange_on, sent_for}
+use Rattle.model.specs.Available.{heard_by, ended_by}
 use Rattle.model.specs.Known.{Known}
 use Rattle.model.specs.Courses.{about}
-use Rattle.model.specs.Idle.{IsTooLong, LeavesOpen, MayBeKept, IsIdle, NoneIdleBefore}
+use Rattle.model.specs.Idle.{is_asked_for_head, IsTooLong, LeavesOpen, MayBeKept, IsIdle, NoneIdleBefore}
 use Rattle.model.specs.RequestClause.{MayBeUsedAgain, BeginInTime}
 use Rattle.model.specs.ProgressClause.{AreClosed, IsDoneWith}
 use Rattle.model.specs.ProgressClause.Reason.{Complete}
 use Rattle.model.proofs.Http1Texts.{kept_get_open, bare_request}
 use Rattle.model.proofs.PastLaws.{whole_past, whole_seen}
 use Rattle.model.proofs.SeenLaws.{one_seen}
-use Rattle.model.specs.Tables.{total_size}
+use Rattle.model.specs.Tables.{total_size, first_table}
+use Rattle.model.specs.Decoding.{Decodes}
 use Rattle.model.proofs.AnswerTexts as answer
-use Rattle.model_examples.proofs.RowTapes.{whole, frame, headed, out, out_headed, get, get_block, begun, ok_two, answer_text}
+use Rattle.model_examples.proofs.RowTapes.{whole, frame, headed, out, out_headed, get, get_block, next_get_block, begun, ok_two, ok_block, answer_text}
+use Rattle.model_examples.proofs.RowBlocks.{get_table, settings_decode, begun_decodes, get_spelled, next_get_spelled, ok_spelled}
 
 -- as in the other rows, and connections are kept
 abbrev pub keeping : Setup
@@ -32,6 +35,10 @@ keeping = record whole { keep = true }
 
 abbrev pub by_keeping : Known
 by_keeping = record { setup = keeping; failures = [] }
+
+-- the same, where requests and responses are passed on so
+abbrev pub keeping_by : Passing → Known
+keeping_by passing = record { setup = record keeping { passing = passing }; failures = [] }
 
 -- the text of the GET, without a line that says that the connection is closed behind it
 abbrev pub getk : List ℕ
@@ -45,11 +52,11 @@ abbrev pub first_heard : List Entry
 first_heard = Happened (Up 1 answer_text) ∷ first_got
 
 abbrev pub first_answered : List Entry
-first_answered = out (frame 0 1 1 (codes "hi")) ∷ out_headed (frame 1 4 1 (136 ∷ 15 ∷ 13 ∷ 1 ∷ 50 ∷ [])) ok_two ∷ first_heard
+first_answered = out (frame 0 1 1 (codes "hi")) ∷ out_headed (frame 1 4 1 ok_block) ok_two ∷ first_heard
 
 -- the second goes out on it
 abbrev pub second_came : List Entry
-second_came = headed (frame 1 5 3 (130 ∷ 134 ∷ 132 ∷ 190 ∷ [])) get ∷ first_answered
+second_came = headed (frame 1 5 3 next_get_block) get ∷ first_answered
 
 abbrev pub second_got : List Entry
 second_got = Did (ToUp 1 getk) ∷ second_came
@@ -66,10 +73,17 @@ second_closed = Did (Close 1) ∷ second_heard
 
 -- and the third has one of its own
 abbrev pub third_got : List Entry
-third_got = Did (ToUp 2 getk) ∷ Did (Open 2 0) ∷ headed (frame 1 5 5 (130 ∷ 134 ∷ 132 ∷ 190 ∷ [])) get ∷ second_closed
+third_got = Did (ToUp 2 getk) ∷ Did (Open 2 0) ∷ headed (frame 1 5 5 next_get_block) get ∷ second_closed
 
 abbrev pub exchange : ℕ → ℕ → Opened
 exchange k stream = record { k = k; route = 0; stream = stream }
+
+-- the blocks of both directions can be read
+pub came_decodes : Decodes (came third_got) get_table
+came_decodes = (get_table, (get_table, (first_table, settings_decode, get_spelled, refl), next_get_spelled, refl), next_get_spelled, refl)
+
+pub sent_decodes : Decodes (sent third_got) first_table
+sent_decodes = (first_table, (first_table, begun_decodes, ok_spelled, refl), (refl, refl), refl)
 
 -- ---- exchanges, by computation
 
@@ -107,26 +121,39 @@ request = bare_request (codes "GET") (codes "/") (codes "www.example.com")
 pub opens_for_more : H1Open getk (forward request)
 opens_for_more = kept_get_open (codes "GET") (codes "/") (codes "www.example.com") refl refl refl
 
-few_octets : IsTooLong by_keeping answer_text false → ⊥
-few_octets long =
+few_octets : (passing : Passing) → IsTooLong (keeping_by passing) answer_text false → ⊥
+few_octets passing long =
     let same = one_seen answer_text false long.interims [] long.head (Some answer.head) long.octets (codes "hi") long.seen (whole_seen answer_text false answer.response answer.answered) in
     let over : 1048576 < length (codes "hi") = subst (λ (l : List ℕ). 1048576 < length l) same.octets long.over in
     omega (arith, over)
 
-kept : MayBeKept by_keeping second_came (exchange 1 1)
-unfolding total_size
-kept = record {
+-- An exchange that was sent that request and heard that response alone is over in such a way that its connection may be kept.
+pub kept_on : (passing : Passing) (t : List Entry) (o : Opened) → sent_for o t ≡ getk → heard_by o t ≡ answer_text → ended_by o t ≡ false
+    → is_asked_for_head (keeping_by passing) o t ≡ false → is_closed t ≡ false → MayBeKept (keeping_by passing) t o
+kept_on passing t o asks hears stays asked on = record {
   keeps = refl;
-  goes_on = refl;
+  goes_on = on;
   request = forward request;
-  sent = opens_for_more.reads;
-  answered = answer.leaves_open;
-  fits = few_octets;
-  not_ended = refl;
+  sent = subst (λ (x : List ℕ). H1Request x (forward request)) (sym asks) opens_for_more.reads;
+  answered = subst (λ (b : Bool). LeavesOpen (heard_by o t) b) (sym asked) (subst (λ (x : List ℕ). LeavesOpen x false) (sym hears) answer.leaves_open);
+  fits = λ long. few_octets passing
+      (subst (λ (b : Bool). IsTooLong (keeping_by passing) answer_text b) asked
+      (subst (λ (x : List ℕ). IsTooLong (keeping_by passing) x (is_asked_for_head (keeping_by passing) o t)) hears long));
+  not_ended = stays;
+}
+
+-- If it is open and was given to no other stream since, it is idle.
+pub idle_on : (passing : Passing) (t : List Entry) (k stream : ℕ) → is_open k t ≡ true → exchange_on k t ≡ exchange k stream → sent_for (exchange k stream) t ≡ getk
+    → heard_by (exchange k stream) t ≡ answer_text → ended_by (exchange k stream) t ≡ false → is_asked_for_head (keeping_by passing) (exchange k stream) t ≡ false
+    → is_closed t ≡ false → IsIdle (keeping_by passing) t k
+idle_on passing t k stream is_on newest asks hears stays asked on = record {
+  is_open = is_on;
+  kept = subst (λ (o : Opened). MayBeKept (keeping_by passing) t o) (sym newest) (kept_on passing t (exchange k stream) asks hears stays asked on);
 }
 
 pub idle : IsIdle by_keeping second_came 1
-idle = record { is_open = refl; kept = kept }
+unfolding total_size
+idle = idle_on Whole second_came 1 1 refl refl refl refl refl refl refl
 
 -- it is the least of its route, since there is no other
 least : NoneIdleBefore by_keeping second_came 0 1

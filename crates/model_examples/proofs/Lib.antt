@@ -15,6 +15,7 @@ mod OfferRefusals
 mod Refusals
 mod RequestRefusals
 mod ResponseRefusals
+mod RowBlocks
 mod RowTapes
 mod SendingRefusals
 mod ServingRefusals
@@ -25,3 +26,6 @@ pub mod KeepExamples
 pub mod KeepAnswers
 pub mod KeepRefusals
 pub mod KeepMeets
+pub mod KeepPool
+pub mod KeepRequests
+pub mod KeepWindows

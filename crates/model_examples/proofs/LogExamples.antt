@@ -19,7 +19,7 @@ use Rattle.model.specs.WindowClause.{kept_in_all}
 use Rattle.model.specs.Setup.Passing.{Streaming}
 use Rattle.model_examples.proofs.RowTapes.{by_whole, by_streaming, frame, plain, headed, out, out_headed, field, post, post_block, begun, getting, got, update}
 use Rattle.model_examples.proofs.WindowExamples.{five_sent, streamed, head_text}
-use Rattle.model_examples.proofs.CauseExamples.{expecting, reply_fields, ended_streaming, in_chunk_streaming}
+use Rattle.model_examples.proofs.CauseExamples.{expecting, reply_fields, reply_block, ended_streaming, in_chunk_streaming}
 
 -- ---- more octets than were declared, passed on as they come: a reset, and six octets back
 
@@ -72,7 +72,7 @@ cut_short_owed = refl
 -- ---- a request that expects something, and isn't whole: a reply, and a reset without an error
 
 abbrev replied : List Entry
-replied = out (rst_stream 1 no_error) ∷ out_headed (frame 1 5 1 (codes "reply")) reply_fields ∷ expecting
+replied = out (rst_stream 1 no_error) ∷ out_headed (frame 1 5 1 reply_block) reply_fields ∷ expecting
 
 replied_owed : controls (sent replied) ≡ owed by_whole replied
 unfolding total_size
@@ -101,7 +101,7 @@ five_owed = refl
 -- ---- trailers end a request
 
 abbrev with_trailers : List Entry
-with_trailers = headed (frame 1 5 1 (190 ∷ [])) (field (codes "x-a") (codes "1") ∷ []) ∷ headed (frame 1 4 1 post_block) post ∷ begun
+with_trailers = headed (frame 1 5 1 (0 ∷ 3 ∷ 120 ∷ 45 ∷ 97 ∷ 1 ∷ 49 ∷ [])) (field (codes "x-a") (codes "1") ∷ []) ∷ headed (frame 1 4 1 post_block) post ∷ begun
 
 both_blocks : items by_whole 1 with_trailers ≡ Block post false ∷ Block (field (codes "x-a") (codes "1") ∷ []) true ∷ []
 unfolding total_size

@@ -2,7 +2,7 @@
 -- its place.
 use Rattle.std.proofs.Common.{◌≡◌, ℕ, ◌≤◌, ◌<◌, true, false, List, [], ◌∷◌, ◌++◌, length, length-append, if◌then◌else◌, ◌==◌, refl, sym, ap, ◌∙◌, subst, inl, inr, arith}
 use Rattle.std.specs.Prelude.{Option, Some, None, codes}
-use Rattle.model.specs.Tables.{total_size}
+use Rattle.model.specs.Tables.{total_size, first_table}
 use Rattle.model.specs.Messages.{Field, Item}
 use Rattle.model.specs.Messages.Item.{Block}
 use Rattle.model.specs.Logs.Event.{Up, UpFailed}
@@ -10,7 +10,7 @@ use Rattle.model.specs.Tapes.{Noted, Entry, sent}
 use Rattle.model.specs.Tapes.Entry.{Came, Breached, Happened, Sent, Did}
 use Rattle.model.specs.ResponseHeads.{Head}
 use Rattle.model.specs.Deliveries.{Delivery, ReadsAs, IsPartOf}
-use Rattle.model.specs.Decoding.{completed}
+use Rattle.model.specs.Decoding.{completed, Decodes}
 use Rattle.model.specs.Streams.{frame_items}
 use Rattle.model.specs.Available.{items_on}
 use Rattle.model.specs.Setup.Passing.{Streaming}
@@ -21,7 +21,8 @@ use Rattle.model.specs.Offers.{IsOffered, WasOffered, IsDelivered}
 use Rattle.model.specs.Headline.{ClausesHold, HoldsInTurn}
 use Rattle.model_examples.proofs.ResponseRefusals.{IsUnanswered, no_interims}
 use Rattle.model.proofs.DeliveryReadings.{one_delivery}
-use Rattle.model_examples.proofs.RowTapes.{by_whole, whole, frame, out_headed, field, got}
+use Rattle.model_examples.proofs.RowTapes.{by_whole, whole, frame, out_headed, field, got, hints, hints_block, bad_gateway, bad_gateway_block}
+use Rattle.model_examples.proofs.RowBlocks.{begun_decodes, hints_spelled, bad_gateway_spelled}
 
 -- ---- where what was delivered was on offer
 
@@ -62,17 +63,15 @@ offered_there known stream e t delivery brings was = at was.later was.is
 abbrev failed : Known
 failed = record { setup = whole; failures = length got ∷ [] }
 
-abbrev hints : List Field
-hints = field (codes ":status") (codes "103") ∷ []
-
-abbrev bad_gateway : List Field
-bad_gateway = field (codes ":status") (codes "502") ∷ field (codes "content-length") (codes "0") ∷ []
-
 abbrev invented : List Entry
-invented = out_headed (frame 1 4 1 (codes "hints")) hints ∷ Happened (UpFailed 1) ∷ got
+invented = out_headed (frame 1 4 1 hints_block) hints ∷ Happened (UpFailed 1) ∷ got
 
 abbrev behind_invented : List Entry
-behind_invented = out_headed (frame 1 5 1 (codes "reply")) bad_gateway ∷ invented
+behind_invented = out_headed (frame 1 5 1 bad_gateway_block) bad_gateway ∷ invented
+
+-- the client reads both blocks
+pub both_decode : Decodes (sent behind_invented) first_table
+both_decode = (first_table, (first_table, begun_decodes, hints_spelled, refl), bad_gateway_spelled, refl)
 
 abbrev hinted : Head
 hinted = record { status = 103; fields = [] }
@@ -112,7 +111,10 @@ invents_hints d =
 
 -- Heads that nobody answered are told as sent before the frame that causes the reply behind them.
 abbrev hinted_first : List Entry
-hinted_first = out_headed (frame 1 4 1 (codes "hints")) hints ∷ got
+hinted_first = out_headed (frame 1 4 1 hints_block) hints ∷ got
+
+pub hints_decode : Decodes (sent hinted_first) first_table
+hints_decode = (first_table, begun_decodes, hints_spelled, refl)
 
 abbrev hints_alone : Delivery
 hints_alone = record { interims = hinted ∷ []; head = None; body = []; ends = None }
@@ -147,13 +149,13 @@ abbrev failed_later : Known
 failed_later = record { setup = record whole { passing = Streaming }; failures = length waits ∷ [] }
 
 abbrev ok : List Field
-ok = field (codes ":status") (codes "200") ∷ []
+ok = field (codes ":status") (codes "200") ∷ field (codes "content-length") (codes "20") ∷ []
 
 abbrev sent_late : List Entry
-sent_late = out_headed (frame 1 4 1 (136 ∷ [])) ok ∷ Happened (UpFailed 1) ∷ waits
+sent_late = out_headed (frame 1 4 1 (136 ∷ 15 ∷ 13 ∷ 2 ∷ 50 ∷ 48 ∷ [])) ok ∷ Happened (UpFailed 1) ∷ waits
 
 abbrev late : Delivery
-late = record { interims = []; head = Some (record { status = 200; fields = [] }); body = []; ends = None }
+late = record { interims = []; head = Some (record { status = 200; fields = field (codes "content-length") (codes "20") ∷ [] }); body = []; ends = None }
 
 reads_late : ReadsAs (items_at 1 sent_late) late
 reads_late = record {

@@ -1,5 +1,5 @@
 -- Gateways that do wrong: tapes that they make, and the clause that each breaks.
-use Rattle.std.proofs.Common.{◌≡◌, ℕ, true, false, ◌&&◌, ◌==◌, nat_lt, if◌then◌else◌, List, [], ◌∷◌, ◌++◌, length, refl, sym, ap, ◌∙◌, subst, inl, inr, arith}
+use Rattle.std.proofs.Common.{◌≡◌, ℕ, true, false, ◌&&◌, ◌==◌, nat_lt, if◌then◌else◌, List, [], ◌∷◌, ◌++◌, length, refl, sym, ap, ◌∙◌, inl, inr, arith}
 use Rattle.std.specs.Prelude.{Option, Some, None, pos, negsuc, nat_abs, ◌≤ℤ◌, codes, map}
 use Rattle.model.specs.Tables.{total_size, Table, field_of, look_up, static_table}
 use Rattle.model.specs.Frames.{Frame, settings_frame, goaway, no_error, stream_closed}

@@ -103,6 +103,10 @@ five =
     ∷ field (codes "content-length") (codes "5")
     ∷ []
 
+-- indices 3, 6 and 4, and the names at the indices 1 and 28 with values that aren't inserted
+abbrev pub five_block : List ℕ
+five_block = 131 ∷ 134 ∷ 132 ∷ 1 ∷ 1 ∷ 97 ∷ 15 ∷ 13 ∷ 1 ∷ 53 ∷ []
+
 abbrev pub five_text : List ℕ
 five_text = codes "POST / HTTP/1.1\r\nhost: a\r\nvia: 2.0 h2gw\r\ncontent-length: 5\r\nconnection: close\r\n\r\n"
 

@@ -1,13 +1,13 @@
 -- Gateways that answer what they shouldn't: a stream without a cause of a reply, whose upstream said nothing, is sent no head.
-use Rattle.std.proofs.Common.{◌≡◌, ℕ, Bool, true, false, ◌==◌, List, [], ◌∷◌, ◌++◌, get_or, append_assoc, refl, sym, ap, ◌∙◌, subst, inl, inr, arith, if◌then◌else◌}
+use Rattle.std.proofs.Common.{◌≡◌, ℕ, Bool, true, false, List, [], ◌∷◌, ◌++◌, get_or, append_assoc, refl, sym, ap, ◌∙◌, subst, inl, inr, arith, if◌then◌else◌}
 use Rattle.std.specs.Prelude.{Option, Some, None, codes}
 use Rattle.model.specs.Messages.{Field, Item}
 use Rattle.model.specs.Messages.Item.{Block, Content}
 use Rattle.model.specs.Tables.{Table, first_table, static_table, look_up, total_size}
 use Rattle.model.specs.Blocks as blocks
-use Rattle.model.specs.Logs.Event.{Up}
+use Rattle.model.specs.Logs.Event.{Up, UpEnd}
 use Rattle.model.specs.Logs.Act.{Open, Close}
-use Rattle.model.specs.Tapes.{Note, Entry}
+use Rattle.model.specs.Tapes.{Note, Entry, sent}
 use Rattle.model.specs.Tapes.Note.{NoBlock, Fields, Undecodable, Unread}
 use Rattle.model.specs.Tapes.Entry.{Happened, Sent, Did}
 use Rattle.model.specs.ResponseHeads.{Head}
@@ -24,7 +24,9 @@ use Rattle.model.specs.ResponseClause.{ResponsesHold}
 use Rattle.model.proofs.IntegerLemmas.{one_int}
 use Rattle.model.proofs.BlockLemmas.{head_mark, literal_head}
 use Rattle.model.proofs.OfferLemmas.{OffersNothing, nothing_begun, nothing_offered}
-use Rattle.model_examples.proofs.RowTapes.{by_whole, whole, frame, out, out_headed, field, getting, got, answer_text}
+use Rattle.model.specs.Decoding.{Decodes}
+use Rattle.model_examples.proofs.RowTapes.{by_whole, whole, frame, out, out_headed, getting, got, answer_text, ok_two, ok_block, bad_gateway, bad_gateway_block, field}
+use Rattle.model_examples.proofs.RowBlocks.{begun_decodes, ok_spelled, bad_gateway_spelled, found_table, found_inserted, found_indexed}
 
 -- ---- places of a tape before another
 
@@ -146,11 +148,12 @@ body_reads fields octets ends delivery r none = at r.interim_items r.rest delive
 
 -- It answers 502 to everything: the request was sent on, and nothing was heard yet. Whatever is said of failures, there is no
 -- event at which one could be.
-abbrev pub bad_gateway : List Field
-bad_gateway = field (codes ":status") (codes "502") ∷ field (codes "content-length") (codes "0") ∷ []
-
 abbrev pub answers_itself : List Entry
-answers_itself = out_headed (frame 1 5 1 []) bad_gateway ∷ Did (Close 1) ∷ got
+answers_itself = out_headed (frame 1 5 1 bad_gateway_block) bad_gateway ∷ Did (Close 1) ∷ got
+
+-- the client reads its block
+pub reply_decodes : Decodes (sent answers_itself) first_table
+reply_decodes = (first_table, begun_decodes, bad_gateway_spelled, refl)
 
 pub bad_gateway_to_all : (failures : List ℕ) → ResponsesHold (record { setup = whole; failures = failures }) answers_itself → ⊥
 unfolding total_size
@@ -162,11 +165,11 @@ bad_gateway_to_all failures c =
     silent o is given = refl
 
 -- It sends stream 3 what the upstream of stream 1 answered.
-abbrev pub ok_two : List Field
-ok_two = field (codes ":status") (codes "200") ∷ field (codes "content-length") (codes "2") ∷ []
-
 abbrev pub swapped : List Entry
-swapped = out (frame 0 1 3 (codes "hi")) ∷ out_headed (frame 1 4 3 []) ok_two ∷ Did (Close 1) ∷ Happened (Up 1 answer_text) ∷ getting 2 3 got
+swapped = out (frame 0 1 3 (codes "hi")) ∷ out_headed (frame 1 4 3 ok_block) ok_two ∷ Did (Close 1) ∷ Happened (Up 1 answer_text) ∷ getting 2 3 got
+
+pub swapped_decodes : Decodes (sent swapped) first_table
+swapped_decodes = (first_table, (first_table, begun_decodes, ok_spelled, refl), (refl, refl), refl)
 
 pub swaps : ResponsesHold by_whole swapped → ⊥
 unfolding total_size
@@ -201,8 +204,25 @@ no_block fields next b = let p = b.is_block in from p.front p.rest p.between b.m
     from front rest between [] (g ∷ gs) e a f =
         indexes_nothing f.0 f.1 g f.2 (e ∙ ap (λ o. o ++ rest) a.0 ∙ f.3) (subst (λ table. blocks.Represents table f.0 g f.2) a.1 f.4)
 
+-- both upstreams answered the same
+abbrev pub found_text : List ℕ
+found_text = codes "HTTP/1.1 302 Found\r\n\r\n"
+
+abbrev pub both_found : List Entry
+both_found = Did (Close 2) ∷ Happened (UpEnd 2) ∷ Happened (Up 2 found_text) ∷ Did (Close 1) ∷ Happened (UpEnd 1) ∷ Happened (Up 1 found_text) ∷ getting 2 3 got
+
 abbrev pub behind_dropped : Note → List Entry
-behind_dropped note = Sent (record { frame = frame 1 5 1 (190 ∷ []); note = note }) ∷ Did (Close 1) ∷ got
+behind_dropped note = Sent (record { frame = frame 1 5 3 (190 ∷ []); note = note }) ∷ both_found
+
+abbrev pub found : List Field
+found = field (codes ":status") (codes "302") ∷ []
+
+abbrev pub behind_sent : List Entry
+behind_sent = out_headed (frame 1 5 3 (190 ∷ [])) found ∷ out_headed (frame 1 5 1 (72 ∷ 3 ∷ codes "302")) found ∷ both_found
+
+-- behind the block of the first response it can be read
+pub sends_block : Decodes (sent behind_sent) found_table
+sends_block = (found_table, (first_table, begun_decodes, found_inserted, refl), found_indexed, refl)
 
 pub drops_block : (known : Known) (note : Note) → ResponsesHold known (behind_dropped note) → ⊥
 drops_block known (Fields fields) c =

@@ -90,11 +90,33 @@ answer_text = codes "HTTP/1.1 200 OK\r\nContent-Length: 2\r\n\r\nhi"
 abbrev pub ok_two : List Field
 ok_two = field (codes ":status") (codes "200") ∷ field (codes "content-length") (codes "2") ∷ []
 
+-- the block of these fields: index 8, and the name at index 28 with a value that isn't inserted
+abbrev pub ok_block : List ℕ
+ok_block = 136 ∷ 15 ∷ 13 ∷ 1 ∷ 50 ∷ []
+
 abbrev pub heard_two : List Entry
 heard_two = Happened (Up 1 answer_text) ∷ got
 
 abbrev pub answered : List Entry
-answered = out (frame 0 1 1 (codes "hi")) ∷ out_headed (frame 1 4 1 (136 ∷ 15 ∷ 13 ∷ 1 ∷ 50 ∷ [])) ok_two ∷ Did (Close 1) ∷ heard_two
+answered = out (frame 0 1 1 (codes "hi")) ∷ out_headed (frame 1 4 1 ok_block) ok_two ∷ Did (Close 1) ∷ heard_two
+
+-- a reply of the gateway's own, and its block: the names at the indices 8 and 28
+abbrev pub bad_gateway : List Field
+bad_gateway = field (codes ":status") (codes "502") ∷ field (codes "content-length") (codes "0") ∷ []
+
+abbrev pub bad_gateway_block : List ℕ
+bad_gateway_block = 8 ∷ 3 ∷ 53 ∷ 48 ∷ 50 ∷ 15 ∷ 13 ∷ 1 ∷ 48 ∷ []
+
+-- interim heads
+abbrev pub hints : List Field
+hints = field (codes ":status") (codes "103") ∷ []
+
+abbrev pub hints_block : List ℕ
+hints_block = 8 ∷ 3 ∷ 49 ∷ 48 ∷ 51 ∷ []
+
+-- behind a GET the client's table has its authority, at index 62
+abbrev pub next_get_block : List ℕ
+next_get_block = 130 ∷ 134 ∷ 132 ∷ 190 ∷ []
 
 -- WINDOW_UPDATE and RST_STREAM
 abbrev pub update : ℕ → ℕ → Frame

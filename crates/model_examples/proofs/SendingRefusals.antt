@@ -21,8 +21,8 @@ use Rattle.model.specs.WindowClause.{WindowsHold}
 use Rattle.model.specs.Headline.{ClausesHold, HoldsInTurn}
 use Rattle.model.proofs.Http1Bodies.{one_chunk}
 use Rattle.model.proofs.Http1Readings.{one_head}
-use Rattle.model_examples.proofs.RowTapes.{by_whole, by_streaming, frame, plain, headed, out, out_headed, post, post_block, begun, getting, got, answer_text, ok_two, update, reset}
-use Rattle.model_examples.proofs.RequestRefusals.{five, five_text, five_head, has_five_head}
+use Rattle.model_examples.proofs.RowTapes.{by_whole, by_streaming, frame, plain, headed, out, out_headed, post, post_block, begun, getting, got, answer_text, ok_two, ok_block, update, reset}
+use Rattle.model_examples.proofs.RequestRefusals.{five, five_block, five_text, five_head, has_five_head}
 
 -- ---- frames that it may not send
 
@@ -42,7 +42,7 @@ unfolding total_size
 padded c = let clash : false ≡ true = c.rightly_sent.0 in cc
 
 -- It sends HEADERS with a priority: of the stream on itself, say.
-pub prioritized : ErrorsHold by_whole (out_headed (frame 1 36 1 (0 ∷ 0 ∷ 0 ∷ 1 ∷ 0 ∷ 136 ∷ [])) ok_two ∷ got) → ⊥
+pub prioritized : ErrorsHold by_whole (out_headed (frame 1 36 1 (0 ∷ 0 ∷ 0 ∷ 1 ∷ 0 ∷ ok_block)) ok_two ∷ got) → ⊥
 unfolding total_size
 prioritized c = let clash : false ≡ true = c.rightly_sent.0 in cc
 
@@ -60,7 +60,7 @@ reserved_bit c = let clash : false ≡ true = c.rightly_sent.0 in cc
 abbrev a_frame : Entry
 a_frame = out (frame 0 0 1 (replicate 16384 97))
 
-pub past_high_water : ErrorsHold by_whole (out_headed (frame 1 4 3 (136 ∷ [])) ok_two ∷ a_frame ∷ a_frame ∷ a_frame ∷ a_frame ∷ getting 2 3 got) → ⊥
+pub past_high_water : ErrorsHold by_whole (out_headed (frame 1 4 3 ok_block) ok_two ∷ a_frame ∷ a_frame ∷ a_frame ∷ a_frame ∷ getting 2 3 got) → ⊥
 unfolding total_size
 past_high_water c = let clash : false ≡ true = c.rightly_sent.0 in cc
 
@@ -74,7 +74,7 @@ gives_too_much c = let clash : pos 66530 ≤ℤ pos 65535 = c.no_more.0 refl in 
 
 -- A request of five octets whose head was passed on, and three octets of whose body came.
 abbrev three_came : List Entry
-three_came = plain (frame 0 0 1 (codes "hel")) ∷ Did (ToUp 1 five_text) ∷ Did (Open 1 0) ∷ headed (frame 1 4 1 []) five ∷ begun
+three_came = plain (frame 0 0 1 (codes "hel")) ∷ Did (ToUp 1 five_text) ∷ Did (Open 1 0) ∷ headed (frame 1 4 1 five_block) five ∷ begun
 
 -- less than the whole body came: nothing is kept back
 none_kept : (extra came : List ℕ) → length came < 5 → KeptBack extra (codes "5" ∷ []) came → extra ≡ []
@@ -121,7 +121,7 @@ pub gives_unread : WindowsHold by_streaming
     (out (update 0 3)
     ∷ out (reset 1 0)
     ∷ out (frame 0 1 1 (codes "hi"))
-    ∷ out_headed (frame 1 4 1 (136 ∷ 15 ∷ 13 ∷ 1 ∷ 50 ∷ [])) ok_two
+    ∷ out_headed (frame 1 4 1 ok_block) ok_two
     ∷ out (update 1 3)
     ∷ Did (Close 1)
     ∷ Happened (Up 1 answer_text)

@@ -23,7 +23,7 @@ use Rattle.model.specs.ProgressClause.{was_cut, AllForwarded}
 use Rattle.model.specs.Headline.{ClausesHold, HoldsInTurn}
 use Rattle.model.proofs.Http1Readings.{one_head}
 use Rattle.model_examples.proofs.RowTapes.{by_whole, by_streaming, frame, plain, headed, field, get, get_block, post, post_block, begun, got, reset}
-use Rattle.model_examples.proofs.RequestRefusals.{five, five_text, invents}
+use Rattle.model_examples.proofs.RequestRefusals.{five, five_block, five_text, invents}
 use Rattle.model_examples.proofs.Refusals.{closes_at_once}
 use Rattle.model.proofs.FirstLog as first
 use Rattle.model_examples.proofs.BeginningExamples.{known}
@@ -37,7 +37,7 @@ unfolding total_size
 opens_for_reset c = let may = c.in_time.0 in let clash : false ≡ true = may.active in cc
 
 -- It opens one for a stream that it answers itself.
-pub opens_for_answered : RequestsHold by_whole (Did (Open 1 0) ∷ headed (frame 1 5 1 []) (get ++ field (codes "expect") (codes "100-continue") ∷ []) ∷ begun) → ⊥
+pub opens_for_answered : RequestsHold by_whole (Did (Open 1 0) ∷ headed (frame 1 5 1 (get_block ++ 15 ∷ 20 ∷ 12 ∷ codes "100-continue")) (get ++ field (codes "expect") (codes "100-continue") ∷ []) ∷ begun) → ⊥
 unfolding total_size
 opens_for_answered c = let may = c.in_time.0 in let clash : ◌≡◌ {A = Option Cause} (Some Expects) None = may.no_cause in cc
 
@@ -51,7 +51,7 @@ opens_at_the_end c = let may = c.in_time.0 in let clash : true ≡ false = may.g
 -- A connection was opened for a whole request, and closed when the upstream ended it, before anything was sent. Then the client ends the
 -- stream a second time.
 abbrev unsent : List Entry
-unsent = plain (frame 0 1 1 (codes "x")) ∷ Did (Close 1) ∷ Happened (UpEnd 1) ∷ Did (Open 1 0) ∷ headed (frame 1 5 1 []) first.head ∷ begun
+unsent = plain (frame 0 1 1 (codes "x")) ∷ Did (Close 1) ∷ Happened (UpEnd 1) ∷ Did (Open 1 0) ∷ headed (frame 1 5 1 first.block) first.head ∷ begun
 
 -- the second end doesn't count
 pub not_cut : was_cut 1 unsent ≡ false
@@ -139,7 +139,7 @@ closes_before_reset c = let holds = c.0 in closes_at_once holds.progress
 
 -- A whole request comes, and something else behind it, before it is put out.
 abbrev waiting : List Entry
-waiting = headed (frame 1 5 1 []) first.head ∷ begun
+waiting = headed (frame 1 5 1 first.block) first.head ∷ begun
 
 waiting_means : H2Request (items known 1 waiting) first.request
 unfolding total_size
@@ -150,7 +150,7 @@ forwards_late c = let holds = c.0 in let f = holds.progress.forwarded 1 first.re
 
 -- It puts out octets of a body before they came.
 abbrev put_before : List Entry
-put_before = Did (ToUp 1 (five_text ++ codes "z")) ∷ Did (Open 1 0) ∷ headed (frame 1 4 1 []) five ∷ begun
+put_before = Did (ToUp 1 (five_text ++ codes "z")) ∷ Did (Open 1 0) ∷ headed (frame 1 4 1 five_block) five ∷ begun
 
 pub sends_before : HoldsInTurn (ClausesHold by_streaming) (plain (frame 0 0 1 (codes "z")) ∷ put_before) → ⊥
 unfolding total_size

@@ -1,10 +1,10 @@
 -- What is asked of the rows, from the entries and the records.
-use Rattle.std.proofs.Common.{◌≡◌, ℕ, suc, zero, ◌+◌, ◌-◌, ◌<◌, ◌==◌, ◌||◌, ◌&&◌, if◌then◌else◌, List, [], ◌∷◌, length, get_or, map, filter, max, fold, true, false, Bool, not, Some, None, refl, sym, ap, ◌∙◌, subst, inl, inr, arith, cond}
+use Rattle.std.proofs.Common.{◌≡◌, ℕ, ◌+◌, ◌-◌, ◌<◌, ◌==◌, ◌||◌, ◌&&◌, if◌then◌else◌, List, [], ◌∷◌, length, get_or, Contains, map, filter, max, fold, true, false, Bool, not, Some, None, refl, sym, ap, ◌∙◌, subst, inl, inr, arith, cond}
 use Rattle.std.specs.Prelude.{Option, nat_lt, IfNone}
 use Rattle.std.specs.List.{list_any, list_all, count_by, AllByRecursion}
 use Rattle.std.proofs.lemmas.Bool.{cases_lt, cases_Bool, eq-eqb, ne_eqb, and_parts, or_parts, ltb-true}
 use Rattle.std.proofs.lemmas.Bool.Decides.{nat_tests, eqb_tells}
-use Rattle.std.proofs.lemmas.List.{length-map, length-reverse, get_or_default, get_or_past, get_or-reverse, get_or-map}
+use Rattle.std.proofs.lemmas.List.{length-map, length-reverse, get_or_default, get_or-reverse, get_or-map}
 use Rattle.std.proofs.lemmas.List.Elements.{All-from_recursion, recursion_from_All}
 use Rattle.std.proofs.lemmas.List.Sums.{sum_by-cons}
 use Rattle.model.specs.StreamStates.{StreamState, state_of, is_above, opened_or, unopened, most_streams}
@@ -20,10 +20,10 @@ use Rattle.streams_kept.specs.declared.entries.Entry.{Entry}
 use Rattle.streams_kept.specs.declared.entries.Slot.{Slot}
 use Rattle.streams_kept.specs.declared.entries.Slot.TheVariants.{Live, Over}
 use Rattle.streams_kept.specs.declared.records.Record.{Record}
-use Rattle.streams_kept.specs.declared.records.Place.{Place}
-use Rattle.streams_kept.specs.declared.records.Place.TheVariants.{Taken, Vacant}
 use Rattle.streams_kept.specs.Asked.{opened_in, standing, active_in, has, is_active, shifts_past, IsLive}
-use Rattle.streams_kept.specs.Records.{record_in, nowhere, record_at, is_shifted_past, slot_with, slot_in, row_in, rows_in, absent, at, id_at, IsAt, IsGap, IsHeld, is_live, AreHeld}
+use Rattle.slab.specs.Slab.{Slab, entries}
+use Rattle.slab.proofs.SlabLemmas.{Contains-cons, Contains-cons_cases, Contains-entries}
+use Rattle.streams_kept.specs.Records.{record_at, is_shifted_past, slot_with, slot_in, row_in, rows_in, absent, at, id_at, IsAt, IsGap, IsHeld, is_live, count_records, AreHeld}
 use Rattle.streams_kept.proofs.Lists.{all_turned, all_back, count-reverse, count_mapped}
 use Rattle.streams_kept.proofs.Searches.{IsFound, all_found, found_at, none_in_gap, above_all}
 
@@ -34,7 +34,7 @@ each_tidy : (rows : List Row) → AreKept rows → AllByRecursion (λ (row : Row
 each_tidy [] kept = tt
 each_tidy (row ∷ rows) kept = (kept.0.tidy, each_tidy rows kept.2)
 
-pub tidy_at : (es : List Entry) (rs : List Place) (place : ℕ) → AreKept (rows_in es rs) → place < length es → IsTidy (slot_in rs (at es place).slot)
+pub tidy_at : (es : List Entry) (rs : List (Option Record)) (place : ℕ) → AreKept (rows_in es rs) → place < length es → IsTidy (slot_in rs (at es place).slot)
 tidy_at es rs place kept lt = all_back (λ (row : Row). IsTidy row.slot) (row_in rs) es absent (All-from_recursion (λ (row : Row). IsTidy row.slot) (rows_in es rs) (each_tidy (rows_in es rs) kept)) place lt
 
 -- what was closed is over
@@ -46,7 +46,7 @@ closed_is_over false = refl
 pub read_at : (es : List Entry) (place : ℕ) (e : Entry) → place < length es → e ≡ get_or es place e → at es place ≡ e
 read_at es place e lt is = get_or_default es place absent e lt ∙ sym is
 
-module _ (es : List Entry) (rs : List Place) (id place : ℕ) (kept : AreKept (rows_in es rs)) (is : IsAt es id place) where
+module _ (es : List Entry) (rs : List (Option Record)) (id place : ℕ) (kept : AreKept (rows_in es rs)) (is : IsAt es id place) where
   -- the row at a place is its stream's
   pub has_at : has (rows_in es rs) id ≡ true
   has_at = ap (has (rows_in es rs)) (sym is.has_id) ∙ (found_at es rs place kept is.within).0
@@ -87,7 +87,7 @@ if_none None is then_so = then_so is
 if_none (Some x) is then_so = tt
 
 -- nor is one that wasn't opened
-pub none_here : (es : List Entry) (rs : List Place) (id place : ℕ) → IsGap es id place → is_active (rows_in es rs) id ≡ false
+pub none_here : (es : List Entry) (rs : List (Option Record)) (id place : ℕ) → IsGap es id place → is_active (rows_in es rs) id ≡ false
 none_here es rs id place gap = ap (λ b. b && not (is_over_in (find (rows_in es rs) id))) (none_in_gap es rs id place gap)
 
 -- ---- standings
@@ -131,14 +131,14 @@ not_above (row ∷ rows) id high there lt = elim (eqb_tells row.id high) [
     none false = refl
 
 -- the rows are as many as the entries
-pub count_rows : (es : List Entry) (rs : List Place) → length (rows_in es rs) ≡ length es
+pub count_rows : (es : List Entry) (rs : List (Option Record)) → length (rows_in es rs) ≡ length es
 count_rows es rs = length-reverse (map (row_in rs) es) ∙ length-map es (row_in rs)
 
-count_opened : (es : List Entry) (rs : List Place) → length (opened_in (rows_in es rs)) ≡ length es
+count_opened : (es : List Entry) (rs : List (Option Record)) → length (opened_in (rows_in es rs)) ≡ length es
 count_opened es rs = length-map (ids_of (rows_in es rs)) (λ (i : ℕ). record { id = i; state = state_in (find (rows_in es rs) i) }) ∙ length-map (rows_in es rs) (λ (row : Row). row.id) ∙ count_rows es rs
 
 -- an id is above all just where its gap is at the end
-above_in_gap : (es : List Entry) (rs : List Place) (id place : ℕ) → AreKept (rows_in es rs) → IsGap es id place → list_all (λ other. nat_lt other id) (ids_of (rows_in es rs)) ≡ (place == length es)
+above_in_gap : (es : List Entry) (rs : List (Option Record)) (id place : ℕ) → AreKept (rows_in es rs) → IsGap es id place → list_all (λ other. nat_lt other id) (ids_of (rows_in es rs)) ≡ (place == length es)
 above_in_gap es rs id place kept gap = elim (cases_lt place (length es)) [
   | inl inside ↦
       not_above (rows_in es rs) id (id_at es place) (found_at es rs place kept inside).0 (gap.higher_after place (omega arith) inside)
@@ -152,7 +152,7 @@ not_zero : (id : ℕ) → (id ≡ 0 → ⊥) → (id == 0) ≡ false
 not_zero id ne = ne_eqb id 0 ne
 
 -- the standing of an id that has an entry
-pub standing_at : (es : List Entry) (rs : List Place) (id place : ℕ) → AreKept (rows_in es rs) → (id ≡ 0 → ⊥) → IsAt es id place → Opened (state_in (kept_in (slot_in rs (at es place).slot))) ≡ standing (rows_in es rs) id
+pub standing_at : (es : List Entry) (rs : List (Option Record)) (id place : ℕ) → AreKept (rows_in es rs) → (id ≡ 0 → ⊥) → IsAt es id place → Opened (state_in (kept_in (slot_in rs (at es place).slot))) ≡ standing (rows_in es rs) id
 standing_at es rs id place kept ne is =
     let f : ℕ → Kept = find (rows_in es rs) in
     let above : Bool = is_above id (opened_in (rows_in es rs)) in
@@ -164,7 +164,7 @@ standing_at es rs id place kept ne is =
     )
 
 -- the standing of one that has none
-pub standing_in_gap : (es : List Entry) (rs : List Place) (id place : ℕ) → AreKept (rows_in es rs) → (id ≡ 0 → ⊥) → IsGap es id place → unopened (place == length es) (length es == most_streams) id ≡ standing (rows_in es rs) id
+pub standing_in_gap : (es : List Entry) (rs : List (Option Record)) (id place : ℕ) → AreKept (rows_in es rs) → (id ≡ 0 → ⊥) → IsGap es id place → unopened (place == length es) (length es == most_streams) id ≡ standing (rows_in es rs) id
 standing_in_gap es rs id place kept ne gap =
     let f : ℕ → Kept = find (rows_in es rs) in
     let above : Bool = is_above id (opened_in (rows_in es rs)) in
@@ -196,14 +196,14 @@ found_only rows [] is = tt
 found_only rows (other ∷ others) is = (is.0.1, found_only rows others is.1)
 
 -- the row of an entry is active just where the entry is
-active_at : (rs : List Place) (id : ℕ) (slot : Slot) → IsHeld rs id slot → IsTidy (slot_in rs slot) → not (is_over_in (kept_in (slot_in rs slot))) ≡ is_live slot
+active_at : (rs : List (Option Record)) (id : ℕ) (slot : Slot) → IsHeld rs id slot → IsTidy (slot_in rs slot) → not (is_over_in (kept_in (slot_in rs slot))) ≡ is_live slot
 active_at rs id (Live key) held tidy =
     let there : slot_with (record_at rs key) ≡ rows.Slot.Live held.0.live = ap slot_with held.1 in
     ap (λ (s : rows.Slot). not (is_over_in (kept_in s))) there ∙ ap not (subst IsTidy there tidy).0
 active_at rs id (Over by_us) held tidy = ap not (closed_is_over by_us)
 
-pub active_is : (es : List Entry) (rs : List Place) (n : ℕ) → AreHeld es rs n → n ≡ length (active_in (rows_in es rs))
-active_is es rs n h =
+pub active_is : (es : List Entry) (rs : List (Option Record)) → AreHeld es rs → count_records rs ≡ length (active_in (rows_in es rs))
+active_is es rs h =
     let all : List Row = rows_in es rs in
     h.counted ∙ sym (
     count_ids (find all) all (found_only all all (recursion_from_All (IsFound all) all (all_found all h.kept)))
@@ -232,7 +232,7 @@ highest_first [] kept = refl
 highest_first (row ∷ rows) kept =
     let first : max 0 row.id ≡ row.id = omega arith in ap (λ m. fold max m (ids_of rows)) first ∙ highest_from row.id (ids_of rows) kept.1
 
-pub highest_is_last : (es : List Entry) (rs : List Place) → AreKept (rows_in es rs) → id_at es (length es - 1) ≡ highest_in (ids_of (rows_in es rs))
+pub highest_is_last : (es : List Entry) (rs : List (Option Record)) → AreKept (rows_in es rs) → id_at es (length es - 1) ≡ highest_in (ids_of (rows_in es rs))
 highest_is_last [] rs kept = refl
 highest_is_last (e ∷ es) rs kept =
     let all : List Entry = e ∷ es in
@@ -246,19 +246,21 @@ highest_is_last (e ∷ es) rs kept =
 
 -- ---- windows
 
--- one that passes a test is somewhere
-some_passes : {X : Type 0} (p : X → Bool) (xs : List X) (d : X) → list_any p xs ≡ true → (i : ℕ) × (i < length xs) × (p (get_or xs i d) ≡ true)
-some_passes p [] d any = absurd (let no : false ≡ true = any in cc)
-some_passes p (x ∷ xs) d any = elim (cases_Bool (p x)) [
-  | inl here ↦ (0, omega arith, here)
-  | inr not_here ↦ let later = some_passes p xs d (sym (ap (λ b. b || list_any p xs) not_here) ∙ any) in (suc later.0, omega (arith, later.1), later.2)
+-- one that passes a test is among them
+some_passes : {X : Type 0} (p : X → Bool) (xs : List X) → list_any p xs ≡ true → (x : X) × Contains xs x × (p x ≡ true)
+some_passes p [] any = absurd (let no : false ≡ true = any in cc)
+some_passes p (x ∷ xs) any = elim (cases_Bool (p x)) [
+  | inl here ↦ (x, (0, omega arith, refl), here)
+  | inr not_here ↦ let later = some_passes p xs (sym (ap (λ b. b || list_any p xs) not_here) ∙ any) in (later.0, Contains-cons x later.0 xs later.1, later.2)
 ]
 
--- where none passes it, that at a place doesn't
-none_passes : {X : Type 0} (p : X → Bool) (xs : List X) (i : ℕ) (d : X) → list_any p xs ≡ false → i < length xs → p (get_or xs i d) ≡ false
-none_passes p [] i d none lt = absurd (omega arith)
-none_passes p (x ∷ xs) zero d none lt = (or_parts (p x) (list_any p xs) none).0
-none_passes p (x ∷ xs) (suc i) d none lt = none_passes p xs i d (or_parts (p x) (list_any p xs) none).1 (omega arith)
+-- where none passes it, one that is among them doesn't
+none_passes : {X : Type 0} (p : X → Bool) (xs : List X) (x : X) → list_any p xs ≡ false → Contains xs x → p x ≡ false
+none_passes p [] x none there = absurd (omega (arith, there.1))
+none_passes p (y ∷ xs) x none there = elim (Contains-cons_cases y x xs there) [
+  | inl same ↦ ap p (sym same) ∙ (or_parts (p y) (list_any p xs) none).0
+  | inr later ↦ none_passes p xs x (or_parts (p y) (list_any p xs) none).1 later
+]
 
 -- an id that is kept and passes a test
 any_kept : (keep test : ℕ → Bool) (ids : List ℕ) (id : ℕ) → list_any (λ other. other == id) ids ≡ true → keep id ≡ true → test id ≡ true → list_any test (filter keep ids) ≡ true
@@ -287,10 +289,20 @@ none_kept keep test (row ∷ rows) none = cases (keep row.id) refl (none_kept ke
     cases true is rest = ap (λ b. b || list_any test (filter keep (ids_of rows))) (none.0 is) ∙ rest
     cases false is rest = rest
 
-module _ (es : List Entry) (rs : List Place) (n first : ℕ) (h : AreHeld es rs n) where
+module _ (es : List Entry) (rs : List (Option Record)) (first : ℕ) (h : AreHeld es rs) where
+  -- a slab with these records
+  abbrev slab : Slab Record
+  slab = record { slots = rs; vacant_key = 0; capacity = 0 }
+
+  -- a record, at its key, whose window is past
+  abbrev past : ℕ × Record → Bool
+  past entry = is_shifted_past first entry.1
+
   -- a record whose window is past is an active stream's
-  one_is : list_any (is_shifted_past first) rs ≡ true → shifts_past first (rows_in es rs) ≡ true
-  one_is any = with_record (some_passes (is_shifted_past first) rs nowhere any)
+  one_is : list_any past (entries slab) ≡ true → shifts_past first (rows_in es rs) ≡ true
+  one_is any =
+      let found = some_passes past (entries slab) any in
+      with_owner found.0.0 found.0.1 ((Contains-entries slab found.0.0 found.0.1).0 found.1) found.2
     where
       with_owner : (key : ℕ) (r : Record) → record_at rs key ≡ Some r → is_past (window_in first r.live) ≡ true → shifts_past first (rows_in es rs) ≡ true
       with_owner key r there is =
@@ -301,38 +313,20 @@ module _ (es : List Entry) (rs : List Place) (n first : ℕ) (h : AreHeld es rs 
           (ap (λ (k : Kept). not (is_over_in k)) live.found ∙ ap not live.goes_on)
           (ap (λ (k : Kept). is_past (window_in first k)) live.found ∙ is)
 
-      with_slot : (key : ℕ) (p : Place) → get_or rs key nowhere ≡ p → is_shifted_past first p ≡ true → shifts_past first (rows_in es rs) ≡ true
-      with_slot key (Vacant next) there is = absurd (let no : false ≡ true = is in cc)
-      with_slot key (Taken r) there is = with_owner key r (ap record_in there) is
-
-      with_record : (i : ℕ) × (i < length rs) × (is_shifted_past first (get_or rs i nowhere) ≡ true) → shifts_past first (rows_in es rs) ≡ true
-      with_record found = with_slot found.0 (get_or rs found.0 nowhere) refl found.2
-
   -- where none is, no active stream's is
-  none_is : list_any (is_shifted_past first) rs ≡ false → shifts_past first (rows_in es rs) ≡ false
+  none_is : list_any past (entries slab) ≡ false → shifts_past first (rows_in es rs) ≡ false
   none_is none = none_kept (λ id. not (is_over_in (find (rows_in es rs) id))) (λ id. is_past (window_in first (find (rows_in es rs) id))) (rows_in es rs)
       (recursion_from_All (λ (row : Row). not (is_over_in (find (rows_in es rs) row.id)) ≡ true → is_past (window_in first (find (rows_in es rs) row.id)) ≡ false) (rows_in es rs)
       (all_turned (λ (row : Row). not (is_over_in (find (rows_in es rs) row.id)) ≡ true → is_past (window_in first (find (rows_in es rs) row.id)) ≡ false) (row_in rs) es absent (λ i lt. by_slot i lt (at es i).slot refl (h.held i lt))))
     where
-      within : (key : ℕ) (r : Record) → record_at rs key ≡ Some r → key < length rs
-      within key r there = elim (cases_lt key (length rs)) [ inl is ↦ is | inr past ↦ absurd (let no : None ≡ Some r = sym (ap record_in (get_or_past rs key nowhere past)) ∙ there in cc) ]
-
-      past_at : (p : Place) (r : Record) → record_in p ≡ Some r → is_past (window_in first r.live) ≡ is_shifted_past first p
-      past_at (Taken x) r there = ap (λ (o : Option Record). past_of o) (sym there)
-        where
-          past_of : Option Record → Bool
-          past_of None = false
-          past_of (Some y) = is_past (window_in first y.live)
-      past_at (Vacant next) r there = absurd (let no : ◌≡◌ {A = Option Record} None (Some r) = there in cc)
-
       by_slot : (i : ℕ) → i < length es → (s : Slot) → (at es i).slot ≡ s → IsHeld rs (id_at es i) (at es i).slot → not (is_over_in (find (rows_in es rs) (id_at es i))) ≡ true → is_past (window_in first (find (rows_in es rs) (id_at es i))) ≡ false
       by_slot i lt (Live key) slot held keeps =
           let place : IsAt es (id_at es i) i = record { within = lt; has_id = refl } in
           let own = held_here es rs (id_at es i) i h.kept place key slot held in
           let live = live_here es rs (id_at es i) i h.kept place key own.0 slot own.1 in
+          let r : Record = record { id = id_at es i; live = own.0 } in
           ap (λ (k : Kept). is_past (window_in first k)) live.found
-          ∙ past_at (get_or rs key nowhere) (record { id = id_at es i; live = own.0 }) own.1
-          ∙ none_passes (is_shifted_past first) rs key nowhere none (within key (record { id = id_at es i; live = own.0 }) own.1)
+          ∙ none_passes past (entries slab) (key, r) none ((Contains-entries slab key r).1 own.1)
       by_slot i lt (Over by_us) slot held keeps =
           let place : IsAt es (id_at es i) i = record { within = lt; has_id = refl } in
           let found = find_at es rs (id_at es i) i h.kept place ∙ ap (λ (s : Slot). kept_in (slot_in rs s)) slot in
@@ -340,5 +334,5 @@ module _ (es : List Entry) (rs : List Place) (n first : ℕ) (h : AreHeld es rs 
           absurd (let no : true ≡ false = sym keeps ∙ over in cc)
 
   -- The records tell whether a first size is too large.
-  pub shifts_told : list_any (is_shifted_past first) rs ≡ shifts_past first (rows_in es rs)
-  shifts_told = elim (cases_Bool (list_any (is_shifted_past first) rs)) [ inl is ↦ is ∙ sym (one_is is) | inr none ↦ none ∙ sym (none_is none) ]
+  pub shifts_told : list_any past (entries slab) ≡ shifts_past first (rows_in es rs)
+  shifts_told = elim (cases_Bool (list_any past (entries slab))) [ inl is ↦ is ∙ sym (one_is is) | inr none ↦ none ∙ sym (none_is none) ]

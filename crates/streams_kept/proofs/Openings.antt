@@ -1,9 +1,9 @@
 -- A stream more, above all that were opened.
-use Rattle.std.proofs.Common.{◌≡◌, ℕ, ◌+◌, ◌<◌, ◌≤◌, ◌==◌, if◌then◌else◌, List, [], ◌∷◌, ◌++◌, length, set, map, true, false, Bool, Some, None, refl, sym, ap, ◌∙◌, subst, inl, inr, arith, cond}
+use Rattle.std.proofs.Common.{◌≡◌, ℕ, ◌+◌, ◌<◌, ◌≤◌, ◌==◌, if◌then◌else◌, List, [], ◌∷◌, ◌++◌, length, map, true, false, Bool, Some, None, refl, sym, ap, ◌∙◌, subst, inl, inr, arith, cond}
 use Rattle.std.specs.Prelude.{Option, nat_lt, reverse}
 use Rattle.std.specs.List.{list_all, AllByRecursion}
 use Rattle.std.proofs.lemmas.Bool.{cases_lt, cases_eq, and_parts, ltb-true}
-use Rattle.std.proofs.lemmas.List.{length-set, length-append, get_or-set_same, get_or-set_other, get_or_append_left, get_or_push, map-append, reverse-append}
+use Rattle.std.proofs.lemmas.List.{length-append, get_or_append_left, get_or_push, map-append, reverse-append}
 use Rattle.std.proofs.lemmas.List.Elements.{All-from_recursion}
 use Rattle.std.proofs.lemmas.List.Sums.{sum_by_push}
 use Rattle.model.specs.StreamStates.{most_streams}
@@ -15,9 +15,7 @@ use Rattle.streams_kept.specs.declared.entries.Entry.{Entry}
 use Rattle.streams_kept.specs.declared.entries.Slot.{Slot}
 use Rattle.streams_kept.specs.declared.entries.Slot.TheVariants.{Live, Over}
 use Rattle.streams_kept.specs.declared.records.Record.{Record}
-use Rattle.streams_kept.specs.declared.records.Place.{Place}
-use Rattle.streams_kept.specs.declared.records.Place.TheVariants.{Taken}
-use Rattle.streams_kept.specs.Records.{record_in, nowhere, record_at, slot_with, slot_in, row_in, rows_in, absent, at, id_at, IsHeld, IsPlaceMade, is_live, AreHeld}
+use Rattle.streams_kept.specs.Records.{record_at, slot_with, slot_in, row_in, rows_in, absent, at, id_at, IsHeld, IsStored, is_live, AreHeld}
 use Rattle.streams_kept.proofs.Lists.{mapped_same, all_back}
 use Rattle.streams_kept.proofs.Asked.{count_rows, above_ids}
 use Rattle.std.proofs.lemmas.List.{length-map}
@@ -37,7 +35,7 @@ each_lower [] id above = tt
 each_lower (row ∷ all) id above =
     let parts = and_parts (nat_lt row.id id) (list_all (λ other. nat_lt other id) (ids_of all)) above in (ltb-true row.id id parts.0, each_lower all id parts.1)
 
-module _ (es : List Entry) (rs made : List Place) (n id key : ℕ) (live : Kept) (h : AreHeld es rs n) (place : IsPlaceMade rs made key) (of_stream : (id == 0) ≡ false) (above : is_above_all id (rows_in es rs) ≡ true) (few : length (rows_in es rs) < most_streams) (tidy : IsTidy (rows.Slot.Live live)) where
+module _ (es : List Entry) (rs made : List (Option Record)) (id key : ℕ) (live : Kept) (h : AreHeld es rs) (stored : IsStored rs made key (record { id = id; live = live })) (of_stream : (id == 0) ≡ false) (above : is_above_all id (rows_in es rs) ≡ true) (few : length (rows_in es rs) < most_streams) (tidy : IsTidy (rows.Slot.Live live)) where
   -- the new entry and its record
   abbrev e : Entry
   e = record { id = id; slot = Live key }
@@ -45,16 +43,9 @@ module _ (es : List Entry) (rs made : List Place) (n id key : ℕ) (live : Kept)
   abbrev r : Record
   r = record { id = id; live = live }
 
-  now_there : record_at (set made key (Taken r)) key ≡ Some r
-  now_there = ap record_in (get_or-set_same made key (Taken r) nowhere place.within)
-
-  -- other records are where they were
-  elsewhere : (other : ℕ) → (other ≡ key → ⊥) → record_at (set made key (Taken r)) other ≡ record_at rs other
-  elsewhere other apart = ap record_in (get_or-set_other made key other (Taken r) nowhere apart) ∙ place.same other
-
   -- the key was vacant
   not_vacant : (other : ℕ) (x : Record) → record_at rs other ≡ Some x → other ≡ key → ⊥
-  not_vacant other x there same = let no : None ≡ Some x = sym place.vacant ∙ ap (record_at rs) (sym same) ∙ there in cc
+  not_vacant other x there same = let no : None ≡ Some x = sym stored.vacant ∙ ap (record_at rs) (sym same) ∙ there in cc
 
   lower : (i : ℕ) → i < length es → id_at es i < id
   lower i lt = all_back (λ (row : Row). row.id < id) (row_in rs) es absent (All-from_recursion (λ (row : Row). row.id < id) (rows_in es rs) (each_lower (rows_in es rs) id above)) i lt
@@ -65,27 +56,27 @@ module _ (es : List Entry) (rs made : List Place) (n id key : ℕ) (live : Kept)
   last : at (es ++ e ∷ []) (length es) ≡ e
   last = get_or_push es e absent (length es) refl
 
-  slot_same : (i : ℕ) → i < length es → (s : Slot) → IsHeld rs (id_at es i) s → slot_in (set made key (Taken r)) s ≡ slot_in rs s
-  slot_same i lt (Live other) held = ap slot_with (elsewhere other (not_vacant other held.0 held.1))
+  slot_same : (i : ℕ) → i < length es → (s : Slot) → IsHeld rs (id_at es i) s → slot_in made s ≡ slot_in rs s
+  slot_same i lt (Live other) held = ap slot_with (stored.same other (not_vacant other held.0 held.1))
   slot_same i lt (Over by_us) held = refl
 
-  held_same : (i : ℕ) → i < length es → (s : Slot) → IsHeld rs (id_at es i) s → IsHeld (set made key (Taken r)) (id_at es i) s
-  held_same i lt (Live other) held = (held.0, elsewhere other (not_vacant other held.0 held.1) ∙ held.1, held.2)
+  held_same : (i : ℕ) → i < length es → (s : Slot) → IsHeld rs (id_at es i) s → IsHeld made (id_at es i) s
+  held_same i lt (Live other) held = (held.0, stored.same other (not_vacant other held.0 held.1) ∙ held.1, held.2)
   held_same i lt (Over by_us) held = tt
 
-  pub opened_rows : rows_in (es ++ e ∷ []) (set made key (Taken r)) ≡ record { id = id; slot = rows.Slot.Live live } ∷ rows_in es rs
+  pub opened_rows : rows_in (es ++ e ∷ []) made ≡ record { id = id; slot = rows.Slot.Live live } ∷ rows_in es rs
   opened_rows =
-      let f : Entry → Row = row_in (set made key (Taken r)) in
+      let f : Entry → Row = row_in made in
       let old : map f es ≡ map (row_in rs) es = mapped_same f (row_in rs) es es absent absent refl (λ i lt. ap (λ (s : rows.Slot). record { id = id_at es i; slot = s }) (slot_same i lt (at es i).slot (h.held i lt))) in
       ap reverse (map-append f es (e ∷ []))
       ∙ reverse-append (map f es) (f e ∷ [])
       ∙ ap (λ (xs : List Row). f e ∷ reverse xs) old
-      ∙ ap (λ (o : Option Record). record { id = id; slot = slot_with o } ∷ rows_in es rs) now_there
+      ∙ ap (λ (o : Option Record). record { id = id; slot = slot_with o } ∷ rows_in es rs) stored.there
 
   count_es : length (es ++ e ∷ []) ≡ length es + 1
   count_es = length-append es (e ∷ [])
 
-  pub opened_held : AreHeld (es ++ e ∷ []) (set made key (Taken r)) (n + 1)
+  pub opened_held : AreHeld (es ++ e ∷ []) made
   opened_held = record {
     rising = λ i j lt within. elim (cases_lt j (length es)) [
       | inl inside ↦
@@ -101,17 +92,17 @@ module _ (es : List Entry) (rs made : List Place) (n id key : ℕ) (live : Kept)
     few = omega (arith, count_es, few, count_rows es rs);
     kept = subst AreKept (sym opened_rows) (record { tidy = tidy; of_stream = of_stream }, above, h.kept);
     held = λ i within. elim (cases_lt i (length es)) [
-      | inl inside ↦ subst (λ (x : Entry). IsHeld (set made key (Taken r)) x.id x.slot) (sym (before i inside)) (held_same i inside (at es i).slot (h.held i inside))
+      | inl inside ↦ subst (λ (x : Entry). IsHeld made x.id x.slot) (sym (before i inside)) (held_same i inside (at es i).slot (h.held i inside))
       | inr past ↦
           let is_last : i ≡ length es = omega (arith, within, past, count_es) in
-          subst (λ (x : Entry). IsHeld (set made key (Taken r)) x.id x.slot) (sym (ap (at (es ++ e ∷ [])) is_last ∙ last)) (r, now_there, refl)
+          subst (λ (x : Entry). IsHeld made x.id x.slot) (sym (ap (at (es ++ e ∷ [])) is_last ∙ last)) (r, stored.there, refl)
     ];
     owned = λ other x there. elim (cases_eq other key) [
       | inl same ↦
-          let one : Some r ≡ Some x = sym now_there ∙ ap (record_at (set made key (Taken r))) (sym same) ∙ there in
+          let one : Some r ≡ Some x = sym stored.there ∙ ap (record_at made) (sym same) ∙ there in
           (length es, record { within = omega (arith, count_es); has_key = ap (λ (y : Entry). y.slot) last ∙ ap Live (sym same); has_id = ap (λ (y : Entry). y.id) last ∙ ap (λ (o : Option Record). id_or o) one })
       | inr apart ↦
-          let own = h.owned other x (sym (elsewhere other apart) ∙ there) in (
+          let own = h.owned other x (sym (stored.same other apart) ∙ there) in (
             own.0,
             record {
               within = omega (arith, own.1.within, count_es);
@@ -120,8 +111,7 @@ module _ (es : List Entry) (rs made : List Place) (n id key : ℕ) (live : Kept)
             },
           )
     ];
-    short = omega (arith, length-set made key (Taken r), place.short, h.short, count_es);
-    counted = omega (arith, sum_by_push (λ (x : Entry). cond (is_live x.slot) 1 0) es e, h.counted);
+    counted = omega (arith, stored.counted, sum_by_push (λ (x : Entry). cond (is_live x.slot) 1 0) es e, h.counted);
   }
     where
       id_or : Option Record → ℕ

@@ -1,6 +1,6 @@
 -- What a search finds among entries whose ids rise, and what the rows tell of it.
 use Rattle.std.proofs.Common.{◌≡◌, ℕ, ◌<◌, ◌≤◌, ◌==◌, ◌||◌, ◌&&◌, if◌then◌else◌, List, [], ◌∷◌, length, true, false, Result, Ok, Err, IfOk, IfErr, refl, sym, ap, ◌∙◌, inl, inr, arith}
-use Rattle.std.specs.Prelude.{nat_lt}
+use Rattle.std.specs.Prelude.{nat_lt, Option}
 use Rattle.std.specs.List.{All, list_any, list_all}
 use Rattle.std.proofs.lemmas.Bool.{cases_lt, eq-eqb, ne_eqb}
 use Rattle.std.specs.List.Sorted.{IsSearchInRange, IsBinarySearchResult, IsNonDecreasingBy}
@@ -14,7 +14,7 @@ use Rattle.conduct.specs.Rows.{Row, find, kept_in, ids_of}
 use Rattle.conduct.specs.Tidy.{AreKept}
 use Rattle.conduct.proofs.Tidy.{stands_once}
 use Rattle.streams_kept.specs.declared.entries.Entry.{Entry}
-use Rattle.streams_kept.specs.declared.records.Place.{Place}
+use Rattle.streams_kept.specs.declared.records.Record.{Record}
 use Rattle.streams_kept.specs.Asked.{has}
 use Rattle.streams_kept.specs.Records.{absent, at, id_at, row_in, rows_in, IsRising, IsAt, IsGap}
 use Rattle.streams_kept.proofs.Lists.{all_turned, all_back}
@@ -87,7 +87,7 @@ pub above_all : (rows : List Row) (id : ℕ) → All (λ (row : Row). nat_lt row
 above_all [] id lower = refl
 above_all (row ∷ rows) id lower = ap (λ b. b && list_all (λ other. nat_lt other id) (ids_of rows)) (All-head (λ (row : Row). nat_lt row.id id ≡ true) row rows lower) ∙ above_all rows id (All-tail (λ (row : Row). nat_lt row.id id ≡ true) row rows lower)
 
-module _ (es : List Entry) (rs : List Place) where
+module _ (es : List Entry) (rs : List (Option Record)) where
   -- the row of the entry at a place is found
   pub found_at : (place : ℕ) → AreKept (rows_in es rs) → place < length es → IsFound (rows_in es rs) (row_in rs (at es place))
   found_at place kept lt = all_back (IsFound (rows_in es rs)) (row_in rs) es absent (all_found (rows_in es rs) kept) place lt

@@ -1,5 +1,6 @@
--- How the rows lie: an entry for each stream in the order of their ids, and for each active one a record at a key.
-use Rattle.std.specs.Prelude.{◌≡◌, ℕ, ◌+◌, ◌<◌, ◌≤◌, Bool, true, false, List, map, reverse, length, slice_index_or, Option, Some, None}
+-- How the rows lie: an entry for each stream in the order of their ids, and for each active one a record at a key of a slab, where there is a record
+-- or none at each key.
+use Rattle.std.specs.Prelude.{◌≡◌, ◌≢◌, ℕ, ◌+◌, ◌<◌, ◌≤◌, Bool, true, false, List, map, reverse, length, slice_index_or, Option, Some, None, is_some}
 use Rattle.std.specs.List.{count_by}
 use Rattle.model.specs.StreamStates.{most_streams}
 use Rattle.model.specs.WindowsOnTape.{is_past}
@@ -11,30 +12,14 @@ use Rattle.streams_kept.specs.declared.entries.Entry.{Entry}
 use Rattle.streams_kept.specs.declared.entries.Slot.{Slot}
 use Rattle.streams_kept.specs.declared.entries.Slot.TheVariants as slot
 use Rattle.streams_kept.specs.declared.records.Record.{Record}
-use Rattle.streams_kept.specs.declared.records.Place.{Place}
-use Rattle.streams_kept.specs.declared.records.Place.TheVariants as spot
-
--- the record at a place, if it isn't vacant
-abbrev pub record_in : Place → Option Record
-record_in (spot.Taken r) = Some r
-record_in (spot.Vacant next) = None
-
--- a place with a record
-abbrev pub place_with : Record → Place
-place_with r = spot.Taken r
-
--- a place for a key where there is none
-abbrev pub nowhere : Place
-nowhere = spot.Vacant 0
 
 -- the record at a key, if there is one
-abbrev pub record_at : List Place → ℕ → Option Record
-record_at places key = record_in (slice_index_or places key nowhere)
+abbrev pub record_at : List (Option Record) → ℕ → Option Record
+record_at records key = slice_index_or records key None
 
 -- the sending window of a record's stream is past the greatest with this first size
-abbrev pub is_shifted_past : ℕ → Place → Bool
-is_shifted_past first (spot.Taken r) = is_past (window_in first r.live)
-is_shifted_past first (spot.Vacant next) = false
+abbrev pub is_shifted_past : ℕ → Record → Bool
+is_shifted_past first r = is_past (window_in first r.live)
 
 -- the slot of a stream with this record
 abbrev pub slot_with : Option Record → rows.Slot
@@ -42,17 +27,17 @@ slot_with None = rows.Slot.Over false
 slot_with (Some r) = rows.Slot.Live r.live
 
 -- the slot of a stream
-abbrev pub slot_in : List Place → Slot → rows.Slot
-slot_in places (slot.Live key) = slot_with (record_at places key)
-slot_in places (slot.Over by_us) = rows.Slot.Over by_us
+abbrev pub slot_in : List (Option Record) → Slot → rows.Slot
+slot_in records (slot.Live key) = slot_with (record_at records key)
+slot_in records (slot.Over by_us) = rows.Slot.Over by_us
 
 -- the row of a stream
-abbrev pub row_in : List Place → Entry → Row
-row_in places entry = record { id = entry.id; slot = slot_in places entry.slot }
+abbrev pub row_in : List (Option Record) → Entry → Row
+row_in records entry = record { id = entry.id; slot = slot_in records entry.slot }
 
 -- the rows of all, the newest first
-abbrev pub rows_in : List Entry → List Place → List Row
-rows_in entries places = reverse (map (row_in places) entries)
+abbrev pub rows_in : List Entry → List (Option Record) → List Row
+rows_in entries records = reverse (map (row_in records) entries)
 
 -- an entry for a place where there is none
 abbrev pub absent : Entry
@@ -82,16 +67,20 @@ pub record IsGap (entries : List Entry) (id place : ℕ) : Type 0 where
   pub higher_after : (i : ℕ) → place ≤ i → i < length entries → id < id_at entries i
 
 -- The record of an active stream is its own.
-abbrev pub IsHeld : List Place → ℕ → Slot → Type 0
-IsHeld places id (slot.Live key) = (r : Record) × (record_at places key ≡ Some r) × (r.id ≡ id)
-IsHeld places id (slot.Over by_us) = Unit {0}
+abbrev pub IsHeld : List (Option Record) → ℕ → Slot → Type 0
+IsHeld records id (slot.Live key) = (r : Record) × (record_at records key ≡ Some r) × (r.id ≡ id)
+IsHeld records id (slot.Over by_us) = Unit {0}
 
--- There is a place for a record at this key: it is vacant, and each record is where it was.
-pub record IsPlaceMade (old new : List Place) (key : ℕ) : Type 0 where
-  pub within : key < length new
+-- how many records there are
+abbrev pub count_records : List (Option Record) → ℕ
+count_records records = count_by is_some records
+
+-- The record is stored at this key, where there was none, and each other one is where it was.
+pub record IsStored (old new : List (Option Record)) (key : ℕ) (r : Record) : Type 0 where
   pub vacant : record_at old key ≡ None
-  pub same : (other : ℕ) → record_at new other ≡ record_at old other
-  pub short : length new ≤ length old + 1
+  pub there : record_at new key ≡ Some r
+  pub same : (other : ℕ) → other ≢ key → record_at new other ≡ record_at old other
+  pub counted : count_records new ≡ count_records old + 1
 
 -- the entry is of an active stream
 abbrev pub is_live : Slot → Bool
@@ -108,12 +97,11 @@ pub record IsOwner (entries : List Entry) (key id place : ℕ) : Type 0 where
   pub has_key : (at entries place).slot ≡ slot.Live key
   pub has_id : id_at entries place ≡ id
 
--- What holds of entries, of places, and of the number that is kept of active streams.
-pub record AreHeld (entries : List Entry) (places : List Place) (active : ℕ) : Type 0 where
+-- What holds of entries and of records. There are as many records as active streams, so that a vacant place is used again before one more is made.
+pub record AreHeld (entries : List Entry) (records : List (Option Record)) : Type 0 where
   pub rising : IsRising entries
   pub few : length entries ≤ most_streams
-  pub kept : AreKept (rows_in entries places)
-  pub held : (place : ℕ) → place < length entries → IsHeld places (id_at entries place) (at entries place).slot
-  pub owned : (key : ℕ) (r : Record) → record_at places key ≡ Some r → (place : ℕ) × IsOwner entries key r.id place
-  pub short : length places ≤ length entries
-  pub counted : active ≡ count_live entries
+  pub kept : AreKept (rows_in entries records)
+  pub held : (place : ℕ) → place < length entries → IsHeld records (id_at entries place) (at entries place).slot
+  pub owned : (key : ℕ) (r : Record) → record_at records key ≡ Some r → (place : ℕ) × IsOwner entries key r.id place
+  pub counted : count_records records ≡ count_live entries

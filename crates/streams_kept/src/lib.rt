@@ -24,11 +24,10 @@ mod steps;
 pub use crate::course::{Course, Reply};
 use crate::entries::{Entry, Slot, last_id, place_of};
 pub use crate::live::Live;
-use crate::records::{
-    Place, Record, grant_at, live_at, make_place, shifts_past, state_of, step_at, take_at,
-};
+use crate::records::{Record, grant_at, live_at, shifts_past, state_of, step_at, store, take_at};
 use crate::steps::Step;
 pub use causes::Cause;
+use slab::Slab;
 use std::alloc::{AllocError, Global};
 use std::marker::Model;
 use stream_state::{Kind, Standing, Verdict, unopened_standing, verdict_at};
@@ -40,9 +39,7 @@ const MOST_STREAMS: usize = 10000;
 #[derive(Debug, Drop)]
 pub struct Streams {
     entries: Vec<Entry>,
-    places: Vec<Place>,
-    vacant: usize,
-    active: u32,
+    records: Slab<Record>,
 }
 
 impl Model for Streams {
@@ -53,9 +50,9 @@ impl Model for Streams {
 
     ghost use Rattle.streams_kept.specs.Records.{rows_in, AreHeld};
 
-    ghost view = { λ streams. rows_in streams.entries.items streams.places.items };
+    ghost view = { λ streams. rows_in streams.entries.items streams.records.slots };
 
-    ghost invariant = { λ streams. AreHeld streams.entries.items streams.places.items streams.active };
+    ghost invariant = { λ streams. AreHeld streams.entries.items streams.records.slots };
 }
 
 impl Streams {
@@ -69,9 +66,7 @@ impl Streams {
     {
         Streams {
             entries: Vec::new(alloc),
-            places: Vec::new(alloc),
-            vacant: 0,
-            active: 0,
+            records: Slab::new(alloc),
         }
     }
 
@@ -85,7 +80,7 @@ impl Streams {
             return None;
         };
         match self.entries[place].slot {
-            Slot::Live(key) => live_at(&self.places, key as usize, id),
+            Slot::Live(key) => live_at(&self.records, key, id),
             Slot::Over(_) => None,
         }
     }
@@ -101,7 +96,7 @@ impl Streams {
             return;
         };
         if let Slot::Live(key) = self.entries[place].slot {
-            grant_at(&mut self.places, key as usize, increment);
+            grant_at(&mut self.records, key, increment);
         }
     }
 
@@ -136,7 +131,7 @@ impl Streams {
             return;
         };
         if let Slot::Live(key) = self.entries[place].slot {
-            take_at(&mut self.places, key as usize, octets, course, ended);
+            take_at(&mut self.records, key, octets, course, ended);
         }
     }
 
@@ -210,7 +205,7 @@ impl Streams {
             return;
         };
         if let Slot::Live(key) = self.entries[place].slot {
-            step_at(&mut self.places, key as usize, step);
+            step_at(&mut self.records, key, step);
         }
     }
 
@@ -233,7 +228,7 @@ impl Streams {
             return Standing::WholeConnection;
         }
         match place_of(&self.entries, id) {
-            Ok(place) => Standing::Opened(state_of(&self.places, self.entries[place])),
+            Ok(place) => Standing::Opened(state_of(&self.records, self.entries[place])),
             Err(place) => {
                 let count = self.entries.len();
                 unopened_standing(id, place == count, count == MOST_STREAMS)
@@ -249,7 +244,7 @@ impl Streams {
         ensures kept { AreKept self.now }
     {
         let standing = self.standing(id);
-        verdict_at(self.active, standing, kind)
+        verdict_at(self.records.len() as u32, standing, kind)
     }
 
     /// How many streams are active (RFC 9113, section 5.1.2).
@@ -257,8 +252,7 @@ impl Streams {
         ensures is { result ≡ length (active_in self.now) }
         ensures kept { AreKept self.now }
     {
-        let Streams { active, .. } = self;
-        *active
+        self.records.len() as u32
     }
 
     /// How many streams were opened, whatever became of them (RFC 9113, section 5.1); at most 10,000.
@@ -277,12 +271,12 @@ impl Streams {
     }
 
     /// Whether a first size of windows makes the sending window of an active stream too large (RFC 9113, section 6.9.2): a walk over the
-    /// places of active streams.
+    /// records of active streams.
     pub fn shifts_past(&self, first: u32) -> bool
         requires { first ≤ greatest_window }
         ensures { result ≡ shifts_past first self.now }
     {
-        shifts_past(&self.places, first)
+        shifts_past(&self.records, first)
     }
 
     /// Forgets all of an active stream but whether the gateway reset it (RFC 9113, section 5.1); no other changes.
@@ -301,9 +295,7 @@ impl Streams {
             id,
             slot: Slot::Over(by_us),
         };
-        self.places[key as usize] = Place::Vacant(self.vacant);
-        self.vacant = key as usize;
-        self.active -= 1;
+        self.records.remove(key as usize);
     }
 
     /// Opens a stream, above all that were opened (RFC 9113, sections 5.1 and 5.1.1). An `Err` says that memory was refused; it changes nothing.
@@ -315,13 +307,11 @@ impl Streams {
         ensures kept { AreKept self.new }
     {
         self.entries.reserve(1)?;
-        let key = make_place(&mut self.places, &mut self.vacant)?;
-        let slot = Slot::Live(key as u32);
+        let key = store(&mut self.records, Record { id, live })?;
+        let slot = Slot::Live(key);
         let Ok(()) = self.entries.push(Entry { id, slot }) else {
             unreachable!();
         };
-        self.places[key] = Place::Taken(Record { id, live });
-        self.active += 1;
         Ok(())
     }
 }

@@ -1,89 +1,56 @@
-use Rattle.std.proofs.Common.{◌≡◌, ◌+ℤ◌, pos, List, length, ap, sym, subst, ◌∙◌, arith}
-use Rattle.std.specs.Prelude.{Option, IfSome, slice_set}
-use Rattle.std.specs.Vec.{with_items}
-use Rattle.std.proofs.lemmas.List.{with_items_is}
+use Rattle.std.proofs.Common.{◌+ℤ◌, pos, ap, sym, subst, ◌∙◌}
+use Rattle.std.specs.Prelude.{Option, IfSome}
 use Rattle.model.specs.Windows.{IsSize}
 use Rattle.conduct.specs.Summary.{Stream as Kept}
-use Rattle.conduct.specs.Rows.Slot.{Live as Active}
-use Rattle.conduct.specs.Tidy.{AreKept}
 use Rattle.streams_kept.specs.declared.records.Record.{Record}
-use Rattle.streams_kept.specs.declared.records.Place.{Place}
-use Rattle.streams_kept.specs.Asked.{is_active, changed}
+use Rattle.streams_kept.specs.Asked.{is_active}
 use Rattle.streams_kept.specs.Steps.{granted}
-use Rattle.streams_kept.specs.Records.{place_with, record_at, IsAt, rows_in, AreHeld}
+use Rattle.streams_kept.specs.Records.{IsAt}
 use Rattle.streams_kept.proofs.Asked.{read_at, over_here, none_here}
-use Rattle.streams_kept.proofs.Changes.{here_at, kept_here, live_tidy, live_rows, live_held, not_both}
+use Rattle.streams_kept.proofs.Changes.{here_at, kept_here, live_tidy, changed_held, changed_rows, not_both}
 use Rattle.streams_kept.proofs.Streams.grant.Goals as goal
 
 -- the stream is active
 pub returns-in_default-clause-is : goal.returns-in_default-clause-is
 returns-in_default-clause-is c =
-    not_both (is_active c.args.self.now c.args.id) c.requires.live (rw (← c.self.view_is) (none_here c.self.inside.entries.items c.self.inside.places.items c.args.id c.in_default.field-0 (rw (← c.deref.ensures.value) c.in_default.ensures.absent)))
-
-pub grant_at-requires-clause-fits : goal.grant_at-requires-clause-fits
-grant_at-requires-clause-fits c =
-    let es = c.self.inside.entries.items in
-    let rs = c.self.inside.places.items in
-    let is : IsAt es c.args.id c.in-Ok.place = rw (← c.deref.ensures.value) c.in-Ok.ensures.found in
-    let there = read_at es c.in-Ok.place c.index.result.now is.within c.index.ensures in
-    let here = here_at es rs c.self.inside.active c.args.id c.in-Ok.place c.in-Live.key c.self.invariant is (ap (λ e. e.slot) there ∙ c.in-Live.is) in
-    let live = kept_here es rs c.self.inside.active c.args.id c.in-Ok.place c.in-Live.key here.0 c.self.invariant here.1 in
-    let fits : IsSize (here.0.live.balance +ℤ pos c.args.increment) = subst (λ (k : Kept). IsSize (k.balance +ℤ pos c.args.increment)) live.found (rw c.self.view_is c.requires.fits) in
-    rw c.deref_mut.ensures.value (subst (λ (o : Option Record). IfSome o (λ (r : Record). IsSize (r.live.balance +ℤ pos c.args.increment))) (sym here.1.there) fits)
-
-pub invariant_of-self : goal.invariant_of-self
-invariant_of-self c =
-    let es = c.self.inside.entries.items in
-    let rs = c.self.inside.places.items in
-    let is : IsAt es c.args.id c.in-Ok.place = rw (← c.deref.ensures.value) c.in-Ok.ensures.found in
-    let there = read_at es c.in-Ok.place c.index.result.now is.within c.index.ensures in
-    let here = here_at es rs c.self.inside.active c.args.id c.in-Ok.place c.in-Live.key c.self.invariant is (ap (λ e. e.slot) there ∙ c.in-Live.is) in
-    let live = kept_here es rs c.self.inside.active c.args.id c.in-Ok.place c.in-Live.key here.0 c.self.invariant here.1 in
-    let size : length c.grant_at.new.places ≡ c.self.inside.places.len = grind (arith, c.grant_at.auto.places, c.deref_mut.ensures.len) in
-    let changed_at : IfSome (record_at rs c.in-Live.key) (λ (r : Record). c.grant_at.new.places ≡ slice_set rs c.in-Live.key (place_with (record r { live = granted c.args.increment r.live }))) =
-    subst (λ (xs : List Place). IfSome (record_at xs c.in-Live.key) (λ (r : Record). c.grant_at.new.places ≡ slice_set xs c.in-Live.key (place_with (record r { live = granted c.args.increment r.live })))) c.deref_mut.ensures.value c.grant_at.ensures in
-    let written : (with_items c.self.inside.places c.grant_at.new.places).items ≡ slice_set rs c.in-Live.key (place_with (record here.0 { live = granted c.args.increment here.0.live })) =
-    with_items_is c.self.inside.places c.grant_at.new.places size
-    ∙ subst (λ (o : Option Record). IfSome o (λ (r : Record). c.grant_at.new.places ≡ slice_set rs c.in-Live.key (place_with (record r { live = granted c.args.increment r.live })))) here.1.there changed_at in
-    let held = live_held es rs c.self.inside.active c.self.invariant c.args.id c.in-Ok.place c.in-Live.key here.0 here.1 (granted c.args.increment here.0.live) (live_tidy es rs c.self.inside.active c.args.id c.in-Ok.place c.in-Live.key here.0 c.self.invariant here.1) in
-    subst (λ (xs : List Place). AreHeld es xs c.self.inside.active) (sym written) held
-
-pub returns-in-Live-clause-is : goal.returns-in-Live-clause-is
-returns-in-Live-clause-is c =
-    let es = c.self.inside.entries.items in
-    let rs = c.self.inside.places.items in
-    let is : IsAt es c.args.id c.in-Ok.place = rw (← c.deref.ensures.value) c.in-Ok.ensures.found in
-    let there = read_at es c.in-Ok.place c.index.result.now is.within c.index.ensures in
-    let here = here_at es rs c.self.inside.active c.args.id c.in-Ok.place c.in-Live.key c.self.invariant is (ap (λ e. e.slot) there ∙ c.in-Live.is) in
-    let live = kept_here es rs c.self.inside.active c.args.id c.in-Ok.place c.in-Live.key here.0 c.self.invariant here.1 in
-    let size : length c.grant_at.new.places ≡ c.self.inside.places.len = grind (arith, c.grant_at.auto.places, c.deref_mut.ensures.len) in
-    let changed_at : IfSome (record_at rs c.in-Live.key) (λ (r : Record). c.grant_at.new.places ≡ slice_set rs c.in-Live.key (place_with (record r { live = granted c.args.increment r.live }))) =
-    subst (λ (xs : List Place). IfSome (record_at xs c.in-Live.key) (λ (r : Record). c.grant_at.new.places ≡ slice_set xs c.in-Live.key (place_with (record r { live = granted c.args.increment r.live })))) c.deref_mut.ensures.value c.grant_at.ensures in
-    let written : (with_items c.self.inside.places c.grant_at.new.places).items ≡ slice_set rs c.in-Live.key (place_with (record here.0 { live = granted c.args.increment here.0.live })) =
-    with_items_is c.self.inside.places c.grant_at.new.places size
-    ∙ subst (λ (o : Option Record). IfSome o (λ (r : Record). c.grant_at.new.places ≡ slice_set rs c.in-Live.key (place_with (record r { live = granted c.args.increment r.live })))) here.1.there changed_at in
-    let told = live_rows es rs c.self.inside.active c.self.invariant c.args.id c.in-Ok.place c.in-Live.key here.0 here.1 (granted c.args.increment here.0.live) (live_tidy es rs c.self.inside.active c.args.id c.in-Ok.place c.in-Live.key here.0 c.self.invariant here.1) in
-    rw (← c.self.view_is) (ap (rows_in es) written ∙ told ∙ ap (λ (k : Kept). changed c.args.id (Active (granted c.args.increment k)) (rows_in es rs)) (sym live.found))
-
-pub returns-in-Live-clause-kept : goal.returns-in-Live-clause-kept
-returns-in-Live-clause-kept c =
-    let es = c.self.inside.entries.items in
-    let rs = c.self.inside.places.items in
-    let is : IsAt es c.args.id c.in-Ok.place = rw (← c.deref.ensures.value) c.in-Ok.ensures.found in
-    let there = read_at es c.in-Ok.place c.index.result.now is.within c.index.ensures in
-    let here = here_at es rs c.self.inside.active c.args.id c.in-Ok.place c.in-Live.key c.self.invariant is (ap (λ e. e.slot) there ∙ c.in-Live.is) in
-    let live = kept_here es rs c.self.inside.active c.args.id c.in-Ok.place c.in-Live.key here.0 c.self.invariant here.1 in
-    let size : length c.grant_at.new.places ≡ c.self.inside.places.len = grind (arith, c.grant_at.auto.places, c.deref_mut.ensures.len) in
-    let changed_at : IfSome (record_at rs c.in-Live.key) (λ (r : Record). c.grant_at.new.places ≡ slice_set rs c.in-Live.key (place_with (record r { live = granted c.args.increment r.live }))) =
-    subst (λ (xs : List Place). IfSome (record_at xs c.in-Live.key) (λ (r : Record). c.grant_at.new.places ≡ slice_set xs c.in-Live.key (place_with (record r { live = granted c.args.increment r.live })))) c.deref_mut.ensures.value c.grant_at.ensures in
-    let written : (with_items c.self.inside.places c.grant_at.new.places).items ≡ slice_set rs c.in-Live.key (place_with (record here.0 { live = granted c.args.increment here.0.live })) =
-    with_items_is c.self.inside.places c.grant_at.new.places size
-    ∙ subst (λ (o : Option Record). IfSome o (λ (r : Record). c.grant_at.new.places ≡ slice_set rs c.in-Live.key (place_with (record r { live = granted c.args.increment r.live })))) here.1.there changed_at in
-    let held = live_held es rs c.self.inside.active c.self.invariant c.args.id c.in-Ok.place c.in-Live.key here.0 here.1 (granted c.args.increment here.0.live) (live_tidy es rs c.self.inside.active c.args.id c.in-Ok.place c.in-Live.key here.0 c.self.invariant here.1) in
-    subst (λ (xs : List Place). AreKept (rows_in es xs)) (sym written) held.kept
+    not_both (is_active c.args.self.now c.args.id) c.requires.live (rw (← c.self.view_is) (none_here c.self.inside.entries.items c.self.inside.records.slots c.args.id c.in_default.field-0 (rw (← c.deref.ensures.value) c.in_default.ensures.absent)))
 
 pub returns-in_default-slot-clause-is : goal.returns-in_default-slot-clause-is
 returns-in_default-slot-clause-is c =
     let is : IsAt c.self.inside.entries.items c.args.id c.in-Ok.place = rw (← c.deref.ensures.value) c.in-Ok.ensures.found in
     let there = read_at c.self.inside.entries.items c.in-Ok.place c.index.result.now is.within c.index.ensures in
-    not_both (is_active c.args.self.now c.args.id) c.requires.live (rw (← c.self.view_is) (over_here c.self.inside.entries.items c.self.inside.places.items c.args.id c.in-Ok.place c.self.invariant.kept is c.in_default-slot.field-0 (ap (λ e. e.slot) there ∙ c.in_default-slot.is)))
+    not_both (is_active c.args.self.now c.args.id) c.requires.live (rw (← c.self.view_is) (over_here c.self.inside.entries.items c.self.inside.records.slots c.args.id c.in-Ok.place c.self.invariant.kept is c.in_default-slot.field-0 (ap (λ e. e.slot) there ∙ c.in_default-slot.is)))
+
+pub grant_at-requires : goal.grant_at-requires
+grant_at-requires c =
+    let es = c.self.inside.entries.items in
+    let is : IsAt es c.args.id c.in-Ok.place = rw (← c.deref.ensures.value) c.in-Ok.ensures.found in
+    let there = read_at es c.in-Ok.place c.index.result.now is.within c.index.ensures in
+    let here = here_at es c.self.inside.records.slots c.args.id c.in-Ok.place c.in-Live.key c.self.invariant is (ap (λ e. e.slot) there ∙ c.in-Live.is) in
+    let live = kept_here es c.self.inside.records.slots c.args.id c.in-Ok.place c.in-Live.key here.0 c.self.invariant here.1 in
+    let fits : IsSize (here.0.live.balance +ℤ pos c.args.increment) = subst (λ (k : Kept). IsSize (k.balance +ℤ pos c.args.increment)) live.found (rw c.self.view_is c.requires.fits) in
+    subst (λ (o : Option Record). IfSome o (λ (r : Record). IsSize (r.live.balance +ℤ pos c.args.increment))) (sym here.1.there) fits
+
+pub invariant_of-self : goal.invariant_of-self
+invariant_of-self c =
+    let es = c.self.inside.entries.items in
+    let is : IsAt es c.args.id c.in-Ok.place = rw (← c.deref.ensures.value) c.in-Ok.ensures.found in
+    let there = read_at es c.in-Ok.place c.index.result.now is.within c.index.ensures in
+    let here = here_at es c.self.inside.records.slots c.args.id c.in-Ok.place c.in-Live.key c.self.invariant is (ap (λ e. e.slot) there ∙ c.in-Live.is) in
+    changed_held es c.self.inside.records c.grant_at.new.records c.self.invariant c.args.id c.in-Ok.place c.in-Live.key here.0 here.1 (granted c.args.increment) (live_tidy es c.self.inside.records.slots c.args.id c.in-Ok.place c.in-Live.key here.0 c.self.invariant here.1) c.grant_at.ensures
+
+pub returns-in-Live-clause-is : goal.returns-in-Live-clause-is
+returns-in-Live-clause-is c =
+    let es = c.self.inside.entries.items in
+    let is : IsAt es c.args.id c.in-Ok.place = rw (← c.deref.ensures.value) c.in-Ok.ensures.found in
+    let there = read_at es c.in-Ok.place c.index.result.now is.within c.index.ensures in
+    let here = here_at es c.self.inside.records.slots c.args.id c.in-Ok.place c.in-Live.key c.self.invariant is (ap (λ e. e.slot) there ∙ c.in-Live.is) in
+    rw (← c.self.view_is) (changed_rows es c.self.inside.records c.grant_at.new.records c.self.invariant c.args.id c.in-Ok.place c.in-Live.key here.0 here.1 (granted c.args.increment) (live_tidy es c.self.inside.records.slots c.args.id c.in-Ok.place c.in-Live.key here.0 c.self.invariant here.1) c.grant_at.ensures)
+
+pub returns-in-Live-clause-kept : goal.returns-in-Live-clause-kept
+returns-in-Live-clause-kept c =
+    let es = c.self.inside.entries.items in
+    let is : IsAt es c.args.id c.in-Ok.place = rw (← c.deref.ensures.value) c.in-Ok.ensures.found in
+    let there = read_at es c.in-Ok.place c.index.result.now is.within c.index.ensures in
+    let here = here_at es c.self.inside.records.slots c.args.id c.in-Ok.place c.in-Live.key c.self.invariant is (ap (λ e. e.slot) there ∙ c.in-Live.is) in
+    (changed_held es c.self.inside.records c.grant_at.new.records c.self.invariant c.args.id c.in-Ok.place c.in-Live.key here.0 here.1 (granted c.args.increment) (live_tidy es c.self.inside.records.slots c.args.id c.in-Ok.place c.in-Live.key here.0 c.self.invariant here.1) c.grant_at.ensures).kept

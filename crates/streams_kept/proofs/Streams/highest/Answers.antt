@@ -6,4 +6,4 @@ use Rattle.streams_kept.proofs.Streams.highest.Goals as goal
 
 pub returns : goal.returns
 returns c =
-    rw (← c.self.view_is) (c.last_id.ensures ∙ ap (λ (es : List Entry). id_at es (length es - 1)) c.deref.ensures.value ∙ highest_is_last c.self.inside.entries.items c.self.inside.places.items c.self.invariant.kept)
+    rw (← c.self.view_is) (c.last_id.ensures ∙ ap (λ (es : List Entry). id_at es (length es - 1)) c.deref.ensures.value ∙ highest_is_last c.self.inside.entries.items c.self.inside.records.slots c.self.invariant.kept)

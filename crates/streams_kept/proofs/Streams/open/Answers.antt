@@ -1,41 +1,40 @@
 use Rattle.std.proofs.Common.{◌≡◌, sym, ap, ◌∙◌, subst, List, ◌++◌, ◌∷◌, [], ◌<◌, length, true}
-use Rattle.std.specs.Prelude.{slice_set}
 use Rattle.model.specs.StreamStates.{most_streams}
 use Rattle.conduct.specs.Tidy.{AreKept, is_above_all}
 use Rattle.streams_kept.specs.declared.entries.Entry.{Entry}
 use Rattle.streams_kept.specs.declared.entries.Slot.TheVariants.{Live}
-use Rattle.streams_kept.specs.Records.{place_with, rows_in}
+use Rattle.streams_kept.specs.Records.{rows_in}
 use Rattle.streams_kept.proofs.Openings.{opened_rows, opened_held}
 use Rattle.streams_kept.proofs.Streams.open.Goals as goal
 
 pub invariant_of-self-2 : goal.invariant_of-self-2
 invariant_of-self-2 c =
     let es = c.self.inside.entries.items in
-    let rs = c.self.inside.places.items in
+    let rs = c.self.inside.records.slots in
     let pushed : c.push.new.self.items ≡ es ++ record { id = c.args.id; slot = Live c.in_ok-key.key } ∷ [] =
     c.in-Ok.ensures.items ∙ ap (λ (xs : List Entry). xs ++ record { id = c.args.id; slot = Live c.in_ok-key.key } ∷ []) c.reserve.ensures.items in
     let above : is_above_all c.args.id (rows_in es rs) ≡ true = rw c.self.view_is c.requires.may.above in
     let few : length (rows_in es rs) < most_streams = rw c.self.view_is c.requires.may.few in
-    rw pushed (opened_held es rs c.make_place.new.places.items c.self.inside.active c.args.id c.in_ok-key.key c.args.live c.self.invariant c.in_ok-key.ensures.ok c.requires.may.of_stream above few c.requires.tidy)
+    rw pushed (opened_held es rs c.store.new.records.slots c.args.id c.in_ok-key.key c.args.live c.self.invariant c.in_ok-key.ensures.ok c.requires.may.of_stream above few c.requires.tidy)
 
 pub returns-clause-ok : goal.returns-clause-ok
 returns-clause-ok c =
     let es = c.self.inside.entries.items in
-    let rs = c.self.inside.places.items in
+    let rs = c.self.inside.records.slots in
     let pushed : c.push.new.self.items ≡ es ++ record { id = c.args.id; slot = Live c.in_ok-key.key } ∷ [] =
     c.in-Ok.ensures.items ∙ ap (λ (xs : List Entry). xs ++ record { id = c.args.id; slot = Live c.in_ok-key.key } ∷ []) c.reserve.ensures.items in
     let above : is_above_all c.args.id (rows_in es rs) ≡ true = rw c.self.view_is c.requires.may.above in
     let few : length (rows_in es rs) < most_streams = rw c.self.view_is c.requires.may.few in
-    rw (← c.self.view_is) (ap (λ (xs : List Entry). rows_in xs (slice_set c.make_place.new.places.items c.in_ok-key.key (place_with (record { id = c.args.id; live = c.args.live })))) pushed
-    ∙ opened_rows es rs c.make_place.new.places.items c.self.inside.active c.args.id c.in_ok-key.key c.args.live c.self.invariant c.in_ok-key.ensures.ok c.requires.may.of_stream above few c.requires.tidy)
+    rw (← c.self.view_is) (ap (λ (xs : List Entry). rows_in xs c.store.new.records.slots) pushed
+    ∙ opened_rows es rs c.store.new.records.slots c.args.id c.in_ok-key.key c.args.live c.self.invariant c.in_ok-key.ensures.ok c.requires.may.of_stream above few c.requires.tidy)
 
 pub returns-clause-kept : goal.returns-clause-kept
 returns-clause-kept c =
     let es = c.self.inside.entries.items in
-    let rs = c.self.inside.places.items in
+    let rs = c.self.inside.records.slots in
     let pushed : c.push.new.self.items ≡ es ++ record { id = c.args.id; slot = Live c.in_ok-key.key } ∷ [] =
     c.in-Ok.ensures.items ∙ ap (λ (xs : List Entry). xs ++ record { id = c.args.id; slot = Live c.in_ok-key.key } ∷ []) c.reserve.ensures.items in
     let above : is_above_all c.args.id (rows_in es rs) ≡ true = rw c.self.view_is c.requires.may.above in
     let few : length (rows_in es rs) < most_streams = rw c.self.view_is c.requires.may.few in
-    let held = opened_held es rs c.make_place.new.places.items c.self.inside.active c.args.id c.in_ok-key.key c.args.live c.self.invariant c.in_ok-key.ensures.ok c.requires.may.of_stream above few c.requires.tidy in
-    subst (λ (xs : List Entry). AreKept (rows_in xs (slice_set c.make_place.new.places.items c.in_ok-key.key (place_with (record { id = c.args.id; live = c.args.live }))))) (sym pushed) held.kept
+    let held = opened_held es rs c.store.new.records.slots c.args.id c.in_ok-key.key c.args.live c.self.invariant c.in_ok-key.ensures.ok c.requires.may.of_stream above few c.requires.tidy in
+    subst (λ (xs : List Entry). AreKept (rows_in xs c.store.new.records.slots)) (sym pushed) held.kept

@@ -12,16 +12,16 @@ pub state_of-requires : goal.state_of-requires
 state_of-requires c =
     let is : IsAt c.self.inside.entries.items c.args.id c.in-Ok.place = rw (← c.deref.ensures.value) c.in-Ok.ensures.found in
     let there = read_at c.self.inside.entries.items c.in-Ok.place c.index.result.now is.within c.index.ensures in
-    rw (c.deref-in-Ok.ensures.value, ← there) (c.self.invariant.held c.in-Ok.place is.within)
+    rw (← there) (c.self.invariant.held c.in-Ok.place is.within)
 
 pub returns-in-Ok : goal.returns-in-Ok
 returns-in-Ok c =
     let is : IsAt c.self.inside.entries.items c.args.id c.in-Ok.place = rw (← c.deref.ensures.value) c.in-Ok.ensures.found in
     let there = read_at c.self.inside.entries.items c.in-Ok.place c.index.result.now is.within c.index.ensures in
-    let told : state_told c.state_of.result ≡ state_in (kept_in (slot_in c.self.inside.places.items (at c.self.inside.entries.items c.in-Ok.place).slot)) =
-    c.state_of.ensures ∙ ap (λ rs. state_in (kept_in (slot_in rs c.index.result.now.slot))) c.deref-in-Ok.ensures.value ∙ ap (λ (e : Entry). state_in (kept_in (slot_in c.self.inside.places.items e.slot))) (sym there) in
-    rw (← c.self.view_is) (ap Opened told ∙ standing_at c.self.inside.entries.items c.self.inside.places.items c.args.id c.in-Ok.place c.self.invariant.kept c.if-id-eq0.false is)
+    let told : state_told c.state_of.result ≡ state_in (kept_in (slot_in c.self.inside.records.slots (at c.self.inside.entries.items c.in-Ok.place).slot)) =
+    c.state_of.ensures ∙ ap (λ (e : Entry). state_in (kept_in (slot_in c.self.inside.records.slots e.slot))) (sym there) in
+    rw (← c.self.view_is) (ap Opened told ∙ standing_at c.self.inside.entries.items c.self.inside.records.slots c.args.id c.in-Ok.place c.self.invariant.kept c.if-id-eq0.false is)
 
 pub returns-in-Err : goal.returns-in-Err
 returns-in-Err c =
-    rw (← c.self.view_is) (c.unopened_standing.ensures ∙ rw (c.len-count.ensures, ← c.deref.ensures.len, c.deref.ensures.value) (standing_in_gap c.self.inside.entries.items c.self.inside.places.items c.args.id c.in-Err.place c.self.invariant.kept c.if-id-eq0.false (rw (← c.deref.ensures.value) c.in-Err.ensures.absent)))
+    rw (← c.self.view_is) (c.unopened_standing.ensures ∙ rw (c.len-count.ensures, ← c.deref.ensures.len, c.deref.ensures.value) (standing_in_gap c.self.inside.entries.items c.self.inside.records.slots c.args.id c.in-Err.place c.self.invariant.kept c.if-id-eq0.false (rw (← c.deref.ensures.value) c.in-Err.ensures.absent)))

@@ -3,8 +3,7 @@ use Rattle.model.specs.StreamStates as states
 use Rattle.model.specs.StreamStates.{Standing}
 use Rattle.stream_state.specs.Views.{kind_in}
 use Rattle.streams_kept.specs.Asked.{standing}
-use Rattle.streams_kept.proofs.Asked.{active_is}
-use Rattle.streams_kept.proofs.Asked.{count_rows}
+use Rattle.streams_kept.proofs.Asked.{active_is, count_rows}
 use Rattle.streams_kept.proofs.Openings.{allows}
 use Rattle.std.proofs.Common.{arith, ◌≡◌, ◌≤◌, length}
 use Rattle.model.specs.StreamStates.{most_streams}
@@ -15,17 +14,17 @@ use Rattle.streams_kept.proofs.Streams.verdict.Goals as goal
 
 pub returns-clause-is : goal.returns-clause-is
 returns-clause-is c =
-    let counted = active_is c.self.inside.entries.items c.self.inside.places.items c.self.inside.active c.self.invariant in
+    let counted = active_is c.self.inside.entries.items c.self.inside.records.slots c.self.invariant in
     c.verdict_at.ensures
-    ∙ ap (λ (s : Standing). states.verdict c.self.inside.active s (kind_in c.args.kind)) c.standing-standing.ensures
-    ∙ ap (λ (n : ℕ). states.verdict n (standing c.args.self.now c.args.id) (kind_in c.args.kind)) (rw (← c.self.view_is) counted)
+    ∙ ap (λ (s : Standing). states.verdict c.len.result s (kind_in c.args.kind)) c.standing-standing.ensures
+    ∙ ap (λ (n : ℕ). states.verdict n (standing c.args.self.now c.args.id) (kind_in c.args.kind)) (c.len.ensures ∙ rw (← c.self.view_is) counted)
 
 pub returns-clause-allows : goal.returns-clause-allows
 returns-clause-allows c =
-    let few : length (rows_in c.self.inside.entries.items c.self.inside.places.items) ≤ most_streams = omega (arith, count_rows c.self.inside.entries.items c.self.inside.places.items, c.self.invariant.few) in
-    let counted = active_is c.self.inside.entries.items c.self.inside.places.items c.self.inside.active c.self.invariant in
+    let counted = active_is c.self.inside.entries.items c.self.inside.records.slots c.self.invariant in
+    let few : length (rows_in c.self.inside.entries.items c.self.inside.records.slots) ≤ most_streams = omega (arith, count_rows c.self.inside.entries.items c.self.inside.records.slots, c.self.invariant.few) in
     let is : verdict_in c.verdict_at.result ≡ verdict c.args.self.now c.args.id (kind_in c.args.kind) =
     c.verdict_at.ensures
-    ∙ ap (λ (s : Standing). states.verdict c.self.inside.active s (kind_in c.args.kind)) c.standing-standing.ensures
-    ∙ ap (λ (n : ℕ). states.verdict n (standing c.args.self.now c.args.id) (kind_in c.args.kind)) (rw (← c.self.view_is) counted) in
+    ∙ ap (λ (s : Standing). states.verdict c.len.result s (kind_in c.args.kind)) c.standing-standing.ensures
+    ∙ ap (λ (n : ℕ). states.verdict n (standing c.args.self.now c.args.id) (kind_in c.args.kind)) (c.len.ensures ∙ rw (← c.self.view_is) counted) in
     allows c.args.self.now c.args.id (kind_in c.args.kind) c.verdict_at.result (rw (← c.self.view_is) few) is

@@ -2,5 +2,6 @@
 #![tactic(auto)]
 
 mod answer;
+pub mod laws;
 
 pub use crate::answer::{Answer, Ended, Heard, Passing};

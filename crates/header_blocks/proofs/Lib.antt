@@ -12,3 +12,4 @@ pub mod Followed
 pub mod OneFault
 pub mod RawStrings
 pub mod ShortStrings
+pub mod HeldInside

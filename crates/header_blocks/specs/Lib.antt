@@ -21,3 +21,4 @@ pub mod Kept
 pub mod Joining
 pub mod Faults
 pub mod Following
+pub mod HeldInside

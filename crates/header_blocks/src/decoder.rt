@@ -33,6 +33,8 @@ pub struct Decoder {
 }
 
 impl Model for Decoder {
+    ghost use Rattle.std.specs.Prelude.{◌≤◌};
+    ghost use Rattle.model.specs.Tables.{total_size};
     ghost use Rattle.header_blocks.specs.Bounds.{IsBounded};
     ghost use Rattle.header_blocks.specs.Directions.{Direction, table_behind};
 
@@ -40,7 +42,7 @@ impl Model for Decoder {
 
     ghost view = { λ decoder. record { table = table_behind decoder.fault decoder.before.value decoder.table; fault = decoder.fault } };
 
-    ghost invariant = { λ decoder. IsBounded (table_behind decoder.fault decoder.before.value decoder.table) };
+    ghost invariant = { λ decoder. IsBounded (table_behind decoder.fault decoder.before.value decoder.table) × (total_size decoder.table.fields ≤ total_size (table_behind decoder.fault decoder.before.value decoder.table).fields) };
 }
 
 impl Decoder {

@@ -40,7 +40,7 @@ use Rattle.serving.proofs.Fitting.{not_not}
 use Rattle.serving.proofs.Clauses.{none_done}
 use Rattle.serving.proofs.Closing.{found_live, same_live}
 use Rattle.relay.specs.Hearing.{IsHeard}
-use Rattle.holding.specs.Held.{head_waiting, octets_of}
+use Rattle.answers.specs.HeldInside.{head_waiting, octets_of}
 use Rattle.holding.proofs.Untold.{no_trailers}
 
 -- An open connection that isn't done with, and its newest exchange.

@@ -59,7 +59,9 @@ use Rattle.upstreams.specs.Connections.{Connection, number_of, stream_of, lives}
 use Rattle.relay.specs.Hearing.{IsHeard}
 use Rattle.relay.specs.View.{View, square, Leads}
 use Rattle.relay.proofs.Lives.{lives_found}
-use Rattle.holding.specs.Held.{octets_of, answers_for, answers_in, IsSmall, held_for, held_beside, held_in, most_beside, most_streams, most_for_stream, most_in_all}
+use Rattle.answers.specs.HeldInside.{octets_of}
+use Rattle.upstreams.specs.HeldInside.{answers_in}
+use Rattle.holding.specs.Held.{answers_for, IsSmall, held_for, held_beside, held_in, most_beside, most_streams, most_for_stream, most_in_all}
 use Rattle.holding.proofs.Lists.{ids_of, offer_none, offer_found, box_at, all_found, by_number, found_own, found_behind, HaveOne, answers_none, answers_found, sums_most, sums_both, offers_by_stream, answers_by_stream}
 use Rattle.holding.proofs.Waiting.{each_waits}
 use Rattle.holding.proofs.Answering.{Answering, answering, none_waits, answer_small, answer_streamed}

@@ -5,3 +5,4 @@ pub mod Waiting
 pub mod Holding
 pub mod Rooms
 pub mod Untold
+pub mod HeldInside

@@ -14,7 +14,9 @@ use Rattle.upstreams.specs.Connections.{Connection, number_of, stream_of, lives}
 use Rattle.policy.specs.Held.{on_offer_for}
 use Rattle.policy.proofs.EndingLives.{AreApart}
 use Rattle.relay.proofs.Lives.{lives_found}
-use Rattle.holding.specs.Held.{octets_of, answers_for, answers_in}
+use Rattle.answers.specs.HeldInside.{octets_of}
+use Rattle.upstreams.specs.HeldInside.{answers_in}
+use Rattle.holding.specs.Held.{answers_for}
 
 -- ---- outboxes
 

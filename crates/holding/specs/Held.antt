@@ -1,42 +1,23 @@
 -- How many octets the rooms keep, as sums over all octet lists of what they keep, and how many there may be where they rest.
-use Rattle.std.specs.Prelude.{ℕ, ◌+◌, ◌*◌, ◌≤◌, ◌==◌, if◌then◌else◌, List, [], ◌∷◌, length, Option, Some, None}
-use Rattle.model.specs.ResponseHeads.{Head}
+use Rattle.std.specs.Prelude.{ℕ, ◌+◌, ◌*◌, ◌≤◌, ◌==◌, if◌then◌else◌, List, [], ◌∷◌, length}
 use Rattle.model.specs.Setup.{Setup}
 use Rattle.model.specs.Tables.{total_size}
 use Rattle.model.specs.Windows.{first_window}
 use Rattle.conduct.specs.Held.{octets_begun}
-use Rattle.h1_reader.specs.HeadSizes.{field_octets}
-use Rattle.offering.specs.Outbox.{trailers_at}
 use Rattle.offering.specs.Held as offers
 use Rattle.serving.specs.Held as requests
-use Rattle.answers.specs.Waiting.{Answer}
+use Rattle.answers.specs.HeldInside.{octets_of}
 use Rattle.upstreams.specs.Connections.{Connection, stream_of}
+use Rattle.upstreams.specs.HeldInside.{answers_in}
 use Rattle.policy.specs.Held.{on_offer_for}
 use Rattle.relay.specs.View.{View, waiting_for}
 
 -- ---- answers that are being read
 
--- the octets of a head that waits, if one does
-abbrev pub head_waiting : Option Head → ℕ
-head_waiting None = 0
-head_waiting (Some head) = offers.head_octets head
-
--- the octets of an answer: those that its reader holds unread, the fields Connection of its head, and its head, its body and its trailers
--- that wait for its end
-abbrev pub octets_of : Answer → ℕ
-octets_of answer =
-    length answer.reader.held.octets + field_octets answer.reader.held.connections + head_waiting answer.head + length answer.body
-    + offers.octets_of_fields (trailers_at answer.trailers)
-
--- those of the answers of a stream's connections
+-- the octets of the answers of a stream's connections
 abbrev pub answers_for : ℕ → List Connection → ℕ
 answers_for stream [] = 0
 answers_for stream (c ∷ cs) = (if stream_of c == stream then octets_of c.answer else 0) + answers_for stream cs
-
--- those of all
-abbrev pub answers_in : List Connection → ℕ
-answers_in [] = 0
-answers_in (c ∷ cs) = octets_of c.answer + answers_in cs
 
 -- ---- all that is kept
 

@@ -2,6 +2,8 @@
 //! with the answers of upstreams that are still being read, of which the rule keeps nothing.
 #![tactic(auto)]
 
+pub mod inside;
+
 ghost use Rattle.std.specs.Prelude.{◌≡◌, ◌<◌, ◌^◌, List};
 ghost use Rattle.model.specs.Setup.{Setup};
 ghost use Rattle.model.specs.Setup.Passing.{Streaming};

@@ -127,9 +127,13 @@ interim_out = refl
 
 -- ---- resets behind whole responses
 
+-- the name at index 35, and a value that isn't inserted
+abbrev pub expect_octets : List ℕ
+expect_octets = 15 ∷ 20 ∷ 12 ∷ codes "100-continue"
+
 -- a reply to a request that isn't whole is followed by a reset, one to a whole request isn't
 abbrev pub expecting : List Entry
-expecting = headed (frame 1 4 1 (post_block ++ 15 ∷ 20 ∷ 12 ∷ codes "100-continue")) (post ++ field (codes "expect") (codes "100-continue") ∷ []) ∷ begun
+expecting = headed (frame 1 4 1 (post_block ++ expect_octets)) (post ++ field (codes "expect") (codes "100-continue") ∷ []) ∷ begun
 
 abbrev pub reply_fields : List Field
 reply_fields = field (codes ":status") (codes "417") ∷ field (codes "content-length") (codes "0") ∷ []

@@ -109,7 +109,8 @@ none_open = record {
 
 no_body : IsTooLong by_keeping none_text false → ⊥
 no_body long =
-    let same = one_seen none_text false long.interims [] long.head (Some none_head) long.octets [] long.seen (whole_seen none_text false none_response none_answered) in
+    let seen = whole_seen none_text false none_response none_answered in
+    let same = one_seen none_text false long.interims [] long.head (Some none_head) long.octets [] long.seen seen in
     let over : 1048576 < 0 = subst (λ (l : List ℕ). 1048576 < length l) same.octets long.over in
     omega (arith, over)
 
@@ -146,7 +147,9 @@ closes_behind_stray = record {
 
 pub stays_open_behind_stray : AreClosed by_keeping stray_later → ⊥
 unfolding total_size
-stays_open_behind_stray closed = none_left (closed 1 refl (Complete (none_response, whole_past none_text (codes "X") false false none_response none_answered))).answered
+stays_open_behind_stray closed =
+    let kept = closed 1 refl (Complete (none_response, whole_past none_text (codes "X") false false none_response none_answered)) in
+    none_left kept.answered
 
 -- ---- the server says that it closes the connection
 

@@ -143,9 +143,9 @@ kept_on passing t o asks hears stays asked on = record {
 }
 
 -- If it is open and was given to no other stream since, it is idle.
-pub idle_on : (passing : Passing) (t : List Entry) (k stream : ℕ) → is_open k t ≡ true → exchange_on k t ≡ exchange k stream → sent_for (exchange k stream) t ≡ getk
-    → heard_by (exchange k stream) t ≡ answer_text → ended_by (exchange k stream) t ≡ false → is_asked_for_head (keeping_by passing) (exchange k stream) t ≡ false
-    → is_closed t ≡ false → IsIdle (keeping_by passing) t k
+pub idle_on : (passing : Passing) (t : List Entry) (k stream : ℕ) → is_open k t ≡ true → exchange_on k t ≡ exchange k stream
+    → sent_for (exchange k stream) t ≡ getk → heard_by (exchange k stream) t ≡ answer_text → ended_by (exchange k stream) t ≡ false
+    → is_asked_for_head (keeping_by passing) (exchange k stream) t ≡ false → is_closed t ≡ false → IsIdle (keeping_by passing) t k
 idle_on passing t k stream is_on newest asks hears stays asked on = record {
   is_open = is_on;
   kept = subst (λ (o : Opened). MayBeKept (keeping_by passing) t o) (sym newest) (kept_on passing t (exchange k stream) asks hears stays asked on);

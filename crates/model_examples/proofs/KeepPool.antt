@@ -1,7 +1,8 @@
 -- How many connections are idle, and which one is used or closed: rows of two and of nine connections, and gateways that go wrong there.
-use Rattle.std.proofs.Common.{◌≡◌, ℕ, ◌+◌, ◌*◌, ◌≤◌, Bool, true, false, ◌||◌, ◌==◌, List, [], ◌∷◌, refl, sym, ap, ◌∙◌, subst, inl, inr, arith, if◌then◌else◌}
+use Rattle.std.proofs.Common.{◌≡◌, ℕ, ◌+◌, ◌*◌, ◌≤◌, Bool, true, false, ◌||◌, ◌==◌, List, [], ◌∷◌, refl, sym, ap, ◌∙◌, subst, inl, inr, arith, if◌then◌else◌, length}
 use Rattle.std.specs.Prelude.{zero, suc, codes}
 use Rattle.std.specs.List.{list_any}
+use Rattle.std.proofs.lemmas.Bool.{eq-eqb, ne_eqb}
 use Rattle.std.proofs.lemmas.Bool.Decides.{eqb_tells}
 use Rattle.model.specs.Tables.{total_size}
 use Rattle.model.specs.Logs.Event.{Up, UpFailed}
@@ -33,7 +34,7 @@ beside_busy = headed (frame 1 5 3 next_get_block) get ∷ first_got
 none_idle : NoneIdle by_keeping beside_busy 0
 unfolding total_size
 none_idle j i route = elim (eqb_tells j 1) [
-  | inl same ↦ (let one : IsIdle by_keeping beside_busy 1 = subst (λ (k : ℕ). IsIdle by_keeping beside_busy k) same.1 i in nothing_heard false one.kept.answered)
+  | inl same ↦ (let one : IsIdle by_keeping beside_busy 1 = subst (IsIdle by_keeping beside_busy) same.1 i in nothing_heard false one.kept.answered)
   | inr apart ↦ (let clash : false ≡ true = sym (ap (λ b. if b then true else false) apart.0) ∙ i.is_open in cc)
 ]
 
@@ -59,7 +60,14 @@ third_came_open j = at (j == 1)
 
 pub all_in_time : BeginInTime by_keeping third_got
 unfolding total_size
-all_in_time = (tt, (record { active = refl; no_cause = refl; goes_on = refl; whole = λ passing. refl }, none_open _ third_came_open 0, (used_again, opens_first)))
+all_in_time = (
+  tt,
+  (
+    record { active = refl; no_cause = refl; goes_on = refl; whole = λ passing. refl },
+    none_open _ third_came_open 0,
+    (used_again, opens_first),
+  ),
+)
 
 -- An idle connection of another route isn't used.
 abbrev pub elsewhere_came : List Entry
@@ -100,7 +108,11 @@ asked (suc n) = Did (ToUp (suc n) getk) ∷ Did (Open (suc n) 0) ∷ headed (fra
 -- so many are answered, and the client has the responses
 abbrev pub answers : ℕ → List Entry → List Entry
 answers zero t = t
-answers (suc n) t = out (frame 0 1 (2 * n + 1) (codes "hi")) ∷ out_headed (frame 1 4 (2 * n + 1) ok_block) ok_two ∷ Happened (Up (suc n) answer_text) ∷ answers n t
+answers (suc n) t =
+    out (frame 0 1 (2 * n + 1) (codes "hi"))
+    ∷ out_headed (frame 1 4 (2 * n + 1) ok_block) ok_two
+    ∷ Happened (Up (suc n) answer_text)
+    ∷ answers n t
 
 -- ---- the least that is idle is used
 
@@ -184,3 +196,93 @@ few_idle (k ∷ j ∷ ks) apart are =
       | inl same ↦ same.1
       | inr other ↦ absurd (let clash : false ≡ true = sym (ap (λ b. if b then true else false) other.0) ∙ i.is_open in cc)
     ]
+
+-- ---- no more than eight connections
+
+abbrev IsOne : ℕ → List ℕ → Type 0
+IsOne k ks = list_any (λ j. j == k) ks ≡ true
+
+-- either of two
+or_more : (a b : Bool) → b ≡ true → (a || b) ≡ true
+or_more true b e = refl
+or_more false b e = e
+
+remove : ℕ → List ℕ → List ℕ
+remove k [] = []
+remove k (j ∷ js) = if j == k then js else j ∷ remove k js
+
+removed_length : (k : ℕ) (js : List ℕ) → IsOne k js → length js ≡ suc (length (remove k js))
+unfolding remove
+removed_length k [] i = cc
+removed_length k (j ∷ js) i = elim (eqb_tells j k) [
+  | inl same ↦ sym (ap (λ b. suc (length (if b then js else j ∷ remove k js))) same.0)
+  | inr apart ↦ (let more = removed_length k js (sym (ap (λ b. b || list_any (λ n. n == k) js) apart.0) ∙ i) in
+      ap suc more ∙ sym (ap (λ b. suc (length (if b then js else j ∷ remove k js))) apart.0))
+]
+
+removed_other : (k n : ℕ) (js : List ℕ) → IsOne n js → (n ≡ k → ⊥) → IsOne n (remove k js)
+unfolding remove
+removed_other k n [] i apart = i
+removed_other k n (j ∷ js) i apart = elim (eqb_tells j k) [
+  | inl same ↦ ap (λ b. list_any (λ m. m == n) (if b then js else j ∷ remove k js)) same.0
+      ∙ (sym (ap (λ b. b || list_any (λ m. m == n) js) (ne_eqb j n (λ e. apart (sym e ∙ same.1)))) ∙ i)
+  | inr differs ↦ ap (λ b. list_any (λ m. m == n) (if b then js else j ∷ remove k js)) differs.0 ∙ by (j == n) i (removed_other k n js)
+]
+  where
+    by : (b : Bool) → (b || list_any (λ m. m == n) js) ≡ true → (IsOne n js → (n ≡ k → ⊥) → IsOne n (remove k js))
+        → (b || list_any (λ m. m == n) (remove k js)) ≡ true
+    by true e more = refl
+    by false e more = more e apart
+
+-- there are no more distinct numbers in a list than it has
+few_distinct : (ks js : List ℕ) → AreDistinct ks → ((n : ℕ) → IsOne n ks → IsOne n js) → length ks ≤ length js
+few_distinct [] js d all = omega arith
+few_distinct (k ∷ ks) js d all =
+    let size = removed_length k js (all k (ap (λ b. b || list_any (λ j. j == k) ks) (eq-eqb k k refl))) in
+    let more = few_distinct ks (remove k js) d.1 (λ n i. removed_other k n js (all n (or_more (k == n) (list_any (λ j. j == n) ks) i)) (other n i)) in
+    omega (arith, size, more)
+  where
+    other : (n : ℕ) → IsOne n ks → n ≡ k → ⊥
+    other n i e = let clash : true ≡ false = sym i ∙ ap (λ m. list_any (λ j. j == m) ks) e ∙ d.0 in cc
+
+-- the numbers from so many on down
+abbrev down : ℕ → List ℕ
+down zero = []
+down (suc n) = suc n ∷ down n
+
+opened_down : (n k : ℕ) → is_open k (asked n) ≡ true → IsOne k (down n)
+opened_down zero k on = let clash : false ≡ true = on in cc
+opened_down (suc n) k on = elim (eqb_tells k (suc n)) [
+  | inl same ↦ ap (λ b. b || list_any (λ j. j == k) (down n)) (eq-eqb (suc n) k (sym same.1))
+  | inr apart ↦ or_more (suc n == k) (list_any (λ j. j == k) (down n)) (opened_down n k (sym (ap (λ b. if b then true else is_open k (asked n)) apart.0) ∙ on))
+]
+
+-- the eighth is answered while the seven before it are idle
+abbrev pub eighth_heard : List Entry
+eighth_heard = Happened (Up 8 answer_text) ∷ answers 7 (asked 8)
+
+idle_down : (ks : List ℕ) → AreIdle by_keeping eighth_heard ks → (n : ℕ) → IsOne n ks → IsOne n (down 8)
+idle_down [] are n i = cc
+idle_down (k ∷ ks) are n i = elim (eqb_tells k n) [
+  | inl same ↦ (let one : IsIdle by_keeping eighth_heard n = subst (IsIdle by_keeping eighth_heard) same.1 are.0 in opened_down 8 n one.is_open)
+  | inr apart ↦ idle_down ks are.1 n (sym (ap (λ b. b || list_any (λ j. j == n) ks) apart.0) ∙ i)
+]
+
+-- Eight may stay,
+pub keeps_eight : FewAreIdle by_keeping eighth_heard
+keeps_eight ks apart are = few_distinct ks (down 8) apart (idle_down ks are)
+
+eighth_idle : IsIdle by_keeping eighth_heard 8
+unfolding total_size
+eighth_idle = idle_on Whole eighth_heard 8 15 refl refl refl refl refl refl refl
+
+-- so the eighth isn't one too many,
+pub not_too_many : IsOneTooMany by_keeping eighth_heard 8 → ⊥
+not_too_many m =
+    let few : length (8 ∷ m.others) ≤ 8 = few_distinct (8 ∷ m.others) (down 8) m.distinct (idle_down (8 ∷ m.others) (eighth_idle, m.are_idle)) in
+    let many = m.many in omega (arith, few, many)
+
+-- and it isn't closed.
+pub closes_the_eighth : IsDoneWith by_keeping (Did (Close 8) ∷ eighth_heard) 8 eighth_heard → ⊥
+unfolding total_size
+closes_the_eighth c = not_too_many (c.not_kept (kept_on Whole (Did (Close 8) ∷ eighth_heard) (exchange 8 15) refl refl refl refl refl))

@@ -263,9 +263,12 @@ none_beside false = refl
 unread : (stream : ℕ) → items_on stream (sent paired_rightly) ≡ [] → IsDelivered by_keeping paired_rightly stream
 unread stream none = record {
   delivery = nothing;
-  reads = subst (λ (x : List Item). ReadsAs x nothing) (sym none) (record { interim_items = []; rest = []; is = refl; interims = tt; answer = (refl, refl, refl) });
+  reads = subst (λ (x : List Item). ReadsAs x nothing) (sym none) reads_nothing;
   offered = inl refl;
 }
+  where
+    reads_nothing : ReadsAs [] nothing
+    reads_nothing = record { interim_items = []; rest = []; is = refl; interims = tt; answer = (refl, refl, refl) }
 
 pub pairs_rightly : ResponsesHold by_keeping paired_rightly
 pairs_rightly = record {
@@ -284,7 +287,12 @@ pairs_rightly = record {
         fields = ok_two;
         next = first_table;
         is_block = answer.is_block;
-        within = record { come_down = λ k d lt. absurd (omega (arith, lt)); named = λ k d lt. absurd (omega (arith, lt)); stands = omega arith; few = omega arith };
+        within = record {
+          come_down = λ k d lt. absurd (omega (arith, lt));
+          named = λ k d lt. absurd (omega (arith, lt));
+          stands = omega arith;
+          few = omega arith;
+        };
       },
       (tt, (tt, tt)),
     ),
@@ -352,6 +360,12 @@ says_close known t o keep (inr part) =
     let on = part.goes_on part.some.0 part.some.1 in
     at part.earlier part.mean on.whole on.is_front on.all.stay_open
   where
-    at : (rs : List Request) → AreMeant known t [] rs → (whole : List ℕ) → IsStrictFront first.text whole → StayOpen known whole (forwarded (part.some.0 ∷ rs)) → ⊥
-    at [] mean whole front stays = stays_open_not known (front.next ∷ front.rest) part.some.0 keep (subst (λ (x : List ℕ). StayOpen known x (H1.forward part.some.0 ∷ [])) front.is stays)
+    next : Request
+    next = part.some.0
+
+    at : (rs : List Request) → AreMeant known t [] rs → (whole : List ℕ) → IsStrictFront first.text whole
+        → StayOpen known whole (forwarded (next ∷ rs)) → ⊥
+    at [] mean whole front stays =
+        let more : List ℕ = front.next ∷ front.rest in
+        stays_open_not known more next keep (subst (λ (x : List ℕ). StayOpen known x (H1.forward next ∷ [])) front.is stays)
     at (r ∷ rs) mean whole front stays = mean

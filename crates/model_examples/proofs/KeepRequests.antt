@@ -1,11 +1,11 @@
 -- The clause on requests where two of them go on one connection, and a third on another.
-use Rattle.std.proofs.Common.{[], ◌∷◌, ◌++◌, refl, sym, subst, inl, inr, arith}
+use Rattle.std.proofs.Common.{◌≡◌, [], ◌∷◌, ◌++◌, refl, sym, subst, inl, inr, arith}
 use Rattle.std.specs.Prelude.{codes}
 use Rattle.std.proofs.lemmas.Bool.{false≢true}
 use Rattle.model.specs.Tables.{total_size}
 use Rattle.model.specs.Octets.{Joined}
 use Rattle.model.specs.Http1.{H1Open, forward}
-use Rattle.model.specs.Http2.{WellFormedHead, H2Request}
+use Rattle.model.specs.Http2.{HasHead, WellFormedHead, H2Request}
 use Rattle.model.specs.Setup.{IsFirstMatch}
 use Rattle.model.specs.Tapes.{sent_up}
 use Rattle.model.specs.Openings.{Opened, opens, exchanges, exchanges_of}
@@ -22,7 +22,15 @@ use Rattle.model_examples.proofs.KeepPool.{all_in_time}
 
 get_holds : WellFormedHead get
 get_holds = record {
-  pseudo_fields_hold = record { first = refl; known = refl; method = refl; scheme = refl; path = refl; one_authority = omega arith; connect_authority = λ e. absurd (false≢true e) };
+  pseudo_fields_hold = record {
+    first = refl;
+    known = refl;
+    method = refl;
+    scheme = refl;
+    path = refl;
+    one_authority = omega arith;
+    connect_authority = λ e. absurd (false≢true e);
+  };
   names_hold = refl;
   values_hold = refl;
   no_connection_field = refl;
@@ -47,7 +55,12 @@ unfolding total_size
 third_means = record { head = get; has_head = refl; well_formed = get_holds; no_connect = refl; contents = tt; ends = refl; length_holds = tt; is = refl }
 
 by_route : IsFirstMatch keeping.routes (codes "www.example.com") (codes "/") 0
-by_route = record { route = record { authority = []; path = codes "/" }; found = refl; matches = (inl refl, inl (record { rest = []; is = refl })); none_before = λ earlier before. absurd (omega (arith, before)) }
+by_route = record {
+  route = record { authority = []; path = codes "/" };
+  found = refl;
+  matches = (inl refl, inl (record { rest = []; is = refl }));
+  none_before = λ earlier before. absurd (omega (arith, before));
+}
 
 -- ---- what the connections were sent
 
@@ -56,7 +69,10 @@ one_joined = (getk, [], opens_for_more, refl, refl)
 
 -- one request, and behind it another may stand
 one_read : ReadsAsAll by_keeping getk (request ∷ [])
-one_read = record { reads = record { front = getk; is = refl; are_requests = opens_for_more.reads; no_more = nothing_begins_none }; stay_open = λ keep. one_joined }
+one_read = record {
+  reads = record { front = getk; is = refl; are_requests = opens_for_more.reads; no_more = nothing_begins_none };
+  stay_open = λ keep. one_joined;
+}
 
 -- two, one behind the other
 both_read : ReadsAsAll by_keeping (getk ++ getk) (request ∷ request ∷ [])
@@ -78,16 +94,27 @@ third_sent = inl (record { requests = request ∷ []; mean = (third_means, tt); 
 
 -- ---- the clause
 
-all_sent : (o : Opened) → IsIn o (opens third_got) → IsSent by_keeping third_got (exchanges_of o.k (exchanges third_got)) (sent_up o.k third_got)
-all_sent o (inl same) = subst (λ (p : Opened). IsSent by_keeping third_got (exchanges_of p.k (exchanges third_got)) (sent_up p.k third_got)) (sym same) third_sent
-all_sent o (inr (inl same)) = subst (λ (p : Opened). IsSent by_keeping third_got (exchanges_of p.k (exchanges third_got)) (sent_up p.k third_got)) (sym same) both_sent
+abbrev IsSentTo : Opened → Type 0
+IsSentTo o = IsSent by_keeping third_got (exchanges_of o.k (exchanges third_got)) (sent_up o.k third_got)
+
+all_sent : (o : Opened) → IsIn o (opens third_got) → IsSentTo o
+all_sent o (inl same) = subst IsSentTo (sym same) third_sent
+all_sent o (inr (inl same)) = subst IsSentTo (sym same) both_sent
 all_sent o (inr (inr none)) = absurd none
+
+served : (o : Opened) → HasHead (items by_keeping o.stream third_got) get → o.route ≡ 0 → IsServed by_keeping third_got o
+served o has first = record {
+  head = get;
+  has_head = has;
+  well_formed = get_holds;
+  by_route = subst (IsFirstMatch keeping.routes (codes "www.example.com") (codes "/")) (sym first) by_route;
+}
 
 all_served : (o : Opened) → IsIn o (exchanges third_got) → IsServed by_keeping third_got o
 unfolding total_size
-all_served o (inl same) = subst (λ (p : Opened). IsServed by_keeping third_got p) (sym same) (record { head = get; has_head = refl; well_formed = get_holds; by_route = by_route })
-all_served o (inr (inl same)) = subst (λ (p : Opened). IsServed by_keeping third_got p) (sym same) (record { head = get; has_head = refl; well_formed = get_holds; by_route = by_route })
-all_served o (inr (inr (inl same))) = subst (λ (p : Opened). IsServed by_keeping third_got p) (sym same) (record { head = get; has_head = refl; well_formed = get_holds; by_route = by_route })
+all_served o (inl same) = subst (IsServed by_keeping third_got) (sym same) (served (exchange 2 5) refl refl)
+all_served o (inr (inl same)) = subst (IsServed by_keeping third_got) (sym same) (served (exchange 1 3) refl refl)
+all_served o (inr (inr (inl same))) = subst (IsServed by_keeping third_got) (sym same) (served (exchange 1 1) refl refl)
 all_served o (inr (inr (inr none))) = absurd none
 
 -- The row of three requests on two connections keeps the clause.

@@ -110,7 +110,10 @@ pub lacks_three : room_on_connection (with_second first_over) ≡ pos 65535 -ℤ
 lacks_three = refl
 
 -- and none once they are taken.
-pub given_back : room_on_connection (out (update 0 3) ∷ took 160 (with_second first_over)) ≡ pos 65535 -ℤ pos (kept_in_all Streaming (out (update 0 3) ∷ took 160 (with_second first_over)))
+abbrev pub all_taken : List Entry
+all_taken = out (update 0 3) ∷ took 160 (with_second first_over)
+
+pub given_back : room_on_connection all_taken ≡ pos 65535 -ℤ pos (kept_in_all Streaming all_taken)
 given_back = refl
 
 -- While the client hasn't taken the first response its stream is active. Its octets wait for the first's alone, also behind the second.

@@ -14,11 +14,13 @@ use Rattle.model_examples.proofs.RowTapes.{field, begun, get, get_block, next_ge
 -- ---- representations of a field
 
 -- a number below the ones of its prefix, in one octet
-by_index : (table : Table) (first index : ℕ) (entry : Field) → IsMarkedInt 7 1 (first ∷ []) index → look_up table index ≡ Some entry → blocks.Represents table (first ∷ []) entry table
+by_index : (table : Table) (first index : ℕ) (entry : Field) → IsMarkedInt 7 1 (first ∷ []) index → look_up table index ≡ Some entry
+    → blocks.Represents table (first ∷ []) entry table
 by_index table first index entry marked found = inl (record { index = index; marked = marked; found = found; same = refl })
 
 -- the name of an entry, and a value whose length stands in one octet
-literal : (table : Table) (prefix mark index size : ℕ) (index_octets value : List ℕ) (entry : Field) → IsMarkedInt prefix mark index_octets index → look_up table index ≡ Some entry → IsMarkedInt 7 0 (size ∷ []) (length value)
+literal : (table : Table) (prefix mark index size : ℕ) (index_octets value : List ℕ) (entry : Field)
+    → IsMarkedInt prefix mark index_octets index → look_up table index ≡ Some entry → IsMarkedInt 7 0 (size ∷ []) (length value)
     → blocks.IsLiteral prefix mark table (index_octets ++ [] ++ (size ∷ value)) (field entry.name value)
 literal table prefix mark index size index_octets value entry marked found number = record {
   index = index;
@@ -43,7 +45,10 @@ eight : IsMarkedInt 4 0 (8 ∷ []) 8
 eight = short 4 0 8 8 (record { first = 8; is = refl; low_bits = refl; not_ones = omega arith }) refl
 
 twenty_eight : IsMarkedInt 4 0 (15 ∷ 13 ∷ []) 28
-twenty_eight = record { int = inr (record { first = 15; groups = 13 ∷ []; is = refl; ones = refl; are_groups = omega arith; few = omega arith; sum = refl; in_range = omega arith }); marked = refl }
+twenty_eight = record {
+  int = inr (record { first = 15; groups = 13 ∷ []; is = refl; ones = refl; are_groups = omega arith; few = omega arith; sum = refl; in_range = omega arith });
+  marked = refl;
+}
 
 one : IsMarkedInt 7 0 (1 ∷ []) 1
 one = short 7 0 1 1 (record { first = 1; is = refl; low_bits = refl; not_ones = omega arith }) refl
@@ -51,10 +56,17 @@ one = short 7 0 1 1 (record { first = 1; is = refl; low_bits = refl; not_ones = 
 three : IsMarkedInt 7 0 (3 ∷ []) 3
 three = short 7 0 3 3 (record { first = 3; is = refl; low_bits = refl; not_ones = omega arith }) refl
 
+sixty_two : IsMarkedInt 7 1 (190 ∷ []) 62
+sixty_two = short 7 1 190 62 (record { first = 190; is = refl; low_bits = refl; not_ones = omega arith }) refl
+
 -- ---- what the gateway sends
 
 pub ok_spelled : blocks.Block first_table ok_block ok_two first_table
 ok_spelled = record { maxima = []; is_block = answer.is_block }
+
+not_inserted : (size : ℕ) (value : List ℕ) → IsMarkedInt 7 0 (size ∷ []) (length value)
+    → blocks.Represents first_table (8 ∷ size ∷ value) (field (codes ":status") value) first_table
+not_inserted size value number = inr (inr (inl (record { literal = literal first_table 4 0 8 size (8 ∷ []) value _ eight status_at number; same = refl })))
 
 pub hints_spelled : blocks.Block first_table hints_block hints first_table
 hints_spelled = record {
@@ -65,7 +77,7 @@ hints_spelled = record {
     between = first_table;
     is = refl;
     are_maxima = (refl, refl);
-    are_fields = (hints_block, [], first_table, refl, inr (inr (inl (record { literal = literal first_table 4 0 8 3 (8 ∷ []) (codes "103") _ eight status_at three; same = refl }))), (refl, refl));
+    are_fields = (hints_block, [], first_table, refl, not_inserted 3 (codes "103") three, (refl, refl));
   };
 }
 
@@ -83,7 +95,7 @@ bad_gateway_spelled = record {
       15 ∷ 13 ∷ 1 ∷ codes "0",
       first_table,
       refl,
-      inr (inr (inl (record { literal = literal first_table 4 0 8 3 (8 ∷ []) (codes "502") _ eight status_at three; same = refl }))),
+      not_inserted 3 (codes "502") three,
       (
         15 ∷ 13 ∷ 1 ∷ codes "0",
         [],
@@ -114,8 +126,11 @@ found_inserted = record {
   };
 }
   where
+    number : IsMarkedInt 6 1 (72 ∷ []) 8
+    number = short 6 1 72 8 (record { first = 72; is = refl; low_bits = refl; not_ones = omega arith }) refl
+
     goes_in : blocks.IsLiteral 6 1 first_table (72 ∷ 3 ∷ codes "302") (field (codes ":status") (codes "302"))
-    goes_in = literal first_table 6 1 8 3 (72 ∷ []) (codes "302") _ (short 6 1 72 8 (record { first = 72; is = refl; low_bits = refl; not_ones = omega arith }) refl) status_at three
+    goes_in = literal first_table 6 1 8 3 (72 ∷ []) (codes "302") _ number status_at three
 
 -- where it is the newest of the table, at index 62
 found_at : look_up found_table 62 ≡ Some (field (codes ":status") (codes "302"))
@@ -131,7 +146,7 @@ found_indexed = record {
     between = found_table;
     is = refl;
     are_maxima = (refl, refl);
-    are_fields = (190 ∷ [], [], found_table, refl, by_index found_table 190 62 _ (short 7 1 190 62 (record { first = 190; is = refl; low_bits = refl; not_ones = omega arith }) refl) found_at, (refl, refl));
+    are_fields = (190 ∷ [], [], found_table, refl, by_index found_table 190 62 _ sixty_two found_at, (refl, refl));
   };
 }
 
@@ -174,7 +189,7 @@ authority_goes_in = inr (inl (record {
 }))
 
 authority_indexed : blocks.Represents get_table (190 ∷ []) authority get_table
-authority_indexed = by_index get_table 190 62 authority (short 7 1 190 62 (record { first = 190; is = refl; low_bits = refl; not_ones = omega arith }) refl) authority_at
+authority_indexed = by_index get_table 190 62 authority sixty_two authority_at
 
 -- the other fields of a GET stand in front
 get_with : (fields : List Field) (rest : List ℕ) (next : Table) → blocks.Represents (record { fields = fields; maximum = 4096 }) rest authority next

@@ -25,6 +25,7 @@ use Rattle.model.proofs.Http1Readings.{one_head}
 use Rattle.model_examples.proofs.RowTapes.{by_whole, by_streaming, frame, plain, headed, field, get, get_block, post, post_block, begun, got, reset}
 use Rattle.model_examples.proofs.RequestRefusals.{five, five_block, five_text, invents}
 use Rattle.model_examples.proofs.Refusals.{closes_at_once}
+use Rattle.model_examples.proofs.CauseExamples.{expect_octets}
 use Rattle.model.proofs.FirstLog as first
 use Rattle.model_examples.proofs.BeginningExamples.{known}
 use Rattle.model_examples.proofs.HeadlineExamples as example
@@ -37,7 +38,10 @@ unfolding total_size
 opens_for_reset c = let may = c.in_time.0 in let clash : false ≡ true = may.active in cc
 
 -- It opens one for a stream that it answers itself.
-pub opens_for_answered : RequestsHold by_whole (Did (Open 1 0) ∷ headed (frame 1 5 1 (get_block ++ 15 ∷ 20 ∷ 12 ∷ codes "100-continue")) (get ++ field (codes "expect") (codes "100-continue") ∷ []) ∷ begun) → ⊥
+abbrev expecting : Entry
+expecting = headed (frame 1 5 1 (get_block ++ expect_octets)) (get ++ field (codes "expect") (codes "100-continue") ∷ [])
+
+pub opens_for_answered : RequestsHold by_whole (Did (Open 1 0) ∷ expecting ∷ begun) → ⊥
 unfolding total_size
 opens_for_answered c = let may = c.in_time.0 in let clash : ◌≡◌ {A = Option Cause} (Some Expects) None = may.no_cause in cc
 

@@ -1,2 +1,3 @@
 pub mod Views
 pub mod Waiting
+pub mod HeldInside

@@ -1,3 +1,4 @@
 pub mod Waits
 pub mod Beginning
 pub mod Going
+pub mod HeldInside

@@ -14,9 +14,10 @@ pub record Request : Type 0 where
   pub body : List ℕ
 
 -- How a request lies in one piece of memory with so many octets: its head ends before its body begins, right there where a length was declared;
--- else with room for the line of a chunk between them, once anything stands behind the head.
+-- else with room for the line of a chunk between them, once anything stands behind the head. There is no more room than for one.
 pub record IsLaid (stage : Stage) (head body all : ℕ) : Type 0 where
   pub before : head ≤ body
+  pub gap : body ≤ head + 18
   pub within : body ≤ all
   pub joined : (MayFinish stage → ⊥) → body ≡ head
   pub room : MayFinish stage → head < all → head + 18 ≤ body

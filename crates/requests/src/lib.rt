@@ -2,6 +2,7 @@
 #![tactic(auto)]
 
 mod going;
+pub mod laws;
 mod waiting;
 
 pub use crate::going::Going;

@@ -3,3 +3,4 @@ pub mod Requests
 pub mod Openings
 pub mod Waiting
 pub mod Passed
+pub mod HeldInside

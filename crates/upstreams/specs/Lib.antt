@@ -5,3 +5,4 @@ pub mod Requests
 pub mod Connections
 pub mod Kept
 pub mod Places
+pub mod HeldInside

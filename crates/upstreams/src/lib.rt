@@ -7,6 +7,7 @@
 mod connection;
 mod connections;
 mod held;
+pub mod laws;
 mod upstreams;
 
 pub use crate::connection::Connection;

@@ -1,0 +1,75 @@
+-- How many octets lie in the rooms, and in what they keep as far as the crates that it comes from don't say it themselves (header_blocks, requests, outbox,
+-- answers, upstreams). Each count takes the struct apart by the names of all its fields: what lies in one field more has to be counted here.
+use Rattle.std.specs.Prelude.{ℕ, ◌+◌, length, sum_by}
+use Rattle.model.specs.Tables.{total_size}
+use Rattle.conduct.specs.Held.{octets_begun}
+use Rattle.offering.specs.Held.{octets_in, octets_held, octets_of_fields}
+use Rattle.offering.specs.State.{Kept}
+use Rattle.serving.specs.Held.{held_of_all}
+use Rattle.h1_reader.specs.HeadSizes.{field_octets}
+use Rattle.header_blocks.specs.HeldInside as blocks
+use Rattle.upstreams.specs.HeldInside.{answers_in}
+use Rattle.hpack_table.specs.declared.field.Field.TheInside.{Inside as FieldInside}
+use Rattle.hpack_table.specs.declared.table.Table.TheInside.{Inside as TableInside}
+use Rattle.response_texts.specs.declared.passed.ResponseHead.TheInside.{Inside as HeadInside}
+use Rattle.response_texts.specs.declared.passed.Trailers.TheInside.{Inside as TrailersInside}
+use Rattle.h1_reader.specs.declared.reader.Reader.TheInside.{Inside as ReaderInside}
+use Rattle.judgement.specs.declared.connection.Connection.TheInside.{Inside as ConnectionInside}
+use Rattle.marks_kept.specs.declared.marks.Marks.TheInside.{Inside as MarksInside}
+use Rattle.marks_kept.specs.declared.side.Side.TheInside.{Inside as SideInside}
+use Rattle.offers.specs.declared.kept.Kept.TheInside.{Inside as KeptInside}
+use Rattle.offers.specs.declared.offers.Offers.TheInside.{Inside as OffersInside}
+use Rattle.relay.specs.declared.rooms.Rooms.TheInside.{Inside as RoomsInside}
+use Rattle.streams_kept.specs.declared.Streams.TheInside.{Inside as StreamsInside}
+
+-- ---- fields, heads and trailers
+
+-- in a field: its name and its value are one list
+abbrev pub in_field : FieldInside → ℕ
+in_field = λ record { text = text; split = split }. length text.items
+
+-- in a table of fields, whose index has numbers alone
+abbrev pub in_table : TableInside → ℕ
+in_table = λ record { fields = fields; size = size; maximum = maximum; index = index }. octets_of_fields fields
+
+-- in a head, and in trailers
+abbrev pub in_head : HeadInside → ℕ
+in_head = λ record { status = status; fields = fields }. octets_of_fields fields.items
+
+abbrev pub in_trailers : TrailersInside → ℕ
+in_trailers = λ record { lines = lines }. octets_of_fields lines.items
+
+-- in a reader of a response: what it holds unread, and the fields Connection of its head; its spans are numbers
+abbrev pub in_reader : ReaderInside → ℕ
+in_reader = λ record { alloc = alloc; to_head = to_head; place = place; held = held; connections = connections; spans = spans }.
+    length held.items + field_octets connections.items
+
+-- ---- rooms
+
+-- in what is kept for the client's frames: its header block that isn't complete, and its table
+abbrev pub in_connection : ConnectionInside → ℕ
+in_connection = λ record { has_come = has_come; joiner = joiner; continuations = continuations; settings = settings; window = window; room = room; streams = streams; resets = resets; last = last; decoder = decoder; alloc = alloc }.
+    blocks.octets_begun joiner.begun + total_size decoder.table.fields
+
+-- in the streams that were opened: no octets
+abbrev pub in_streams : StreamsInside → ℕ
+in_streams = λ record { entries = entries; records = records }. 0
+
+-- in what is kept of a stream's response, and of all: what is on offer
+abbrev pub in_kept : KeptInside → ℕ
+in_kept = λ record { id = id; outbox = outbox; cut = cut }. octets_in outbox
+
+abbrev pub in_offers : OffersInside → ℕ
+in_offers = λ record { alloc = alloc; kept = kept; last = last; offered = offered }. sum_by (λ (k : Kept). octets_in k.box) kept.items
+
+-- in what waits of a stream's DATA, and of all: no octets, but numbers of them
+abbrev pub in_side : SideInside → ℕ
+in_side = λ record { id = id; number = number; put_out = put_out; taken = taken; queue = queue }. 0
+
+abbrev pub in_marks : MarksInside → ℕ
+in_marks = λ record { alloc = alloc; sides = sides }. 0
+
+-- in all rooms
+abbrev pub in_rooms : RoomsInside → ℕ
+in_rooms = λ record { inbound = inbound; offers = offers; upstreams = upstreams; marks = marks; encoder = encoder; untaken = untaken }.
+    octets_begun inbound.block + total_size inbound.table.fields + total_size encoder.table.fields + (octets_held offers + held_of_all upstreams.held + answers_in upstreams.live)

@@ -2,9 +2,9 @@
 
 use std::alloc::{AllocError, Global};
 use std::io;
-use std::io::{ErrorKind, Read, Write};
+use std::io::{ErrorKind, Read};
 use std::test::*;
-use transfers::{Got, Outgoing, PutFault, read_piece};
+use transfers::{Got, Outgoing, PutFault, Socket, read_piece};
 
 /// A socket that takes so many octets and no more, three at a time, and then would wait.
 #[derive(Drop)]
@@ -13,8 +13,18 @@ struct Narrow {
     room: usize,
 }
 
-impl Write for Narrow {
-    fn write(&mut self, octets: &[u8]) -> io::Result<usize> {
+impl Socket for Narrow {
+    ghost use Rattle.std.specs.Prelude.{None};
+
+    ghost left = { λ _. None };
+
+    ghost held = { λ _. None };
+
+    fn receive(&mut self, _room: &mut [u8]) -> io::Result<usize> {
+        Err(io::Error::from(ErrorKind::WouldBlock))
+    }
+
+    fn send(&mut self, octets: &[u8]) -> io::Result<usize> {
         let count = octets.len().min(3).min(self.room);
         if count == 0 && !octets.is_empty() {
             return Err(io::Error::from(ErrorKind::WouldBlock));
@@ -23,28 +33,46 @@ impl Write for Narrow {
         self.room -= count;
         Ok(count)
     }
-
-    fn flush(&mut self) -> io::Result<()> {
-        Ok(())
-    }
 }
 
-/// A socket that failed.
+/// A socket that failed: each call says so.
 #[derive(Drop)]
 struct Broken;
 
-impl Write for Broken {
-    fn write(&mut self, _octets: &[u8]) -> io::Result<usize> {
+impl Socket for Broken {
+    ghost use Rattle.std.specs.Prelude.{None};
+
+    ghost left = { λ _. None };
+
+    ghost held = { λ _. None };
+
+    fn receive(&mut self, _room: &mut [u8]) -> io::Result<usize> {
         Err(io::Error::from(ErrorKind::ConnectionReset))
     }
 
-    fn flush(&mut self) -> io::Result<()> {
-        Ok(())
+    fn send(&mut self, _octets: &[u8]) -> io::Result<usize> {
+        Err(io::Error::from(ErrorKind::ConnectionReset))
     }
 }
 
-impl Read for Broken {
-    fn read(&mut self, _buffer: &mut [u8]) -> io::Result<usize> {
+/// A socket that takes nothing, whose peer sent these octets, and then no more.
+#[derive(Drop)]
+struct Spoken<'a> {
+    text: &'a [u8],
+}
+
+impl Socket for Spoken<'_> {
+    ghost use Rattle.std.specs.Prelude.{None};
+
+    ghost left = { λ _. None };
+
+    ghost held = { λ _. None };
+
+    fn receive(&mut self, room: &mut [u8]) -> io::Result<usize> {
+        self.text.read(room)
+    }
+
+    fn send(&mut self, _octets: &[u8]) -> io::Result<usize> {
         Err(io::Error::from(ErrorKind::WouldBlock))
     }
 }
@@ -138,18 +166,33 @@ fn what_a_socket_does_not_take_waits(rt: HostRuntime) -> Result<(), Fail> {
     Ok(())
 }
 
-/// Whether a broken socket takes nothing of these octets, and nothing waits then.
-fn takes_nothing(alloc: Global, octets: &[u8]) -> bool {
+/// Whether a call failed as the broken socket does.
+fn is_reset<T>(answer: &io::Result<T>) -> bool {
+    matches!(answer, Err(error) if error.kind() == ErrorKind::ConnectionReset)
+}
+
+/// Whether a broken socket takes nothing of these octets, so that none wait, and then nothing of those that do wait. Each call says that it failed.
+fn takes_nothing(alloc: Global, octets: &[u8]) -> Result<bool, AllocError> {
     let mut out = Outgoing::new(alloc);
-    matches!(out.put(&mut Broken, octets), Err(PutFault::Socket(_)))
-        && out.flush(&mut Broken).is_err()
-        && out.waiting() == 0
-        && out.tell(0) == 0
+    let put = out.put(&mut Broken, octets);
+    if !matches!(put, Err(PutFault::Socket(error)) if error.kind() == ErrorKind::ConnectionReset) {
+        return Ok(false);
+    }
+    let waited = out.waiting();
+    out.gather(octets)?;
+    Ok(
+        waited == 0
+            && is_reset(&out.flush(&mut Broken))
+            && is_reset(&out.flush_all(&mut Broken))
+            && out.waiting() == octets.len()
+            && out.tell(0) == 0,
+    )
 }
 
 #[test]
-fn a_broken_socket_takes_nothing(rt: HostRuntime) {
-    assert!(rt; takes_nothing(rt.alloc(), b"a"));
+fn a_broken_socket_takes_nothing(rt: HostRuntime) -> Result<(), Fail> {
+    assert!(rt; takes_nothing(rt.alloc(), b"a")?);
+    Ok(())
 }
 
 /// Whether what was got is this piece, or the end where there is none.
@@ -163,7 +206,7 @@ fn is_piece(got: &Got, piece: Option<&[u8]>) -> bool {
 
 /// Whether a text comes in these pieces, of three octets at most, and then ends.
 fn comes_in(alloc: Global, text: &[u8], pieces: &[&[u8]]) -> io::Result<bool> {
-    let mut socket = text;
+    let mut socket = Spoken { text };
     let mut buffer = [0u8; 3];
     for piece in pieces {
         if !is_piece(&read_piece(alloc, &mut socket, &mut buffer)?, Some(piece)) {
@@ -173,15 +216,25 @@ fn comes_in(alloc: Global, text: &[u8], pieces: &[&[u8]]) -> io::Result<bool> {
     Ok(is_piece(&read_piece(alloc, &mut socket, &mut buffer)?, None))
 }
 
+/// Whether a read that fails says so.
+fn fails(alloc: Global) -> bool {
+    is_reset(&read_piece(alloc, &mut Broken, &mut [0u8; 3]))
+}
+
 /// Whether a socket that would wait gives nothing.
 fn gives_nothing(alloc: Global) -> io::Result<bool> {
     let mut buffer = [0u8; 3];
-    Ok(matches!(read_piece(alloc, &mut Broken, &mut buffer)?, Got::Nothing))
+    let mut socket = Narrow {
+        taken: Vec::new(alloc),
+        room: 0,
+    };
+    Ok(matches!(read_piece(alloc, &mut socket, &mut buffer)?, Got::Nothing))
 }
 
 #[test]
 fn pieces_are_read(rt: HostRuntime) -> Result<(), Fail> {
     assert!(rt; comes_in(rt.alloc(), b"abcde", &[b"abc", b"de"])?);
     assert!(rt; gives_nothing(rt.alloc())?);
+    assert!(rt; fails(rt.alloc()));
     Ok(())
 }

@@ -24,6 +24,14 @@ pub fn serve_clients(rt: &HostRuntime, setting: &Setting) -> Result<(), Stop>
         return Err(Stop::Bind);
     };
     println!(rt; "listening {address}").map_err(|_| Stop::Print)?;
+    serve_at(rt, setting, &listener)
+}
+
+/// Serves the connections of clients at a listener, one after another.
+pub fn serve_at(rt: &HostRuntime, setting: &Setting, listener: &TcpListener) -> Result<(), Stop>
+    requires { IsServable (setup_of setting.now.config) }
+    ensures { IfErr result (λ stop. 2 ≤ status_of stop) }
+{
     for _connection in 0..setting.connections {
         match listener.accept() {
             Ok((client, _address)) => serve_client(rt, setting, client)?,

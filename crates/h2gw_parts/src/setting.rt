@@ -15,9 +15,11 @@ use command_line::{GatewayWords, read_arguments, read_gateway_words};
 use configuration::{ConfigFault, Key, read_config};
 use gateway::{Config, Route};
 use std::alloc::Global;
+use std::env::Env;
 use std::fs;
 use std::io::ErrorKind;
 use std::net::SocketAddr;
+use std::rt::Files;
 
 /// What the program is set up with.
 #[derive(Drop)]
@@ -35,7 +37,7 @@ pub struct Setting {
 }
 
 /// Reads the command line, and then the configuration that it names. The address is judged before the configuration.
-pub fn read_setting(rt: &HostRuntime) -> Result<Setting, Stop>
+pub fn read_setting<R: Env + Files + AllocGlobal>(rt: &R) -> Result<Setting, Stop>
     ensures servable { IfOk result (λ setting. IsServable (setup_of setting.config)) }
     ensures addresses { IfOk result (λ setting. AreAddresses setting.config.routes.items setting.addresses.items) }
     ensures stops { IfErr result (λ stop. IsSettingStop stop) }
@@ -46,7 +48,7 @@ pub fn read_setting(rt: &HostRuntime) -> Result<Setting, Stop>
 }
 
 /// Reads the configuration that the words name: all else is as they say. The address is judged before the configuration is read.
-fn read_setting_of(rt: &HostRuntime, words: &GatewayWords) -> Result<Setting, Stop>
+fn read_setting_of<R: Files + AllocGlobal>(rt: &R, words: &GatewayWords) -> Result<Setting, Stop>
     ensures servable { IfOk result (λ setting. IsServable (setup_of setting.config)) }
     ensures addresses { IfOk result (λ setting. AreAddresses setting.config.routes.items setting.addresses.items) }
     ensures listen { IfOk result (λ setting. IsSocketText (string_bytes words.now.listen) setting.listen) }
@@ -93,7 +95,7 @@ fn setting_of(
 }
 
 /// Reads the command line.
-fn read_command_line(rt: &HostRuntime) -> Result<GatewayWords, Stop>
+fn read_command_line<R: Env + AllocGlobal>(rt: &R) -> Result<GatewayWords, Stop>
     ensures { IfErr result (λ stop. IsWordsStop stop) }
 {
     let arguments = read_arguments(rt)?;

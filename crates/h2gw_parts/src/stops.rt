@@ -1,12 +1,14 @@
 //! Why the program stops.
 
-ghost use Rattle.std.specs.Prelude.{◌≡◌, ◌⊎◌, if◌then◌else◌, is_ok, max};
-ghost use Rattle.h2gw_parts.specs.Stops.{status_of};
+ghost use Rattle.std.specs.Prelude.{◌≡◌, ◌⊎◌, ◌++◌, codes, if◌then◌else◌, is_ok, max, Some, None, IfSome, IfNone};
+ghost use Rattle.command_line.specs.Values.{name_of};
+ghost use Rattle.h2gw_parts.specs.Stops.{line_of, status_of};
 
 use command_line::{Word, WordsFault};
 use configuration::ConfigFault;
 use std::alloc::AllocError;
 use std::io;
+use std::io::{Eprint, Print};
 
 /// Why the program stops before all connections were served.
 #[derive(Debug, Drop)]
@@ -53,6 +55,52 @@ impl Stop {
             Stop::Memory => 3,
         }
     }
+
+    /// What the program says of it, in one line without its end. Of a command line that is refused the words' own text is printed, and where nothing can be
+    /// printed nothing is said.
+    pub fn line(&self) -> Option<&'static str>
+        ensures said { IfSome result (λ line. line_of self.now ≡ Some line.now) }
+        ensures silent { IfNone result (line_of self.now ≡ None) }
+    {
+        match self {
+            Stop::Words(_) | Stop::Print => None,
+            Stop::Missing(word) => Some(missing(*word)),
+            Stop::NotANumber(word) => Some(not_a_number(*word)),
+            Stop::NotUtf8 => Some("arguments: not UTF-8"),
+            Stop::BadAddress => Some("listen: bad address"),
+            Stop::NoConfig => Some("config: cannot read"),
+            Stop::Config(fault) => Some(fault.line()),
+            Stop::Bind => Some("listen: cannot bind"),
+            Stop::Accept => Some("listen: cannot accept"),
+            Stop::Memory => Some("no memory"),
+        }
+    }
+}
+
+/// What is said of a value that is missing.
+fn missing(word: Word) -> &'static str
+    ensures { result.now ≡ name_of word ++ codes ": missing" }
+{
+    match word {
+        Word::Config => "config: missing",
+        Word::Listen => "listen: missing",
+        Word::Connections => "connections: missing",
+        Word::Turns => "turns: missing",
+        Word::Script => "script: missing",
+    }
+}
+
+/// What is said of a value that is no number.
+fn not_a_number(word: Word) -> &'static str
+    ensures { result.now ≡ name_of word ++ codes ": not a number" }
+{
+    match word {
+        Word::Config => "config: not a number",
+        Word::Listen => "listen: not a number",
+        Word::Connections => "connections: not a number",
+        Word::Turns => "turns: not a number",
+        Word::Script => "script: not a number",
+    }
 }
 
 impl From<AllocError> for Stop {
@@ -85,21 +133,13 @@ impl From<WordsFault> for Stop {
 
 /// Says why the program stops, in one line on standard error; help goes to standard output. The answer is the exit status; where
 /// that can't be said, it is 2 at least.
-pub fn report(rt: &HostRuntime, stop: &Stop) -> u8
+pub fn report<R: Print + Eprint>(rt: &R, stop: &Stop) -> u8
     ensures { (result ≡ status_of stop.now) ⊎ (result ≡ max (status_of stop.now) 2) }
 {
-    let printed = match stop {
-        Stop::Words(error) => error.print(rt),
-        Stop::Missing(word) => eprintln!(rt; "{}: missing", word.name()),
-        Stop::NotANumber(word) => eprintln!(rt; "{}: not a number", word.name()),
-        Stop::NotUtf8 => rt.eprintln("arguments: not UTF-8"),
-        Stop::BadAddress => rt.eprintln("listen: bad address"),
-        Stop::NoConfig => rt.eprintln("config: cannot read"),
-        Stop::Config(fault) => rt.eprintln(fault.line()),
-        Stop::Bind => rt.eprintln("listen: cannot bind"),
-        Stop::Accept => rt.eprintln("listen: cannot accept"),
-        Stop::Print => Ok(()),
-        Stop::Memory => rt.eprintln("no memory"),
+    let printed = match (stop.line(), stop) {
+        (Some(line), _) => rt.eprintln(line),
+        (None, Stop::Words(error)) => error.print(rt),
+        (None, _) => Ok(()),
     };
     status_said(stop, printed)
 }

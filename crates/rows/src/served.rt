@@ -57,7 +57,7 @@ struct Quiet {
 }
 
 impl World for Quiet {
-    ghost use Rattle.std.specs.Prelude.{None};
+    ghost use Rattle.std.specs.Prelude.{None, true};
 
     ghost calls = { λ world. world.turn };
 
@@ -68,6 +68,8 @@ impl World for Quiet {
     ghost log = { λ _. None };
 
     ghost handed = { λ _. None };
+
+    ghost keeps_rooms = { λ _. true };
 
     fn next(&mut self, _rooms: &[(u32, usize)]) -> Result<Next, WorldFault> {
         let turn = self.turn;

@@ -1,3 +1,5 @@
+pub mod Passed
 pub mod Performing
 pub mod Rising
 pub mod Moving
+pub mod Events

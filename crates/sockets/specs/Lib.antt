@@ -2,3 +2,4 @@ pub mod Rooms
 pub mod Putting
 pub mod Sides
 pub mod Performed
+pub mod Leaving

@@ -1,5 +1,5 @@
 -- Room for octets of upstreams.
-use Rattle.std.specs.Prelude.{ℕ, ◌==◌, List, [], ◌∷◌, if◌then◌else◌}
+use Rattle.std.specs.Prelude.{◌==◌, ℕ, List, [], ◌∷◌, if◌then◌else◌}
 
 -- the room of a connection, and none where it isn't listed
 abbrev pub room_in : ℕ → List (ℕ × ℕ) → ℕ

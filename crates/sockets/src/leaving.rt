@@ -1,7 +1,10 @@
 //! How long a client is left.
 
-use std::io;
-use std::time::{Clock, Duration, Instant};
+ghost use Rattle.std.specs.Prelude.{◌≡◌, ◌<◌, IfSome, IfNone};
+ghost use Rattle.std.specs.Duration.{as_nanos};
+ghost use Rattle.sockets.specs.Leaving.{time_left, waits};
+
+use std::time::{Duration, Instant};
 
 /// So many seconds the socket of a client that is left may take nothing of what waits for it.
 const TO_TAKE: u64 = 60;
@@ -18,40 +21,46 @@ pub struct Leaving {
     waiting: usize,
     /// When its socket last took some, or it began to be left.
     taken: Instant,
-    /// When something last came of it.
+    /// When something last came of it, or its socket took some.
     heard: Instant,
 }
 
 impl Leaving {
-    /// A client begins to be left, for which so many octets wait.
-    pub fn begin(clock: &impl Clock, waiting: usize) -> io::Result<Leaving> {
-        let now = Instant::now(clock)?;
-        Ok(Leaving {
+    /// A client begins to be left now, for which so many octets wait.
+    pub fn begin(now: Instant, waiting: usize) -> Leaving
+        ensures { result ≡ record { waiting = waiting; taken = now; heard = now } }
+    {
+        Leaving {
             waiting,
             taken: now,
             heard: now,
-        })
+        }
     }
 
     /// Notes how many octets wait for it now.
-    pub fn note_waiting(&mut self, clock: &impl Clock, waiting: usize) -> io::Result<()> {
+    pub fn note_waiting(&mut self, now: Instant, waiting: usize)
+        ensures { self.new ≡ waits now waiting self.old }
+    {
         if waiting < self.waiting {
-            self.taken = Instant::now(clock)?;
-            self.heard = self.taken;
+            self.taken = now;
+            self.heard = now;
         }
         self.waiting = waiting;
-        Ok(())
     }
 
-    /// Notes that something came of it.
-    pub fn note_heard(&mut self, clock: &impl Clock) -> io::Result<()> {
-        self.heard = Instant::now(clock)?;
-        Ok(())
+    /// Notes that something came of it now.
+    pub fn note_heard(&mut self, now: Instant)
+        ensures { self.new ≡ record self.old { heard = now } }
+    {
+        self.heard = now;
     }
 
     /// How long it is waited for yet, if it is.
-    pub fn remaining(&self, clock: &impl Clock) -> io::Result<Option<Duration>> {
-        let now = Instant::now(clock)?;
+    pub fn remaining(&self, now: Instant) -> Option<Duration>
+        ensures left { IfSome result (λ most. as_nanos most ≡ time_left now self.now) }
+        ensures some { IfSome result (λ _. 0 < time_left now self.now) }
+        ensures over { IfNone result (time_left now self.now ≡ 0) }
+    {
         let since_taken = now.duration_since(self.taken);
         let remaining = if self.waiting > 0 {
             Duration::from_secs(TO_TAKE).saturating_sub(since_taken)
@@ -61,10 +70,10 @@ impl Leaving {
                 .saturating_sub(silent)
                 .min(Duration::from_secs(TO_END).saturating_sub(since_taken))
         };
-        Ok(if remaining.is_zero() {
+        if remaining.is_zero() {
             None
         } else {
             Some(remaining)
-        })
+        }
     }
 }

@@ -1,22 +1,22 @@
 //! One socket, and what is known of it.
 
-ghost use Rattle.std.specs.Prelude.{◌≡◌, ◌+◌, ◌<◌, ◌↔◌, ◌&&◌, [], true, false, not, length, IsTrue, IfOk, OnOk};
-ghost use Rattle.sockets.specs.Putting.{PutsOut, PutsFront, Drains};
+ghost use Rattle.std.specs.Prelude.{◌≡◌, ◌+◌, ◌<◌, ◌↔◌, ◌&&◌, ◌||◌, [], true, false, not, length, IsTrue, IfOk, OnOk, OnErr};
+ghost use Rattle.mio.specs.Interest.{is_readable, is_writable};
+ghost use Rattle.sockets.specs.Putting.{Passes, PassesFront};
 ghost use Rattle.sockets.specs.Sides.{noted, given_up, is_left};
-ghost use Rattle.transfers.specs.Transfers.{nothing_put, told, told_count};
+ghost use Rattle.transfers.specs.Transfers.{Gives, nothing_put, told, told_count};
 
+use crate::wire::Wire;
 use mio::event::Event;
-use mio::net::TcpStream;
 use mio::{Interest, Registry, Token};
 use std::alloc::Global;
 use std::io;
-use std::net::Shutdown;
 use transfers::{Got, Outgoing, PutFault, read_piece};
 
 /// A socket that doesn't wait, with what is on its way out to it and what was reported of it.
 #[derive(Drop)]
-pub struct Side {
-    socket: TcpStream,
+pub struct Side<S> {
+    socket: S,
     token: Token,
     out: Outgoing,
     /// It may have something to be read: octets, or its end.
@@ -31,30 +31,31 @@ pub struct Side {
     shut: bool,
     /// The last write took less than all, and it wasn't reported since that it takes octets again.
     full: bool,
-    /// It is reported too once it takes octets again.
-    watched: bool,
+    /// What it is reported for: that it takes octets again too, once a write took less than all.
+    interests: Interest,
     /// From so many octets on what was put out is written at once.
     least: usize,
 }
 
-impl Side {
+impl<S: Wire> Side<S> {
     /// A socket, which is reported under a token from now on. Octets that are put out are written once there are so many, and
     /// others at the next `flush`; what is written goes out at once.
     pub fn new(
         alloc: Global,
         registry: &Registry,
-        mut socket: TcpStream,
+        mut socket: S,
         token: Token,
         least: usize,
-    ) -> io::Result<Side>
+    ) -> io::Result<Side<S>>
         ensures nothing { IfOk result (λ side. side.out ≡ nothing_put) }
         ensures least { IfOk result (λ side. side.least ≡ least) }
         ensures token { IfOk result (λ side. side.token ≡ token) }
         ensures unheard { IfOk result (λ side. (side.readable ≡ false) × (side.hung_up ≡ false) × (side.ended ≡ false) × (side.lost ≡ false)) }
-        ensures unwritten { IfOk result (λ side. (side.shut ≡ false) × (side.full ≡ false) × (side.watched ≡ false)) }
+        ensures unwritten { IfOk result (λ side. (side.shut ≡ false) × (side.full ≡ false)) }
+        ensures interests { IfOk result (λ side. (is_readable side.interests ≡ true) × (is_writable side.interests ≡ false)) }
     {
-        socket.set_nodelay(true)?;
-        registry.register(&mut socket, token, Interest::READABLE)?;
+        let interests = Interest::READABLE;
+        socket.begin(registry, token, interests)?;
         Ok(Side {
             socket,
             token,
@@ -65,7 +66,7 @@ impl Side {
             lost: false,
             shut: false,
             full: false,
-            watched: false,
+            interests,
             least,
         })
     }
@@ -81,7 +82,7 @@ impl Side {
     pub fn tell(&mut self, least: u64) -> u64
         ensures count { result ≡ told_count least self.old.out }
         ensures told { self.new ≡ record self.old { out = told least self.old.out } }
-        ensures drains { Drains self.old.out self.new.out }
+        ensures passes { Passes (S.held self.old.socket) (S.held self.new.socket) [] result self.old.out self.new.out }
     {
         self.out.tell(least)
     }
@@ -136,9 +137,11 @@ impl Side {
 
     /// Puts octets out.
     pub fn put(&mut self, registry: &Registry, octets: &[u8]) -> Result<(), PutFault>
-        ensures puts { OnOk result (PutsOut self.old.out octets.now self.new.out) }
-        ensures front { PutsFront self.old.out octets.now self.new.out }
-        ensures stays { self.new ≡ record self.old { socket = self.new.socket; out = self.new.out; full = self.new.full; watched = self.new.watched } }
+        ensures puts { OnOk result (Passes (S.held self.old.socket) (S.held self.new.socket) octets.now 0 self.old.out self.new.out) }
+        ensures front { PassesFront (S.held self.old.socket) (S.held self.new.socket) octets.now self.old.out self.new.out }
+        ensures left { S.left self.new.socket ≡ S.left self.old.socket }
+        ensures heard { is_readable self.old.interests ≡ true → is_readable self.new.interests ≡ true }
+        ensures stays { self.new ≡ record self.old { socket = self.new.socket; out = self.new.out; full = self.new.full; interests = self.new.interests } }
     {
         if self.out.waiting() == 0 && octets.len() >= self.least {
             self.out.put(&mut self.socket, octets)?;
@@ -153,8 +156,10 @@ impl Side {
 
     /// Writes what waits, if the socket may take it.
     pub fn flush(&mut self, registry: &Registry) -> io::Result<()>
-        ensures puts { PutsOut self.old.out [] self.new.out }
-        ensures stays { self.new ≡ record self.old { socket = self.new.socket; out = self.new.out; full = self.new.full; watched = self.new.watched } }
+        ensures puts { Passes (S.held self.old.socket) (S.held self.new.socket) [] 0 self.old.out self.new.out }
+        ensures left { S.left self.new.socket ≡ S.left self.old.socket }
+        ensures heard { is_readable self.old.interests ≡ true → is_readable self.new.interests ≡ true }
+        ensures stays { self.new ≡ record self.old { socket = self.new.socket; out = self.new.out; full = self.new.full; interests = self.new.interests } }
     {
         if !self.full && self.out.waiting() > 0 {
             self.out.flush(&mut self.socket)?;
@@ -165,7 +170,9 @@ impl Side {
 
     /// Writes what waits until a write takes nothing.
     pub fn finish(&mut self) -> io::Result<()>
-        ensures puts { PutsOut self.old.out [] self.new.out }
+        ensures puts { Passes (S.held self.old.socket) (S.held self.new.socket) [] 0 self.old.out self.new.out }
+        ensures left { S.left self.new.socket ≡ S.left self.old.socket }
+        ensures heard { is_readable self.old.interests ≡ true → is_readable self.new.interests ≡ true }
         ensures stays { self.new ≡ record self.old { socket = self.new.socket; out = self.new.out } }
     {
         self.out.flush_all(&mut self.socket)
@@ -174,10 +181,12 @@ impl Side {
     /// Tells it that nothing more is written.
     pub fn shut(&mut self) -> io::Result<()>
         ensures shut { OnOk result (self.new.shut ≡ true) }
+        ensures left { S.left self.new.socket ≡ S.left self.old.socket }
+        ensures held { S.held self.new.socket ≡ S.held self.old.socket }
         ensures stays { self.new ≡ record self.old { socket = self.new.socket; shut = self.new.shut } }
     {
         if !self.shut {
-            self.socket.shutdown(Shutdown::Write)?;
+            self.socket.shut()?;
             self.shut = true;
         }
         Ok(())
@@ -185,7 +194,10 @@ impl Side {
 
     /// Reads what is there, as far as there is room.
     pub fn read(&mut self, alloc: Global, room: &mut [u8]) -> io::Result<Got>
+        ensures gives { IfOk result (λ got. Gives (S.left self.old.socket) (S.left self.new.socket) (length room.old) got) }
+        ensures held { S.held self.new.socket ≡ S.held self.old.socket }
         ensures ended { IfOk result (λ got. IsTrue self.new.ended ↔ (got ≡ Got.End)) }
+        ensures failed { OnErr result (self.new.ended ≡ self.old.ended) }
         ensures readable { IfOk result (λ got. self.new.readable ≡ is_left (length room.old) self.old.hung_up got) }
         ensures stays { self.new ≡ record self.old { socket = self.new.socket; readable = self.new.readable; ended = self.new.ended } }
     {
@@ -202,14 +214,17 @@ impl Side {
     /// Notes behind a write whether octets wait, and has the socket reported once it takes those.
     fn watch(&mut self, registry: &Registry) -> io::Result<()>
         ensures full { IsTrue self.new.full ↔ (0 < length self.old.out.waiting) }
-        ensures stays { self.new ≡ record self.old { socket = self.new.socket; full = self.new.full; watched = self.new.watched } }
+        ensures watched { self.new.full ≡ true → is_writable self.new.interests ≡ true }
+        ensures heard { is_readable self.old.interests ≡ true → is_readable self.new.interests ≡ true }
+        ensures left { S.left self.new.socket ≡ S.left self.old.socket }
+        ensures held { S.held self.new.socket ≡ S.held self.old.socket }
+        ensures stays { self.new ≡ record self.old { socket = self.new.socket; full = self.new.full; interests = self.new.interests } }
     {
         self.full = self.out.waiting() > 0;
-        if self.watched || !self.full {
+        if self.interests.is_writable() || !self.full {
             return Ok(());
         }
-        self.watched = true;
-        let interests = Interest::READABLE | Interest::WRITABLE;
-        registry.reregister(&mut self.socket, self.token, interests)
+        self.interests = Interest::READABLE | Interest::WRITABLE;
+        self.socket.change(registry, self.token, self.interests)
     }
 }

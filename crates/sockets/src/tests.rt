@@ -1,9 +1,9 @@
-ghost use Rattle.std.specs.Prelude.{IfOk};
+ghost use Rattle.std.specs.Prelude.{◌+◌, ◌<◌, ◌^◌, IfOk};
 ghost use Rattle.gateway.specs.Setups.{setup_of, IsServable};
 
 use super::*;
 use crate::side::Side;
-use gateway::{Config, Output, Passing, Policy, Route};
+use gateway::{Config, Event, Output, Passing, Policy, Route, Text};
 use mio::{Events, Poll, Token};
 use std::alloc::{AllocError, Global};
 use std::io::{ErrorKind, Read, Write};
@@ -12,6 +12,7 @@ use std::process::Abort;
 use std::test::*;
 use std::time::Duration;
 use std::{io, mem};
+use transfers::Got;
 use worlds::{Ended, Next, ServeFault, World, WorldFault, serve};
 
 /// The preface, settings without entries, and a GET without a body on stream 1.
@@ -44,6 +45,11 @@ const CHUNKS: [&[u8]; 3] = [
 const CHUNK_FRAMES: &[u8] =
     b"\0\0\x01\x01\x04\0\0\0\x01\x88\0\0\x10\0\x01\0\0\0\x010123456789abcdef";
 
+/// A response that ends with its connection, and the frames that go back.
+const OPEN_ENDED: &[u8] = b"HTTP/1.1 200 OK\r\n\r\nhi";
+
+const OPEN_ENDED_FRAMES: &[u8] = b"\0\0\x01\x01\x04\0\0\0\x01\x88\0\0\x02\0\x01\0\0\0\x01hi";
+
 /// Responses whose length is given twice: the same one, and two.
 const SAME_LENGTHS: &[u8] = b"HTTP/1.1 200 OK\r\nContent-Length: 2\r\nContent-Length: 2\r\n\r\nhi";
 
@@ -59,7 +65,7 @@ const JOINED: &[u8] =
 /// A world of sockets in whose turns a client and an upstream take part, each with one step before each `next`.
 #[derive(Drop)]
 struct Loopback<'a> {
-    world: SocketWorld<'a, HostRuntime>,
+    world: SocketWorld<'a, HostRuntime, mio::net::TcpStream>,
     peers: Peers,
 }
 
@@ -164,7 +170,7 @@ impl Peers {
 }
 
 impl World for Loopback<'_> {
-    ghost use Rattle.std.specs.Prelude.{None, false};
+    ghost use Rattle.std.specs.Prelude.{None, false, true};
 
     ghost calls = { λ w. w.world.calls };
 
@@ -175,6 +181,8 @@ impl World for Loopback<'_> {
     ghost log = { λ _. None };
 
     ghost handed = { λ _. None };
+
+    ghost keeps_rooms = { λ _. true };
 
     fn next(&mut self, rooms: &[(u32, usize)]) -> Result<Next, WorldFault> {
         let _ = self.peers.answer();
@@ -346,6 +354,7 @@ fn a_request_goes_there_and_back(rt: HostRuntime) -> Result<(), Fail> {
 fn responses_go_back_once_they_are_whole(rt: HostRuntime) -> Result<(), Fail> {
     assert_goes_back(&rt, &rt, &[SAME_LENGTHS], FRAMES)?;
     assert_goes_back(&rt, &rt, &[TWO_LENGTHS], BAD_GATEWAY)?;
+    assert_goes_back(&rt, &rt, &[OPEN_ENDED], OPEN_ENDED_FRAMES)?;
     assert_goes_back(&rt, &rt, &[b"junk"], BAD_GATEWAY)?;
     assert_goes_back(&rt, &rt, &CHUNKS, CHUNK_FRAMES)?;
     assert_goes_back(&rt, &rt, &CHUNKS[..2], BAD_GATEWAY)
@@ -425,6 +434,68 @@ fn a_client_that_breaks_off_is_one(rt: HostRuntime) -> Result<(), Fail> {
     Ok(())
 }
 
+/// How the connection with number 1 comes to its end, in as many turns as that takes, if these suffice.
+fn end_of(world: &mut SocketWorld<'_, HostRuntime, mio::net::TcpStream>) -> Option<Event>
+    requires calls { world.old.calls + 20 < 2 ^ 64 }
+    requires failures { world.old.failures + 20 < 2 ^ 64 }
+{
+    for _turn in 0..20 {
+        let Ok(Next::Happened(event)) = world.next(&[(1, 65536)]) else {
+            return None;
+        };
+        if matches!(event, Event::UpEnd(_) | Event::UpFailed(_)) {
+            return Some(event);
+        }
+    }
+    None
+}
+
+#[test]
+fn an_upstream_that_breaks_off_has_failed(rt: HostRuntime) -> Result<(), Fail> {
+    let upstream = TcpListener::bind(&rt, SocketAddr::from((Ipv4Addr::LOCALHOST, 0)))?;
+    let addresses = [upstream.local_addr()?];
+    let (_client, far) = pair(&rt)?;
+    let far = mio::net::TcpStream::from_std(far);
+    let mut world = SocketWorld::new(rt.alloc(), &rt, &addresses, far)?;
+    let opened = world.apply(&Output::Open(1, 0));
+    assert_eq!(rt; opened, Ok(()));
+    let text = Text::from_octets(Vec::from_slice(rt.alloc(), TEXT)?);
+    let sent = world.apply(&Output::Up(1, text));
+    assert_eq!(rt; sent, Ok(()));
+    let (mut socket, _address) = upstream.accept()?;
+    socket.write_all(OPEN_ENDED)?;
+    // What it was sent lies unread, so that it doesn't end its connection but resets it.
+    mem::drop(socket);
+    assert!(rt; matches!(end_of(&mut world), Some(Event::UpFailed(1))));
+    Ok(())
+}
+
+/// As many connections as fill the queue of a listener that accepts none.
+fn crowd(rt: &HostRuntime, address: SocketAddr) -> io::Result<Vec<mio::net::TcpStream>> {
+    let mut all = Vec::new(rt.alloc());
+    for _ in 0..200 {
+        all.push(mio::net::TcpStream::connect(rt, address)?)?;
+    }
+    Ok(all)
+}
+
+#[test]
+fn a_world_waits_until_something_comes(rt: HostRuntime) -> Result<(), Fail> {
+    let upstream = quiet_listener(&rt)?;
+    let addresses = [upstream.local_addr()?];
+    let _crowd = crowd(&rt, addresses[0])?;
+    let (_client, far) = pair(&rt)?;
+    let far = mio::net::TcpStream::from_std(far);
+    let mut world = SocketWorld::new(rt.alloc(), &rt, &addresses, far)?;
+    let opened = world.apply(&Output::Open(1, 0));
+    assert_eq!(rt; opened, Ok(()));
+    // The first try isn't answered. The next one, a second later, is refused, since nobody listens any more: until then nothing comes.
+    mem::drop(upstream);
+    let next = world.next(&[(1, 65536)]);
+    assert!(rt; matches!(next, Ok(Next::Happened(Event::UpFailed(1)))));
+    Ok(())
+}
+
 /// The request on three streams.
 const THREE: &[u8] =
     b"PRI * HTTP/2.0\r\n\r\nSM\r\n\r\n\0\0\0\x04\0\0\0\0\0\0\0\x14\x01\x05\0\0\0\x01\x82\x86\x84\x41\x0fwww.example.com\0\0\x04\x01\x05\0\0\0\x03\x82\x86\x84\xbe\0\0\x04\x01\x05\0\0\0\x05\x82\x86\x84\xbe";
@@ -497,11 +568,26 @@ fn a_client_that_sends_on_reads_why_it_was_left(rt: HostRuntime) -> Result<(), F
     Ok(())
 }
 
+#[test]
+fn a_side_that_is_shut_still_hears(rt: HostRuntime) -> Result<(), Fail> {
+    let (near, mut far) = pair(&rt)?;
+    let poll = Poll::new(&rt)?;
+    let near = mio::net::TcpStream::from_std(near);
+    let mut side = Side::new(rt.alloc(), poll.registry(), near, Token(1), 1000)?;
+    side.shut()?;
+    let mut room = [0u8; 4];
+    assert!(rt; matches!(far.read(&mut room), Ok(0)));
+    far.write_all(b"x")?;
+    let got = side.read(rt.alloc(), &mut room)?;
+    assert!(rt; matches!(&got, Got::Octets(octets) if octets.as_slice() == b"x".as_slice()));
+    Ok(())
+}
+
 /// What the other end of a socket reads, with what is reported in between, until it has so many octets.
 fn read_slowly(
     poll: &mut Poll,
     reports: &mut Events,
-    side: &mut Side,
+    side: &mut Side<mio::net::TcpStream>,
     far: &mut TcpStream,
     most: usize,
     read: &mut Vec<u8>,
@@ -524,7 +610,7 @@ fn read_slowly(
     Ok(())
 }
 
-fn note_all(reports: &Events, side: &mut Side) {
+fn note_all(reports: &Events, side: &mut Side<mio::net::TcpStream>) {
     for report in reports {
         side.note(report);
     }

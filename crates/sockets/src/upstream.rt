@@ -1,24 +1,32 @@
 //! The connections to upstreams.
 
-ghost use Rattle.std.specs.Prelude.{◌≡◌, ◌&&◌, ◌||◌, [], false, not, Some, IfOk, IsOkAnd, OnOk, IfSome, IfNone};
-ghost use Rattle.sockets.specs.Sides.{may_be_ready, owes, is_ready, is_deaf, Sends, SendsFront, GoesOn, IsOf, heard_of, note_side, side_told, count_told, side_given_up, out_of, KeepsHeard};
+ghost use Rattle.std.specs.Prelude.{◌≡◌, ◌≢◌, ◌<◌, ◌↔◌, ◌&&◌, ◌||◌, [], false, not, length, Some, Ok, Err, IsTrue, IfOk, IsOkAnd, OnOk, OnErr, IfSome, IfNone};
+ghost use Rattle.std.specs.declared.io.Error.{Error};
+ghost use Rattle.std.specs.declared.result.Result.{Result};
+ghost use Rattle.transfers.specs.declared.incoming.Got.{Got};
+ghost use Rattle.sockets.specs.Performed.{Sends, GoesBy, FitsRoom};
+ghost use Rattle.sockets.specs.Sides.{no_news, lost_news, took_news, may_be_ready, owes, is_ready, is_deaf, is_lost, SendsFront, GoesOn, IsOf, Tells, heard_of, note_side, side_told, count_told, side_given_up, out_of, KeepsHeard};
 
 use crate::side::Side;
+use crate::wire::Wire;
 use gateway::Event;
 use mio::{Registry, event};
 use std::alloc::Global;
 use std::io;
 use std::io::ErrorKind;
+use std::net::SocketAddr;
 use transfers::{Got, PutFault};
 use worlds::WorldFault;
 
 /// A connection to an upstream, by its number.
 #[derive(Drop)]
-pub struct Upstream {
+pub struct Upstream<S> {
     /// Its number.
     pub k: u32,
+    /// Where it is, if that is known.
+    address: Option<SocketAddr>,
     /// Its socket, unless it couldn't be made.
-    side: Option<Side>,
+    side: Option<Side<S>>,
     /// A write failed, and its server hadn't ended it before. What is there is still read.
     broken: bool,
     /// It stands among those of which something may be read.
@@ -27,15 +35,17 @@ pub struct Upstream {
     is_listed: bool,
 }
 
-impl Upstream {
+impl<S: Wire> Upstream<S> {
     /// A connection that is begun, or that couldn't be.
-    pub fn new(k: u32, side: Option<Side>) -> Upstream
+    pub fn new(k: u32, address: Option<SocketAddr>, side: Option<Side<S>>) -> Upstream<S>
         ensures number { result.k ≡ k }
+        ensures address { result.address ≡ address }
         ensures side { result.side ≡ side }
         ensures anew { (result.broken ≡ false) × (result.is_queued ≡ false) × (result.is_listed ≡ false) }
     {
         Upstream {
             k,
+            address,
             side,
             broken: false,
             is_queued: false,
@@ -96,16 +106,13 @@ impl Upstream {
     pub fn is_ready(&self, room: usize) -> bool
         ensures { result ≡ is_ready room self.now.side }
     {
-        match &self.side {
-            Some(side) => side.is_readable() && room > 0,
-            None => true,
-        }
+        self.may_be_ready() && room > 0
     }
 
     /// Notes what was reported of its socket, and writes what waits for it, if it may take it.
     pub fn heed(&mut self, report: &event::Event, registry: &Registry)
-        ensures sends { Sends (heard_of report.now self.old) [] self.new }
-        ensures goes { GoesOn self.old self.new }
+        ensures sends { Sends S.left S.held [] (heard_of report.now self.old) self.new }
+        ensures goes { GoesOn S.left S.held no_news self.old self.new }
         ensures noted { KeepsHeard (note_side report.now self.old.side) self.new.side }
         ensures stands { (self.new.is_queued ≡ self.old.is_queued) × (self.new.is_listed ≡ self.old.is_listed) }
     {
@@ -119,7 +126,7 @@ impl Upstream {
     pub fn tell(&mut self) -> u64
         ensures count { result ≡ count_told self.old.side }
         ensures told { self.new ≡ record self.old { is_listed = false; side = side_told self.old.side } }
-        ensures goes { GoesOn self.old self.new }
+        ensures goes { GoesOn S.left S.held (took_news result) self.old self.new }
     {
         self.is_listed = false;
         match &mut self.side {
@@ -141,8 +148,8 @@ impl Upstream {
 
     /// Puts octets out. Where its socket failed they are dropped.
     pub fn put(&mut self, registry: &Registry, octets: &[u8]) -> Result<(), WorldFault>
-        ensures front { SendsFront self.old octets.now self.new }
-        ensures sends { OnOk result (Sends self.old octets.now self.new) }
+        ensures front { SendsFront S.left S.held octets.now self.old self.new }
+        ensures sends { OnOk result (Sends S.left S.held octets.now self.old self.new) }
         ensures stands { (self.new.is_queued ≡ self.old.is_queued) × (self.new.is_listed ≡ self.old.is_listed) }
     {
         if self.is_deaf() {
@@ -163,8 +170,8 @@ impl Upstream {
 
     /// Writes what waits, if its socket may take it.
     fn flush(&mut self, registry: &Registry)
-        ensures sends { Sends self.old [] self.new }
-        ensures goes { GoesOn self.old self.new }
+        ensures sends { Sends S.left S.held [] self.old self.new }
+        ensures goes { GoesOn S.left S.held no_news self.old self.new }
         ensures heard { KeepsHeard self.old.side self.new.side }
         ensures stands { (self.new.is_queued ≡ self.old.is_queued) × (self.new.is_listed ≡ self.old.is_listed) }
     {
@@ -187,7 +194,9 @@ impl Upstream {
         room: &mut [u8],
     ) -> Result<Option<Event>, WorldFault>
         ensures event { IfOk result (λ event. IfSome event (IsOf self.old.k)) }
-        ensures goes { GoesOn self.old self.new }
+        ensures goes { IfOk result (λ event. GoesBy S.left S.held event self.old self.new) }
+        ensures lost { OnErr result (GoesOn S.left S.held lost_news self.old self.new) }
+        ensures fits { IfOk result (λ event. FitsRoom (length room.old) event) }
         ensures stays { self.new ≡ record self.old { side = self.new.side; is_queued = false } }
     {
         self.leave_queue();
@@ -200,7 +209,13 @@ impl Upstream {
 
     /// The event that a read gives, if it gives one. A failure comes where nothing more is there.
     pub fn read(&mut self, alloc: Global, room: &mut [u8]) -> Result<Option<Event>, WorldFault>
+        requires unended { IfSome self.old.side (λ side. side.ended ≡ false) }
+        requires room { 0 < length room.old }
         ensures event { IfOk result (λ event. IfSome event (IsOf self.old.k)) }
+        ensures goes { IfOk result (λ event. GoesBy S.left S.held event self.old self.new) }
+        ensures lost { OnErr result (GoesOn S.left S.held lost_news self.old self.new) }
+        ensures fits { IfOk result (λ event. FitsRoom (length room.old) event) }
+        ensures told { IfSome self.old.side (λ side. (got : Result Got Error) × Tells self.old.k self.old.broken side.lost got result) }
         ensures unmade { IfNone self.old.side (IsOkAnd result (λ event. event ≡ Some (Event.UpFailed self.old.k))) }
         ensures stays { self.new ≡ record self.old { side = self.new.side } }
         ensures out { out_of self.new.side ≡ out_of self.old.side }
@@ -209,25 +224,39 @@ impl Upstream {
             return Ok(Some(Event::UpFailed(self.k)));
         };
         let is_lost = side.is_lost();
-        match side.read(alloc, room) {
-            Ok(Got::Octets(piece)) => Ok(Some(Event::Up(self.k, piece))),
-            Ok(_) if self.broken => Ok(Some(Event::UpFailed(self.k))),
-            Ok(Got::End) => Ok(Some(Event::UpEnd(self.k))),
-            Ok(Got::Nothing) if is_lost => Ok(Some(Event::UpFailed(self.k))),
-            Ok(Got::Nothing) => Ok(None),
-            Err(error) if error.kind() == ErrorKind::OutOfMemory => Err(WorldFault {}),
-            Err(_) => Ok(Some(Event::UpFailed(self.k))),
-        }
+        let got = side.read(alloc, room);
+        event_of(self.k, self.broken, is_lost, got)
     }
 
     /// Its socket failed at a write. Where its server had ended it before, which a broken pipe says, that end is still there behind what was sent; else
     /// it failed.
     fn fail(&mut self, kind: ErrorKind)
-        ensures { self.new ≡ record self.old { broken = self.new.broken; side = side_given_up self.old.side } }
+        ensures broken { IsTrue self.new.broken ↔ (kind ≢ ErrorKind.BrokenPipe) }
+        ensures stays { self.new ≡ record self.old { broken = self.new.broken; side = side_given_up self.old.side } }
     {
         self.broken = kind != ErrorKind::BrokenPipe;
         if let Some(side) = &mut self.side {
             side.lose();
         }
+    }
+}
+
+/// What a read of a connection gave, as an event, by whether a write failed and whether it was reported as over.
+fn event_of(
+    k: u32,
+    is_broken: bool,
+    is_lost: bool,
+    got: io::Result<Got>,
+) -> Result<Option<Event>, WorldFault>
+    ensures { Tells k is_broken is_lost got result }
+{
+    match got {
+        Ok(Got::Octets(piece)) => Ok(Some(Event::Up(k, piece))),
+        Ok(_) if is_broken => Ok(Some(Event::UpFailed(k))),
+        Ok(Got::End) => Ok(Some(Event::UpEnd(k))),
+        Ok(Got::Nothing) if is_lost => Ok(Some(Event::UpFailed(k))),
+        Ok(Got::Nothing) => Ok(None),
+        Err(error) if error.kind() == ErrorKind::OutOfMemory => Err(WorldFault {}),
+        Err(_) => Ok(Some(Event::UpFailed(k))),
     }
 }

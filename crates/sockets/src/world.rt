@@ -1,32 +1,29 @@
 //! The world of sockets.
 
-ghost use Rattle.std.specs.Prelude.{◌≡◌, ◌+◌, ◌<◌, ◌^◌, None, Option, Some, [], ◌∷◌, ◌++◌, false, true, List, length, IfSome, IfNone, IfOk, OnOk, OnErr, get_or, is_ok, is_some, if◌then◌else◌};
+ghost use Rattle.std.specs.Prelude.{◌≡◌, ◌+◌, ◌<◌, ◌^◌, ℕ, None, Option, Some, Ok, Err, [], ◌∷◌, ◌++◌, false, true, List, length, IfSome, IfNone, IfOk, OnOk, OnErr, get_or, is_ok, slice_get, if◌then◌else◌};
 ghost use Rattle.model.specs.Logs.{Step};
+ghost use Rattle.mio.specs.Events.{items as reported};
 ghost use Rattle.outputs.specs.Views.{output_of};
-ghost use Rattle.worlds.specs.Worlds.{AddsEvent, AddsHanded, SaysOver, with_outputs};
-ghost use Rattle.sockets.specs.Performed.{AreRising, IsOpenNowhere, Opens, Changes, SendsTo, Performs, Leaves, AllGoOn, MovesOn, failed_in, found_by, told_by, no_log, none_handed};
-ghost use Rattle.sockets.specs.Putting.{Drains};
-ghost use Rattle.sockets.specs.Sides.{IsNew, OutIsNothing, SendsFront};
-ghost use Rattle.transfers.specs.Transfers.{nothing_put};
+ghost use Rattle.worlds.specs.Worlds.{AddsEvent, AddsHanded, KeepsRooms, SaysOver, with_outputs};
+ghost use Rattle.sockets.specs.Performed.{AreRising, IsOpenNowhere, Opens, Changes, SendsTo, Performs, Leaves, AllGoOn, MovesOn, Fits, client_heard, got_news, IsWithin, is_failed, told_by, no_log, none_handed};
+ghost use Rattle.sockets.specs.Sides.{no_news, lost_news, IsBegun, IsNew, Goes, SendsFront};
 
+use crate::buffer::Buffer;
 use crate::leaving::Leaving;
 use crate::rooms::room_of;
 use crate::side::Side;
 use crate::upstream::Upstream;
+use crate::wire::Wire;
 use gateway::{Event, Output};
-use mio::net::TcpStream;
 use mio::{Events, Poll, Registry, Token};
 use std::alloc::Global;
 use std::collections::VecDeque;
 use std::io;
 use std::io::ErrorKind;
 use std::net::{Net, SocketAddr};
-use std::time::{Clock, Duration};
+use std::time::{Clock, Duration, Instant};
 use transfers::{Got, PutFault};
 use worlds::{Next, World, WorldFault};
-
-/// The most octets that come in one event.
-const PIECE: usize = 65536;
 
 /// While more octets than this for the client weren't told of as taken, nothing of it is read.
 const MOST_OWED: u64 = 1073741824;
@@ -52,46 +49,45 @@ const REPORTS: usize = 128;
 
 /// One client, and the upstreams that are opened for it, over sockets that don't wait. It stores no log.
 #[derive(Drop)]
-pub struct SocketWorld<'a, N: Net + Clock> {
-    sockets: Sockets<'a, N>,
+pub struct SocketWorld<'a, N: Net + Clock, S> {
+    sockets: Sockets<'a, N, S>,
     calls: u64,
     failures: u64,
 }
 
 /// The sockets, and what is kept of them from turn to turn.
 #[derive(Drop)]
-struct Sockets<'a, N: Net + Clock> {
+struct Sockets<'a, N: Net + Clock, S> {
     alloc: Global,
     net: &'a N,
     addresses: &'a [SocketAddr],
     poll: Poll,
     reports: Events,
-    client: Side,
+    client: Side<S>,
     /// The client stands among the sockets of which something may be read.
     is_client_queued: bool,
     /// By rising number.
-    upstreams: Vec<Upstream>,
+    upstreams: Vec<Upstream<S>>,
     /// The numbers of the sockets of which something may be read, the next one at the front. Some may be closed.
     ready: VecDeque<u32>,
     /// The numbers of the upstreams that may have taken octets of which wasn't told, likewise.
     writes: VecDeque<u32>,
-    /// Where octets are read to; kept from read to read.
-    buffer: Vec<u8>,
+    buffer: Buffer,
     /// How many turns there were, from 0 on again behind the last number.
     turns: u32,
 }
 
-impl<'a, N: Net + Clock> SocketWorld<'a, N> {
+impl<'a, N: Net + Clock, S: Wire> SocketWorld<'a, N, S> {
     /// The world of a client's socket, which doesn't wait. The routes' upstreams have these addresses, in the routes' order.
     pub fn new(
         alloc: Global,
         net: &'a N,
         addresses: &'a [SocketAddr],
-        client: TcpStream,
-    ) -> io::Result<SocketWorld<'a, N>>
+        client: S,
+    ) -> io::Result<SocketWorld<'a, N, S>>
         ensures counts { IfOk result (λ world. (world.calls ≡ 0) × (world.failures ≡ 0)) }
         ensures addresses { IfOk result (λ world. world.sockets.addresses.now ≡ addresses.now) }
-        ensures nothing { IfOk result (λ world. (world.sockets.client.out ≡ nothing_put) × (world.sockets.upstreams.items ≡ [])) }
+        ensures nothing { IfOk result (λ world. IsBegun 0 world.sockets.client × (world.sockets.upstreams.items ≡ [])) }
     {
         let poll = Poll::new(net)?;
         let token = token_of(CLIENT);
@@ -107,7 +103,7 @@ impl<'a, N: Net + Clock> SocketWorld<'a, N> {
             upstreams: Vec::new(alloc),
             ready: VecDeque::new(alloc),
             writes: VecDeque::new(alloc),
-            buffer: vec![in alloc; 0; PIECE]?,
+            buffer: Buffer::new(alloc)?,
             turns: 0,
         };
         Ok(SocketWorld {
@@ -125,16 +121,17 @@ impl<'a, N: Net + Clock> SocketWorld<'a, N> {
         ensures calls { self.new.calls ≡ self.old.calls }
         ensures failures { self.new.failures ≡ self.old.failures }
         ensures closed { self.new.sockets.upstreams.items ≡ [] }
-        ensures client { Drains self.old.sockets.client.out self.new.sockets.client.out }
+        ensures client { Goes S.left S.held lost_news self.old.sockets.client self.new.sockets.client }
     {
         self.sockets.leave_client()
     }
 }
 
-impl<'a, N: Net + Clock> Sockets<'a, N> {
+impl<'a, N: Net + Clock, S: Wire> Sockets<'a, N, S> {
     /// What comes next. Where nothing is there the world waits once, until something is reported.
     fn find_next(&mut self, rooms: &[(u32, usize)]) -> Result<Option<Event>, WorldFault>
-        ensures moves { MovesOn (found_by result) self.old.client.out self.old.upstreams.items self.new.client.out self.new.upstreams.items }
+        ensures moves { MovesOn S.left S.held result self.old.client self.old.upstreams.items self.new.client self.new.upstreams.items }
+        ensures fits { IfOk result (λ event. Fits rooms.now event) }
     {
         if let Some(event) = self.find_aside(rooms)? {
             return Ok(Some(event));
@@ -148,7 +145,8 @@ impl<'a, N: Net + Clock> Sockets<'a, N> {
 
     /// In some turns an event that else would have to wait as long as others are there: of a socket that wasn't looked at yet, or what was taken.
     fn find_aside(&mut self, rooms: &[(u32, usize)]) -> Result<Option<Event>, WorldFault>
-        ensures moves { MovesOn (found_by result) self.old.client.out self.old.upstreams.items self.new.client.out self.new.upstreams.items }
+        ensures moves { MovesOn S.left S.held result self.old.client self.old.upstreams.items self.new.client self.new.upstreams.items }
+        ensures fits { IfOk result (λ event. Fits rooms.now event) }
     {
         self.turns = self.turns.wrapping_add(1);
         if self.turns % ROUND == 0 {
@@ -163,7 +161,8 @@ impl<'a, N: Net + Clock> Sockets<'a, N> {
 
     /// An event that is there already. Where nothing may be read any more, what waits for the client is written.
     fn find_event(&mut self, rooms: &[(u32, usize)]) -> Result<Option<Event>, WorldFault>
-        ensures moves { MovesOn (found_by result) self.old.client.out self.old.upstreams.items self.new.client.out self.new.upstreams.items }
+        ensures moves { MovesOn S.left S.held result self.old.client self.old.upstreams.items self.new.client self.new.upstreams.items }
+        ensures fits { IfOk result (λ event. Fits rooms.now event) }
     {
         let count = self.client.tell(TOLD_AT_ONCE);
         if count > 0 {
@@ -178,7 +177,8 @@ impl<'a, N: Net + Clock> Sockets<'a, N> {
 
     /// The event that a read gives, of the first socket in turn whose read gives one.
     fn read_ready(&mut self, rooms: &[(u32, usize)]) -> Result<Option<Event>, WorldFault>
-        ensures moves { MovesOn (found_by result) self.old.client.out self.old.upstreams.items self.new.client.out self.new.upstreams.items }
+        ensures moves { MovesOn S.left S.held result self.old.client self.old.upstreams.items self.new.client self.new.upstreams.items }
+        ensures fits { IfOk result (λ event. Fits rooms.now event) }
     {
         for _ in 0..self.ready.len() {
             let Some(number) = self.ready.pop_front() else {
@@ -194,7 +194,8 @@ impl<'a, N: Net + Clock> Sockets<'a, N> {
 
     /// The event that a read of a socket gives, if it gives one.
     fn read(&mut self, number: u32, rooms: &[(u32, usize)]) -> Result<Option<Event>, WorldFault>
-        ensures moves { MovesOn (found_by result) self.old.client.out self.old.upstreams.items self.new.client.out self.new.upstreams.items }
+        ensures moves { MovesOn S.left S.held result self.old.client self.old.upstreams.items self.new.client self.new.upstreams.items }
+        ensures fits { IfOk result (λ event. Fits rooms.now event) }
     {
         if number == CLIENT {
             self.read_client()
@@ -210,14 +211,15 @@ impl<'a, N: Net + Clock> Sockets<'a, N> {
         number: u32,
         rooms: &[(u32, usize)],
     ) -> Result<Option<Event>, WorldFault>
-        ensures moves { MovesOn (found_by result) self.old.client.out self.old.upstreams.items self.new.client.out self.new.upstreams.items }
+        ensures moves { MovesOn S.left S.held result self.old.client self.old.upstreams.items self.new.client self.new.upstreams.items }
+        ensures fits { IfOk result (λ event. Fits rooms.now event) }
     {
         let Some(place) = place_of(number, &self.upstreams) else {
             return Ok(None);
         };
-        let room = room_of(number, rooms).min(self.buffer.len());
+        let room = room_of(number, rooms);
         let upstream = &mut self.upstreams[place];
-        let event = upstream.read_in_turn(self.alloc, &mut self.buffer[..room])?;
+        let event = self.buffer.read_in_turn(self.alloc, upstream, room)?;
         if is_failure(&event) {
             self.upstreams.remove(place);
         } else if upstream.joins_queue() {
@@ -229,21 +231,26 @@ impl<'a, N: Net + Clock> Sockets<'a, N> {
     /// The event that a read of the client's socket gives, if it gives one.
     fn read_client(&mut self) -> Result<Option<Event>, WorldFault>
         ensures upstreams { self.new.upstreams ≡ self.old.upstreams }
-        ensures out { self.new.client.out ≡ self.old.client.out }
-        ensures alive { failed_in (found_by result) ≡ None }
+        ensures moves { MovesOn S.left S.held result self.old.client self.old.upstreams.items self.new.client self.new.upstreams.items }
+        ensures fits { IfOk result (λ event. (rooms : List (ℕ × ℕ)) → Fits rooms event) }
     {
         self.is_client_queued = false;
-        let got = if self.client.owes_more_than(MOST_OWED) {
-            Got::Nothing
-        } else {
-            self.client.read(self.alloc, &mut self.buffer)?
-        };
+        let got = self.read_of_client()?;
         self.queue_client()?;
-        match got {
-            Got::Octets(piece) => Ok(Some(Event::Client(piece))),
-            Got::End => Ok(Some(Event::ClientEnd)),
-            Got::Nothing => Ok(None),
+        Ok(client_event(got))
+    }
+
+    /// What a read of the client's socket gives: nothing where there is nothing to be read, or too much that was put out isn't told of as taken.
+    fn read_of_client(&mut self) -> Result<Got, WorldFault>
+        ensures upstreams { self.new.upstreams ≡ self.old.upstreams }
+        ensures told { IfOk result (λ got. Goes S.left S.held (got_news got) self.old.client self.new.client) }
+        ensures lost { OnErr result (Goes S.left S.held lost_news self.old.client self.new.client) }
+        ensures fits { IfOk result (λ got. IsWithin 65536 got) }
+    {
+        if !self.client.is_readable() || self.client.owes_more_than(MOST_OWED) {
+            return Ok(Got::Nothing);
         }
+        Ok(self.buffer.read(self.alloc, &mut self.client)?)
     }
 
     /// The client joins the sockets of which something may be read, if something may.
@@ -260,7 +267,8 @@ impl<'a, N: Net + Clock> Sockets<'a, N> {
 
     /// What sockets took that wasn't told of, if they took some: upstreams first, since each of them is told of once in a while.
     fn tell(&mut self) -> Option<Event>
-        ensures moves { MovesOn result self.old.client.out self.old.upstreams.items self.new.client.out self.new.upstreams.items }
+        ensures moves { MovesOn S.left S.held (Ok result) self.old.client self.old.upstreams.items self.new.client self.new.upstreams.items }
+        ensures fits { (rooms : List (ℕ × ℕ)) → Fits rooms result }
     {
         for _ in 0..self.writes.len() {
             let k = self.writes.pop_front()?;
@@ -279,7 +287,7 @@ impl<'a, N: Net + Clock> Sockets<'a, N> {
 
     /// Waits until a socket is reported, at most so long where that is said, notes what is, and writes what waits for those that take octets again.
     fn look(&mut self, most: Option<Duration>) -> Result<(), WorldFault>
-        ensures moves { MovesOn None self.old.client.out self.old.upstreams.items self.new.client.out self.new.upstreams.items }
+        ensures moves { MovesOn S.left S.held (Ok None) self.old.client self.old.upstreams.items self.new.client self.new.upstreams.items }
     {
         match self.poll.poll(&mut self.reports, most) {
             Ok(()) => {}
@@ -303,15 +311,15 @@ impl<'a, N: Net + Clock> Sockets<'a, N> {
     /// Writes what waits for the client, and then reads and drops what comes of it until its end, unless that takes too long.
     fn leave_client(&mut self) -> io::Result<()>
         ensures closed { self.new.upstreams.items ≡ [] }
-        ensures client { Drains self.old.client.out self.new.client.out }
+        ensures client { Goes S.left S.held lost_news self.old.client self.new.client }
     {
         self.upstreams.clear();
-        let mut leaving = Leaving::begin(self.net, self.client.waiting())?;
+        let mut leaving = Leaving::begin(Instant::now(self.net)?, self.client.waiting());
         for _ in 0..MOST_TURNS_LEAVING {
             if self.write_rest(&mut leaving)? {
                 return Ok(());
             }
-            let Some(most) = leaving.remaining(self.net)? else {
+            let Some(most) = leaving.remaining(Instant::now(self.net)?) else {
                 return Ok(());
             };
             self.drop_rest(&mut leaving, most)?;
@@ -323,10 +331,10 @@ impl<'a, N: Net + Clock> Sockets<'a, N> {
     /// its end was read.
     fn write_rest(&mut self, leaving: &mut Leaving) -> io::Result<bool>
         ensures upstreams { self.new.upstreams ≡ self.old.upstreams }
-        ensures client { Drains self.old.client.out self.new.client.out }
+        ensures client { Goes S.left S.held lost_news self.old.client self.new.client }
     {
         self.client.flush(self.poll.registry())?;
-        leaving.note_waiting(self.net, self.client.waiting())?;
+        leaving.note_waiting(Instant::now(self.net)?, self.client.waiting());
         if self.client.waiting() > 0 {
             return Ok(false);
         }
@@ -340,48 +348,56 @@ impl<'a, N: Net + Clock> Sockets<'a, N> {
     /// Reads and drops what comes of the client, or waits for it, at most so long.
     fn drop_rest(&mut self, leaving: &mut Leaving, most: Duration) -> io::Result<()>
         ensures upstreams { self.new.upstreams ≡ self.old.upstreams }
-        ensures out { self.new.client.out ≡ self.old.client.out }
+        ensures client { Goes S.left S.held lost_news self.old.client self.new.client }
     {
         if !self.client.is_readable() {
             return self.hear_client(most);
         }
-        let _ = self.client.read(self.alloc, &mut self.buffer)?;
-        leaving.note_heard(self.net)
+        let _ = self.buffer.read(self.alloc, &mut self.client)?;
+        leaving.note_heard(Instant::now(self.net)?);
+        Ok(())
     }
 
     /// Waits until the client's socket is reported, at most so long, and notes what is.
     fn hear_client(&mut self, most: Duration) -> io::Result<()>
         ensures upstreams { self.new.upstreams ≡ self.old.upstreams }
-        ensures out { self.new.client.out ≡ self.old.client.out }
+        ensures client { Goes S.left S.held no_news self.old.client self.new.client }
     {
         self.poll.poll(&mut self.reports, Some(most))?;
         note_client(&self.reports, &mut self.client);
         Ok(())
     }
 
-    /// Opens a connection. One that can't be made fails at a later `next`.
+    /// Opens a connection to its route's address. One that can't be made fails at a later `next`.
     fn open(&mut self, k: u32, route: u32) -> Result<(), WorldFault>
         ensures client { self.new.client ≡ self.old.client }
-        ensures opens { OnOk result (Opens (IsNew k) self.old.upstreams.items self.new.upstreams.items) }
+        ensures opens { OnOk result (Opens (IsNew k (slice_get self.old.addresses.now route)) self.old.upstreams.items self.new.upstreams.items) }
         ensures err { OnErr result (self.new.upstreams.items ≡ self.old.upstreams.items) }
         ensures rising { AreRising self.old.upstreams.items → AreRising self.new.upstreams.items }
     {
-        let side = match self.addresses.get(route as usize) {
-            Some(address) => self.connect(k, *address)?,
-            None => None,
-        };
-        let mut upstream = Upstream::new(k, side);
+        let mut upstream = self.begin(k, address_of(route, self.addresses))?;
         list(&mut upstream, &mut self.ready, &mut self.writes)?;
         let place = self.upstreams.partition_point(|other| other.k < k);
         self.upstreams.insert(place, upstream)?;
         Ok(())
     }
 
+    /// Begins a connection to an address, if there is one.
+    fn begin(&self, k: u32, address: Option<SocketAddr>) -> Result<Upstream<S>, WorldFault>
+        ensures { IfOk result (IsNew k address) }
+    {
+        let side = match address {
+            Some(address) => self.connect(k, address)?,
+            None => None,
+        };
+        Ok(Upstream::new(k, address, side))
+    }
+
     /// Puts octets out to an upstream, if it is open.
     fn put(&mut self, k: u32, octets: &[u8]) -> Result<(), WorldFault>
         ensures client { self.new.client ≡ self.old.client }
-        ensures err { OnErr result (Changes k (λ from to. SendsFront from octets.now to) self.old.upstreams.items self.new.upstreams.items) }
-        ensures sends { OnOk result (AreRising self.old.upstreams.items → SendsTo k octets.now self.old.upstreams.items self.new.upstreams.items) }
+        ensures err { OnErr result (Changes k (SendsFront S.left S.held octets.now) self.old.upstreams.items self.new.upstreams.items) }
+        ensures sends { OnOk result (AreRising self.old.upstreams.items → SendsTo S.left S.held k octets.now self.old.upstreams.items self.new.upstreams.items) }
         ensures rising { AreRising self.old.upstreams.items → AreRising self.new.upstreams.items }
     {
         let Some(place) = place_of(k, &self.upstreams) else {
@@ -393,10 +409,10 @@ impl<'a, N: Net + Clock> Sockets<'a, N> {
     }
 
     /// Begins to connect to an address.
-    fn connect(&self, k: u32, address: SocketAddr) -> Result<Option<Side>, WorldFault>
-        ensures { IfOk result OutIsNothing }
+    fn connect(&self, k: u32, address: SocketAddr) -> Result<Option<Side<S>>, WorldFault>
+        ensures { IfOk result (λ side. IfSome side (IsBegun k)) }
     {
-        let Ok(socket) = TcpStream::connect(self.net, address) else {
+        let Ok(socket) = S::connect(self.net, address) else {
             return Ok(None);
         };
         let side = Side::new(self.alloc, self.poll.registry(), socket, token_of(k), 0);
@@ -410,8 +426,8 @@ impl<'a, N: Net + Clock> Sockets<'a, N> {
     /// Does what an output says.
     fn perform(&mut self, output: &Output) -> Result<(), WorldFault>
         ensures rising { AreRising self.old.upstreams.items → AreRising self.new.upstreams.items }
-        ensures performs { OnOk result (Performs output.now self.old.client.out self.old.upstreams.items self.new.client.out self.new.upstreams.items) }
-        ensures leaves { OnErr result (Leaves output.now self.old.client.out self.old.upstreams.items self.new.client.out self.new.upstreams.items) }
+        ensures performs { OnOk result (Performs S.left S.held self.old.addresses.now output.now self.old.client self.old.upstreams.items self.new.client self.new.upstreams.items) }
+        ensures leaves { OnErr result (Leaves S.left S.held output.now self.old.client self.old.upstreams.items self.new.client self.new.upstreams.items) }
     {
         match output {
             Output::Client(octets) => match self.client.put(self.poll.registry(), octets) {
@@ -434,8 +450,8 @@ impl<'a, N: Net + Clock> Sockets<'a, N> {
     }
 }
 
-impl<'a, N: Net + Clock> World for SocketWorld<'a, N> {
-    ghost use Rattle.std.specs.Prelude.{false};
+impl<'a, N: Net + Clock, S: Wire> World for SocketWorld<'a, N, S> {
+    ghost use Rattle.std.specs.Prelude.{false, true};
     ghost use Rattle.sockets.specs.Performed.{no_log, none_handed};
 
     ghost calls = { λ world. world.calls };
@@ -448,6 +464,8 @@ impl<'a, N: Net + Clock> World for SocketWorld<'a, N> {
 
     ghost handed = { λ _. none_handed };
 
+    ghost keeps_rooms = { λ _. true };
+
     fn next(&mut self, rooms: &[(u32, usize)]) -> Result<Next, WorldFault>
         requires calls { self.old.calls + 1 < 2 ^ 64 }
         requires failures { self.old.failures + 1 < 2 ^ 64 }
@@ -458,8 +476,12 @@ impl<'a, N: Net + Clock> World for SocketWorld<'a, N> {
         ensures log { IfOk result (λ next. AddsEvent no_log next no_log) }
         ensures handed { OnOk result (AddsHanded no_log none_handed rooms.now none_handed) }
         ensures err { OnErr result ((no_log ≡ no_log) × (none_handed ≡ none_handed)) }
+        // Always, whatever an upstream sends.
+        ensures rooms { true ≡ true → IfOk result (λ next. KeepsRooms rooms.now next) }
+        ensures keeps_rooms { true ≡ true }
         ensures rising { AreRising self.old.sockets.upstreams.items → AreRising self.new.sockets.upstreams.items }
-        ensures moves { MovesOn (told_by result) self.old.sockets.client.out self.old.sockets.upstreams.items self.new.sockets.client.out self.new.sockets.upstreams.items }
+        ensures moves { MovesOn S.left S.held (told_by result) self.old.sockets.client self.old.sockets.upstreams.items self.new.sockets.client self.new.sockets.upstreams.items }
+        ensures fits { IfOk (told_by result) (λ event. Fits rooms.now event) }
     {
         self.calls += 1;
         match self.sockets.find_next(rooms) {
@@ -479,9 +501,12 @@ impl<'a, N: Net + Clock> World for SocketWorld<'a, N> {
         // The trait's, of a world that tells no log.
         ensures log { OnOk result ((before : List Step) (step : Step) → no_log ≡ Some (before ++ step ∷ []) → no_log ≡ Some (before ++ with_outputs step (output_of output.now ∷ []) ∷ [])) }
         ensures err { OnErr result (no_log ≡ no_log) }
+        ensures handed { none_handed ≡ none_handed }
+        ensures over { false ≡ false }
+        ensures keeps_rooms { true ≡ true }
         ensures rising { AreRising self.old.sockets.upstreams.items → AreRising self.new.sockets.upstreams.items }
-        ensures performs { OnOk result (Performs output.now self.old.sockets.client.out self.old.sockets.upstreams.items self.new.sockets.client.out self.new.sockets.upstreams.items) }
-        ensures leaves { OnErr result (Leaves output.now self.old.sockets.client.out self.old.sockets.upstreams.items self.new.sockets.client.out self.new.sockets.upstreams.items) }
+        ensures performs { OnOk result (Performs S.left S.held self.old.sockets.addresses.now output.now self.old.sockets.client self.old.sockets.upstreams.items self.new.sockets.client self.new.sockets.upstreams.items) }
+        ensures leaves { OnErr result (Leaves S.left S.held output.now self.old.sockets.client self.old.sockets.upstreams.items self.new.sockets.client self.new.sockets.upstreams.items) }
     {
         let applied = self.sockets.perform(output);
         if applied.is_err() {
@@ -491,15 +516,27 @@ impl<'a, N: Net + Clock> World for SocketWorld<'a, N> {
     }
 }
 
+/// The address of a route's upstream.
+fn address_of(route: u32, addresses: &[SocketAddr]) -> Option<SocketAddr>
+    ensures { result ≡ slice_get addresses.now route }
+{
+    match addresses.get(route as usize) {
+        Some(address) => Some(*address),
+        None => None,
+    }
+}
+
 /// The token under which a socket is reported.
-fn token_of(number: u32) -> Token {
+fn token_of(number: u32) -> Token
+    ensures { result.0 ≡ number }
+{
     Token(number as usize)
 }
 
 /// The place of a connection.
-fn place_of(k: u32, upstreams: &[Upstream]) -> Option<usize>
+fn place_of<S>(k: u32, upstreams: &[Upstream<S>]) -> Option<usize>
     ensures within { IfSome result (λ place. place < length upstreams.now) }
-    ensures found { IfSome result (λ place. (other : Upstream) → (get_or upstreams.now place other).k ≡ k) }
+    ensures found { IfSome result (λ place. (other : Upstream S) → (get_or upstreams.now place other).k ≡ k) }
     ensures absent { IfNone result (AreRising upstreams.now → IsOpenNowhere k upstreams.now) }
 {
     upstreams
@@ -508,23 +545,34 @@ fn place_of(k: u32, upstreams: &[Upstream]) -> Option<usize>
 }
 
 /// The place of the connection that is reported under a token, if it is open.
-fn place_under(token: Token, upstreams: &[Upstream]) -> Option<usize>
+fn place_under<S>(token: Token, upstreams: &[Upstream<S>]) -> Option<usize>
     ensures { IfSome result (λ place. place < length upstreams.now) }
 {
     let k = u32::try_from(token.0).ok()?;
     place_of(k, upstreams)
 }
 
+/// The event that a read of the client's socket gives, if it gives one.
+fn client_event(got: Got) -> Option<Event>
+    ensures { result ≡ client_heard got }
+{
+    match got {
+        Got::Octets(piece) => Some(Event::Client(piece)),
+        Got::End => Some(Event::ClientEnd),
+        Got::Nothing => None,
+    }
+}
+
 /// Whether an event tells that a connection failed.
 fn is_failure(event: &Option<Event>) -> bool
-    ensures { result ≡ is_some (failed_in event.now) }
+    ensures { result ≡ is_failed event.now }
 {
     matches!(event, Some(Event::UpFailed(_)))
 }
 
 /// Notes what was reported of the client's socket.
-fn note_client(reports: &Events, client: &mut Side)
-    ensures { client.new.out ≡ client.old.out }
+fn note_client<S: Wire>(reports: &Events, client: &mut Side<S>)
+    ensures { Goes S.left S.held no_news client.old client.new }
 {
     for report in reports {
         if report.token() == token_of(CLIENT) {
@@ -534,14 +582,14 @@ fn note_client(reports: &Events, client: &mut Side)
 }
 
 /// Notes what was reported of upstreams, and writes what waits for those that take octets again.
-fn heed_all(
+fn heed_all<S: Wire>(
     reports: &Events,
     registry: &Registry,
-    upstreams: &mut [Upstream],
+    upstreams: &mut Vec<Upstream<S>>,
     ready: &mut VecDeque<u32>,
     writes: &mut VecDeque<u32>,
 ) -> Result<(), WorldFault>
-    ensures { AllGoOn upstreams.old upstreams.new }
+    ensures { AllGoOn S.left S.held no_news upstreams.old.items upstreams.new.items }
 {
     for report in reports {
         if let Some(place) = place_under(report.token(), upstreams) {
@@ -554,8 +602,8 @@ fn heed_all(
 }
 
 /// Lists an upstream where it belongs by now: among those of which something may be read, and among those that may have taken octets.
-fn list(
-    upstream: &mut Upstream,
+fn list<S: Wire>(
+    upstream: &mut Upstream<S>,
     ready: &mut VecDeque<u32>,
     writes: &mut VecDeque<u32>,
 ) -> Result<(), WorldFault>

@@ -5,14 +5,15 @@
 //! - `joined`: the same, but where octets of upstreams come one by one, DATA may be cut elsewhere.
 //! - `client-ends`: where the client goes away behind an octet, all is closed, and no request that wasn't complete is completed.
 //! - `upstream-ends`: where an upstream ends or fails behind an octet, the client is told so as it should be.
+//! - `world-faults`: where a call of the world fails, serving it ends with that, and its log is a front of the one without the fault.
 //!
-//! Of long pieces the last two try some octets (`texts::is_cut`).
+//! Of long pieces, and of many calls, the last three try some (`texts::is_cut`).
 
 ghost use Rattle.gateway.specs.Setups.{setup_of, IsServable};
 
 use crate::octets::Data;
 use crate::transcripts::Transcript;
-use crate::{ends_of_clients, ends_of_upstreams, octets, printing};
+use crate::{ends_of_clients, ends_of_upstreams, octets, printing, world_faults};
 use gateway::Config;
 use scripts::{ScriptFault, read_script};
 use std::alloc::{AllocError, Global};
@@ -40,6 +41,7 @@ pub(crate) fn difference(
         "joined" => octets::difference(alloc, config, script, &events, Data::Joined),
         "client-ends" => ends_of_clients::difference(alloc, config, &events),
         "upstream-ends" => ends_of_upstreams::difference(alloc, config, &events),
+        "world-faults" => world_faults::difference(alloc, config, script),
         _ => Ok(Some(String::from_str(alloc, "no judgement")?)),
     }
 }

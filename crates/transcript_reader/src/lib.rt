@@ -23,5 +23,6 @@ mod rows;
 mod runs;
 mod texts;
 mod transcripts;
+mod world_faults;
 
 pub use reading::go_through;

@@ -9,13 +9,15 @@ use Rattle.transfers.specs.declared.outgoing.PutFault.TheVariants.{Socket, Memor
 use Rattle.transfers.specs.declared.incoming.Got.{Got}
 use Rattle.transfers.specs.declared.incoming.Got.TheVariants.{Octets, Nothing, End}
 
--- what is on its way out: the octets that wait, and how many were taken that weren't told of
+-- what is on its way out: the octets that wait, how many were taken that weren't told of, and how many that were written are still kept before those that
+-- wait
 pub record Way : Type 0 where
   pub waiting : List ℕ
   pub untold : ℕ
+  pub sent : ℕ
 
 abbrev pub nothing_put : Way
-nothing_put = record { waiting = []; untold = 0 }
+nothing_put = record { waiting = []; untold = 0; sent = 0 }
 
 -- how many octets are told of, from so many on
 abbrev pub told_count : ℕ → Way → ℕ
@@ -71,4 +73,4 @@ IsEarlyFault (Ok a) = ⊥
 abbrev pub Gives : Option (List ℕ) → Option (List ℕ) → ℕ → Got → Type 0
 Gives had has room (Octets piece) = (0 < length piece.items) × (length piece.items ≤ room) × Consumes had has piece.items
 Gives had has room Nothing = Keeps had has
-Gives had has room End = 0 < room → IsAtEnd had
+Gives had has room End = Consumes had has [] × (0 < room → IsAtEnd had)

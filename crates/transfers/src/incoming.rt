@@ -1,12 +1,12 @@
 //! Octets that come from a socket.
 
-ghost use Rattle.std.specs.Prelude.{IfOk, length};
+ghost use Rattle.std.specs.Prelude.{◌≡◌, IfOk, length};
 ghost use Rattle.transfers.specs.Transfers.{Gives};
 
 use crate::outgoing::is_early;
+use crate::socket::Socket;
 use std::alloc::Global;
 use std::io;
-use std::io::Read;
 
 /// What a read gave.
 #[derive(Debug, Drop)]
@@ -22,10 +22,11 @@ pub enum Got {
 /// Reads octets, in one read: as many as are there, at most as many as there is room for in the buffer.
 ///
 /// A socket that would wait gives nothing. An error is the socket's, or says that memory was refused.
-pub fn read_piece<R: Read>(alloc: Global, socket: &mut R, buffer: &mut [u8]) -> io::Result<Got>
-    ensures { IfOk result (λ got. Gives (R.remaining socket.old) (R.remaining socket.new) (length buffer.old) got) }
+pub fn read_piece<S: Socket>(alloc: Global, socket: &mut S, buffer: &mut [u8]) -> io::Result<Got>
+    ensures gives { IfOk result (λ got. Gives (S.left socket.old) (S.left socket.new) (length buffer.old) got) }
+    ensures held { S.held socket.new ≡ S.held socket.old }
 {
-    match socket.read(buffer) {
+    match socket.receive(buffer) {
         Ok(0) => Ok(Got::End),
         Ok(count) => Ok(Got::Octets(Vec::from_slice(alloc, &buffer[..count])?)),
         Err(error) if is_early(error.kind()) => Ok(Got::Nothing),

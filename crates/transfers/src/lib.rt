@@ -3,6 +3,8 @@
 
 mod incoming;
 mod outgoing;
+mod socket;
 
 pub use incoming::{Got, read_piece};
 pub use outgoing::{Outgoing, PutFault};
+pub use socket::Socket;

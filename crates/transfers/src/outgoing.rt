@@ -5,9 +5,10 @@ ghost use Rattle.std.specs.Io.KnownBytes.{Appends, Keeps};
 ghost use Rattle.std.specs.IoError.{error_kind};
 ghost use Rattle.transfers.specs.Transfers.{IsEarly, IsEarlyFault, IsMemoryFault, IsSocketFault, Loses, Passes, nothing_put, told, told_count};
 
+use crate::socket::Socket;
 use std::alloc::{AllocError, Global};
 use std::io;
-use std::io::{ErrorKind, Write};
+use std::io::ErrorKind;
 use std::marker::Model;
 
 /// Why octets can't be put out.
@@ -46,7 +47,7 @@ impl Model for Outgoing {
 
     ghost Value = { Way };
 
-    ghost view = { λ out. record { waiting = drop out.start out.octets.items; untold = out.untold } };
+    ghost view = { λ out. record { waiting = drop out.start out.octets.items; untold = out.untold; sent = out.start } };
 
     ghost invariant = { λ out. (out.start ≤ vec_len out.octets) × (out.untold < 2 ^ 64) };
 }
@@ -94,12 +95,14 @@ impl Outgoing {
     }
 
     /// Puts octets out. Where none wait they go straight to the socket, in one write; what it doesn't take then waits.
-    pub fn put<W: Write>(&mut self, socket: &mut W, octets: &[u8]) -> Result<(), PutFault>
-        ensures passes { OnOk result (Passes (W.contents socket.old) (W.contents socket.new) self.old octets.now self.new) }
-        ensures failed { IsSocketFault result → Keeps (W.contents socket.old) (W.contents socket.new) × (self.new ≡ self.old) }
+    pub fn put<S: Socket>(&mut self, socket: &mut S, octets: &[u8]) -> Result<(), PutFault>
+        ensures passes { OnOk result (Passes (S.held socket.old) (S.held socket.new) self.old octets.now self.new) }
+        ensures failed { IsSocketFault result → Keeps (S.held socket.old) (S.held socket.new) × (self.new ≡ self.old) }
         ensures asked { IsSocketFault result → self.old.waiting ≡ [] }
         ensures never_early { ¬ IsEarlyFault result }
-        ensures refused { IsMemoryFault result → Loses (W.contents socket.old) (W.contents socket.new) self.old octets.now self.new }
+        ensures refused { IsMemoryFault result → Loses (S.held socket.old) (S.held socket.new) self.old octets.now self.new }
+        ensures short { OnOk result (self.new.sent ≤ length self.old.waiting) }
+        ensures left { S.left socket.new ≡ S.left socket.old }
     {
         let taken = match self.write_first(socket, octets) {
             Ok(taken) => taken,
@@ -110,11 +113,13 @@ impl Outgoing {
         Ok(())
     }
 
-    /// Puts octets out without a write: they wait behind those that wait. An `Err` says that memory was refused; then nothing changed.
+    /// Puts octets out without a write: they wait behind those that wait. Of octets that were written no more are kept then than wait. An `Err` says that
+    /// memory was refused; then what waits is as it was.
     pub fn gather(&mut self, octets: &[u8]) -> Result<(), AllocError>
-        ensures gathered { OnOk result (self.new ≡ record self.old { waiting = self.old.waiting ++ octets.now }) }
-        ensures refused { OnErr result (self.new ≡ self.old) }
+        ensures gathered { OnOk result (self.new ≡ record self.old { waiting = self.old.waiting ++ octets.now; sent = self.new.sent }) }
+        ensures refused { OnErr result (self.new ≡ record self.old { sent = self.new.sent }) }
         ensures needed { OnErr result (0 < length octets.now) }
+        ensures short { self.new.sent ≤ length self.old.waiting }
     {
         if self.start >= self.octets.len() - self.start {
             cut_front(&mut self.octets, self.start);
@@ -124,11 +129,12 @@ impl Outgoing {
     }
 
     /// Writes what waits, in one write. The answer is how many octets were written.
-    pub fn flush<W: Write>(&mut self, socket: &mut W) -> io::Result<usize>
+    pub fn flush<S: Socket>(&mut self, socket: &mut S) -> io::Result<usize>
         ensures count { IfOk result (λ taken. length self.new.waiting + taken ≡ length self.old.waiting) }
-        ensures passes { OnOk result (Passes (W.contents socket.old) (W.contents socket.new) self.old [] self.new) }
-        ensures failed { OnErr result (Keeps (W.contents socket.old) (W.contents socket.new) × (self.new ≡ self.old)) }
+        ensures passes { OnOk result (Passes (S.held socket.old) (S.held socket.new) self.old [] self.new) }
+        ensures failed { OnErr result (Keeps (S.held socket.old) (S.held socket.new) × (self.new ≡ self.old)) }
         ensures never_early { IfErr result (λ error. ¬ IsEarly (error_kind error)) }
+        ensures left { S.left socket.new ≡ S.left socket.old }
     {
         let taken = write_some(socket, &self.octets[self.start..])?;
         self.start += taken;
@@ -139,7 +145,7 @@ impl Outgoing {
 
     /// Where nothing waits, much room that was taken for what did is given back.
     fn give_back(&mut self)
-        ensures { self.new ≡ self.old }
+        ensures { self.new ≡ record self.old { sent = self.new.sent } }
     {
         if self.start == self.octets.len() && self.octets.capacity() > MOST_KEPT {
             self.octets = Vec::new(*self.octets.allocator());
@@ -148,9 +154,10 @@ impl Outgoing {
     }
 
     /// Writes what waits until a write takes nothing, or nothing waits. Where the socket fails, what wasn't written still waits.
-    pub fn flush_all<W: Write>(&mut self, socket: &mut W) -> io::Result<()>
-        ensures passes { Passes (W.contents socket.old) (W.contents socket.new) self.old [] self.new }
+    pub fn flush_all<S: Socket>(&mut self, socket: &mut S) -> io::Result<()>
+        ensures passes { Passes (S.held socket.old) (S.held socket.new) self.old [] self.new }
         ensures never_early { IfErr result (λ error. ¬ IsEarly (error_kind error)) }
+        ensures left { S.left socket.new ≡ S.left socket.old }
     {
         let _ = &self.untold;
         while self.waiting() > 0 {
@@ -162,13 +169,14 @@ impl Outgoing {
     }
 
     /// Writes what the socket takes of octets now, if none wait before them.
-    fn write_first<W: Write>(&self, socket: &mut W, octets: &[u8]) -> io::Result<usize>
+    fn write_first<S: Socket>(&self, socket: &mut S, octets: &[u8]) -> io::Result<usize>
         ensures within { IfOk result (λ taken. taken ≤ length octets.now) }
         ensures behind { IfOk result (λ taken. 0 < length self.now.waiting → taken ≡ 0) }
-        ensures written { IfOk result (λ taken. Appends (W.contents socket.old) (W.contents socket.new) (take taken octets.now)) }
-        ensures failed { OnErr result (Keeps (W.contents socket.old) (W.contents socket.new)) }
+        ensures written { IfOk result (λ taken. Appends (S.held socket.old) (S.held socket.new) (take taken octets.now)) }
+        ensures failed { OnErr result (Keeps (S.held socket.old) (S.held socket.new)) }
         ensures asked { OnErr result (self.now.waiting ≡ []) }
         ensures never_early { IfErr result (λ error. ¬ IsEarly (error_kind error)) }
+        ensures left { S.left socket.new ≡ S.left socket.old }
     {
         if self.waiting() > 0 {
             return Ok(0);
@@ -186,13 +194,14 @@ fn cut_front(octets: &mut Vec<u8>, count: usize)
 }
 
 /// Writes what a socket takes now: nothing where it would wait.
-fn write_some<W: Write>(socket: &mut W, octets: &[u8]) -> io::Result<usize>
+fn write_some<S: Socket>(socket: &mut S, octets: &[u8]) -> io::Result<usize>
     ensures within { IfOk result (λ taken. taken ≤ length octets.now) }
-    ensures written { IfOk result (λ taken. Appends (W.contents socket.old) (W.contents socket.new) (take taken octets.now)) }
-    ensures failed { OnErr result (Keeps (W.contents socket.old) (W.contents socket.new)) }
+    ensures written { IfOk result (λ taken. Appends (S.held socket.old) (S.held socket.new) (take taken octets.now)) }
+    ensures failed { OnErr result (Keeps (S.held socket.old) (S.held socket.new)) }
     ensures never_early { IfErr result (λ error. ¬ IsEarly (error_kind error)) }
+    ensures left { S.left socket.new ≡ S.left socket.old }
 {
-    match socket.write(octets) {
+    match socket.send(octets) {
         Ok(taken) => Ok(taken),
         Err(error) if is_early(error.kind()) => Ok(0),
         Err(error) => Err(error),

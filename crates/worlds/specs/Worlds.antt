@@ -1,11 +1,12 @@
 -- What a world tells, and what serving it adds to that.
-use Rattle.std.specs.Prelude.{◌≡◌, ℕ, ◌+◌, Bool, true, false, Option, Some, None, List, [], ◌∷◌, ◌++◌, ◌⊎◌, length, reverse, ⊤}
+use Rattle.std.specs.Prelude.{◌≡◌, ◌≤◌, ℕ, ◌+◌, Bool, true, false, Option, Some, None, List, [], ◌∷◌, ◌++◌, ◌⊎◌, length, reverse, ⊤}
 use Rattle.model.specs.Logs as logs
 use Rattle.model.specs.Logs.{Step}
 use Rattle.model.specs.Setup.{Setup}
 use Rattle.model.specs.Rooms.{IsAdmitted}
 use Rattle.conduct.specs.Rule.{known_of}
 use Rattle.outputs.specs.declared.events.Event.{Event}
+use Rattle.outputs.specs.declared.events.Event.TheVariants as event
 use Rattle.outputs.specs.Views.{event_of}
 use Rattle.policy.specs.Moves.{Move}
 use Rattle.policy.specs.State.{conducts, tape_of}
@@ -50,6 +51,28 @@ SaysOver Over over = over ≡ true
 SaysOver (Happened event) over = over ≡ false
 SaysOver Nothing over = over ≡ false
 
+-- The connection is among these, and has room for so many octets.
+abbrev pub HasRoom : List (ℕ × ℕ) → ℕ → ℕ → Type 0
+HasRoom [] k count = ⊥
+HasRoom (one ∷ rooms) k count = ((one.0 ≡ k) × (count ≤ one.1)) ⊎ HasRoom rooms k count
+
+-- What comes of an upstream is of a connection that was handed, and octets are at most as many as that has room for.
+abbrev pub KeepsRooms : List (ℕ × ℕ) → Next → Type 0
+KeepsRooms rooms (Happened (event.Up k octets)) = HasRoom rooms k (length octets.items)
+KeepsRooms rooms (Happened (event.UpEnd k)) = HasRoom rooms k 0
+KeepsRooms rooms (Happened (event.UpFailed k)) = HasRoom rooms k 0
+KeepsRooms rooms next = ⊤
+
+-- whether an event tells what came of an upstream: octets, its end, or its failure
+abbrev pub is_of_upstream : Event → Bool
+is_of_upstream (event.Up k octets) = true
+is_of_upstream (event.UpEnd k) = true
+is_of_upstream (event.UpFailed k) = true
+is_of_upstream (event.Client octets) = false
+is_of_upstream event.ClientEnd = false
+is_of_upstream (event.ClientTook count) = false
+is_of_upstream (event.UpTook k count) = false
+
 -- whether an output closes the client
 abbrev pub closes : logs.Output → Bool
 closes (Does CloseClient) = true
@@ -67,14 +90,14 @@ is_closed Closed = true
 is_closed OverAtLast = false
 is_closed Turns = false
 
--- What a turn says of the end: the client is closed only where that is said, and nothing comes any more only where the world
--- said so. A turn doesn't say that all turns were taken.
+-- What a turn says of the end: the client is closed only where that is said, and nothing comes any more just where the world
+-- said so, unless the client was closed. A turn doesn't say that all turns were taken.
 abbrev pub ends : Option Ended → Bool
 ends None = false
 ends (Some ended) = is_closed ended
 
 abbrev pub SaysEnd : Option Ended → Bool → Type 0
-SaysEnd None over = ⊤
+SaysEnd None over = over ≡ false
 SaysEnd (Some Closed) over = ⊤
 SaysEnd (Some OverAtLast) over = over ≡ true
 SaysEnd (Some Turns) over = ⊥
@@ -101,12 +124,14 @@ pub record MayNotCome (setup : Setup) (log : List Step) (event : logs.Event) : T
   pub promise : Promise setup log
   pub refused : IsAdmitted promise.known promise.tape event → ⊥
 
--- The event that came last may not come behind what was added before it, and nothing is put out for it.
-abbrev pub AddsRefusedTo : Setup → List Step → Option (List Step) → Type 0
-AddsRefusedTo setup before new = (added : List Step) × (event : Event) × (new ≡ Some (before ++ added ++ came event ∷ [])) × MayNotCome setup added (event_of event)
+-- The event that came last may not come behind what was added before it, and nothing is put out for it. Of a world that keeps to the rooms of upstreams it
+-- is of no upstream.
+abbrev pub AddsRefusedTo : Setup → Bool → List Step → Option (List Step) → Type 0
+AddsRefusedTo setup keeps before new =
+    (added : List Step) × (event : Event) × (new ≡ Some (before ++ added ++ came event ∷ [])) × MayNotCome setup added (event_of event) × (keeps ≡ true → is_of_upstream event ≡ false)
 
-abbrev pub AddsRefused : Setup → Option (List Step) → Option (List Step) → Type 0
-AddsRefused setup old new = (before : List Step) → old ≡ Some before → AddsRefusedTo setup before new
+abbrev pub AddsRefused : Setup → Bool → Option (List Step) → Option (List Step) → Type 0
+AddsRefused setup keeps old new = (before : List Step) → old ≡ Some before → AddsRefusedTo setup keeps before new
 
 -- What is promised holds of all that was added to this log but the event that came last, for which nothing is put out.
 abbrev pub AddsUnansweredTo : Setup → List Step → Option (List Step) → Type 0

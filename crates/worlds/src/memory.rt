@@ -4,7 +4,7 @@ ghost use Rattle.std.specs.Prelude.{◌≡◌, ◌+◌, ◌<◌, ◌^◌, ◌∷
 ghost use Rattle.model.specs.Logs.{Step};
 ghost use Rattle.outputs.specs.Views.{event_of, output_of};
 ghost use Rattle.worlds.specs.Memory.{steps_of, log_in, handed_in, left_in, Gives, is_due, one_fewer};
-ghost use Rattle.worlds.specs.Worlds.{AddsEvent, AddsHanded, SaysOver, with_outputs};
+ghost use Rattle.worlds.specs.Worlds.{AddsEvent, AddsHanded, KeepsRooms, SaysOver, with_outputs};
 
 use crate::world::{Next, World, WorldFault};
 use outputs::{Event, Output, Text};
@@ -176,7 +176,7 @@ fn add_output(
 }
 
 impl World for MemoryWorld {
-    ghost use Rattle.std.specs.Prelude.{Some};
+    ghost use Rattle.std.specs.Prelude.{Some, false};
     ghost use Rattle.worlds.specs.Memory.{log_in, handed_in};
 
     ghost calls = { λ world. world.calls };
@@ -189,6 +189,9 @@ impl World for MemoryWorld {
 
     ghost handed = { λ world. Some (handed_in world) };
 
+    // It gives what it was made with.
+    ghost keeps_rooms = { λ _. false };
+
     fn next(&mut self, rooms: &[(u32, usize)]) -> Result<Next, WorldFault>
         requires calls { self.old.calls + 1 < 2 ^ 64 }
         requires failures { self.old.failures + 1 < 2 ^ 64 }
@@ -198,6 +201,8 @@ impl World for MemoryWorld {
         ensures log { IfOk result (λ next. AddsEvent (Some (log_in self.old)) next (Some (log_in self.new))) }
         ensures handed { OnOk result (AddsHanded (Some (log_in self.old)) (Some (handed_in self.old)) rooms.now (Some (handed_in self.new))) }
         ensures err { OnErr result ((log_in self.new ≡ log_in self.old) × (handed_in self.new ≡ handed_in self.old)) }
+        ensures rooms { false ≡ true → IfOk result (λ next. KeepsRooms rooms.now next) }
+        ensures keeps_rooms { false ≡ false }
         // The events come in order, and none is lost where a call fails.
         ensures gives { IfOk result (λ next. Gives (left_in self.old) next (left_in self.new)) }
         ensures kept { OnErr result (left_in self.new ≡ left_in self.old) }
@@ -226,6 +231,8 @@ impl World for MemoryWorld {
         ensures log { OnOk result ((before : List Step) (step : Step) → log_in self.old ≡ before ++ step ∷ [] → log_in self.new ≡ before ++ with_outputs step (output_of output.now ∷ []) ∷ []) }
         ensures err { OnErr result (log_in self.new ≡ log_in self.old) }
         ensures handed { handed_in self.new ≡ handed_in self.old }
+        ensures over { self.new.over ≡ self.old.over }
+        ensures keeps_rooms { false ≡ false }
         ensures kept { left_in self.new ≡ left_in self.old }
         ensures due { OnOk result (is_due self.old.fails_in ≡ false) }
         ensures fewer { self.new.fails_in ≡ one_fewer self.old.fails_in }

@@ -48,6 +48,8 @@ fn apply_all<W: World>(world: &mut W, outputs: &[Output]) -> Result<(), WorldFau
     ensures failed { OnErr result (W.failures world.new ≡ W.failures world.old + 1) }
     ensures log { OnOk result ((before : List Step) (step : Step) → W.log world.old ≡ Some (before ++ step ∷ []) → W.log world.new ≡ Some (before ++ with_outputs step (outputs_of outputs.now) ∷ [])) }
     ensures handed { W.handed world.new ≡ W.handed world.old }
+    ensures over { W.over world.new ≡ W.over world.old }
+    ensures keeps_rooms { W.keeps_rooms world.new ≡ W.keeps_rooms world.old }
     // Some of the first were applied, and the one that failed isn't in the log.
     ensures front { OnErr result ((before : List Step) (step : Step) → W.log world.old ≡ Some (before ++ step ∷ [])
         → (done : List Put) × (more : List Put) × (outputs_of outputs.now ≡ done ++ more) × (W.log world.new ≡ Some (before ++ with_outputs step done ∷ []))) }
@@ -85,6 +87,8 @@ fn take_event<W: World>(
     ensures memory { IsErrOf result ServeFault.Memory → (W.log world.new ≡ W.log world.old) × (W.failures world.new ≡ W.failures world.old) }
     ensures adds { OnErr result ((before : List Step) → W.log world.old ≡ Some (before ++ came event.now ∷ []) → (outputs : List Put) × (W.log world.new ≡ Some (before ++ with_outputs (came event.now) outputs ∷ []))) }
     ensures handed { W.handed world.new ≡ W.handed world.old }
+    ensures over { W.over world.new ≡ W.over world.old }
+    ensures keeps_rooms { W.keeps_rooms world.new ≡ W.keeps_rooms world.old }
 {
     if !gateway.admits(event) {
         return Err(ServeFault::NotAdmitted);
@@ -122,7 +126,8 @@ fn take_turn<W: World>(
     ensures front { IsErrOf result ServeFault.World → (setup : Setup) (before : List Step) (old : Option (List Handed)) → Serves setup false (W.log world.old) gateway.old rooms.old.items old (W.handed world.old) before
         → AddsFrontTo setup before (W.log world.new) }
     ensures refused { IsErrOf result ServeFault.NotAdmitted → (setup : Setup) (before : List Step) (old : Option (List Handed)) → Serves setup false (W.log world.old) gateway.old rooms.old.items old (W.handed world.old) before
-        → AddsRefusedTo setup before (W.log world.new) }
+        → AddsRefusedTo setup (W.keeps_rooms world.old) before (W.log world.new) }
+    ensures keeps_rooms { W.keeps_rooms world.new ≡ W.keeps_rooms world.old }
     ensures memory { IsErrOf result ServeFault.Memory → (W.failures world.new ≡ W.failures world.old)
         × ((setup : Setup) (before : List Step) (old : Option (List Handed)) → Serves setup false (W.log world.old) gateway.old rooms.old.items old (W.handed world.old) before
         → AddsUnansweredTo setup before (W.log world.new)) }
@@ -155,7 +160,8 @@ fn closes_client(outputs: &[Output]) -> bool
 ///
 /// Of what that adds to a log that the world tells holds what `gateway::run` promises. `Closed` is answered just where the client was
 /// closed, `Turns` only after all turns, and `Over` only where the world said so; `World` only where a call of the world failed, and then
-/// what was added is a front of such a log, without the output that failed; `NotAdmitted` only where an event came that may not; `Memory` puts out
+/// what was added is a front of such a log, without the output that failed; `NotAdmitted` only where an event came that may not, and never by what an upstream
+/// sent, its end or its failure, of a world that keeps to rooms; `Memory` puts out
 /// nothing for the event that came last, and all that was added before it is such a log. The maxima are at most 1,073,741,824, and there are at most 4,294,967,295 routes.
 pub fn serve<W: World>(
     alloc: Global,
@@ -169,7 +175,7 @@ pub fn serve<W: World>(
     ensures run { IfOk result (λ ended. AddsRun (setup_of config.now) ended (W.log world.old) (W.log world.new)) }
     ensures world { IsErrOf result ServeFault.World → W.failures world.old < W.failures world.new }
     ensures front { IsErrOf result ServeFault.World → AddsFront (setup_of config.now) (W.log world.old) (W.log world.new) }
-    ensures refused { IsErrOf result ServeFault.NotAdmitted → AddsRefused (setup_of config.now) (W.log world.old) (W.log world.new) }
+    ensures refused { IsErrOf result ServeFault.NotAdmitted → AddsRefused (setup_of config.now) (W.keeps_rooms world.old) (W.log world.old) (W.log world.new) }
     ensures memory { IsErrOf result ServeFault.Memory → (W.failures world.new ≡ W.failures world.old) × AddsUnanswered (setup_of config.now) (W.log world.old) (W.log world.new) }
     ensures failures { OnOk result (W.failures world.new ≡ W.failures world.old) }
     ensures calls { OnOk result (W.calls world.new ≤ W.calls world.old + turns) }
@@ -197,7 +203,7 @@ fn serve_turns<W: World>(
     ensures run { IfOk result (λ ended. (setup : Setup) → Stands setup gateway.old [] [] → AddsRun setup ended (W.log world.old) (W.log world.new)) }
     ensures world { IsErrOf result ServeFault.World → W.failures world.old < W.failures world.new }
     ensures front { IsErrOf result ServeFault.World → (setup : Setup) → Stands setup gateway.old [] [] → AddsFront setup (W.log world.old) (W.log world.new) }
-    ensures refused { IsErrOf result ServeFault.NotAdmitted → (setup : Setup) → Stands setup gateway.old [] [] → AddsRefused setup (W.log world.old) (W.log world.new) }
+    ensures refused { IsErrOf result ServeFault.NotAdmitted → (setup : Setup) → Stands setup gateway.old [] [] → AddsRefused setup (W.keeps_rooms world.old) (W.log world.old) (W.log world.new) }
     ensures memory { IsErrOf result ServeFault.Memory → (W.failures world.new ≡ W.failures world.old)
         × ((setup : Setup) → Stands setup gateway.old [] [] → AddsUnanswered setup (W.log world.old) (W.log world.new)) }
     ensures failures { OnOk result (W.failures world.new ≡ W.failures world.old) }

@@ -1,9 +1,9 @@
 //! Worlds: where events come from, and where outputs go.
 
-ghost use Rattle.std.specs.Prelude.{◌≡◌, ◌+◌, ◌<◌, ◌^◌, ◌∷◌, ◌++◌, [], ℕ, Bool, List, Option, Some, is_ok, IfOk, OnOk, OnErr, if◌then◌else◌};
+ghost use Rattle.std.specs.Prelude.{◌≡◌, ◌+◌, ◌<◌, ◌^◌, ◌∷◌, ◌++◌, [], ℕ, Bool, true, List, Option, Some, is_ok, IfOk, OnOk, OnErr, if◌then◌else◌};
 ghost use Rattle.model.specs.Logs.{Step};
 ghost use Rattle.outputs.specs.Views.{output_of};
-ghost use Rattle.worlds.specs.Worlds.{Handed, AddsEvent, AddsHanded, SaysOver, with_outputs};
+ghost use Rattle.worlds.specs.Worlds.{Handed, AddsEvent, AddsHanded, SaysOver, KeepsRooms, with_outputs};
 
 use outputs::{Event, Output};
 use std::alloc::{AllocError, AllocFailed};
@@ -59,6 +59,9 @@ pub trait World {
     /// What each call of `next` was handed that didn't fail, the first one first, where a world stores it.
     ghost handed: { Self → Option (List Handed) };
 
+    /// Whether what it gives of upstreams is of connections that have room for it, always.
+    ghost keeps_rooms: { Self → Bool };
+
     /// What comes next. `rooms` are the numbers of the open connections to upstreams, each with the most octets of it that may
     /// come in one event.
     fn next(&mut self, rooms: &[(u32, usize)]) -> Result<Next, WorldFault>
@@ -69,7 +72,9 @@ pub trait World {
         ensures over { IfOk result (λ next. SaysOver next (over self.new)) }
         ensures log { IfOk result (λ next. AddsEvent (log self.old) next (log self.new)) }
         ensures handed { OnOk result (AddsHanded (log self.old) (handed self.old) rooms.now (handed self.new)) }
-        ensures err { OnErr result ((log self.new ≡ log self.old) × (handed self.new ≡ handed self.old)) };
+        ensures err { OnErr result ((log self.new ≡ log self.old) × (handed self.new ≡ handed self.old)) }
+        ensures rooms { keeps_rooms self.old ≡ true → IfOk result (λ next. KeepsRooms rooms.now next) }
+        ensures keeps_rooms { keeps_rooms self.new ≡ keeps_rooms self.old };
 
     /// Takes an output.
     fn apply(&mut self, output: &Output) -> Result<(), WorldFault>
@@ -78,5 +83,7 @@ pub trait World {
         ensures failures { failures self.new ≡ (if is_ok result then failures self.old else failures self.old + 1) }
         ensures log { OnOk result ((before : List Step) (step : Step) → log self.old ≡ Some (before ++ step ∷ []) → log self.new ≡ Some (before ++ with_outputs step (output_of output.now ∷ []) ∷ [])) }
         ensures err { OnErr result (log self.new ≡ log self.old) }
-        ensures handed { handed self.new ≡ handed self.old };
+        ensures handed { handed self.new ≡ handed self.old }
+        ensures over { over self.new ≡ over self.old }
+        ensures keeps_rooms { keeps_rooms self.new ≡ keeps_rooms self.old };
 }

@@ -3,4 +3,4 @@ use Rattle.h2gw_parts.proofs.Refused.{words_stop}
 use Rattle.h2gw_parts.proofs.setting.read_command_line.Goals as goal
 
 pub returns : goal.returns
-returns c = IfErr-weaker c.words_of.result _ _ (words_stop _) c.words_of.ensures.stops
+returns g c = IfErr-weaker c.words_of.result _ _ (words_stop _) c.words_of.ensures.stops

@@ -7,13 +7,13 @@ use Rattle.sockets.proofs.Rising.{searched, not_found}
 use Rattle.sockets.proofs.world.place_of.Goals as goal
 
 pub returns-clause-found : goal.returns-clause-found
-returns-clause-found c =
+returns-clause-found g c =
     let by_number = c.binary_search_by_key.ensures.position (λ u. u.k) (answers_always _ _ _ (λ f a r g called. search rules)) in
-    subst (λ (r : Option ℕ). IfSome r (λ place. (other : Upstream) → (get_or c.args.upstreams.now place other).k ≡ c.args.k)) (sym c.ok.ensures.value)
+    subst (λ (r : Option ℕ). IfSome r (λ place. (other : Upstream g.row.S.Denot) → (get_or c.args.upstreams.now place other).k ≡ c.args.k)) (sym c.ok.ensures.value)
     (searched c.args.upstreams.now c.args.k c.binary_search_by_key.result by_number)
 
 pub returns-clause-absent : goal.returns-clause-absent
-returns-clause-absent c =
+returns-clause-absent g c =
     let by_number = c.binary_search_by_key.ensures.position (λ u. u.k) (answers_always _ _ _ (λ f a r g called. search rules)) in
     subst (λ (r : Option ℕ). IfNone r (AreRising c.args.upstreams.now → IsOpenNowhere c.args.k c.args.upstreams.now)) (sym c.ok.ensures.value)
     (not_found c.args.upstreams.now c.args.k c.binary_search_by_key.result by_number)

@@ -1,12 +1,21 @@
-use Rattle.std.proofs.Common.{[], refl, ◌∙◌, arith, inr}
+use Rattle.std.proofs.Common.{◌≡◌, List, [], refl, subst, ◌∙◌, arith, inr}
+use Rattle.std.specs.Prelude.{Bool, Option}
+use Rattle.model.specs.Logs.{Step}
+use Rattle.model.specs.Setup.{Setup}
+use Rattle.worlds.specs.Worlds.{AddsRefusedTo}
 use Rattle.worlds.specs.declared.services.Ended.TheVariants.{Turns}
 use Rattle.worlds.proofs.Adding.{serves_none, serves_run, same_fault, no_fault, hands_of}
 use Rattle.worlds.proofs.services.serve_turns.Goals as goal
+
+-- It keeps to rooms as it did.
+refused_still : (setup : Setup) (a b : Bool) (before : List Step) (new : Option (List Step)) → a ≡ b → AddsRefusedTo setup a before new → AddsRefusedTo setup b before new
+refused_still setup a b before new same adds = subst (λ keeps. AddsRefusedTo setup keeps before new) same adds
 
 pub loop-turn-init : goal.loop-turn-init
 loop-turn-init g c = record {
   calls = omega arith;
   failures = refl;
+  keeps_rooms = refl;
   stands = λ setup at. ([], [], at);
   log = λ setup at before e. serves_none setup _ c.args.gateway.now c.new-rooms.result.items _ before e c.new-rooms.ensures.items at;
 }
@@ -21,6 +30,7 @@ pub loop-turn-preserved : goal.loop-turn-preserved
 loop-turn-preserved g c = record {
   calls = (let a = c.in-Ok-None.ensures.calls in let i = c.loop-turn.invariant.calls in omega (arith, a, i));
   failures = c.in-Ok-None.ensures.failures ∙ c.loop-turn.invariant.failures;
+  keeps_rooms = c.in-Ok-None.ensures.keeps_rooms ∙ c.loop-turn.invariant.keeps_rooms;
   stands = λ setup at. c.in-Ok-None.ensures.stands setup (c.loop-turn.invariant.stands setup at);
   log = λ setup at before e. (rw c.in-Ok-None.field-0-is at c.in-Ok-None.ensures.log) setup before _ (c.loop-turn.invariant.log setup at before e);
 }
@@ -45,7 +55,8 @@ pub returns-in-Err-clause-front : goal.returns-in-Err-clause-front
 returns-in-Err-clause-front g c = λ e setup at before h. c.in-Err.ensures.front (same_fault _ _ e) setup before _ (c.loop-turn.invariant.log setup at before h)
 
 pub returns-in-Err-clause-refused : goal.returns-in-Err-clause-refused
-returns-in-Err-clause-refused g c = λ e setup at before h. c.in-Err.ensures.refused (same_fault _ _ e) setup before _ (c.loop-turn.invariant.log setup at before h)
+returns-in-Err-clause-refused g c = λ e setup at before h.
+    refused_still setup _ _ before _ c.loop-turn.invariant.keeps_rooms (c.in-Err.ensures.refused (same_fault _ _ e) setup before _ (c.loop-turn.invariant.log setup at before h))
 
 pub returns-in-Err-clause-memory : goal.returns-in-Err-clause-memory
 returns-in-Err-clause-memory g c = λ e.

@@ -1,5 +1,6 @@
 use Rattle.std.proofs.Common.{◌++◌, ◌∙◌, reverse}
 use Rattle.worlds.proofs.Adding.{front_whole, may_not_come, same_fault, unanswered, serves_same, hands_one, hands_still, hands_step}
+use Rattle.worlds.proofs.Fitting.{of_none}
 use Rattle.worlds.proofs.services.take_turn.Goals as goal
 
 pub returns-in-Err-clause-front : goal.returns-in-Err-clause-front
@@ -13,7 +14,7 @@ returns-in-Ok-Nothing-clause-log g c = λ setup before old s.
     serves_same setup _ _ c.args.gateway.now c.args.rooms.now.items old _ _ before (rw c.in-Ok-Nothing.field-0-is at c.in-Ok-Nothing.ensures.log) (rw c.deref.ensures.value at c.in-Ok-Nothing.ensures.handed) s
 
 pub returns-in-Ok-Nothing-clause-over : goal.returns-in-Ok-Nothing-clause-over
-returns-in-Ok-Nothing-clause-over g c = tt
+returns-in-Ok-Nothing-clause-over g c = rw c.in-Ok-Nothing.field-0-is at c.in-Ok-Nothing.ensures.over
 
 pub returns-in-Ok-Over-clause-log : goal.returns-in-Ok-Over-clause-log
 returns-in-Ok-Over-clause-log g c = λ setup before old s.
@@ -44,6 +45,8 @@ returns-clause-refused g c = λ e setup before old s.
       c.in-Ok-Happened.event,
       refused.0 ∙ came_in,
       may_not_come setup _ _ c.args.gateway.now c.args.rooms.now.items old _ before c.in-Ok-Happened.event s (refused.1 setup (reverse s.added) s.run s.stands),
+      λ keeps. of_none setup c.args.gateway.now (reverse s.added) s.run s.stands c.args.rooms.now.items s.rooms_are c.in-Ok-Happened.event
+          ((rw c.in-Ok-Happened.field-0-is at (rw c.deref.ensures.value at c.in-Ok-Happened.ensures.rooms)) keeps) (refused.1 setup (reverse s.added) s.run s.stands),
     )
 
 pub returns-clause-hands : goal.returns-clause-hands

@@ -1,6 +1,7 @@
 use Rattle.std.proofs.Common.{◌≡◌, ◌<◌, ◌∙◌, inr, length, get_or, subst, ap}
 use Rattle.sockets.specs.declared.upstream.Upstream.{Upstream}
-use Rattle.sockets.specs.Sides.{Sends, SendsFront}
+use Rattle.sockets.specs.Sides.{SendsFront}
+use Rattle.sockets.specs.Performed.{Sends}
 use Rattle.sockets.proofs.Performing.{one_changed, listed, front_listed, on_ok, on_err}
 use Rattle.sockets.proofs.Rising.{rising_set}
 use Rattle.sockets.proofs.world.Sockets.put.Goals as goal
@@ -12,21 +13,21 @@ returns-clause-sends g c =
     let first = c.index_mut-upstream.result.now in
     let within : c.in-Some.place < length us = rw (← c.deref.ensures.value) c.in-Some.ensures.within in
     let found : (get_or us c.in-Some.place first).k ≡ c.args.k = rw (← c.deref.ensures.value) (c.in-Some.ensures.found first) in
-    let sends : Sends first octets c.list.new.upstream = listed first c.put.new.self c.list.new.upstream octets c.in_ok-put.ensures.sends c.list.ensures in
-    on_ok c.list.result (λ up. inr (one_changed (λ from to. Sends from octets to) us c.in-Some.place c.args.k first c.list.new.upstream within found (subst (λ u. Sends u octets c.list.new.upstream) c.index_mut-upstream.ensures.value sends)))
+    let sends : Sends g.S.Socket.left g.S.Socket.held octets first c.list.new.upstream = listed _ _ first c.put.new.self c.list.new.upstream octets c.in_ok-put.ensures.sends c.list.ensures in
+    on_ok c.list.result (λ up. inr (one_changed (λ from to. Sends g.S.Socket.left g.S.Socket.held octets from to) us c.in-Some.place c.args.k first c.list.new.upstream within found (subst (λ u. Sends g.S.Socket.left g.S.Socket.held octets u c.list.new.upstream) c.index_mut-upstream.ensures.value sends)))
 
 pub returns-clause-rising : goal.returns-clause-rising
 returns-clause-rising g c =
     let us = c.args.self.now.upstreams.items in
     let first = c.index_mut-upstream.result.now in
     rising_set us c.in-Some.place first c.list.new.upstream
-    (ap (λ (u : Upstream). u.k) c.list.ensures ∙ c.in_ok-put.ensures.front.number ∙ ap (λ (u : Upstream). u.k) c.index_mut-upstream.ensures.value)
+    (ap (λ (u : Upstream g.row.S.Denot). u.k) c.list.ensures ∙ c.in_ok-put.ensures.front.number ∙ ap (λ (u : Upstream g.row.S.Denot). u.k) c.index_mut-upstream.ensures.value)
 
 pub returns-in_err-put-clause-rising : goal.returns-in_err-put-clause-rising
 returns-in_err-put-clause-rising g c =
     let us = c.args.self.now.upstreams.items in
     let first = c.index_mut-upstream.result.now in
-    rising_set us c.in-Some.place first c.put.new.self (c.in_err-put.ensures.front.number ∙ ap (λ (u : Upstream). u.k) c.index_mut-upstream.ensures.value)
+    rising_set us c.in-Some.place first c.put.new.self (c.in_err-put.ensures.front.number ∙ ap (λ (u : Upstream g.row.S.Denot). u.k) c.index_mut-upstream.ensures.value)
 
 pub returns-in_err-put-clause-err : goal.returns-in_err-put-clause-err
 returns-in_err-put-clause-err g c =
@@ -35,7 +36,7 @@ returns-in_err-put-clause-err g c =
     let first = c.index_mut-upstream.result.now in
     let within : c.in-Some.place < length us = rw (← c.deref.ensures.value) c.in-Some.ensures.within in
     let found : (get_or us c.in-Some.place first).k ≡ c.args.k = rw (← c.deref.ensures.value) (c.in-Some.ensures.found first) in
-    on_err c.from_residual.result (one_changed (λ from to. SendsFront from octets to) us c.in-Some.place c.args.k first c.put.new.self within found (subst (λ u. SendsFront u octets c.put.new.self) c.index_mut-upstream.ensures.value c.put.ensures.front))
+    on_err c.from_residual.result (one_changed (λ from to. SendsFront g.S.Socket.left g.S.Socket.held octets from to) us c.in-Some.place c.args.k first c.put.new.self within found (subst (λ u. SendsFront g.S.Socket.left g.S.Socket.held octets u c.put.new.self) c.index_mut-upstream.ensures.value c.put.ensures.front))
 
 pub returns-clause-err : goal.returns-clause-err
 returns-clause-err g c =
@@ -44,5 +45,5 @@ returns-clause-err g c =
     let first = c.index_mut-upstream.result.now in
     let within : c.in-Some.place < length us = rw (← c.deref.ensures.value) c.in-Some.ensures.within in
     let found : (get_or us c.in-Some.place first).k ≡ c.args.k = rw (← c.deref.ensures.value) (c.in-Some.ensures.found first) in
-    let front : SendsFront first octets c.list.new.upstream = front_listed first c.put.new.self c.list.new.upstream octets c.put.ensures.front c.list.ensures in
-    on_err c.list.result (one_changed (λ from to. SendsFront from octets to) us c.in-Some.place c.args.k first c.list.new.upstream within found (subst (λ u. SendsFront u octets c.list.new.upstream) c.index_mut-upstream.ensures.value front))
+    let front : SendsFront g.S.Socket.left g.S.Socket.held octets first c.list.new.upstream = front_listed _ _ first c.put.new.self c.list.new.upstream octets c.put.ensures.front c.list.ensures in
+    on_err c.list.result (one_changed (λ from to. SendsFront g.S.Socket.left g.S.Socket.held octets from to) us c.in-Some.place c.args.k first c.list.new.upstream within found (subst (λ u. SendsFront g.S.Socket.left g.S.Socket.held octets u c.list.new.upstream) c.index_mut-upstream.ensures.value front))

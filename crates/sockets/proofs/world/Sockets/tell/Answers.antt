@@ -1,22 +1,22 @@
-use Rattle.std.proofs.Common.{◌<◌, subst, length, get_or, refl}
-use Rattle.std.specs.Prelude.{None}
-use Rattle.sockets.specs.Sides.{GoesOn}
-use Rattle.sockets.proofs.Moving.{moves_still, moves_with, moves_twice}
+use Rattle.std.proofs.Common.{◌≡◌, ◌<◌, subst, length, get_or}
+use Rattle.std.specs.Prelude.{None, Ok}
+use Rattle.sockets.specs.Sides.{GoesOn, took_news}
+use Rattle.sockets.proofs.Moving.{moves_still, moves_told, moves_untold, moves_twice}
 use Rattle.sockets.proofs.world.Sockets.tell.Goals as goal
 use Rattle.sockets.proofs.world.Sockets.tell.Goals.{in-Some+else-count-gt0, in_default}
 
 pub loop-init : goal.loop-init
-loop-init g c = moves_still _ _
+loop-init g c = moves_still _ _ _ _
 
-pub returns-then-count-gt0 : goal.returns-then-count-gt0
-returns-then-count-gt0 g c = record {
-  moves =
-      let us = c.loop.self.upstreams.items in
-      let first = c.index_mut.result.now in
-      let within : c.in-Some.place < length us = rw (← c.deref.ensures.value) c.in-Some.ensures.within in
-      let goes : GoesOn (get_or us c.in-Some.place first) c.tell-count.new.self = subst (λ u. GoesOn u c.tell-count.new.self) c.index_mut.ensures.value c.tell-count.ensures.goes in
-      moves_twice _ _ _ _ _ us _ c.loop.invariant (moves_with _ _ us _ c.in-Some.place c.tell-count.new.self first refl within goes refl);
-}
+pub returns-then-count-gt0-clause-moves : goal.returns-then-count-gt0-clause-moves
+returns-then-count-gt0-clause-moves g c =
+    let us = c.loop.self.upstreams.items in
+    let first = c.index_mut.result.now in
+    let within : c.in-Some.place < length us = rw (← c.deref.ensures.value) c.in-Some.ensures.within in
+    let found : (get_or us c.in-Some.place first).k ≡ c.in_ok-k.k = rw (← c.deref.ensures.value) (c.in-Some.ensures.found first) in
+    let goes : GoesOn g.S.Socket.left g.S.Socket.held (took_news c.tell-count.result) (get_or us c.in-Some.place first) c.tell-count.new.self =
+    subst (λ u. GoesOn g.S.Socket.left g.S.Socket.held (took_news c.tell-count.result) u c.tell-count.new.self) c.index_mut.ensures.value c.tell-count.ensures.goes in
+    moves_twice _ _ _ _ _ _ _ us _ c.loop.invariant (moves_told _ _ c.tell-count.result _ us c.in-Some.place _ c.tell-count.new.self first within found goes)
 
 pub loop-preserved : goal.loop-preserved
 loop-preserved g c = elim c.match-place_of.branch [
@@ -24,7 +24,8 @@ loop-preserved g c = elim c.match-place_of.branch [
       let us = c.loop.self.upstreams.items in
       let first = w.index_mut.result.now in
       let within : w.in-Some.place < length us = rw (← c.deref.ensures.value) w.in-Some.ensures.within in
-      let goes : GoesOn (get_or us w.in-Some.place first) w.tell-count.new.self = subst (λ u. GoesOn u w.tell-count.new.self) w.index_mut.ensures.value w.tell-count.ensures.goes in
-      rw w.self-is (moves_twice None _ _ _ _ us _ c.loop.invariant (moves_with None _ us _ w.in-Some.place w.tell-count.new.self first refl within goes refl))
+      let goes : GoesOn g.S.Socket.left g.S.Socket.held (took_news w.tell-count.result) (get_or us w.in-Some.place first) w.tell-count.new.self =
+      subst (λ u. GoesOn g.S.Socket.left g.S.Socket.held (took_news w.tell-count.result) u w.tell-count.new.self) w.index_mut.ensures.value w.tell-count.ensures.goes in
+      rw w.self-is (moves_twice _ _ (Ok None) _ _ _ _ us _ c.loop.invariant (moves_untold _ _ w.tell-count.result _ us w.in-Some.place w.tell-count.new.self first w.if-count-gt0.false within goes))
   | in_default w ↦ rw w.self-is c.loop.invariant
 ]

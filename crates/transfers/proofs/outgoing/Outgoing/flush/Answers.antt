@@ -18,9 +18,9 @@ returns-clause-passes g c =
     let waiting : drop start c.self.inside.octets.items ≡ c.args.self.now.waiting = ap (λ w. w.waiting) c.self.view_is in
     let written : take (length c.deref.result.now - start) (drop start c.deref.result.now) ≡ c.args.self.now.waiting =
     rest_of c.deref.result.now c.self.inside.octets.items c.args.self.now.waiting start c.deref.ensures.value waiting in
-    subst (λ new. Passes (g.W.Write.contents c.args.socket.now) (g.W.Write.contents c.write_some.new.socket) c.args.self.now [] new) (sym c.give_back.ensures)
+    subst (λ new. Passes (g.S.Socket.held c.args.socket.now) (g.S.Socket.held c.write_some.new.socket) c.args.self.now [] new) (sym c.give_back.ensures)
     (went_on _ _ c.args.self.now _ n
     (subst (λ ws. n ≤ length ws) written c.in_ok-taken.ensures.within)
-    (subst (λ ws. Appends (g.W.Write.contents c.args.socket.now) (g.W.Write.contents c.write_some.new.socket) (take n ws)) written c.in_ok-taken.ensures.written)
+    (subst (λ ws. Appends (g.S.Socket.held c.args.socket.now) (g.S.Socket.held c.write_some.new.socket) (take n ws)) written c.in_ok-taken.ensures.written)
     (behind c.self.inside.octets.items c.args.self.now.waiting start n waiting)
     (c.saturating_add-self-inside.ensures ∙ ap (λ u. min (u + n) (2 ^ 64 - 1)) (ap (λ w. w.untold) c.self.view_is)))

@@ -1,0 +1,79 @@
+//! Clients that are served behind the bind.
+
+ghost use Rattle.gateway.specs.Setups.{setup_of, IsServable};
+
+use crate::clients::serve_at;
+use gateway::{Config, Passing, Policy};
+use h2gw_parts::setting::Setting;
+use std::alloc::Global;
+use std::io;
+use std::io::{Read, Write};
+use std::net::{Ipv4Addr, Shutdown, SocketAddr, TcpListener, TcpStream};
+use std::process::Abort;
+use std::test::*;
+
+/// The preface, settings without entries, and a GET without a body on stream 1.
+const REQUEST: &[u8] =
+    b"PRI * HTTP/2.0\r\n\r\nSM\r\n\r\n\0\0\0\x04\0\0\0\0\0\0\0\x14\x01\x05\0\0\0\x01\x82\x86\x84\x41\x0fwww.example.com";
+
+/// What a client is sent: the gateway's settings, the acknowledgement of its own, and the status 404, since there is no route.
+const ANSWER: &[u8] =
+    b"\0\0\x0c\x04\0\0\0\0\0\0\x03\0\0\0\x64\0\x06\0\0\x40\0\0\0\0\x04\x01\0\0\0\0\0\0\x05\x01\x05\0\0\0\x01\x8d\x0f\x0d\x01\x30";
+
+/// A setting without a route, for so many connections of so many turns.
+fn setting_of(alloc: Global, connections: u32, turns: u32) -> Setting
+    ensures { IsServable (setup_of result.config) }
+{
+    Setting {
+        listen: SocketAddr::from((Ipv4Addr::LOCALHOST, 0)),
+        config: Config {
+            routes: Vec::new(alloc),
+            policy: Policy::Plain,
+            passing: Passing::Whole,
+            max_body: 1,
+            max_response: 1,
+        },
+        addresses: Vec::new(alloc),
+        connections,
+        turns,
+    }
+}
+
+/// A client that has sent a request, and ends.
+fn client_at(rt: &HostRuntime, listener: &TcpListener) -> io::Result<TcpStream> {
+    let mut client = TcpStream::connect(rt, listener.local_addr()?)?;
+    client.write_all(REQUEST)?;
+    client.shutdown(Shutdown::Write)?;
+    Ok(client)
+}
+
+/// All that a client reads until its connection ends.
+fn read_by(alloc: Global, client: &mut TcpStream) -> io::Result<Vec<u8>> {
+    let mut read = Vec::new(alloc);
+    client.read_to_end(&mut read)?;
+    Ok(read)
+}
+
+/// Two clients that come before either is served read their answers, where each is served for so many turns.
+fn assert_served(rt: &impl Abort, host: &HostRuntime, turns: u32) -> Result<(), Fail> {
+    let setting = setting_of(host.alloc(), 2, turns);
+    let listener = TcpListener::bind(host, setting.listen)?;
+    let mut first = client_at(host, &listener)?;
+    let mut second = client_at(host, &listener)?;
+    assert!(rt; serve_at(host, &setting, &listener).is_ok());
+    // Who wasn't accepted is reset now.
+    drop(listener);
+    assert_eq!(rt; read_by(host.alloc(), &mut first)?.as_slice(), ANSWER);
+    assert_eq!(rt; read_by(host.alloc(), &mut second)?.as_slice(), ANSWER);
+    Ok(())
+}
+
+#[test]
+fn clients_are_served_one_after_another(rt: HostRuntime) -> Result<(), Fail> {
+    assert_served(&rt, &rt, 100)
+}
+
+#[test]
+fn what_a_client_is_sent_goes_out_where_its_turns_end(rt: HostRuntime) -> Result<(), Fail> {
+    assert_served(&rt, &rt, 1)
+}

@@ -1,0 +1,78 @@
+//! Where octets are read to.
+
+ghost use Rattle.std.specs.Prelude.{◌≡◌, ◌↔◌, length, false, min, vec_len, IfOk, IfSome, IsTrue, OnErr};
+ghost use Rattle.transfers.specs.Transfers.{Gives};
+ghost use Rattle.sockets.specs.Sides.{lost_news, is_left, IsOf, GoesOn};
+ghost use Rattle.sockets.specs.Performed.{GoesBy, FitsRoom};
+
+use crate::side::Side;
+use crate::upstream::Upstream;
+use crate::wire::Wire;
+use gateway::Event;
+use std::alloc::{AllocError, Global};
+use std::io;
+use transfers::Got;
+use worlds::WorldFault;
+
+/// The most octets that come in one event.
+const PIECE: usize = 65536;
+
+/// Room for as many octets as come in one event at most; kept from read to read.
+#[derive(Drop)]
+pub struct Buffer {
+    octets: Vec<u8>,
+    ghost long: { vec_len octets ≡ 65536 },
+}
+
+impl Buffer {
+    /// Room for octets.
+    pub fn new(alloc: Global) -> Result<Buffer, AllocError> {
+        let octets = vec![in alloc; 0; PIECE]?;
+        Ok(Buffer { octets })
+    }
+
+    /// Reads what is there of a side.
+    pub fn read<S: Wire>(&mut self, alloc: Global, side: &mut Side<S>) -> io::Result<Got>
+        ensures gives { IfOk result (λ got. Gives (S.left side.old.socket) (S.left side.new.socket) 65536 got) }
+        ensures held { S.held side.new.socket ≡ S.held side.old.socket }
+        ensures ended { IfOk result (λ got. IsTrue side.new.ended ↔ (got ≡ Got.End)) }
+        ensures failed { OnErr result (side.new.ended ≡ side.old.ended) }
+        ensures readable { IfOk result (λ got. side.new.readable ≡ is_left 65536 side.old.hung_up got) }
+        ensures stays { side.new ≡ record side.old { socket = side.new.socket; readable = side.new.readable; ended = side.new.ended } }
+    {
+        side.read(alloc, &mut self.octets)
+    }
+
+    /// Reads what is there of an upstream, as far as there is room, if it is ready.
+    pub fn read_in_turn<S: Wire>(
+        &mut self,
+        alloc: Global,
+        upstream: &mut Upstream<S>,
+        room: usize,
+    ) -> Result<Option<Event>, WorldFault>
+        ensures event { IfOk result (λ event. IfSome event (IsOf upstream.old.k)) }
+        ensures goes { IfOk result (λ event. GoesBy S.left S.held event upstream.old upstream.new) }
+        ensures lost { OnErr result (GoesOn S.left S.held lost_news upstream.old upstream.new) }
+        ensures fits { IfOk result (λ event. FitsRoom (min room 65536) event) }
+        ensures stays { upstream.new ≡ record upstream.old { side = upstream.new.side; is_queued = false } }
+    {
+        read_front(alloc, upstream, &mut self.octets, room)
+    }
+}
+
+/// Reads what is there of an upstream into the front of these octets, as far as there is room, if it is ready.
+fn read_front<S: Wire>(
+    alloc: Global,
+    upstream: &mut Upstream<S>,
+    octets: &mut [u8],
+    room: usize,
+) -> Result<Option<Event>, WorldFault>
+    ensures event { IfOk result (λ event. IfSome event (IsOf upstream.old.k)) }
+    ensures goes { IfOk result (λ event. GoesBy S.left S.held event upstream.old upstream.new) }
+    ensures lost { OnErr result (GoesOn S.left S.held lost_news upstream.old upstream.new) }
+    ensures fits { IfOk result (λ event. FitsRoom (min room (length octets.old)) event) }
+    ensures stays { upstream.new ≡ record upstream.old { side = upstream.new.side; is_queued = false } }
+{
+    let most = room.min(octets.len());
+    upstream.read_in_turn(alloc, &mut octets[..most])
+}

@@ -32,6 +32,7 @@ fn setting_of(alloc: Global, connections: u32, turns: u32) -> Setting
             passing: Passing::Whole,
             max_body: 1,
             max_response: 1,
+            keep: false,
         },
         addresses: Vec::new(alloc),
         connections,

@@ -10,7 +10,12 @@ use Rattle.h1_reader.specs.HeadSizes.{field_octets}
 use Rattle.header_blocks.specs.HeldInside as blocks
 use Rattle.upstreams.specs.HeldInside.{answers_in}
 use Rattle.hpack_table.specs.declared.field.Field.TheInside.{Inside as FieldInside}
+use Rattle.hpack_table.specs.Ringed.{fields_in}
+use Rattle.hpack_table.specs.declared.ring.Ring.TheInside.{Inside as RingInside}
 use Rattle.hpack_table.specs.declared.table.Table.TheInside.{Inside as TableInside}
+use Rattle.h1_writer.specs.Views.{stage_of}
+use Rattle.h1_writer.specs.declared.sender.Sender.TheInside.{Inside as SenderInside}
+use Rattle.requests.specs.HeldInside.{held_back}
 use Rattle.response_texts.specs.declared.passed.ResponseHead.TheInside.{Inside as HeadInside}
 use Rattle.response_texts.specs.declared.passed.Trailers.TheInside.{Inside as TrailersInside}
 use Rattle.h1_reader.specs.declared.reader.Reader.TheInside.{Inside as ReaderInside}
@@ -28,6 +33,10 @@ use Rattle.streams_kept.specs.declared.Streams.TheInside.{Inside as StreamsInsid
 abbrev pub in_field : FieldInside → ℕ
 in_field = λ record { text = text; split = split }. length text.items
 
+-- in the ring that its fields stand in
+abbrev pub in_ring : RingInside → ℕ
+in_ring = λ record { buffer = buffer; alloc = alloc }. octets_of_fields (fields_in buffer)
+
 -- in a table of fields, whose index has numbers alone
 abbrev pub in_table : TableInside → ℕ
 in_table = λ record { fields = fields; size = size; maximum = maximum; index = index }. octets_of_fields fields
@@ -38,6 +47,10 @@ in_head = λ record { status = status; fields = fields }. octets_of_fields field
 
 abbrev pub in_trailers : TrailersInside → ℕ
 in_trailers = λ record { lines = lines }. octets_of_fields lines.items
+
+-- in the writer of a request: the octet that is held back
+abbrev pub in_sender : SenderInside → ℕ
+in_sender = λ record { waiting = waiting }. held_back (stage_of waiting)
 
 -- in a reader of a response: what it holds unread, and the fields Connection of its head; its spans are numbers
 abbrev pub in_reader : ReaderInside → ℕ

@@ -6,9 +6,11 @@ ghost use Rattle.conduct.specs.Held.{octets_begun};
 ghost use Rattle.h1_reader.specs.HeadSizes.{field_octets};
 ghost use Rattle.offering.specs.Held.{octets_in, octets_held, head_octets, octets_of_fields};
 ghost use Rattle.holding.specs.Held.{held_in};
-ghost use Rattle.holding.specs.HeldInside.{in_field, in_table, in_head, in_trailers, in_reader, in_connection, in_streams, in_kept, in_offers, in_side, in_marks, in_rooms};
+ghost use Rattle.holding.specs.HeldInside.{in_field, in_ring, in_table, in_sender, in_head, in_trailers, in_reader, in_connection, in_streams, in_kept, in_offers, in_side, in_marks, in_rooms};
 ghost use Rattle.hpack_table.specs.declared.field.Field.TheInside.{Inside as FieldInside};
 ghost use Rattle.hpack_table.specs.declared.field.Field.TheView.{view as field_seen, invariant as IsSoundField};
+ghost use Rattle.hpack_table.specs.declared.ring.Ring.TheInside.{Inside as RingInside};
+ghost use Rattle.hpack_table.specs.declared.ring.Ring.TheView.{view as ring_seen};
 ghost use Rattle.hpack_table.specs.declared.table.Table.TheInside.{Inside as TableInside};
 ghost use Rattle.hpack_table.specs.declared.table.Table.TheView.{view as table_seen};
 ghost use Rattle.response_texts.specs.declared.passed.ResponseHead.TheInside.{Inside as HeadInside};
@@ -17,6 +19,9 @@ ghost use Rattle.response_texts.specs.declared.passed.Trailers.TheInside.{Inside
 ghost use Rattle.response_texts.specs.declared.passed.Trailers.TheView.{view as trailers_seen};
 ghost use Rattle.h1_reader.specs.declared.reader.Reader.TheInside.{Inside as ReaderInside};
 ghost use Rattle.h1_reader.specs.declared.reader.Reader.TheView.{view as reader_seen};
+ghost use Rattle.h1_writer.specs.declared.sender.Sender.TheInside.{Inside as SenderInside};
+ghost use Rattle.h1_writer.specs.declared.sender.Sender.TheView.{view as sender_seen};
+ghost use Rattle.requests.specs.HeldInside.{held_back};
 ghost use Rattle.judgement.specs.declared.connection.Connection.TheInside.{Inside as ConnectionInside};
 ghost use Rattle.judgement.specs.declared.connection.Connection.TheView.{view as connection_seen};
 ghost use Rattle.marks_kept.specs.declared.marks.Marks.TheInside.{Inside as MarksInside};
@@ -29,13 +34,15 @@ ghost use Rattle.relay.specs.declared.rooms.Rooms.TheInside.{Inside as RoomsInsi
 ghost use Rattle.relay.specs.declared.rooms.Rooms.TheView.{view as rooms_seen};
 ghost use Rattle.streams_kept.specs.declared.Streams.TheInside.{Inside as StreamsInside};
 
-/// What lies between calls in a field, a header table, a head, trailers and a reader of a response is what a clause sees of them, and no octet more: each
-/// field of the struct is counted (`specs/HeldInside`). In a table no more lies than its size.
+/// What lies between calls in a field, a header table and its ring, a head, trailers, the writer of a request and a reader of a response is what a clause sees
+/// of them, and no octet more: each field of the struct is counted (`specs/HeldInside`). In a table no more lies than its size.
 pub fn what_is_kept_is_seen()
     ensures field { (field : FieldInside) → IsSoundField field → in_field field ≡ length (field_seen field).name + length (field_seen field).value }
+    ensures ring { (ring : RingInside) → in_ring ring ≡ octets_of_fields (ring_seen ring) }
     ensures table { (table : TableInside) → in_table table ≤ total_size (table_seen table).fields }
     ensures head { (head : HeadInside) → in_head head ≡ head_octets (head_seen head) }
     ensures trailers { (trailers : TrailersInside) → in_trailers trailers ≡ octets_of_fields (trailers_seen trailers) }
+    ensures sender { (sender : SenderInside) → in_sender sender ≡ held_back (sender_seen sender) }
     ensures reader { (reader : ReaderInside) → in_reader reader ≡ length (reader_seen reader).held.octets + field_octets (reader_seen reader).held.connections }
 {}
 

@@ -115,12 +115,11 @@ impl Client {
             Some(octets) if kind == 8 => u64::from(u32::from_be_bytes(*octets)),
             _ => 0,
         };
-        let window = if stream == 0 {
-            &mut self.on_all
+        if stream == 0 {
+            self.on_all = self.on_all.saturating_add(increment);
         } else {
-            &mut self.on_one
-        };
-        *window = window.saturating_add(increment);
+            self.on_one = self.on_one.saturating_add(increment);
+        }
         let left = rest.len().saturating_sub(length);
         let taken = self.unread.len().saturating_sub(left);
         let _ = self.unread.drain(..taken);
@@ -231,6 +230,7 @@ fn config_of(alloc: Global, passing: Passing) -> Result<Config, AllocError>
         passing,
         max_body: 100_000,
         max_response: 100_000,
+        keep: false,
     })
 }
 

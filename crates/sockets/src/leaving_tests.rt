@@ -80,7 +80,7 @@ impl Wire for Filling<'_> {
 }
 
 /// A socket, of which nothing was read yet.
-fn filling<'a>(host: &HostRuntime, read: &'a RefCell<Vec<u8>>) -> io::Result<Filling<'a>> {
+fn socket_of<'a>(host: &HostRuntime, read: &'a RefCell<Vec<u8>>) -> io::Result<Filling<'a>> {
     let listener = TcpListener::bind(host, SocketAddr::from((Ipv4Addr::LOCALHOST, 0)))?;
     let near = TcpStream::connect(host, listener.local_addr()?)?;
     let (far, _address) = listener.accept()?;
@@ -105,7 +105,7 @@ fn numbers(alloc: Global) -> Result<Vec<u8>, AllocError> {
 #[test]
 fn a_client_that_is_left_reads_all(rt: HostRuntime) -> Result<(), Fail> {
     let read = RefCell::new(Vec::new(rt.alloc()));
-    let client = filling(&rt, &read)?;
+    let client = socket_of(&rt, &read)?;
     let mut world = SocketWorld::new(rt.alloc(), &rt, &[], client)?;
     let sent = world.apply(&Output::Client(numbers(rt.alloc())?));
     assert_eq!(rt; sent, Ok(()));

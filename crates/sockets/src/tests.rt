@@ -439,7 +439,7 @@ fn end_of(world: &mut SocketWorld<'_, HostRuntime, mio::net::TcpStream>) -> Opti
     requires calls { world.old.calls + 20 < 2 ^ 64 }
     requires failures { world.old.failures + 20 < 2 ^ 64 }
 {
-    for _turn in 0..20 {
+    for _turn in 0..20_u64 {
         let Ok(Next::Happened(event)) = world.next(&[(1, 65536)]) else {
             return None;
         };

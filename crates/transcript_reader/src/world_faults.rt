@@ -118,7 +118,7 @@ pub(crate) fn difference(
     match serve(alloc, config, &mut world, u64::MAX) {
         Ok(_) => {}
         Err(ServeFault::Memory) => return Err(AllocError),
-        Err(_) => return Ok(Some(String::from_str(alloc, "an event may not come")?)),
+        Err(_) => return Ok(Some(String::from_str(alloc, "an event that may not come")?)),
     }
     let calls = calls_in(world.log());
     for call in 0..calls {

@@ -8,14 +8,10 @@ use scripts::{ScriptFault, read_script};
 use std::alloc::{AllocError, Global};
 use worlds::{MemoryWorld, ServeFault, serve};
 
-/// A world that gives the events of a script, and fails at the call of this number.
-fn world_of(
-    alloc: Global,
-    script: &str,
-    fail_at: Option<u64>,
-) -> Result<Option<MemoryWorld>, AllocError> {
+/// The events of a script, if each line of it is one.
+fn events_of(alloc: Global, script: &str) -> Result<Option<Vec<Event>>, AllocError> {
     match read_script(alloc, script) {
-        Ok(events) => Ok(Some(MemoryWorld::new(alloc, events, fail_at))),
+        Ok(events) => Ok(Some(events)),
         Err(ScriptFault::NotALine(_)) => Ok(None),
         Err(ScriptFault::Memory) => Err(AllocError),
     }
@@ -94,9 +90,10 @@ fn is_served_so(
 ) -> Result<bool, AllocError>
     requires { IsServable (setup_of config.now) }
 {
-    let Some(mut world) = world_of(alloc, script, Some(call as u64))? else {
+    let Some(events) = events_of(alloc, script)? else {
         return Ok(false);
     };
+    let mut world = MemoryWorld::new(alloc, events, Some(call as u64));
     match serve(alloc, config, &mut world, u64::MAX) {
         Err(ServeFault::World) => Ok(is_front(world.log(), whole)),
         Err(ServeFault::Memory) => Err(AllocError),
@@ -112,9 +109,10 @@ pub(crate) fn difference(
 ) -> Result<Option<String>, AllocError>
     requires { IsServable (setup_of config.now) }
 {
-    let Some(mut world) = world_of(alloc, script, None)? else {
+    let Some(events) = events_of(alloc, script)? else {
         return Ok(Some(String::from_str(alloc, "no script")?));
     };
+    let mut world = MemoryWorld::new(alloc, events, None);
     match serve(alloc, config, &mut world, u64::MAX) {
         Ok(_) => {}
         Err(ServeFault::Memory) => return Err(AllocError),

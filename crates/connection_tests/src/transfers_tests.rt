@@ -238,3 +238,64 @@ fn pieces_are_read(rt: HostRuntime) -> Result<(), Fail> {
     assert!(rt; fails(rt.alloc()));
     Ok(())
 }
+
+/// A socket of which a signal interrupts every other call, the first one too.
+#[derive(Drop)]
+struct Interrupted<S> {
+    socket: S,
+    goes_on: bool,
+}
+
+impl<S> Interrupted<S> {
+    fn new(socket: S) -> Interrupted<S> {
+        Interrupted {
+            socket,
+            goes_on: false,
+        }
+    }
+
+    /// A call begins. Every other one is interrupted.
+    fn begin(&mut self) -> io::Result<()> {
+        let goes_on = self.goes_on;
+        self.goes_on = !goes_on;
+        if goes_on {
+            Ok(())
+        } else {
+            Err(io::Error::from(ErrorKind::Interrupted))
+        }
+    }
+}
+
+impl<S: Socket> Socket for Interrupted<S> {
+    ghost use Rattle.std.specs.Prelude.{None};
+
+    ghost left = { λ _. None };
+
+    ghost held = { λ _. None };
+
+    fn receive(&mut self, room: &mut [u8]) -> io::Result<usize> {
+        self.begin()?;
+        self.socket.receive(room)
+    }
+
+    fn send(&mut self, octets: &[u8]) -> io::Result<usize> {
+        self.begin()?;
+        self.socket.send(octets)
+    }
+}
+
+#[test]
+fn a_call_that_is_interrupted_is_made_again(rt: HostRuntime) -> Result<(), Fail> {
+    let mut spoken = Interrupted::new(Spoken { text: b"ab" });
+    let got = read_piece(rt.alloc(), &mut spoken, &mut [0u8; 3])?;
+    assert!(rt; is_piece(&got, Some(b"ab")));
+    let mut narrow = Interrupted::new(Narrow {
+        taken: Vec::new(rt.alloc()),
+        room: 3,
+    });
+    let mut out = Outgoing::new(rt.alloc());
+    out.put(&mut narrow, b"abc")?;
+    assert_eq!(rt; out.waiting(), 0);
+    assert_eq!(rt; narrow.socket.taken.as_slice(), b"abc".as_slice());
+    Ok(())
+}

@@ -4,7 +4,7 @@ ghost use Rattle.std.specs.Prelude.{◌≡◌, IfOk, length};
 ghost use Rattle.transfers.specs.Transfers.{Gives};
 
 use crate::outgoing::is_early;
-use crate::socket::Socket;
+use crate::socket::{Socket, receive_uninterrupted};
 use std::alloc::Global;
 use std::io;
 
@@ -26,7 +26,7 @@ pub fn read_piece<S: Socket>(alloc: Global, socket: &mut S, buffer: &mut [u8]) -
     ensures gives { IfOk result (λ got. Gives (S.left socket.old) (S.left socket.new) (length buffer.old) got) }
     ensures held { S.held socket.new ≡ S.held socket.old }
 {
-    match socket.receive(buffer) {
+    match receive_uninterrupted(socket, buffer) {
         Ok(0) => Ok(Got::End),
         Ok(count) => Ok(Got::Octets(Vec::from_slice(alloc, &buffer[..count])?)),
         Err(error) if is_early(error.kind()) => Ok(Got::Nothing),

@@ -5,7 +5,7 @@ ghost use Rattle.std.specs.Io.KnownBytes.{Appends, Keeps};
 ghost use Rattle.std.specs.IoError.{error_kind};
 ghost use Rattle.transfers.specs.Transfers.{IsEarly, IsEarlyFault, IsMemoryFault, IsSocketFault, Loses, Passes, nothing_put, told, told_count};
 
-use crate::socket::Socket;
+use crate::socket::{Socket, send_uninterrupted};
 use std::alloc::{AllocError, Global};
 use std::io;
 use std::io::ErrorKind;
@@ -201,7 +201,7 @@ fn write_some<S: Socket>(socket: &mut S, octets: &[u8]) -> io::Result<usize>
     ensures never_early { IfErr result (λ error. ¬ IsEarly (error_kind error)) }
     ensures left { S.left socket.new ≡ S.left socket.old }
 {
-    match socket.send(octets) {
+    match send_uninterrupted(socket, octets) {
         Ok(taken) => Ok(taken),
         Err(error) if is_early(error.kind()) => Ok(0),
         Err(error) => Err(error),

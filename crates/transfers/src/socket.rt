@@ -6,7 +6,7 @@ ghost use Rattle.std.specs.Io.KnownBytes.{ReadConsumes, WriteAppends};
 
 use mio::net::TcpStream;
 use std::io;
-use std::io::{Read, Write};
+use std::io::{ErrorKind, Read, Write};
 
 /// A socket that doesn't wait: what is read of it and what is written to it don't touch one another. What it tells of itself is for contracts alone.
 pub trait Socket {
@@ -43,4 +43,37 @@ impl Socket for TcpStream {
     fn send(&mut self, octets: &[u8]) -> io::Result<usize> {
         self.write(octets)
     }
+}
+
+/// So many times in a row a call is made again that a signal interrupted: one on a socket that doesn't wait isn't interrupted twice.
+const MOST_AGAIN: u32 = 100;
+
+/// Reads octets that are there, again where a signal interrupts that.
+pub fn receive_uninterrupted<S: Socket>(socket: &mut S, room: &mut [u8]) -> io::Result<usize>
+    ensures bound { ReadsAtMost result room.new }
+    ensures octets { ReadConsumes (S.left socket.old) (S.left socket.new) result room.new }
+    ensures held { S.held socket.new ≡ S.held socket.old }
+{
+    for _ in 0..MOST_AGAIN {
+        match socket.receive(room) {
+            Err(error) if error.kind() == ErrorKind::Interrupted => {}
+            received => return received,
+        }
+    }
+    socket.receive(room)
+}
+
+/// Writes a front of these octets, again where a signal interrupts that.
+pub fn send_uninterrupted<S: Socket>(socket: &mut S, octets: &[u8]) -> io::Result<usize>
+    ensures bound { WritesAtMost result octets.now }
+    ensures octets { WriteAppends (S.held socket.old) (S.held socket.new) result octets.now }
+    ensures left { S.left socket.new ≡ S.left socket.old }
+{
+    for _ in 0..MOST_AGAIN {
+        match socket.send(octets) {
+            Err(error) if error.kind() == ErrorKind::Interrupted => {}
+            sent => return sent,
+        }
+    }
+    socket.send(octets)
 }

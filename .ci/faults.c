@@ -31,7 +31,7 @@ static int is_refused(const char *kind) {
   return 0;
 }
 
-/* Has the socket reported again, as one is that had room for an octet, or had one, and then more. */
+/* Has the socket reported again, as one is that had room for an octet, and then for more. */
 static void report_again(int file) {
   int before = errno;
   if (file < MOST_FILES && watched[file].events) syscall(SYS_epoll_ctl, watchers[file], EPOLL_CTL_MOD, file, &watched[file]);
@@ -49,10 +49,7 @@ int epoll_ctl(int watcher, int change, int file, struct epoll_event *event) {
 ssize_t recv(int file, void *octets, size_t count, int flags) {
   const char *kind = fault_of("read\n");
   if (is_refused(kind)) return -1;
-  int is_one = !strcmp(kind, "one");
-  ssize_t got = syscall(SYS_recvfrom, file, octets, is_one && count ? 1 : count, flags, NULL, NULL);
-  if (is_one) report_again(file);
-  return got;
+  return syscall(SYS_recvfrom, file, octets, !strcmp(kind, "one") && count ? 1 : count, flags, NULL, NULL);
 }
 
 ssize_t send(int file, const void *octets, size_t count, int flags) {

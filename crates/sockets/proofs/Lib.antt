@@ -3,3 +3,4 @@ pub mod Performing
 pub mod Rising
 pub mod Moving
 pub mod Events
+pub mod Queueing

@@ -18,7 +18,7 @@ use Rattle.sockets.specs.Sides.{News, no_news, lost_news, came_news, end_news, t
 use Rattle.sockets.specs.Performed.{AreRising, IsNumbered, Opens, Changes, Sends, AllGoOn, OneGoesOn, OneIsDropped, OthersGoOn, GoesBy, MovesOn, client_told, got_news, IsWithin, is_failed}
 use Rattle.sockets.proofs.Passed.{reads_nothing, keeps_reads, reads_after, end_before, passes_still, passes_twice, no_front, appends_nothing}
 use Rattle.sockets.proofs.Performing.{one_fewer, one_changed}
-use Rattle.sockets.proofs.Rising.{rising_same, rising_remove}
+use Rattle.sockets.proofs.Rising.{set_removed, rising_same, rising_remove}
 
 abbrev is_end : Got → Bool
 is_end (Octets octets) = false
@@ -171,11 +171,11 @@ module _ {S : Type 0} (left held : S → Option (List ℕ)) where
   -- ---- connections
 
   pub to_still : (side : Option (Side S)) → GoesTo left held no_news side side
-  to_still None = (refl, refl)
+  to_still None = (refl, (refl, refl, refl))
   to_still (Some side) = goes_still side
 
   to_lost : (old new : Option (Side S)) → GoesTo left held no_news old new → GoesTo left held lost_news old new
-  to_lost None new goes = goes
+  to_lost None new goes = (goes.0, (tt, refl, refl))
   to_lost (Some old) None goes = absurd goes
   to_lost (Some old) (Some new) goes = goes_lost old new goes
 
@@ -228,7 +228,7 @@ module _ {S : Type 0} (left held : S → Option (List ℕ)) where
   told_lost came ended old new goes = record { reads = tt; ends = tt; at_end = λ no. absurd (let never : false ≡ true = no in cc); passes = goes.passes; token = goes.token; heard = goes.heard }
 
   to_told_lost : (came : Option (List ℕ)) (ended : Bool) (old new : Option (Side S)) → GoesTo left held (record { came = came; ended = ended; put = []; took = 0 }) old new → GoesTo left held lost_news old new
-  to_told_lost came ended None new goes = (goes.0, refl)
+  to_told_lost came ended None new goes = (goes.0, (tt, refl, refl))
   to_told_lost came ended (Some old) None goes = absurd goes
   to_told_lost came ended (Some old) (Some new) goes = told_lost came ended old new goes
 
@@ -420,11 +420,6 @@ module _ {S : Type 0} (left held : S → Option (List ℕ)) where
   client_moves c c' us goes = record { client_is = goes; others = all_still us }
 
   -- ---- a read of an upstream
-
-  set_removed : (us : List (Upstream S)) (i : ℕ) (u : Upstream S) → remove (set us i u) i ≡ remove us i
-  set_removed [] i u = refl
-  set_removed (v ∷ vs) zero u = refl
-  set_removed (v ∷ vs) (suc i) u = ap (λ ws. v ∷ ws) (set_removed vs i u)
 
   one_moved : (k j : ℕ) (news : News) (us ws : List (Upstream S)) (i : ℕ) (u old : Upstream S) → j ≡ k → i < length us → (get_or us i old).k ≡ k → GoesOn left held news (get_or us i old) u → ws ≡ set us i u
       → OneGoesOn left held j news us ws

@@ -59,3 +59,13 @@ on_ok (Err b) p = tt
 pub on_err : {A B P : Type 0} (r : Result A B) → P → OnErr r P
 on_err (Ok a) p = tt
 on_err (Err b) p = p
+
+-- what follows where a call succeeds
+pub ok_then : {A B P Q : Type 0} (r : Result A B) → (P → Q) → OnOk r P → OnOk r Q
+ok_then (Ok a) f p = f p
+ok_then (Err b) f p = tt
+
+-- what holds both where a call succeeds
+pub on_both : {A B : Type 0} (P Q : Type 0) (r : Result A B) → OnOk r P → OnOk r Q → OnOk r (P × Q)
+on_both P Q (Ok a) p q = (p, q)
+on_both P Q (Err b) p q = tt

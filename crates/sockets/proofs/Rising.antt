@@ -1,5 +1,5 @@
 -- Connections whose numbers don't fall: which are found, and how they stay so.
-use Rattle.std.proofs.Common.{◌≡◌, ◌≤◌, ◌<◌, ◌+◌, ℕ, List, length, set, get_or, map, true, false, Result, Ok, Err, sym, ap, ◌∙◌, inl, inr, arith}
+use Rattle.std.proofs.Common.{◌≡◌, ◌≤◌, ◌<◌, ◌+◌, ℕ, zero, suc, List, [], ◌∷◌, length, set, get_or, map, true, false, Result, Ok, Err, refl, sym, ap, ◌∙◌, inl, inr, arith}
 use Rattle.std.proofs.lemmas.List.{get_or-map, length-map}
 use Rattle.std.proofs.lemmas.List.Edits.{get_or-remove_below, get_or-remove_above, length-remove}
 use Rattle.std.proofs.lemmas.List.Sorted.{IsNonDecreasingBy-insert}
@@ -16,6 +16,12 @@ use Rattle.sockets.specs.declared.upstream.Upstream.{Upstream}
 use Rattle.sockets.specs.Performed.{AreRising, IsOpenNowhere}
 
 module _ {S : Type 0} where
+  -- One that changed before it was taken away is taken away.
+  pub set_removed : (us : List (Upstream S)) (i : ℕ) (u : Upstream S) → remove (set us i u) i ≡ remove us i
+  set_removed [] i u = refl
+  set_removed (v ∷ vs) zero u = refl
+  set_removed (v ∷ vs) (suc i) u = ap (λ ws. v ∷ ws) (set_removed vs i u)
+
   -- the comparisons with a number rise, as a binary search asks
   comparisons_rise : (us : List (Upstream S)) (k : ℕ) → AreRising us → IsNonDecreasingBy (λ (u : Upstream S). ordering_index (nat_cmp u.k k)) us
   comparisons_rise us k up i j d le within =

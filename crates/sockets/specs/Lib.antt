@@ -3,3 +3,4 @@ pub mod Putting
 pub mod Sides
 pub mod Performed
 pub mod Leaving
+pub mod Queues

@@ -1,5 +1,5 @@
 -- What is known of a socket and of a connection to an upstream, and how it changes.
-use Rattle.std.specs.Prelude.{◌≡◌, ◌+◌, ◌==◌, ◌||◌, ◌&&◌, ℕ, Bool, true, false, not, nat_lt, if◌then◌else◌, List, [], length, Option, None, Some, Result, Ok, Err, IsErr, IfSome, ⊤}
+use Rattle.std.specs.Prelude.{◌≡◌, ◌+◌, ◌||◌, ◌&&◌, ℕ, Bool, true, false, not, nat_lt, if◌then◌else◌, List, [], length, Option, None, Some, Result, Ok, Err, IsErr, IfSome, ⊤}
 use Rattle.std.specs.Io.KnownBytes.{Consumes, IsAtEnd}
 use Rattle.std.specs.IoError.{error_kind}
 use Rattle.std.specs.declared.io.Error.{Error}
@@ -50,6 +50,10 @@ abbrev pub Reads : Option (List ℕ) → Option (List ℕ) → Option (List ℕ)
 Reads left left' None = ⊤
 Reads left left' (Some came) = Consumes left left' came
 
+-- Nothing is told of a socket that couldn't be made: no octets of it, no end, and none that it took. What is put out for it reaches nobody.
+abbrev pub IsSilent : News → Type 0
+IsSilent news = IfSome news.came (λ came. came ≡ []) × (news.ended ≡ false) × (news.took ≡ 0)
+
 -- where contracts name what passes through sockets
 module _ {S : Type 0} (left held : S → Option (List ℕ)) where
   -- What became of a side is what is told of it: no octets were read but those, nor its end but where that is told, and of what it took so many are told of.
@@ -62,7 +66,7 @@ module _ {S : Type 0} (left held : S → Option (List ℕ)) where
     pub heard : interest.is_readable old.interests ≡ true → interest.is_readable new.interests ≡ true
 
   abbrev pub GoesTo : News → Option (Side S) → Option (Side S) → Type 0
-  GoesTo news None new = (new ≡ None) × (news.ended ≡ false)
+  GoesTo news None new = (new ≡ None) × IsSilent news
   GoesTo news (Some side) None = ⊥
   GoesTo news (Some side) (Some new) = Goes news side new
 
@@ -89,11 +93,9 @@ module _ {S : Type 0} (left held : S → Option (List ℕ)) where
     pub address : new.address ≡ old.address
     pub front : GoesFrontTo octets old.side new.side
 
--- A report is noted. That something may be read, that its peer sends no more and that it takes no more stay so; that it is full is over once it takes
--- octets again.
+-- A report is noted. That something may be read, and that it takes no more, stay so; that it is full is over once it takes octets again.
 abbrev pub noted : {S : Type 0} → Event → Side S → Side S
 noted event side = record side {
-  hung_up = side.hung_up || (is_read_closed event || is_error event);
   readable = side.readable || (is_read_closed event || is_error event) || is_readable event;
   full = side.full && not (is_writable event);
   lost = side.lost || is_error event || is_write_closed event;
@@ -101,7 +103,7 @@ noted event side = record side {
 
 -- a write to it failed
 abbrev pub given_up : {S : Type 0} → Side S → Side S
-given_up side = record side { lost = true; hung_up = true; readable = true }
+given_up side = record side { lost = true; readable = true }
 
 -- Something may be read of a side, or it is to be told that there is none.
 abbrev pub may_be_ready : {S : Type 0} → Option (Side S) → Bool
@@ -111,6 +113,10 @@ may_be_ready (Some side) = side.readable && not side.ended
 -- Something may be read of a side, or it is to be told that there is none, where there is so much room: with none nothing is told.
 abbrev pub is_ready : {S : Type 0} → ℕ → Option (Side S) → Bool
 is_ready room side = may_be_ready side && nat_lt 0 room
+
+-- Something may be read of the client: no more octets than these that were put out for it weren't told of as taken.
+abbrev pub may_read : {S : Type 0} → ℕ → Side S → Bool
+may_read most client = may_be_ready (Some client) && not (nat_lt most (length client.out.waiting + client.out.untold))
 
 -- octets were put out that weren't told of as taken
 abbrev pub owes : {S : Type 0} → Option (Side S) → Bool
@@ -174,12 +180,12 @@ pub record IsNew {S : Type 0} (k : ℕ) (address : Option SocketAddr) (upstream 
 abbrev pub KeepsHeard : {S : Type 0} → Option (Side S) → Option (Side S) → Type 0
 KeepsHeard None new = new ≡ None
 KeepsHeard (Some side) None = ⊥
-KeepsHeard (Some side) (Some new) = (side.readable ≡ true → new.readable ≡ true) × (side.hung_up ≡ true → new.hung_up ≡ true) × (side.lost ≡ true → new.lost ≡ true)
+KeepsHeard (Some side) (Some new) = (side.readable ≡ true → new.readable ≡ true) × (side.lost ≡ true → new.lost ≡ true)
 
--- Something may be left behind what a read gave: where all room was taken, or the peer sends no more, since its end is there then.
-abbrev pub is_left : ℕ → Bool → Got → Bool
-is_left room hung_up (Octets octets) = length octets.items == room || hung_up
-is_left room hung_up got = false
+-- Something may be there behind what a read gave, where that was octets.
+abbrev pub may_go_on : Got → Bool
+may_go_on (Octets octets) = true
+may_go_on got = false
 
 -- What a read of connection k gave is told, by whether a write failed and whether it was reported as over: octets as they are, its end where no write failed,
 -- and a failure where nothing more comes, or the read failed. Where memory was refused the call fails.

@@ -4,11 +4,12 @@ ghost use Rattle.std.specs.Prelude.{IfOk};
 ghost use Rattle.gateway.specs.Setups.{setup_of, IsServable};
 
 use super::*;
+use crate::loopback::{pair, quiet_listener};
 use gateway::{Config, Output, Passing, Policy, Route};
 use std::alloc::{AllocError, Global};
 use std::io;
 use std::io::{ErrorKind, Read, Write};
-use std::net::{Ipv4Addr, SocketAddr, TcpListener, TcpStream};
+use std::net::{TcpListener, TcpStream};
 use std::process::Abort;
 use std::test::*;
 use worlds::{Ended, Next, World, WorldFault, serve};
@@ -234,20 +235,9 @@ fn config_of(alloc: Global, passing: Passing) -> Result<Config, AllocError>
     })
 }
 
-/// A listener on the loopback that doesn't wait.
-fn quiet_listener(host: &HostRuntime) -> io::Result<TcpListener> {
-    let listener = TcpListener::bind(host, SocketAddr::from((Ipv4Addr::LOCALHOST, 0)))?;
-    listener.set_nonblocking(true)?;
-    Ok(listener)
-}
-
 /// A client that has sent the head of its request, and the socket of its world.
-fn client_of(host: &HostRuntime) -> io::Result<(Client, TcpStream)> {
-    let listener = TcpListener::bind(host, SocketAddr::from((Ipv4Addr::LOCALHOST, 0)))?;
-    let mut near = TcpStream::connect(host, listener.local_addr()?)?;
-    let (far, _address) = listener.accept()?;
-    near.set_nonblocking(true)?;
-    far.set_nonblocking(true)?;
+fn client_of(host: &HostRuntime) -> io::Result<(Client, mio::net::TcpStream)> {
+    let (mut near, far) = pair(host)?;
     near.write_all(OPENING)?;
     let client = Client {
         socket: Some(near),
@@ -279,7 +269,6 @@ fn assert_passes(rt: &impl Abort, host: &HostRuntime, passing: Passing) -> Resul
     let listener = quiet_listener(host)?;
     let addresses = [listener.local_addr()?];
     let (client, far) = client_of(host)?;
-    let far = mio::net::TcpStream::from_std(far);
     let mut passage = Passage {
         world: SocketWorld::new(host.alloc(), host, &addresses, far)?,
         client,

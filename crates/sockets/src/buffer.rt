@@ -2,7 +2,7 @@
 
 ghost use Rattle.std.specs.Prelude.{◌≡◌, ◌↔◌, length, false, min, vec_len, IfOk, IfSome, IsTrue, OnErr};
 ghost use Rattle.transfers.specs.Transfers.{Gives};
-ghost use Rattle.sockets.specs.Sides.{lost_news, is_left, IsOf, GoesOn};
+ghost use Rattle.sockets.specs.Sides.{lost_news, may_go_on, out_of, IsOf, GoesOn};
 ghost use Rattle.sockets.specs.Performed.{GoesBy, FitsRoom};
 
 use crate::side::Side;
@@ -37,7 +37,7 @@ impl Buffer {
         ensures held { S.held side.new.socket ≡ S.held side.old.socket }
         ensures ended { IfOk result (λ got. IsTrue side.new.ended ↔ (got ≡ Got.End)) }
         ensures failed { OnErr result (side.new.ended ≡ side.old.ended) }
-        ensures readable { IfOk result (λ got. side.new.readable ≡ is_left 65536 side.old.hung_up got) }
+        ensures readable { IfOk result (λ got. side.new.readable ≡ may_go_on got) }
         ensures stays { side.new ≡ record side.old { socket = side.new.socket; readable = side.new.readable; ended = side.new.ended } }
     {
         side.read(alloc, &mut self.octets)
@@ -55,6 +55,7 @@ impl Buffer {
         ensures lost { OnErr result (GoesOn S.left S.held lost_news upstream.old upstream.new) }
         ensures fits { IfOk result (λ event. FitsRoom (min room 65536) event) }
         ensures stays { upstream.new ≡ record upstream.old { side = upstream.new.side; is_queued = false } }
+        ensures out { out_of upstream.new.side ≡ out_of upstream.old.side }
     {
         read_front(alloc, upstream, &mut self.octets, room)
     }
@@ -72,6 +73,7 @@ fn read_front<S: Wire>(
     ensures lost { OnErr result (GoesOn S.left S.held lost_news upstream.old upstream.new) }
     ensures fits { IfOk result (λ event. FitsRoom (min room (length octets.old)) event) }
     ensures stays { upstream.new ≡ record upstream.old { side = upstream.new.side; is_queued = false } }
+    ensures out { out_of upstream.new.side ≡ out_of upstream.old.side }
 {
     let most = room.min(octets.len());
     upstream.read_in_turn(alloc, &mut octets[..most])

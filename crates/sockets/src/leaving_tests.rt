@@ -1,14 +1,15 @@
-//! A client that is left while more waits for it than its socket takes at once.
+//! A client that is left: while more waits for it than its socket takes at once, and where it is silent.
 
 use super::*;
+use crate::loopback::{numbers, pair};
 use gateway::Output;
 use mio::{Interest, Registry, Token};
-use std::alloc::{AllocError, Global};
 use std::cell::RefCell;
 use std::io;
 use std::io::{ErrorKind, Read};
-use std::net::{Ipv4Addr, Net, Shutdown, SocketAddr, TcpListener, TcpStream};
+use std::net::{Net, Shutdown, SocketAddr, TcpStream};
 use std::test::*;
+use std::time::{Duration, Instant};
 use transfers::Socket;
 use worlds::World;
 
@@ -81,25 +82,8 @@ impl Wire for Filling<'_> {
 
 /// A socket, of which nothing was read yet.
 fn socket_of<'a>(host: &HostRuntime, read: &'a RefCell<Vec<u8>>) -> io::Result<Filling<'a>> {
-    let listener = TcpListener::bind(host, SocketAddr::from((Ipv4Addr::LOCALHOST, 0)))?;
-    let near = TcpStream::connect(host, listener.local_addr()?)?;
-    let (far, _address) = listener.accept()?;
-    near.set_nonblocking(true)?;
-    far.set_nonblocking(true)?;
-    Ok(Filling {
-        near: mio::net::TcpStream::from_std(near),
-        far,
-        read,
-    })
-}
-
-/// The numbers up to 4,000,000, in octets.
-fn numbers(alloc: Global) -> Result<Vec<u8>, AllocError> {
-    let mut octets = Vec::new(alloc);
-    for number in 0u32..4_000_000 {
-        octets.extend_from_slice(&number.to_be_bytes())?;
-    }
-    Ok(octets)
+    let (far, near) = pair(host)?;
+    Ok(Filling { near, far, read })
 }
 
 #[test]
@@ -113,5 +97,17 @@ fn a_client_that_is_left_reads_all(rt: HostRuntime) -> Result<(), Fail> {
     let found = read.try_borrow();
     let written = numbers(rt.alloc())?;
     assert!(rt; matches!(&found, Ok(octets) if **octets == written));
+    Ok(())
+}
+
+#[test]
+fn a_silent_client_is_left_after_a_while(rt: HostRuntime) -> Result<(), Fail> {
+    let (_client, far) = pair(&rt)?;
+    let mut world = SocketWorld::new(rt.alloc(), &rt, &[], far)?;
+    let begun = Instant::now(&rt)?;
+    world.finish()?;
+    let taken = Instant::now(&rt)?.duration_since(begun);
+    assert!(rt; taken >= Duration::from_secs(5));
+    assert!(rt; taken < Duration::from_secs(15));
     Ok(())
 }

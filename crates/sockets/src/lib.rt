@@ -17,4 +17,10 @@ mod bodies;
 #[cfg(test)]
 mod leaving_tests;
 #[cfg(test)]
+mod loopback;
+#[cfg(test)]
+mod side_tests;
+#[cfg(test)]
 mod tests;
+#[cfg(test)]
+mod upstream_tests;

@@ -3,7 +3,7 @@
 ghost use Rattle.std.specs.Prelude.{◌≡◌, ◌+◌, ◌<◌, ◌↔◌, ◌&&◌, ◌||◌, [], true, false, not, length, IsTrue, IfOk, OnOk, OnErr};
 ghost use Rattle.mio.specs.Interest.{is_readable, is_writable};
 ghost use Rattle.sockets.specs.Putting.{Passes, PassesFront};
-ghost use Rattle.sockets.specs.Sides.{noted, given_up, is_left};
+ghost use Rattle.sockets.specs.Sides.{noted, given_up, may_go_on};
 ghost use Rattle.transfers.specs.Transfers.{Gives, nothing_put, told, told_count};
 
 use crate::wire::Wire;
@@ -21,8 +21,6 @@ pub struct Side<S> {
     out: Outgoing,
     /// It may have something to be read: octets, or its end.
     readable: bool,
-    /// It will send no more, so that reads go on until its end.
-    hung_up: bool,
     /// Its end was read.
     ended: bool,
     /// Both its directions are over: what is written to it reaches nobody.
@@ -50,7 +48,7 @@ impl<S: Wire> Side<S> {
         ensures nothing { IfOk result (λ side. side.out ≡ nothing_put) }
         ensures least { IfOk result (λ side. side.least ≡ least) }
         ensures token { IfOk result (λ side. side.token ≡ token) }
-        ensures unheard { IfOk result (λ side. (side.readable ≡ false) × (side.hung_up ≡ false) × (side.ended ≡ false) × (side.lost ≡ false)) }
+        ensures unheard { IfOk result (λ side. (side.readable ≡ false) × (side.ended ≡ false) × (side.lost ≡ false)) }
         ensures unwritten { IfOk result (λ side. (side.shut ≡ false) × (side.full ≡ false)) }
         ensures interests { IfOk result (λ side. (is_readable side.interests ≡ true) × (is_writable side.interests ≡ false)) }
     {
@@ -61,7 +59,6 @@ impl<S: Wire> Side<S> {
             token,
             out: Outgoing::new(alloc),
             readable: false,
-            hung_up: false,
             ended: false,
             lost: false,
             shut: false,
@@ -120,7 +117,6 @@ impl<S: Wire> Side<S> {
         ensures { self.new ≡ given_up self.old }
     {
         self.lost = true;
-        self.hung_up = true;
         self.readable = true;
     }
 
@@ -129,7 +125,6 @@ impl<S: Wire> Side<S> {
         ensures { self.new ≡ noted event.now self.old }
     {
         let over = event.is_read_closed() || event.is_error();
-        self.hung_up = self.hung_up || over;
         self.readable = self.readable || over || event.is_readable();
         self.full = self.full && !event.is_writable();
         self.lost = self.lost || event.is_error() || event.is_write_closed();
@@ -198,16 +193,13 @@ impl<S: Wire> Side<S> {
         ensures held { S.held self.new.socket ≡ S.held self.old.socket }
         ensures ended { IfOk result (λ got. IsTrue self.new.ended ↔ (got ≡ Got.End)) }
         ensures failed { OnErr result (self.new.ended ≡ self.old.ended) }
-        ensures readable { IfOk result (λ got. self.new.readable ≡ is_left (length room.old) self.old.hung_up got) }
+        ensures readable { IfOk result (λ got. self.new.readable ≡ may_go_on got) }
         ensures stays { self.new ≡ record self.old { socket = self.new.socket; readable = self.new.readable; ended = self.new.ended } }
     {
         let got = read_piece(alloc, &mut self.socket, room)?;
         self.ended = matches!(got, Got::End);
-        self.readable = match &got {
-            // Where less was there than there is room for nothing is left, unless the end is.
-            Got::Octets(octets) => octets.len() == room.len() || self.hung_up,
-            Got::Nothing | Got::End => false,
-        };
+        // Behind octets more may be there, or the end, though there was room for more: a read stops before an urgent octet too.
+        self.readable = matches!(got, Got::Octets(_));
         Ok(got)
     }
 

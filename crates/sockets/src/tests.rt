@@ -1,18 +1,15 @@
-ghost use Rattle.std.specs.Prelude.{◌+◌, ◌<◌, ◌^◌, IfOk};
+ghost use Rattle.std.specs.Prelude.{IfOk};
 ghost use Rattle.gateway.specs.Setups.{setup_of, IsServable};
 
 use super::*;
-use crate::side::Side;
-use gateway::{Config, Event, Output, Passing, Policy, Route, Text};
-use mio::{Events, Poll, Token};
+use crate::loopback::{pair, quiet_listener};
+use gateway::{Config, Event, Output, Passing, Policy, Route};
 use std::alloc::{AllocError, Global};
 use std::io::{ErrorKind, Read, Write};
-use std::net::{Ipv4Addr, Shutdown, SocketAddr, TcpListener, TcpStream};
+use std::net::{Shutdown, SocketAddr, TcpListener, TcpStream};
 use std::process::Abort;
 use std::test::*;
-use std::time::Duration;
 use std::{io, mem};
-use transfers::Got;
 use worlds::{Ended, Next, ServeFault, World, WorldFault, serve};
 
 /// The preface, settings without entries, and a GET without a body on stream 1.
@@ -221,23 +218,6 @@ fn route_of(alloc: Global, authority: &[u8]) -> Result<Config, AllocError>
     })
 }
 
-/// A listener on the loopback that doesn't wait.
-fn quiet_listener(rt: &HostRuntime) -> io::Result<TcpListener> {
-    let listener = TcpListener::bind(rt, SocketAddr::from((Ipv4Addr::LOCALHOST, 0)))?;
-    listener.set_nonblocking(true)?;
-    Ok(listener)
-}
-
-/// The two ends of a connection, neither of which waits.
-fn pair(rt: &HostRuntime) -> io::Result<(TcpStream, TcpStream)> {
-    let listener = TcpListener::bind(rt, SocketAddr::from((Ipv4Addr::LOCALHOST, 0)))?;
-    let near = TcpStream::connect(rt, listener.local_addr()?)?;
-    let (far, _address) = listener.accept()?;
-    near.set_nonblocking(true)?;
-    far.set_nonblocking(true)?;
-    Ok((near, far))
-}
-
 /// A client and its upstream: what the client sends, how many connections the upstream answers at once, the last one first, with which pieces in place of
 /// the answer in one piece, and how many octets the client reads before it leaves.
 #[derive(Clone, Copy)]
@@ -299,7 +279,6 @@ fn serve_visit<'a>(
     requires { IsServable (setup_of config.now) }
 {
     let (client, far) = pair(rt)?;
-    let far = mio::net::TcpStream::from_std(far);
     let peers = peers_of(rt, visit, upstream, client)?;
     let mut world = Loopback {
         world: SocketWorld::new(rt.alloc(), rt, addresses, far)?,
@@ -408,7 +387,6 @@ fn each_route_has_its_own_address(rt: HostRuntime) -> Result<(), Fail> {
     let second = quiet_listener(&rt)?;
     let addresses = [first.local_addr()?, second.local_addr()?];
     let (_client, far) = pair(&rt)?;
-    let far = mio::net::TcpStream::from_std(far);
     let mut world = SocketWorld::new(rt.alloc(), &rt, &addresses, far)?;
     let opened = world.apply(&Output::Open(1, 1));
     assert_eq!(rt; opened, Ok(()));
@@ -427,46 +405,9 @@ fn a_client_that_breaks_off_is_one(rt: HostRuntime) -> Result<(), Fail> {
     far.write_all(b"unread")?;
     client.write_all(&REQUEST[..30])?;
     drop(client);
-    let far = mio::net::TcpStream::from_std(far);
     let mut world = SocketWorld::new(rt.alloc(), &rt, &[], far)?;
     let ended = serve(rt.alloc(), &config, &mut world, 100);
     assert_eq!(rt; ended, Err(ServeFault::World));
-    Ok(())
-}
-
-/// How the connection with number 1 comes to its end, in as many turns as that takes, if these suffice.
-fn end_of(world: &mut SocketWorld<'_, HostRuntime, mio::net::TcpStream>) -> Option<Event>
-    requires calls { world.old.calls + 20 < 2 ^ 64 }
-    requires failures { world.old.failures + 20 < 2 ^ 64 }
-{
-    for _turn in 0..20_u64 {
-        let Ok(Next::Happened(event)) = world.next(&[(1, 65536)]) else {
-            return None;
-        };
-        if matches!(event, Event::UpEnd(_) | Event::UpFailed(_)) {
-            return Some(event);
-        }
-    }
-    None
-}
-
-#[test]
-fn an_upstream_that_breaks_off_has_failed(rt: HostRuntime) -> Result<(), Fail> {
-    let upstream = TcpListener::bind(&rt, SocketAddr::from((Ipv4Addr::LOCALHOST, 0)))?;
-    let addresses = [upstream.local_addr()?];
-    let (_client, far) = pair(&rt)?;
-    let far = mio::net::TcpStream::from_std(far);
-    let mut world = SocketWorld::new(rt.alloc(), &rt, &addresses, far)?;
-    let opened = world.apply(&Output::Open(1, 0));
-    assert_eq!(rt; opened, Ok(()));
-    let text = Text::from_octets(Vec::from_slice(rt.alloc(), TEXT)?);
-    let sent = world.apply(&Output::Up(1, text));
-    assert_eq!(rt; sent, Ok(()));
-    let (mut socket, _address) = upstream.accept()?;
-    socket.write_all(OPEN_ENDED)?;
-    // What it was sent lies unread, so that it doesn't end its connection but resets it.
-    mem::drop(socket);
-    assert!(rt; matches!(end_of(&mut world), Some(Event::UpFailed(1))));
     Ok(())
 }
 
@@ -485,7 +426,6 @@ fn a_world_waits_until_something_comes(rt: HostRuntime) -> Result<(), Fail> {
     let addresses = [upstream.local_addr()?];
     let _crowd = crowd(&rt, addresses[0])?;
     let (_client, far) = pair(&rt)?;
-    let far = mio::net::TcpStream::from_std(far);
     let mut world = SocketWorld::new(rt.alloc(), &rt, &addresses, far)?;
     let opened = world.apply(&Output::Open(1, 0));
     assert_eq!(rt; opened, Ok(()));
@@ -523,7 +463,6 @@ fn what_is_put_out_goes_out_where_the_turns_end(rt: HostRuntime) -> Result<(), F
     let config = one_route(rt.alloc())?;
     let (mut client, far) = pair(&rt)?;
     client.write_all(REQUEST)?;
-    let far = mio::net::TcpStream::from_std(far);
     let mut world = SocketWorld::new(rt.alloc(), &rt, &[], far)?;
     let ended = serve(rt.alloc(), &config, &mut world, 1);
     assert_eq!(rt; ended, Ok(Ended::Turns));
@@ -553,7 +492,6 @@ fn a_client_that_sends_on_reads_why_it_was_left(rt: HostRuntime) -> Result<(), F
     let config = one_route(rt.alloc())?;
     let (mut client, far) = pair(&rt)?;
     send_on(rt.alloc(), &mut client, 200_000)?;
-    let far = mio::net::TcpStream::from_std(far);
     let mut world = SocketWorld::new(rt.alloc(), &rt, &[], far)?;
     let ended = serve(rt.alloc(), &config, &mut world, 100);
     assert_eq!(rt; ended, Ok(Ended::Closed));
@@ -565,86 +503,5 @@ fn a_client_that_sends_on_reads_why_it_was_left(rt: HostRuntime) -> Result<(), F
     let (settings, farewell) = read.split_at(SETTINGS.len().min(read.len()));
     assert_eq!(rt; settings, SETTINGS);
     assert_eq!(rt; farewell, FAREWELL);
-    Ok(())
-}
-
-#[test]
-fn a_side_that_is_shut_still_hears(rt: HostRuntime) -> Result<(), Fail> {
-    let (near, mut far) = pair(&rt)?;
-    let poll = Poll::new(&rt)?;
-    let near = mio::net::TcpStream::from_std(near);
-    let mut side = Side::new(rt.alloc(), poll.registry(), near, Token(1), 1000)?;
-    side.shut()?;
-    let mut room = [0u8; 4];
-    assert!(rt; matches!(far.read(&mut room), Ok(0)));
-    far.write_all(b"x")?;
-    let got = side.read(rt.alloc(), &mut room)?;
-    assert!(rt; matches!(&got, Got::Octets(octets) if octets.as_slice() == b"x".as_slice()));
-    Ok(())
-}
-
-/// What the other end of a socket reads, with what is reported in between, until it has so many octets.
-fn read_slowly(
-    poll: &mut Poll,
-    reports: &mut Events,
-    side: &mut Side<mio::net::TcpStream>,
-    far: &mut TcpStream,
-    most: usize,
-    read: &mut Vec<u8>,
-) -> io::Result<()> {
-    let mut room = [0u8; 4096];
-    for _ in 0..100_000 {
-        if read.len() >= most {
-            return Ok(());
-        }
-        match far.read(&mut room) {
-            Ok(count) => read.extend_from_slice(&room[..count])?,
-            Err(error) if error.kind() == ErrorKind::WouldBlock => {
-                poll.poll(reports, Some(Duration::from_millis(10)))?;
-                note_all(reports, side);
-                side.flush(poll.registry())?;
-            }
-            Err(error) => return Err(error),
-        }
-    }
-    Ok(())
-}
-
-fn note_all(reports: &Events, side: &mut Side<mio::net::TcpStream>) {
-    for report in reports {
-        side.note(report);
-    }
-}
-
-#[test]
-fn a_client_that_reads_slowly_reads_all(rt: HostRuntime) -> Result<(), Fail> {
-    let (near, mut far) = pair(&rt)?;
-    let mut poll = Poll::new(&rt)?;
-    let mut reports = Events::with_capacity(rt.alloc(), 8)?;
-    let near = mio::net::TcpStream::from_std(near);
-    let mut side = Side::new(rt.alloc(), poll.registry(), near, Token(1), 1000)?;
-    let mut written = Vec::new(rt.alloc());
-    for number in 0u32..1_500_000 {
-        written.extend_from_slice(&number.to_be_bytes())?;
-    }
-    for piece in written.chunks(777) {
-        side.put(poll.registry(), piece)?;
-    }
-    let all = written.len() as u64;
-    assert!(rt; side.owes_more_than(all.saturating_sub(1)));
-    let taken = side.tell(1);
-    // Its socket doesn't take so many while nothing is read.
-    assert!(rt; taken < all);
-    let mut read = Vec::new(rt.alloc());
-    read_slowly(
-        &mut poll,
-        &mut reports,
-        &mut side,
-        &mut far,
-        written.len(),
-        &mut read,
-    )?;
-    assert!(rt; read == written);
-    assert_eq!(rt; taken.saturating_add(side.tell(1)), all);
     Ok(())
 }

@@ -198,6 +198,7 @@ impl<S: Wire> Upstream<S> {
         ensures lost { OnErr result (GoesOn S.left S.held lost_news self.old self.new) }
         ensures fits { IfOk result (λ event. FitsRoom (length room.old) event) }
         ensures stays { self.new ≡ record self.old { side = self.new.side; is_queued = false } }
+        ensures out { out_of self.new.side ≡ out_of self.old.side }
     {
         self.leave_queue();
         if self.is_ready(room.len()) {

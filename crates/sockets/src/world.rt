@@ -1,12 +1,14 @@
 //! The world of sockets.
 
-ghost use Rattle.std.specs.Prelude.{◌≡◌, ◌+◌, ◌<◌, ◌^◌, ℕ, None, Option, Some, Ok, Err, [], ◌∷◌, ◌++◌, false, true, List, length, IfSome, IfNone, IfOk, OnOk, OnErr, get_or, is_ok, slice_get, if◌then◌else◌};
+ghost use Rattle.std.specs.Prelude.{◌≡◌, ◌+◌, ◌<◌, ◌^◌, ℕ, None, Option, Some, Ok, Err, [], ◌∷◌, ◌++◌, false, true, List, length, IfSome, IfNone, IfOk, IsOkAnd, OnOk, OnErr, ◌&&◌, not, get_or, is_ok, slice_get, if◌then◌else◌};
 ghost use Rattle.model.specs.Logs.{Step};
 ghost use Rattle.mio.specs.Events.{items as reported};
 ghost use Rattle.outputs.specs.Views.{output_of};
 ghost use Rattle.worlds.specs.Worlds.{AddsEvent, AddsHanded, KeepsRooms, SaysOver, with_outputs};
 ghost use Rattle.sockets.specs.Performed.{AreRising, IsOpenNowhere, Opens, Changes, SendsTo, Performs, Leaves, AllGoOn, MovesOn, Fits, client_heard, got_news, IsWithin, is_failed, told_by, no_log, none_handed};
-ghost use Rattle.sockets.specs.Sides.{no_news, lost_news, IsBegun, IsNew, Goes, SendsFront};
+ghost use Rattle.sockets.specs.Queues.{Grows, IsMarked, IsListed, AllListed, IsClientListed, HasQueued, HadQueued, OpensAnew};
+ghost use Rattle.sockets.specs.Sides.{no_news, lost_news, IsBegun, IsNew, Goes, SendsFront, may_go_on, may_be_ready, may_read, owes};
+ghost use Rattle.std.specs.List.{Contains};
 
 use crate::buffer::Buffer;
 use crate::leaving::Leaving;
@@ -88,6 +90,7 @@ impl<'a, N: Net + Clock, S: Wire> SocketWorld<'a, N, S> {
         ensures counts { IfOk result (λ world. (world.calls ≡ 0) × (world.failures ≡ 0)) }
         ensures addresses { IfOk result (λ world. world.sockets.addresses.now ≡ addresses.now) }
         ensures nothing { IfOk result (λ world. IsBegun 0 world.sockets.client × (world.sockets.upstreams.items ≡ [])) }
+        ensures queued { IfOk result (λ world. HasQueued world.sockets) }
     {
         let poll = Poll::new(net)?;
         let token = token_of(CLIENT);
@@ -132,6 +135,7 @@ impl<'a, N: Net + Clock, S: Wire> Sockets<'a, N, S> {
     fn find_next(&mut self, rooms: &[(u32, usize)]) -> Result<Option<Event>, WorldFault>
         ensures moves { MovesOn S.left S.held result self.old.client self.old.upstreams.items self.new.client self.new.upstreams.items }
         ensures fits { IfOk result (λ event. Fits rooms.now event) }
+        ensures queued { OnOk result (HasQueued self.old → HasQueued self.new) }
     {
         if let Some(event) = self.find_aside(rooms)? {
             return Ok(Some(event));
@@ -147,6 +151,7 @@ impl<'a, N: Net + Clock, S: Wire> Sockets<'a, N, S> {
     fn find_aside(&mut self, rooms: &[(u32, usize)]) -> Result<Option<Event>, WorldFault>
         ensures moves { MovesOn S.left S.held result self.old.client self.old.upstreams.items self.new.client self.new.upstreams.items }
         ensures fits { IfOk result (λ event. Fits rooms.now event) }
+        ensures queued { OnOk result (HasQueued self.old → HasQueued self.new) }
     {
         self.turns = self.turns.wrapping_add(1);
         if self.turns % ROUND == 0 {
@@ -163,6 +168,7 @@ impl<'a, N: Net + Clock, S: Wire> Sockets<'a, N, S> {
     fn find_event(&mut self, rooms: &[(u32, usize)]) -> Result<Option<Event>, WorldFault>
         ensures moves { MovesOn S.left S.held result self.old.client self.old.upstreams.items self.new.client self.new.upstreams.items }
         ensures fits { IfOk result (λ event. Fits rooms.now event) }
+        ensures queued { OnOk result (HasQueued self.old → HasQueued self.new) }
     {
         let count = self.client.tell(TOLD_AT_ONCE);
         if count > 0 {
@@ -179,6 +185,7 @@ impl<'a, N: Net + Clock, S: Wire> Sockets<'a, N, S> {
     fn read_ready(&mut self, rooms: &[(u32, usize)]) -> Result<Option<Event>, WorldFault>
         ensures moves { MovesOn S.left S.held result self.old.client self.old.upstreams.items self.new.client self.new.upstreams.items }
         ensures fits { IfOk result (λ event. Fits rooms.now event) }
+        ensures queued { OnOk result (HasQueued self.old → HasQueued self.new) }
     {
         for _ in 0..self.ready.len() {
             let Some(number) = self.ready.pop_front() else {
@@ -196,6 +203,7 @@ impl<'a, N: Net + Clock, S: Wire> Sockets<'a, N, S> {
     fn read(&mut self, number: u32, rooms: &[(u32, usize)]) -> Result<Option<Event>, WorldFault>
         ensures moves { MovesOn S.left S.held result self.old.client self.old.upstreams.items self.new.client self.new.upstreams.items }
         ensures fits { IfOk result (λ event. Fits rooms.now event) }
+        ensures queued { OnOk result (HadQueued number self.old → HasQueued self.new) }
     {
         if number == CLIENT {
             self.read_client()
@@ -213,6 +221,7 @@ impl<'a, N: Net + Clock, S: Wire> Sockets<'a, N, S> {
     ) -> Result<Option<Event>, WorldFault>
         ensures moves { MovesOn S.left S.held result self.old.client self.old.upstreams.items self.new.client self.new.upstreams.items }
         ensures fits { IfOk result (λ event. Fits rooms.now event) }
+        ensures queued { OnOk result (0 < number → HadQueued number self.old → HasQueued self.new) }
     {
         let Some(place) = place_of(number, &self.upstreams) else {
             return Ok(None);
@@ -222,8 +231,8 @@ impl<'a, N: Net + Clock, S: Wire> Sockets<'a, N, S> {
         let event = self.buffer.read_in_turn(self.alloc, upstream, room)?;
         if is_failure(&event) {
             self.upstreams.remove(place);
-        } else if upstream.joins_queue() {
-            self.ready.push_back(number)?;
+        } else {
+            join_ready(upstream, &mut self.ready)?;
         }
         Ok(event)
     }
@@ -233,6 +242,7 @@ impl<'a, N: Net + Clock, S: Wire> Sockets<'a, N, S> {
         ensures upstreams { self.new.upstreams ≡ self.old.upstreams }
         ensures moves { MovesOn S.left S.held result self.old.client self.old.upstreams.items self.new.client self.new.upstreams.items }
         ensures fits { IfOk result (λ event. (rooms : List (ℕ × ℕ)) → Fits rooms event) }
+        ensures queued { OnOk result (HadQueued 0 self.old → HasQueued self.new) }
     {
         self.is_client_queued = false;
         let got = self.read_of_client()?;
@@ -246,29 +256,50 @@ impl<'a, N: Net + Clock, S: Wire> Sockets<'a, N, S> {
         ensures told { IfOk result (λ got. Goes S.left S.held (got_news got) self.old.client self.new.client) }
         ensures lost { OnErr result (Goes S.left S.held lost_news self.old.client self.new.client) }
         ensures fits { IfOk result (λ got. IsWithin 65536 got) }
+        ensures read { may_read 1073741824 self.old.client ≡ true → IfOk result (λ got. self.new.client.readable ≡ may_go_on got) }
+        ensures unread { may_read 1073741824 self.old.client ≡ false → IsOkAnd result (λ got. got ≡ Got.Nothing) × (self.new.client ≡ self.old.client) }
+        ensures queues { (self.new.ready ≡ self.old.ready) × (self.new.writes ≡ self.old.writes) × (self.new.is_client_queued ≡ self.old.is_client_queued) }
     {
-        if !self.client.is_readable() || self.client.owes_more_than(MOST_OWED) {
-            return Ok(Got::Nothing);
+        if self.may_read_client() {
+            return Ok(self.buffer.read(self.alloc, &mut self.client)?);
         }
-        Ok(self.buffer.read(self.alloc, &mut self.client)?)
+        Ok(Got::Nothing)
+    }
+
+    /// Whether the client is read: something may be read of it, and not too much that was put out isn't told of as taken.
+    fn may_read_client(&self) -> bool
+        ensures { result ≡ may_read 1073741824 self.now.client }
+    {
+        self.client.is_readable() && !self.client.owes_more_than(MOST_OWED)
     }
 
     /// The client joins the sockets of which something may be read, if something may.
     fn queue_client(&mut self) -> Result<(), WorldFault>
         ensures upstreams { self.new.upstreams ≡ self.old.upstreams }
         ensures client { self.new.client ≡ self.old.client }
+        ensures writes { self.new.writes ≡ self.old.writes }
+        ensures ready { Grows self.old.ready.items self.new.ready.items }
+        ensures listed { OnOk result ((self.old.is_client_queued ≡ true → Contains self.old.ready.items 0) → IsClientListed self.new.ready.items self.new.is_client_queued self.new.client) }
     {
-        if !self.is_client_queued && self.client.is_readable() {
+        if self.client_joins() {
             self.is_client_queued = true;
             self.ready.push_back(CLIENT)?;
         }
         Ok(())
     }
 
+    /// Whether the client joins the sockets of which something may be read: something may, and it doesn't stand among them.
+    fn client_joins(&self) -> bool
+        ensures { result ≡ (not self.now.is_client_queued && may_be_ready (Some self.now.client)) }
+    {
+        !self.is_client_queued && self.client.is_readable()
+    }
+
     /// What sockets took that wasn't told of, if they took some: upstreams first, since each of them is told of once in a while.
     fn tell(&mut self) -> Option<Event>
         ensures moves { MovesOn S.left S.held (Ok result) self.old.client self.old.upstreams.items self.new.client self.new.upstreams.items }
         ensures fits { (rooms : List (ℕ × ℕ)) → Fits rooms result }
+        ensures queued { HasQueued self.old → HasQueued self.new }
     {
         for _ in 0..self.writes.len() {
             let k = self.writes.pop_front()?;
@@ -288,6 +319,7 @@ impl<'a, N: Net + Clock, S: Wire> Sockets<'a, N, S> {
     /// Waits until a socket is reported, at most so long where that is said, notes what is, and writes what waits for those that take octets again.
     fn look(&mut self, most: Option<Duration>) -> Result<(), WorldFault>
         ensures moves { MovesOn S.left S.held (Ok None) self.old.client self.old.upstreams.items self.new.client self.new.upstreams.items }
+        ensures queued { OnOk result (HasQueued self.old → HasQueued self.new) }
     {
         match self.poll.poll(&mut self.reports, most) {
             Ok(()) => {}
@@ -374,6 +406,7 @@ impl<'a, N: Net + Clock, S: Wire> Sockets<'a, N, S> {
         ensures opens { OnOk result (Opens (IsNew k (slice_get self.old.addresses.now route)) self.old.upstreams.items self.new.upstreams.items) }
         ensures err { OnErr result (self.new.upstreams.items ≡ self.old.upstreams.items) }
         ensures rising { AreRising self.old.upstreams.items → AreRising self.new.upstreams.items }
+        ensures queued { OnOk result (0 < k → IsOpenNowhere k self.old.upstreams.items → HasQueued self.old → HasQueued self.new) }
     {
         let mut upstream = self.begin(k, address_of(route, self.addresses))?;
         list(&mut upstream, &mut self.ready, &mut self.writes)?;
@@ -384,7 +417,8 @@ impl<'a, N: Net + Clock, S: Wire> Sockets<'a, N, S> {
 
     /// Begins a connection to an address, if there is one.
     fn begin(&self, k: u32, address: Option<SocketAddr>) -> Result<Upstream<S>, WorldFault>
-        ensures { IfOk result (IsNew k address) }
+        ensures new { IfOk result (IsNew k address) }
+        ensures unmarked { IfOk result (λ upstream. (upstream.is_queued ≡ false) × (upstream.is_listed ≡ false)) }
     {
         let side = match address {
             Some(address) => self.connect(k, address)?,
@@ -399,6 +433,7 @@ impl<'a, N: Net + Clock, S: Wire> Sockets<'a, N, S> {
         ensures err { OnErr result (Changes k (SendsFront S.left S.held octets.now) self.old.upstreams.items self.new.upstreams.items) }
         ensures sends { OnOk result (AreRising self.old.upstreams.items → SendsTo S.left S.held k octets.now self.old.upstreams.items self.new.upstreams.items) }
         ensures rising { AreRising self.old.upstreams.items → AreRising self.new.upstreams.items }
+        ensures queued { OnOk result (HasQueued self.old → HasQueued self.new) }
     {
         let Some(place) = place_of(k, &self.upstreams) else {
             return Ok(());
@@ -428,6 +463,7 @@ impl<'a, N: Net + Clock, S: Wire> Sockets<'a, N, S> {
         ensures rising { AreRising self.old.upstreams.items → AreRising self.new.upstreams.items }
         ensures performs { OnOk result (Performs S.left S.held self.old.addresses.now output.now self.old.client self.old.upstreams.items self.new.client self.new.upstreams.items) }
         ensures leaves { OnErr result (Leaves S.left S.held output.now self.old.client self.old.upstreams.items self.new.client self.new.upstreams.items) }
+        ensures queued { OnOk result (OpensAnew output.now self.old.upstreams.items → HasQueued self.old → HasQueued self.new) }
     {
         match output {
             Output::Client(octets) => match self.client.put(self.poll.registry(), octets) {
@@ -482,6 +518,7 @@ impl<'a, N: Net + Clock, S: Wire> World for SocketWorld<'a, N, S> {
         ensures rising { AreRising self.old.sockets.upstreams.items → AreRising self.new.sockets.upstreams.items }
         ensures moves { MovesOn S.left S.held (told_by result) self.old.sockets.client self.old.sockets.upstreams.items self.new.sockets.client self.new.sockets.upstreams.items }
         ensures fits { IfOk (told_by result) (λ event. Fits rooms.now event) }
+        ensures queued { OnOk result (HasQueued self.old.sockets → HasQueued self.new.sockets) }
     {
         self.calls += 1;
         match self.sockets.find_next(rooms) {
@@ -507,6 +544,7 @@ impl<'a, N: Net + Clock, S: Wire> World for SocketWorld<'a, N, S> {
         ensures rising { AreRising self.old.sockets.upstreams.items → AreRising self.new.sockets.upstreams.items }
         ensures performs { OnOk result (Performs S.left S.held self.old.sockets.addresses.now output.now self.old.sockets.client self.old.sockets.upstreams.items self.new.sockets.client self.new.sockets.upstreams.items) }
         ensures leaves { OnErr result (Leaves S.left S.held output.now self.old.sockets.client self.old.sockets.upstreams.items self.new.sockets.client self.new.sockets.upstreams.items) }
+        ensures queued { OnOk result (OpensAnew output.now self.old.sockets.upstreams.items → HasQueued self.old.sockets → HasQueued self.new.sockets) }
     {
         let applied = self.sockets.perform(output);
         if applied.is_err() {
@@ -589,7 +627,9 @@ fn heed_all<S: Wire>(
     ready: &mut VecDeque<u32>,
     writes: &mut VecDeque<u32>,
 ) -> Result<(), WorldFault>
-    ensures { AllGoOn S.left S.held no_news upstreams.old.items upstreams.new.items }
+    ensures goes { AllGoOn S.left S.held no_news upstreams.old.items upstreams.new.items }
+    ensures ready { Grows ready.old.items ready.new.items }
+    ensures listed { OnOk result (AllListed 0 ready.old.items writes.old.items upstreams.old.items → AllListed 0 ready.new.items writes.new.items upstreams.new.items) }
 {
     for report in reports {
         if let Some(place) = place_under(report.token(), upstreams) {
@@ -607,11 +647,41 @@ fn list<S: Wire>(
     ready: &mut VecDeque<u32>,
     writes: &mut VecDeque<u32>,
 ) -> Result<(), WorldFault>
-    ensures { upstream.new ≡ record upstream.old { is_queued = upstream.new.is_queued; is_listed = upstream.new.is_listed } }
+    ensures stays { upstream.new ≡ record upstream.old { is_queued = upstream.new.is_queued; is_listed = upstream.new.is_listed } }
+    ensures ready { Grows ready.old.items ready.new.items }
+    ensures writes { Grows writes.old.items writes.new.items }
+    ensures listed { OnOk result (IsMarked ready.old.items writes.old.items upstream.old → IsListed ready.new.items writes.new.items upstream.new) }
+{
+    join_ready(upstream, ready)?;
+    join_writes(upstream, writes)
+}
+
+/// An upstream joins those of which something may be read, if something may, and it doesn't stand among them.
+fn join_ready<S: Wire>(
+    upstream: &mut Upstream<S>,
+    ready: &mut VecDeque<u32>,
+) -> Result<(), WorldFault>
+    ensures stays { upstream.new ≡ record upstream.old { is_queued = upstream.new.is_queued } }
+    ensures more { Grows ready.old.items ready.new.items }
+    ensures may { OnOk result (may_be_ready upstream.old.side ≡ true → upstream.new.is_queued ≡ true) }
+    ensures queued { OnOk result ((upstream.old.is_queued ≡ true → Contains ready.old.items upstream.old.k) → upstream.new.is_queued ≡ true → Contains ready.new.items upstream.old.k) }
 {
     if upstream.joins_queue() {
         ready.push_back(upstream.k)?;
     }
+    Ok(())
+}
+
+/// An upstream joins those of which it may have to be told what they took, if it may, and it doesn't stand among them.
+fn join_writes<S: Wire>(
+    upstream: &mut Upstream<S>,
+    writes: &mut VecDeque<u32>,
+) -> Result<(), WorldFault>
+    ensures stays { upstream.new ≡ record upstream.old { is_listed = upstream.new.is_listed } }
+    ensures more { Grows writes.old.items writes.new.items }
+    ensures owes { OnOk result (owes upstream.old.side ≡ true → upstream.new.is_listed ≡ true) }
+    ensures listed { OnOk result ((upstream.old.is_listed ≡ true → Contains writes.old.items upstream.old.k) → upstream.new.is_listed ≡ true → Contains writes.new.items upstream.old.k) }
+{
     if upstream.joins_list() {
         writes.push_back(upstream.k)?;
     }

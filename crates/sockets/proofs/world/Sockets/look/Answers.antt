@@ -1,35 +1,42 @@
 use Rattle.std.specs.Prelude.{None, Ok}
 use Rattle.sockets.specs.Performed.{MovesOn}
 use Rattle.sockets.proofs.Moving.{moves_still, moves_twice, client_moves, side_flushed}
+use Rattle.sockets.proofs.Performing.{ok_then}
+use Rattle.sockets.proofs.Queueing.{grows_still, stands_still, all_still}
 use Rattle.sockets.proofs.world.Sockets.look.Goals as goal
 
-pub returns-in-Err : goal.returns-in-Err
-returns-in-Err g c = record { moves = moves_still _ _ _ _ }
+pub returns-in-Err-clause-moves : goal.returns-in-Err-clause-moves
+returns-in-Err-clause-moves g c = moves_still _ _ _ _
 
-pub returns-in-Err-2 : goal.returns-in-Err-2
-returns-in-Err-2 g c = record { moves = moves_still _ _ _ _ }
+pub returns-in-Err-2-clause-moves : goal.returns-in-Err-2-clause-moves
+returns-in-Err-2-clause-moves g c = moves_still _ _ _ _
 
-pub returns-in_err-heed_all : goal.returns-in_err-heed_all
-returns-in_err-heed_all g c = record { moves = record { client_is = c.note_client.ensures; others = c.heed_all.ensures } }
+pub returns-in_err-heed_all-clause-moves : goal.returns-in_err-heed_all-clause-moves
+returns-in_err-heed_all-clause-moves g c = record { client_is = c.note_client.ensures; others = c.heed_all.ensures.goes }
 
-pub returns-in_err-flush : goal.returns-in_err-flush
-returns-in_err-flush g c =
-    record {
-      moves =
-          let us = c.heed_all.new.upstreams.items in
-          let heeded : MovesOn g.S.Socket.left g.S.Socket.held (Ok None) c.args.self.now.client c.args.self.now.upstreams.items c.note_client.new.client us = record { client_is = c.note_client.ensures; others = c.heed_all.ensures } in
-          moves_twice _ _ (Ok None) _ _ _ _ us us heeded
-          (client_moves _ _ _ _ us (side_flushed _ _ c.note_client.new.client c.flush.new.self c.flush.ensures.stays c.flush.ensures.left c.flush.ensures.heard c.flush.ensures.puts));
-    }
+pub returns-in_err-flush-clause-moves : goal.returns-in_err-flush-clause-moves
+returns-in_err-flush-clause-moves g c =
+    let us = c.heed_all.new.upstreams.items in
+    let heeded : MovesOn g.S.Socket.left g.S.Socket.held (Ok None) c.args.self.now.client c.args.self.now.upstreams.items c.note_client.new.client us = record { client_is = c.note_client.ensures; others = c.heed_all.ensures.goes } in
+    moves_twice _ _ (Ok None) _ _ _ _ us us heeded
+    (client_moves _ _ _ _ us (side_flushed _ _ c.note_client.new.client c.flush.new.self c.flush.ensures.stays c.flush.ensures.left c.flush.ensures.heard c.flush.ensures.puts))
 
-pub returns : goal.returns
-returns g c =
-    record {
-      moves =
-          let us = c.heed_all.new.upstreams.items in
-          let heeded : MovesOn g.S.Socket.left g.S.Socket.held (Ok None) c.args.self.now.client c.args.self.now.upstreams.items c.note_client.new.client us = record { client_is = c.note_client.ensures; others = c.heed_all.ensures } in
-          rw c.queue_client.ensures.client
-          (rw c.queue_client.ensures.upstreams
-          (moves_twice _ _ (Ok None) _ _ _ _ us us heeded
-          (client_moves _ _ _ _ us (side_flushed _ _ c.note_client.new.client c.flush.new.self c.flush.ensures.stays c.flush.ensures.left c.flush.ensures.heard c.flush.ensures.puts))));
-    }
+pub returns-clause-moves : goal.returns-clause-moves
+returns-clause-moves g c =
+    let us = c.heed_all.new.upstreams.items in
+    let heeded : MovesOn g.S.Socket.left g.S.Socket.held (Ok None) c.args.self.now.client c.args.self.now.upstreams.items c.note_client.new.client us = record { client_is = c.note_client.ensures; others = c.heed_all.ensures.goes } in
+    rw c.queue_client.ensures.client
+    (rw c.queue_client.ensures.upstreams
+    (moves_twice _ _ (Ok None) _ _ _ _ us us heeded
+    (client_moves _ _ _ _ us (side_flushed _ _ c.note_client.new.client c.flush.new.self c.flush.ensures.stays c.flush.ensures.left c.flush.ensures.heard c.flush.ensures.puts))))
+
+pub returns-clause-queued : goal.returns-clause-queued
+returns-clause-queued g c =
+    ok_then c.queue_client.result
+    (λ make. λ before. record {
+      client_is = make (λ is. stands_still 0 _ _ c.heed_all.ensures.ready (before.client_is.queued is));
+      all_are = rw c.queue_client.ensures.upstreams
+          (rw c.queue_client.ensures.writes
+          (all_still 0 _ _ _ _ c.heed_all.new.upstreams.items c.queue_client.ensures.ready (grows_still _) (c.in_ok-heed_all.ensures.listed before.all_are)));
+    })
+    c.queue_client.ensures.listed

@@ -2,6 +2,8 @@ use Rattle.std.proofs.Common.{◌≡◌, ◌<◌, refl, sym, subst, inl, inr, le
 use Rattle.sockets.specs.Performed.{AreRising, IsNumbered, IsOpenNowhere, Opens}
 use Rattle.sockets.proofs.Performing.{one_fewer}
 use Rattle.sockets.proofs.Rising.{rising_remove}
+use Rattle.sockets.specs.Queues.{AllListed}
+use Rattle.sockets.proofs.Queueing.{one_removed}
 use Rattle.sockets.proofs.world.Sockets.perform.Goals as goal
 
 pub returns-in-Some-clause-performs : goal.returns-in-Some-clause-performs
@@ -25,3 +27,16 @@ returns-in_default-clause-performs g c =
     let us = c.args.self.now.upstreams.items in
     let absent : AreRising us → IsOpenNowhere c.in-Close.k us = rw (← c.deref-in-Close.ensures.value) c.in_default.ensures.absent in
     rw c.in-Close.is (refl, λ up. inl (absent up, refl))
+
+pub returns-in-Some-clause-queued : goal.returns-in-Some-clause-queued
+returns-in-Some-clause-queued g c = λ opens before.
+    let us = c.args.self.now.upstreams.items in
+    let ready = c.args.self.now.ready.items in
+    let writes = c.args.self.now.writes.items in
+    let k = c.in-Close.k in
+    let within : c.in-Some.place < length us = rw (← c.deref-in-Close.ensures.value) c.in-Some.ensures.within in
+    let found : (get_or us c.in-Some.place c.remove.result).k ≡ k = rw (← c.deref-in-Close.ensures.value) (c.in-Some.ensures.found c.remove.result) in
+    record {
+      client_is = before.client_is;
+      all_are = subst (AllListed 0 ready writes) (sym c.remove.ensures.items) (one_removed k 0 ready writes ready writes us c.in-Some.place c.remove.result (λ v other listed. listed) within found before.all_are);
+    }

@@ -1,8 +1,11 @@
-use Rattle.std.proofs.Common.{sym, subst, ap, ◌∙◌}
+use Rattle.std.proofs.Common.{◌≡◌, ◌∷◌, sym, subst, ap, ◌∙◌, arith}
+use Rattle.std.specs.Prelude.{true, false}
 use Rattle.sockets.specs.Sides.{Goes, lost_news}
 use Rattle.sockets.specs.Performed.{AllGoOn, got_news}
 use Rattle.sockets.proofs.Moving.{all_lost, all_still, moves_lost}
 use Rattle.sockets.proofs.Events.{fits_heard, got_lost, heard_moves}
+use Rattle.sockets.specs.Queues.{Grows}
+use Rattle.sockets.proofs.Queueing.{rest_listed, still_queued}
 use Rattle.sockets.proofs.world.Sockets.read_client.Goals as goal
 
 pub returns-in_err-got-clause-moves : goal.returns-in_err-got-clause-moves
@@ -31,3 +34,15 @@ returns-clause-moves g c =
 
 pub returns-clause-fits : goal.returns-clause-fits
 returns-clause-fits g c = λ rooms. rw c.client_event.ensures (fits_heard c.in_ok-got.got rooms c.in_ok-got.ensures.fits)
+
+pub returns-clause-queued : goal.returns-clause-queued
+returns-clause-queued g c = λ before.
+    let old = c.args.self.now in
+    let ready = c.queue_client.new.self.ready.items in
+    let grows : Grows old.ready.items ready = rw (ap (λ queue. queue.items) c.read_of_client.ensures.queues.0) at c.queue_client.ensures.ready in
+    record {
+      client_is = c.in_ok-queue_client.ensures.listed (λ is. absurd (let no : false ≡ true = sym c.read_of_client.ensures.queues.2 ∙ is in cc));
+      all_are = rw (ap (λ queue. queue.items) (c.queue_client.ensures.writes ∙ c.read_of_client.ensures.queues.1))
+          (rw (ap (λ us. us.items) (c.queue_client.ensures.upstreams ∙ c.read_of_client.ensures.upstreams))
+          (rest_listed 0 0 (0 ∷ old.ready.items) old.writes.items ready old.writes.items old.upstreams.items (λ v. still_queued 0 old.ready.items ready old.writes.items v grows) (omega arith) before.all_are));
+    }

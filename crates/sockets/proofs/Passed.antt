@@ -97,21 +97,6 @@ gathered has octets old new is =
       at_least = grind (arith, counts);
     }
 
--- They wait, and then what waits is written as far as the socket takes it.
-pub gathered_passes : (had has : Option (List ℕ)) (octets : List ℕ) (old mid new : Way) → mid ≡ record old { waiting = old.waiting ++ octets; sent = mid.sent } → Passes had has [] 0 mid new
-    → Passes had has octets 0 old new
-gathered_passes had has octets old mid new is passes =
-    let counts : mid.untold ≡ old.untold = ap (λ (way : Way). way.untold) is in
-    let most = passes.at_most in
-    let least = passes.at_least in
-    record {
-      taken = passes.taken;
-      in_order = passes.in_order ∙ append-nil mid.waiting ∙ ap (λ (way : Way). way.waiting) is;
-      are_written = passes.are_written;
-      at_most = omega (arith, counts, most);
-      at_least = rw (← counts) least;
-    }
-
 -- Of what is put out all is a front.
 pub passes_front : (had has : Option (List ℕ)) (octets : List ℕ) (old new : Way) → Passes had has octets 0 old new → PassesFront had has octets old new
 passes_front had has octets old new passes =
@@ -160,18 +145,3 @@ put_front (Err Memory) had has octets old new passes failed refused =
       are_written = loses.are_written;
       at_most = grind (arith, common_steps);
     }
-
-told_by_test : (has : Option (List ℕ)) (way : Way) (b : Bool) → Passes has has [] (if b then 0 else way.untold) way (if b then way else record way { untold = 0 })
-told_by_test has way true = passes_still has has way way refl refl refl
-told_by_test has way false =
-    record {
-      taken = [];
-      in_order = sym (append-nil way.waiting);
-      are_written = appends_nothing has;
-      at_most = omega arith;
-      at_least = grind arith;
-    }
-
--- To tell how many were taken leaves what waits.
-pub told_passes : (has : Option (List ℕ)) (least : ℕ) (way : Way) → Passes has has [] (told_count least way) way (told least way)
-told_passes has least way = told_by_test has way (nat_lt way.untold least)

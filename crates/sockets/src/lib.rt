@@ -13,7 +13,7 @@ pub use wire::Wire;
 pub use world::SocketWorld;
 
 #[cfg(test)]
-mod bodies;
+mod bodies_tests;
 #[cfg(test)]
 mod leaving_tests;
 #[cfg(test)]

@@ -75,16 +75,22 @@ impl Client {
             return Ok(());
         };
         read_on(socket, &mut self.unread)?;
-        for _ in 0..self.unread.len() {
-            if !self.take_frame()? {
-                break;
-            }
-        }
+        self.take_frames()?;
         for _ in 0..LENGTH / PART {
             self.send_part()?;
         }
         if self.body.len() >= LENGTH {
             self.socket = None;
+        }
+        Ok(())
+    }
+
+    /// It takes the whole ones of the frames that it read.
+    fn take_frames(&mut self) -> io::Result<()> {
+        for _ in 0..self.unread.len() {
+            if !self.take_frame()? {
+                break;
+            }
         }
         Ok(())
     }

@@ -63,6 +63,6 @@ fn serve_client(rt: &HostRuntime, setting: &Setting, client: TcpStream) -> Resul
     let _ = world.finish();
     match ended {
         Err(ServeFault::Memory) => Err(Stop::Memory),
-        Ok(_) | Err(ServeFault::World | ServeFault::NotAdmitted) => Ok(()),
+        Ok(_) | Err(ServeFault::World | ServeFault::NotAdmitted(_)) => Ok(()),
     }
 }

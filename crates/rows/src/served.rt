@@ -9,7 +9,7 @@ use std::io;
 use std::io::Write;
 use std::process::Abort;
 use std::test::*;
-use worlds::{Ended, MemoryWorld, Next, ServeFault, World, WorldFault, serve};
+use worlds::{Ended, MemoryWorld, Next, Peer, ServeFault, World, WorldFault, serve};
 
 /// The preface, settings without entries, and a GET without a body on stream 1.
 const REQUEST: &[u8] =
@@ -334,7 +334,7 @@ fn an_event_that_may_not_come_is_left_alone(rt: HostRuntime) -> Result<(), Fail>
     let mut events = exchange(alloc, &[ANSWER])?;
     events.push(Event::UpEnd(1))?;
     let (ended, text) = served(alloc, b"", events)?;
-    assert_eq!(rt; ended, Err(ServeFault::NotAdmitted));
+    assert_eq!(rt; ended, Err(ServeFault::NotAdmitted(Peer::Upstream(1))));
     let (first, rest) = text.split_at(FORWARDED.len().min(text.len()));
     assert_eq!(rt; first, FORWARDED);
     assert_eq!(rt; rest, FRAMES);

@@ -18,7 +18,9 @@ use Rattle.gateway.proofs.Running.{promised_at}
 use Rattle.outputs.specs.declared.events.Event.{Event}
 use Rattle.outputs.specs.declared.events.Output.{Output}
 use Rattle.worlds.specs.declared.services.Ended.{Ended}
-use Rattle.worlds.specs.Worlds.{Handed, Serves, StandsSomewhere, AddsFrontTo, AddsUnansweredTo, AddsHanded, IsHanded, AreHanded, AreAllHanded, HandsTo, MayNotCome, came, with_outputs, closes, has_closed, is_closed}
+use Rattle.worlds.specs.declared.services.Peer.{Peer}
+use Rattle.worlds.specs.declared.services.ServeFault.TheVariants.{NotAdmitted}
+use Rattle.worlds.specs.Worlds.{Handed, Serves, StandsWithRooms, AddsFrontTo, AddsUnansweredTo, AddsHanded, IsHanded, AreHanded, AreAllHanded, HandsTo, MayNotCome, came, with_outputs, closes, has_closed, is_closed}
 use Rattle.worlds.specs.Worlds.IsFrontOf.{Whole, Lacks}
 
 -- ---- whether the client is closed
@@ -69,6 +71,14 @@ all_handed_more setup n added more old new all = λ earlier e. let a = all earli
 
 -- ---- the log
 
+-- No rooms are those behind nothing.
+no_rooms : (setup : Setup) (rooms : List (ℕ × ℕ)) → rooms ≡ [] → AreRooms (known_of setup []) [] rooms
+no_rooms setup rooms none = subst (λ r. AreRooms (known_of setup []) [] r) (sym none) (record { rise = tt; listed = λ k. refl; each = tt })
+
+-- A new gateway stands for no steps.
+pub stands_none : (setup : Setup) (g : Standing) (rooms : List (ℕ × ℕ)) → rooms ≡ [] → Stands setup g [] [] → StandsWithRooms setup g rooms
+stands_none setup g rooms none stands = record { log = []; run = []; stands = stands; rooms_are = no_rooms setup rooms none }
+
 -- Nothing was added yet, and nothing handed.
 pub serves_none : (setup : Setup) (log : Option (List Step)) (g : Standing) (rooms : List (ℕ × ℕ)) (handed : Option (List Handed)) (before : List Step) → log ≡ Some before → rooms ≡ [] → Stands setup g [] []
     → Serves setup false log g rooms handed handed before
@@ -78,7 +88,7 @@ serves_none setup log g rooms handed before e none stands = record {
   is = e ∙ ap Some (sym (append-nil before));
   stands = stands;
   has_closed_is = refl;
-  rooms_are = subst (λ r. AreRooms (known_of setup []) [] r) (sym none) (record { rise = tt; listed = λ k. refl; each = tt });
+  rooms_are = no_rooms setup rooms none;
   hands = λ earlier h. ([], h ∙ ap Some (sym (append-nil earlier)), tt);
 }
 
@@ -94,10 +104,18 @@ next_of g g' event old out steps setup log run stands =
     let all : outputs_of out ≡ steps.puts.0 = steps.puts.1 ∙ ap (λ x. outputs_of x ++ steps.puts.0) steps.none in
     subst (λ o. StandsNext setup g' log run (event_of event) o) (sym all) (steps.puts.2 setup log run stands)
 
--- Afterwards the gateway stands for some log, as before.
-pub stands_on : (g g' : Standing) (event : Event) (old out : List Output) → Steps g g' event old out → (setup : Setup) → StandsSomewhere setup g → StandsSomewhere setup g'
-stands_on g g' event old out steps setup somewhere =
-    let next = next_of g g' event old out steps setup somewhere.0 somewhere.1 somewhere.2 in (record { event = event_of event; outputs = outputs_of out } ∷ somewhere.0, next.segment ++ somewhere.1, next.stands)
+-- Afterwards the gateway stands for some log with the rooms behind it, as before.
+pub stands_on : (g g' : Standing) (event : Event) (old out : List Output) → Steps g g' event old out → (rooms rooms' : List (ℕ × ℕ))
+    → ((setup : Setup) (log : List Step) (run : List Move) (next : StandsNext setup g' log run (event_of event) (outputs_of out)) → AreRooms (known_of setup (conducts run)) (tape_of run) rooms
+        → AreRooms (known_of setup (conducts (next.segment ++ run))) (tape_of (next.segment ++ run)) rooms')
+    → (setup : Setup) → StandsWithRooms setup g rooms → StandsWithRooms setup g' rooms'
+stands_on g g' event old out steps rooms rooms' noted setup s =
+    let next = next_of g g' event old out steps setup s.log s.run s.stands in record {
+      log = record { event = event_of event; outputs = outputs_of out } ∷ s.log;
+      run = next.segment ++ s.run;
+      stands = next.stands;
+      rooms_are = noted setup s.log s.run next s.rooms_are;
+    }
 
 -- The log with this step stands for the gateway behind it.
 stands_more : (setup : Setup) (g g' : Standing) (added : List Step) (run : List Move) (event : Event) (old out : List Output) → (steps : Steps g g' event old out)
@@ -236,3 +254,7 @@ same_fault fault other is = let same : fault ≡ other = cc in rw same refl
 -- An answer is no error.
 pub no_fault : {A E : Type 0} (answer : A) (fault : E) → IsErrOf (Ok answer) fault → ⊥
 no_fault answer fault is = let no : true ≡ false = ap is_ok is in cc
+
+-- The peer that a refusal names is this one.
+pub named : {T : Type 0} (one other : Peer) → IsErrOf {T = T} (Err (NotAdmitted one)) (NotAdmitted other) → one ≡ other
+named one other is = cc

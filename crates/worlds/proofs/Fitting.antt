@@ -25,7 +25,8 @@ use Rattle.outputs.specs.declared.events.Event.TheVariants as event
 use Rattle.gateway.specs.Rooms.{AreRooms, is_among, numbers_in}
 use Rattle.gateway.specs.Stands.{Standing, Stands, is_open}
 use Rattle.gateway.proofs.Admitting.{admitted_in, closed_up}
-use Rattle.worlds.specs.Worlds.{HasRoom, KeepsRooms, is_of_upstream}
+use Rattle.worlds.specs.Worlds.{HasRoom, KeepsRooms, peer_of}
+use Rattle.worlds.specs.declared.services.Peer.TheVariants.{Upstream}
 use Rattle.worlds.specs.declared.world.Next.TheVariants.{Happened}
 
 -- There is one room beside what waits for the client, and one in all: a connection is idle or isn't.
@@ -113,11 +114,11 @@ module _ (setup : Setup) (g : Standing) (log : List Step) (run : List Move) (sta
   failed_may rooms are k has = record { in_order = and_true (not (is_closed t)) (admission.is_open k t) (goes_on rooms are k 0 has) (open_there rooms are k 0 has); fits = tt }
 
   -- What may not come is of no upstream, where what comes of these keeps to their rooms.
-  pub of_none : (rooms : List (ℕ × ℕ)) → AreRooms known t rooms → (came : Event) → KeepsRooms rooms (Happened came) → (IsAdmitted known t (event_of came) → ⊥) → is_of_upstream came ≡ false
-  of_none rooms are (event.Up k octets) keeps refused = absurd (refused (up_may rooms are k octets.items keeps))
-  of_none rooms are (event.UpEnd k) keeps refused = absurd (refused (end_may rooms are k keeps))
-  of_none rooms are (event.UpFailed k) keeps refused = absurd (refused (failed_may rooms are k keeps))
-  of_none rooms are (event.Client octets) keeps refused = refl
-  of_none rooms are event.ClientEnd keeps refused = refl
-  of_none rooms are (event.ClientTook count) keeps refused = refl
-  of_none rooms are (event.UpTook k count) keeps refused = refl
+  pub of_none : (rooms : List (ℕ × ℕ)) → AreRooms known t rooms → (came : Event) → KeepsRooms rooms (Happened came) → (IsAdmitted known t (event_of came) → ⊥) → (j : ℕ) → peer_of came ≡ Upstream j → ⊥
+  of_none rooms are (event.Up k octets) keeps refused j of = refused (up_may rooms are k octets.items keeps)
+  of_none rooms are (event.UpEnd k) keeps refused j of = refused (end_may rooms are k keeps)
+  of_none rooms are (event.UpFailed k) keeps refused j of = refused (failed_may rooms are k keeps)
+  of_none rooms are (event.Client octets) keeps refused j of = cc
+  of_none rooms are event.ClientEnd keeps refused j of = cc
+  of_none rooms are (event.ClientTook count) keeps refused j of = cc
+  of_none rooms are (event.UpTook k count) keeps refused j of = cc

@@ -18,6 +18,8 @@ use Rattle.model.specs.Logs.Output.{Does}
 use Rattle.model.specs.Logs.Act.{CloseClient}
 use Rattle.worlds.specs.declared.services.Ended.{Ended}
 use Rattle.worlds.specs.declared.services.Ended.TheVariants.{Closed, Over as OverAtLast, Turns}
+use Rattle.worlds.specs.declared.services.Peer.{Peer}
+use Rattle.worlds.specs.declared.services.Peer.TheVariants as peer
 use Rattle.worlds.specs.declared.world.Next.{Next}
 use Rattle.worlds.specs.declared.world.Next.TheVariants.{Happened, Nothing, Over}
 
@@ -63,15 +65,15 @@ KeepsRooms rooms (Happened (event.UpEnd k)) = HasRoom rooms k 0
 KeepsRooms rooms (Happened (event.UpFailed k)) = HasRoom rooms k 0
 KeepsRooms rooms next = ⊤
 
--- whether an event tells what came of an upstream: octets, its end, or its failure
-abbrev pub is_of_upstream : Event → Bool
-is_of_upstream (event.Up k octets) = true
-is_of_upstream (event.UpEnd k) = true
-is_of_upstream (event.UpFailed k) = true
-is_of_upstream (event.Client octets) = false
-is_of_upstream event.ClientEnd = false
-is_of_upstream (event.ClientTook count) = false
-is_of_upstream (event.UpTook k count) = false
+-- whose event it is: octets, an end and a failure are of whom they came of, what is told as taken is of the world
+abbrev pub peer_of : Event → Peer
+peer_of (event.Up k octets) = peer.Upstream k
+peer_of (event.UpEnd k) = peer.Upstream k
+peer_of (event.UpFailed k) = peer.Upstream k
+peer_of (event.Client octets) = peer.Client
+peer_of event.ClientEnd = peer.Client
+peer_of (event.ClientTook count) = peer.World
+peer_of (event.UpTook k count) = peer.World
 
 -- whether an output closes the client
 abbrev pub closes : logs.Output → Bool
@@ -124,14 +126,13 @@ pub record MayNotCome (setup : Setup) (log : List Step) (event : logs.Event) : T
   pub promise : Promise setup log
   pub refused : IsAdmitted promise.known promise.tape event → ⊥
 
--- The event that came last may not come behind what was added before it, and nothing is put out for it. Of a world that keeps to the rooms of upstreams it
--- is of no upstream.
-abbrev pub AddsRefusedTo : Setup → Bool → List Step → Option (List Step) → Type 0
-AddsRefusedTo setup keeps before new =
-    (added : List Step) × (event : Event) × (new ≡ Some (before ++ added ++ came event ∷ [])) × MayNotCome setup added (event_of event) × (keeps ≡ true → is_of_upstream event ≡ false)
+-- The event that came last may not come behind what was added before it, and nothing is put out for it. It is of this peer.
+abbrev pub AddsRefusedTo : Setup → Peer → List Step → Option (List Step) → Type 0
+AddsRefusedTo setup peer before new =
+    (added : List Step) × (event : Event) × (new ≡ Some (before ++ added ++ came event ∷ [])) × MayNotCome setup added (event_of event) × (peer_of event ≡ peer)
 
-abbrev pub AddsRefused : Setup → Bool → Option (List Step) → Option (List Step) → Type 0
-AddsRefused setup keeps old new = (before : List Step) → old ≡ Some before → AddsRefusedTo setup keeps before new
+abbrev pub AddsRefused : Setup → Peer → Option (List Step) → Option (List Step) → Type 0
+AddsRefused setup peer old new = (before : List Step) → old ≡ Some before → AddsRefusedTo setup peer before new
 
 -- What is promised holds of all that was added to this log but the event that came last, for which nothing is put out.
 abbrev pub AddsUnansweredTo : Setup → List Step → Option (List Step) → Type 0
@@ -169,9 +170,12 @@ HandsTo setup before old log new = (added : List Step) × (log ≡ Some (before 
 abbrev pub Hands : Setup → Option (List Step) → Option (List Handed) → Option (List Step) → Option (List Handed) → Type 0
 Hands setup log old log' new = (before : List Step) → log ≡ Some before → HandsTo setup before old log' new
 
--- The gateway stands for some log.
-abbrev pub StandsSomewhere : Setup → Standing → Type 0
-StandsSomewhere setup g = (log : List Step) × (run : List Move) × Stands setup g log run
+-- The gateway stands for some log, and these are the rooms behind it.
+pub record StandsWithRooms (setup : Setup) (g : Standing) (rooms : List (ℕ × ℕ)) : Type 0 where
+  pub log : List Step
+  pub run : List Move
+  pub stands : Stands setup g log run
+  pub rooms_are : AreRooms (known_of setup (conducts run)) (tape_of run) rooms
 
 -- The gateway stands for what was added to this log, in which the client is closed or not. These are the rooms behind it, and what was handed since was
 -- right.

@@ -6,5 +6,5 @@ mod services;
 mod world;
 
 pub use memory::MemoryWorld;
-pub use services::{Ended, ServeFault, serve};
+pub use services::{Ended, Peer, ServeFault, serve};
 pub use world::{Next, World, WorldFault};

@@ -1,6 +1,6 @@
 //! A gateway before a world.
 
-ghost use Rattle.std.specs.Prelude.{◌≡◌, ◌+◌, ◌<◌, ◌≤◌, ◌^◌, ◌∷◌, ◌++◌, [], List, Option, Some, length, reverse, true, false, IsOkAnd, IsErrOf, OnOk, OnErr, IfOk};
+ghost use Rattle.std.specs.Prelude.{◌≡◌, ℕ, ◌+◌, ◌<◌, ◌≤◌, ◌^◌, ◌∷◌, ◌++◌, [], List, Option, Some, length, reverse, true, false, IsOkAnd, IsErrOf, OnOk, OnErr, IfOk};
 ghost use Rattle.model.specs.Logs.{Step, Output as Put};
 ghost use Rattle.std.specs.List.{list_any};
 ghost use Rattle.model.specs.Setup.{Setup};
@@ -10,7 +10,7 @@ ghost use Rattle.policy.specs.State.{conducts, tape_of};
 ghost use Rattle.gateway.specs.Setups.{setup_of, IsServable};
 ghost use Rattle.gateway.specs.Stands.{Stands};
 ghost use Rattle.gateway.specs.Rooms.{AreRooms};
-ghost use Rattle.worlds.specs.Worlds.{Handed, AddsRun, AddsFront, AddsFrontTo, AddsRefused, AddsRefusedTo, AddsUnanswered, AddsUnansweredTo, AreAllHanded, Hands, HandsTo, SaysEnd, ends, with_outputs, came, closes, has_closed, Serves, StandsSomewhere};
+ghost use Rattle.worlds.specs.Worlds.{Handed, AddsRun, AddsFront, AddsFrontTo, AddsRefused, AddsRefusedTo, AddsUnanswered, AddsUnansweredTo, AreAllHanded, Hands, HandsTo, SaysEnd, ends, with_outputs, came, closes, has_closed, Serves, StandsWithRooms, peer_of};
 ghost use Rattle.model.specs.Rooms.{IsAdmitted};
 ghost use Rattle.conduct.specs.Rule.{known_of};
 
@@ -29,6 +29,28 @@ pub enum Ended {
     Turns,
 }
 
+/// Whose event it is.
+#[derive(Clone, Copy, Debug, PartialEq, Eq, Drop)]
+pub enum Peer {
+    /// The client's: its octets, or its end.
+    Client,
+    /// An upstream's, by its number: its octets, its end, or its failure.
+    Upstream(u32),
+    /// The world's own, which tells that octets were taken.
+    World,
+}
+
+/// Whose event this is.
+fn whose(event: &Event) -> Peer
+    ensures { result ≡ peer_of event.now }
+{
+    match event {
+        Event::Up(k, _) | Event::UpEnd(k) | Event::UpFailed(k) => Peer::Upstream(*k),
+        Event::Client(_) | Event::ClientEnd => Peer::Client,
+        Event::ClientTook(_) | Event::UpTook(_, _) => Peer::World,
+    }
+}
+
 /// Why serving a world failed.
 #[derive(Clone, Copy, Debug, PartialEq, Eq, Drop)]
 pub enum ServeFault {
@@ -36,8 +58,8 @@ pub enum ServeFault {
     World,
     /// Memory was refused.
     Memory,
-    /// An event came that may not come after those before it. It was left alone.
-    NotAdmitted,
+    /// An event of this peer came that may not come after those before it. It was left alone.
+    NotAdmitted(Peer),
 }
 
 /// Applies outputs in order.
@@ -72,17 +94,17 @@ fn take_event<W: World>(
     rooms: &mut Vec<(u32, usize)>,
 ) -> Result<bool, ServeFault>
     requires failures { W.failures world.old + 1 < 2 ^ 64 }
-    requires stands { (setup : Setup) × StandsSomewhere setup gateway.old }
+    requires stands { (setup : Setup) × StandsWithRooms setup gateway.old rooms.old.items }
     ensures calls { W.calls world.new ≡ W.calls world.old }
     ensures failures { OnOk result (W.failures world.new ≡ W.failures world.old) }
-    ensures stands { OnOk result ((setup : Setup) → StandsSomewhere setup gateway.old → StandsSomewhere setup gateway.new) }
+    ensures stands { OnOk result ((setup : Setup) → StandsWithRooms setup gateway.old rooms.old.items → StandsWithRooms setup gateway.new rooms.new.items) }
     ensures world { IsErrOf result ServeFault.World → W.failures world.old < W.failures world.new }
     ensures log { IfOk result (λ closed. (setup : Setup) (before added : List Step) (run : List Move) (old : Option (List Handed)) → W.log world.old ≡ Some (before ++ added ++ came event.now ∷ [])
         → Stands setup gateway.old (reverse added) run → has_closed added ≡ false → AreRooms (known_of setup (conducts run)) (tape_of run) rooms.old.items → AreAllHanded setup (length before) added old (W.handed world.old)
         → Serves setup closed (W.log world.new) gateway.new rooms.new.items old (W.handed world.new) before) }
     ensures front { IsErrOf result ServeFault.World → (setup : Setup) (before added : List Step) (run : List Move) → W.log world.old ≡ Some (before ++ added ++ came event.now ∷ [])
         → Stands setup gateway.old (reverse added) run → AddsFrontTo setup before (W.log world.new) }
-    ensures refused { IsErrOf result ServeFault.NotAdmitted → (W.log world.new ≡ W.log world.old)
+    ensures refused { (peer : Peer) → IsErrOf result (ServeFault.NotAdmitted peer) → (W.log world.new ≡ W.log world.old) × (peer_of event.now ≡ peer)
         × ((setup : Setup) (log : List Step) (run : List Move) → Stands setup gateway.old log run → IsAdmitted (known_of setup (conducts run)) (tape_of run) (event_of event.now) → ⊥) }
     ensures memory { IsErrOf result ServeFault.Memory → (W.log world.new ≡ W.log world.old) × (W.failures world.new ≡ W.failures world.old) }
     ensures adds { OnErr result ((before : List Step) → W.log world.old ≡ Some (before ++ came event.now ∷ []) → (outputs : List Put) × (W.log world.new ≡ Some (before ++ with_outputs (came event.now) outputs ∷ []))) }
@@ -91,7 +113,7 @@ fn take_event<W: World>(
     ensures keeps_rooms { W.keeps_rooms world.new ≡ W.keeps_rooms world.old }
 {
     if !gateway.admits(event) {
-        return Err(ServeFault::NotAdmitted);
+        return Err(ServeFault::NotAdmitted(whose(event)));
     }
     let mut outputs = Vec::new(alloc);
     if gateway.step(event, &mut outputs).is_err() {
@@ -115,18 +137,19 @@ fn take_turn<W: World>(
 ) -> Result<Option<Ended>, ServeFault>
     requires calls { W.calls world.old + 1 < 2 ^ 64 }
     requires failures { W.failures world.old + 1 < 2 ^ 64 }
-    requires stands { (setup : Setup) × StandsSomewhere setup gateway.old }
+    requires stands { (setup : Setup) × StandsWithRooms setup gateway.old rooms.old.items }
     ensures calls { OnOk result (W.calls world.new ≡ W.calls world.old + 1) }
     ensures failures { OnOk result (W.failures world.new ≡ W.failures world.old) }
-    ensures stands { OnOk result ((setup : Setup) → StandsSomewhere setup gateway.old → StandsSomewhere setup gateway.new) }
+    ensures stands { OnOk result ((setup : Setup) → StandsWithRooms setup gateway.old rooms.old.items → StandsWithRooms setup gateway.new rooms.new.items) }
     ensures world { IsErrOf result ServeFault.World → W.failures world.old < W.failures world.new }
     ensures over { IfOk result (λ ended. SaysEnd ended (W.over world.new)) }
     ensures log { IfOk result (λ ended. (setup : Setup) (before : List Step) (old : Option (List Handed)) → Serves setup false (W.log world.old) gateway.old rooms.old.items old (W.handed world.old) before
         → Serves setup (ends ended) (W.log world.new) gateway.new rooms.new.items old (W.handed world.new) before) }
     ensures front { IsErrOf result ServeFault.World → (setup : Setup) (before : List Step) (old : Option (List Handed)) → Serves setup false (W.log world.old) gateway.old rooms.old.items old (W.handed world.old) before
         → AddsFrontTo setup before (W.log world.new) }
-    ensures refused { IsErrOf result ServeFault.NotAdmitted → (setup : Setup) (before : List Step) (old : Option (List Handed)) → Serves setup false (W.log world.old) gateway.old rooms.old.items old (W.handed world.old) before
-        → AddsRefusedTo setup (W.keeps_rooms world.old) before (W.log world.new) }
+    ensures refused { (peer : Peer) → IsErrOf result (ServeFault.NotAdmitted peer) → (setup : Setup) (before : List Step) (old : Option (List Handed)) → Serves setup false (W.log world.old) gateway.old rooms.old.items old (W.handed world.old) before
+        → AddsRefusedTo setup peer before (W.log world.new) }
+    ensures upstreams { W.keeps_rooms world.old ≡ true → (k : ℕ) → IsErrOf result (ServeFault.NotAdmitted (Peer.Upstream k)) → ⊥ }
     ensures keeps_rooms { W.keeps_rooms world.new ≡ W.keeps_rooms world.old }
     ensures memory { IsErrOf result ServeFault.Memory → (W.failures world.new ≡ W.failures world.old)
         × ((setup : Setup) (before : List Step) (old : Option (List Handed)) → Serves setup false (W.log world.old) gateway.old rooms.old.items old (W.handed world.old) before
@@ -160,9 +183,8 @@ fn closes_client(outputs: &[Output]) -> bool
 ///
 /// Of what that adds to a log that the world tells holds what `gateway::run` promises. `Closed` is answered just where the client was
 /// closed, `Turns` only after all turns, and `Over` only where the world said so; `World` only where a call of the world failed, and then
-/// what was added is a front of such a log, without the output that failed; `NotAdmitted` only where an event came that may not, and never by what an upstream
-/// sent, its end or its failure, of a world that keeps to rooms; `Memory` puts out
-/// nothing for the event that came last, and all that was added before it is such a log. The maxima are at most 1,073,741,824, and there are at most 4,294,967,295 routes.
+/// what was added is a front of such a log, without the output that failed; `NotAdmitted` only where an event came that may not, with whose it is, and of a
+/// world that keeps to rooms, whether it tells its log or not, never with an upstream; `Memory` puts out nothing for the event that came last, and all that was added before it is such a log. The maxima are at most 1,073,741,824, and there are at most 4,294,967,295 routes.
 pub fn serve<W: World>(
     alloc: Global,
     config: &Config,
@@ -175,7 +197,9 @@ pub fn serve<W: World>(
     ensures run { IfOk result (λ ended. AddsRun (setup_of config.now) ended (W.log world.old) (W.log world.new)) }
     ensures world { IsErrOf result ServeFault.World → W.failures world.old < W.failures world.new }
     ensures front { IsErrOf result ServeFault.World → AddsFront (setup_of config.now) (W.log world.old) (W.log world.new) }
-    ensures refused { IsErrOf result ServeFault.NotAdmitted → AddsRefused (setup_of config.now) (W.keeps_rooms world.old) (W.log world.old) (W.log world.new) }
+    ensures refused { (peer : Peer) → IsErrOf result (ServeFault.NotAdmitted peer) → AddsRefused (setup_of config.now) peer (W.log world.old) (W.log world.new) }
+    // An upstream is never why, of a world that keeps to rooms.
+    ensures upstreams { W.keeps_rooms world.old ≡ true → (k : ℕ) → IsErrOf result (ServeFault.NotAdmitted (Peer.Upstream k)) → ⊥ }
     ensures memory { IsErrOf result ServeFault.Memory → (W.failures world.new ≡ W.failures world.old) × AddsUnanswered (setup_of config.now) (W.log world.old) (W.log world.new) }
     ensures failures { OnOk result (W.failures world.new ≡ W.failures world.old) }
     ensures calls { OnOk result (W.calls world.new ≤ W.calls world.old + turns) }
@@ -203,7 +227,8 @@ fn serve_turns<W: World>(
     ensures run { IfOk result (λ ended. (setup : Setup) → Stands setup gateway.old [] [] → AddsRun setup ended (W.log world.old) (W.log world.new)) }
     ensures world { IsErrOf result ServeFault.World → W.failures world.old < W.failures world.new }
     ensures front { IsErrOf result ServeFault.World → (setup : Setup) → Stands setup gateway.old [] [] → AddsFront setup (W.log world.old) (W.log world.new) }
-    ensures refused { IsErrOf result ServeFault.NotAdmitted → (setup : Setup) → Stands setup gateway.old [] [] → AddsRefused setup (W.keeps_rooms world.old) (W.log world.old) (W.log world.new) }
+    ensures refused { (peer : Peer) → IsErrOf result (ServeFault.NotAdmitted peer) → (setup : Setup) → Stands setup gateway.old [] [] → AddsRefused setup peer (W.log world.old) (W.log world.new) }
+    ensures upstreams { W.keeps_rooms world.old ≡ true → (k : ℕ) → IsErrOf result (ServeFault.NotAdmitted (Peer.Upstream k)) → ⊥ }
     ensures memory { IsErrOf result ServeFault.Memory → (W.failures world.new ≡ W.failures world.old)
         × ((setup : Setup) → Stands setup gateway.old [] [] → AddsUnanswered setup (W.log world.old) (W.log world.new)) }
     ensures failures { OnOk result (W.failures world.new ≡ W.failures world.old) }

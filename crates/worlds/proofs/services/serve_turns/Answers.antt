@@ -1,22 +1,14 @@
-use Rattle.std.proofs.Common.{◌≡◌, List, [], refl, subst, ◌∙◌, arith, inr}
-use Rattle.std.specs.Prelude.{Bool, Option}
-use Rattle.model.specs.Logs.{Step}
-use Rattle.model.specs.Setup.{Setup}
-use Rattle.worlds.specs.Worlds.{AddsRefusedTo}
+use Rattle.std.proofs.Common.{refl, ◌∙◌, arith, inr}
 use Rattle.worlds.specs.declared.services.Ended.TheVariants.{Turns}
-use Rattle.worlds.proofs.Adding.{serves_none, serves_run, same_fault, no_fault, hands_of}
+use Rattle.worlds.proofs.Adding.{stands_none, serves_none, serves_run, same_fault, no_fault, hands_of}
 use Rattle.worlds.proofs.services.serve_turns.Goals as goal
-
--- It keeps to rooms as it did.
-refused_still : (setup : Setup) (a b : Bool) (before : List Step) (new : Option (List Step)) → a ≡ b → AddsRefusedTo setup a before new → AddsRefusedTo setup b before new
-refused_still setup a b before new same adds = subst (λ keeps. AddsRefusedTo setup keeps before new) same adds
 
 pub loop-turn-init : goal.loop-turn-init
 loop-turn-init g c = record {
   calls = omega arith;
   failures = refl;
   keeps_rooms = refl;
-  stands = λ setup at. ([], [], at);
+  stands = λ setup at. stands_none setup c.args.gateway.now c.new-rooms.result.items c.new-rooms.ensures.items at;
   log = λ setup at before e. serves_none setup _ c.args.gateway.now c.new-rooms.result.items _ before e c.new-rooms.ensures.items at;
 }
 
@@ -55,8 +47,10 @@ pub returns-in-Err-clause-front : goal.returns-in-Err-clause-front
 returns-in-Err-clause-front g c = λ e setup at before h. c.in-Err.ensures.front (same_fault _ _ e) setup before _ (c.loop-turn.invariant.log setup at before h)
 
 pub returns-in-Err-clause-refused : goal.returns-in-Err-clause-refused
-returns-in-Err-clause-refused g c = λ e setup at before h.
-    refused_still setup _ _ before _ c.loop-turn.invariant.keeps_rooms (c.in-Err.ensures.refused (same_fault _ _ e) setup before _ (c.loop-turn.invariant.log setup at before h))
+returns-in-Err-clause-refused g c = λ peer e setup at before h. c.in-Err.ensures.refused peer (same_fault _ _ e) setup before _ (c.loop-turn.invariant.log setup at before h)
+
+pub returns-in-Err-clause-upstreams : goal.returns-in-Err-clause-upstreams
+returns-in-Err-clause-upstreams g c = λ keeps k e. c.in-Err.ensures.upstreams (c.loop-turn.invariant.keeps_rooms ∙ keeps) k (same_fault _ _ e)
 
 pub returns-in-Err-clause-memory : goal.returns-in-Err-clause-memory
 returns-in-Err-clause-memory g c = λ e.
@@ -85,7 +79,10 @@ pub returns-in-Ok-Some-clause-front : goal.returns-in-Ok-Some-clause-front
 returns-in-Ok-Some-clause-front g c = λ e. absurd (no_fault _ _ e)
 
 pub returns-in-Ok-Some-clause-refused : goal.returns-in-Ok-Some-clause-refused
-returns-in-Ok-Some-clause-refused g c = λ e. absurd (no_fault _ _ e)
+returns-in-Ok-Some-clause-refused g c = λ peer e. absurd (no_fault _ _ e)
+
+pub returns-in-Ok-Some-clause-upstreams : goal.returns-in-Ok-Some-clause-upstreams
+returns-in-Ok-Some-clause-upstreams g c = λ keeps k e. no_fault _ _ e
 
 pub returns-in-Ok-Some-clause-memory : goal.returns-in-Ok-Some-clause-memory
 returns-in-Ok-Some-clause-memory g c = λ e. absurd (no_fault _ _ e)
@@ -109,7 +106,10 @@ pub returns-clause-front : goal.returns-clause-front
 returns-clause-front g c = λ e. absurd (no_fault _ _ e)
 
 pub returns-clause-refused : goal.returns-clause-refused
-returns-clause-refused g c = λ e. absurd (no_fault _ _ e)
+returns-clause-refused g c = λ peer e. absurd (no_fault _ _ e)
+
+pub returns-clause-upstreams : goal.returns-clause-upstreams
+returns-clause-upstreams g c = λ keeps k e. no_fault _ _ e
 
 pub returns-clause-memory : goal.returns-clause-memory
 returns-clause-memory g c = λ e. absurd (no_fault _ _ e)

@@ -1,10 +1,10 @@
 use Rattle.std.proofs.Common.{◌≡◌, true, false, refl, ap, not, ◌∙◌, ◌++◌, sym}
 use Rattle.worlds.specs.Worlds.{came}
-use Rattle.worlds.proofs.Adding.{Steps, stands_on, serves_more, front_lacks, on_ok_at}
+use Rattle.worlds.proofs.Adding.{Steps, stands_on, serves_more, front_lacks, on_ok_at, named}
 use Rattle.worlds.proofs.services.take_event.Goals as goal
 
 pub returns-then-not-admits-clause-refused : goal.returns-then-not-admits-clause-refused
-returns-then-not-admits-clause-refused g c = λ e. (refl, λ setup log run stands may. absurd (let no : true ≡ false = sym ((c.admits.ensures.log setup log run stands).1 may) ∙ c.if-not-admits.true in cc))
+returns-then-not-admits-clause-refused g c = λ peer e. (refl, sym c.whose.ensures ∙ named _ _ e, λ setup log run stands may. absurd (let no : true ≡ false = sym ((c.admits.ensures.log setup log run stands).1 may) ∙ c.if-not-admits.true in cc))
 
 pub returns-in-Ok-clause-stands : goal.returns-in-Ok-clause-stands
 returns-in-Ok-clause-stands g c =
@@ -12,7 +12,8 @@ returns-in-Ok-clause-stands g c =
       none = c.new-outputs.ensures.items;
       puts = on_ok_at c.step.result (c.is_err.ensures.negation ∙ ap not c.if-is_err.false) c.step.ensures.stands;
     } in
-    stands_on c.args.gateway.now c.step.new.self c.args.event.now c.new-outputs.result.items c.step.new.out.items steps
+    stands_on c.args.gateway.now c.step.new.self c.args.event.now c.new-outputs.result.items c.step.new.out.items steps c.args.rooms.now.items c.update_rooms.new.rooms.items
+    (on_ok_at c.update_rooms.result (c.is_err-2.ensures.negation ∙ ap not c.if-is_err-2.false) (rw c.deref.ensures.value at c.update_rooms.ensures))
 
 pub returns-in-Ok-clause-log : goal.returns-in-Ok-clause-log
 returns-in-Ok-clause-log g c = λ setup before added run old is stands still rooms_are hands.

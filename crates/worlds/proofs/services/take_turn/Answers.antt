@@ -1,6 +1,7 @@
 use Rattle.std.proofs.Common.{◌++◌, ◌∙◌, reverse}
 use Rattle.worlds.proofs.Adding.{front_whole, may_not_come, same_fault, unanswered, serves_same, hands_one, hands_still, hands_step}
 use Rattle.worlds.proofs.Fitting.{of_none}
+use Rattle.worlds.specs.declared.services.Peer.TheVariants.{Upstream}
 use Rattle.worlds.proofs.services.take_turn.Goals as goal
 
 pub returns-in-Err-clause-front : goal.returns-in-Err-clause-front
@@ -38,16 +39,22 @@ returns-clause-front g c = λ e setup before old s.
     c.in-Err-take_event.ensures.front (same_fault _ _ e) setup before s.added s.run came_in s.stands
 
 pub returns-clause-refused : goal.returns-clause-refused
-returns-clause-refused g c = λ e setup before old s.
+returns-clause-refused g c = λ peer e setup before old s.
     let came_in = (rw c.in-Ok-Happened.field-0-is at c.in-Ok-Happened.ensures.log) (before ++ s.added) s.is in
-    let refused = c.in-Err-take_event.ensures.refused (same_fault _ _ e) in (
+    let refused = c.in-Err-take_event.ensures.refused peer (same_fault _ _ e) in (
       s.added,
       c.in-Ok-Happened.event,
       refused.0 ∙ came_in,
-      may_not_come setup _ _ c.args.gateway.now c.args.rooms.now.items old _ before c.in-Ok-Happened.event s (refused.1 setup (reverse s.added) s.run s.stands),
-      λ keeps. of_none setup c.args.gateway.now (reverse s.added) s.run s.stands c.args.rooms.now.items s.rooms_are c.in-Ok-Happened.event
-          ((rw c.in-Ok-Happened.field-0-is at (rw c.deref.ensures.value at c.in-Ok-Happened.ensures.rooms)) keeps) (refused.1 setup (reverse s.added) s.run s.stands),
+      may_not_come setup _ _ c.args.gateway.now c.args.rooms.now.items old _ before c.in-Ok-Happened.event s (refused.2 setup (reverse s.added) s.run s.stands),
+      refused.1,
     )
+
+pub returns-clause-upstreams : goal.returns-clause-upstreams
+returns-clause-upstreams g c = λ keeps k e.
+    let stands = c.requires.stands.1 in
+    let refused = c.in-Err-take_event.ensures.refused (Upstream k) (same_fault _ _ e) in
+    of_none c.requires.stands.0 c.args.gateway.now stands.log stands.run stands.stands c.args.rooms.now.items stands.rooms_are c.in-Ok-Happened.event
+    ((rw c.in-Ok-Happened.field-0-is at (rw c.deref.ensures.value at c.in-Ok-Happened.ensures.rooms)) keeps) (refused.2 c.requires.stands.0 stands.log stands.run stands.stands) k refused.1
 
 pub returns-clause-hands : goal.returns-clause-hands
 returns-clause-hands g c = λ setup before old s.

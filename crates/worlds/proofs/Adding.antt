@@ -107,7 +107,7 @@ next_of g g' event old out steps setup log run stands =
 -- Afterwards the gateway stands for some log with the rooms behind it, as before.
 pub stands_on : (g g' : Standing) (event : Event) (old out : List Output) → Steps g g' event old out → (rooms rooms' : List (ℕ × ℕ))
     → ((setup : Setup) (log : List Step) (run : List Move) (next : StandsNext setup g' log run (event_of event) (outputs_of out)) → AreRooms (known_of setup (conducts run)) (tape_of run) rooms
-        → AreRooms (known_of setup (conducts (next.segment ++ run))) (tape_of (next.segment ++ run)) rooms')
+    → AreRooms (known_of setup (conducts (next.segment ++ run))) (tape_of (next.segment ++ run)) rooms')
     → (setup : Setup) → StandsWithRooms setup g rooms → StandsWithRooms setup g' rooms'
 stands_on g g' event old out steps rooms rooms' noted setup s =
     let next = next_of g g' event old out steps setup s.log s.run s.stands in record {

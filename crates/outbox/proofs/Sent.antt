@@ -1,5 +1,5 @@
 -- Octets of a body of which some were sent.
-use Rattle.std.proofs.Common.{◌≡◌, ℕ, zero, suc, ◌<◌, Bool, true, false, ◌&&◌, ◌==◌, List, [], ◌∷◌, take, drop, length, Option, Some, None, is_some, min, length-drop, refl, sym, ◌∙◌, ap, subst, arith}
+use Rattle.std.proofs.Common.{◌≡◌, ◌⊎◌, inl, inr, ℕ, zero, suc, ◌<◌, Bool, true, false, ◌&&◌, ◌==◌, List, [], ◌∷◌, take, drop, length, Option, Some, None, is_some, min, length-drop, refl, sym, ◌∙◌, ap, subst, arith}
 use Rattle.std.proofs.lemmas.Bool.{ne_eqb}
 use lib.Seq.{length-take-le, take-nil}
 use Rattle.std.proofs.lemmas.List.{length-take}
@@ -11,7 +11,7 @@ use Rattle.h1_reader.specs.HeadSizes.{CanTrail}
 use Rattle.offering.specs.Outbox.{first_end, is_plain, Outbox, Part, can_go, part_of, left, rest_of}
 use Rattle.offering.specs.Outbox.Outbox.{Before, Behind, Over}
 use Rattle.offering.specs.Outbox.Part.{Early, Final, Octets, Trailing}
-use Rattle.outbox.specs.Views.{end_in, IsHead, AreOctets, HasNoOctets}
+use Rattle.outbox.specs.Views.{end_in, IsHead, AreOctets, AreNoTrailers, HasNoOctets}
 
 pub goes_on : (windows : Bool) (whole : End) (body : List ℕ) → is_empty body ≡ false → can_go windows (Behind body whole) ≡ windows
 goes_on windows whole [] some = absurd (true_isnt some)
@@ -162,3 +162,16 @@ took_early box old new first head body whole is front =
 pub took_final : (box : Outbox) (old : List Head) (head : Head) (body : List ℕ) (whole : End) (now : Outbox) → box ≡ Before old (Some head) body whole → old ≡ [] → now ≡ rest_of body whole (is_plain whole && is_empty body) → (part : Part) × (part_of 1 box ≡ Some part) × IsHead head part × (now ≡ left box part)
 took_final box old head body whole now is none left_is =
     subst (λ b. (part : Part) × (part_of 1 b ≡ Some part) × IsHead head part × (now ≡ left b part)) (sym (is ∙ ap (λ hs. Before hs (Some head) body whole) none)) (Final head (is_plain whole && is_empty body), refl, refl, left_is)
+
+-- trailers aren't next before octets, nor where there are none
+pub octets_first : (body : List ℕ) (whole : End) → is_empty body ≡ false → (part : Part) → part_of 1 (Behind body whole) ≡ Some part → AreNoTrailers part
+octets_first [] whole some part is = let clash : true ≡ false = some in cc
+octets_first (octet ∷ body) whole some part is = subst AreNoTrailers (let same : Octets (take 1 (octet ∷ body)) (is_plain whole && is_empty (drop 1 (octet ∷ body))) ≡ part = cc in same) tt
+
+pub none_at_end : (body : List ℕ) (whole : Option End) → is_empty body ≡ true → (whole ≡ None) ⊎ (whole ≡ Some None) → (part : Part) → part_of 1 (Behind body (end_in whole)) ≡ Some part → AreNoTrailers part
+none_at_end (octet ∷ body) whole none which part is = let clash : false ≡ true = none in cc
+none_at_end [] whole none (inl unknown) part is = let clash : ◌≡◌ {A = Option Part} None (Some part) = sym (ap (λ w. part_of 1 (Behind [] (end_in w))) unknown) ∙ is in cc
+none_at_end [] whole none (inr bare) part is = subst AreNoTrailers (let same : Octets [] true ≡ part = some_same (sym (ap (λ w. part_of 1 (Behind [] (end_in w))) bare) ∙ is) in same) tt
+  where
+    some_same : {x y : Part} → Some x ≡ Some y → x ≡ y
+    some_same same = cc

@@ -1,10 +1,9 @@
 -- How many octets lie in this crate's types. Each count takes the struct apart by the names of all its fields, and each of its cases by all that it has:
 -- what lies in one field more has to be counted here.
-use Rattle.std.specs.Prelude.{ℕ, ◌+◌, Bool, false, length, Option, Some, None, is_some, sum_by}
+use Rattle.std.specs.Prelude.{ℕ, ◌+◌, length, Option, Some, None, sum_by}
 use Rattle.model.specs.ResponseHeads.{Head}
 use Rattle.model.specs.Deliveries.{End}
-use Rattle.offering.specs.Outbox.{trailers_at, Outbox as Seen}
-use Rattle.offering.specs.Outbox as rule
+use Rattle.offering.specs.Outbox.{trailers_at}
 use Rattle.offering.specs.Held.{head_octets, octets_of_fields}
 use Rattle.outbox.specs.Views.{end_in}
 use Rattle.outbox.specs.declared.octets.Octets.TheInside.{Inside as Octets}
@@ -16,9 +15,9 @@ use Rattle.outbox.specs.declared.outbox.Place.TheVariants as place
 
 -- ---- octets of a body
 
--- a piece as it came, with those that were sent and still lie before the others; or a ring
+-- what is left of a piece, or a ring
 abbrev pub in_store : Store → ℕ
-in_store (store.Piece piece sent) = length piece.items
+in_store (store.Piece piece) = length piece.items
 in_store (store.Ring ring) = length ring.items
 
 abbrev pub in_octets : Octets → ℕ
@@ -37,22 +36,9 @@ in_end whole = octets_of_fields (trailers_at (end_in whole))
 
 -- what lies in an outbox, by how far the response was sent
 abbrev pub in_place : Place → ℕ
-in_place (place.Before interims head body whole) = sum_by head_octets interims.items + in_head head + (body.sent + length body.octets) + in_end whole
-in_place (place.Behind body whole) = body.sent + length body.octets + in_end whole
+in_place (place.Before interims head body whole) = sum_by head_octets interims.items + in_head head + length body + in_end whole
+in_place (place.Behind body whole) = length body + in_end whole
 in_place place.Over = 0
 
 abbrev pub in_outbox : Outbox → ℕ
 in_outbox = λ record { place = place }. in_place place
-
--- of these the octets of the body that were sent and still lie before the others
-abbrev pub sent_at : Place → ℕ
-sent_at (place.Before interims head body whole) = body.sent
-sent_at (place.Behind body whole) = body.sent
-sent_at place.Over = 0
-
--- ---- as it is seen
-
--- the final head of the response was sent, and all of the response has come: nothing more comes behind what waits
-abbrev pub is_ending : Seen → Bool
-is_ending (rule.Outbox.Behind body whole) = is_some whole
-is_ending box = false

@@ -1,10 +1,9 @@
 -- The code's values as the rule of what is on offer has them.
-use Rattle.std.specs.Prelude.{◌≡◌, ◌≤◌, Bool, true, false, Option, Some, None, is_some, ◌++◌, length}
+use Rattle.std.specs.Prelude.{◌≡◌, Bool, true, false, Option, Some, None, ◌++◌}
 use Rattle.model.specs.ResponseHeads.{Head}
 use Rattle.model.specs.Deliveries.{End}
 use Rattle.offering.specs.Outbox.{trailers_at, Outbox}
 use Rattle.offering.specs.Outbox as rule
-use Rattle.outbox.specs.Waiting.{Waiting}
 use Rattle.outbox.specs.declared.outbox.Place.{Place}
 use Rattle.outbox.specs.declared.outbox.Place.TheVariants as place
 use Rattle.outbox.specs.declared.part.Part.{Part}
@@ -15,21 +14,11 @@ abbrev pub end_in : Option End → End
 end_in None = None
 end_in (Some trailers) = Some (trailers_at trailers)
 
--- an outbox: the octets of the body behind those that were sent
+-- an outbox
 abbrev pub outbox_in : Place → Outbox
-outbox_in (place.Before interims head body whole) = rule.Outbox.Before interims.items head body.octets (end_in whole)
-outbox_in (place.Behind body whole) = rule.Outbox.Behind body.octets (end_in whole)
+outbox_in (place.Before interims head body whole) = rule.Outbox.Before interims.items head body (end_in whole)
+outbox_in (place.Behind body whole) = rule.Outbox.Behind body (end_in whole)
 outbox_in place.Over = rule.Outbox.Over
-
--- Of octets that wait, no more stand before them that were sent.
-abbrev pub IsShort : Waiting → Type 0
-IsShort waiting = waiting.sent ≤ length waiting.octets
-
--- That is so as long as more may come.
-abbrev pub IsKept : Place → Type 0
-IsKept (place.Before interims head body whole) = IsShort body
-IsKept (place.Behind body whole) = is_some (end_in whole) ≡ false → IsShort body
-IsKept place.Over = Unit {0}
 
 -- the next part
 abbrev pub part_in : Part → rule.Part

@@ -1,9 +1,9 @@
 //! Octets of a body that wait.
 
-ghost use Rattle.std.specs.Prelude.{◌≡◌, ◌+◌, ◌-◌, ◌≤◌, ◌++◌, false, length, take, drop, IfOk, OnOk, OnErr};
+ghost use Rattle.std.specs.Prelude.{◌≡◌, ◌+◌, ◌-◌, ◌≤◌, [], ◌++◌, length, take, drop, IfOk, OnOk, OnErr};
 ghost use Rattle.model.specs.Octets.{is_empty};
-ghost use Rattle.outbox.specs.Waiting.{none};
 
+use bytes::BytesMut;
 use circular_buffer::HeapCircularBuffer;
 use std::alloc::{AllocError, Global};
 use std::marker::Model;
@@ -14,13 +14,13 @@ const LARGEST: usize = 65536;
 /// Where octets stand.
 #[derive(Drop)]
 enum Store {
-    /// One piece as it came, and how many octets of it were sent.
-    Piece(Vec<u8>, usize),
+    /// One piece as it came: what was sent goes from its front, and nothing is moved.
+    Piece(BytesMut),
     /// What came in several pieces.
     Ring(HeapCircularBuffer<u8>),
 }
 
-/// Octets of a body that weren't sent. A clause sees them, and how many that were sent still stand before them.
+/// Octets of a body that weren't sent.
 #[derive(Drop)]
 pub struct Octets {
     alloc: Global,
@@ -28,9 +28,10 @@ pub struct Octets {
 }
 
 impl Model for Octets {
-    ghost use Rattle.outbox.specs.Waiting.{Waiting, waiting_in, IsKept};
+    ghost use Rattle.std.specs.Prelude.{ℕ, List};
+    ghost use Rattle.outbox.specs.Waiting.{waiting_in, IsKept};
 
-    ghost Value = { Waiting };
+    ghost Value = { List ℕ };
 
     ghost view = { λ octets. waiting_in octets.store };
 
@@ -83,57 +84,42 @@ fn make_room(
     Ok(())
 }
 
-/// Octets of a piece that were sent go, if they are more than those behind them.
-fn cut(piece: &mut Vec<u8>, sent: &mut usize)
-    requires { sent.old ≤ length piece.old.items }
-    ensures same { drop sent.new piece.new.items ≡ drop sent.old piece.old.items }
-    ensures fewer { sent.new ≤ length piece.new.items - sent.new }
-    ensures kept { sent.new ≤ length piece.new.items }
-{
-    let left = piece.len() - *sent;
-    if *sent > left {
-        piece.rotate_left(*sent);
-        piece.truncate(left);
-        *sent = 0;
-    }
-}
-
 impl Octets {
     /// No octets.
     pub fn new(alloc: Global) -> Octets
-        ensures { result ≡ none }
+        ensures { result ≡ [] }
     {
         Octets {
             alloc,
-            store: Store::Piece(Vec::new(alloc), 0),
+            store: Store::Piece(BytesMut::new(alloc)),
         }
     }
 
     /// How many wait.
     pub fn len(&self) -> usize
-        ensures { result ≡ length self.now.octets }
+        ensures { result ≡ length self.now }
     {
         match &self.store {
-            Store::Piece(piece, sent) => piece.len() - *sent,
+            Store::Piece(piece) => piece.len(),
             Store::Ring(ring) => ring.len(),
         }
     }
 
     /// Whether none waits.
     pub fn is_empty(&self) -> bool
-        ensures { result ≡ is_empty self.now.octets }
+        ensures { result ≡ is_empty self.now }
     {
         self.len() == 0
     }
 
     /// So many octets in front, or all that wait where they are fewer, as they lie: the second part is behind the first.
     pub fn front(&self, most: usize) -> (&[u8], &[u8])
-        ensures { result.0.now ++ result.1.now ≡ take most self.now.octets }
+        ensures { result.0.now ++ result.1.now ≡ take most self.now }
     {
         match &self.store {
-            Store::Piece(piece, sent) => {
-                let rest = &piece[*sent..];
-                (&rest[..most.min(rest.len())], &[])
+            Store::Piece(piece) => {
+                let all = piece.as_slice();
+                (&all[..most.min(all.len())], &[])
             }
             Store::Ring(ring) => {
                 let (front, back) = ring.as_slices();
@@ -149,12 +135,11 @@ impl Octets {
     /// More octets behind these. Where none waits they are kept as they came; else all stand in a ring, which is made here, and made
     /// larger where it has no room, unless they are more than 65,536 together. An `Err` says that memory was refused; it changes nothing.
     pub fn add(&mut self, more: Vec<u8>) -> Result<(), AllocError>
-        ensures ok { OnOk result (self.new.octets ≡ self.old.octets ++ more.items) }
+        ensures ok { OnOk result (self.new ≡ self.old ++ more.items) }
         ensures err { OnErr result (self.new ≡ self.old) }
-        ensures sent { self.new.sent ≤ self.old.sent }
     {
         if self.is_empty() {
-            self.store = Store::Piece(more, 0);
+            self.store = Store::Piece(BytesMut::from_vec(more));
             return Ok(());
         }
         if more.is_empty() {
@@ -162,7 +147,7 @@ impl Octets {
         }
         if more.len() > LARGEST.saturating_sub(self.len()) {
             let all = self.join(&more)?;
-            self.store = Store::Piece(all, 0);
+            self.store = Store::Piece(BytesMut::from_vec(all));
             return Ok(());
         }
         self.put_in_ring(&more)
@@ -170,7 +155,7 @@ impl Octets {
 
     /// These and more octets in one piece.
     fn join(&self, more: &[u8]) -> Result<Vec<u8>, AllocError>
-        ensures { IfOk result (λ all. all.items ≡ self.now.octets ++ more.now) }
+        ensures { IfOk result (λ all. all.items ≡ self.now ++ more.now) }
     {
         let (front, back) = self.front(self.len());
         let mut all = Vec::with_capacity(self.alloc, front.len() + back.len())?;
@@ -182,14 +167,13 @@ impl Octets {
 
     /// These and more octets stand in a ring then.
     fn put_in_ring(&mut self, more: &[u8]) -> Result<(), AllocError>
-        requires { length self.old.octets + length more.now ≤ 65536 }
-        ensures ok { OnOk result (self.new.octets ≡ self.old.octets ++ more.now) }
+        requires { length self.old + length more.now ≤ 65536 }
+        ensures ok { OnOk result (self.new ≡ self.old ++ more.now) }
         ensures err { OnErr result (self.new ≡ self.old) }
-        ensures sent { self.new.sent ≤ self.old.sent }
     {
         match &mut self.store {
-            Store::Piece(piece, sent) => {
-                let ring = ring_of(self.alloc, &piece[*sent..], more)?;
+            Store::Piece(piece) => {
+                let ring = ring_of(self.alloc, piece.as_slice(), more)?;
                 self.store = Store::Ring(ring);
             }
             Store::Ring(ring) => {
@@ -202,24 +186,18 @@ impl Octets {
 
     /// None waits any more.
     pub fn clear(&mut self)
-        ensures { self.new ≡ none }
+        ensures { self.new ≡ [] }
     {
-        self.store = Store::Piece(Vec::new(self.alloc), 0);
+        self.store = Store::Piece(BytesMut::new(self.alloc));
     }
 
-    /// So many octets in front were sent. As long as more may come, no more of those stay than wait.
-    pub fn pass(&mut self, count: usize, whole: bool)
-        requires { count ≤ length self.old.octets }
-        ensures octets { self.new.octets ≡ drop count self.old.octets }
-        ensures few { whole ≡ false → self.new.sent ≤ length self.new.octets }
+    /// So many octets in front were sent.
+    pub fn pass(&mut self, count: usize)
+        requires { count ≤ length self.old }
+        ensures { self.new ≡ drop count self.old }
     {
         match &mut self.store {
-            Store::Piece(piece, sent) => {
-                *sent += count;
-                if !whole {
-                    cut(piece, sent);
-                }
-            }
+            Store::Piece(piece) => piece.advance(count),
             Store::Ring(ring) => {
                 let left = ring.len() - count;
                 ring.truncate_front(left);

@@ -6,7 +6,7 @@ ghost use Rattle.offering.specs.Outbox.{silent, grown, first_end, is_plain, can_
 ghost use Rattle.offering.specs.Outbox as rule;
 ghost use Rattle.h1_reader.specs.HeadSizes.{CanTrail};
 ghost use Rattle.offering.specs.Held.{body_waiting};
-ghost use Rattle.outbox.specs.Views.{end_in, outbox_in, part_in, is_begun, IsKept, IsShort, IsHead, AreOctets, IsBehindHead, AreNoTrailers, HasNoOctets};
+ghost use Rattle.outbox.specs.Views.{end_in, outbox_in, part_in, is_begun, IsHead, AreOctets, IsBehindHead, AreNoTrailers, HasNoOctets};
 
 use crate::octets::Octets;
 use crate::part::Part;
@@ -38,13 +38,11 @@ pub struct Outbox {
 
 impl Model for Outbox {
     ghost use Rattle.offering.specs.Outbox.{Outbox};
-    ghost use Rattle.outbox.specs.Views.{outbox_in, IsKept};
+    ghost use Rattle.outbox.specs.Views.{outbox_in};
 
     ghost Value = { Outbox };
 
     ghost view = { λ outbox. outbox_in outbox.place };
-
-    ghost invariant = { λ outbox. IsKept outbox.place };
 }
 
 /// Whether a response is whole and has no trailers.
@@ -70,9 +68,7 @@ fn set_end(whole: &mut Option<Option<Trailers>>, ends: Option<Option<Trailers>>)
 
 /// What is left behind a final head.
 fn behind(body: Octets, whole: Option<Option<Trailers>>) -> Place
-    requires { IsShort body }
-    ensures is { outbox_in result ≡ rest_of body.octets (end_in whole) (is_plain (end_in whole) && is_empty body.octets) }
-    ensures kept { IsKept result }
+    ensures { outbox_in result ≡ rest_of body (end_in whole) (is_plain (end_in whole) && is_empty body) }
 {
     if is_plain(&whole) && body.is_empty() {
         Place::Over
@@ -257,7 +253,7 @@ impl Outbox {
     {
         if let Place::Behind(body, whole) = &mut self.place {
             if most < body.len() {
-                body.pass(most, whole.is_some());
+                body.pass(most);
             } else if is_plain(whole) {
                 let _sent = mem::replace(&mut self.place, Place::Over);
             } else {
@@ -273,7 +269,7 @@ fn part_at<'a>(
     most: usize,
     whole: &'a Option<Option<Trailers>>,
 ) -> Option<Part<'a>>
-    ensures { option_map part_in result ≡ part_of most (rule.Outbox.Behind body.now.octets (end_in whole.now)) }
+    ensures { option_map part_in result ≡ part_of most (rule.Outbox.Behind body.now (end_in whole.now)) }
 {
     let (front, back) = body.front(most);
     if most < body.len() {

@@ -6,5 +6,5 @@ use Rattle.outbox.proofs.outbox.part_at.Goals as goal
 
 pub returns-then-most-len : goal.returns-then-most-len
 returns-then-most-len c =
-    let more : c.args.most < length c.args.body.now.octets = search rules in
-    ap (λ octets. Some (Octets octets false)) c.front.ensures ∙ laws.some_left c.args.most c.args.body.now.octets (end_in c.args.whole.now) more
+    let more : c.args.most < length c.args.body.now = search rules in
+    ap (λ octets. Some (Octets octets false)) c.front.ensures ∙ laws.some_left c.args.most c.args.body.now (end_in c.args.whole.now) more

@@ -8,27 +8,27 @@ use Rattle.outbox.proofs.outbox.Outbox.drop_octets.Goals.{in-Before+in-Some+in-S
 
 pub returns-then-most-len-clause-octets : goal.returns-then-most-len-clause-octets
 returns-then-most-len-clause-octets c =
-    let old : c.args.self.now ≡ Behind c.in-Behind.body.octets (end_in c.in-Behind.whole) = search rules in
-    let more : c.args.most < length c.in-Behind.body.octets = search rules in
-    λ part is octets. ap (λ octets. Behind octets (end_in c.in-Behind.whole)) c.pass.ensures.octets
-    ∙ laws.left_some c.args.most c.in-Behind.body.octets (end_in c.in-Behind.whole) part more (sym (ap (part_of c.args.most) old) ∙ is) ∙ ap (λ box. left box part) (sym old)
+    let old : c.args.self.now ≡ Behind c.in-Behind.body (end_in c.in-Behind.whole) = search rules in
+    let more : c.args.most < length c.in-Behind.body = search rules in
+    λ part is octets. ap (λ octets. Behind octets (end_in c.in-Behind.whole)) c.pass.ensures
+    ∙ laws.left_some c.args.most c.in-Behind.body (end_in c.in-Behind.whole) part more (sym (ap (part_of c.args.most) old) ∙ is) ∙ ap (λ box. left box part) (sym old)
 
 pub returns-then-is_plain-clause-octets : goal.returns-then-is_plain-clause-octets
 returns-then-is_plain-clause-octets c =
-    let old : c.args.self.now ≡ Behind c.in-Behind.body.octets (end_in c.in-Behind.whole) = search rules in
+    let old : c.args.self.now ≡ Behind c.in-Behind.body (end_in c.in-Behind.whole) = search rules in
     let plain : is_plain (end_in c.in-Behind.whole) ≡ true = search rules in
-    let few : c.args.most < length c.in-Behind.body.octets → ⊥ = search rules in
+    let few : c.args.most < length c.in-Behind.body → ⊥ = search rules in
     let over : c.match-sent.self ≡ Over = elim c.match-sent.branch [ in-Before+in-Some+in-Some-sent-5 w ↦ search rules | in-Before+in-Some+in-None-1 w ↦ search rules | in-Before+in-None-1 w ↦ search rules | in-Behind+in-Some+in-Some-sent-8 w ↦ search rules | in-Behind+in-Some+in-None-1 w ↦ search rules | in-Behind+in-None-1 w ↦ search rules | in-Over-1 w ↦ search rules ] in
-    λ part is octets. over ∙ laws.left_plain c.args.most c.in-Behind.body.octets (end_in c.in-Behind.whole) part few plain (sym (ap (part_of c.args.most) old) ∙ is) ∙ ap (λ box. left box part) (sym old)
+    λ part is octets. over ∙ laws.left_plain c.args.most c.in-Behind.body (end_in c.in-Behind.whole) part few plain (sym (ap (part_of c.args.most) old) ∙ is) ∙ ap (λ box. left box part) (sym old)
 
 pub returns-then-most-len-clause-others : goal.returns-then-most-len-clause-others
 returns-then-most-len-clause-others c =
-    let old : c.args.self.now ≡ Behind c.in-Behind.body.octets (end_in c.in-Behind.whole) = search rules in
-    let more : c.args.most < length c.in-Behind.body.octets = search rules in
-    λ others. absurd (laws.more_are_next c.args.most c.in-Behind.body.octets (end_in c.in-Behind.whole) more (subst (λ box. HasNoOctets (part_of c.args.most box)) old others))
+    let old : c.args.self.now ≡ Behind c.in-Behind.body (end_in c.in-Behind.whole) = search rules in
+    let more : c.args.most < length c.in-Behind.body = search rules in
+    λ others. absurd (laws.more_are_next c.args.most c.in-Behind.body (end_in c.in-Behind.whole) more (subst (λ box. HasNoOctets (part_of c.args.most box)) old others))
 
 pub returns-then-is_plain-clause-others : goal.returns-then-is_plain-clause-others
 returns-then-is_plain-clause-others c =
-    let old : c.args.self.now ≡ Behind c.in-Behind.body.octets (end_in c.in-Behind.whole) = search rules in
+    let old : c.args.self.now ≡ Behind c.in-Behind.body (end_in c.in-Behind.whole) = search rules in
     let plain : is_plain (end_in c.in-Behind.whole) ≡ true = search rules in
-    λ others. absurd (laws.plain_is_next c.args.most c.in-Behind.body.octets (end_in c.in-Behind.whole) plain (subst (λ box. HasNoOctets (part_of c.args.most box)) old others))
+    λ others. absurd (laws.plain_is_next c.args.most c.in-Behind.body (end_in c.in-Behind.whole) plain (subst (λ box. HasNoOctets (part_of c.args.most box)) old others))

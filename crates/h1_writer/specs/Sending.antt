@@ -20,6 +20,15 @@ pub data Stage : Type 0 where
   -- chunks and the end
   Chunking : Stage
 
+-- how many octets are held back of a text at a stage
+abbrev pub held_back : Stage → ℕ
+held_back (Holding octet) = 1
+held_back stage = 0
+
+-- the most octets of the line of a chunk's size: sixteen digits, and the end of the line
+abbrev pub most_line : ℕ
+most_line = 18
+
 -- a digit in base sixteen, in lower case
 abbrev pub hex_digit : ℕ → ℕ
 hex_digit digit = if nat_lt digit 10 then 48 + digit else 87 + digit

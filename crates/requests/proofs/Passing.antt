@@ -52,26 +52,3 @@ goes_further parts text old new octets written more trailers ends s on room whol
     unfinished (Counting left) none s = s
     unfinished (Holding octet) none s = s
     unfinished Chunking none s = s
-
--- where the text may be ended, its end alone may go out
-pub end_may_go : (parts : HeadParts) (ended : Bool) (text : List ℕ) (pieces : List (List ℕ)) (stage : Stage) → Sending false parts ended text pieces [] stage → MayFinish stage → MayGo stage [] true
-end_may_go parts ended text pieces Whole s may = absurd may
-end_may_go parts ended text pieces (Counting left) s may = absurd may
-end_may_go parts ended text pieces (Holding octet) s may = record {
-  parts = parts;
-  ended = ended;
-  text = text;
-  pieces = pieces;
-  sending = s;
-  may_push = refl;
-  has_length = λ e. subst (λ (d : Option ℕ). HasLength d (concat pieces ++ [])) (sym s.declared) (ap length (append-nil (concat pieces)));
-}
-end_may_go parts ended text pieces Chunking s may = record {
-  parts = parts;
-  ended = ended;
-  text = text;
-  pieces = pieces;
-  sending = s;
-  may_push = tt;
-  has_length = λ e. subst (λ (d : Option ℕ). HasLength d (concat pieces ++ [])) (sym s.undeclared) tt;
-}

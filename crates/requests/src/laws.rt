@@ -1,15 +1,16 @@
-//! Laws: what lies in a request is what a clause sees of it, and room for a chunk's line.
+//! Laws: what lies in a request is what a clause sees of it.
 
-ghost use Rattle.std.specs.Prelude.{◌≡◌, ◌+◌, ◌≤◌};
-ghost use Rattle.requests.specs.HeldInside.{held_back, line_room, octets_of, in_waiting, in_going};
+ghost use Rattle.std.specs.Prelude.{◌≡◌, ◌≤◌};
+ghost use Rattle.h1_writer.specs.Sending.{held_back};
+ghost use Rattle.requests.specs.HeldInside.{octets_of, in_waiting, in_going};
 ghost use Rattle.requests.specs.declared.going.Going.TheInside.{Inside as GoingInside};
 ghost use Rattle.requests.specs.declared.going.Going.TheView.{view as going_seen};
 ghost use Rattle.requests.specs.declared.waiting.Waiting.TheInside.{Inside as WaitingInside};
 ghost use Rattle.requests.specs.declared.waiting.Waiting.TheView.{view as waiting_seen, invariant as IsSoundWaiting};
 
-/// What lies in a request between calls is what a clause sees of it, and no octet more, but for the room of 18 octets for the line of a chunk, which
-/// one that waits may have: each field is counted (`specs/HeldInside`). So whoever bounds what is seen bounds what is held.
+/// What lies in a request between calls is at most what a clause sees of it, and 18 octets of room for the line of a chunk, which one that waits may
+/// have: each field is counted (`specs/HeldInside`). So whoever bounds these bounds what is held.
 pub fn what_is_held_is_seen()
-    ensures waiting { (waiting : WaitingInside) → IsSoundWaiting waiting → in_waiting waiting ≤ octets_of (waiting_seen waiting) + line_room }
+    ensures waiting { (waiting : WaitingInside) → IsSoundWaiting waiting → in_waiting waiting ≤ octets_of (waiting_seen waiting) }
     ensures going { (going : GoingInside) → in_going going ≡ held_back (going_seen going) }
 {}

@@ -123,11 +123,11 @@ at_end = clauses_hold known m8 a8 so8 (record { nothing = refl; none_done = refl
 
 -- ---- what is held meanwhile
 
--- of the POST its head's text waits, then two octets more; then all of it is due, and once it is out nothing is held
-head_held : held_for 1 (state_of known.setup m2) ≡ length (post_text [])
+-- of the POST its head's text waits, with room for a line, then two octets more; then all of it is due, and once it is out nothing is held
+head_held : held_for 1 (state_of known.setup m2) ≡ length (post_text []) + 18
 head_held = refl
 
-octets_held : held_for 1 (state_of known.setup m3) ≡ length (post_text []) + 2
+octets_held : held_for 1 (state_of known.setup m3) ≡ length (post_text []) + 20
 octets_held = refl
 
 whole_due : held_for 1 (state_of known.setup m6) ≡ length post_whole
@@ -137,5 +137,5 @@ none_held : held_octets (state_of known.setup m7) ≡ 0
 none_held = refl
 
 -- the GET is due between, on its own stream
-get_due : held_octets (state_of known.setup m4) ≡ length (post_text []) + 2 + held_for 3 (state_of known.setup m4)
+get_due : held_octets (state_of known.setup m4) ≡ length (post_text []) + 20 + held_for 3 (state_of known.setup m4)
 get_due = refl

@@ -8,13 +8,14 @@ use Rattle.model.specs.Openings.{last_stream}
 use Rattle.model.specs.Tapes.{Entry, is_closed}
 use Rattle.model.specs.Known.{Known}
 use Rattle.model.specs.Lifetimes.{active}
+use Rattle.h1_writer.specs.Sending.{held_back}
 use Rattle.serving.specs.Told.{is_served}
 use Rattle.serving.specs.State.{Way, Held, id_of, held_of, without, Live, live_of, Due, State, Turn, state_of, tape_of}
 use Rattle.serving.specs.State.Way.{Waiting, Going, Dropped}
 use Rattle.serving.specs.State.Due.{Nothing, ToOpen, ToSend}
 use Rattle.serving.specs.Rule.{AreAllowed}
 use Rattle.serving.specs.Meaning.{AreSo}
-use Rattle.serving.specs.Held.{held_back, held_by, held_requests, is_for, due_for, held_for, due_octets, held_of_all, held_octets, most_beside, AreApart, FitFrames}
+use Rattle.serving.specs.Held.{held_by, held_requests, is_for, due_for, held_for, due_octets, held_of_all, held_octets, most_beside, AreApart, FitFrames}
 use Rattle.serving.proofs.Standing.{IsDue, IsOnWay, Stands}
 use Rattle.serving.proofs.Closing.{found_live, same_live}
 use Rattle.serving.proofs.Clauses.{all_stand}

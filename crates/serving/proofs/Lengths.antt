@@ -9,10 +9,9 @@ use Rattle.std.proofs.lemmas.Int.Digits.{length-digits_of-le}
 use Rattle.model.specs.Messages.{Field}
 use Rattle.model.specs.Http1Text.{lines_text}
 use Rattle.request_rules.specs.Heads.{HeadParts}
-use Rattle.h1_writer.specs.Sending.{Stage, Sending, head_of, content_of, hex_digit, hex_size, chunk_text, last_chunk, piece_of}
+use Rattle.h1_writer.specs.Sending.{Stage, held_back, Sending, head_of, content_of, hex_digit, hex_size, chunk_text, last_chunk, piece_of}
 use Rattle.h1_writer.specs.Sending.Stage.{Whole, Counting, Holding, Chunking}
 use Rattle.h1_writer.proofs.Stages.{concat_more}
-use Rattle.serving.specs.Held.{held_back}
 
 -- ---- chunks
 

@@ -24,7 +24,7 @@ use Rattle.model.specs.Causes.{Cause}
 use Rattle.model.specs.Courses.{items, cause}
 use Rattle.model.proofs.OpenedLaws.{none_zero}
 use Rattle.request_rules.specs.Heads.{parts_of}
-use Rattle.h1_writer.specs.Sending.{Stage, Sending, head_of, piece_of}
+use Rattle.h1_writer.specs.Sending.{Stage, held_back, Sending, head_of, piece_of}
 use Rattle.h1_writer.specs.Sending.Stage.{Whole, Counting, Holding, Chunking}
 use Rattle.model.specs.Http1Text.{lines_text}
 use Rattle.serving.specs.Written.{octets_of, trailers_in, IsAwaited}
@@ -36,7 +36,7 @@ use Rattle.serving.specs.State.Due.{Nothing, ToOpen, ToSend}
 use Rattle.serving.specs.State.Move.{Takes, Begins, Gathers, Passes, Drops, Breaks, Notes, Hears, Fails, Sends, Acts}
 use Rattle.serving.specs.Rule.{IsServing, MayBegin, IsGathered, MayGather, MayPass, MayMove, told_of, AreAllowed}
 use Rattle.serving.specs.Meaning.{Brings, IsSo, AreSo}
-use Rattle.serving.specs.Held.{held_back, held_by, held_requests, held_of_all, most_head, most_trailers, most_beside, AreApart, FitFrames}
+use Rattle.serving.specs.Held.{held_by, held_requests, held_of_all, most_head, most_trailers, most_beside, AreApart, FitFrames}
 use Rattle.serving.proofs.Lists.{find_gone, find_other}
 use Rattle.serving.proofs.Bringing.{IsGood, not_large, item_is, is_good}
 use Rattle.serving.proofs.Writing.{body_append}

@@ -4,22 +4,16 @@ use Rattle.model.specs.Frames.{Fits}
 use Rattle.model.specs.Causes.{largest_fields}
 use Rattle.model.specs.Tapes.{Entry}
 use Rattle.model.specs.Tapes.Entry.{Came}
-use Rattle.h1_writer.specs.Sending.{Stage}
-use Rattle.h1_writer.specs.Sending.Stage.{Holding}
+use Rattle.h1_writer.specs.Sending.{held_back, most_line}
 use Rattle.serving.specs.State.{Way, Held, held_of, Live, live_of, Due, State}
 use Rattle.serving.specs.State.Way.{Waiting, Going, Dropped}
 use Rattle.serving.specs.State.Due.{Nothing, ToOpen, ToSend}
 
 -- ---- what is held
 
--- the octet that is held back
-abbrev pub held_back : Stage → ℕ
-held_back (Holding octet) = 1
-held_back stage = 0
-
--- the octets of a request that isn't whole: those that wait, and the one that is held back
+-- the octets of a request that isn't whole: those that wait, with room for the line of a chunk, and the one that is held back
 abbrev pub held_by : Way → ℕ
-held_by (Waiting route text stage body) = length text + length body + held_back stage
+held_by (Waiting route text stage body) = length text + length body + held_back stage + most_line
 held_by (Going k stage) = held_back stage
 held_by Dropped = 0
 

@@ -1,7 +1,9 @@
 -- How many octets lie in this crate's types. Each count takes the struct apart by the names of all its fields: what lies in one field more has to be
 -- counted here.
-use Rattle.std.specs.Prelude.{ℕ, ◌+◌, List, [], ◌∷◌, length, reverse}
-use Rattle.serving.specs.Held.{held_back, held_of_all}
+use Rattle.std.specs.Prelude.{ℕ, ◌+◌, List, [], ◌∷◌, reverse}
+use Rattle.h1_writer.specs.Sending.{held_back}
+use Rattle.serving.specs.Held.{held_of_all}
+use Rattle.requests.specs.HeldInside as requests
 use Rattle.answers.specs.HeldInside.{octets_of}
 use Rattle.upstreams.specs.Connections.{Connection}
 use Rattle.upstreams.specs.declared.connection.Connection.TheInside.{Inside as ConnectionInside}
@@ -19,9 +21,9 @@ answers_in (c ∷ cs) = octets_of c.answer + answers_in cs
 abbrev pub in_connection : ConnectionInside → ℕ
 in_connection = λ record { number = number; stream = stream; whole = whole; answer = answer; put_out = put_out; taken = taken }. octets_of answer
 
--- in a request that isn't whole: the text of its head and its body, and the octet that is held back
+-- in a request that isn't whole: one that waits, or the octet that is held back of one that goes out
 abbrev pub in_way : Way → ℕ
-in_way (way.Waiting request) = length request.text + length request.body + held_back request.stage
+in_way (way.Waiting request) = requests.octets_of request
 in_way (way.Going number going) = held_back going
 in_way way.Dropped = 0
 

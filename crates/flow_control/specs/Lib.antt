@@ -1,1 +1,2 @@
 pub use Rattle.model.specs.Windows
+pub mod HeldInside

@@ -4,6 +4,8 @@
 ghost use Rattle.std.specs.Prelude.{◌≡◌, ◌≤◌, pos, ◌+ℤ◌, ◌-ℤ◌, ◌≤ℤ◌, IfOk, OnOk, OnErr};
 ghost use Rattle.model.specs.Windows.{greatest_window, IsPast, IsAboveLeast, IsSize};
 
+pub mod laws;
+
 use std::marker::Model;
 
 /// The greatest size that a window may have (RFC 9113, section 6.9.1).

@@ -1,5 +1,5 @@
--- How many octets lie in the rooms, and in what they keep as far as the crates that it comes from don't say it themselves (header_blocks, requests, outbox,
--- answers, upstreams). Each count takes the struct apart by the names of all its fields: what lies in one field more has to be counted here.
+-- How many octets lie in the rooms, and in what they keep as far as the crates that it comes from don't say it themselves (settings, flow_control,
+-- header_blocks, streams_kept, receiving_queue, marks_kept, requests, outbox, answers, upstreams). Each count takes the struct apart by the names of all its fields: what lies in one field more has to be counted here.
 use Rattle.std.specs.Prelude.{ℕ, ◌+◌, length, sum_by}
 use Rattle.model.specs.Tables.{total_size}
 use Rattle.conduct.specs.Held.{octets_begun}
@@ -15,17 +15,14 @@ use Rattle.hpack_table.specs.declared.ring.Ring.TheInside.{Inside as RingInside}
 use Rattle.hpack_table.specs.declared.table.Table.TheInside.{Inside as TableInside}
 use Rattle.h1_writer.specs.Views.{stage_of}
 use Rattle.h1_writer.specs.declared.sender.Sender.TheInside.{Inside as SenderInside}
-use Rattle.requests.specs.HeldInside.{held_back}
+use Rattle.h1_writer.specs.Sending.{held_back}
 use Rattle.response_texts.specs.declared.passed.ResponseHead.TheInside.{Inside as HeadInside}
 use Rattle.response_texts.specs.declared.passed.Trailers.TheInside.{Inside as TrailersInside}
 use Rattle.h1_reader.specs.declared.reader.Reader.TheInside.{Inside as ReaderInside}
 use Rattle.judgement.specs.declared.connection.Connection.TheInside.{Inside as ConnectionInside}
-use Rattle.marks_kept.specs.declared.marks.Marks.TheInside.{Inside as MarksInside}
-use Rattle.marks_kept.specs.declared.side.Side.TheInside.{Inside as SideInside}
 use Rattle.offers.specs.declared.kept.Kept.TheInside.{Inside as KeptInside}
 use Rattle.offers.specs.declared.offers.Offers.TheInside.{Inside as OffersInside}
 use Rattle.relay.specs.declared.rooms.Rooms.TheInside.{Inside as RoomsInside}
-use Rattle.streams_kept.specs.declared.Streams.TheInside.{Inside as StreamsInside}
 
 -- ---- fields, heads and trailers
 
@@ -64,23 +61,12 @@ abbrev pub in_connection : ConnectionInside → ℕ
 in_connection = λ record { has_come = has_come; joiner = joiner; continuations = continuations; settings = settings; window = window; room = room; streams = streams; resets = resets; last = last; decoder = decoder; alloc = alloc }.
     blocks.octets_begun joiner.begun + total_size decoder.table.fields
 
--- in the streams that were opened: no octets
-abbrev pub in_streams : StreamsInside → ℕ
-in_streams = λ record { entries = entries; records = records }. 0
-
 -- in what is kept of a stream's response, and of all: what is on offer
 abbrev pub in_kept : KeptInside → ℕ
 in_kept = λ record { id = id; outbox = outbox; cut = cut }. octets_in outbox
 
 abbrev pub in_offers : OffersInside → ℕ
 in_offers = λ record { alloc = alloc; kept = kept; last = last; offered = offered }. sum_by (λ (k : Kept). octets_in k.box) kept.items
-
--- in what waits of a stream's DATA, and of all: no octets, but numbers of them
-abbrev pub in_side : SideInside → ℕ
-in_side = λ record { id = id; number = number; put_out = put_out; taken = taken; queue = queue }. 0
-
-abbrev pub in_marks : MarksInside → ℕ
-in_marks = λ record { alloc = alloc; sides = sides }. 0
 
 -- in all rooms
 abbrev pub in_rooms : RoomsInside → ℕ

@@ -6,7 +6,7 @@ ghost use Rattle.conduct.specs.Held.{octets_begun};
 ghost use Rattle.h1_reader.specs.HeadSizes.{field_octets};
 ghost use Rattle.offering.specs.Held.{octets_in, octets_held, head_octets, octets_of_fields};
 ghost use Rattle.holding.specs.Held.{held_in};
-ghost use Rattle.holding.specs.HeldInside.{in_field, in_ring, in_table, in_sender, in_head, in_trailers, in_reader, in_connection, in_streams, in_kept, in_offers, in_side, in_marks, in_rooms};
+ghost use Rattle.holding.specs.HeldInside.{in_field, in_ring, in_table, in_sender, in_head, in_trailers, in_reader, in_connection, in_kept, in_offers, in_rooms};
 ghost use Rattle.hpack_table.specs.declared.field.Field.TheInside.{Inside as FieldInside};
 ghost use Rattle.hpack_table.specs.declared.field.Field.TheView.{view as field_seen, invariant as IsSoundField};
 ghost use Rattle.hpack_table.specs.declared.ring.Ring.TheInside.{Inside as RingInside};
@@ -21,18 +21,15 @@ ghost use Rattle.h1_reader.specs.declared.reader.Reader.TheInside.{Inside as Rea
 ghost use Rattle.h1_reader.specs.declared.reader.Reader.TheView.{view as reader_seen};
 ghost use Rattle.h1_writer.specs.declared.sender.Sender.TheInside.{Inside as SenderInside};
 ghost use Rattle.h1_writer.specs.declared.sender.Sender.TheView.{view as sender_seen};
-ghost use Rattle.requests.specs.HeldInside.{held_back};
+ghost use Rattle.h1_writer.specs.Sending.{held_back};
 ghost use Rattle.judgement.specs.declared.connection.Connection.TheInside.{Inside as ConnectionInside};
 ghost use Rattle.judgement.specs.declared.connection.Connection.TheView.{view as connection_seen};
-ghost use Rattle.marks_kept.specs.declared.marks.Marks.TheInside.{Inside as MarksInside};
-ghost use Rattle.marks_kept.specs.declared.side.Side.TheInside.{Inside as SideInside};
 ghost use Rattle.offers.specs.declared.kept.Kept.TheInside.{Inside as KeptInside};
 ghost use Rattle.offers.specs.declared.kept.Kept.TheView.{view as kept_seen};
 ghost use Rattle.offers.specs.declared.offers.Offers.TheInside.{Inside as OffersInside};
 ghost use Rattle.offers.specs.declared.offers.Offers.TheView.{view as offers_seen};
 ghost use Rattle.relay.specs.declared.rooms.Rooms.TheInside.{Inside as RoomsInside};
 ghost use Rattle.relay.specs.declared.rooms.Rooms.TheView.{view as rooms_seen};
-ghost use Rattle.streams_kept.specs.declared.Streams.TheInside.{Inside as StreamsInside};
 
 /// What lies between calls in a field, a header table and its ring, a head, trailers, the writer of a request and a reader of a response is what a clause sees
 /// of them, and no octet more: each field of the struct is counted (`specs/HeldInside`). In a table no more lies than its size.
@@ -46,14 +43,11 @@ pub fn what_is_kept_is_seen()
     ensures reader { (reader : ReaderInside) → in_reader reader ≡ length (reader_seen reader).held.octets + field_octets (reader_seen reader).held.connections }
 {}
 
-/// The same of each room, and of all together, of which `little_is_kept` bounds what is seen. In the streams that were opened, and in what waits of their
-/// DATA, no octets lie.
+/// The same of the rooms, and of all together, of which `little_is_kept` bounds what is seen. In the streams that were opened, and in what waits of their
+/// DATA, no octets lie, by laws of `streams_kept` and `marks_kept`.
 pub fn what_the_rooms_hold_is_seen()
     ensures connection { (connection : ConnectionInside) → in_connection connection ≡ octets_begun (connection_seen connection).block + total_size (connection_seen connection).table.fields }
-    ensures streams { (streams : StreamsInside) → in_streams streams ≡ 0 }
     ensures kept { (kept : KeptInside) → in_kept kept ≡ octets_in (kept_seen kept).box }
     ensures offers { (offers : OffersInside) → in_offers offers ≡ octets_held (offers_seen offers) }
-    ensures marks { (marks : MarksInside) → in_marks marks ≡ 0 }
-    ensures side { (side : SideInside) → in_side side ≡ 0 }
     ensures rooms { (rooms : RoomsInside) → in_rooms rooms ≡ held_in (rooms_seen rooms) }
 {}

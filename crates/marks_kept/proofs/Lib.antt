@@ -4,3 +4,4 @@ pub mod Counted
 pub mod Changing
 pub mod Looking
 pub mod Telling
+mod HeldInside

@@ -5,3 +5,4 @@ pub use Rattle.receiving_queue.specs.Counts
 pub mod Sides
 pub mod Places
 pub mod Standing
+pub mod HeldInside

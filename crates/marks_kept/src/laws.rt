@@ -13,6 +13,9 @@ ghost use Rattle.receiving.specs.State.{State, Move, is_live, held, state_of, wi
 ghost use Rattle.receiving.specs.Policy.{AreAllowed};
 ghost use Rattle.marks_kept.specs.Sides.{Side, find, change, unless_over, is_above_all, opened, putting, taking, waiting, queue_of, took_of, has_untaken};
 ghost use Rattle.marks_kept.specs.Standing.{StandFor, NoneReached, dropped_of};
+ghost use Rattle.marks_kept.specs.HeldInside.{in_side, in_marks};
+ghost use Rattle.marks_kept.specs.declared.marks.Marks.TheInside.{Inside as MarksInside};
+ghost use Rattle.marks_kept.specs.declared.side.Side.TheInside.{Inside as SideInside};
 
 /// Where a stream is over with a frame, what waited for it goes back on the connection, and nothing is kept of it; of one that is opened nothing
 /// is kept yet. Giving octets back leaves what is kept.
@@ -60,4 +63,10 @@ pub fn marks_are_ahead()
 /// An id is above all that are kept where it is above each that is found.
 pub fn ids_are_above()
     ensures { (sides : List Side) (id : ℕ) → ((other : ℕ) (side : Side) → find other sides ≡ Some side → other < id) → is_above_all id sides ≡ true }
+{}
+
+/// What lies between calls in what waits of a stream's DATA, and in that of all, are numbers, and no octet: each field is counted (`specs/HeldInside`).
+pub fn what_is_held_is_seen()
+    ensures side { (side : SideInside) → in_side side ≡ 0 }
+    ensures marks { (marks : MarksInside) → in_marks marks ≡ 0 }
 {}

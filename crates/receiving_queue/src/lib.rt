@@ -5,6 +5,8 @@ ghost use Rattle.std.specs.Prelude.{◌≡◌, ◌+◌, ◌<◌, ◌≤◌, ◌^
 ghost use Rattle.receiving.specs.Marks.{total, pop, released, push};
 ghost use Rattle.receiving_queue.specs.Waiting.{marks_of};
 
+pub mod laws;
+
 use std::alloc::{AllocError, Global};
 use std::collections::VecDeque;
 use std::marker::Model;

@@ -2,3 +2,4 @@ pub use Rattle.model.specs.SettingValues
 pub use Rattle.model.specs.Windows
 pub mod Views
 pub mod Accumulated
+pub mod HeldInside

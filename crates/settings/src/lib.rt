@@ -6,6 +6,7 @@ ghost use Rattle.model.specs.Windows.{greatest_window, IsSize, size_difference};
 ghost use Rattle.model.specs.SettingValues.{settings_in, settings_fault};
 
 mod entries;
+pub mod laws;
 
 use crate::entries::{first_fault, values_in};
 use std::marker::Model;

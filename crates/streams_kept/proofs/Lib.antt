@@ -5,3 +5,4 @@ pub mod Changes
 pub mod Courses
 pub mod Openings
 pub mod Sending
+mod HeldInside

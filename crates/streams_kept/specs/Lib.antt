@@ -10,3 +10,4 @@ pub mod Courses
 pub mod Asked
 pub mod Sending
 pub mod Records
+pub mod HeldInside

@@ -17,6 +17,7 @@ ghost use Rattle.stream_state.specs.Views.{kind_in, standing_in, verdict_in};
 
 mod course;
 mod entries;
+pub mod laws;
 mod live;
 mod records;
 mod steps;
@@ -24,7 +25,7 @@ mod steps;
 pub use crate::course::{Course, Reply};
 use crate::entries::{Entry, Slot, last_id, place_of};
 pub use crate::live::Live;
-use crate::records::{Record, grant_at, live_at, shifts_past, state_of, step_at, store, take_at};
+use crate::records::{Record, grant_at, live_at, shifts_past, state_of, step_at, store, take_at, vacate};
 use crate::steps::Step;
 pub use causes::Cause;
 use slab::Slab;
@@ -295,7 +296,7 @@ impl Streams {
             id,
             slot: Slot::Over(by_us),
         };
-        self.records.remove(key as usize);
+        vacate(&mut self.records, key);
     }
 
     /// Opens a stream, above all that were opened (RFC 9113, sections 5.1 and 5.1.1). An `Err` says that memory was refused; it changes nothing.

@@ -1,6 +1,6 @@
 //! Records of active streams, at the keys of a slab.
 
-ghost use Rattle.std.specs.Prelude.{◌≡◌, ◌==◌, ◌≤◌, false, Some, IfSome, IfNone, IfOk, OnErr, pos, ◌+ℤ◌, ◌≤ℤ◌};
+ghost use Rattle.std.specs.Prelude.{◌≡◌, ◌==◌, ◌≤◌, false, Some, None, IsSome, IfSome, IfNone, IfOk, OnErr, slice_set, pos, ◌+ℤ◌, ◌≤ℤ◌};
 ghost use Rattle.std.specs.List.{list_any};
 ghost use Rattle.model.specs.Windows.{greatest_window, IsSize};
 ghost use Rattle.slab.specs.Slab.{entries, HasRoomFor, with_value};
@@ -74,6 +74,14 @@ pub fn store(records: &mut Slab<Record>, stored: Record) -> Result<u32, AllocErr
     records.reserve(1)?;
     records.insert_reserved(stored);
     Ok(key)
+}
+
+/// Removes the record at a key. Its place is vacant then, so that it is used again; no other record moves.
+pub fn vacate(records: &mut Slab<Record>, key: u32)
+    requires { IsSome (record_at records.old.slots key) }
+    ensures { records.new.slots ≡ slice_set records.old.slots key None }
+{
+    records.remove(key as usize);
 }
 
 /// Grants octets to the stream of the record at a key.

@@ -2,6 +2,7 @@
 #![tactic(auto)]
 
 mod incoming;
+pub mod laws;
 mod outgoing;
 mod socket;
 

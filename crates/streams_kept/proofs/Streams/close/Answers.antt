@@ -16,8 +16,8 @@ returns-in_default-slot-clause-is c =
     let there = read_at c.self.inside.entries.items c.in-Ok.place c.index.result.now is.within c.index.ensures in
     not_both (is_active c.args.self.now c.args.id) c.requires (rw (← c.self.view_is) (over_here c.self.inside.entries.items c.self.inside.records.slots c.args.id c.in-Ok.place c.self.invariant.kept is c.in_default-slot.field-0 (ap (λ e. e.slot) there ∙ c.in_default-slot.is)))
 
-pub remove-requires : goal.remove-requires
-remove-requires c =
+pub vacate-requires : goal.vacate-requires
+vacate-requires c =
     let is : IsAt c.self.inside.entries.items c.args.id c.in-Ok.place = rw (← c.deref.ensures.value) c.in-Ok.ensures.found in
     let there = read_at c.self.inside.entries.items c.in-Ok.place c.index.result.now is.within c.index.ensures in
     let here = here_at c.self.inside.entries.items c.self.inside.records.slots c.args.id c.in-Ok.place c.in-Live.key c.self.invariant is (ap (λ e. e.slot) there ∙ c.in-Live.is) in
@@ -28,18 +28,18 @@ invariant_of-self c =
     let is : IsAt c.self.inside.entries.items c.args.id c.in-Ok.place = rw (← c.deref.ensures.value) c.in-Ok.ensures.found in
     let there = read_at c.self.inside.entries.items c.in-Ok.place c.index.result.now is.within c.index.ensures in
     let here = here_at c.self.inside.entries.items c.self.inside.records.slots c.args.id c.in-Ok.place c.in-Live.key c.self.invariant is (ap (λ e. e.slot) there ∙ c.in-Live.is) in
-    rw c.remove.ensures.slots (over_held c.self.inside.entries.items c.self.inside.records.slots c.self.invariant c.args.id c.in-Ok.place c.in-Live.key here.0 here.1 c.args.by_us)
+    rw c.vacate.ensures (over_held c.self.inside.entries.items c.self.inside.records.slots c.self.invariant c.args.id c.in-Ok.place c.in-Live.key here.0 here.1 c.args.by_us)
 
 pub returns-clause-is : goal.returns-clause-is
 returns-clause-is c =
     let is : IsAt c.self.inside.entries.items c.args.id c.in-Ok.place = rw (← c.deref.ensures.value) c.in-Ok.ensures.found in
     let there = read_at c.self.inside.entries.items c.in-Ok.place c.index.result.now is.within c.index.ensures in
     let here = here_at c.self.inside.entries.items c.self.inside.records.slots c.args.id c.in-Ok.place c.in-Live.key c.self.invariant is (ap (λ e. e.slot) there ∙ c.in-Live.is) in
-    rw (← c.self.view_is, c.remove.ensures.slots) (over_rows c.self.inside.entries.items c.self.inside.records.slots c.self.invariant c.args.id c.in-Ok.place c.in-Live.key here.0 here.1 c.args.by_us)
+    rw (← c.self.view_is, c.vacate.ensures) (over_rows c.self.inside.entries.items c.self.inside.records.slots c.self.invariant c.args.id c.in-Ok.place c.in-Live.key here.0 here.1 c.args.by_us)
 
 pub returns-clause-kept : goal.returns-clause-kept
 returns-clause-kept c =
     let is : IsAt c.self.inside.entries.items c.args.id c.in-Ok.place = rw (← c.deref.ensures.value) c.in-Ok.ensures.found in
     let there = read_at c.self.inside.entries.items c.in-Ok.place c.index.result.now is.within c.index.ensures in
     let here = here_at c.self.inside.entries.items c.self.inside.records.slots c.args.id c.in-Ok.place c.in-Live.key c.self.invariant is (ap (λ e. e.slot) there ∙ c.in-Live.is) in
-    rw c.remove.ensures.slots (over_held c.self.inside.entries.items c.self.inside.records.slots c.self.invariant c.args.id c.in-Ok.place c.in-Live.key here.0 here.1 c.args.by_us).kept
+    rw c.vacate.ensures (over_held c.self.inside.entries.items c.self.inside.records.slots c.self.invariant c.args.id c.in-Ok.place c.in-Live.key here.0 here.1 c.args.by_us).kept

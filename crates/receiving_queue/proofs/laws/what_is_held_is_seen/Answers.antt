@@ -1,0 +1,5 @@
+use Rattle.receiving_queue.proofs.HeldInside.{marks_are_numbers}
+use Rattle.receiving_queue.proofs.laws.what_is_held_is_seen.Goals as goal
+
+pub returns : goal.returns
+returns c = λ waiting. marks_are_numbers waiting.marks.items

@@ -159,7 +159,7 @@ impl Model for Gateway {
 
 impl Gateway {
     /// A gateway for a new connection of a client, to which nothing came. The maxima are at most 1,073,741,824, and there are at most
-    /// 4,294,967,295 routes. An `Err` says that memory was refused.
+    /// 4,294,967,295 routes; upstream connections aren't kept. An `Err` says that memory was refused.
     pub fn new(alloc: Global, config: &Config) -> Result<Gateway, AllocError>
         requires { IsServable (setup_of config.now) }
         ensures { IfOk result (λ gateway. Stands (setup_of config.now) gateway [] []) }

@@ -25,7 +25,9 @@ mod steps;
 pub use crate::course::{Course, Reply};
 use crate::entries::{Entry, Slot, last_id, place_of};
 pub use crate::live::Live;
-use crate::records::{Record, grant_at, live_at, shifts_past, state_of, step_at, store, take_at, vacate};
+use crate::records::{
+    Record, grant_at, live_at, shifts_past, state_of, step_at, store, take_at, vacate,
+};
 use crate::steps::Step;
 pub use causes::Cause;
 use slab::Slab;
